@@ -1,0 +1,6 @@
+//! The block device as its driver may see it: entries of its history and which of them are allowed.
+#![tactic(auto)]
+
+mod entry;
+
+pub use entry::{AnswerList, Answered, Asked, Entry, NumberList, SectorList, SectorValue};
