@@ -1,0 +1,10 @@
+//! Schedules, and their text both ways.
+#![tactic(auto)]
+
+mod fault;
+mod types;
+pub mod writing;
+
+pub use fault::ScheduleFault;
+pub use types::{Event, Events, Schedule};
+pub use writing::write_schedule;

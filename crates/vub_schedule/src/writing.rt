@@ -1,0 +1,244 @@
+//! Schedules as text. Each call appends one piece of a text to a vector.
+ghost use Rattle.std.specs.Prelude.{◌≡◌, ◌++◌, ◌∷◌, ◌<◌, false, length, codes, OnOk, IfOk};
+ghost use Rattle.std.specs.Fmt.{decimal, digit_glyph};
+ghost use Rattle.std.specs.List.{flat_map};
+ghost use Rattle.vub_schedule.specs.Spelling.{line, commas, hex_pair, format_text, mode_text, header_numbers, header_text, shape_text, part_text, ask_text, event_line, spelling};
+
+use crate::{Event, Schedule};
+use itoa::Buffer;
+use std::alloc::Global;
+use vub_base::{Ask, CacheMode, Format, Header1, Memory, Part, Shape};
+
+/// Bytes as they are.
+pub fn put_text(out: &mut Vec<u8>, text: &[u8]) -> Result<(), Memory>
+    ensures { OnOk result (out.new.items ≡ out.old.items ++ text.now) }
+{
+    out.extend_from_slice(text).map_err(|_| Memory)
+}
+
+/// A number in decimal digits, without leading zeros.
+pub fn put_number(out: &mut Vec<u8>, number: u64) -> Result<(), Memory>
+    ensures { OnOk result (out.new.items ≡ out.old.items ++ decimal number) }
+{
+    let mut buffer = Buffer::new();
+    put_text(out, buffer.format(number).as_bytes())
+}
+
+fn hex_digit(value: u8) -> u8
+    requires { value < 16 }
+    ensures { result ≡ digit_glyph false value }
+{
+    if value < 10 {
+        b'0' + value
+    } else {
+        b'a' + (value - 10)
+    }
+}
+
+/// A byte as two lower-case hexadecimal digits.
+pub fn put_byte_pair(out: &mut Vec<u8>, byte: u8) -> Result<(), Memory>
+    ensures { OnOk result (out.new.items ≡ out.old.items ++ hex_pair byte) }
+{
+    put_text(out, &[hex_digit(byte / 16), hex_digit(byte % 16)])
+}
+
+fn put_more_fills(out: &mut Vec<u8>, fills: &[u8]) -> Result<(), Memory>
+    ensures { OnOk result (out.new.items ≡ out.old.items ++ flat_map (λ b. 44 ∷ hex_pair b) fills.now) }
+{
+    for fill in fills {
+        put_text(out, b",")?;
+        put_byte_pair(out, *fill)?;
+    }
+    Ok(())
+}
+
+fn put_fills(out: &mut Vec<u8>, fills: &[u8]) -> Result<(), Memory>
+    ensures { OnOk result (out.new.items ≡ out.old.items ++ commas hex_pair fills.now) }
+{
+    match fills {
+        [] => Ok(()),
+        [first, rest @ ..] => {
+            put_byte_pair(out, *first)?;
+            put_more_fills(out, rest)
+        }
+    }
+}
+
+fn put_part(out: &mut Vec<u8>, part: &Part) -> Result<(), Memory>
+    ensures { OnOk result (out.new.items ≡ out.old.items ++ part_text part.now) }
+{
+    put_number(out, part.sector)?;
+    put_text(out, b":")?;
+    put_number(out, u64::from(part.count))?;
+    put_text(out, b":")?;
+    put_number(out, u64::from(part.flags))
+}
+
+fn put_more_parts(out: &mut Vec<u8>, parts: &[Part]) -> Result<(), Memory>
+    ensures { OnOk result (out.new.items ≡ out.old.items ++ flat_map (λ p. 44 ∷ part_text p) parts.now) }
+{
+    for part in parts {
+        put_text(out, b",")?;
+        put_part(out, part)?;
+    }
+    Ok(())
+}
+
+fn put_parts(out: &mut Vec<u8>, parts: &[Part]) -> Result<(), Memory>
+    ensures { OnOk result (out.new.items ≡ out.old.items ++ commas part_text parts.now) }
+{
+    match parts {
+        [] => Ok(()),
+        [first, rest @ ..] => {
+            put_part(out, first)?;
+            put_more_parts(out, rest)
+        }
+    }
+}
+
+/// A request: its word, and then what it is about.
+#[tactic(auto, unfolding(crate::specs::Spelling::ask_text))]
+pub fn put_ask(out: &mut Vec<u8>, ask: &Ask) -> Result<(), Memory>
+    ensures { OnOk result (out.new.items ≡ out.old.items ++ ask_text ask.now) }
+{
+    match ask {
+        Ask::Read { sector, count } => {
+            put_text(out, b"read ")?;
+            put_number(out, *sector)?;
+            put_text(out, b" ")?;
+            put_number(out, u64::from(*count))
+        }
+        Ask::Write { sector, fills } => {
+            put_text(out, b"write ")?;
+            put_number(out, *sector)?;
+            put_text(out, b" ")?;
+            put_fills(out, fills)
+        }
+        Ask::Flush => put_text(out, b"flush"),
+        Ask::Id => put_text(out, b"id"),
+        Ask::Discard(parts) => {
+            put_text(out, b"discard ")?;
+            put_parts(out, parts)
+        }
+        Ask::Zero(parts) => {
+            put_text(out, b"zero ")?;
+            put_parts(out, parts)
+        }
+    }
+}
+
+fn shape_word(shape: Shape) -> &'static [u8]
+    ensures { result.now ≡ shape_text shape }
+{
+    match shape {
+        Shape::Direct => b"d",
+        Shape::Indirect => b"i",
+    }
+}
+
+/// An event and the end of its line.
+#[tactic(auto, unfolding(crate::specs::Spelling::event_line, crate::specs::Spelling::event_text))]
+pub fn put_event(out: &mut Vec<u8>, event: &Event) -> Result<(), Memory>
+    ensures { OnOk result (out.new.items ≡ out.old.items ++ event_line event.now) }
+{
+    match event {
+        Event::Ask(queue, shape, ask) => {
+            put_text(out, b"ask ")?;
+            put_number(out, u64::from(*queue))?;
+            put_text(out, b" ")?;
+            put_text(out, shape_word(*shape))?;
+            put_text(out, b" ")?;
+            put_ask(out, ask)?;
+        }
+        Event::Guest(queue, stores) => {
+            put_text(out, b"guest ")?;
+            put_number(out, u64::from(*queue))?;
+            put_text(out, b" ")?;
+            put_number(out, u64::from(*stores))?;
+        }
+        Event::Collect(queue) => {
+            put_text(out, b"collect ")?;
+            put_number(out, u64::from(*queue))?;
+        }
+        Event::Boot => put_text(out, b"boot")?,
+        Event::Join => put_text(out, b"join")?,
+        Event::Drain(queue) => {
+            put_text(out, b"drain ")?;
+            put_number(out, u64::from(*queue))?;
+        }
+    }
+    put_text(out, b"\n")
+}
+
+fn format_word(format: Format) -> &'static [u8]
+    ensures { result.now ≡ format_text format }
+{
+    match format {
+        Format::Split => b"split",
+        Format::Packed => b"packed",
+    }
+}
+
+fn mode_word(mode: CacheMode) -> &'static [u8]
+    ensures { result.now ≡ mode_text mode }
+{
+    match mode {
+        CacheMode::Back => b"back",
+        CacheMode::Through => b"through",
+        CacheMode::ReadOnly => b"ro",
+    }
+}
+
+// The numbers of a header between the words of its format and its mode.
+fn put_header_numbers(out: &mut Vec<u8>, header: &Header1) -> Result<(), Memory>
+    ensures { OnOk result (out.new.items ≡ out.old.items ++ header_numbers header.now) }
+{
+    put_number(out, u64::from(header.queues))?;
+    put_text(out, b" ")?;
+    put_number(out, u64::from(header.size))?;
+    put_text(out, b" ")?;
+    put_number(out, header.capacity)?;
+    put_text(out, b" ")?;
+    put_number(out, u64::from(header.base))
+}
+
+#[tactic(auto, unfolding(crate::specs::Spelling::header_text))]
+fn put_header_words(out: &mut Vec<u8>, header: &Header1) -> Result<(), Memory>
+    ensures { OnOk result (out.new.items ≡ out.old.items ++ header_text header.now) }
+{
+    put_text(out, format_word(header.format))?;
+    put_text(out, b" ")?;
+    put_header_numbers(out, header)?;
+    put_text(out, b" ")?;
+    put_text(out, mode_word(header.mode))
+}
+
+/// The front of a line, then the words of a header, and the end of the line.
+pub fn put_header(out: &mut Vec<u8>, front: &[u8], header: &Header1) -> Result<(), Memory>
+    ensures { OnOk result (out.new.items ≡ out.old.items ++ (front.now ++ line (header_text header.now))) }
+{
+    put_text(out, front)?;
+    put_header_words(out, header)?;
+    put_text(out, b"\n")
+}
+
+fn put_events(out: &mut Vec<u8>, events: &[Event]) -> Result<(), Memory>
+    ensures { OnOk result (out.new.items ≡ out.old.items ++ flat_map event_line events.now) }
+{
+    for event in events {
+        put_event(out, event)?;
+    }
+    Ok(())
+}
+
+/// The whole text of a schedule: the line of its header, and a line for each event.
+#[tactic(auto, unfolding(crate::specs::Spelling::spelling, crate::specs::Spelling::header_line))]
+pub fn write_schedule(alloc: Global, schedule: &Schedule) -> Result<Vec<u8>, Memory>
+    // The text is the spelling of the schedule, whatever the schedule.
+    ensures spelled { IfOk result (λ out. out.items ≡ spelling schedule.now) }
+{
+    let mut out = Vec::new(alloc);
+    put_header(&mut out, b"vub 1 ", &schedule.header)?;
+    put_events(&mut out, schedule.events.items())?;
+    Ok(out)
+}
