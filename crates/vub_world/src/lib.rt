@@ -1,0 +1,5 @@
+//! The world of a schedule: guest memory with its driver, the device and its disk, and the records
+//! of what happens between them.
+#![tactic(auto)]
+
+pub mod report;
