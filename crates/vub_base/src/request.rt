@@ -1,6 +1,5 @@
-ghost use Rattle.std.specs.Prelude.{◌≡◌, IfOk};
+ghost use Rattle.std.specs.Prelude.{◌≡◌};
 
-use crate::Memory;
 use arrayvec::ArrayVec;
 
 /// Where the driver places the descriptors of a request.
@@ -33,10 +32,13 @@ pub enum Ask {
 }
 
 impl Ask {
-    /// The same request once more.
-    pub fn copy(&self) -> Result<Ask, Memory>
-        ensures { IfOk result (λ a. a ≡ self.now) }
+    /// The same request once more. Takes no memory.
+    pub fn copied(&self) -> Ask
+        ensures { result ≡ self.now }
     {
-        self.clone().map_err(|_| Memory)
+        match self.clone() {
+            Ok(ask) => ask,
+            Err(_) => unreachable!(),
+        }
     }
 }
