@@ -1,0 +1,50 @@
+-- What a `MemShared` holds, and what its loads and stores leave.
+use Rattle.std.specs.Prelude.{◌≡◌, ◌↔◌, ℕ, Bool, nat_lt, List, Result, OnOk, OnErr, IsErr, Contains, length}
+use Rattle.vub_base.specs.MemForms.{next_count}
+use Rattle.vub_shared.specs.Bytes.{Bytes}
+use Rattle.vub_shared.specs.Spaces.{Names}
+use Rattle.vub_shared.specs.Held.{space_bytes, image, space_size, meaning}
+use Rattle.vub_shared.specs.declared.mem_shared.MemShared.{MemShared}
+
+-- the bytes that a memory holds
+abbrev pub bytes_of : MemShared → Bytes
+bytes_of mem = image mem.spaces.items
+
+-- the bytes of one space of it, none for one that wasn't handed out
+abbrev pub image_of : MemShared → ℕ → List ℕ
+image_of mem = space_bytes mem.spaces.items
+
+abbrev pub sizes_of : MemShared → ℕ → ℕ
+sizes_of mem = space_size mem.spaces.items
+
+-- how many spaces it has handed out
+abbrev pub count_of : MemShared → ℕ
+count_of mem = length mem.spaces.items
+
+-- its spaces are numbered from 0
+abbrev pub handed_of : MemShared → ℕ → Bool
+handed_of mem s = nat_lt s (count_of mem)
+
+abbrev pub names_of : MemShared → Names
+names_of mem = meaning mem.spaces.items
+
+-- the number of the next load or store
+abbrev pub call_of : MemShared → ℕ
+call_of mem = mem.call
+
+-- the numbers of the loads and stores that fail
+abbrev pub fails_of : MemShared → List ℕ
+fails_of mem = mem.fails.items
+
+abbrev pub faults_of : MemShared → ℕ
+faults_of mem = mem.faults
+
+-- A load or store was counted. It failed exactly where its number is one of those chosen, and left
+-- the bytes as they were then.
+pub record IsCounted {T E : Type 0} (before now : MemShared) (result : Result T E) : Type 0 where
+  pub fails : IsErr result ↔ Contains (fails_of before) (call_of before)
+  pub rises : OnErr result (faults_of now ≡ next_count (faults_of before))
+  pub stays : OnOk result (faults_of now ≡ faults_of before)
+  pub unchanged : OnErr result (bytes_of now ≡ bytes_of before)
+  pub next : call_of now ≡ next_count (call_of before)
+  pub chosen : fails_of now ≡ fails_of before
