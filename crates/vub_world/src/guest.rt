@@ -1,6 +1,7 @@
 //! The driver of one split queue: it places requests in guest memory, one store a step, and takes
 //! the used elements (VIRTIO 1.2, 2.7.13 and 2.7.14).
-ghost use Rattle.std.specs.Prelude.{◌≡◌, ◌<◌, ◌≤◌, ◌+◌, ◌%◌, ◌^◌, ℕ, length, IfSome, ForSome};
+ghost use Rattle.std.specs.Prelude.{◌≡◌, ◌<◌, ◌≤◌, ◌+◌, ◌%◌, ◌^◌, ℕ, length, IfSome};
+ghost use Rattle.std.specs.Option.{ForSome};
 
 use crate::layout::{AREA, AVAIL, SECTORS, STATUS, USED, area_of, buffer_of};
 use arrayvec::ArrayVec;
@@ -35,10 +36,10 @@ pub enum Collected {
 #[derive(Clone, Copy, Debug)]
 struct Chain {
     head: u16,
-    data: Option<u16>,
+    sectors: Option<u16>,
     status: u16,
     ghost head_fits: { head < 64 },
-    ghost data_fits: { ForSome data (λ d. d < 64) },
+    ghost sectors_fit: { ForSome sectors (λ d. d < 64) },
     ghost status_fits: { status < 64 },
 }
 
@@ -138,7 +139,7 @@ impl Waiting {
             },
             Stage::Sectors => Some(Stage::Status),
             Stage::Status => Some(Stage::HeaderDescriptor),
-            Stage::HeaderDescriptor => match self.chain.data {
+            Stage::HeaderDescriptor => match self.chain.sectors {
                 Some(_) => Some(Stage::DataDescriptor),
                 None => Some(Stage::StatusDescriptor),
             },
@@ -198,13 +199,17 @@ impl Guest {
     /// The lowest free descriptors that a request can have, if so many are free.
     fn free_chain(&self, has_data: bool) -> Option<Chain> {
         let head = next_free(&self.owners, 0)?;
-        let data = if has_data {
+        let sectors = if has_data {
             Some(next_free(&self.owners, head + 1)?)
         } else {
             None
         };
-        let status = next_free(&self.owners, data.unwrap_or(head) + 1)?;
-        Some(Chain { head, data, status })
+        let status = next_free(&self.owners, sectors.unwrap_or(head) + 1)?;
+        Some(Chain {
+            head,
+            sectors,
+            status,
+        })
     }
 
     fn own(&mut self, descriptor: u16, head: u16) {
@@ -223,7 +228,7 @@ impl Guest {
             return false;
         };
         self.own(chain.head, chain.head);
-        if let Some(data) = chain.data {
+        if let Some(data) = chain.sectors {
             self.own(data, chain.head);
         }
         self.own(chain.status, chain.head);
@@ -290,7 +295,7 @@ impl Guest {
     {
         let chain = &waiting.chain;
         let buffer = buffer_of(self.area, chain.head);
-        let next = chain.data.unwrap_or(chain.status);
+        let next = chain.sectors.unwrap_or(chain.status);
         self.store_descriptor(mem, chain.head, &descriptor(buffer, 16, NEXT, next))
     }
 
@@ -303,7 +308,7 @@ impl Guest {
         ensures { (s : ℕ) → M.sizes mem.new s ≡ M.sizes mem.old s }
     {
         let chain = &waiting.chain;
-        let (Some(data), Some(len)) = (chain.data, data_len(&waiting.ask)) else {
+        let (Some(data), Some(len)) = (chain.sectors, data_len(&waiting.ask)) else {
             return Ok(());
         };
         let flags = match waiting.ask {
@@ -351,7 +356,10 @@ impl Guest {
     }
 
     /// What the driver does once its store stands.
-    fn advance(&mut self) -> GuestStep {
+    fn advance(&mut self) -> GuestStep
+        ensures memory { self.new.memory ≡ self.old.memory }
+        ensures area { self.new.area ≡ self.old.area }
+    {
         if let Some(waiting) = &mut self.waiting {
             if let Some(stage) = waiting.next_stage() {
                 waiting.stage = stage;
@@ -392,7 +400,10 @@ impl Guest {
     }
 
     /// Frees the descriptors of an offered buffer.
-    fn free(&mut self, head: u16) {
+    fn free(&mut self, head: u16)
+        ensures memory { self.new.memory ≡ self.old.memory }
+        ensures area { self.new.area ≡ self.old.area }
+    {
         if let Some(waiting) = &self.waiting {
             if waiting.chain.head == head {
                 return;

@@ -2,4 +2,7 @@
 //! of what happens between them.
 #![tactic(auto)]
 
+mod guest;
+mod layout;
 pub mod report;
+mod split;
