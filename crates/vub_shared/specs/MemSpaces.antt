@@ -1,9 +1,12 @@
 -- What a `MemShared` holds, and what its loads and stores leave.
-use Rattle.std.specs.Prelude.{◌≡◌, ◌↔◌, ℕ, Bool, nat_lt, List, Result, OnOk, OnErr, IsErr, Contains, length}
+use Rattle.std.specs.Prelude.{◌≡◌, ◌↔◌, ◌==◌, ◌+◌, if◌then◌else◌, ℕ, Bool, nat_lt, List, Result, OnOk, OnErr, IsErr, IsErrOf, IfOk, Contains, length}
 use Rattle.vub_base.specs.MemForms.{next_count}
 use Rattle.vub_shared.specs.Bytes.{Bytes}
 use Rattle.vub_shared.specs.Spaces.{Names}
 use Rattle.vub_shared.specs.Held.{space_bytes, image, space_size, meaning}
+use Rattle.vub_base.specs.declared.store.Space.{Space}
+use Rattle.vub_shared.specs.declared.fault.SharedFault.{SharedFault}
+use Rattle.vub_shared.specs.declared.fault.SharedFault.TheVariants.{Failed}
 use Rattle.vub_shared.specs.declared.mem_shared.MemShared.{MemShared}
 
 -- the bytes that a memory holds
@@ -39,6 +42,12 @@ fails_of mem = mem.fails.items
 abbrev pub faults_of : MemShared → ℕ
 faults_of mem = mem.faults
 
+-- no space and no name more, and each space has its size
+pub record SameSpaces (before now : MemShared) : Type 0 where
+  pub count : count_of now ≡ count_of before
+  pub sizes : (s : ℕ) → sizes_of now s ≡ sizes_of before s
+  pub names : names_of now ≡ names_of before
+
 -- A load or store was counted. It failed exactly where its number is one of those chosen, and left
 -- the bytes as they were then.
 pub record IsCounted {T E : Type 0} (before now : MemShared) (result : Result T E) : Type 0 where
@@ -47,4 +56,16 @@ pub record IsCounted {T E : Type 0} (before now : MemShared) (result : Result T 
   pub stays : OnOk result (faults_of now ≡ faults_of before)
   pub unchanged : OnErr result (bytes_of now ≡ bytes_of before)
   pub next : call_of now ≡ next_count (call_of before)
+  pub chosen : fails_of now ≡ fails_of before
+
+-- A create added a space with the next number, failed exactly where 65,536 are there, and left all
+-- as it was, but for the count of faults, where it made none.
+pub record IsCreated (before now : MemShared) (result : Result Space SharedFault) : Type 0 where
+  pub full : IsErrOf result Failed ↔ (count_of before ≡ 65536)
+  pub faults : faults_of now ≡ (if count_of before == 65536 then next_count (faults_of before) else faults_of before)
+  pub number : IfOk result (λ space. space.number ≡ count_of before)
+  pub added : OnOk result (count_of now ≡ count_of before + 1)
+  pub spaces : OnErr result (SameSpaces before now)
+  pub bytes : OnErr result (bytes_of now ≡ bytes_of before)
+  pub next : call_of now ≡ call_of before
   pub chosen : fails_of now ≡ fails_of before

@@ -23,7 +23,7 @@ impl MemShared {
     ghost use Rattle.vub_base.specs.Causes.{HasCause, Rose};
     ghost use Rattle.vub_base.specs.MemForms.{next_count};
     ghost use Rattle.vub_shared.specs.Stores.{Stores, one_store};
-    ghost use Rattle.vub_shared.specs.MemSpaces.{image_of, bytes_of, sizes_of, names_of, count_of, call_of, fails_of, faults_of, IsCounted};
+    ghost use Rattle.vub_shared.specs.MemSpaces.{image_of, bytes_of, sizes_of, names_of, count_of, call_of, fails_of, faults_of, SameSpaces, IsCounted, IsCreated};
 
     /// A memory without spaces. The loads and stores whose numbers stand in `fails` fail.
     pub fn new(alloc: Global, fails: Vec<u64>) -> MemShared
@@ -74,9 +74,7 @@ impl MemShared {
     fn store(&mut self, space: Space, place: u64, bytes: &[u8]) -> Result<(), Failed>
         requires { place + length bytes.now ≤ sizes_of self.old space.number }
         ensures stores { Stores (Some (bytes_of self.old)) (Some (bytes_of self.new)) result (one_store space.number place bytes.now) }
-        ensures sizes { (s : ℕ) → sizes_of self.new s ≡ sizes_of self.old s }
-        ensures count { count_of self.new ≡ count_of self.old }
-        ensures names { (name : List ℕ) → names_of self.new name ≡ names_of self.old name }
+        ensures spaces { SameSpaces self.old self.new }
         ensures counted { IsCounted self.old self.new result }
         ensures cause { HasCause (faults_of self.old) (faults_of self.new) result }
     {
@@ -94,7 +92,7 @@ impl MemShared {
 }
 
 impl Shared for MemShared {
-    ghost use Rattle.std.specs.Prelude.{◌≡◌, ◌≢◌, ◌≤◌, ◌+◌, ◌%◌, ◌↔◌, ℕ, Some, None, true, length, OnOk, OnErr, IfOk, IfErr, MatchResult};
+    ghost use Rattle.std.specs.Prelude.{◌≡◌, ◌≢◌, ◌≤◌, ◌+◌, ◌%◌, ◌↔◌, ℕ, Some, None, true, length, ◌<◌, OnOk, OnErr, IfOk, IfErr};
     ghost use Rattle.std.specs.Option.{option_map};
     ghost use Rattle.byteorder.specs.Endian.{little_bytes};
     ghost use Rattle.vub_base.specs.Causes.{HasCause};
@@ -103,7 +101,8 @@ impl Shared for MemShared {
     ghost use Rattle.vub_shared.specs.Bytes.{bytes_from, cleared};
     ghost use Rattle.vub_shared.specs.Stores.{Stores, one_store};
     ghost use Rattle.vub_shared.specs.Spaces.{with_name, HandsNew, HasReason};
-    ghost use Rattle.vub_shared.specs.MemSpaces.{bytes_of, sizes_of, handed_of, names_of, count_of, call_of, fails_of, faults_of, IsCounted};
+    ghost use Rattle.vub_shared.specs.MemSpaces.{bytes_of, sizes_of, handed_of, names_of, count_of, call_of, fails_of, faults_of, SameSpaces, IsCounted, IsCreated};
+    ghost use Rattle.vub_shared.specs.declared.fault.SharedFault.TheVariants.{NoSuch};
     ghost use Rattle.vub_shared.specs.MemLaws.{image_fits, size_fits, unhanded_empty};
 
     ghost told = { λ mem. Some (bytes_of mem) };
@@ -124,7 +123,12 @@ impl Shared for MemShared {
 
     ghost unhanded_empty = { λ mem s past. unhanded_empty mem.spaces.items s past };
 
-    fn find(&mut self, name: &str) -> Result<Space, SharedFault> {
+    fn find(&mut self, name: &str) -> Result<Space, SharedFault>
+        ensures found { IfOk result (λ space. names_of self.old name.now ≡ Some space.number) }
+        ensures lacking { IfErr result (λ e. (e ≡ NoSuch) × (names_of self.old name.now ≡ None)) }
+        ensures is_handed { IfOk result (λ space. space.number < count_of self.old) }
+        ensures unchanged { self.new ≡ self.old }
+    {
         match spaces::last_of(&self.spaces, name) {
             Some(number) => Ok(Space {
                 number: number as u16,
@@ -133,7 +137,14 @@ impl Shared for MemShared {
         }
     }
 
-    fn create(&mut self, name: &str, size: u64) -> Result<Space, SharedFault> {
+    fn create(&mut self, name: &str, size: u64) -> Result<Space, SharedFault>
+        ensures made { IfOk result (λ space. HandsNew (handed_of self.old) (sizes_of self.old) (handed_of self.new) (sizes_of self.new) space.number size) }
+        ensures zeroed { IfOk result (λ space. bytes_of self.new ≡ cleared space.number (bytes_of self.old)) }
+        ensures named { IfOk result (λ space. names_of self.new ≡ with_name name.now space.number (names_of self.old)) }
+        ensures reason { HasReason (faults_of self.old) (faults_of self.new) (Some (names_of self.old)) name.now result }
+        ensures never_lacking { IfErr result (λ e. e ≢ NoSuch) }
+        ensures created { IsCreated self.old self.new result }
+    {
         let Ok(number) = u16::try_from(self.spaces.len()) else {
             self.faults = self.faults.saturating_add(1);
             return Err(SharedFault::Failed);
@@ -148,7 +159,14 @@ impl Shared for MemShared {
         self.image(space).len() as u64
     }
 
-    fn load(&mut self, space: Space, place: u64, into: &mut [u8]) -> Result<(), Failed> {
+    fn load(&mut self, space: Space, place: u64, into: &mut [u8]) -> Result<(), Failed>
+        requires { place + length into.old ≤ sizes_of self.old space.number }
+        ensures loaded { OnOk result (into.new ≡ bytes_from (length into.old) (bytes_of self.old) space.number place) }
+        ensures bytes { bytes_of self.new ≡ bytes_of self.old }
+        ensures spaces { SameSpaces self.old self.new }
+        ensures cause { HasCause (faults_of self.old) (faults_of self.new) result }
+        ensures counted { IsCounted self.old self.new result }
+    {
         if self.is_failing() {
             return Err(Failed);
         }
@@ -161,23 +179,53 @@ impl Shared for MemShared {
         Ok(())
     }
 
-    fn store1(&mut self, space: Space, place: u64, value: u8) -> Result<(), Failed> {
+    fn store1(&mut self, space: Space, place: u64, value: u8) -> Result<(), Failed>
+        requires { place + 1 ≤ sizes_of self.old space.number }
+        ensures stores { Stores (Some (bytes_of self.old)) (Some (bytes_of self.new)) result (one_store space.number place (little_bytes 1 value)) }
+        ensures spaces { SameSpaces self.old self.new }
+        ensures cause { HasCause (faults_of self.old) (faults_of self.new) result }
+        ensures counted { IsCounted self.old self.new result }
+    {
         self.store(space, place, &value.to_le_bytes())
     }
 
-    fn store2(&mut self, space: Space, place: u64, value: u16) -> Result<(), Failed> {
+    fn store2(&mut self, space: Space, place: u64, value: u16) -> Result<(), Failed>
+        requires { place + 2 ≤ sizes_of self.old space.number }
+        ensures stores { Stores (Some (bytes_of self.old)) (Some (bytes_of self.new)) result (one_store space.number place (little_bytes 2 value)) }
+        ensures spaces { SameSpaces self.old self.new }
+        ensures cause { HasCause (faults_of self.old) (faults_of self.new) result }
+        ensures counted { IsCounted self.old self.new result }
+    {
         self.store(space, place, &value.to_le_bytes())
     }
 
-    fn store4(&mut self, space: Space, place: u64, value: u32) -> Result<(), Failed> {
+    fn store4(&mut self, space: Space, place: u64, value: u32) -> Result<(), Failed>
+        requires { place + 4 ≤ sizes_of self.old space.number }
+        ensures stores { Stores (Some (bytes_of self.old)) (Some (bytes_of self.new)) result (one_store space.number place (little_bytes 4 value)) }
+        ensures spaces { SameSpaces self.old self.new }
+        ensures cause { HasCause (faults_of self.old) (faults_of self.new) result }
+        ensures counted { IsCounted self.old self.new result }
+    {
         self.store(space, place, &value.to_le_bytes())
     }
 
-    fn store8(&mut self, space: Space, place: u64, value: u64) -> Result<(), Failed> {
+    fn store8(&mut self, space: Space, place: u64, value: u64) -> Result<(), Failed>
+        requires { place + 8 ≤ sizes_of self.old space.number }
+        ensures stores { Stores (Some (bytes_of self.old)) (Some (bytes_of self.new)) result (one_store space.number place (little_bytes 8 value)) }
+        ensures spaces { SameSpaces self.old self.new }
+        ensures cause { HasCause (faults_of self.old) (faults_of self.new) result }
+        ensures counted { IsCounted self.old self.new result }
+    {
         self.store(space, place, &value.to_le_bytes())
     }
 
-    fn store_run(&mut self, space: Space, place: u64, bytes: &[u8]) -> Result<(), Failed> {
+    fn store_run(&mut self, space: Space, place: u64, bytes: &[u8]) -> Result<(), Failed>
+        requires { place + length bytes.now ≤ sizes_of self.old space.number }
+        ensures stores { Stores (Some (bytes_of self.old)) (Some (bytes_of self.new)) result (one_store space.number place bytes.now) }
+        ensures spaces { SameSpaces self.old self.new }
+        ensures cause { HasCause (faults_of self.old) (faults_of self.new) result }
+        ensures counted { IsCounted self.old self.new result }
+    {
         self.store(space, place, bytes)
     }
 }
