@@ -1,1 +1,2 @@
 pub mod RecordTextLemmas
+pub mod SplitLemmas

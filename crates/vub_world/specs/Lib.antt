@@ -1,3 +1,4 @@
 pub mod Guest
+pub mod Queue
 pub mod RecordText
 pub mod Split

@@ -65,6 +65,7 @@ struct Waiting {
 }
 
 const NEXT: u16 = 1;
+
 const WRITE: u16 = 2;
 
 /// The type of a request (VIRTIO 1.2, 5.2.6).
@@ -175,12 +176,7 @@ impl Guest {
     ghost use Rattle.vub_world.specs.Guest.{GuestLies};
 
     /// The driver of a queue whose area lies in this space.
-    pub fn new(
-        alloc: Global,
-        header: &Header1,
-        queue: u16,
-        memory: Space,
-    ) -> Result<Guest, Memory>
+    pub fn new(alloc: Global, header: &Header1, queue: u16, memory: Space) -> Result<Guest, Memory>
         requires some { 1 ≤ header.now.size }
         requires few { header.now.size ≤ 64 }
     {
@@ -299,11 +295,7 @@ impl Guest {
         self.store_descriptor(mem, chain.head, &descriptor(buffer, 16, NEXT, next))
     }
 
-    fn store_data_descriptor<M: Shared>(
-        &self,
-        mem: &mut M,
-        waiting: &Waiting,
-    ) -> Result<(), Failed>
+    fn store_data_descriptor<M: Shared>(&self, mem: &mut M, waiting: &Waiting) -> Result<(), Failed>
         requires { GuestLies (M.sizes mem.old) self.now }
         ensures { (s : ℕ) → M.sizes mem.new s ≡ M.sizes mem.old s }
     {

@@ -2,7 +2,10 @@
 //! of what happens between them.
 #![tactic(auto)]
 
+mod chain;
 mod guest;
 mod layout;
+mod queue;
 pub mod report;
 mod split;
+mod task;

@@ -62,12 +62,7 @@ impl SplitRing {
     }
 
     /// Stores the id of the used element of an index, which is taken modulo the size.
-    pub fn write_used_id<M: Shared>(
-        &self,
-        mem: &mut M,
-        index: u16,
-        id: u32,
-    ) -> Result<(), Failed>
+    pub fn write_used_id<M: Shared>(&self, mem: &mut M, index: u16, id: u32) -> Result<(), Failed>
         requires { RingLies (M.sizes mem.old) self.now }
         ensures stores { Stores (M.told mem.old) (M.told mem.new) result (one_store self.now.used.0.number (used_id_place self.now index) (little_bytes 4 id)) }
         ensures trails { Trails (M.trail mem.old) (M.trail mem.new) result (one_store self.now.used.0.number (used_id_place self.now index) (little_bytes 4 id)) }
@@ -79,12 +74,7 @@ impl SplitRing {
     }
 
     /// Stores the length of the used element of an index, which is taken modulo the size.
-    pub fn write_used_len<M: Shared>(
-        &self,
-        mem: &mut M,
-        index: u16,
-        len: u32,
-    ) -> Result<(), Failed>
+    pub fn write_used_len<M: Shared>(&self, mem: &mut M, index: u16, len: u32) -> Result<(), Failed>
         requires { RingLies (M.sizes mem.old) self.now }
         ensures stores { Stores (M.told mem.old) (M.told mem.new) result (one_store self.now.used.0.number (used_len_place self.now index) (little_bytes 4 len)) }
         ensures trails { Trails (M.trail mem.old) (M.trail mem.new) result (one_store self.now.used.0.number (used_len_place self.now index) (little_bytes 4 len)) }
