@@ -5,3 +5,4 @@ pub mod MemSpaces
 pub mod Spaces
 pub mod Splices
 pub mod Stores
+pub mod Trails

@@ -4,9 +4,11 @@
 
 mod fault;
 mod held;
+mod kept;
 mod mem_shared;
 mod shared;
 mod spaces;
+mod trail;
 mod words;
 
 pub use fault::SharedFault;
