@@ -1,3 +1,4 @@
 pub mod BytesLemmas
 pub mod ImageLemmas
 pub mod MeaningLemmas
+pub mod TrailLemmas

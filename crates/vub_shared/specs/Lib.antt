@@ -5,3 +5,5 @@ pub mod MemSpaces
 pub mod Spaces
 pub mod Splices
 pub mod Stores
+pub mod TrailForms
+pub mod Trails

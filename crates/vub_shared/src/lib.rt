@@ -4,12 +4,16 @@
 
 mod fault;
 mod held;
+mod kept;
 mod mem_shared;
 mod shared;
 mod spaces;
+mod trail;
+mod trail_shared;
 mod words;
 
 pub use fault::SharedFault;
 pub use mem_shared::MemShared;
 pub use shared::Shared;
+pub use trail_shared::TrailShared;
 pub use words::{load_u8, load_u16, load_u32, load_u64};

@@ -1,0 +1,2 @@
+pub mod NoSectors
+pub mod Values

@@ -1,0 +1,49 @@
+ghost use Rattle.std.specs.Prelude.{◌≡◌, ◌<◌, ◌≤◌, ◌^◌, ℕ, List, Option, Some, OnOk, length};
+ghost use Rattle.vub_base.specs.Causes.{HasCause};
+ghost use Rattle.vub_base.specs.Told.{WhereTold};
+ghost use Rattle.vub_disk.specs.Values.{Values, Writes};
+
+use vub_base::Failed;
+
+/// A disk of sectors of 512 bytes. A sector is written whole or not at all.
+pub trait Disk {
+    /// The value of each sector now, where it is told.
+    ghost values: { Self → Option Values };
+
+    /// The number of sectors.
+    ghost capacity: { Self → ℕ };
+
+    /// How often a call has failed.
+    ghost faults: { Self → ℕ };
+
+    /// The number of sectors, at most 2^54. It never changes.
+    fn capacity(&self) -> u64
+        ensures { result ≡ capacity self.now };
+
+    /// Fills `into` with the value of the sector. What a read that fails leaves in `into` is open.
+    fn read(&mut self, sector: u64, into: &mut [u8; 512]) -> Result<(), Failed>
+        requires { sector < capacity self.old }
+        ensures given { OnOk result (WhereTold (values self.old) (λ v. into.new ≡ v sector)) }
+        ensures values { values self.new ≡ values self.old }
+        ensures capacity { capacity self.new ≡ capacity self.old }
+        ensures cause { HasCause (faults self.old) (faults self.new) result };
+
+    /// Makes `from` the value of the sector. A write that fails has done so or not.
+    fn write(&mut self, sector: u64, from: &[u8; 512]) -> Result<(), Failed>
+        requires { sector < capacity self.old }
+        ensures writes { Writes (values self.old) (values self.new) result sector from.now }
+        ensures capacity { capacity self.new ≡ capacity self.old }
+        ensures cause { HasCause (faults self.old) (faults self.new) result };
+
+    /// Makes the values of all sectors stable: a power stop keeps them.
+    fn flush(&mut self) -> Result<(), Failed>
+        ensures values { values self.new ≡ values self.old }
+        ensures capacity { capacity self.new ≡ capacity self.old }
+        ensures cause { HasCause (faults self.old) (faults self.new) result };
+
+    /// A capacity in bytes fits 63 bits.
+    ghost capacity_fits: { (disk : Self) → capacity disk ≤ 2 ^ 54 };
+
+    /// A told value has 512 bytes.
+    ghost values_whole: { (disk : Self) (v : Values) → values disk ≡ Some v → (s : ℕ) → s < capacity disk → length (v s) ≡ 512 };
+}

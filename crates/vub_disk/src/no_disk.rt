@@ -1,0 +1,46 @@
+ghost use Rattle.std.specs.Prelude.{◌≡◌, ◌<◌, ◌+◌, Some, IsOk, []};
+ghost use Rattle.std.proofs.Common.{lit≤};
+ghost use Rattle.vub_disk.specs.NoSectors.{no_sector};
+
+use crate::Disk;
+use vub_base::Failed;
+
+/// A disk without sectors, whose calls never fail.
+#[derive(Clone, Copy, Debug)]
+pub struct NoDisk;
+
+impl Disk for NoDisk {
+    ghost values = { λ d. Some (λ s. []) };
+
+    ghost capacity = { λ d. 0 };
+
+    ghost faults = { λ d. 0 };
+
+    ghost capacity_fits = { λ d. lit≤ tt };
+
+    ghost values_whole = { λ d v e s below. no_sector s below (v s) };
+
+    fn capacity(&self) -> u64 {
+        0
+    }
+
+    fn read(&mut self, sector: u64, _into: &mut [u8; 512]) -> Result<(), Failed>
+        requires { sector < 0 }
+        ensures { IsOk result }
+    {
+        Ok(())
+    }
+
+    fn write(&mut self, sector: u64, _from: &[u8; 512]) -> Result<(), Failed>
+        requires { sector < 0 }
+        ensures { IsOk result }
+    {
+        Ok(())
+    }
+
+    fn flush(&mut self) -> Result<(), Failed>
+        ensures { IsOk result }
+    {
+        Ok(())
+    }
+}

@@ -1,0 +1,220 @@
+use crate::trail::Trail;
+use crate::{Shared, SharedFault};
+use std::alloc::Global;
+use vub_base::{Failed, Memory, Space};
+
+/// Shared memory that passes every call on and keeps each store that succeeds, in lists reserved
+/// for so many stores and bytes. A store past them fails, and is not passed on.
+#[derive(Drop)]
+pub struct TrailShared<M> {
+    inner: M,
+    trail: Trail,
+    faults: u64,
+}
+
+impl<M: Shared> TrailShared<M> {
+    ghost use Rattle.std.specs.Prelude.{◌≡◌, ◌<◌, ◌≤◌, ◌-◌, ◌^◌, [], IfOk, OnOk, OnErr, Some, length, slice_get};
+    ghost use Rattle.std.proofs.Common.{min};
+    ghost use Rattle.vub_base.specs.Causes.{Rose};
+    ghost use Rattle.vub_shared.specs.Stores.{one_store};
+    ghost use Rattle.vub_shared.specs.TrailForms.{inner_of, trail_of, stores_of, faults_with};
+
+    /// The memory below, with no store kept and room for so many stores and bytes.
+    pub fn new(
+        alloc: Global,
+        inner: M,
+        stores: usize,
+        bytes: usize,
+    ) -> Result<TrailShared<M>, Memory>
+    where
+        M: Drop,
+        ensures inner { IfOk result (λ t. inner_of t ≡ inner) }
+        ensures trail { IfOk result (λ t. trail_of t ≡ record { stores = []; stores_room = stores; bytes_room = bytes }) }
+        ensures faults { IfOk result (λ t. faults_with M.faults t ≡ min (M.faults inner) (2 ^ 64 - 1)) }
+    {
+        let trail = Trail::new(alloc, stores, bytes)?;
+        Ok(TrailShared {
+            inner,
+            trail,
+            faults: 0,
+        })
+    }
+
+    /// Empties the list of stores and reserves room for so many stores and bytes. Takes no memory
+    /// where there was as much room before. Refused, it changes nothing.
+    pub fn restart(&mut self, stores: usize, bytes: usize) -> Result<(), Memory>
+        ensures inner { inner_of self.new ≡ inner_of self.old }
+        ensures trail { OnOk result (trail_of self.new ≡ record { stores = []; stores_room = stores; bytes_room = bytes }) }
+        ensures faults { faults_with M.faults self.new ≡ faults_with M.faults self.old }
+        ensures refused { OnErr result (self.new ≡ self.old) }
+    {
+        self.trail.restart(stores, bytes)
+    }
+
+    /// The number of stores kept.
+    pub fn stores(&self) -> usize
+        ensures { result ≡ length (stores_of self.now) }
+    {
+        self.trail.len()
+    }
+
+    /// One of the stores kept: its space, its place and its bytes.
+    pub fn store_at(&self, index: usize) -> (Space, u64, &[u8])
+        requires { index < length (stores_of self.now) }
+        ensures { slice_get (stores_of self.now) index ≡ Some (one_store result.0.number result.1 result.2.now) }
+    {
+        self.trail.at(index)
+    }
+
+    /// The memory below.
+    pub fn inner(&self) -> &M
+        ensures { result.now ≡ inner_of self.now }
+    {
+        &self.inner
+    }
+
+    // Counts a store without room.
+    fn refuse(&mut self)
+        ensures inner { inner_of self.new ≡ inner_of self.old }
+        ensures trail { trail_of self.new ≡ trail_of self.old }
+        ensures later { faults_with M.faults self.old ≤ faults_with M.faults self.new }
+        ensures rose { Rose (faults_with M.faults self.old) (faults_with M.faults self.new) }
+    {
+        self.faults = self.faults.saturating_add(1);
+    }
+}
+
+impl<M: Shared> Shared for TrailShared<M> {
+    ghost use Rattle.std.specs.Prelude.{◌≡◌, ◌≤◌, ◌+◌, ◌%◌, ℕ, Some, length};
+    ghost use Rattle.byteorder.specs.Endian.{little_bytes};
+    ghost use Rattle.vub_base.specs.Causes.{HasCause};
+    ghost use Rattle.vub_shared.specs.Stores.{Stores, Trails, one_store};
+    ghost use Rattle.vub_shared.specs.TrailForms.{inner_of, trail_of, stores_of, faults_with, IsKeptIn};
+
+    ghost told = { λ t. M.told (inner_of t) };
+
+    ghost trail = { λ t. Some (stores_of t) };
+
+    ghost names = { λ t. M.names (inner_of t) };
+
+    ghost handed = { λ t. M.handed (inner_of t) };
+
+    ghost sizes = { λ t. M.sizes (inner_of t) };
+
+    ghost faults = { λ t. faults_with M.faults t };
+
+    ghost told_fits = { λ t m e s p. M.told_fits (inner_of t) m e s p };
+
+    ghost sizes_fit = { λ t s. M.sizes_fit (inner_of t) s };
+
+    ghost unhanded_empty = { λ t s past. M.unhanded_empty (inner_of t) s past };
+
+    fn find(&mut self, name: &str) -> Result<Space, SharedFault> {
+        self.inner.find(name)
+    }
+
+    fn create(&mut self, name: &str, size: u64) -> Result<Space, SharedFault> {
+        self.inner.create(name, size)
+    }
+
+    fn size(&self, space: Space) -> u64 {
+        self.inner.size(space)
+    }
+
+    fn load(&mut self, space: Space, place: u64, into: &mut [u8]) -> Result<(), Failed> {
+        self.inner.load(space, place, into)
+    }
+
+    fn store1(&mut self, space: Space, place: u64, value: u8) -> Result<(), Failed>
+        requires { place + 1 ≤ M.sizes (inner_of self.old) space.number }
+        ensures stores { Stores (M.told (inner_of self.old)) (M.told (inner_of self.new)) result (one_store space.number place (little_bytes 1 value)) }
+        ensures kept { IsKeptIn M.faults self.old self.new result (one_store space.number place (little_bytes 1 value)) }
+        ensures names { M.names (inner_of self.new) ≡ M.names (inner_of self.old) }
+        ensures handed { (s : ℕ) → M.handed (inner_of self.new) s ≡ M.handed (inner_of self.old) s }
+        ensures sizes { (s : ℕ) → M.sizes (inner_of self.new) s ≡ M.sizes (inner_of self.old) s }
+        ensures cause { HasCause (faults_with M.faults self.old) (faults_with M.faults self.new) result }
+    {
+        if !self.trail.has_room(1) {
+            self.refuse();
+            return Err(Failed);
+        }
+        self.inner.store1(space, place, value)?;
+        self.trail.add(space, place, &value.to_le_bytes());
+        Ok(())
+    }
+
+    fn store2(&mut self, space: Space, place: u64, value: u16) -> Result<(), Failed>
+        requires room { place + 2 ≤ M.sizes (inner_of self.old) space.number }
+        requires aligned { place % 2 ≡ 0 }
+        ensures stores { Stores (M.told (inner_of self.old)) (M.told (inner_of self.new)) result (one_store space.number place (little_bytes 2 value)) }
+        ensures kept { IsKeptIn M.faults self.old self.new result (one_store space.number place (little_bytes 2 value)) }
+        ensures names { M.names (inner_of self.new) ≡ M.names (inner_of self.old) }
+        ensures handed { (s : ℕ) → M.handed (inner_of self.new) s ≡ M.handed (inner_of self.old) s }
+        ensures sizes { (s : ℕ) → M.sizes (inner_of self.new) s ≡ M.sizes (inner_of self.old) s }
+        ensures cause { HasCause (faults_with M.faults self.old) (faults_with M.faults self.new) result }
+    {
+        if !self.trail.has_room(2) {
+            self.refuse();
+            return Err(Failed);
+        }
+        self.inner.store2(space, place, value)?;
+        self.trail.add(space, place, &value.to_le_bytes());
+        Ok(())
+    }
+
+    fn store4(&mut self, space: Space, place: u64, value: u32) -> Result<(), Failed>
+        requires room { place + 4 ≤ M.sizes (inner_of self.old) space.number }
+        requires aligned { place % 4 ≡ 0 }
+        ensures stores { Stores (M.told (inner_of self.old)) (M.told (inner_of self.new)) result (one_store space.number place (little_bytes 4 value)) }
+        ensures kept { IsKeptIn M.faults self.old self.new result (one_store space.number place (little_bytes 4 value)) }
+        ensures names { M.names (inner_of self.new) ≡ M.names (inner_of self.old) }
+        ensures handed { (s : ℕ) → M.handed (inner_of self.new) s ≡ M.handed (inner_of self.old) s }
+        ensures sizes { (s : ℕ) → M.sizes (inner_of self.new) s ≡ M.sizes (inner_of self.old) s }
+        ensures cause { HasCause (faults_with M.faults self.old) (faults_with M.faults self.new) result }
+    {
+        if !self.trail.has_room(4) {
+            self.refuse();
+            return Err(Failed);
+        }
+        self.inner.store4(space, place, value)?;
+        self.trail.add(space, place, &value.to_le_bytes());
+        Ok(())
+    }
+
+    fn store8(&mut self, space: Space, place: u64, value: u64) -> Result<(), Failed>
+        requires room { place + 8 ≤ M.sizes (inner_of self.old) space.number }
+        requires aligned { place % 8 ≡ 0 }
+        ensures stores { Stores (M.told (inner_of self.old)) (M.told (inner_of self.new)) result (one_store space.number place (little_bytes 8 value)) }
+        ensures kept { IsKeptIn M.faults self.old self.new result (one_store space.number place (little_bytes 8 value)) }
+        ensures names { M.names (inner_of self.new) ≡ M.names (inner_of self.old) }
+        ensures handed { (s : ℕ) → M.handed (inner_of self.new) s ≡ M.handed (inner_of self.old) s }
+        ensures sizes { (s : ℕ) → M.sizes (inner_of self.new) s ≡ M.sizes (inner_of self.old) s }
+        ensures cause { HasCause (faults_with M.faults self.old) (faults_with M.faults self.new) result }
+    {
+        if !self.trail.has_room(8) {
+            self.refuse();
+            return Err(Failed);
+        }
+        self.inner.store8(space, place, value)?;
+        self.trail.add(space, place, &value.to_le_bytes());
+        Ok(())
+    }
+
+    fn store_run(&mut self, space: Space, place: u64, bytes: &[u8]) -> Result<(), Failed>
+        requires { place + length bytes.now ≤ M.sizes (inner_of self.old) space.number }
+        ensures stores { Stores (M.told (inner_of self.old)) (M.told (inner_of self.new)) result (one_store space.number place bytes.now) }
+        ensures kept { IsKeptIn M.faults self.old self.new result (one_store space.number place bytes.now) }
+        ensures names { M.names (inner_of self.new) ≡ M.names (inner_of self.old) }
+        ensures handed { (s : ℕ) → M.handed (inner_of self.new) s ≡ M.handed (inner_of self.old) s }
+        ensures sizes { (s : ℕ) → M.sizes (inner_of self.new) s ≡ M.sizes (inner_of self.old) s }
+        ensures cause { HasCause (faults_with M.faults self.old) (faults_with M.faults self.new) result }
+    {
+        if !self.trail.has_room(bytes.len()) {
+            self.refuse();
+            return Err(Failed);
+        }
+        self.inner.store_run(space, place, bytes)?;
+        self.trail.add(space, place, bytes);
+        Ok(())
+    }
+}
