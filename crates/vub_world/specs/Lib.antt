@@ -1,4 +1,5 @@
 pub mod Guest
+pub mod Machine
 pub mod Queue
 pub mod RecordText
 pub mod Split

@@ -5,6 +5,8 @@
 mod chain;
 mod guest;
 mod layout;
+mod log;
+mod machine;
 mod queue;
 pub mod report;
 mod split;
