@@ -1,0 +1,3 @@
+pub mod DiskLaws
+pub mod MemDisks
+pub mod Sectors
