@@ -11,3 +11,6 @@ mod queue;
 pub mod report;
 mod split;
 mod task;
+mod world;
+
+pub use world::World;

@@ -1,6 +1,8 @@
 //! The parts of a world, and what each event does with them.
-ghost use Rattle.std.specs.Prelude.{◌≡◌, ◌<◌, ◌≤◌, IfOk, OnOk, OnErr};
-ghost use Rattle.vub_schedule.specs.Spelling.{IsHeader, IsEvent};
+ghost use Rattle.std.specs.Prelude.{◌≡◌, ◌<◌, ℕ, IfOk, OnOk};
+ghost use Rattle.vub_world.specs.Split.{RingLies};
+ghost use Rattle.vub_world.specs.Lives.{RingOfLife, SameRing};
+ghost use Rattle.vub_schedule.specs.Spelling.{IsHeader};
 
 use crate::guest::{Collected, Guest, GuestStep};
 use crate::layout::{AREA, AVAIL, SECTORS, STATUS, area_of, buffer_of, ring_of};
@@ -10,6 +12,7 @@ use crate::report::{Item, Items, Record};
 use crate::split::SplitRing;
 use std::alloc::Global;
 use vub_base::{Area, Ask, Bytes, Header1, Memory, Shape, Space, Tag, get_u16};
+use vub_disk::Disk;
 use vub_device::{AnswerList, Answered, Asked, Entry, NumberList};
 use vub_memdisk::MemDisk;
 use vub_schedule::Event;
@@ -92,8 +95,28 @@ fn bytes_at(bytes: &[u8], place: u64, len: usize) -> &[u8] {
     }
 }
 
+/// One turn of the life's queue, if one is attached.
+fn turn_of<M: Shared, D: Disk>(
+    life: &mut Option<Life>,
+    turn: Turn,
+    mem: &mut M,
+    disk: &mut D,
+) -> Stepped
+    requires { RingOfLife (RingLies (M.sizes mem.old)) life.old }
+    ensures ring { SameRing life.old life.new }
+    ensures sizes { (s : ℕ) → M.sizes mem.new s ≡ M.sizes mem.old s }
+    ensures capacity { D.capacity disk.new ≡ D.capacity disk.old }
+{
+    match life {
+        Some(Life { queue: Some(queue) }) => queue.turn(turn, mem, disk),
+        _ => Stepped::Idle,
+    }
+}
+
 impl Machine {
-    ghost use Rattle.vub_world.specs.Machine.{IsSound};
+    ghost use Rattle.vub_memdisk.specs.MemDisks.{values_of};
+    ghost use Rattle.std.specs.Borrow.{sem};
+    ghost use Rattle.vub_world.specs.Machine.{IsSound, LendsSound};
 
     /// A world in which nothing has happened.
     pub fn new(alloc: Global, header: &Header1) -> Result<Machine, Memory>
@@ -130,12 +153,12 @@ impl Machine {
     }
 
     /// The value of a sector now.
-    pub fn sector(&self, sector: u64) -> Option<&[u8; 512]> {
-        if sector < self.disk.capacity() {
-            Some(self.disk.sector(sector))
-        } else {
-            None
-        }
+    pub fn sector(&self, sector: u64) -> &[u8; 512]
+        requires sound { IsSound self.now }
+        requires below { sector < self.now.header.capacity }
+        ensures { result.now ≡ values_of self.now.disk sector }
+    {
+        self.disk.sector(sector)
     }
 
     /// The bytes of guest memory.
@@ -265,14 +288,18 @@ impl Machine {
         Ok(Vec::new(self.alloc))
     }
 
+    /// Whether there is a life whose queue isn't attached yet.
+    fn is_joining(&self) -> bool {
+        matches!(&self.life, Some(Life { queue: None }))
+    }
+
     fn join(&mut self) -> Result<Vec<Item>, Memory>
         requires { IsSound self.old }
         ensures header { self.new.header ≡ self.old.header }
         ensures sound { IsSound self.new }
     {
-        match &self.life {
-            Some(Life { queue: None }) => {}
-            _ => return self.idle(),
+        if !self.is_joining() {
+            return self.idle();
         }
         let setup = QueueSetup {
             index: 0,
@@ -329,18 +356,14 @@ impl Machine {
         ensures sound { IsSound self.new }
     {
         self.memory.restart(1, STORE)?;
-        Ok(match &mut self.life {
-            Some(Life { queue: Some(queue) }) => {
-                queue.turn(turn, &mut self.memory, &mut self.disk)
-            }
-            _ => Stepped::Idle,
-        })
+        Ok(turn_of(&mut self.life, turn, &mut self.memory, &mut self.disk))
     }
 
     fn value_of(&self, sector: u64) -> [u8; 512] {
-        match self.sector(sector) {
-            Some(value) => *value,
-            None => [0; 512],
+        if sector < self.disk.capacity() {
+            *self.disk.sector(sector)
+        } else {
+            [0; 512]
         }
     }
 
@@ -450,10 +473,12 @@ impl Machine {
         Ok(())
     }
 
-    /// The record of the last event.
-    pub fn last(&self) -> &Record
-        ensures { result.now ≡ self.now.last }
+    /// Plays an event, and lends its record.
+    pub fn event(&mut self, event: &Event) -> Result<&Record, Memory>
+        requires { IsSound self.old }
+        ensures* after { sem 𝓛 (LendsSound self.entry event.now result) }
     {
-        &self.last
+        self.perform(event)?;
+        Ok(&self.last)
     }
 }
