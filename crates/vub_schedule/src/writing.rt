@@ -84,7 +84,7 @@ fn put_more_parts(out: &mut Vec<u8>, parts: &[Part]) -> Result<(), Memory>
     Ok(())
 }
 
-fn put_parts(out: &mut Vec<u8>, parts: &[Part]) -> Result<(), Memory>
+pub fn put_parts(out: &mut Vec<u8>, parts: &[Part]) -> Result<(), Memory>
     ensures { OnOk result (out.new.items ≡ out.old.items ++ commas part_text parts.now) }
 {
     match parts {
