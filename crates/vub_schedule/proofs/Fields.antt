@@ -1,23 +1,21 @@
 -- A field that is read is the field that was written, and what was written is read again.
-use Rattle.std.proofs.Common.{◌≡◌, ℕ, zero, suc, ◌+◌, ◌-◌, ◌*◌, ◌/◌, ◌%◌, ◌^◌, ◌<◌, ◌≤◌, Bool, true, false, cond, ltb, eqb, List, [], ◌∷◌, ◌++◌, length, get_or, take, drop, Option, Some, None, refl, sym, ap, subst, ◌∙◌, append_assoc, arith, rules}
-use Rattle.std.specs.Prelude.{nat_eq, ◌&&◌, ◌||◌, not, IfSome}
+use Rattle.std.proofs.Common.{◌≡◌, ℕ, zero, suc, ◌+◌, ◌*◌, ◌/◌, ◌%◌, ◌^◌, ◌<◌, ◌≤◌, Bool, true, false, ltb, List, [], ◌∷◌, ◌++◌, length, get_or, take, drop, Option, Some, None, refl, sym, ap, subst, ◌∙◌, arith}
+use Rattle.std.specs.Prelude.{nat_eq, ◌&&◌}
 use Rattle.std.proofs.Math.Seq.{take-append_seam, drop-append_seam}
-use Rattle.std.proofs.lemmas.Bool.{ltb-true, lt-ltb, eqb-true, eqb-false}
+use Rattle.std.proofs.lemmas.Bool.{ltb-true, lt-ltb}
 use Rattle.std.proofs.lemmas.Bool.Decides.{nat_tests}
-use Rattle.std.proofs.lemmas.Grind.{common_steps}
-use Rattle.std.proofs.lemmas.List.{take-append-drop, take_all, length-take}
+use Rattle.std.proofs.lemmas.List.{take-append-drop}
 use Rattle.std.proofs.lemmas.List.Folds.{length-prefix_len}
 use Rattle.std.proofs.lemmas.List.Sums.{take_while-cons}
-use Rattle.std.proofs.lemmas.Option.{cond_some, option_and_then_some}
-use Rattle.std.proofs.lemmas.Str.{digit_value_digit}
+use Rattle.std.proofs.lemmas.Option.{cond_some}
 use Rattle.std.proofs.lemmas.Str.Parse.{IsNumeralModel, numerals_by_value, tells_digits, digit_from_value}
 use Rattle.std.proofs.lemmas.Fmt.{decimal-digits_value, decimal_is_IsNumeral, first_decimal, decimal_digit, decimal_nonempty}
 use Rattle.std.specs.Cmp.Lexicographic.{pointwise, same_text}
 use Rattle.std.specs.Char.{digit_value, is_ascii_digit}
-use Rattle.std.specs.Int.{IsInRange, is_in_range}
-use Rattle.std.specs.List.{take_while, prefix_len}
+use Rattle.std.specs.Int.{IsInRange}
+use Rattle.std.specs.List.{take_while}
 use Rattle.std.specs.Fmt.{decimal, digit_glyph}
-use Rattle.std.specs.Str.Parse.{digits_value, AllDigits, IsNumeral}
+use Rattle.std.specs.Str.Parse.{digits_value, AllDigits}
 use Rattle.vub_schedule.specs.Spelling.{hex_pair}
 use Rattle.vub_schedule.specs.Reading.{◌>>=◌, tag, is_canonical, number_at, hex_value, pair_at}
 use Rattle.vub_schedule.proofs.Digits.{AllDigits-front}

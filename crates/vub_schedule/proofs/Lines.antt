@@ -1,13 +1,12 @@
 -- A line that is read is the line that was written, and what was written is read again.
-use Rattle.std.proofs.Common.{◌≡◌, ℕ, zero, suc, ◌+◌, ◌^◌, ◌<◌, ◌≤◌, Bool, true, false, cond, leb, List, [], ◌∷◌, ◌++◌, length, Option, Some, None, refl, sym, ap, subst, ◌∙◌, append_assoc, arith, rules, inl, inr, ◌⊎◌, lit≤}
-use Rattle.std.specs.Prelude.{codes, nat_le, ◌&&◌}
-use Rattle.std.specs.List.{AllByRecursion, flat_map}
+use Rattle.std.proofs.Common.{◌≡◌, ℕ, ◌^◌, ◌<◌, ◌≤◌, true, leb, List, [], ◌∷◌, ◌++◌, length, Option, Some, None, refl, sym, ap, subst, ◌∙◌, append_assoc, arith, inl, inr, ◌⊎◌, lit≤}
+use Rattle.std.specs.Prelude.{codes, ◌&&◌}
+use Rattle.std.specs.List.{AllByRecursion}
 use Rattle.std.proofs.lemmas.Bool.Decides.{nat_tests}
 use Rattle.std.proofs.lemmas.Bool.{leb-true, le-leb}
 use Rattle.std.proofs.lemmas.Option.{cond_some}
 use Rattle.std.specs.Fmt.{decimal}
 use Rattle.std.proofs.lemmas.Fmt.{decimal_digit, decimal_step}
-use Rattle.arrayvec.specs.ArrayVec.{ArrayVec}
 use Rattle.vub_base.specs.declared.header.Format.{Format}
 use Rattle.vub_base.specs.declared.header.Format.TheVariants.{Split}
 use Rattle.vub_base.specs.declared.header.CacheMode.{CacheMode}
@@ -19,7 +18,7 @@ use Rattle.vub_base.specs.declared.request.Ask.{Ask}
 use Rattle.vub_base.specs.declared.request.Ask.TheVariants as asks
 use Rattle.vub_schedule.specs.declared.types.Event.{Event}
 use Rattle.vub_schedule.specs.declared.types.Event.TheVariants as events
-use Rattle.vub_schedule.specs.Spelling.{line, commas, hex_pair, format_text, mode_text, shape_text, ask_text, event_text, header_text, header_numbers, header_line, event_line, is_size, IsHeader, IsAsk, IsEvent}
+use Rattle.vub_schedule.specs.Spelling.{line, hex_pair, ask_text, event_text, header_text, header_line, event_line, is_size, IsHeader, IsAsk, IsEvent}
 use Rattle.vub_schedule.specs.Reading.{◌>>=◌, decide, tag, number_at, pair_at, read_at, write_at, ask_at, as_ask, as_event, event_text_at, event_at, plain_header, header_of, header_at, with_header, back_at, middle_at}
 use Rattle.vub_schedule.proofs.Fields.{bind_some, some_is, both, tag_takes, tag_again, number_takes, number_again, pair_takes, pair_again}
 

@@ -1,5 +1,5 @@
 -- A text is read in one way.
-use Rattle.std.proofs.Common.{◌≡◌, ℕ, zero, suc, ◌+◌, ◌^◌, ◌<◌, ◌≤◌, List, [], ◌∷◌, ◌++◌, length, Option, Some, None, refl, sym, ap, subst, ◌∙◌, append_assoc, arith, inl, inr, ◌⊎◌, lit≤}
+use Rattle.std.proofs.Common.{◌≡◌, ℕ, ◌+◌, ◌^◌, ◌<◌, ◌≤◌, List, [], ◌∷◌, ◌++◌, length, Some, None, refl, sym, ap, subst, ◌∙◌, append_assoc, arith, inl, inr}
 use Rattle.std.specs.List.{AllByRecursion, flat_map}
 use Rattle.std.specs.Prelude.{Result, Ok, Err, IfOk, IfErr, MatchResult}
 use Rattle.std.proofs.lemmas.Grind.{flat_map-append}
@@ -10,10 +10,10 @@ use Rattle.vub_base.specs.declared.header.Header1.{Header1}
 use Rattle.vub_schedule.specs.declared.types.Event.{Event}
 use Rattle.vub_schedule.specs.declared.types.Schedule.{Schedule}
 use Rattle.vub_schedule.specs.Spelling.{header_line, event_line, event_text, spelling, IsHeader, IsEvent, IsSchedule}
-use Rattle.vub_schedule.specs.Faults.{NoHeader, NoEvent, Stops, IsFirstBad, LinesStop, Causes, LinesCause}
+use Rattle.vub_schedule.specs.Faults.{NoHeader, NoEvent, IsFirstBad, LinesStop, Causes, LinesCause}
 use Rattle.vub_schedule.specs.Reading.{tag, event_at, event_text_at, header_at}
 use Rattle.vub_schedule.proofs.Fields.{some_is}
-use Rattle.vub_schedule.proofs.Lines.{event_again, event_takes, header_again, header_takes}
+use Rattle.vub_schedule.proofs.Lines.{event_again, event_takes, header_again}
 
 AllByRecursion-push : {X : Type 0} (P : X → Type 0) (xs : List X) (y : X) → AllByRecursion P xs → P y → AllByRecursion P (xs ++ y ∷ [])
 AllByRecursion-push P [] y h p = (p, tt)

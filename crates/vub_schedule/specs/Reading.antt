@@ -6,7 +6,6 @@ use Rattle.std.specs.Char.{is_ascii_digit}
 use Rattle.std.specs.Int.{is_in_range}
 use Rattle.std.specs.Str.Parse.{digits_value}
 use Rattle.std.specs.Cmp.Lexicographic.{pointwise}
-use Rattle.arrayvec.specs.ArrayVec.{ArrayVec}
 use Rattle.vub_base.specs.declared.header.Format.TheVariants.{Split}
 use Rattle.vub_base.specs.declared.header.CacheMode.TheVariants.{Back}
 use Rattle.vub_base.specs.declared.header.Header1.{Header1}

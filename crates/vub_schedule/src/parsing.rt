@@ -1,5 +1,5 @@
 //! Schedules from their text.
-ghost use Rattle.std.specs.Prelude.{◌≡◌, ◌++◌, IfOk, IfErr, MatchResult};
+ghost use Rattle.std.specs.Prelude.{◌≡◌, ◌≤◌, ◌++◌, length, IfOk, IfErr, MatchResult};
 ghost use Rattle.std.specs.List.{flat_map, AllByRecursion};
 ghost use Rattle.vub_schedule.specs.declared.types.Schedule.{Schedule};
 ghost use Rattle.vub_schedule.specs.Spelling.{spelling, event_line, IsHeader, IsEvent, IsSchedule};
@@ -10,13 +10,26 @@ use crate::{Event, Events, Schedule, ScheduleFault};
 use std::alloc::Global;
 use vub_base::Header1;
 
+// The shortest lines are `boot` and `join` with their newlines.
+const SHORTEST_LINE: usize = 5;
+
+// How many lines can begin in the bytes at most.
+fn most_lines(bytes: &[u8]) -> usize
+    ensures { result ≤ length bytes.now }
+{
+    let newlines = bytes.iter().filter(|byte| **byte == b'\n').count();
+    newlines.min(bytes.len() / SHORTEST_LINE)
+}
+
 /// The events of the lines behind the header.
 fn events_of(alloc: Global, header: &Header1, bytes: &[u8]) -> Result<Vec<Event>, ScheduleFault>
     requires { IsHeader header.now }
     ensures ok { IfOk result (λ v. AllByRecursion (IsEvent header.now) v.items × (bytes.now ≡ flat_map event_line v.items)) }
     ensures err { IfErr result (λ e. LinesCause header.now bytes.now e) }
 {
-    let mut events = Vec::new(alloc);
+    let mut events = Vec::with_capacity(alloc, most_lines(bytes)).map_err(
+        |_| ScheduleFault::Memory,
+    )?;
     let mut rest = bytes;
     while !rest.is_empty() {
         match event_at(header, rest) {

@@ -1,4 +1,4 @@
-use Rattle.std.proofs.Common.{rules, arith, ◌≡◌, ◌<◌, length}
+use Rattle.std.proofs.Common.{rules, arith, ◌<◌, length}
 use Rattle.std.proofs.lemmas.Grind.{common_steps}
 use Rattle.vub_schedule.proofs.Texts.{LinesMore, shorter, stops_at}
 use Rattle.vub_schedule.proofs.parsing.events_of.Goals as goal

@@ -1,4 +1,4 @@
-use Rattle.std.proofs.Common.{◌≡◌, ◌++◌, ◌≤◌, length}
+use Rattle.std.proofs.Common.{◌≡◌, ◌++◌, length}
 use Rattle.std.specs.List.{AllByRecursion, flat_map}
 use Rattle.vub_schedule.specs.Spelling.{event_line, IsEvent}
 use Rattle.vub_schedule.proofs.parsing.events_of.Given as goal

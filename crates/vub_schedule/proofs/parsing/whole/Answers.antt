@@ -1,4 +1,4 @@
-use Rattle.std.proofs.Common.{◌≡◌, inl, refl}
+use Rattle.std.proofs.Common.{inl, refl}
 use Rattle.vub_schedule.proofs.Lines.{header_takes}
 use Rattle.vub_schedule.proofs.Texts.{no_header, first_bad, spelled}
 use Rattle.vub_schedule.proofs.parsing.whole.Goals as goal

@@ -1,4 +1,3 @@
-use Rattle.std.specs.Str.Parse.{AllDigits}
 use Rattle.vub_schedule.proofs.Digits.{AllDigits-front}
 use Rattle.vub_schedule.proofs.reading.number_at.Goals as goal
 

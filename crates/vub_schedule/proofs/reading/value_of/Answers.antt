@@ -1,6 +1,5 @@
-use Rattle.std.proofs.Common.{rules, ◌≡◌, ◌≤◌, ◌^◌, arith, refl}
-use Rattle.std.proofs.lemmas.Bool.{le-ltb, lt-ltb}
-use Rattle.std.proofs.lemmas.List.{take_all}
+use Rattle.std.proofs.Common.{◌^◌, arith, refl}
+use Rattle.std.proofs.lemmas.Bool.{le-ltb}
 use Rattle.std.specs.Str.Parse.{digits_value}
 use Rattle.vub_schedule.proofs.Digits.{digit_step}
 use Rattle.vub_schedule.proofs.reading.value_of.Goals as goal
