@@ -254,7 +254,7 @@ header_known : (h : Header1) → IsHeader h → header_of h.size h.capacity ≡ 
 unfolding header_of
 header_known h is = rw (is.sized, le-leb 1 h.capacity is.some) (ap (λ (x : Header1). Some x) (is_plain h is))
 
-size_small : (n : ℕ) → is_size n ≡ true → n < 65536
+size_small : (n : ℕ) → is_size n ≡ true → n < 65
 size_small n e = grind (arith, nat_tests)
 
 one_text : decimal 1 ≡ codes "1"
@@ -273,7 +273,7 @@ header_again h rest is =
     ap header_at (header_grouped h rest is) ∙
     rw (
       tag_again (codes "vub 1 split 1 ") (decimal h.size ++ (codes " " ++ (decimal h.capacity ++ ((codes " 0 back" ++ 10 ∷ []) ++ rest)))),
-      number_again 65536 h.size (codes " " ++ (decimal h.capacity ++ ((codes " 0 back" ++ 10 ∷ []) ++ rest))) (lit≤ tt) (size_small h.size is.sized) refl,
+      number_again 65 h.size (codes " " ++ (decimal h.capacity ++ ((codes " 0 back" ++ 10 ∷ []) ++ rest))) (lit≤ tt) (size_small h.size is.sized) refl,
       tag_again (codes " ") (decimal h.capacity ++ ((codes " 0 back" ++ 10 ∷ []) ++ rest)),
       number_again 4097 h.capacity ((codes " 0 back" ++ 10 ∷ []) ++ rest) (lit≤ tt) (omega (arith, is.few)) refl,
       tag_again (codes " 0 back" ++ 10 ∷ []) rest,
@@ -287,13 +287,13 @@ head_text bytes a b c d rest s k e f g i j = rw (e, f, g, i, j) (sym (plain_grou
 pub header_takes : (bytes : List ℕ) (h : Header1) (rest : List ℕ) → header_at bytes ≡ Some (h, rest) → (bytes ≡ header_line h ++ rest) × IsHeader h
 unfolding header_at
 header_takes bytes h rest e =
-    let a = bind_some (tag (codes "vub 1 split 1 ") bytes) (λ front. number_at 65536 front >>= middle_at) (h, rest) e in
-    let b = bind_some (number_at 65536 a.0) middle_at (h, rest) a.2 in
+    let a = bind_some (tag (codes "vub 1 split 1 ") bytes) (λ front. number_at 65 front >>= middle_at) (h, rest) e in
+    let b = bind_some (number_at 65 a.0) middle_at (h, rest) a.2 in
     let c = bind_some (tag (codes " ") b.0.1) (λ middle. number_at 4097 middle >>= back_at b.0.0) (h, rest) b.2 in
     let d = bind_some (number_at 4097 c.0) (back_at b.0.0) (h, rest) c.2 in
     let f = bind_some (tag (codes " 0 back" ++ 10 ∷ []) d.0.1) (λ rest. header_of b.0.0 d.0.0 >>= λ header. with_header header rest) (h, rest) d.2 in
     let g = bind_some (header_of b.0.0 d.0.0) (λ header. with_header header f.0) (h, rest) f.2 in
-    let size = number_takes 65536 a.0 b.0.0 b.0.1 (lit≤ tt) b.1 in
+    let size = number_takes 65 a.0 b.0.0 b.0.1 (lit≤ tt) b.1 in
     let capacity = number_takes 4097 c.0 d.0.0 d.0.1 (lit≤ tt) d.1 in
     let is = header_is b.0.0 d.0.0 g.0 g.1 capacity.1 in
     let text = head_text bytes a.0 b.0.1 c.0 d.0.1 f.0 b.0.0 d.0.0 (tag_takes (codes "vub 1 split 1 ") bytes a.0 a.1) size.0 (tag_takes (codes " ") b.0.1 c.0 c.1) capacity.0 (tag_takes (codes " 0 back" ++ 10 ∷ []) d.0.1 f.0 f.1) in

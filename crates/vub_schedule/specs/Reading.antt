@@ -47,7 +47,7 @@ number_at limit bytes =
     if is_canonical ds && nat_lt (digits_value 10 ds) limit then Some (digits_value 10 ds, drop (length ds) bytes) else None
 
 abbrev pub hex_value : ℕ → Option ℕ
-hex_value c = if is_in_range 48 57 c then Some (c - 48) else (if is_in_range 97 102 c then Some (c - 87) else None)
+hex_value c = if is_in_range 48 57 c then Some (c - 48) else (if is_in_range 97 102 c then Some (10 + (c - 97)) else None)
 
 -- the byte of the two digits at the front
 unfoldable pub pair_at : List ℕ → Option (ℕ × List ℕ)
@@ -128,5 +128,5 @@ middle_at size = do
 unfoldable pub header_at : List ℕ → Option (Header1 × List ℕ)
 header_at bytes = do
   front ← tag (codes "vub 1 split 1 ") bytes
-  size ← number_at 65536 front
+  size ← number_at 65 front
   middle_at size

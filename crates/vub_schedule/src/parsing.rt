@@ -43,7 +43,8 @@ fn events_of(alloc: Global, header: &Header1, bytes: &[u8]) -> Result<Vec<Event>
     Ok(events)
 }
 
-fn whole(alloc: Global, bytes: &[u8]) -> Result<Schedule, ScheduleFault>
+/// The header and the events of all lines.
+fn schedule_of(alloc: Global, bytes: &[u8]) -> Result<Schedule, ScheduleFault>
     ensures found { IfOk result (λ s. IsSchedule s × (bytes.now ≡ spelling s)) }
     ensures fault { IfErr result (λ e. Causes bytes.now e) }
 {
@@ -59,7 +60,11 @@ fn whole(alloc: Global, bytes: &[u8]) -> Result<Schedule, ScheduleFault>
     }
 }
 
-/// The schedule that the text spells, all of the text.
+/// The schedule that the bytes spell, all of them.
+///
+/// `BadLine` comes exactly where they spell none: it has the number of the first line outside the
+/// grammar, from 1. What stands behind the last newline counts as a line. `Memory` is want of
+/// memory.
 pub fn parse_schedule(alloc: Global, bytes: &[u8]) -> Result<Schedule, ScheduleFault>
     // What is read is of the grammar, and the text is its spelling.
     ensures found { IfOk result (λ s. IsSchedule s × (bytes.now ≡ spelling s)) }
@@ -68,5 +73,5 @@ pub fn parse_schedule(alloc: Global, bytes: &[u8]) -> Result<Schedule, ScheduleF
     // A bad line is the first line outside the grammar.
     ensures fault { IfErr result (λ e. Causes bytes.now e) }
 {
-    whole(alloc, bytes)
+    schedule_of(alloc, bytes)
 }

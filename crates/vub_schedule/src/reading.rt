@@ -1,5 +1,5 @@
 //! The lines of a schedule from their text. Each reader answers what stands at the front of the
-//! bytes, and the bytes behind it.
+//! bytes and the bytes behind it, or `None` where the front is outside the grammar.
 ghost use Rattle.std.specs.Prelude.{◌≡◌, ◌+◌, ◌<◌, ◌≤◌, ◌^◌, ◌++◌, ℕ, List, length, take, drop, Option, Some, None, nat_lt, if◌then◌else◌, IfSome};
 ghost use Rattle.std.specs.Option.{option_copied};
 ghost use Rattle.std.specs.List.{take_while};
@@ -11,6 +11,13 @@ use crate::Event;
 use arrayvec::ArrayVec;
 use vub_base::{Ask, CacheMode, Format, Header1, Shape};
 
+/// The largest size of a queue.
+const LARGEST_SIZE: u64 = 64;
+
+/// The largest capacity of a disk, in sectors of 512 bytes.
+const LARGEST_CAPACITY: u64 = 4096;
+
+/// What stands behind the text at the front.
 #[tactic(auto, unfolding(crate::specs::Reading::tag))]
 fn tag<'a>(bytes: &'a [u8], text: &[u8]) -> Option<&'a [u8]>
     ensures { option_copied result ≡ tag text.now bytes.now }
@@ -18,7 +25,7 @@ fn tag<'a>(bytes: &'a [u8], text: &[u8]) -> Option<&'a [u8]>
     bytes.strip_prefix(text)
 }
 
-// The number that the digits spell, where it is below 2^64.
+/// The number that decimal digits spell, where it is below 2^64.
 fn value_of(digits: &[u8]) -> Option<u64>
     requires { AllDigits 10 digits.now }
     ensures { result ≡ (if nat_lt (digits_value 10 digits.now) (2 ^ 64) then Some (digits_value 10 digits.now) else None) }
@@ -32,12 +39,14 @@ fn value_of(digits: &[u8]) -> Option<u64>
     Some(value)
 }
 
+/// How many decimal digits stand at the front.
 fn digit_count(bytes: &[u8]) -> usize
     ensures { result ≡ length (take_while is_ascii_digit bytes.now) }
 {
     bytes.iter().take_while(|b| b.is_ascii_digit()).count()
 }
 
+/// A decimal number below the limit, without leading zeros.
 #[tactic(auto, unfolding(crate::specs::Reading::number_at))]
 fn number_at(limit: u64, bytes: &[u8]) -> Option<(u64, &[u8])>
     ensures { Reads result (number_at limit bytes.now) }
@@ -53,17 +62,19 @@ fn number_at(limit: u64, bytes: &[u8]) -> Option<(u64, &[u8])>
     Some((value, rest))
 }
 
+/// The value of a lower-case hexadecimal digit.
 fn hex_value(digit: u8) -> Option<u8>
     ensures value { result ≡ hex_value digit }
     ensures small { IfSome result (λ x. x < 16) }
 {
     match digit {
         b'0'..=b'9' => Some(digit - b'0'),
-        b'a'..=b'f' => Some(digit - 87),
+        b'a'..=b'f' => Some(10 + (digit - b'a')),
         _ => None,
     }
 }
 
+/// The byte of two lower-case hexadecimal digits.
 #[tactic(auto, unfolding(crate::specs::Reading::pair_at))]
 fn pair_at(bytes: &[u8]) -> Option<(u8, &[u8])>
     ensures { Reads result (pair_at bytes.now) }
@@ -76,6 +87,7 @@ fn pair_at(bytes: &[u8]) -> Option<(u8, &[u8])>
     Some((16 * high + low, rest))
 }
 
+/// A read, behind its word: the sector, below the capacity, and the count of 1.
 #[tactic(auto, unfolding(crate::specs::Reading::read_at))]
 fn read_at(capacity: u64, bytes: &[u8]) -> Option<(Ask, &[u8])>
     ensures { Reads result (read_at capacity bytes.now) }
@@ -85,6 +97,7 @@ fn read_at(capacity: u64, bytes: &[u8]) -> Option<(Ask, &[u8])>
     Some((Ask::Read { sector, count: 1 }, rest))
 }
 
+/// A write, behind its word: the sector, below the capacity, and the byte that fills it.
 #[tactic(auto, unfolding(crate::specs::Reading::write_at))]
 fn write_at(capacity: u64, bytes: &[u8]) -> Option<(Ask, &[u8])>
     ensures { Reads result (write_at capacity bytes.now) }
@@ -97,6 +110,7 @@ fn write_at(capacity: u64, bytes: &[u8]) -> Option<(Ask, &[u8])>
     Some((Ask::Write { sector, fills }, rest))
 }
 
+/// A request on a disk of that capacity.
 #[tactic(auto, unfolding(crate::specs::Reading::ask_at))]
 fn ask_at(capacity: u64, bytes: &[u8]) -> Option<(Ask, &[u8])>
     ensures { Reads result (ask_at capacity bytes.now) }
@@ -107,6 +121,7 @@ fn ask_at(capacity: u64, bytes: &[u8]) -> Option<(Ask, &[u8])>
     read_at(capacity, tag(bytes, b"read ")?)
 }
 
+/// An event, up to the end of its line.
 #[tactic(auto, unfolding(crate::specs::Reading::event_text_at))]
 fn event_text_at<'a>(header: &Header1, bytes: &'a [u8]) -> Option<(Event, &'a [u8])>
     ensures { Reads result (event_text_at header.now bytes.now) }
@@ -141,6 +156,7 @@ pub fn event_at<'a>(header: &Header1, bytes: &'a [u8]) -> Option<(Event, &'a [u8
     Some((event, rest))
 }
 
+/// The header of the grammar with this size of its queue and this capacity.
 #[tactic(auto, unfolding(crate::specs::Reading::header_of))]
 fn header_of(size: u64, capacity: u64) -> Option<Header1>
     ensures { result ≡ header_of size capacity }
@@ -165,9 +181,9 @@ pub fn header_at(bytes: &[u8]) -> Option<(Header1, &[u8])>
     ensures { Reads result (header_at bytes.now) }
 {
     let front = tag(bytes, b"vub 1 split 1 ")?;
-    let (size, middle) = number_at(65_536, front)?;
+    let (size, middle) = number_at(LARGEST_SIZE + 1, front)?;
     let middle = tag(middle, b" ")?;
-    let (capacity, back) = number_at(4097, middle)?;
+    let (capacity, back) = number_at(LARGEST_CAPACITY + 1, middle)?;
     let rest = tag(back, b" 0 back\n")?;
     let header = header_of(size, capacity)?;
     Some((header, rest))

@@ -1,7 +1,7 @@
 use Rattle.std.proofs.Common.{inl, refl}
 use Rattle.vub_schedule.proofs.Lines.{header_takes}
 use Rattle.vub_schedule.proofs.Texts.{no_header, first_bad, spelled}
-use Rattle.vub_schedule.proofs.parsing.whole.Goals as goal
+use Rattle.vub_schedule.proofs.parsing.schedule_of.Goals as goal
 
 pub returns-in_default-clause-fault : goal.returns-in_default-clause-fault
 returns-in_default-clause-fault c = inl (refl, no_header c.args.bytes.now c.in_default.ensures)
