@@ -2,3 +2,4 @@ pub mod Digits
 pub mod Fields
 pub mod Lines
 pub mod Texts
+pub mod FirstBad

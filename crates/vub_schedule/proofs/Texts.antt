@@ -33,7 +33,7 @@ unfolding event_at event_text_at tag
 empty_none h = refl
 
 -- two texts that begin with an event of each begin with the same one
-same_first : (h : Header1) (x y : Event) (a b : List ℕ) → IsHeader h → IsEvent h x → IsEvent h y → event_line x ++ a ≡ event_line y ++ b → (x ≡ y) × (a ≡ b)
+pub same_first : (h : Header1) (x y : Event) (a b : List ℕ) → IsHeader h → IsEvent h x → IsEvent h y → event_line x ++ a ≡ event_line y ++ b → (x ≡ y) × (a ≡ b)
 same_first h x y a b good p q e =
     let s = some_is (x, a) (y, b) (sym (event_again h x a (fits h good) p) ∙ ap (event_at h) e ∙ event_again h y b (fits h good) q) in
     (ap (λ (t : Event × List ℕ). t.0) s, ap (λ (t : Event × List ℕ). t.1) s)
@@ -59,7 +59,7 @@ lines_stop h (x ∷ xs) (y ∷ ys) rest good p q bad more e =
     let s = same_first h x y (flat_map event_line xs ++ rest) (flat_map event_line ys) good p.0 q.0 (sym (append_assoc (event_line x) (flat_map event_line xs) rest) ∙ e) in
     lines_stop h xs ys rest good p.1 q.1 bad more s.1
 
-same_header : (g h : Header1) (a b : List ℕ) → IsHeader g → IsHeader h → header_line g ++ a ≡ header_line h ++ b → (g ≡ h) × (a ≡ b)
+pub same_header : (g h : Header1) (a b : List ℕ) → IsHeader g → IsHeader h → header_line g ++ a ≡ header_line h ++ b → (g ≡ h) × (a ≡ b)
 same_header g h a b p q e =
     let s = some_is (g, a) (h, b) (sym (header_again g a p) ∙ ap header_at e ∙ header_again h b q) in
     (ap (λ (t : Header1 × List ℕ). t.0) s, ap (λ (t : Header1 × List ℕ). t.1) s)

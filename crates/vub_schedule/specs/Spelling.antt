@@ -126,3 +126,7 @@ IsEvent h (events.Drain q) = q ≡ 0
 pub record IsSchedule (s : Schedule) : Type 0 where
   pub header : IsHeader s.header
   pub events : AllByRecursion (IsEvent s.header) s.events
+
+-- the bytes are the text of a schedule of the grammar
+abbrev pub IsText : List ℕ → Type 0
+IsText bytes = (s : Schedule) × IsSchedule s × (bytes ≡ spelling s)

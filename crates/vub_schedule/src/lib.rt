@@ -11,7 +11,7 @@ mod types;
 pub mod writing;
 
 pub use fault::ScheduleFault;
-pub use laws::one_text_one_schedule;
+pub use laws::{one_first_bad_line, one_text_one_schedule};
 pub use parsing::parse_schedule;
 pub use types::{Event, Events, Schedule};
 pub use writing::write_schedule;

@@ -13,7 +13,7 @@ use vub_base::Header1;
 // The shortest lines are `boot` and `join` with their newlines.
 const SHORTEST_LINE: usize = 5;
 
-// How many lines can begin in the bytes at most.
+// How many events to make room for: as many as there are newlines, but no more than fit.
 fn most_lines(bytes: &[u8]) -> usize
     ensures { result ≤ length bytes.now }
 {

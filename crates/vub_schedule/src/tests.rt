@@ -3,7 +3,8 @@ ghost use Rattle.vub_schedule.specs.Spelling.{IsSchedule};
 
 use crate::writing::{put_ask, put_byte_pair, put_event, put_header, put_number, put_text};
 use crate::{
-    Event, Events, Schedule, ScheduleFault, one_text_one_schedule, parse_schedule, write_schedule,
+    Event, Events, Schedule, ScheduleFault, one_first_bad_line, one_text_one_schedule,
+    parse_schedule, write_schedule,
 };
 use arrayvec::ArrayVec;
 use std::alloc::Global;
@@ -95,6 +96,7 @@ fn a_schedule_is_written_and_parsed(rt: HostRuntime) -> Result<(), Fail> {
     let again = parse_schedule(rt.alloc(), &text).ok().ok_or("parsed")?;
     assert_eq!(rt; again.events.items(), schedule.events.items());
     one_text_one_schedule();
+    one_first_bad_line();
     Ok(())
 }
 
