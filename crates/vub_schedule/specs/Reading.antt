@@ -46,6 +46,7 @@ number_at limit bytes =
     let ds = take_while is_ascii_digit bytes in
     if is_canonical ds && nat_lt (digits_value 10 ds) limit then Some (digits_value 10 ds, drop (length ds) bytes) else None
 
+-- the value of a lower-case hexadecimal digit
 abbrev pub hex_value : ℕ → Option ℕ
 hex_value c = if is_in_range 48 57 c then Some (c - 48) else (if is_in_range 97 102 c then Some (10 + (c - 97)) else None)
 
@@ -60,12 +61,14 @@ pair_at (a ∷ b ∷ rest) = do
 
 -- ---- requests
 
+-- behind the word: a sector below the capacity, and the count 1
 unfoldable pub read_at : ℕ → List ℕ → Option (Ask × List ℕ)
 read_at capacity bytes = do
   sector ← number_at capacity bytes
   rest ← tag (codes " 1") sector.1
   Some (Read sector.0 1, rest)
 
+-- behind the word: a sector below the capacity, and the byte that fills it
 unfoldable pub write_at : ℕ → List ℕ → Option (Ask × List ℕ)
 write_at capacity bytes = do
   sector ← number_at capacity bytes
@@ -73,6 +76,7 @@ write_at capacity bytes = do
   fill ← pair_at rest
   Some (Write sector.0 (record { items = fill.0 ∷ [] }), fill.1)
 
+-- a request on a disk of that capacity
 unfoldable pub ask_at : ℕ → List ℕ → Option (Ask × List ℕ)
 ask_at capacity bytes = decide (tag (codes "write ") bytes) (write_at capacity) (tag (codes "read ") bytes >>= read_at capacity)
 
@@ -84,6 +88,7 @@ as_ask ask = Some (events.Ask 0 Direct ask.0, ask.1)
 abbrev pub as_event : Event → List ℕ → Option (Event × List ℕ)
 as_event e rest = Some (e, rest)
 
+-- an event, up to the end of its line
 unfoldable pub event_text_at : Header1 → List ℕ → Option (Event × List ℕ)
 event_text_at h bytes =
     decide (tag (codes "ask 0 d ") bytes) (λ rest. ask_at h.capacity rest >>= as_ask)
@@ -93,6 +98,7 @@ event_text_at h bytes =
     (decide (tag (codes "boot") bytes) (as_event events.Boot)
     (tag (codes "join") bytes >>= as_event events.Join)))))
 
+-- a whole line
 unfoldable pub event_at : Header1 → List ℕ → Option (Event × List ℕ)
 event_at h bytes = do
   event ← event_text_at h bytes
@@ -105,6 +111,7 @@ event_at h bytes = do
 abbrev pub plain_header : ℕ → ℕ → Header1
 plain_header size capacity = record { format = Split; queues = 1; size = size; capacity = capacity; base = 0; mode = Back }
 
+-- where they are of the grammar
 unfoldable pub header_of : ℕ → ℕ → Option Header1
 header_of size capacity = if is_size size && nat_le 1 capacity then Some (plain_header size capacity) else None
 
@@ -125,6 +132,7 @@ middle_at size = do
   capacity ← number_at 4097 middle
   back_at size.0 capacity
 
+-- the first line
 unfoldable pub header_at : List ℕ → Option (Header1 × List ℕ)
 header_at bytes = do
   front ← tag (codes "vub 1 split 1 ") bytes

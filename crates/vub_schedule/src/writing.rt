@@ -1,6 +1,6 @@
 //! Schedules as text. Each `put` appends one piece of a text to a vector. The pieces are spelled for
-//! all values of their types, whether the grammar has them yet or not. After want of memory only the
-//! front of the piece may have been appended, so the vector is of no more use.
+//! all values of their types, whether the grammar has them yet or not. After want of memory no clause
+//! says what the vector holds: let it go.
 ghost use Rattle.std.specs.Prelude.{◌≡◌, ◌++◌, ◌∷◌, ◌<◌, false, length, codes, OnOk, IfOk};
 ghost use Rattle.std.specs.Fmt.{decimal, digit_glyph};
 ghost use Rattle.std.specs.List.{flat_map};
@@ -245,7 +245,7 @@ fn put_events(out: &mut Vec<u8>, events: &[Event]) -> Result<(), Memory>
 /// The whole text of a schedule: the line of its header, and a line for each event.
 #[tactic(auto, unfolding(crate::specs::Spelling::spelling, crate::specs::Spelling::header_line))]
 pub fn write_schedule(alloc: Global, schedule: &Schedule) -> Result<Vec<u8>, Memory>
-    // The text is the spelling of the schedule, whatever the schedule.
+    // It is the spelling of the schedule, which need not be of the grammar.
     ensures spelled { IfOk result (λ out. out.items ≡ spelling schedule.now) }
 {
     let mut out = Vec::new(alloc);
