@@ -2,5 +2,7 @@
 #![tactic(auto)]
 
 mod entry;
+mod laws;
 
 pub use entry::{AnswerList, Answered, Asked, Entry, NumberList, SectorList, SectorValue};
+pub use laws::published_once;

@@ -1,0 +1,4 @@
+pub mod Crash
+pub mod Legal
+pub mod Past
+pub mod Requests
