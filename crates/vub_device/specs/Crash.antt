@@ -1,8 +1,8 @@
 -- What the sectors hold, and what they may hold after a power stop. A past lists entries with the newest first.
-use Rattle.std.specs.Prelude.{◌≡◌, ◌≢◌, ℕ, ◌<◌, ◌==◌, if◌then◌else◌, List, [], ◌∷◌, ◌++◌, All, AllPairs, Contains}
+use Rattle.std.specs.Prelude.{◌≢◌, ℕ, ◌<◌, ◌==◌, if◌then◌else◌, List, [], ◌∷◌, ◌++◌, All, AllPairs, Contains}
 use Rattle.vub_device.specs.declared.entry.SectorValue.{SectorValue}
 use Rattle.vub_device.specs.declared.entry.Entry.{Entry}
-use Rattle.vub_device.specs.declared.entry.Entry.TheVariants.{Offer, Accept, Look, Act, Sync, Fault, Publish, Kill, Start, Collect, Power}
+use Rattle.vub_device.specs.declared.entry.Entry.TheVariants.{Act, Sync, Power}
 use Rattle.vub_device.specs.Requests.{zeros}
 
 -- what an image holds at a sector: zeros where it lists none

@@ -1,6 +1,6 @@
 -- What has happened since the last power stop. A past lists entries with the newest first. A number k of a queue q
 -- stands for the k-th offer of that queue since the last power stop, counted from 0.
-use Rattle.std.specs.Prelude.{◌≡◌, ℕ, zero, suc, ◌+◌, ◌<◌, Bool, true, false, ◌==◌, ◌&&◌, ◌||◌, if◌then◌else◌, List, [], ◌∷◌, ◌++◌, map, Option, Some, None}
+use Rattle.std.specs.Prelude.{◌≡◌, ℕ, zero, suc, ◌+◌, ◌<◌, Bool, false, ◌==◌, ◌&&◌, ◌||◌, if◌then◌else◌, List, [], ◌∷◌, ◌++◌, map, Option, Some, None}
 use Rattle.std.specs.List.{list_any}
 use Rattle.vub_device.specs.declared.entry.Answered.{Answered}
 use Rattle.vub_device.specs.declared.entry.Asked.{Asked}

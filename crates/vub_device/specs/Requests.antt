@@ -1,8 +1,8 @@
 -- What a request means: the sectors that it reads and writes, and its fixed refusal (VIRTIO 1.2, 5.2.6).
-use Rattle.std.specs.Prelude.{ℕ, ◌+◌, ◌-◌, ◌*◌, ◌/◌, ◌^◌, Bool, true, false, nat_lt, ◌==◌, not, ◌||◌, bit_and, if◌then◌else◌, List, [], ◌∷◌, ◌++◌, length, slice_range, replicate, codes, Option, Some, None}
+use Rattle.std.specs.Prelude.{ℕ, ◌+◌, ◌-◌, ◌*◌, ◌/◌, Bool, true, false, nat_lt, ◌||◌, if◌then◌else◌, List, [], ◌∷◌, ◌++◌, length, slice_range, replicate, codes, Option, Some, None}
 use Rattle.std.specs.List.{list_any}
 use Rattle.vub_base.specs.declared.header.CacheMode.{CacheMode}
-use Rattle.vub_base.specs.declared.header.CacheMode.TheVariants.{Back, Through, ReadOnly}
+use Rattle.vub_base.specs.declared.header.CacheMode.TheVariants.{Through, ReadOnly}
 use Rattle.vub_base.specs.declared.request.Part.{Part}
 use Rattle.vub_device.specs.declared.entry.Asked.{Asked}
 use Rattle.vub_device.specs.declared.entry.Asked.TheVariants.{Read, Write, Flush, Id, Discard, Zero}

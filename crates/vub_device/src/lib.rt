@@ -3,6 +3,7 @@
 
 mod entry;
 mod laws;
+mod past;
 
 pub use entry::{AnswerList, Answered, Asked, Entry, NumberList, SectorList, SectorValue};
 pub use laws::published_once;
