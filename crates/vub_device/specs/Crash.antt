@@ -1,5 +1,5 @@
 -- What the sectors hold, and what they may hold after a power stop. A past lists entries with the newest first.
-use Rattle.std.specs.Prelude.{◌≢◌, ℕ, ◌<◌, ◌==◌, if◌then◌else◌, List, [], ◌∷◌, ◌++◌, All, AllPairs, Contains}
+use Rattle.std.specs.Prelude.{◌≢◌, ℕ, ⊤, ◌+◌, ◌<◌, ◌≤◌, ◌==◌, if◌then◌else◌, List, [], ◌∷◌, ◌++◌, Contains}
 use Rattle.vub_device.specs.declared.entry.SectorValue.{SectorValue}
 use Rattle.vub_device.specs.declared.entry.Entry.{Entry}
 use Rattle.vub_device.specs.declared.entry.Entry.TheVariants.{Act, Sync, Power}
@@ -36,13 +36,12 @@ unstable (e ∷ past) s = unstable past s
 abbrev pub candidates : List Entry → ℕ → List (List ℕ)
 candidates past s = stable past s ∷ unstable past s
 
--- a list names an image in its one way: sectors of the disk that aren't all zero, rising
-pub record IsImage (capacity : ℕ) (image : List SectorValue) : Type 0 where
-  pub within : All (λ x. x.sector < capacity) image
-  pub rising : AllPairs (λ x y. x.sector < y.sector) image
-  pub filled : All (λ x. x.value ≢ zeros) image
+-- a list names an image in its one way: the sectors from this one on that aren't all zero, rising
+abbrev pub IsImageFrom : ℕ → ℕ → List SectorValue → Type 0
+IsImageFrom low capacity [] = ⊤
+IsImageFrom low capacity (x ∷ image) = (low ≤ x.sector) × (x.sector < capacity) × (x.value ≢ zeros) × IsImageFrom (x.sector + 1) capacity image
 
 -- an image that a power stop may leave
 pub record IsCrashImage (capacity : ℕ) (past : List Entry) (image : List SectorValue) : Type 0 where
-  pub form : IsImage capacity image
+  pub form : IsImageFrom 0 capacity image
   pub each : (s : ℕ) → s < capacity → Contains (candidates past s) (image_at image s)

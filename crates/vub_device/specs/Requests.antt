@@ -41,30 +41,28 @@ abbrev pub is_through : CacheMode → Bool
 is_through Through = true
 is_through mode = false
 
--- a flag bit other than the first, which asks to unmap
-abbrev pub has_other_flag : Part → Bool
-has_other_flag p = nat_lt 1 p.flags
-
-abbrev pub has_flag : Part → Bool
-has_flag p = nat_lt 0 p.flags
+-- the part has flags above these
+abbrev pub has_flags_above : ℕ → Part → Bool
+has_flags_above flags p = nat_lt flags p.flags
 
 -- more sectors than a part may have, or past the end
 abbrev pub is_outside : ℕ → Part → Bool
 is_outside capacity p = nat_lt 65536 p.count || nat_lt capacity (p.sector + p.count)
 
--- the status of a request that changes sectors without data, by its parts
-abbrev pub parts_refusal : ℕ → CacheMode → (Part → Bool) → List Part → Option ℕ
-parts_refusal capacity mode is_unsupported parts =
+-- the status of a refused discard or zeroing, by its parts and the greatest flags that it supports
+abbrev pub parts_refusal : ℕ → CacheMode → ℕ → List Part → Option ℕ
+parts_refusal capacity mode flags parts =
     if is_read_only mode then Some 1
-    else if list_any is_unsupported parts then Some 2
+    else if list_any (has_flags_above flags) parts then Some 2
     else if list_any (is_outside capacity) parts then Some 1
     else None
 
--- the status of a request that is refused whatever the disk holds
+-- the status of a request that is refused whatever the disk holds. Of the flags of a part the first alone is known,
+-- to unmap, which a zeroing may ask for and a discard may not
 abbrev pub refusal : ℕ → CacheMode → Asked → Option ℕ
 refusal capacity mode (Read s n) = if nat_lt capacity (s + n) then Some 1 else None
 refusal capacity mode (Write s bytes) = if is_read_only mode || nat_lt capacity (s + length bytes / 512) then Some 1 else None
 refusal capacity mode Flush = if is_through mode then Some 2 else None
 refusal capacity mode Id = None
-refusal capacity mode (Discard parts) = parts_refusal capacity mode has_flag parts.items
-refusal capacity mode (Zero parts) = parts_refusal capacity mode has_other_flag parts.items
+refusal capacity mode (Discard parts) = parts_refusal capacity mode 0 parts.items
+refusal capacity mode (Zero parts) = parts_refusal capacity mode 1 parts.items

@@ -3,7 +3,9 @@
 
 mod entry;
 mod laws;
+mod meaning;
 mod past;
 
 pub use entry::{AnswerList, Answered, Asked, Entry, NumberList, SectorList, SectorValue};
 pub use laws::published_once;
+pub use meaning::refusal;
