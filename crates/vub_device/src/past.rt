@@ -1,7 +1,8 @@
 //! What has happened since the last power stop, found by going back over the entries.
-ghost use Rattle.std.specs.Prelude.{◌≡◌, ◌≤◌, ◌+◌, ◌&&◌, ◌↔◌, ℕ, List, length, reverse, slice_get, take, drop};
+ghost use Rattle.std.specs.Prelude.{◌≡◌, ◌≤◌, ◌+◌, ◌&&◌, ◌↔◌, ◌≢◌, ◌++◌, IsTrue, MatchOption, List, ℕ, length, reverse};
 ghost use Rattle.std.specs.Option.{option_copied};
 ghost use Rattle.vub_device.specs.Past.{offers, asked, accepted, published, numbers, is_among, collected, missing_below, started, looks, seen, acts, synced, faulted};
+ghost use Rattle.vub_device.specs.Places.{place_of, or_later};
 
 use crate::entry::{Answered, Asked, Entry};
 
@@ -136,5 +137,115 @@ pub(crate) fn faulted(past: &[Entry], queue: u16, number: u64) -> bool
         [earlier @ .., Entry::Start(other, _)] => *other != queue
             && faulted(earlier, queue, number),
         [earlier @ .., _] => faulted(earlier, queue, number),
+    }
+}
+
+/// Whether these answers answer a number.
+pub(crate) fn answers_number(answers: &[Answered], number: u64) -> bool
+    ensures { result ≡ is_among (numbers answers.now) number }
+{
+    match answers {
+        [] => false,
+        [first, rest @ ..] => first.number == number || answers_number(rest, number),
+    }
+}
+
+/// Whether a number was published.
+#[tactic(auto, using(crate::proofs::Numbers::is_among_append))]
+pub(crate) fn is_published(past: &[Entry], queue: u16, number: u64) -> bool
+    ensures { result ≡ is_among (published (reverse past.now) queue) number }
+{
+    match past {
+        [] | [.., Entry::Power(_)] => false,
+        [earlier @ .., Entry::Publish(other, answers)] => {
+            is_published(earlier, queue, number)
+                || (*other == queue && answers_number(answers.items(), number))
+        }
+        [earlier @ .., _] => is_published(earlier, queue, number),
+    }
+}
+
+/// The published number in this place, or else how far the place lies past the last.
+#[tactic(auto, using(crate::proofs::Numbers::place_of_append))]
+pub(crate) fn published_at(past: &[Entry], queue: u16, index: usize) -> Result<u64, usize>
+    ensures { result ≡ place_of (published (reverse past.now) queue) index }
+{
+    match past {
+        [] | [.., Entry::Power(_)] => Err(index),
+        [earlier @ .., Entry::Publish(other, answers)] => {
+            let found = published_at(earlier, queue, index);
+            if *other == queue { or_later(found, answers.items()) } else { found }
+        }
+        [earlier @ .., _] => published_at(earlier, queue, index),
+    }
+}
+
+/// What was found, or else the number in the place that was left.
+#[tactic(auto, unfolding(crate::specs::Places::or_later))]
+fn or_later(found: Result<u64, usize>, answers: &[Answered]) -> Result<u64, usize>
+    ensures { result ≡ or_later found (numbers answers.now) }
+{
+    match found {
+        Ok(number) => Ok(number),
+        Err(left) => number_at(answers, left),
+    }
+}
+
+/// The number that the answer in this place answers, or else how far the place lies past the last.
+fn number_at(answers: &[Answered], index: usize) -> Result<u64, usize>
+    ensures { result ≡ place_of (numbers answers.now) index }
+{
+    match answers {
+        [] => Err(index),
+        [first, ..] if index == 0 => Ok(first.number),
+        [_, rest @ ..] => number_at(rest, index - 1),
+    }
+}
+
+/// Whether a list is that of the unpublished numbers below this one, rising.
+pub(crate) fn lists_open(past: &[Entry], queue: u16, below: usize, list: &[u64]) -> bool
+    ensures { IsTrue result ↔ (list.now ≡ missing_below (published (reverse past.now) queue) below) }
+{
+    if below == 0 {
+        return list.is_empty();
+    }
+    let number = below - 1;
+    if is_published(past, queue, number as u64) {
+        return lists_open(past, queue, number, list);
+    }
+    match list {
+        [front @ .., last] => *last == number as u64 && lists_open(past, queue, number, front),
+        [] => false,
+    }
+}
+
+/// The bytes before a value that they end with. None where they don't.
+fn without_end<'a>(bytes: &'a [u8], value: &[u8; 512]) -> Option<&'a [u8]>
+    ensures { MatchOption result ((front : List ℕ) → bytes.now ≢ front ++ value.now) (λ front. bytes.now ≡ front.now ++ value.now) }
+{
+    bytes.strip_suffix(value)
+}
+
+/// Whether these bytes are what was seen in this life for a request.
+#[tactic(auto, using(crate::proofs::Numbers::same_front))]
+pub(crate) fn is_seen(past: &[Entry], queue: u16, number: u64, bytes: &[u8]) -> bool
+    ensures { IsTrue result ↔ (bytes.now ≡ seen (reverse past.now) queue number) }
+{
+    match past {
+        [] | [.., Entry::Power(_)] => bytes.is_empty(),
+        [earlier @ .., Entry::Look(other, other_number, _, value)] => {
+            if *other == queue && *other_number == number {
+                match without_end(bytes, value) {
+                    Some(front) => is_seen(earlier, queue, number, front),
+                    None => false,
+                }
+            } else {
+                is_seen(earlier, queue, number, bytes)
+            }
+        }
+        [earlier @ .., Entry::Start(other, _)] => {
+            if *other == queue { bytes.is_empty() } else { is_seen(earlier, queue, number, bytes) }
+        }
+        [earlier @ .., _] => is_seen(earlier, queue, number, bytes),
     }
 }
