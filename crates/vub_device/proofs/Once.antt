@@ -1,6 +1,6 @@
 -- In a legal history no number is published twice.
 use Rattle.std.proofs.Common.{◌≡◌, ◌≢◌, ℕ, ◌<◌, ◌+◌, ◌-◌, ◌==◌, Bool, true, false, List, [], ◌∷◌, ◌++◌, length, get_or, refl, sym, ◌∙◌, subst, inl, inr, arith}
-use Rattle.std.specs.Prelude.{All, AllPairs, if◌then◌else◌}
+use Rattle.std.specs.Prelude.{All, AllPairs, reverse, if◌then◌else◌}
 use Rattle.std.proofs.lemmas.Bool.{cases_lt, eqb-true}
 use Rattle.std.proofs.lemmas.Bool.Decides.{nat_tests}
 use Rattle.std.proofs.lemmas.List.{get_or_append_left, get_or-append_right, length-append}
@@ -10,18 +10,9 @@ use Rattle.vub_base.specs.declared.header.CacheMode.{CacheMode}
 use Rattle.vub_device.specs.declared.entry.Entry.{Entry}
 use Rattle.vub_device.specs.declared.entry.Entry.TheVariants.{Offer, Accept, Look, Act, Sync, Fault, Publish, Kill, Start, Collect, Power}
 use Rattle.vub_device.specs.Past.{published, numbers, is_among}
+use Rattle.vub_device.proofs.Distinct.{IsDistinct, among_at}
+use Rattle.vub_device.proofs.Histories.{kept, after_reverse}
 use Rattle.vub_device.specs.Legal.{Allowed, LegalFrom, Legal, after}
-
-abbrev pub IsDistinct : List ℕ → Type 0
-IsDistinct xs = AllPairs (λ a b. a ≢ b) xs
-
--- what each allowed entry keeps, a legal history keeps
-pub kept : (capacity : ℕ) (mode : CacheMode) (P : List Entry → Type 0) → ((past : List Entry) (e : Entry) → P past → Allowed capacity mode past e → P (e ∷ past)) → (past es : List Entry) → P past → LegalFrom capacity mode past es → P (after past es)
-kept capacity mode P step past [] p legal = p
-kept capacity mode P step past (e ∷ es) p legal = kept capacity mode P step (e ∷ past) es (step past e p legal.0) legal.1
-
-among_at : (xs : List ℕ) (i d x : ℕ) → i < length xs → get_or xs i d ≡ x → is_among xs x ≡ true
-among_at xs i d x lt is = list_any_at (λ y. y == x) xs i d lt (grind (arith, nat_tests))
 
 -- a distinct list that has none of another's numbers may follow it
 pub distinct-append : (xs ys : List ℕ) → IsDistinct xs → IsDistinct ys → All (λ y. is_among xs y ≡ false) ys → IsDistinct (xs ++ ys)
@@ -59,5 +50,7 @@ step capacity mode q past (Start p list) d is = d
 step capacity mode q past (Collect p k) d is = d
 step capacity mode q past (Power image) d is = λ i j x lt below same. absurd (omega arith)
 
-pub published_once : (capacity : ℕ) (mode : CacheMode) (history : List Entry) (q : ℕ) → Legal capacity mode history → IsDistinct (published (after [] history) q)
-published_once capacity mode history q legal = kept capacity mode (λ past. IsDistinct (published past q)) (step capacity mode q) [] history (λ i j x lt below same. absurd (omega arith)) legal
+pub published_once : (capacity : ℕ) (mode : CacheMode) (history : List Entry) (q : ℕ) → Legal capacity mode history → IsDistinct (published (reverse history) q)
+published_once capacity mode history q legal =
+    subst (λ (past : List Entry). IsDistinct (published past q)) (after_reverse history)
+    (kept capacity mode (λ past. IsDistinct (published past q)) (step capacity mode q) [] history (λ i j x lt below same. absurd (omega arith)) legal)

@@ -26,15 +26,17 @@ pub record IsAtWork (capacity : ℕ) (mode : CacheMode) (past : List Entry) (q k
   pub unfaulted : faulted past q k ≡ false
 
 -- the next sector of the request is read, and holds this
-pub record MayLook (capacity : ℕ) (mode : CacheMode) (past : List Entry) (q k s : ℕ) (v : List ℕ) (r : Asked) : Type 0 where
-  pub works : IsAtWork capacity mode past q k r
-  pub next : look_at r (looks past q k) ≡ Some s
+pub record MayLook (capacity : ℕ) (mode : CacheMode) (past : List Entry) (q k s : ℕ) (v : List ℕ) : Type 0 where
+  pub request : Asked
+  pub works : IsAtWork capacity mode past q k request
+  pub next : look_at request (looks past q k) ≡ Some s
   pub held : v ≡ value past s
 
 -- the next sector of the request is written
-pub record MayAct (capacity : ℕ) (mode : CacheMode) (past : List Entry) (q k s : ℕ) (v : List ℕ) (r : Asked) : Type 0 where
-  pub works : IsAtWork capacity mode past q k r
-  pub next : effect_at r (acts past q k) ≡ Some (record { sector = s; value = v })
+pub record MayAct (capacity : ℕ) (mode : CacheMode) (past : List Entry) (q k s : ℕ) (v : List ℕ) : Type 0 where
+  pub request : Asked
+  pub works : IsAtWork capacity mode past q k request
+  pub next : effect_at request (acts past q k) ≡ Some (record { sector = s; value = v })
 
 -- no sector is left to read for the request in this life
 abbrev pub IsRead : List Entry → ℕ → ℕ → Asked → Type 0
@@ -50,15 +52,17 @@ IsSyncDue mode past q k Flush = ⊤
 IsSyncDue mode past q k (Write s values) = (mode ≡ Through) × IsWritten past q k (Write s values)
 IsSyncDue mode past q k r = ⊥
 
-pub record MaySync (capacity : ℕ) (mode : CacheMode) (past : List Entry) (q k : ℕ) (r : Asked) : Type 0 where
-  pub works : IsAtWork capacity mode past q k r
+pub record MaySync (capacity : ℕ) (mode : CacheMode) (past : List Entry) (q k : ℕ) : Type 0 where
+  pub request : Asked
+  pub works : IsAtWork capacity mode past q k request
   pub first : synced past q k ≡ false
-  pub due : IsSyncDue mode past q k r
+  pub due : IsSyncDue mode past q k request
 
 -- a call of the disk fails, which an id request makes none of
-pub record MayFault (capacity : ℕ) (mode : CacheMode) (past : List Entry) (q k : ℕ) (r : Asked) : Type 0 where
-  pub works : IsAtWork capacity mode past q k r
-  pub calls : r ≢ Id
+pub record MayFault (capacity : ℕ) (mode : CacheMode) (past : List Entry) (q k : ℕ) : Type 0 where
+  pub request : Asked
+  pub works : IsAtWork capacity mode past q k request
+  pub calls : request ≢ Id
 
 -- the request was done in this life, and these are the bytes of its answer
 abbrev pub IsDone : CacheMode → List Entry → ℕ → ℕ → Asked → List ℕ → Type 0
@@ -86,12 +90,13 @@ pub record IsUnsupported (capacity : ℕ) (mode : CacheMode) (r : Asked) (bytes 
   pub empty : bytes ≡ []
 
 -- an answer to a request: there are three statuses (VIRTIO 1.2, 5.2.6)
-pub record IsAnswer (capacity : ℕ) (mode : CacheMode) (past : List Entry) (q : ℕ) (a : Answered) (r : Asked) : Type 0 where
-  pub asked : asked past q a.number ≡ Some r
+pub record IsAnswer (capacity : ℕ) (mode : CacheMode) (past : List Entry) (q : ℕ) (a : Answered) : Type 0 where
+  pub request : Asked
+  pub offered : asked past q a.number ≡ Some request
   pub known : a.status ≤ 2
-  pub success : a.status ≡ 0 → IsSuccess capacity mode past q a.number r a.bytes
-  pub failure : a.status ≡ 1 → IsFailure capacity mode past q a.number r a.bytes
-  pub unsupported : a.status ≡ 2 → IsUnsupported capacity mode r a.bytes
+  pub success : a.status ≡ 0 → IsSuccess capacity mode past q a.number request a.bytes
+  pub failure : a.status ≡ 1 → IsFailure capacity mode past q a.number request a.bytes
+  pub unsupported : a.status ≡ 2 → IsUnsupported capacity mode request a.bytes
 
 -- these answers are shown at once: some, to distinct open requests
 pub record MayPublish (capacity : ℕ) (mode : CacheMode) (past : List Entry) (q : ℕ) (answers : List Answered) : Type 0 where
@@ -99,7 +104,7 @@ pub record MayPublish (capacity : ℕ) (mode : CacheMode) (past : List Entry) (q
   pub some : 0 < length answers
   pub distinct : AllPairs (λ a b. a ≢ b) (numbers answers)
   pub opens : All (λ a. IsOpen past q a.number) answers
-  pub answered : All (λ a. (r : Asked) × IsAnswer capacity mode past q a r) answers
+  pub answered : All (λ a. IsAnswer capacity mode past q a) answers
 
 -- a queue is started that isn't, with its open numbers
 pub record MayStart (past : List Entry) (q : ℕ) (list : List ℕ) : Type 0 where
@@ -114,10 +119,10 @@ MayCollect past q k = slice_get (published past q) (collected past q) ≡ Some k
 abbrev pub Allowed : ℕ → CacheMode → List Entry → Entry → Type 0
 Allowed capacity mode past (Offer q r) = ⊤
 Allowed capacity mode past (Accept q k) = MayAccept past q k
-Allowed capacity mode past (Look q k s v) = (r : Asked) × MayLook capacity mode past q k s v r
-Allowed capacity mode past (Act q k s v) = (r : Asked) × MayAct capacity mode past q k s v r
-Allowed capacity mode past (Sync q k) = (r : Asked) × MaySync capacity mode past q k r
-Allowed capacity mode past (Fault q k) = (r : Asked) × MayFault capacity mode past q k r
+Allowed capacity mode past (Look q k s v) = MayLook capacity mode past q k s v
+Allowed capacity mode past (Act q k s v) = MayAct capacity mode past q k s v
+Allowed capacity mode past (Sync q k) = MaySync capacity mode past q k
+Allowed capacity mode past (Fault q k) = MayFault capacity mode past q k
 Allowed capacity mode past (Publish q answers) = MayPublish capacity mode past q answers
 Allowed capacity mode past Kill = ⊤
 Allowed capacity mode past (Start q list) = MayStart past q list

@@ -64,9 +64,17 @@ pub fn refusal(capacity: u64, mode: CacheMode, asked: &Asked) -> Option<u8>
         Asked::Write { sector, bytes } => {
             let count = bytes.items().len() as u64 / 512;
             let fits = is_within(capacity, *sector, count);
-            if mode != CacheMode::ReadOnly && fits { None } else { Some(1) }
+            if mode != CacheMode::ReadOnly && fits {
+                None
+            } else {
+                Some(1)
+            }
         }
-        Asked::Flush => if mode == CacheMode::Through { Some(2) } else { None },
+        Asked::Flush => if mode == CacheMode::Through {
+            Some(2)
+        } else {
+            None
+        },
         Asked::Id => None,
         Asked::Discard(parts) => parts_refusal(capacity, mode, 0, parts),
         Asked::Zero(parts) => parts_refusal(capacity, mode, 1, parts),
@@ -85,9 +93,10 @@ pub(crate) fn is_look(asked: &Asked, index: usize, sector: u64) -> bool
     ensures { IsTrue result ↔ (look_at asked.now index ≡ Some sector) }
 {
     match asked {
-        Asked::Read { sector: first, count } => {
-            index < usize::from(*count) && sector >= *first && sector - *first == index as u64
-        }
+        Asked::Read {
+            sector: first,
+            count,
+        } => { index < usize::from(*count) && sector >= *first && sector - *first == index as u64 }
         _ => false,
     }
 }
@@ -148,7 +157,10 @@ pub(crate) fn is_effect(asked: &Asked, index: usize, sector: u64, value: &[u8; 5
     ensures { IsTrue result ↔ (effect_at asked.now index ≡ Some (record { sector = sector; value = value.now })) }
 {
     match asked {
-        Asked::Write { sector: first, bytes } => {
+        Asked::Write {
+            sector: first,
+            bytes,
+        } => {
             let bytes = bytes.items();
             index < bytes.len() / 512
                 && sector >= *first

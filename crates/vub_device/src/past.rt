@@ -174,7 +174,11 @@ pub(crate) fn published_at(past: &[Entry], queue: u16, index: usize) -> Result<u
         [] | [.., Entry::Power(_)] => Err(index),
         [earlier @ .., Entry::Publish(other, answers)] => {
             let found = published_at(earlier, queue, index);
-            if *other == queue { or_later(found, answers.items()) } else { found }
+            if *other == queue {
+                or_later(found, answers.items())
+            } else {
+                found
+            }
         }
         [earlier @ .., _] => published_at(earlier, queue, index),
     }
@@ -244,7 +248,11 @@ pub(crate) fn is_seen(past: &[Entry], queue: u16, number: u64, bytes: &[u8]) -> 
             }
         }
         [earlier @ .., Entry::Start(other, _)] => {
-            if *other == queue { bytes.is_empty() } else { is_seen(earlier, queue, number, bytes) }
+            if *other == queue {
+                bytes.is_empty()
+            } else {
+                is_seen(earlier, queue, number, bytes)
+            }
         }
         [earlier @ .., _] => is_seen(earlier, queue, number, bytes),
     }
