@@ -12,3 +12,6 @@ pub use entry::{AnswerList, Answered, Asked, Entry, NumberList, SectorList, Sect
 pub use laws::published_once;
 pub use legal::{is_allowed, is_legal};
 pub use meaning::refusal;
+
+#[cfg(test)]
+mod tests;
