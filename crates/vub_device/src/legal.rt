@@ -175,7 +175,8 @@ fn is_success(
 ) -> bool
     ensures { IsTrue result ↔ IsSuccess capacity mode (reverse past.now) queue number request.now bytes.now }
 {
-    meaning::refusal(capacity, mode, request).is_none()
+    let served = meaning::refusal(capacity, mode, request).is_none();
+    served
         && !past::faulted(past, queue, number)
         && is_done(mode, past, queue, number, request, bytes)
 }

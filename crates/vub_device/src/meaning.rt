@@ -14,8 +14,7 @@ const MOST_SECTORS: u32 = 65_536;
 fn is_outside(capacity: u64, part: &Part) -> bool
     ensures { result ≡ is_outside capacity part.now }
 {
-    let end = part.sector.checked_add(u64::from(part.count));
-    part.count > MOST_SECTORS || !matches!(end, Some(end) if end <= capacity)
+    part.count > MOST_SECTORS || !is_within(capacity, part.sector, u64::from(part.count))
 }
 
 /// Whether a part lies outside the capacity.

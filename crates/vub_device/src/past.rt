@@ -6,6 +6,7 @@ ghost use Rattle.vub_device.specs.Places.{place_of, or_later};
 
 use crate::entry::{Answered, Asked, Entry};
 
+/// How many requests were offered on a queue since the last power stop.
 pub(crate) fn offers(past: &[Entry], queue: u16) -> usize
     ensures is { result ≡ offers (reverse past.now) queue }
     ensures few { result ≤ length past.now }
@@ -19,6 +20,7 @@ pub(crate) fn offers(past: &[Entry], queue: u16) -> usize
     }
 }
 
+/// The request that was offered under a number.
 pub(crate) fn asked(past: &[Entry], queue: u16, number: u64) -> Option<&Asked>
     ensures { option_copied result ≡ asked (reverse past.now) queue number }
 {
@@ -35,6 +37,7 @@ pub(crate) fn asked(past: &[Entry], queue: u16, number: u64) -> Option<&Asked>
     }
 }
 
+/// How many requests of a queue were accepted.
 pub(crate) fn accepted(past: &[Entry], queue: u16) -> usize
     ensures is { result ≡ accepted (reverse past.now) queue }
     ensures few { result ≤ length past.now }
@@ -48,6 +51,7 @@ pub(crate) fn accepted(past: &[Entry], queue: u16) -> usize
     }
 }
 
+/// How many answers of a queue were collected.
 pub(crate) fn collected(past: &[Entry], queue: u16) -> usize
     ensures is { result ≡ collected (reverse past.now) queue }
     ensures few { result ≤ length past.now }
@@ -61,6 +65,7 @@ pub(crate) fn collected(past: &[Entry], queue: u16) -> usize
     }
 }
 
+/// Whether a queue was started since the last kill or power stop.
 pub(crate) fn started(past: &[Entry], queue: u16) -> bool
     ensures { result ≡ started (reverse past.now) queue }
 {
@@ -71,6 +76,7 @@ pub(crate) fn started(past: &[Entry], queue: u16) -> bool
     }
 }
 
+/// How many sectors were read for a request since its queue's last start.
 pub(crate) fn looks(past: &[Entry], queue: u16, number: u64) -> usize
     ensures is { result ≡ looks (reverse past.now) queue number }
     ensures few { result ≤ length past.now }
@@ -81,17 +87,12 @@ pub(crate) fn looks(past: &[Entry], queue: u16, number: u64) -> usize
             let same = *other == queue && *other_number == number;
             looks(earlier, queue, number) + usize::from(same)
         }
-        [earlier @ .., Entry::Start(other, _)] => {
-            if *other == queue {
-                0
-            } else {
-                looks(earlier, queue, number)
-            }
-        }
+        [.., Entry::Start(other, _)] if *other == queue => 0,
         [earlier @ .., _] => looks(earlier, queue, number),
     }
 }
 
+/// How many sectors were written for a request since its queue's last start.
 pub(crate) fn acts(past: &[Entry], queue: u16, number: u64) -> usize
     ensures is { result ≡ acts (reverse past.now) queue number }
     ensures few { result ≤ length past.now }
@@ -102,17 +103,12 @@ pub(crate) fn acts(past: &[Entry], queue: u16, number: u64) -> usize
             let same = *other == queue && *other_number == number;
             acts(earlier, queue, number) + usize::from(same)
         }
-        [earlier @ .., Entry::Start(other, _)] => {
-            if *other == queue {
-                0
-            } else {
-                acts(earlier, queue, number)
-            }
-        }
+        [.., Entry::Start(begun, _)] if *begun == queue => 0,
         [earlier @ .., _] => acts(earlier, queue, number),
     }
 }
 
+/// Whether all was made stable for a request since its queue's last start.
 pub(crate) fn synced(past: &[Entry], queue: u16, number: u64) -> bool
     ensures { result ≡ synced (reverse past.now) queue number }
 {
@@ -121,11 +117,12 @@ pub(crate) fn synced(past: &[Entry], queue: u16, number: u64) -> bool
         [earlier @ .., Entry::Sync(other, other_number)] => {
             (*other == queue && *other_number == number) || synced(earlier, queue, number)
         }
-        [earlier @ .., Entry::Start(other, _)] => *other != queue && synced(earlier, queue, number),
+        [.., Entry::Start(other, _)] if *other == queue => false,
         [earlier @ .., _] => synced(earlier, queue, number),
     }
 }
 
+/// Whether a call of the disk failed for a request since its queue's last start.
 pub(crate) fn faulted(past: &[Entry], queue: u16, number: u64) -> bool
     ensures { result ≡ faulted (reverse past.now) queue number }
 {
@@ -134,8 +131,7 @@ pub(crate) fn faulted(past: &[Entry], queue: u16, number: u64) -> bool
         [earlier @ .., Entry::Fault(other, other_number)] => {
             (*other == queue && *other_number == number) || faulted(earlier, queue, number)
         }
-        [earlier @ .., Entry::Start(other, _)] => *other != queue
-            && faulted(earlier, queue, number),
+        [.., Entry::Start(other, _)] if *other == queue => false,
         [earlier @ .., _] => faulted(earlier, queue, number),
     }
 }
@@ -247,13 +243,7 @@ pub(crate) fn is_seen(past: &[Entry], queue: u16, number: u64, bytes: &[u8]) -> 
                 is_seen(earlier, queue, number, bytes)
             }
         }
-        [earlier @ .., Entry::Start(other, _)] => {
-            if *other == queue {
-                bytes.is_empty()
-            } else {
-                is_seen(earlier, queue, number, bytes)
-            }
-        }
+        [.., Entry::Start(other, _)] if *other == queue => bytes.is_empty(),
         [earlier @ .., _] => is_seen(earlier, queue, number, bytes),
     }
 }
