@@ -1,18 +1,16 @@
 -- In a legal history no number is published twice.
-use Rattle.std.proofs.Common.{◌≡◌, ◌≢◌, ℕ, ◌<◌, ◌+◌, ◌-◌, ◌==◌, Bool, true, false, List, [], ◌∷◌, ◌++◌, length, get_or, refl, sym, ◌∙◌, subst, inl, inr, arith}
-use Rattle.std.specs.Prelude.{All, AllPairs, reverse, if◌then◌else◌}
+use Rattle.std.proofs.Common.{◌≡◌, ℕ, ◌<◌, ◌+◌, ◌-◌, ◌==◌, Bool, true, false, List, [], ◌∷◌, ◌++◌, length, get_or, refl, sym, ◌∙◌, subst, inl, inr, arith}
+use Rattle.std.specs.Prelude.{All, reverse, if◌then◌else◌}
 use Rattle.std.proofs.lemmas.Bool.{cases_lt, eqb-true}
-use Rattle.std.proofs.lemmas.Bool.Decides.{nat_tests}
 use Rattle.std.proofs.lemmas.List.{get_or_append_left, get_or-append_right, length-append}
 use Rattle.std.proofs.lemmas.List.Elements.{All-map}
-use Rattle.std.proofs.lemmas.List.Folds.{list_any_at}
 use Rattle.vub_base.specs.declared.header.CacheMode.{CacheMode}
 use Rattle.vub_device.specs.declared.entry.Entry.{Entry}
 use Rattle.vub_device.specs.declared.entry.Entry.TheVariants.{Offer, Accept, Look, Act, Sync, Fault, Publish, Kill, Start, Collect, Power}
 use Rattle.vub_device.specs.Past.{published, numbers, is_among}
 use Rattle.vub_device.proofs.Distinct.{IsDistinct, among_at}
 use Rattle.vub_device.proofs.Histories.{kept, after_reverse}
-use Rattle.vub_device.specs.Legal.{Allowed, LegalFrom, Legal, after}
+use Rattle.vub_device.specs.Legal.{Allowed, Legal}
 
 -- a distinct list that has none of another's numbers may follow it
 pub distinct-append : (xs ys : List ℕ) → IsDistinct xs → IsDistinct ys → All (λ y. is_among xs y ≡ false) ys → IsDistinct (xs ++ ys)

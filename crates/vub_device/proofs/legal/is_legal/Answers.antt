@@ -1,4 +1,3 @@
-use Rattle.std.proofs.Common.{arith}
 use Rattle.vub_device.proofs.Histories.{allowed_in, legal_next}
 use Rattle.vub_device.proofs.legal.is_legal.Goals as goal
 

@@ -1,4 +1,4 @@
-use Rattle.std.proofs.Common.{rules, reverse, sym, ◌∙◌, ap, refl, arith}
+use Rattle.std.proofs.Common.{arith}
 use Rattle.std.proofs.lemmas.Grind.{common_steps}
 use Rattle.vub_device.proofs.Numbers.{place_of_append}
 use Rattle.vub_device.proofs.past.+published_at.Goals as goal
