@@ -4,11 +4,8 @@ use Rattle.std.specs.Prelude.{AllPairs}
 use Rattle.std.proofs.lemmas.Bool.Decides.{nat_tests}
 use Rattle.std.proofs.lemmas.Grind.{common_steps}
 use Rattle.std.proofs.lemmas.List.Folds.{list_any_at, list_any_none}
-use Rattle.vub_device.specs.Past.{is_among}
+use Rattle.vub_device.specs.Past.{IsDistinct, is_among}
 use Rattle.vub_device.specs.Places.{are_distinct}
-
-abbrev pub IsDistinct : List ℕ → Type 0
-IsDistinct xs = AllPairs (λ a b. a ≢ b) xs
 
 pub among_at : (xs : List ℕ) (i d x : ℕ) → i < length xs → get_or xs i d ≡ x → is_among xs x ≡ true
 among_at xs i d x lt is = list_any_at (λ y. y == x) xs i d lt (grind (arith, nat_tests))

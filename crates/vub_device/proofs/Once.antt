@@ -7,8 +7,8 @@ use Rattle.std.proofs.lemmas.List.Elements.{All-map}
 use Rattle.vub_base.specs.declared.header.CacheMode.{CacheMode}
 use Rattle.vub_device.specs.declared.entry.Entry.{Entry}
 use Rattle.vub_device.specs.declared.entry.Entry.TheVariants.{Offer, Accept, Look, Act, Sync, Fault, Publish, Kill, Start, Collect, Power}
-use Rattle.vub_device.specs.Past.{published, numbers, is_among}
-use Rattle.vub_device.proofs.Distinct.{IsDistinct, among_at}
+use Rattle.vub_device.specs.Past.{published, numbers, is_among, IsDistinct}
+use Rattle.vub_device.proofs.Distinct.{among_at}
 use Rattle.vub_device.proofs.Histories.{kept, after_reverse}
 use Rattle.vub_device.specs.Legal.{Allowed, Legal}
 

@@ -1,5 +1,5 @@
 -- What a block device may do next, and its legal histories. A past lists entries with the newest first, a history in order.
-use Rattle.std.specs.Prelude.{◌≡◌, ◌≢◌, ⊤, ℕ, ◌<◌, ◌≤◌, ◌⊎◌, true, false, List, [], ◌∷◌, length, slice_get, All, AllPairs, Some, None}
+use Rattle.std.specs.Prelude.{◌≡◌, ◌≢◌, ⊤, ℕ, ◌<◌, ◌≤◌, ◌⊎◌, true, false, List, [], ◌∷◌, length, slice_get, All, Some, None}
 use Rattle.vub_base.specs.declared.header.CacheMode.{CacheMode}
 use Rattle.vub_base.specs.declared.header.CacheMode.TheVariants.{Through}
 use Rattle.vub_device.specs.declared.entry.Answered.{Answered}
@@ -8,7 +8,7 @@ use Rattle.vub_device.specs.declared.entry.Asked.TheVariants.{Read, Write, Flush
 use Rattle.vub_device.specs.declared.entry.Entry.{Entry}
 use Rattle.vub_device.specs.declared.entry.Entry.TheVariants.{Offer, Accept, Look, Act, Sync, Fault, Publish, Kill, Start, Collect, Power}
 use Rattle.vub_device.specs.Requests.{device_name, look_at, effect_at, refusal}
-use Rattle.vub_device.specs.Past.{offers, asked, accepted, published, collected, numbers, open_numbers, IsOpen, started, looks, seen, acts, synced, faulted}
+use Rattle.vub_device.specs.Past.{offers, asked, accepted, published, collected, numbers, IsDistinct, open_numbers, IsOpen, started, looks, seen, acts, synced, faulted}
 use Rattle.vub_device.specs.Crash.{value, IsCrashImage}
 
 -- the queue's next offer is taken
@@ -102,7 +102,7 @@ pub record IsAnswer (capacity : ℕ) (mode : CacheMode) (past : List Entry) (q :
 pub record MayPublish (capacity : ℕ) (mode : CacheMode) (past : List Entry) (q : ℕ) (answers : List Answered) : Type 0 where
   pub started : started past q ≡ true
   pub some : 0 < length answers
-  pub distinct : AllPairs (λ a b. a ≢ b) (numbers answers)
+  pub distinct : IsDistinct (numbers answers)
   pub opens : All (λ a. IsOpen past q a.number) answers
   pub answered : All (λ a. IsAnswer capacity mode past q a) answers
 

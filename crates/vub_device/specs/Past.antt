@@ -1,6 +1,6 @@
 -- What has happened since the last power stop. A past lists entries with the newest first. A number k of a queue q
 -- stands for the k-th offer of that queue since the last power stop, counted from 0.
-use Rattle.std.specs.Prelude.{◌≡◌, ℕ, zero, suc, ◌+◌, ◌<◌, Bool, false, ◌==◌, ◌&&◌, ◌||◌, if◌then◌else◌, List, [], ◌∷◌, ◌++◌, map, Option, Some, None}
+use Rattle.std.specs.Prelude.{◌≡◌, ◌≢◌, ℕ, zero, suc, ◌+◌, ◌<◌, Bool, false, ◌==◌, ◌&&◌, ◌||◌, if◌then◌else◌, List, [], ◌∷◌, ◌++◌, map, AllPairs, Option, Some, None}
 use Rattle.std.specs.List.{list_any}
 use Rattle.vub_device.specs.declared.entry.Answered.{Answered}
 use Rattle.vub_device.specs.declared.entry.Asked.{Asked}
@@ -49,6 +49,10 @@ collected (e ∷ past) q = collected past q
 -- whether a number is among these
 abbrev pub is_among : List ℕ → ℕ → Bool
 is_among xs k = list_any (λ x. x == k) xs
+
+-- no number stands twice
+abbrev pub IsDistinct : List ℕ → Type 0
+IsDistinct xs = AllPairs (λ a b. a ≢ b) xs
 
 -- the numbers below n that aren't among these, rising
 abbrev pub missing_below : List ℕ → ℕ → List ℕ

@@ -1,5 +1,5 @@
 //! What the sectors hold, and what they may hold after a power stop.
-ghost use Rattle.std.specs.Prelude.{◌≡◌, ◌↔◌, IsTrue, Contains, reverse};
+ghost use Rattle.std.specs.Prelude.{◌≡◌, ◌↔◌, IsTrue, reverse};
 ghost use Rattle.vub_device.specs.Crash.{image_at, value, candidates, IsImageFrom, IsCrashImage};
 ghost use Rattle.vub_device.specs.Places.{is_held};
 ghost use Rattle.vub_device.specs.Requests.{zeros};

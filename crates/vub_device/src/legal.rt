@@ -1,6 +1,9 @@
 //! Which entries may follow a history: plain and slow, by going back over all entries each time.
-ghost use Rattle.std.specs.Prelude.{◌≡◌, ◌↔◌, IsTrue, IsSome, IfSome, IfNone, All, AllPairs, ◌≢◌, reverse};
-ghost use Rattle.vub_device.specs.Legal.{MayAccept, IsAtWork, MayLook, MayAct, IsRead, IsWritten, IsSyncDue, MaySync, MayFault, IsDone, IsSuccess, IsFailure, IsUnsupported, IsAnswer, MayPublish, MayStart, MayCollect, Allowed, LegalFrom, Legal};
+ghost use Rattle.std.specs.Prelude.{◌≡◌, ◌↔◌, IsTrue, IfSome, IfNone, All, reverse};
+ghost use Rattle.vub_device.specs.Legal.{MayAccept, IsAtWork, MayLook, MayAct, IsRead, IsWritten};
+ghost use Rattle.vub_device.specs.Legal.{IsSyncDue, MaySync, MayFault, IsDone, IsSuccess, IsFailure};
+ghost use Rattle.vub_device.specs.Legal.{IsUnsupported, IsAnswer, MayPublish, MayStart, MayCollect};
+ghost use Rattle.vub_device.specs.Legal.{Allowed, Legal};
 ghost use Rattle.vub_device.specs.Past.{IsOpen, numbers};
 ghost use Rattle.vub_device.specs.Places.{are_distinct};
 ghost use Rattle.vub_device.specs.declared.entry.Asked.{Asked};
@@ -173,7 +176,8 @@ fn is_success(
     request: &Asked,
     bytes: &[u8],
 ) -> bool
-    ensures { IsTrue result ↔ IsSuccess capacity mode (reverse past.now) queue number request.now bytes.now }
+    ensures { IsTrue result
+        ↔ IsSuccess capacity mode (reverse past.now) queue number request.now bytes.now }
 {
     let served = meaning::refusal(capacity, mode, request).is_none();
     served
@@ -191,7 +195,8 @@ fn is_failure(
     request: &Asked,
     bytes: &[u8],
 ) -> bool
-    ensures { IsTrue result ↔ IsFailure capacity mode (reverse past.now) queue number request.now bytes.now }
+    ensures { IsTrue result
+        ↔ IsFailure capacity mode (reverse past.now) queue number request.now bytes.now }
 {
     let refused = matches!(meaning::refusal(capacity, mode, request), Some(1));
     (past::faulted(past, queue, number) || refused) && bytes.is_empty()

@@ -1,8 +1,8 @@
 //! What a request means: its fixed refusal, and the sectors that it reads and writes.
-ghost use Rattle.std.specs.Prelude.{◌≡◌, ◌↔◌, ◌≤◌, ◌+◌, Some, None, IsTrue, nat_lt};
+ghost use Rattle.std.specs.Prelude.{◌≡◌, ◌↔◌, ◌≤◌, ◌+◌, Some, None, IsTrue};
 ghost use Rattle.std.specs.List.{list_any};
-ghost use Rattle.vub_device.specs.Requests.{zeros, device_name, look_at, zeroed_at, effect_at, has_flags_above, is_outside, parts_refusal, refusal};
-ghost use Rattle.vub_device.specs.declared.entry.SectorValue.{SectorValue};
+ghost use Rattle.vub_device.specs.Requests.{zeros, device_name, look_at, zeroed_at, effect_at};
+ghost use Rattle.vub_device.specs.Requests.{has_flags_above, is_outside, parts_refusal, refusal};
 
 use crate::entry::Asked;
 use vub_base::{CacheMode, Part};
@@ -112,7 +112,8 @@ pub(crate) fn ends_looks(asked: &Asked, index: usize) -> bool
 
 /// Whether zeroing the parts in order writes this sector with this value in this place.
 fn is_zeroed(parts: &[Part], index: usize, sector: u64, value: &[u8; 512]) -> bool
-    ensures { IsTrue result ↔ (zeroed_at parts.now index ≡ Some (record { sector = sector; value = value.now })) }
+    ensures { IsTrue result
+        ↔ (zeroed_at parts.now index ≡ Some (record { sector = sector; value = value.now })) }
 {
     match parts {
         [] => false,
@@ -153,7 +154,8 @@ pub(crate) fn is_zeros(value: &[u8; 512]) -> bool
 
 /// Whether the request writes this sector with this value in this place.
 pub(crate) fn is_effect(asked: &Asked, index: usize, sector: u64, value: &[u8; 512]) -> bool
-    ensures { IsTrue result ↔ (effect_at asked.now index ≡ Some (record { sector = sector; value = value.now })) }
+    ensures { IsTrue result
+        ↔ (effect_at asked.now index ≡ Some (record { sector = sector; value = value.now })) }
 {
     match asked {
         Asked::Write {

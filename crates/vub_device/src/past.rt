@@ -1,7 +1,9 @@
 //! What has happened since the last power stop, found by going back over the entries.
 ghost use Rattle.std.specs.Prelude.{◌≡◌, ◌≤◌, ◌+◌, ◌&&◌, ◌↔◌, ◌≢◌, ◌++◌, IsTrue, MatchOption, List, ℕ, length, reverse};
 ghost use Rattle.std.specs.Option.{option_copied};
-ghost use Rattle.vub_device.specs.Past.{offers, asked, accepted, published, numbers, is_among, collected, missing_below, started, looks, seen, acts, synced, faulted};
+ghost use Rattle.vub_device.specs.Past.{offers, asked, accepted, published, numbers, is_among};
+ghost use Rattle.vub_device.specs.Past.{collected, missing_below, started, looks, seen, acts, synced};
+ghost use Rattle.vub_device.specs.Past.{faulted};
 ghost use Rattle.vub_device.specs.Places.{place_of, or_later};
 
 use crate::entry::{Answered, Asked, Entry};
@@ -221,7 +223,9 @@ pub(crate) fn lists_open(past: &[Entry], queue: u16, below: usize, list: &[u64])
 
 /// The bytes before a value that they end with. None where they don't.
 fn without_end<'a>(bytes: &'a [u8], value: &[u8; 512]) -> Option<&'a [u8]>
-    ensures { MatchOption result ((front : List ℕ) → bytes.now ≢ front ++ value.now) (λ front. bytes.now ≡ front.now ++ value.now) }
+    ensures { MatchOption result
+        ((front : List ℕ) → bytes.now ≢ front ++ value.now)
+        (λ front. bytes.now ≡ front.now ++ value.now) }
 {
     bytes.strip_suffix(value)
 }
