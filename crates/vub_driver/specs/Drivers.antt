@@ -71,11 +71,13 @@ with_left w (st ∷ left) v = record v { waiting = Some (record w { left = st �
 abbrev pub after_stores : ℕ → Waiting → Driver → Driver
 after_stores count w v = with_left w (drop count w.left) v
 
+abbrev pub is_that : ℕ → Option ℕ → Bool
+is_that head None = false
+is_that head (Some h) = h == head
+
+-- the same owners, but nothing belongs to that head
 abbrev pub without_owner : ℕ → (ℕ → Option ℕ) → ℕ → Option ℕ
-without_owner head owner d = if is_owner head (owner d) then None else owner d where
-  pub is_owner : ℕ → Option ℕ → Bool
-  is_owner head None = false
-  is_owner head (Some h) = h == head
+without_owner head owner d = if is_that head (owner d) then None else owner d
 
 -- whether that head is the one of a request that isn't offered yet
 abbrev pub is_head : ℕ → Option Waiting → Bool
