@@ -3,5 +3,7 @@
 #![tactic(auto)]
 
 mod descriptors;
+#[cfg(test)]
+mod tests;
 
 pub use descriptors::{descriptors_needed, has_data};

@@ -41,9 +41,7 @@ pub fn is_ready(standing: &Standing, turn: Turn) -> bool
         Turn::Fetch => standing.started && !publishing && (fetching || standing.waiting > 0),
         Turn::Work(place) => standing.started && place < standing.unfinished,
         Turn::Publish(most) => {
-            standing.started
-                && !fetching
-                && (publishing || (most > 0 && standing.completed > 0))
+            standing.started && !fetching && (publishing || (most > 0 && standing.completed > 0))
         }
     }
 }
