@@ -1,3 +1,5 @@
+pub mod GuestLemmas
 pub mod MachineLemmas
 pub mod RecordTextLemmas
+pub mod RequestLemmas
 pub mod SplitLemmas

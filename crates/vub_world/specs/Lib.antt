@@ -1,4 +1,7 @@
 pub mod Guest
+pub mod GuestRequest
+pub mod GuestState
+pub mod GuestStores
 pub mod Lives
 pub mod Machine
 pub mod Memory

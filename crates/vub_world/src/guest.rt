@@ -1,12 +1,15 @@
 //! The driver of one split queue: it places requests in guest memory, one store a step, and takes
 //! the used elements (VIRTIO 1.2, 2.7.13 and 2.7.14).
-ghost use Rattle.std.specs.Prelude.{◌≡◌, ◌<◌, ◌≤◌, ◌+◌, ◌*◌, ◌%◌, ◌^◌, ℕ, length, IfOk, IfSome};
+ghost use Rattle.std.specs.Prelude.{◌≡◌, ◌<◌, ◌≤◌, ◌+◌, ◌*◌, ◌%◌, ◌^◌, ℕ, length, map, Some, IfOk, IfSome};
 ghost use Rattle.std.specs.Option.{ForSome};
 
-use crate::layout::{AREA, AVAIL, SECTORS, STATUS, USED, area_of, buffer_of};
-use arrayvec::ArrayVec;
+mod request;
+
+use crate::layout::{AREA, AVAIL, STATUS, USED, area_of, buffer_of};
+use request::{data_len, data_start, descriptor, has_written, header, is_read, written};
 use std::alloc::Global;
-use vub_base::{Ask, Failed, Header1, Memory, Shape, Space, put_u16, put_u32, put_u64};
+use vub_base::{Ask, Failed, Header1, Memory, Shape, Space};
+use vub_driver::has_data;
 use vub_shared::{Shared, load_u16, load_u32};
 
 /// What a step of the driver was.
@@ -36,10 +39,10 @@ pub enum Collected {
 #[derive(Clone, Copy, Debug)]
 struct Chain {
     head: u16,
-    sectors: Option<u16>,
+    body: Option<u16>,
     status: u16,
     ghost head_fits: { head < 64 },
-    ghost sectors_fit: { ForSome sectors (λ d. d < 64) },
+    ghost body_fits: { ForSome body (λ d. d < 64) },
     ghost status_fits: { status < 64 },
 }
 
@@ -47,7 +50,7 @@ struct Chain {
 #[derive(Clone, Copy, Debug, PartialEq, Eq)]
 enum Stage {
     Header,
-    Sectors,
+    Data,
     Status,
     HeaderDescriptor,
     DataDescriptor,
@@ -58,89 +61,61 @@ enum Stage {
 
 /// A request that isn't offered yet.
 #[derive(Debug, Drop)]
-struct Waiting {
+struct Pending {
     ask: Ask,
     chain: Chain,
     stage: Stage,
 }
 
-const NEXT: u16 = 1;
+impl Chain {
+    ghost use Rattle.std.specs.Prelude.{All};
+    ghost use Rattle.vub_driver.specs.Drivers.{owned_by};
+    ghost use Rattle.vub_world.specs.GuestStores.{links_of, descriptors, second};
+    ghost use Rattle.vub_world.specs.GuestState.{owner_at};
 
-const WRITE: u16 = 2;
-
-/// The type of a request (VIRTIO 1.2, 5.2.6).
-fn request_type(ask: &Ask) -> u32 {
-    match ask {
-        Ask::Read { .. } => 0,
-        Ask::Write { .. } => 1,
-        Ask::Flush => 4,
-        Ask::Id => 8,
-        Ask::Discard(_) => 11,
-        Ask::Zero(_) => 13,
-    }
-}
-
-fn first_sector(ask: &Ask) -> u64 {
-    match ask {
-        Ask::Read { sector, .. } | Ask::Write { sector, .. } => *sector,
-        _ => 0,
-    }
-}
-
-/// The bytes between the header and the status: the sectors of a read or a write.
-fn data_len(ask: &Ask) -> Option<u32> {
-    match ask {
-        Ask::Read { count, .. } => Some(512 * u32::from(*count)),
-        Ask::Write { fills, .. } => Some(512 * (fills.len() as u32)),
-        _ => None,
-    }
-}
-
-/// The written sectors, each filled with its byte.
-fn filled_sectors(fills: &[u8]) -> ArrayVec<u8, 4096> {
-    let mut sectors = ArrayVec::new();
-    for fill in fills {
-        for _ in 0..512 {
-            let _ = sectors.try_push(*fill);
+    /// The descriptor after the first.
+    fn second(&self) -> u16
+        ensures is { result ≡ second (links_of self.now) }
+        ensures fits { result < 64 }
+    {
+        match self.body {
+            Some(body) => body,
+            None => self.status,
         }
     }
-    sectors
-}
 
-/// A descriptor as it stands in the table.
-fn descriptor(addr: u64, len: u32, flags: u16, next: u16) -> [u8; 16] {
-    let mut bytes = [0u8; 16];
-    put_u64(&mut bytes, 0, addr);
-    put_u32(&mut bytes, 8, len);
-    put_u16(&mut bytes, 12, flags);
-    put_u16(&mut bytes, 14, next);
-    bytes
-}
-
-/// The lowest free descriptor from this one on.
-fn next_free(owners: &[Option<u16>], from: u16) -> Option<u16>
-    requires { length owners.now ≤ 64 }
-    ensures { IfSome result (λ d. d < length owners.now) }
-{
-    for d in usize::from(from)..owners.len() {
-        if owners[d].is_none() {
-            return Some(d as u16);
+    /// Gives its descriptors to its head.
+    fn own(&self, owners: &mut [Option<u16>])
+        requires { All (λ d. d < length owners.old) (descriptors (links_of self.now)) }
+        ensures owners { (d : ℕ) → owner_at owners.new d ≡ owned_by self.now.head (descriptors (links_of self.now)) (owner_at owners.old) d }
+        ensures count { length owners.new ≡ length owners.old }
+    {
+        owners[usize::from(self.head)] = Some(self.head);
+        owners[usize::from(self.status)] = Some(self.head);
+        if let Some(body) = self.body {
+            owners[usize::from(body)] = Some(self.head);
         }
     }
-    None
 }
 
-impl Waiting {
+impl Pending {
+    ghost use Rattle.vub_world.specs.GuestStores.{links_of, stage_after};
+
     /// The store after this one; none after the last.
-    fn next_stage(&self) -> Option<Stage> {
+    fn next_stage(&self) -> Option<Stage>
+        ensures { result ≡ stage_after self.now.ask (links_of self.now.chain) self.now.stage }
+    {
         match self.stage {
-            Stage::Header => match self.ask {
-                Ask::Write { .. } => Some(Stage::Sectors),
-                _ => Some(Stage::Status),
-            },
-            Stage::Sectors => Some(Stage::Status),
+            Stage::Header => {
+                if has_written(&self.ask) {
+                    Some(Stage::Data)
+                } else {
+                    Some(Stage::Status)
+                }
+            }
+            Stage::Data => Some(Stage::Status),
             Stage::Status => Some(Stage::HeaderDescriptor),
-            Stage::HeaderDescriptor => match self.chain.sectors {
+            Stage::HeaderDescriptor => match self.chain.body {
                 Some(_) => Some(Stage::DataDescriptor),
                 None => Some(Stage::StatusDescriptor),
             },
@@ -164,7 +139,7 @@ pub struct Guest {
     seen: u16,
     // The head of the request that each descriptor belongs to.
     owners: Vec<Option<u16>>,
-    waiting: Option<Waiting>,
+    waiting: Option<Pending>,
     ghost some: { 1 ≤ size },
     ghost few: { size ≤ 64 },
     ghost near: { area < 2 ^ 40 },
@@ -173,13 +148,25 @@ pub struct Guest {
 }
 
 impl Guest {
+    ghost use Rattle.std.specs.Prelude.{if◌then◌else◌, Ok};
+    ghost use Rattle.vub_base.specs.Causes.{HasCause};
+    ghost use Rattle.vub_base.specs.Told.{WhereTold};
+    ghost use Rattle.vub_shared.specs.Stores.{Stores, Trails};
+    ghost use Rattle.vub_driver.specs.Layout.{ring_of};
+    ghost use Rattle.vub_driver.specs.Drivers.{new_driver, can_take, after_ask, after_collect, is_head, without_owner};
+    ghost use Rattle.vub_world.specs.declared.guest.Stage.TheVariants.{Header, Data, Status, HeaderDescriptor, DataDescriptor, StatusDescriptor, AvailEntry, AvailIdx};
     ghost use Rattle.vub_world.specs.Guest.{GuestLies};
+    ghost use Rattle.vub_world.specs.GuestStores.{links_of, store_at};
+    ghost use Rattle.vub_world.specs.GuestState.{ring_in, driver_in, seen_in, owner_at, FindsFree, Chooses, StoresNext, TrailsNext, Steps, outcome, next_store, Shows, ShowsNext, Collects, fetched};
 
     /// The driver of a queue whose area lies in this space.
     pub fn new(alloc: Global, header: &Header1, queue: u16, memory: Space) -> Result<Guest, Memory>
         requires some { 1 ≤ header.now.size }
         requires few { header.now.size ≤ 64 }
-        ensures { IfOk result (λ g. (g.memory ≡ memory) × (g.area ≡ AREA * queue)) }
+        ensures place { IfOk result (λ g. (g.memory ≡ memory) × (g.area ≡ AREA * queue)) }
+        ensures ring { IfOk result (λ g. ring_in g ≡ record (ring_of queue header.now.size) { space = memory.number }) }
+        ensures driver { IfOk result (λ g. driver_in g ≡ new_driver header.now.base) }
+        ensures position { IfOk result (λ g. seen_in g ≡ header.now.base) }
     {
         let owners = vec![in alloc; None; usize::from(header.size)].map_err(|_| Memory)?;
         Ok(Guest {
@@ -193,29 +180,41 @@ impl Guest {
         })
     }
 
-    /// The lowest free descriptors that a request can have, if so many are free.
-    fn free_chain(&self, has_data: bool) -> Option<Chain> {
-        let head = next_free(&self.owners, 0)?;
-        let sectors = if has_data {
-            Some(next_free(&self.owners, head + 1)?)
-        } else {
-            None
-        };
-        let status = next_free(&self.owners, sectors.unwrap_or(head) + 1)?;
-        Some(Chain {
-            head,
-            sectors,
-            status,
-        })
+    #[tactic(auto, using(crate::proofs::GuestLemmas::free_after_taken, crate::proofs::GuestLemmas::free_after_free, crate::proofs::GuestLemmas::free_after_past))]
+    /// The lowest free descriptor from this one on.
+    fn next_free(owners: &[Option<u16>], from: u16) -> Option<u16>
+        requires { length owners.now ≤ 64 }
+        ensures free { FindsFree owners.now from result }
+        ensures fits { IfSome result (λ d. d < length owners.now) }
+    {
+        for d in usize::from(from)..owners.len() {
+            if owners[d].is_none() {
+                return Some(d as u16);
+            }
+        }
+        None
     }
 
-    fn own(&mut self, descriptor: u16, head: u16)
-        ensures memory { self.new.memory ≡ self.old.memory }
-        ensures area { self.new.area ≡ self.old.area }
+    /// The lowest free descriptors that a request can have, if so many are free.
+    fn free_chain(owners: &[Option<u16>], ask: &Ask) -> Option<Chain>
+        requires { length owners.now ≤ 64 }
+        ensures { Chooses owners.now ask.now result }
     {
-        if let Some(owner) = self.owners.get_mut(usize::from(descriptor)) {
-            *owner = Some(head);
+        let head = Guest::next_free(owners, 0)?;
+        let second = Guest::next_free(owners, head + 1)?;
+        if !has_data(ask) {
+            return Some(Chain {
+                head,
+                body: None,
+                status: second,
+            });
         }
+        let status = Guest::next_free(owners, second + 1)?;
+        Some(Chain {
+            head,
+            body: Some(second),
+            status,
+        })
     }
 
     /// Gives the driver a request. It is false, and changes nothing, exactly where a request waits
@@ -223,19 +222,19 @@ impl Guest {
     pub fn queue_request(&mut self, shape: Shape, ask: &Ask) -> bool
         ensures memory { self.new.memory ≡ self.old.memory }
         ensures area { self.new.area ≡ self.old.area }
+        ensures answer { result ≡ can_take (ring_in self.old).size shape ask.now (driver_in self.old) }
+        ensures driver { driver_in self.new ≡ (if result then after_ask (ring_in self.old) ask.now (driver_in self.old) else driver_in self.old) }
+        ensures ring { ring_in self.new ≡ ring_in self.old }
+        ensures position { seen_in self.new ≡ seen_in self.old }
     {
         if self.waiting.is_some() || shape != Shape::Direct {
             return false;
         }
-        let Some(chain) = self.free_chain(data_len(ask).is_some()) else {
+        let Some(chain) = Guest::free_chain(&self.owners, ask) else {
             return false;
         };
-        self.own(chain.head, chain.head);
-        if let Some(data) = chain.sectors {
-            self.own(data, chain.head);
-        }
-        self.own(chain.status, chain.head);
-        self.waiting = Some(Waiting {
+        chain.own(&mut self.owners);
+        self.waiting = Some(Pending {
             ask: ask.copied(),
             chain,
             stage: Stage::Header,
@@ -243,114 +242,133 @@ impl Guest {
         true
     }
 
-    fn store_header<M: Shared>(&self, mem: &mut M, waiting: &Waiting) -> Result<(), Failed>
+    fn store_header<M: Shared>(&self, mem: &mut M, pending: &Pending) -> Result<(), Failed>
         requires { GuestLies (M.sizes mem.old) self.now }
-        ensures { (s : ℕ) → M.sizes mem.new s ≡ M.sizes mem.old s }
+        ensures stores { Stores (M.told mem.old) (M.told mem.new) result (store_at (ring_in self.now) self.now.avail_idx pending.now.ask (links_of pending.now.chain) Header) }
+        ensures trails { Trails (M.trail mem.old) (M.trail mem.new) result (store_at (ring_in self.now) self.now.avail_idx pending.now.ask (links_of pending.now.chain) Header) }
+        ensures sizes { (s : ℕ) → M.sizes mem.new s ≡ M.sizes mem.old s }
+        ensures cause { HasCause (M.faults mem.old) (M.faults mem.new) result }
     {
-        let mut header = [0u8; 16];
-        put_u32(&mut header, 0, request_type(&waiting.ask));
-        put_u64(&mut header, 8, first_sector(&waiting.ask));
-        let place = buffer_of(self.area, waiting.chain.head);
-        mem.store_run(self.memory, place, &header)
+        let place = buffer_of(self.area, pending.chain.head);
+        mem.store_run(self.memory, place, &header(&pending.ask))
     }
 
-    fn store_sectors<M: Shared>(&self, mem: &mut M, waiting: &Waiting) -> Result<(), Failed>
+    fn store_data<M: Shared>(&self, mem: &mut M, pending: &Pending) -> Result<(), Failed>
         requires { GuestLies (M.sizes mem.old) self.now }
-        ensures { (s : ℕ) → M.sizes mem.new s ≡ M.sizes mem.old s }
+        ensures stores { Stores (M.told mem.old) (M.told mem.new) result (store_at (ring_in self.now) self.now.avail_idx pending.now.ask (links_of pending.now.chain) Data) }
+        ensures trails { Trails (M.trail mem.old) (M.trail mem.new) result (store_at (ring_in self.now) self.now.avail_idx pending.now.ask (links_of pending.now.chain) Data) }
+        ensures sizes { (s : ℕ) → M.sizes mem.new s ≡ M.sizes mem.old s }
+        ensures cause { HasCause (M.faults mem.old) (M.faults mem.new) result }
     {
-        let place = buffer_of(self.area, waiting.chain.head) + SECTORS;
-        match &waiting.ask {
-            Ask::Write { fills, .. } => {
-                mem.store_run(self.memory, place, &filled_sectors(fills))
-            }
-            _ => Ok(()),
-        }
+        let buffer = buffer_of(self.area, pending.chain.head);
+        let place = data_start(buffer, &pending.ask);
+        mem.store_run(self.memory, place, &written(&pending.ask))
     }
 
-    fn store_status<M: Shared>(&self, mem: &mut M, waiting: &Waiting) -> Result<(), Failed>
+    fn store_status<M: Shared>(&self, mem: &mut M, pending: &Pending) -> Result<(), Failed>
         requires { GuestLies (M.sizes mem.old) self.now }
-        ensures { (s : ℕ) → M.sizes mem.new s ≡ M.sizes mem.old s }
+        ensures stores { Stores (M.told mem.old) (M.told mem.new) result (store_at (ring_in self.now) self.now.avail_idx pending.now.ask (links_of pending.now.chain) Status) }
+        ensures trails { Trails (M.trail mem.old) (M.trail mem.new) result (store_at (ring_in self.now) self.now.avail_idx pending.now.ask (links_of pending.now.chain) Status) }
+        ensures sizes { (s : ℕ) → M.sizes mem.new s ≡ M.sizes mem.old s }
+        ensures cause { HasCause (M.faults mem.old) (M.faults mem.new) result }
     {
-        let place = buffer_of(self.area, waiting.chain.head) + STATUS;
+        let place = buffer_of(self.area, pending.chain.head) + STATUS;
         mem.store1(self.memory, place, 0xff)
-    }
-
-    fn store_descriptor<M: Shared>(
-        &self,
-        mem: &mut M,
-        index: u16,
-        bytes: &[u8; 16],
-    ) -> Result<(), Failed>
-        requires lies { GuestLies (M.sizes mem.old) self.now }
-        requires fits { index < 64 }
-        ensures { (s : ℕ) → M.sizes mem.new s ≡ M.sizes mem.old s }
-    {
-        mem.store_run(self.memory, self.area + 16 * u64::from(index), bytes)
     }
 
     fn store_header_descriptor<M: Shared>(
         &self,
         mem: &mut M,
-        waiting: &Waiting,
+        pending: &Pending,
     ) -> Result<(), Failed>
         requires { GuestLies (M.sizes mem.old) self.now }
-        ensures { (s : ℕ) → M.sizes mem.new s ≡ M.sizes mem.old s }
+        ensures stores { Stores (M.told mem.old) (M.told mem.new) result (store_at (ring_in self.now) self.now.avail_idx pending.now.ask (links_of pending.now.chain) HeaderDescriptor) }
+        ensures trails { Trails (M.trail mem.old) (M.trail mem.new) result (store_at (ring_in self.now) self.now.avail_idx pending.now.ask (links_of pending.now.chain) HeaderDescriptor) }
+        ensures sizes { (s : ℕ) → M.sizes mem.new s ≡ M.sizes mem.old s }
+        ensures cause { HasCause (M.faults mem.old) (M.faults mem.new) result }
     {
-        let chain = &waiting.chain;
+        let chain = &pending.chain;
         let buffer = buffer_of(self.area, chain.head);
-        let next = chain.sectors.unwrap_or(chain.status);
-        self.store_descriptor(mem, chain.head, &descriptor(buffer, 16, NEXT, next))
+        let place = self.area + 16 * u64::from(chain.head);
+        let next = Some(chain.second());
+        mem.store_run(self.memory, place, &descriptor(buffer, 16, false, next))
     }
 
-    fn store_data_descriptor<M: Shared>(&self, mem: &mut M, waiting: &Waiting) -> Result<(), Failed>
+    fn store_data_descriptor<M: Shared>(&self, mem: &mut M, pending: &Pending) -> Result<(), Failed>
         requires { GuestLies (M.sizes mem.old) self.now }
-        ensures { (s : ℕ) → M.sizes mem.new s ≡ M.sizes mem.old s }
+        ensures stores { Stores (M.told mem.old) (M.told mem.new) result (store_at (ring_in self.now) self.now.avail_idx pending.now.ask (links_of pending.now.chain) DataDescriptor) }
+        ensures trails { Trails (M.trail mem.old) (M.trail mem.new) result (store_at (ring_in self.now) self.now.avail_idx pending.now.ask (links_of pending.now.chain) DataDescriptor) }
+        ensures sizes { (s : ℕ) → M.sizes mem.new s ≡ M.sizes mem.old s }
+        ensures cause { HasCause (M.faults mem.old) (M.faults mem.new) result }
     {
-        let chain = &waiting.chain;
-        let (Some(data), Some(len)) = (chain.sectors, data_len(&waiting.ask)) else {
-            return Ok(());
-        };
-        let flags = match waiting.ask {
-            Ask::Write { .. } => NEXT,
-            _ => NEXT | WRITE,
-        };
-        let place = buffer_of(self.area, chain.head) + SECTORS;
-        self.store_descriptor(mem, data, &descriptor(place, len, flags, chain.status))
+        let chain = &pending.chain;
+        let ask = &pending.ask;
+        let place = self.area + 16 * u64::from(chain.second());
+        let data = data_start(buffer_of(self.area, chain.head), ask);
+        let next = Some(chain.status);
+        mem.store_run(
+            self.memory,
+            place,
+            &descriptor(data, data_len(ask), is_read(ask), next),
+        )
     }
 
     fn store_status_descriptor<M: Shared>(
         &self,
         mem: &mut M,
-        waiting: &Waiting,
+        pending: &Pending,
     ) -> Result<(), Failed>
         requires { GuestLies (M.sizes mem.old) self.now }
-        ensures { (s : ℕ) → M.sizes mem.new s ≡ M.sizes mem.old s }
+        ensures stores { Stores (M.told mem.old) (M.told mem.new) result (store_at (ring_in self.now) self.now.avail_idx pending.now.ask (links_of pending.now.chain) StatusDescriptor) }
+        ensures trails { Trails (M.trail mem.old) (M.trail mem.new) result (store_at (ring_in self.now) self.now.avail_idx pending.now.ask (links_of pending.now.chain) StatusDescriptor) }
+        ensures sizes { (s : ℕ) → M.sizes mem.new s ≡ M.sizes mem.old s }
+        ensures cause { HasCause (M.faults mem.old) (M.faults mem.new) result }
     {
-        let chain = &waiting.chain;
-        let place = buffer_of(self.area, chain.head) + STATUS;
-        self.store_descriptor(mem, chain.status, &descriptor(place, 1, WRITE, 0))
+        let chain = &pending.chain;
+        let status = buffer_of(self.area, chain.head) + STATUS;
+        let place = self.area + 16 * u64::from(chain.status);
+        mem.store_run(self.memory, place, &descriptor(status, 1, true, None))
     }
 
-    fn make_store<M: Shared>(&self, mem: &mut M, waiting: &Waiting) -> Result<(), Failed>
+    fn store_entry<M: Shared>(&self, mem: &mut M, pending: &Pending) -> Result<(), Failed>
         requires { GuestLies (M.sizes mem.old) self.now }
-        ensures { (s : ℕ) → M.sizes mem.new s ≡ M.sizes mem.old s }
+        ensures stores { Stores (M.told mem.old) (M.told mem.new) result (store_at (ring_in self.now) self.now.avail_idx pending.now.ask (links_of pending.now.chain) AvailEntry) }
+        ensures trails { Trails (M.trail mem.old) (M.trail mem.new) result (store_at (ring_in self.now) self.now.avail_idx pending.now.ask (links_of pending.now.chain) AvailEntry) }
+        ensures sizes { (s : ℕ) → M.sizes mem.new s ≡ M.sizes mem.old s }
+        ensures cause { HasCause (M.faults mem.old) (M.faults mem.new) result }
     {
-        match waiting.stage {
-            Stage::Header => self.store_header(mem, waiting),
-            Stage::Sectors => self.store_sectors(mem, waiting),
-            Stage::Status => self.store_status(mem, waiting),
-            Stage::HeaderDescriptor => self.store_header_descriptor(mem, waiting),
-            Stage::DataDescriptor => self.store_data_descriptor(mem, waiting),
-            Stage::StatusDescriptor => self.store_status_descriptor(mem, waiting),
-            Stage::AvailEntry => {
-                let entry = u64::from(self.avail_idx % self.size);
-                let place = self.area + (AVAIL + 4 + 2 * entry);
-                mem.store2(self.memory, place, waiting.chain.head)
-            }
-            Stage::AvailIdx => {
-                let index = self.avail_idx.wrapping_add(1);
-                mem.store2(self.memory, self.area + (AVAIL + 2), index)
-            }
+        let entry = u64::from(self.avail_idx % self.size);
+        let place = self.area + AVAIL + (4 + 2 * entry);
+        mem.store2(self.memory, place, pending.chain.head)
+    }
+
+    fn store_index<M: Shared>(&self, mem: &mut M, pending: &Pending) -> Result<(), Failed>
+        requires { GuestLies (M.sizes mem.old) self.now }
+        ensures stores { Stores (M.told mem.old) (M.told mem.new) result (store_at (ring_in self.now) self.now.avail_idx pending.now.ask (links_of pending.now.chain) AvailIdx) }
+        ensures trails { Trails (M.trail mem.old) (M.trail mem.new) result (store_at (ring_in self.now) self.now.avail_idx pending.now.ask (links_of pending.now.chain) AvailIdx) }
+        ensures sizes { (s : ℕ) → M.sizes mem.new s ≡ M.sizes mem.old s }
+        ensures cause { HasCause (M.faults mem.old) (M.faults mem.new) result }
+    {
+        let index = self.avail_idx.wrapping_add(1);
+        mem.store2(self.memory, self.area + AVAIL + 2, index)
+    }
+
+    fn make_store<M: Shared>(&self, mem: &mut M, pending: &Pending) -> Result<(), Failed>
+        requires { GuestLies (M.sizes mem.old) self.now }
+        ensures stores { Stores (M.told mem.old) (M.told mem.new) result (store_at (ring_in self.now) self.now.avail_idx pending.now.ask (links_of pending.now.chain) pending.now.stage) }
+        ensures trails { Trails (M.trail mem.old) (M.trail mem.new) result (store_at (ring_in self.now) self.now.avail_idx pending.now.ask (links_of pending.now.chain) pending.now.stage) }
+        ensures sizes { (s : ℕ) → M.sizes mem.new s ≡ M.sizes mem.old s }
+        ensures cause { HasCause (M.faults mem.old) (M.faults mem.new) result }
+    {
+        match pending.stage {
+            Stage::Header => self.store_header(mem, pending),
+            Stage::Data => self.store_data(mem, pending),
+            Stage::Status => self.store_status(mem, pending),
+            Stage::HeaderDescriptor => self.store_header_descriptor(mem, pending),
+            Stage::DataDescriptor => self.store_data_descriptor(mem, pending),
+            Stage::StatusDescriptor => self.store_status_descriptor(mem, pending),
+            Stage::AvailEntry => self.store_entry(mem, pending),
+            Stage::AvailIdx => self.store_index(mem, pending),
         }
     }
 
@@ -358,12 +376,17 @@ impl Guest {
     fn advance(&mut self) -> GuestStep
         ensures memory { self.new.memory ≡ self.old.memory }
         ensures area { self.new.area ≡ self.old.area }
+        ensures driver { Steps result (driver_in self.old) (driver_in self.new) }
+        ensures outcome { outcome result ≡ Ok tt }
+        ensures ring { ring_in self.new ≡ ring_in self.old }
+        ensures position { seen_in self.new ≡ seen_in self.old }
     {
-        if let Some(waiting) = &mut self.waiting {
-            if let Some(stage) = waiting.next_stage() {
-                waiting.stage = stage;
-                return GuestStep::Stored;
-            }
+        let Some(pending) = &mut self.waiting else {
+            return GuestStep::Idle;
+        };
+        if let Some(stage) = pending.next_stage() {
+            pending.stage = stage;
+            return GuestStep::Stored;
         }
         self.avail_idx = self.avail_idx.wrapping_add(1);
         self.waiting = None;
@@ -375,43 +398,73 @@ impl Guest {
         requires { GuestLies (M.sizes mem.old) self.old }
         ensures sizes { (s : ℕ) → M.sizes mem.new s ≡ M.sizes mem.old s }
         ensures lies { GuestLies (M.sizes mem.new) self.new }
+        ensures driver { Steps result (driver_in self.old) (driver_in self.new) }
+        ensures stores { StoresNext (M.told mem.old) (M.told mem.new) result (next_store (driver_in self.old).waiting) }
+        ensures trails { TrailsNext (M.trail mem.old) (M.trail mem.new) result (next_store (driver_in self.old).waiting) }
+        ensures ring { ring_in self.new ≡ ring_in self.old }
+        ensures position { seen_in self.new ≡ seen_in self.old }
+        ensures cause { HasCause (M.faults mem.old) (M.faults mem.new) (outcome result) }
     {
-        let Some(waiting) = &self.waiting else {
+        let Some(pending) = &self.waiting else {
             return GuestStep::Idle;
         };
-        if self.make_store(mem, waiting).is_err() {
-            return GuestStep::Failed;
+        match self.make_store(mem, pending) {
+            Ok(()) => self.advance(),
+            Err(Failed) => GuestStep::Failed,
         }
-        self.advance()
     }
 
     /// The head in the next used element, if one is shown.
     fn next_shown<M: Shared>(&self, mem: &mut M) -> Result<Option<u16>, Failed>
         requires { GuestLies (M.sizes mem.old) self.now }
-        ensures { (s : ℕ) → M.sizes mem.new s ≡ M.sizes mem.old s }
+        ensures loaded { IfOk result (λ shown. WhereTold (M.told mem.old) (λ m. ShowsNext shown (ring_in self.now) m self.now.seen)) }
+        ensures told { M.told mem.new ≡ M.told mem.old }
+        ensures trail { M.trail mem.new ≡ M.trail mem.old }
+        ensures sizes { (s : ℕ) → M.sizes mem.new s ≡ M.sizes mem.old s }
+        ensures cause { HasCause (M.faults mem.old) (M.faults mem.new) result }
     {
-        if load_u16(mem, self.memory, self.area + (USED + 2))? == self.seen {
+        if load_u16(mem, self.memory, self.area + USED + 2)? == self.seen {
             return Ok(None);
         }
         let element = u64::from(self.seen % self.size);
-        let id = load_u32(mem, self.memory, self.area + (USED + 4 + 8 * element))?;
+        let id = load_u32(mem, self.memory, self.area + USED + (4 + 8 * element))?;
         Ok(Some((id & 0xffff) as u16))
     }
 
-    /// Frees the descriptors of an offered buffer.
-    fn free(&mut self, head: u16)
-        ensures memory { self.new.memory ≡ self.old.memory }
-        ensures area { self.new.area ≡ self.old.area }
+    /// Frees the descriptors that belong to a head.
+    fn free(owners: &mut [Option<u16>], head: u16)
+        ensures owners { (d : ℕ) → owner_at owners.new d ≡ without_owner head (owner_at owners.old) d }
+        ensures count { length owners.new ≡ length owners.old }
     {
-        if let Some(waiting) = &self.waiting {
-            if waiting.chain.head == head {
-                return;
+        for d in 0..owners.len() {
+            if owners[d] == Some(head) {
+                owners[d] = None;
             }
         }
-        for owner in self.owners.iter_mut() {
-            if *owner == Some(head) {
-                *owner = None;
-            }
+    }
+
+    /// Whether the request that waits has this head.
+    fn awaits(&self, head: u16) -> bool
+        ensures { result ≡ is_head head (driver_in self.now).waiting }
+    {
+        match &self.waiting {
+            Some(pending) => pending.chain.head == head,
+            None => false,
+        }
+    }
+
+    /// Goes on behind the element of a head, whose descriptors are free from then on if it names an
+    /// offered buffer.
+    fn take(&mut self, head: u16)
+        ensures memory { self.new.memory ≡ self.old.memory }
+        ensures area { self.new.area ≡ self.old.area }
+        ensures driver { driver_in self.new ≡ after_collect head (driver_in self.old) }
+        ensures ring { ring_in self.new ≡ ring_in self.old }
+        ensures position { seen_in self.new ≡ (seen_in self.old + 1) % 65536 }
+    {
+        self.seen = self.seen.wrapping_add(1);
+        if !self.awaits(head) {
+            Guest::free(&mut self.owners, head);
         }
     }
 
@@ -421,13 +474,18 @@ impl Guest {
         requires { GuestLies (M.sizes mem.old) self.old }
         ensures sizes { (s : ℕ) → M.sizes mem.new s ≡ M.sizes mem.old s }
         ensures lies { GuestLies (M.sizes mem.new) self.new }
+        ensures shown { WhereTold (M.told mem.old) (λ m. Shows result (ring_in self.old) m (seen_in self.old)) }
+        ensures driver { Collects result (driver_in self.old) (driver_in self.new) (seen_in self.old) (seen_in self.new) }
+        ensures ring { ring_in self.new ≡ ring_in self.old }
+        ensures told { M.told mem.new ≡ M.told mem.old }
+        ensures trail { M.trail mem.new ≡ M.trail mem.old }
+        ensures cause { HasCause (M.faults mem.old) (M.faults mem.new) (fetched result) }
     {
         match self.next_shown(mem) {
             Err(Failed) => Collected::Failed,
             Ok(None) => Collected::Nothing,
             Ok(Some(head)) => {
-                self.free(head);
-                self.seen = self.seen.wrapping_add(1);
+                self.take(head);
                 Collected::Head(head)
             }
         }
