@@ -1,7 +1,5 @@
-use Rattle.std.proofs.Common.{◌≡◌, ◌≢◌, ◌<◌, ◌≤◌, ℕ, zero, suc, ◌+◌, ◌-◌, ◌*◌, ◌%◌, Bool, true, false, List, [], ◌∷◌, ◌++◌, length, get_or, refl, ap, sym, ◌∙◌, subst, arith, append_assoc}
-use Rattle.std.proofs.lemmas.Grind.{common_steps}
+use Rattle.std.proofs.Common.{◌≡◌, ◌<◌, ◌≤◌, ℕ, suc, ◌+◌, ◌-◌, ◌%◌, Bool, true, false, List, [], ◌∷◌, ◌++◌, length, get_or, refl, ap, sym, ◌∙◌, subst, arith, append_assoc}
 use Rattle.std.proofs.lemmas.Bool.Decides.{nat_tests}
-use Rattle.std.specs.List.{flat_map}
 use Rattle.std.specs.Prelude.{nat_lt, is_none, is_some, if◌then◌else◌, take, drop, option_map, Result, Option, Some, None}
 use mathlib.Core.Path.{fun_ext}
 use Rattle.vub_driver.specs.Drivers.{Driver, Waiting, free_from, with_left, after_stores, after_ask, chosen, owned_by, first_or_zero, waits_on}
@@ -162,7 +160,7 @@ stores_from-whole r index ask l is =
 pub asked : (r : Ring) (index : ℕ) (old new : List (Option ℕ)) (ask same : Ask) (c : Chain) (waiting : Option Waiting) → same ≡ ask → Chooses old ask (Some c) → length old ≡ r.size
     → ((d : ℕ) → owner_at new d ≡ owned_by c.head (descriptors (links_of c)) (owner_at old) d)
     → let v : Driver = record { avail_idx = index; owner = owner_at new; waiting = Some (waiting_in r index (record { ask = same; chain = c; stage = Header })) } in
-      v ≡ after_ask r ask (record { avail_idx = index; owner = owner_at old; waiting = waiting })
+    v ≡ after_ask r ask (record { avail_idx = index; owner = owner_at old; waiting = waiting })
 asked r index old new ask same c waiting is chooses size owners =
     let old_driver : Driver = record { avail_idx = index; owner = owner_at old; waiting = waiting } in
     let l : Links = links_of c in

@@ -1,12 +1,12 @@
 -- The guest as the driver of a ring, and what its calls do with both.
-use Rattle.std.specs.Prelude.{◌≡◌, ◌≢◌, ◌<◌, ℕ, ◌+◌, ◌-◌, ◌%◌, Bool, true, false, nat_le, is_some, List, [], ◌∷◌, length, take, get_or, All, Option, Some, None, option_map, Result, Ok, Err, ⊤}
+use Rattle.std.specs.Prelude.{◌≡◌, ◌≢◌, ◌<◌, ℕ, ◌+◌, ◌-◌, ◌%◌, true, false, nat_le, is_some, List, [], ◌∷◌, length, take, get_or, All, Option, Some, None, option_map, Result, Ok, Err, ⊤}
 use Rattle.vub_base.specs.declared.request.Ask.{Ask}
 use Rattle.vub_shared.specs.Bytes.{Bytes}
 use Rattle.vub_shared.specs.Stores.{Store, Stores, Trails}
 use Rattle.vub_ring.specs.Ring.{Ring, used_idx, element_at}
 use Rattle.vub_driver.specs.Requests.{descriptors_needed, has_data}
 use Rattle.vub_driver.specs.Drivers.{Driver, Waiting, free_from, after_stores, after_collect}
-use Rattle.vub_world.specs.GuestStores.{Links, links_of, descriptors, stores_from}
+use Rattle.vub_world.specs.GuestStores.{links_of, descriptors, stores_from}
 use Rattle.vub_world.specs.declared.guest.Chain.{Chain}
 use Rattle.vub_world.specs.declared.guest.Pending.{Pending}
 use Rattle.vub_world.specs.declared.guest.Guest.{Guest}
