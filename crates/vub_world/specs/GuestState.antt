@@ -6,9 +6,10 @@ use Rattle.vub_shared.specs.Stores.{Store, Stores, Trails}
 use Rattle.vub_ring.specs.Ring.{Ring, used_idx, element_at}
 use Rattle.vub_driver.specs.Requests.{descriptors_needed, has_data}
 use Rattle.vub_driver.specs.Drivers.{Driver, Waiting, free_from, after_stores, after_collect}
-use Rattle.vub_world.specs.GuestStores.{links_of, descriptors, stores_from}
+use Rattle.vub_world.specs.GuestStores.{links_of, descriptors, store_at, stores_from}
 use Rattle.vub_world.specs.declared.guest.Chain.{Chain}
 use Rattle.vub_world.specs.declared.guest.Pending.{Pending}
+use Rattle.vub_world.specs.declared.guest.Stage.{Stage}
 use Rattle.vub_world.specs.declared.guest.Guest.{Guest}
 use Rattle.vub_world.specs.declared.guest.GuestStep.{GuestStep}
 use Rattle.vub_world.specs.declared.guest.GuestStep.TheVariants.{Idle, Stored, Offered, Failed}
@@ -29,6 +30,10 @@ waiting_in r index p = record { ask = p.ask; head = p.chain.head; left = stores_
 
 abbrev pub driver_in : Guest → Driver
 driver_in g = record { avail_idx = g.avail_idx; owner = owner_at g.owners.items; waiting = option_map (waiting_in (ring_in g) g.avail_idx) g.waiting }
+
+-- the store of a stage of a request that waits in it
+abbrev pub pending_store : Guest → Pending → Stage → Store
+pending_store g p stage = store_at (ring_in g) g.avail_idx p.ask (links_of p.chain) stage
 
 -- the index of the used element that it takes next
 abbrev pub seen_in : Guest → ℕ

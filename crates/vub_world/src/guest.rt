@@ -156,8 +156,7 @@ impl Guest {
     ghost use Rattle.vub_driver.specs.Drivers.{new_driver, can_take, after_ask, after_collect, is_head, without_owner};
     ghost use Rattle.vub_world.specs.declared.guest.Stage.TheVariants.{Header, Data, Status, HeaderDescriptor, DataDescriptor, StatusDescriptor, AvailEntry, AvailIdx};
     ghost use Rattle.vub_world.specs.Guest.{GuestLies};
-    ghost use Rattle.vub_world.specs.GuestStores.{links_of, store_at};
-    ghost use Rattle.vub_world.specs.GuestState.{ring_in, driver_in, seen_in, owner_at, FindsFree, Chooses, StoresNext, TrailsNext, Steps, outcome, next_store, Shows, ShowsNext, Collects, fetched};
+    ghost use Rattle.vub_world.specs.GuestState.{ring_in, driver_in, pending_store, seen_in, owner_at, FindsFree, Chooses, StoresNext, TrailsNext, Steps, outcome, next_store, Shows, ShowsNext, Collects, fetched};
 
     /// The driver of a queue whose area lies in this space.
     pub fn new(alloc: Global, header: &Header1, queue: u16, memory: Space) -> Result<Guest, Memory>
@@ -244,8 +243,8 @@ impl Guest {
 
     fn store_header<M: Shared>(&self, mem: &mut M, pending: &Pending) -> Result<(), Failed>
         requires { GuestLies (M.sizes mem.old) self.now }
-        ensures stores { Stores (M.told mem.old) (M.told mem.new) result (store_at (ring_in self.now) self.now.avail_idx pending.now.ask (links_of pending.now.chain) Header) }
-        ensures trails { Trails (M.trail mem.old) (M.trail mem.new) result (store_at (ring_in self.now) self.now.avail_idx pending.now.ask (links_of pending.now.chain) Header) }
+        ensures stores { Stores (M.told mem.old) (M.told mem.new) result (pending_store self.now pending.now Header) }
+        ensures trails { Trails (M.trail mem.old) (M.trail mem.new) result (pending_store self.now pending.now Header) }
         ensures sizes { (s : ℕ) → M.sizes mem.new s ≡ M.sizes mem.old s }
         ensures cause { HasCause (M.faults mem.old) (M.faults mem.new) result }
     {
@@ -255,8 +254,8 @@ impl Guest {
 
     fn store_data<M: Shared>(&self, mem: &mut M, pending: &Pending) -> Result<(), Failed>
         requires { GuestLies (M.sizes mem.old) self.now }
-        ensures stores { Stores (M.told mem.old) (M.told mem.new) result (store_at (ring_in self.now) self.now.avail_idx pending.now.ask (links_of pending.now.chain) Data) }
-        ensures trails { Trails (M.trail mem.old) (M.trail mem.new) result (store_at (ring_in self.now) self.now.avail_idx pending.now.ask (links_of pending.now.chain) Data) }
+        ensures stores { Stores (M.told mem.old) (M.told mem.new) result (pending_store self.now pending.now Data) }
+        ensures trails { Trails (M.trail mem.old) (M.trail mem.new) result (pending_store self.now pending.now Data) }
         ensures sizes { (s : ℕ) → M.sizes mem.new s ≡ M.sizes mem.old s }
         ensures cause { HasCause (M.faults mem.old) (M.faults mem.new) result }
     {
@@ -267,8 +266,8 @@ impl Guest {
 
     fn store_status<M: Shared>(&self, mem: &mut M, pending: &Pending) -> Result<(), Failed>
         requires { GuestLies (M.sizes mem.old) self.now }
-        ensures stores { Stores (M.told mem.old) (M.told mem.new) result (store_at (ring_in self.now) self.now.avail_idx pending.now.ask (links_of pending.now.chain) Status) }
-        ensures trails { Trails (M.trail mem.old) (M.trail mem.new) result (store_at (ring_in self.now) self.now.avail_idx pending.now.ask (links_of pending.now.chain) Status) }
+        ensures stores { Stores (M.told mem.old) (M.told mem.new) result (pending_store self.now pending.now Status) }
+        ensures trails { Trails (M.trail mem.old) (M.trail mem.new) result (pending_store self.now pending.now Status) }
         ensures sizes { (s : ℕ) → M.sizes mem.new s ≡ M.sizes mem.old s }
         ensures cause { HasCause (M.faults mem.old) (M.faults mem.new) result }
     {
@@ -282,8 +281,8 @@ impl Guest {
         pending: &Pending,
     ) -> Result<(), Failed>
         requires { GuestLies (M.sizes mem.old) self.now }
-        ensures stores { Stores (M.told mem.old) (M.told mem.new) result (store_at (ring_in self.now) self.now.avail_idx pending.now.ask (links_of pending.now.chain) HeaderDescriptor) }
-        ensures trails { Trails (M.trail mem.old) (M.trail mem.new) result (store_at (ring_in self.now) self.now.avail_idx pending.now.ask (links_of pending.now.chain) HeaderDescriptor) }
+        ensures stores { Stores (M.told mem.old) (M.told mem.new) result (pending_store self.now pending.now HeaderDescriptor) }
+        ensures trails { Trails (M.trail mem.old) (M.trail mem.new) result (pending_store self.now pending.now HeaderDescriptor) }
         ensures sizes { (s : ℕ) → M.sizes mem.new s ≡ M.sizes mem.old s }
         ensures cause { HasCause (M.faults mem.old) (M.faults mem.new) result }
     {
@@ -296,8 +295,8 @@ impl Guest {
 
     fn store_data_descriptor<M: Shared>(&self, mem: &mut M, pending: &Pending) -> Result<(), Failed>
         requires { GuestLies (M.sizes mem.old) self.now }
-        ensures stores { Stores (M.told mem.old) (M.told mem.new) result (store_at (ring_in self.now) self.now.avail_idx pending.now.ask (links_of pending.now.chain) DataDescriptor) }
-        ensures trails { Trails (M.trail mem.old) (M.trail mem.new) result (store_at (ring_in self.now) self.now.avail_idx pending.now.ask (links_of pending.now.chain) DataDescriptor) }
+        ensures stores { Stores (M.told mem.old) (M.told mem.new) result (pending_store self.now pending.now DataDescriptor) }
+        ensures trails { Trails (M.trail mem.old) (M.trail mem.new) result (pending_store self.now pending.now DataDescriptor) }
         ensures sizes { (s : ℕ) → M.sizes mem.new s ≡ M.sizes mem.old s }
         ensures cause { HasCause (M.faults mem.old) (M.faults mem.new) result }
     {
@@ -319,8 +318,8 @@ impl Guest {
         pending: &Pending,
     ) -> Result<(), Failed>
         requires { GuestLies (M.sizes mem.old) self.now }
-        ensures stores { Stores (M.told mem.old) (M.told mem.new) result (store_at (ring_in self.now) self.now.avail_idx pending.now.ask (links_of pending.now.chain) StatusDescriptor) }
-        ensures trails { Trails (M.trail mem.old) (M.trail mem.new) result (store_at (ring_in self.now) self.now.avail_idx pending.now.ask (links_of pending.now.chain) StatusDescriptor) }
+        ensures stores { Stores (M.told mem.old) (M.told mem.new) result (pending_store self.now pending.now StatusDescriptor) }
+        ensures trails { Trails (M.trail mem.old) (M.trail mem.new) result (pending_store self.now pending.now StatusDescriptor) }
         ensures sizes { (s : ℕ) → M.sizes mem.new s ≡ M.sizes mem.old s }
         ensures cause { HasCause (M.faults mem.old) (M.faults mem.new) result }
     {
@@ -332,8 +331,8 @@ impl Guest {
 
     fn store_entry<M: Shared>(&self, mem: &mut M, pending: &Pending) -> Result<(), Failed>
         requires { GuestLies (M.sizes mem.old) self.now }
-        ensures stores { Stores (M.told mem.old) (M.told mem.new) result (store_at (ring_in self.now) self.now.avail_idx pending.now.ask (links_of pending.now.chain) AvailEntry) }
-        ensures trails { Trails (M.trail mem.old) (M.trail mem.new) result (store_at (ring_in self.now) self.now.avail_idx pending.now.ask (links_of pending.now.chain) AvailEntry) }
+        ensures stores { Stores (M.told mem.old) (M.told mem.new) result (pending_store self.now pending.now AvailEntry) }
+        ensures trails { Trails (M.trail mem.old) (M.trail mem.new) result (pending_store self.now pending.now AvailEntry) }
         ensures sizes { (s : ℕ) → M.sizes mem.new s ≡ M.sizes mem.old s }
         ensures cause { HasCause (M.faults mem.old) (M.faults mem.new) result }
     {
@@ -344,8 +343,8 @@ impl Guest {
 
     fn store_index<M: Shared>(&self, mem: &mut M, pending: &Pending) -> Result<(), Failed>
         requires { GuestLies (M.sizes mem.old) self.now }
-        ensures stores { Stores (M.told mem.old) (M.told mem.new) result (store_at (ring_in self.now) self.now.avail_idx pending.now.ask (links_of pending.now.chain) AvailIdx) }
-        ensures trails { Trails (M.trail mem.old) (M.trail mem.new) result (store_at (ring_in self.now) self.now.avail_idx pending.now.ask (links_of pending.now.chain) AvailIdx) }
+        ensures stores { Stores (M.told mem.old) (M.told mem.new) result (pending_store self.now pending.now AvailIdx) }
+        ensures trails { Trails (M.trail mem.old) (M.trail mem.new) result (pending_store self.now pending.now AvailIdx) }
         ensures sizes { (s : ℕ) → M.sizes mem.new s ≡ M.sizes mem.old s }
         ensures cause { HasCause (M.faults mem.old) (M.faults mem.new) result }
     {
@@ -355,8 +354,8 @@ impl Guest {
 
     fn make_store<M: Shared>(&self, mem: &mut M, pending: &Pending) -> Result<(), Failed>
         requires { GuestLies (M.sizes mem.old) self.now }
-        ensures stores { Stores (M.told mem.old) (M.told mem.new) result (store_at (ring_in self.now) self.now.avail_idx pending.now.ask (links_of pending.now.chain) pending.now.stage) }
-        ensures trails { Trails (M.trail mem.old) (M.trail mem.new) result (store_at (ring_in self.now) self.now.avail_idx pending.now.ask (links_of pending.now.chain) pending.now.stage) }
+        ensures stores { Stores (M.told mem.old) (M.told mem.new) result (pending_store self.now pending.now pending.now.stage) }
+        ensures trails { Trails (M.trail mem.old) (M.trail mem.new) result (pending_store self.now pending.now pending.now.stage) }
         ensures sizes { (s : ℕ) → M.sizes mem.new s ≡ M.sizes mem.old s }
         ensures cause { HasCause (M.faults mem.old) (M.faults mem.new) result }
     {
