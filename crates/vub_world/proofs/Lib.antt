@@ -1,3 +1,4 @@
+pub mod ChainLemmas
 pub mod GuestLemmas
 pub mod MachineLemmas
 pub mod RecordTextLemmas

@@ -1,12 +1,13 @@
 -- The guest as the driver of a ring, and what its calls do with both.
-use Rattle.std.specs.Prelude.{◌≡◌, ◌≢◌, ◌<◌, ℕ, ◌+◌, ◌-◌, ◌%◌, true, false, nat_le, is_some, List, [], ◌∷◌, length, take, get_or, All, Option, Some, None, option_map, Result, Ok, Err, ⊤}
+use Rattle.std.specs.Prelude.{◌≡◌, ◌≢◌, ◌<◌, ℕ, ◌+◌, ◌-◌, ◌%◌, Bool, true, false, not, nat_le, is_some, List, [], ◌∷◌, length, take, get_or, All, Option, Some, None, option_map, Result, Ok, Err, ⊤}
 use Rattle.vub_base.specs.declared.request.Ask.{Ask}
 use Rattle.vub_shared.specs.Bytes.{Bytes}
 use Rattle.vub_shared.specs.Stores.{Store, Stores, Trails}
 use Rattle.vub_ring.specs.Ring.{Ring, used_idx, element_at}
 use Rattle.vub_driver.specs.Requests.{descriptors_needed, has_data}
-use Rattle.vub_driver.specs.Drivers.{Driver, Waiting, free_from, after_stores, after_collect}
-use Rattle.vub_world.specs.GuestStores.{links_of, descriptors, store_at, stores_from}
+use Rattle.vub_driver.specs.Drivers.{Driver, Waiting, free_from, after_stores, after_collect, is_head}
+use Rattle.vub_world.specs.GuestChain.{descriptors}
+use Rattle.vub_world.specs.GuestStores.{links_of, store_at, stores_from}
 use Rattle.vub_world.specs.declared.guest.Chain.{Chain}
 use Rattle.vub_world.specs.declared.guest.Pending.{Pending}
 use Rattle.vub_world.specs.declared.guest.Stage.{Stage}
@@ -38,6 +39,15 @@ pending_store g p stage = store_at (ring_in g) g.avail_idx p.ask (links_of p.cha
 -- the index of the used element that it takes next
 abbrev pub seen_in : Guest → ℕ
 seen_in g = g.seen
+
+-- whether a request that is offered and not collected has this head
+abbrev pub is_outstanding : Option Waiting → Option ℕ → Bool
+is_outstanding waiting None = false
+is_outstanding waiting (Some head) = not (is_head head waiting)
+
+-- whether a descriptor belongs to such a request
+abbrev pub is_busy : Driver → ℕ → Bool
+is_busy v d = is_outstanding v.waiting (v.owner d)
 
 -- ---- a step
 

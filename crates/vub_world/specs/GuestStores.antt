@@ -1,36 +1,20 @@
 -- The stores of a request that waits, stage by stage.
-use Rattle.std.specs.Prelude.{ℕ, ◌+◌, ◌%◌, nat_lt, is_some, unwrap_or, if◌then◌else◌, List, [], ◌∷◌, length, Option, Some, None}
+use Rattle.std.specs.Prelude.{ℕ, ◌+◌, ◌%◌, nat_lt, is_some, if◌then◌else◌, List, [], ◌∷◌, length, Option, Some, None}
 use Rattle.byteorder.specs.Endian.{little_bytes}
 use Rattle.vub_base.specs.declared.request.Ask.{Ask}
 use Rattle.vub_shared.specs.Stores.{Store, one_store}
 use Rattle.vub_ring.specs.Ring.{Ring, desc_place, avail_entry_place, avail_idx_place}
 use Rattle.vub_driver.specs.Layout.{buffer_place, status_place}
 use Rattle.vub_driver.specs.Requests.{header_bytes, written_bytes, data_place, readable_piece, writable_piece}
+use Rattle.vub_world.specs.GuestChain.{Links, second}
 use Rattle.vub_world.specs.GuestRequest.{data_piece, table_entry}
 use Rattle.vub_world.specs.declared.guest.Chain.{Chain}
 use Rattle.vub_world.specs.declared.guest.Stage.{Stage}
 use Rattle.vub_world.specs.declared.guest.Stage.TheVariants.{Header, Data, Status, HeaderDescriptor, DataDescriptor, StatusDescriptor, AvailEntry, AvailIdx}
 
--- the descriptors of a request: of its header, of its body of data if it has any, and of its status
-pub record Links : Type 0 where
-  pub head : ℕ
-  pub body : Option ℕ
-  pub status : ℕ
-
+-- the descriptors of a chain
 abbrev pub links_of : Chain → Links
 links_of c = record { head = c.head; body = c.body; status = c.status }
-
--- the descriptor after the first
-abbrev pub second : Links → ℕ
-second l = unwrap_or l.body l.status
-
--- all of them, in order
-abbrev pub after_head : Option ℕ → ℕ → List ℕ
-after_head None status = status ∷ []
-after_head (Some d) status = d ∷ status ∷ []
-
-abbrev pub descriptors : Links → List ℕ
-descriptors l = l.head ∷ after_head l.body l.status
 
 abbrev pub buffer_of : Ring → Links → ℕ
 buffer_of r l = buffer_place r.desc l.head

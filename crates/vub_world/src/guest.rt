@@ -2,6 +2,7 @@
 //! the used elements (VIRTIO 1.2, 2.7.13 and 2.7.14).
 ghost use Rattle.std.specs.Prelude.{◌≡◌, ◌<◌, ◌≤◌, ◌+◌, ◌*◌, ◌%◌, ◌^◌, ℕ, length, map, Some, IfOk, IfSome};
 ghost use Rattle.std.specs.Option.{ForSome};
+ghost use Rattle.vub_world.specs.GuestChain.{IsOwned};
 
 mod request;
 
@@ -70,7 +71,8 @@ struct Pending {
 impl Chain {
     ghost use Rattle.std.specs.Prelude.{All};
     ghost use Rattle.vub_driver.specs.Drivers.{owned_by};
-    ghost use Rattle.vub_world.specs.GuestStores.{links_of, descriptors, second};
+    ghost use Rattle.vub_world.specs.GuestChain.{descriptors, second};
+    ghost use Rattle.vub_world.specs.GuestStores.{links_of};
     ghost use Rattle.vub_world.specs.GuestState.{owner_at};
 
     /// The descriptor after the first.
@@ -145,6 +147,7 @@ pub struct Guest {
     ghost near: { area < 2 ^ 40 },
     ghost aligned: { area % 16 ≡ 0 },
     ghost owned: { length owners.items ≡ size },
+    ghost waits: { ForSome waiting (λ p. IsOwned owners.items (record { head = p.chain.head; body = p.chain.body; status = p.chain.status })) },
 }
 
 impl Guest {
@@ -152,11 +155,14 @@ impl Guest {
     ghost use Rattle.vub_base.specs.Causes.{HasCause};
     ghost use Rattle.vub_base.specs.Told.{WhereTold};
     ghost use Rattle.vub_shared.specs.Stores.{Stores, Trails};
+    ghost use Rattle.vub_ring.specs.Ring.{avail_idx};
     ghost use Rattle.vub_driver.specs.Layout.{ring_of};
+    ghost use Rattle.vub_driver.specs.Lawful.{IsLawful};
+    ghost use Rattle.vub_driver.specs.Requests.{written_bytes};
     ghost use Rattle.vub_driver.specs.Drivers.{new_driver, can_take, after_ask, after_collect, is_head, without_owner};
     ghost use Rattle.vub_world.specs.declared.guest.Stage.TheVariants.{Header, Data, Status, HeaderDescriptor, DataDescriptor, StatusDescriptor, AvailEntry, AvailIdx};
     ghost use Rattle.vub_world.specs.Guest.{GuestLies};
-    ghost use Rattle.vub_world.specs.GuestState.{ring_in, driver_in, pending_store, seen_in, owner_at, FindsFree, Chooses, StoresNext, TrailsNext, Steps, outcome, next_store, Shows, ShowsNext, Collects, fetched};
+    ghost use Rattle.vub_world.specs.GuestState.{ring_in, driver_in, pending_store, seen_in, is_busy, owner_at, FindsFree, Chooses, StoresNext, TrailsNext, Steps, outcome, next_store, Shows, ShowsNext, Collects, fetched};
 
     /// The driver of a queue whose area lies in this space.
     pub fn new(alloc: Global, header: &Header1, queue: u16, memory: Space) -> Result<Guest, Memory>
@@ -256,6 +262,7 @@ impl Guest {
         requires { GuestLies (M.sizes mem.old) self.now }
         ensures stores { Stores (M.told mem.old) (M.told mem.new) result (pending_store self.now pending.now Data) }
         ensures trails { Trails (M.trail mem.old) (M.trail mem.new) result (pending_store self.now pending.now Data) }
+        ensures small { length (written_bytes pending.now.ask) ≤ 4096 }
         ensures sizes { (s : ℕ) → M.sizes mem.new s ≡ M.sizes mem.old s }
         ensures cause { HasCause (M.faults mem.old) (M.faults mem.new) result }
     {
@@ -356,6 +363,7 @@ impl Guest {
         requires { GuestLies (M.sizes mem.old) self.now }
         ensures stores { Stores (M.told mem.old) (M.told mem.new) result (pending_store self.now pending.now pending.now.stage) }
         ensures trails { Trails (M.trail mem.old) (M.trail mem.new) result (pending_store self.now pending.now pending.now.stage) }
+        ensures small { pending.now.stage ≡ Data → length (written_bytes pending.now.ask) ≤ 4096 }
         ensures sizes { (s : ℕ) → M.sizes mem.new s ≡ M.sizes mem.old s }
         ensures cause { HasCause (M.faults mem.old) (M.faults mem.new) result }
     {
@@ -400,6 +408,7 @@ impl Guest {
         ensures driver { Steps result (driver_in self.old) (driver_in self.new) }
         ensures stores { StoresNext (M.told mem.old) (M.told mem.new) result (next_store (driver_in self.old).waiting) }
         ensures trails { TrailsNext (M.trail mem.old) (M.trail mem.new) result (next_store (driver_in self.old).waiting) }
+        ensures lawful { WhereTold (M.told mem.old) (λ m. avail_idx (ring_in self.old) m ≡ (driver_in self.old).avail_idx → IfSome (next_store (driver_in self.old).waiting) (IsLawful (ring_in self.old) (is_busy (driver_in self.old)) m)) }
         ensures ring { ring_in self.new ≡ ring_in self.old }
         ensures position { seen_in self.new ≡ seen_in self.old }
         ensures cause { HasCause (M.faults mem.old) (M.faults mem.new) (outcome result) }
