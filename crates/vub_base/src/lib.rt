@@ -15,6 +15,8 @@ mod ring_fault;
 mod sink;
 mod source;
 mod store;
+#[cfg(test)]
+mod tests;
 
 pub use bell::Bell;
 pub use bytes::Bytes;

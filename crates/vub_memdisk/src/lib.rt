@@ -2,5 +2,7 @@
 #![tactic(auto)]
 
 mod mem_disk;
+#[cfg(test)]
+mod tests;
 
 pub use mem_disk::MemDisk;

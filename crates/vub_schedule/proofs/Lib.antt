@@ -1,0 +1,5 @@
+pub mod Digits
+pub mod Fields
+pub mod Lines
+pub mod Texts
+pub mod FirstBad

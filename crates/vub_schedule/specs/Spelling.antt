@@ -46,7 +46,7 @@ mode_text ReadOnly = codes "ro"
 abbrev pub header_numbers : Header1 → List ℕ
 header_numbers h = decimal h.queues ++ codes " " ++ decimal h.size ++ codes " " ++ decimal h.capacity ++ codes " " ++ decimal h.base
 
--- the words of a header
+-- the words of a header: format, numbers and mode
 unfoldable pub header_text : Header1 → List ℕ
 header_text h = format_text h.format ++ codes " " ++ header_numbers h ++ codes " " ++ mode_text h.mode
 
@@ -63,7 +63,7 @@ shape_text Indirect = codes "i"
 abbrev pub part_text : Part → List ℕ
 part_text p = decimal p.sector ++ codes ":" ++ decimal p.count ++ codes ":" ++ decimal p.flags
 
--- a write has the byte that fills each of its sectors
+-- a request: its word, and then its sector and count, the bytes that fill its sectors, or its parts
 unfoldable pub ask_text : Ask → List ℕ
 ask_text (Read s n) = codes "read " ++ decimal s ++ codes " " ++ decimal n
 ask_text (Write s fills) = codes "write " ++ decimal s ++ codes " " ++ commas hex_pair fills.items
@@ -74,6 +74,7 @@ ask_text (Zero parts) = codes "zero " ++ commas part_text parts.items
 
 -- ---- events
 
+-- an event: its word, and then its numbers and words
 unfoldable pub event_text : Event → List ℕ
 event_text (events.Ask q shape ask) = codes "ask " ++ decimal q ++ codes " " ++ shape_text shape ++ codes " " ++ ask_text ask
 event_text (events.Guest q k) = codes "guest " ++ decimal q ++ codes " " ++ decimal k
@@ -95,7 +96,7 @@ spelling s = header_line s.header ++ flat_map event_line s.events
 abbrev pub is_size : ℕ → Bool
 is_size n = (n == 2) || (n == 4) || (n == 8) || (n == 16) || (n == 32) || (n == 64)
 
--- one split queue that begins at index 0, before 1 to 4096 sectors that are written back
+-- one split queue that begins at index 0, and a disk of 1 to 4096 sectors whose writes may be cached
 pub record IsHeader (h : Header1) : Type 0 where
   pub split : h.format ≡ Split
   pub one : h.queues ≡ 1
@@ -114,7 +115,7 @@ IsAsk h Id = ⊥
 IsAsk h (Discard parts) = ⊥
 IsAsk h (Zero parts) = ⊥
 
--- events on queue 0, requests placed in the ring, and all 16 stores of the driver at once
+-- on queue 0, with requests placed in the ring and the driver's stores by up to 16
 abbrev pub IsEvent : Header1 → Event → Type 0
 IsEvent h (events.Ask q shape ask) = (q ≡ 0) × (shape ≡ Direct) × IsAsk h ask
 IsEvent h (events.Guest q k) = (q ≡ 0) × (k ≡ 16)
@@ -123,6 +124,11 @@ IsEvent h events.Boot = Unit {0}
 IsEvent h events.Join = Unit {0}
 IsEvent h (events.Drain q) = q ≡ 0
 
+-- its header and each of its events are of the grammar
 pub record IsSchedule (s : Schedule) : Type 0 where
   pub header : IsHeader s.header
   pub events : AllByRecursion (IsEvent s.header) s.events
+
+-- the bytes are the text of a schedule of the grammar
+abbrev pub IsText : List ℕ → Type 0
+IsText bytes = (s : Schedule) × IsSchedule s × (bytes ≡ spelling s)

@@ -3,21 +3,22 @@ ghost use Rattle.std.specs.Prelude.{◌≡◌, IfOk};
 use std::marker::Model;
 use vub_base::{Ask, Header1, Memory, Shape};
 
-/// One step of a schedule. The first number of an event that has numbers is that of its queue,
+/// One step of a schedule, a line of its text. The first number of an event is that of its queue,
 /// from 0.
 #[derive(Clone, Debug, Drop, PartialEq, Eq)]
 pub enum Event {
-    /// Gives the driver of a queue a request, whose descriptors are placed by the shape.
+    /// `ask`: gives the driver a request, whose descriptors are placed by the shape.
     Ask(u16, Shape, Ask),
-    /// The driver's next so many stores, or all that are left.
+    /// `guest`: the driver's next stores, as many as the second number says, or all that are left.
     Guest(u16, u16),
-    /// The driver takes the next element that the device has shown it.
+    /// `collect`: the driver takes the next element that the device has shown it in the used ring
+    /// (VIRTIO 1.2, 2.7.8).
     Collect(u16),
-    /// Begins a life of the device, and the front end's script with it.
+    /// `boot`: a life of the device begins, and with it the front end's script of messages.
     Boot,
-    /// Hands on all messages of the front end's script.
+    /// `join`: hands on all messages of the script.
     Join,
-    /// The device serves a queue until it is idle.
+    /// `drain`: the device serves the queue until nothing waits there.
     Drain(u16),
 }
 
@@ -61,7 +62,7 @@ impl Events {
     }
 }
 
-/// What is set up, and what then happens to it step by step.
+/// What is set up, the first line of the text, and the events that follow it.
 #[derive(Debug, Drop)]
 pub struct Schedule {
     pub header: Header1,

@@ -1,4 +1,6 @@
-//! Schedules as text. Each call appends one piece of a text to a vector.
+//! Schedules as text. Each `put` appends one piece of a text to a vector. The pieces are spelled for
+//! all values of their types, whether the grammar has them yet or not. After want of memory no clause
+//! says what the vector holds: let it go.
 ghost use Rattle.std.specs.Prelude.{◌≡◌, ◌++◌, ◌∷◌, ◌<◌, false, length, codes, OnOk, IfOk};
 ghost use Rattle.std.specs.Fmt.{decimal, digit_glyph};
 ghost use Rattle.std.specs.List.{flat_map};
@@ -24,6 +26,7 @@ pub fn put_number(out: &mut Vec<u8>, number: u64) -> Result<(), Memory>
     put_text(out, buffer.format(number).as_bytes())
 }
 
+/// A lower-case hexadecimal digit.
 fn hex_digit(value: u8) -> u8
     requires { value < 16 }
     ensures { result ≡ digit_glyph false value }
@@ -42,6 +45,7 @@ pub fn put_byte_pair(out: &mut Vec<u8>, byte: u8) -> Result<(), Memory>
     put_text(out, &[hex_digit(byte / 16), hex_digit(byte % 16)])
 }
 
+/// Fill bytes, with a comma before each.
 fn put_more_fills(out: &mut Vec<u8>, fills: &[u8]) -> Result<(), Memory>
     ensures { OnOk result (out.new.items ≡ out.old.items ++ flat_map (λ b. 44 ∷ hex_pair b) fills.now) }
 {
@@ -52,6 +56,7 @@ fn put_more_fills(out: &mut Vec<u8>, fills: &[u8]) -> Result<(), Memory>
     Ok(())
 }
 
+/// The fill bytes of a write, with commas between them.
 fn put_fills(out: &mut Vec<u8>, fills: &[u8]) -> Result<(), Memory>
     ensures { OnOk result (out.new.items ≡ out.old.items ++ commas hex_pair fills.now) }
 {
@@ -64,6 +69,7 @@ fn put_fills(out: &mut Vec<u8>, fills: &[u8]) -> Result<(), Memory>
     }
 }
 
+/// A part of a discard or a zeroing: its sector, count and flags.
 fn put_part(out: &mut Vec<u8>, part: &Part) -> Result<(), Memory>
     ensures { OnOk result (out.new.items ≡ out.old.items ++ part_text part.now) }
 {
@@ -74,6 +80,7 @@ fn put_part(out: &mut Vec<u8>, part: &Part) -> Result<(), Memory>
     put_number(out, u64::from(part.flags))
 }
 
+/// Parts, with a comma before each.
 fn put_more_parts(out: &mut Vec<u8>, parts: &[Part]) -> Result<(), Memory>
     ensures { OnOk result (out.new.items ≡ out.old.items ++ flat_map (λ p. 44 ∷ part_text p) parts.now) }
 {
@@ -84,6 +91,7 @@ fn put_more_parts(out: &mut Vec<u8>, parts: &[Part]) -> Result<(), Memory>
     Ok(())
 }
 
+/// The parts of a discard or a zeroing, with commas between them.
 pub fn put_parts(out: &mut Vec<u8>, parts: &[Part]) -> Result<(), Memory>
     ensures { OnOk result (out.new.items ≡ out.old.items ++ commas part_text parts.now) }
 {
@@ -96,7 +104,7 @@ pub fn put_parts(out: &mut Vec<u8>, parts: &[Part]) -> Result<(), Memory>
     }
 }
 
-/// A request: its word, and then what it is about.
+/// A request: its word, and then its sectors, fill bytes or parts.
 #[tactic(auto, unfolding(crate::specs::Spelling::ask_text))]
 pub fn put_ask(out: &mut Vec<u8>, ask: &Ask) -> Result<(), Memory>
     ensures { OnOk result (out.new.items ≡ out.old.items ++ ask_text ask.now) }
@@ -136,7 +144,7 @@ fn shape_word(shape: Shape) -> &'static [u8]
     }
 }
 
-/// An event and the end of its line.
+/// The whole line of an event, its newline included.
 #[tactic(auto, unfolding(crate::specs::Spelling::event_line, crate::specs::Spelling::event_text))]
 pub fn put_event(out: &mut Vec<u8>, event: &Event) -> Result<(), Memory>
     ensures { OnOk result (out.new.items ≡ out.old.items ++ event_line event.now) }
@@ -189,7 +197,7 @@ fn mode_word(mode: CacheMode) -> &'static [u8]
     }
 }
 
-// The numbers of a header between the words of its format and its mode.
+/// The numbers of a header between the words of its format and its mode.
 fn put_header_numbers(out: &mut Vec<u8>, header: &Header1) -> Result<(), Memory>
     ensures { OnOk result (out.new.items ≡ out.old.items ++ header_numbers header.now) }
 {
@@ -202,6 +210,7 @@ fn put_header_numbers(out: &mut Vec<u8>, header: &Header1) -> Result<(), Memory>
     put_number(out, u64::from(header.base))
 }
 
+/// The words of a header, without the end of its line.
 #[tactic(auto, unfolding(crate::specs::Spelling::header_text))]
 fn put_header_words(out: &mut Vec<u8>, header: &Header1) -> Result<(), Memory>
     ensures { OnOk result (out.new.items ≡ out.old.items ++ header_text header.now) }
@@ -213,7 +222,8 @@ fn put_header_words(out: &mut Vec<u8>, header: &Header1) -> Result<(), Memory>
     put_text(out, mode_word(header.mode))
 }
 
-/// The front of a line, then the words of a header, and the end of the line.
+/// A whole line: its front, then the words of the header, and its newline. The front of a schedule is
+/// `vub 1 `.
 pub fn put_header(out: &mut Vec<u8>, front: &[u8], header: &Header1) -> Result<(), Memory>
     ensures { OnOk result (out.new.items ≡ out.old.items ++ (front.now ++ line (header_text header.now))) }
 {
@@ -222,6 +232,7 @@ pub fn put_header(out: &mut Vec<u8>, front: &[u8], header: &Header1) -> Result<(
     put_text(out, b"\n")
 }
 
+/// A line for each event.
 fn put_events(out: &mut Vec<u8>, events: &[Event]) -> Result<(), Memory>
     ensures { OnOk result (out.new.items ≡ out.old.items ++ flat_map event_line events.now) }
 {
@@ -234,7 +245,7 @@ fn put_events(out: &mut Vec<u8>, events: &[Event]) -> Result<(), Memory>
 /// The whole text of a schedule: the line of its header, and a line for each event.
 #[tactic(auto, unfolding(crate::specs::Spelling::spelling, crate::specs::Spelling::header_line))]
 pub fn write_schedule(alloc: Global, schedule: &Schedule) -> Result<Vec<u8>, Memory>
-    // The text is the spelling of the schedule, whatever the schedule.
+    // It is the spelling of the schedule, which need not be of the grammar.
     ensures spelled { IfOk result (λ out. out.items ≡ spelling schedule.now) }
 {
     let mut out = Vec::new(alloc);

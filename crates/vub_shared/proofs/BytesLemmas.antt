@@ -5,12 +5,12 @@ use Rattle.std.specs.Int.{bytes_low_first}
 use Rattle.byteorder.specs.Endian.{little_from, little_bytes}
 use Rattle.byteorder.specs.Numbers.{little_number-reads_back, length-bytes_low_first}
 use Rattle.std.proofs.lemmas.List.{append-nil}
-use Rattle.std.proofs.Common.{[], ◌∷◌, ◌++◌, add-zero}
+use Rattle.std.proofs.Common.{[], ◌∷◌, ◌++◌, add-zero, ◌≢◌, subst}
 use Rattle.std.proofs.Common.{◌/◌, ◌%◌, take, zero-add}
 use Rattle.std.specs.Int.{byte_at}
 use Rattle.byteorder.specs.Numbers.{little_from-take, little_from-bytes}
 use Rattle.byteorder.proofs.Bytes.{take-bytes_low_first}
-use Rattle.vub_shared.specs.Bytes.{Bytes, put, word, Apart}
+use Rattle.vub_shared.specs.Bytes.{Bytes, put, word, Apart, cleared}
 use Rattle.vub_shared.specs.Bytes.{bytes_from}
 use Rattle.byteorder.specs.Numbers.{little_from-cons}
 
@@ -107,3 +107,58 @@ four_words m s p a b c d ha hb hc hd =
 -- one byte as a number of one byte
 pub byte_of : (x : ℕ) → x < 256 → little_bytes 1 x ≡ x ∷ []
 byte_of x h = grind (arith, common_steps)
+
+-- one byte of a run
+pub get_or-bytes_from : (w : ℕ) (m : Bytes) (s p i : ℕ) → i < w → get_or (bytes_from w m s p) i 0 ≡ m s (p + i)
+get_or-bytes_from zero m s p i l = absurd (omega arith)
+get_or-bytes_from (suc w) m s p zero l = grind arith
+get_or-bytes_from (suc w) m s p (suc i) l =
+    let rest : get_or (bytes_from w m s (p + 1)) i 0 ≡ m s (p + 1 + i) = get_or-bytes_from w m s (p + 1) i (omega arith) in
+    let at_i : p + 1 + i ≡ p + suc i = omega arith in
+    rest ∙ ap (m s) at_i
+
+pub length-bytes_from : (w : ℕ) (m : Bytes) (s p : ℕ) → length (bytes_from w m s p) ≡ w
+length-bytes_from zero m s p = refl
+length-bytes_from (suc w) m s p = omega (arith, length-bytes_from w m s (p + 1))
+
+-- a run elsewhere stays
+pub bytes_from-put_other : (w : ℕ) (m : Bytes) (s p : ℕ) (bs : List ℕ) (t q : ℕ) → Apart s p (length bs) t q w → bytes_from w (put m s p bs) t q ≡ bytes_from w m t q
+bytes_from-put_other zero m s p bs t q h = refl
+bytes_from-put_other (suc w) m s p bs t q h =
+    let here : put m s p bs t q ≡ m t q = put_other m s p bs t q (grind arith) in
+    let rest : bytes_from w (put m s p bs) t (q + 1) ≡ bytes_from w m t (q + 1) = bytes_from-put_other w m s p bs t (q + 1) (grind arith) in
+    ap (λ b. b ∷ bytes_from w (put m s p bs) t (q + 1)) here ∙ ap (λ bytes. m t q ∷ bytes) rest
+
+bytes_from-put_inside : (done bs : List ℕ) (m : Bytes) (s p : ℕ) → bytes_from (length bs) (put m s p (done ++ bs)) s (p + length done) ≡ bs
+bytes_from-put_inside done [] m s p = refl
+bytes_from-put_inside done (b ∷ bs) m s p =
+    let here : put m s p (done ++ b ∷ bs) s (p + length done) ≡ get_or (done ++ b ∷ bs) (length done) 0 = put_inside m s p (done ++ b ∷ bs) (length done) (grind (arith, common_steps)) in
+    let first : get_or (done ++ b ∷ bs) (length done) 0 ≡ b = grind (arith, common_steps) in
+    let rest : bytes_from (length bs) (put m s p ((done ++ b ∷ []) ++ bs)) s (p + length (done ++ b ∷ [])) ≡ bs = bytes_from-put_inside (done ++ b ∷ []) bs m s p in
+    let list : (done ++ b ∷ []) ++ bs ≡ done ++ b ∷ bs = grind (arith, common_steps) in
+    let place : p + length (done ++ b ∷ []) ≡ p + length done + 1 = grind (arith, common_steps) in
+    let moved : bytes_from (length bs) (put m s p (done ++ b ∷ bs)) s (p + length done + 1) ≡ bs =
+    subst (λ (k : ℕ). bytes_from (length bs) (put m s p (done ++ b ∷ bs)) s k ≡ bs) place (subst (λ (xs : List ℕ). bytes_from (length bs) (put m s p xs) s (p + length (done ++ b ∷ [])) ≡ bs) list rest) in
+    ap (λ x. x ∷ bytes_from (length bs) (put m s p (done ++ b ∷ bs)) s (p + length done + 1)) (here ∙ first) ∙ ap (λ bytes. b ∷ bytes) moved
+
+-- a run that was stored is loaded
+pub bytes_from-put_same : (bs : List ℕ) (m : Bytes) (s p : ℕ) → bytes_from (length bs) (put m s p bs) s p ≡ bs
+bytes_from-put_same bs m s p =
+    let whole : bytes_from (length bs) (put m s p ([] ++ bs)) s (p + 0) ≡ bs = bytes_from-put_inside [] bs m s p in
+    subst (λ (k : ℕ). bytes_from (length bs) (put m s p bs) s k ≡ bs) (add-zero p) whole
+
+-- a word of a space whose bytes are zero
+pub word-cleared_same : (w : ℕ) (m : Bytes) (s q : ℕ) → word w (cleared s m) s q ≡ 0
+unfolding word
+word-cleared_same zero m s q = refl
+word-cleared_same (suc w) m s q =
+    let rest : word w (cleared s m) s (q + 1) ≡ 0 = word-cleared_same w m s (q + 1) in
+    grind (arith, nat_tests)
+
+-- a word of another space
+pub word-cleared_other : (w : ℕ) (m : Bytes) (s t q : ℕ) → t ≢ s → word w (cleared s m) t q ≡ word w m t q
+unfolding word
+word-cleared_other zero m s t q apart = refl
+word-cleared_other (suc w) m s t q apart =
+    let rest : word w (cleared s m) t (q + 1) ≡ word w m t (q + 1) = word-cleared_other w m s t (q + 1) apart in
+    grind (arith, nat_tests)

@@ -8,7 +8,7 @@ use Rattle.vub_shared.specs.declared.held.Held.{Held}
 use Rattle.vub_shared.specs.Bytes.{Bytes, put, cleared}
 use Rattle.vub_shared.specs.Splices.{splice}
 use Rattle.vub_shared.specs.Held.{space_bytes, image, space_size}
-use Rattle.vub_shared.proofs.BytesLemmas.{put_other, put_inside}
+use Rattle.vub_shared.proofs.BytesLemmas.{put_other, put_inside, get_or-bytes_from, length-bytes_from}
 use Rattle.vub_shared.specs.Bytes.{bytes_from}
 use Rattle.std.proofs.Common.{Some}
 use Rattle.std.proofs.lemmas.Grind.{same_number_lists}
@@ -79,18 +79,6 @@ image-overwritten spaces s p bs v held is room fits t q = elim (cases_eq t s) [
         ]
       ])
 ]
-
-pub get_or-bytes_from : (w : ℕ) (m : Bytes) (s p i : ℕ) → i < w → get_or (bytes_from w m s p) i 0 ≡ m s (p + i)
-get_or-bytes_from zero m s p i l = absurd (omega arith)
-get_or-bytes_from (suc w) m s p zero l = grind arith
-get_or-bytes_from (suc w) m s p (suc i) l =
-    let rest : get_or (bytes_from w m s (p + 1)) i 0 ≡ m s (p + 1 + i) = get_or-bytes_from w m s (p + 1) i (omega arith) in
-    let at_i : p + 1 + i ≡ p + suc i = omega arith in
-    rest ∙ ap (m s) at_i
-
-pub length-bytes_from : (w : ℕ) (m : Bytes) (s p : ℕ) → length (bytes_from w m s p) ≡ w
-length-bytes_from zero m s p = refl
-length-bytes_from (suc w) m s p = omega (arith, length-bytes_from w m s (p + 1))
 
 -- a part of one space, as bytes, is what its image tells
 pub loaded-image : (spaces : List Held) (s p w : ℕ) (ys : List ℕ) → length ys ≡ w → ((i : ℕ) → i < w → get_or ys i 0 ≡ get_or (space_bytes spaces s) (p + i) 0) → ((i : ℕ) → get_or ys i 0 < 256)

@@ -8,6 +8,8 @@ mod kept;
 mod mem_shared;
 mod shared;
 mod spaces;
+#[cfg(test)]
+mod tests;
 mod trail;
 mod trail_shared;
 mod words;

@@ -85,9 +85,14 @@ impl<M: Shared> TrailShared<M> {
 }
 
 impl<M: Shared> Shared for TrailShared<M> {
-    ghost use Rattle.std.specs.Prelude.{◌≡◌, ◌≤◌, ◌+◌, ◌%◌, ℕ, Some, length};
+    ghost use Rattle.std.specs.Prelude.{◌≡◌, ◌≢◌, ◌≤◌, ◌+◌, ◌%◌, ℕ, Some, true, length, OnOk, OnErr, IfOk, IfErr};
+    ghost use Rattle.std.specs.Option.{option_map};
     ghost use Rattle.byteorder.specs.Endian.{little_bytes};
     ghost use Rattle.vub_base.specs.Causes.{HasCause};
+    ghost use Rattle.vub_base.specs.Told.{WhereTold};
+    ghost use Rattle.vub_shared.specs.Bytes.{bytes_from, cleared};
+    ghost use Rattle.vub_shared.specs.Spaces.{with_name, KeepsHanded, HandsNew, HasReason};
+    ghost use Rattle.vub_shared.specs.declared.fault.SharedFault.TheVariants.{NoSuch};
     ghost use Rattle.vub_shared.specs.Stores.{Stores, Trails, one_store};
     ghost use Rattle.vub_shared.specs.TrailForms.{inner_of, trail_of, stores_of, faults_with, IsKeptIn};
 
@@ -109,11 +114,29 @@ impl<M: Shared> Shared for TrailShared<M> {
 
     ghost unhanded_empty = { λ t s past. M.unhanded_empty (inner_of t) s past };
 
-    fn find(&mut self, name: &str) -> Result<Space, SharedFault> {
+    fn find(&mut self, name: &str) -> Result<Space, SharedFault>
+        ensures found { IfOk result (λ space. WhereTold (M.names (inner_of self.old)) (λ n. n name.now ≡ Some space.number)) }
+        ensures is_handed { IfOk result (λ space. M.handed (inner_of self.new) space.number ≡ true) }
+        ensures spaces { KeepsHanded (M.handed (inner_of self.old)) (M.sizes (inner_of self.old)) (M.handed (inner_of self.new)) (M.sizes (inner_of self.new)) }
+        ensures told { M.told (inner_of self.new) ≡ M.told (inner_of self.old) }
+        ensures trail { trail_of self.new ≡ trail_of self.old }
+        ensures names { M.names (inner_of self.new) ≡ M.names (inner_of self.old) }
+        ensures reason { HasReason (faults_with M.faults self.old) (faults_with M.faults self.new) (M.names (inner_of self.old)) name.now result }
+    {
         self.inner.find(name)
     }
 
-    fn create(&mut self, name: &str, size: u64) -> Result<Space, SharedFault> {
+    fn create(&mut self, name: &str, size: u64) -> Result<Space, SharedFault>
+        ensures made { IfOk result (λ space. HandsNew (M.handed (inner_of self.old)) (M.sizes (inner_of self.old)) (M.handed (inner_of self.new)) (M.sizes (inner_of self.new)) space.number size) }
+        ensures zeroed { IfOk result (λ space. M.told (inner_of self.new) ≡ option_map (cleared space.number) (M.told (inner_of self.old))) }
+        ensures named { IfOk result (λ space. M.names (inner_of self.new) ≡ option_map (with_name name.now space.number) (M.names (inner_of self.old))) }
+        ensures keeps_spaces { OnErr result (KeepsHanded (M.handed (inner_of self.old)) (M.sizes (inner_of self.old)) (M.handed (inner_of self.new)) (M.sizes (inner_of self.new))) }
+        ensures keeps_told { OnErr result (M.told (inner_of self.new) ≡ M.told (inner_of self.old)) }
+        ensures keeps_names { OnErr result (M.names (inner_of self.new) ≡ M.names (inner_of self.old)) }
+        ensures trail { trail_of self.new ≡ trail_of self.old }
+        ensures reason { HasReason (faults_with M.faults self.old) (faults_with M.faults self.new) (M.names (inner_of self.old)) name.now result }
+        ensures never_lacking { IfErr result (λ e. e ≢ NoSuch) }
+    {
         self.inner.create(name, size)
     }
 
@@ -121,7 +144,16 @@ impl<M: Shared> Shared for TrailShared<M> {
         self.inner.size(space)
     }
 
-    fn load(&mut self, space: Space, place: u64, into: &mut [u8]) -> Result<(), Failed> {
+    fn load(&mut self, space: Space, place: u64, into: &mut [u8]) -> Result<(), Failed>
+        requires { place + length into.old ≤ M.sizes (inner_of self.old) space.number }
+        ensures loaded { OnOk result (WhereTold (M.told (inner_of self.old)) (λ m. into.new ≡ bytes_from (length into.old) m space.number place)) }
+        ensures told { M.told (inner_of self.new) ≡ M.told (inner_of self.old) }
+        ensures trail { trail_of self.new ≡ trail_of self.old }
+        ensures names { M.names (inner_of self.new) ≡ M.names (inner_of self.old) }
+        ensures handed { (s : ℕ) → M.handed (inner_of self.new) s ≡ M.handed (inner_of self.old) s }
+        ensures sizes { (s : ℕ) → M.sizes (inner_of self.new) s ≡ M.sizes (inner_of self.old) s }
+        ensures cause { HasCause (faults_with M.faults self.old) (faults_with M.faults self.new) result }
+    {
         self.inner.load(space, place, into)
     }
 

@@ -1,5 +1,7 @@
 pub mod Guest
+pub mod Lives
 pub mod Machine
 pub mod Queue
 pub mod RecordText
 pub mod Split
+pub mod World

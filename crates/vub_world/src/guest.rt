@@ -1,6 +1,6 @@
 //! The driver of one split queue: it places requests in guest memory, one store a step, and takes
 //! the used elements (VIRTIO 1.2, 2.7.13 and 2.7.14).
-ghost use Rattle.std.specs.Prelude.{◌≡◌, ◌<◌, ◌≤◌, ◌+◌, ◌%◌, ◌^◌, ℕ, length, IfSome};
+ghost use Rattle.std.specs.Prelude.{◌≡◌, ◌<◌, ◌≤◌, ◌+◌, ◌*◌, ◌%◌, ◌^◌, ℕ, length, IfOk, IfSome};
 ghost use Rattle.std.specs.Option.{ForSome};
 
 use crate::layout::{AREA, AVAIL, SECTORS, STATUS, USED, area_of, buffer_of};
@@ -179,6 +179,7 @@ impl Guest {
     pub fn new(alloc: Global, header: &Header1, queue: u16, memory: Space) -> Result<Guest, Memory>
         requires some { 1 ≤ header.now.size }
         requires few { header.now.size ≤ 64 }
+        ensures { IfOk result (λ g. (g.memory ≡ memory) × (g.area ≡ AREA * queue)) }
     {
         let owners = vec![in alloc; None; usize::from(header.size)].map_err(|_| Memory)?;
         Ok(Guest {
@@ -208,7 +209,10 @@ impl Guest {
         })
     }
 
-    fn own(&mut self, descriptor: u16, head: u16) {
+    fn own(&mut self, descriptor: u16, head: u16)
+        ensures memory { self.new.memory ≡ self.old.memory }
+        ensures area { self.new.area ≡ self.old.area }
+    {
         if let Some(owner) = self.owners.get_mut(usize::from(descriptor)) {
             *owner = Some(head);
         }
@@ -216,7 +220,10 @@ impl Guest {
 
     /// Gives the driver a request. It is false, and changes nothing, exactly where a request waits
     /// or the free descriptors don't suffice. Takes no memory.
-    pub fn queue_request(&mut self, shape: Shape, ask: &Ask) -> bool {
+    pub fn queue_request(&mut self, shape: Shape, ask: &Ask) -> bool
+        ensures memory { self.new.memory ≡ self.old.memory }
+        ensures area { self.new.area ≡ self.old.area }
+    {
         if self.waiting.is_some() || shape != Shape::Direct {
             return false;
         }

@@ -11,3 +11,8 @@ mod queue;
 pub mod report;
 mod split;
 mod task;
+#[cfg(test)]
+mod tests;
+mod world;
+
+pub use world::World;

@@ -1,6 +1,10 @@
 //! The parts of a world, and what each event does with them.
-ghost use Rattle.std.specs.Prelude.{◌≡◌, ◌<◌, ◌≤◌, IfOk, OnOk, OnErr};
-ghost use Rattle.vub_schedule.specs.Spelling.{IsHeader, IsEvent};
+ghost use Rattle.std.specs.Prelude.{◌≡◌, ◌<◌, ℕ, IfOk, OnOk};
+ghost use Rattle.vub_shared.specs.MemSpaces.{sizes_of};
+ghost use Rattle.vub_shared.specs.TrailForms.{inner_of};
+ghost use Rattle.vub_world.specs.Split.{RingLies};
+ghost use Rattle.vub_world.specs.Lives.{RingOfLife, SameRing};
+ghost use Rattle.vub_schedule.specs.Spelling.{IsHeader};
 
 use crate::guest::{Collected, Guest, GuestStep};
 use crate::layout::{AREA, AVAIL, SECTORS, STATUS, area_of, buffer_of, ring_of};
@@ -11,6 +15,7 @@ use crate::split::SplitRing;
 use std::alloc::Global;
 use vub_base::{Area, Ask, Bytes, Header1, Memory, Shape, Space, Tag, get_u16};
 use vub_device::{AnswerList, Answered, Asked, Entry, NumberList};
+use vub_disk::Disk;
 use vub_memdisk::MemDisk;
 use vub_schedule::Event;
 use vub_shared::{MemShared, Shared, TrailShared};
@@ -92,8 +97,41 @@ fn bytes_at(bytes: &[u8], place: u64, len: usize) -> &[u8] {
     }
 }
 
+/// One turn of the life's queue, if one is attached.
+fn turn_of<M: Shared, D: Disk>(
+    life: &mut Option<Life>,
+    turn: Turn,
+    mem: &mut M,
+    disk: &mut D,
+) -> Stepped
+    requires { RingOfLife (RingLies (M.sizes mem.old)) life.old }
+    ensures ring { SameRing life.old life.new }
+    ensures sizes { (s : ℕ) → M.sizes mem.new s ≡ M.sizes mem.old s }
+    ensures capacity { D.capacity disk.new ≡ D.capacity disk.old }
+{
+    match life {
+        Some(Life { queue: Some(queue) }) => queue.turn(turn, mem, disk),
+        _ => Stepped::Idle,
+    }
+}
+
+/// Guest memory of one area of zero bytes, and its space.
+fn guest_memory(alloc: Global) -> Result<(TrailShared<MemShared>, Space), Memory>
+    ensures { IfOk result (λ m. sizes_of (inner_of m.0) m.1.number ≡ AREA) }
+{
+    let mut shared = MemShared::new(alloc, Vec::new(alloc));
+    let space = match shared.create("mem", AREA) {
+        Ok(space) => space,
+        Err(_) => return Err(Memory),
+    };
+    let memory = TrailShared::new(alloc, shared, 1, STORE)?;
+    Ok((memory, space))
+}
+
 impl Machine {
-    ghost use Rattle.vub_world.specs.Machine.{IsSound};
+    ghost use Rattle.vub_memdisk.specs.MemDisks.{values_of};
+    ghost use Rattle.std.specs.Borrow.{sem};
+    ghost use Rattle.vub_world.specs.Machine.{IsSound, LendsSound};
 
     /// A world in which nothing has happened.
     pub fn new(alloc: Global, header: &Header1) -> Result<Machine, Memory>
@@ -101,9 +139,7 @@ impl Machine {
         ensures header { IfOk result (λ m. m.header ≡ header.now) }
         ensures sound { IfOk result IsSound }
     {
-        let mut shared = MemShared::new(alloc, Vec::new(alloc));
-        let space = shared.create("mem", AREA).map_err(|_| Memory)?;
-        let memory = TrailShared::new(alloc, shared, 1, STORE)?;
+        let (memory, space) = guest_memory(alloc)?;
         Ok(Machine {
             alloc,
             header: *header,
@@ -130,12 +166,12 @@ impl Machine {
     }
 
     /// The value of a sector now.
-    pub fn sector(&self, sector: u64) -> Option<&[u8; 512]> {
-        if sector < self.disk.capacity() {
-            Some(self.disk.sector(sector))
-        } else {
-            None
-        }
+    pub fn sector(&self, sector: u64) -> &[u8; 512]
+        requires sound { IsSound self.now }
+        requires below { sector < self.now.header.capacity }
+        ensures { result.now ≡ values_of self.now.disk sector }
+    {
+        self.disk.sector(sector)
     }
 
     /// The bytes of guest memory.
@@ -155,7 +191,11 @@ impl Machine {
             return Ok(());
         };
         let (space, place, bytes) = self.memory.store_at(last);
-        let area = if space == self.space { Area::M } else { Area::I };
+        let area = if space == self.space {
+            Area::M
+        } else {
+            Area::I
+        };
         let bytes = Bytes::new(Vec::from_slice(self.alloc, bytes).map_err(|_| Memory)?);
         note(
             items,
@@ -203,26 +243,57 @@ impl Machine {
         Ok(self.guest.step(&mut self.memory))
     }
 
+    /// One store of the driver with its items; false where none was made.
+    fn guest_store(&mut self, items: &mut Vec<Item>) -> Result<bool, Memory>
+        requires { IsSound self.old }
+        ensures header { self.new.header ≡ self.old.header }
+        ensures sound { IsSound self.new }
+    {
+        match self.step_guest()? {
+            GuestStep::Idle | GuestStep::Failed => Ok(false),
+            GuestStep::Stored => {
+                self.note_store(Tag::G, items)?;
+                Ok(true)
+            }
+            GuestStep::Offered => {
+                self.note_store(Tag::G, items)?;
+                self.note_offer(items)?;
+                Ok(true)
+            }
+        }
+    }
+
+    /// At most so many stores of the driver.
+    fn guest_stores(&mut self, stores: u16, items: &mut Vec<Item>) -> Result<(), Memory>
+        requires { IsSound self.old }
+        ensures header { self.new.header ≡ self.old.header }
+        ensures sound { IsSound self.new }
+    {
+        for done in 0..stores {
+            if !self.guest_store(items)? {
+                return Ok(());
+            }
+        }
+        Ok(())
+    }
+
+    /// The items, or that the event was idle where there are none.
+    fn items_or_idle(&self, items: Vec<Item>) -> Result<Vec<Item>, Memory> {
+        if items.is_empty() {
+            self.idle()
+        } else {
+            Ok(items)
+        }
+    }
+
     fn guest(&mut self, stores: u16) -> Result<Vec<Item>, Memory>
         requires { IsSound self.old }
         ensures header { self.new.header ≡ self.old.header }
         ensures sound { IsSound self.new }
     {
         let mut items = Vec::new(self.alloc);
-        for _done in 0..stores {
-            match self.step_guest()? {
-                GuestStep::Idle | GuestStep::Failed => break,
-                GuestStep::Stored => self.note_store(Tag::G, &mut items)?,
-                GuestStep::Offered => {
-                    self.note_store(Tag::G, &mut items)?;
-                    self.note_offer(&mut items)?;
-                }
-            }
-        }
-        if items.is_empty() {
-            return self.idle();
-        }
-        Ok(items)
+        self.guest_stores(stores, &mut items)?;
+        self.items_or_idle(items)
     }
 
     fn ask(&mut self, shape: Shape, ask: &Ask) -> Result<Vec<Item>, Memory>
@@ -265,14 +336,18 @@ impl Machine {
         Ok(Vec::new(self.alloc))
     }
 
+    /// Whether there is a life whose queue isn't attached yet.
+    fn is_joining(&self) -> bool {
+        matches!(&self.life, Some(Life { queue: None }))
+    }
+
     fn join(&mut self) -> Result<Vec<Item>, Memory>
         requires { IsSound self.old }
         ensures header { self.new.header ≡ self.old.header }
         ensures sound { IsSound self.new }
     {
-        match &self.life {
-            Some(Life { queue: None }) => {}
-            _ => return self.idle(),
+        if !self.is_joining() {
+            return self.idle();
         }
         let setup = QueueSetup {
             index: 0,
@@ -329,18 +404,14 @@ impl Machine {
         ensures sound { IsSound self.new }
     {
         self.memory.restart(1, STORE)?;
-        Ok(match &mut self.life {
-            Some(Life { queue: Some(queue) }) => {
-                queue.turn(turn, &mut self.memory, &mut self.disk)
-            }
-            _ => Stepped::Idle,
-        })
+        Ok(turn_of(&mut self.life, turn, &mut self.memory, &mut self.disk))
     }
 
     fn value_of(&self, sector: u64) -> [u8; 512] {
-        match self.sector(sector) {
-            Some(value) => *value,
-            None => [0; 512],
+        if sector < self.disk.capacity() {
+            *self.disk.sector(sector)
+        } else {
+            [0; 512]
         }
     }
 
@@ -364,11 +435,17 @@ impl Machine {
             }
             Stepped::Looked(head, sector) => {
                 let value = self.value_of(sector);
-                self.note_entry(Entry::Look(0, self.log.at(head).number, sector, value), items)
+                self.note_entry(
+                    Entry::Look(0, self.log.at(head).number, sector, value),
+                    items,
+                )
             }
             Stepped::Acted(head, sector) => {
                 let value = self.value_of(sector);
-                self.note_entry(Entry::Act(0, self.log.at(head).number, sector, value), items)
+                self.note_entry(
+                    Entry::Act(0, self.log.at(head).number, sector, value),
+                    items,
+                )
             }
             Stepped::Synced(head) => {
                 self.note_entry(Entry::Sync(0, self.log.at(head).number), items)
@@ -395,28 +472,46 @@ impl Machine {
         }
     }
 
+    /// One step of a drain with its items; false where none was made.
+    fn drain_step(&mut self, accepted: &mut u16, items: &mut Vec<Item>) -> Result<bool, Memory>
+        requires { IsSound self.old }
+        ensures header { self.new.header ≡ self.old.header }
+        ensures sound { IsSound self.new }
+    {
+        let answers = self.answers()?;
+        let stepped = self.turn(self.draining(*accepted))?;
+        match stepped {
+            Stepped::Idle | Stepped::SharedFault | Stepped::Broken(_) => return Ok(false),
+            Stepped::Accepted(_) => *accepted = accepted.saturating_add(1),
+            _ => {}
+        }
+        self.note_turn(stepped, answers, items)?;
+        Ok(true)
+    }
+
+    /// Steps until none is ready.
+    fn drain_steps(&mut self, items: &mut Vec<Item>) -> Result<(), Memory>
+        requires { IsSound self.old }
+        ensures header { self.new.header ≡ self.old.header }
+        ensures sound { IsSound self.new }
+    {
+        let mut accepted: u16 = 0;
+        for done in 0..u64::MAX {
+            if !self.drain_step(&mut accepted, items)? {
+                return Ok(());
+            }
+        }
+        Ok(())
+    }
+
     fn drain(&mut self) -> Result<Vec<Item>, Memory>
         requires { IsSound self.old }
         ensures header { self.new.header ≡ self.old.header }
         ensures sound { IsSound self.new }
     {
         let mut items = Vec::new(self.alloc);
-        let mut accepted: u16 = 0;
-        for _done in 0..u64::MAX {
-            let answers = self.answers()?;
-            let stepped = self.turn(self.draining(accepted))?;
-            if let Stepped::Idle | Stepped::SharedFault | Stepped::Broken(_) = stepped {
-                break;
-            }
-            if let Stepped::Accepted(_) = stepped {
-                accepted = accepted.saturating_add(1);
-            }
-            self.note_turn(stepped, answers, &mut items)?;
-        }
-        if items.is_empty() {
-            return self.idle();
-        }
-        Ok(items)
+        self.drain_steps(&mut items)?;
+        self.items_or_idle(items)
     }
 
     fn items_of(&mut self, event: &Event) -> Result<Vec<Item>, Memory>
@@ -450,10 +545,12 @@ impl Machine {
         Ok(())
     }
 
-    /// The record of the last event.
-    pub fn last(&self) -> &Record
-        ensures { result.now ≡ self.now.last }
+    /// Plays an event, and lends its record.
+    pub fn event(&mut self, event: &Event) -> Result<&Record, Memory>
+        requires { IsSound self.old }
+        ensures* after { sem 𝓛 (LendsSound self.entry event.now result) }
     {
-        &self.last
+        self.perform(event)?;
+        Ok(&self.last)
     }
 }

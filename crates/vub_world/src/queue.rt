@@ -268,6 +268,7 @@ impl Queue {
         requires { RingLies (M.sizes mem.old) (ring_in self.old) }
         ensures ring { ring_in self.new ≡ ring_in self.old }
         ensures sizes { (s : ℕ) → M.sizes mem.new s ≡ M.sizes mem.old s }
+        ensures capacity { D.capacity disk.new ≡ D.capacity disk.old }
     {
         let task = self.unfinished.get_mut(place)?;
         let head = task.head();
@@ -282,6 +283,7 @@ impl Queue {
         requires { RingLies (M.sizes mem.old) (ring_in self.old) }
         ensures ring { ring_in self.new ≡ ring_in self.old }
         ensures sizes { (s : ℕ) → M.sizes mem.new s ≡ M.sizes mem.old s }
+        ensures capacity { D.capacity disk.new ≡ D.capacity disk.old }
     {
         let place = usize::from(place);
         if !self.started || place >= self.unfinished.len() {
@@ -408,6 +410,7 @@ impl Queue {
         requires { RingLies (M.sizes mem.old) (ring_in self.old) }
         ensures ring { ring_in self.new ≡ ring_in self.old }
         ensures sizes { (s : ℕ) → M.sizes mem.new s ≡ M.sizes mem.old s }
+        ensures capacity { D.capacity disk.new ≡ D.capacity disk.old }
     {
         match self.fetch(mem) {
             Stepped::Idle => self.go_on(mem, disk),
@@ -419,6 +422,7 @@ impl Queue {
         requires { RingLies (M.sizes mem.old) (ring_in self.old) }
         ensures ring { ring_in self.new ≡ ring_in self.old }
         ensures sizes { (s : ℕ) → M.sizes mem.new s ≡ M.sizes mem.old s }
+        ensures capacity { D.capacity disk.new ≡ D.capacity disk.old }
     {
         if self.unfinished.is_empty() {
             self.publish(self.ring.size, mem)
@@ -431,6 +435,7 @@ impl Queue {
         requires { RingLies (M.sizes mem.old) (ring_in self.old) }
         ensures ring { ring_in self.new ≡ ring_in self.old }
         ensures sizes { (s : ℕ) → M.sizes mem.new s ≡ M.sizes mem.old s }
+        ensures capacity { D.capacity disk.new ≡ D.capacity disk.old }
     {
         if !self.started {
             return self.start();
@@ -445,6 +450,7 @@ impl Queue {
         requires { RingLies (M.sizes mem.old) (ring_in self.old) }
         ensures ring { ring_in self.new ≡ ring_in self.old }
         ensures sizes { (s : ℕ) → M.sizes mem.new s ≡ M.sizes mem.old s }
+        ensures capacity { D.capacity disk.new ≡ D.capacity disk.old }
     {
         match turn {
             Turn::Start => self.start(),
@@ -462,6 +468,7 @@ impl Queue {
         requires { RingLies (M.sizes mem.old) (ring_in self.old) }
         ensures ring { ring_in self.new ≡ ring_in self.old }
         ensures sizes { (s : ℕ) → M.sizes mem.new s ≡ M.sizes mem.old s }
+        ensures capacity { D.capacity disk.new ≡ D.capacity disk.old }
     {
         if self.stopped.is_some() {
             return Stepped::Idle;

@@ -205,7 +205,8 @@ impl Task {
         disk: &mut D,
         sector: &mut [u8; 512],
     ) -> Option<TaskStep>
-        ensures { self.new.head ≡ self.old.head }
+        ensures head { self.new.head ≡ self.old.head }
+        ensures capacity { D.capacity disk.new ≡ D.capacity disk.old }
     {
         let number = transfer.sector.checked_add(transfer.done)?;
         if number >= disk.capacity() {
@@ -252,6 +253,7 @@ impl Task {
     ) -> Option<TaskStep>
         ensures head { self.new.head ≡ self.old.head }
         ensures sizes { (s : ℕ) → M.sizes mem.new s ≡ M.sizes mem.old s }
+        ensures capacity { D.capacity disk.new ≡ D.capacity disk.old }
     {
         let span = sector_span(&transfer)?;
         let number = transfer.sector.checked_add(transfer.done)?;
@@ -274,7 +276,8 @@ impl Task {
     }
 
     fn sync<D: Disk>(&mut self, answer: Answer, disk: &mut D) -> TaskStep
-        ensures { self.new.head ≡ self.old.head }
+        ensures head { self.new.head ≡ self.old.head }
+        ensures capacity { D.capacity disk.new ≡ D.capacity disk.old }
     {
         if disk.flush().is_err() {
             self.work = Work::Reply(with_status(answer, IOERR));
@@ -313,6 +316,7 @@ impl Task {
         requires fits { self.old.head < ring.now.size }
         ensures head { self.new.head ≡ self.old.head }
         ensures sizes { (s : ℕ) → M.sizes mem.new s ≡ M.sizes mem.old s }
+        ensures capacity { D.capacity disk.new ≡ D.capacity disk.old }
     {
         if let Work::Begin = self.work {
             match self.begin(ring, mem, disk.capacity()) {
@@ -332,6 +336,7 @@ impl Task {
     ) -> TaskStep
         ensures head { self.new.head ≡ self.old.head }
         ensures sizes { (s : ℕ) → M.sizes mem.new s ≡ M.sizes mem.old s }
+        ensures capacity { D.capacity disk.new ≡ D.capacity disk.old }
     {
         let made = match self.work {
             Work::Begin => None,

@@ -1,0 +1,5 @@
+pub mod Crash
+pub mod Legal
+pub mod Past
+pub mod Places
+pub mod Requests

@@ -1,0 +1,140 @@
+-- Reading a line from left to right: each word answers what it read and what follows.
+use Rattle.std.specs.Prelude.{◌≡◌, ℕ, ◌+◌, ◌*◌, ◌-◌, List, [], ◌∷◌, ◌++◌, length, take, drop, codes, Option, Some, None, option_and_then, nat_lt, nat_le, nat_eq, ◌==◌, ◌&&◌, ◌||◌, not, Bool, slice_index, if◌then◌else◌}
+use Rattle.std.specs.List.{take_while}
+use Rattle.std.specs.Borrow.{Bor}
+use Rattle.std.specs.Char.{is_ascii_digit}
+use Rattle.std.specs.Int.{is_in_range}
+use Rattle.std.specs.Str.Parse.{digits_value}
+use Rattle.std.specs.Cmp.Lexicographic.{pointwise}
+use Rattle.vub_base.specs.declared.header.Format.TheVariants.{Split}
+use Rattle.vub_base.specs.declared.header.CacheMode.TheVariants.{Back}
+use Rattle.vub_base.specs.declared.header.Header1.{Header1}
+use Rattle.vub_base.specs.declared.request.Shape.TheVariants.{Direct}
+use Rattle.vub_base.specs.declared.request.Ask.{Ask}
+use Rattle.vub_base.specs.declared.request.Ask.TheVariants.{Read, Write}
+use Rattle.vub_schedule.specs.declared.types.Event.{Event}
+use Rattle.vub_schedule.specs.declared.types.Event.TheVariants as events
+use Rattle.vub_schedule.specs.Spelling.{is_size}
+
+infixl 10 ◌>>=◌
+abbrev pub ◌>>=◌ : {A B : Type 0} → Option A → (A → Option B) → Option B
+o >>= f = option_and_then f o
+
+-- what a reader of the code answers, its rest seen as a list
+abbrev pub Reads : {A : Type 0} → Option (A × Bor (List ℕ)) → Option (A × List ℕ) → Type 0
+Reads None read = read ≡ None
+Reads (Some x) read = read ≡ Some (x.0, x.1.now)
+
+-- the first that is there decides
+abbrev pub decide : {A B : Type 0} → Option A → (A → Option B) → Option B → Option B
+decide None f other = other
+decide (Some x) f other = f x
+
+-- ---- words and numbers
+
+-- what follows the text at the front
+unfoldable pub tag : List ℕ → List ℕ → Option (List ℕ)
+tag text bytes = if pointwise nat_eq (take (length text) bytes) text then Some (drop (length text) bytes) else None
+
+-- no digits but a 0 alone begin with 0
+abbrev pub is_canonical : List ℕ → Bool
+is_canonical ds = nat_lt 0 (length ds) && (not (slice_index ds 0 == 48) || (length ds == 1))
+
+-- the number at the front, below a limit
+unfoldable pub number_at : ℕ → List ℕ → Option (ℕ × List ℕ)
+number_at limit bytes =
+    let ds = take_while is_ascii_digit bytes in
+    if is_canonical ds && nat_lt (digits_value 10 ds) limit then Some (digits_value 10 ds, drop (length ds) bytes) else None
+
+-- the value of a lower-case hexadecimal digit
+abbrev pub hex_value : ℕ → Option ℕ
+hex_value c = if is_in_range 48 57 c then Some (c - 48) else (if is_in_range 97 102 c then Some (10 + (c - 97)) else None)
+
+-- the byte of the two digits at the front
+unfoldable pub pair_at : List ℕ → Option (ℕ × List ℕ)
+pair_at [] = None
+pair_at (a ∷ []) = None
+pair_at (a ∷ b ∷ rest) = do
+  x ← hex_value a
+  y ← hex_value b
+  Some (16 * x + y, rest)
+
+-- ---- requests
+
+-- behind the word: a sector below the capacity, and the count 1
+unfoldable pub read_at : ℕ → List ℕ → Option (Ask × List ℕ)
+read_at capacity bytes = do
+  sector ← number_at capacity bytes
+  rest ← tag (codes " 1") sector.1
+  Some (Read sector.0 1, rest)
+
+-- behind the word: a sector below the capacity, and the byte that fills it
+unfoldable pub write_at : ℕ → List ℕ → Option (Ask × List ℕ)
+write_at capacity bytes = do
+  sector ← number_at capacity bytes
+  rest ← tag (codes " ") sector.1
+  fill ← pair_at rest
+  Some (Write sector.0 (record { items = fill.0 ∷ [] }), fill.1)
+
+-- a request on a disk of that capacity
+unfoldable pub ask_at : ℕ → List ℕ → Option (Ask × List ℕ)
+ask_at capacity bytes = decide (tag (codes "write ") bytes) (write_at capacity) (tag (codes "read ") bytes >>= read_at capacity)
+
+-- ---- events
+
+abbrev pub as_ask : Ask × List ℕ → Option (Event × List ℕ)
+as_ask ask = Some (events.Ask 0 Direct ask.0, ask.1)
+
+abbrev pub as_event : Event → List ℕ → Option (Event × List ℕ)
+as_event e rest = Some (e, rest)
+
+-- an event, up to the end of its line
+unfoldable pub event_text_at : Header1 → List ℕ → Option (Event × List ℕ)
+event_text_at h bytes =
+    decide (tag (codes "ask 0 d ") bytes) (λ rest. ask_at h.capacity rest >>= as_ask)
+    (decide (tag (codes "guest 0 16") bytes) (as_event (events.Guest 0 16))
+    (decide (tag (codes "drain 0") bytes) (as_event (events.Drain 0))
+    (decide (tag (codes "collect 0") bytes) (as_event (events.Collect 0))
+    (decide (tag (codes "boot") bytes) (as_event events.Boot)
+    (tag (codes "join") bytes >>= as_event events.Join)))))
+
+-- a whole line
+unfoldable pub event_at : Header1 → List ℕ → Option (Event × List ℕ)
+event_at h bytes = do
+  event ← event_text_at h bytes
+  rest ← tag (10 ∷ []) event.1
+  Some (event.0, rest)
+
+-- ---- the first line
+
+-- the header of the grammar with this size and capacity
+abbrev pub plain_header : ℕ → ℕ → Header1
+plain_header size capacity = record { format = Split; queues = 1; size = size; capacity = capacity; base = 0; mode = Back }
+
+-- where they are of the grammar
+unfoldable pub header_of : ℕ → ℕ → Option Header1
+header_of size capacity = if is_size size && nat_le 1 capacity then Some (plain_header size capacity) else None
+
+abbrev pub with_header : Header1 → List ℕ → Option (Header1 × List ℕ)
+with_header h rest = Some (h, rest)
+
+-- behind the capacity
+abbrev pub back_at : ℕ → ℕ × List ℕ → Option (Header1 × List ℕ)
+back_at size capacity = do
+  rest ← tag (codes " 0 back" ++ 10 ∷ []) capacity.1
+  header ← header_of size capacity.0
+  with_header header rest
+
+-- behind the size
+abbrev pub middle_at : ℕ × List ℕ → Option (Header1 × List ℕ)
+middle_at size = do
+  middle ← tag (codes " ") size.1
+  capacity ← number_at 4097 middle
+  back_at size.0 capacity
+
+-- the first line
+unfoldable pub header_at : List ℕ → Option (Header1 × List ℕ)
+header_at bytes = do
+  front ← tag (codes "vub 1 split 1 ") bytes
+  size ← number_at 65 front
+  middle_at size

@@ -1,0 +1,57 @@
+ghost use Rattle.std.specs.Prelude.{◌≡◌, ◌<◌, IfOk};
+ghost use Rattle.vub_schedule.specs.Spelling.{IsHeader, IsEvent};
+
+use crate::machine::Machine;
+use crate::report::Record;
+use std::alloc::Global;
+use std::marker::Model;
+use vub_base::{Header1, Memory};
+use vub_schedule::Event;
+
+/// A guest with its driver, the device and its disk, between two events of a schedule.
+#[derive(Drop)]
+pub struct World {
+    machine: Machine,
+}
+
+impl Model for World {
+    ghost use Rattle.vub_world.specs.declared.machine.Machine.{Machine};
+    ghost use Rattle.vub_world.specs.Machine.{IsSound};
+
+    ghost Value = { Machine };
+
+    ghost view = { λ w. w.machine };
+
+    ghost invariant = { λ w. IsSound w.machine };
+}
+
+impl World {
+    ghost use Rattle.std.specs.Borrow.{sem};
+    ghost use Rattle.vub_memdisk.specs.MemDisks.{values_of};
+    ghost use Rattle.vub_world.specs.World.{header_in, disk_in, LendsRecord};
+
+    /// A world in which nothing has happened: guest memory and disk are zero.
+    pub fn new(alloc: Global, header: &Header1) -> Result<World, Memory>
+        requires { IsHeader header.now }
+        ensures { IfOk result (λ w. header_in w ≡ header.now) }
+    {
+        let machine = Machine::new(alloc, header)?;
+        Ok(World { machine })
+    }
+
+    /// Plays an event, and lends its record.
+    pub fn event(&mut self, event: &Event) -> Result<&Record, Memory>
+        requires { IsEvent (header_in self.old) event.now }
+        ensures* after { sem 𝓛 (LendsRecord self.entry event.now result) }
+    {
+        self.machine.event(event)
+    }
+
+    /// The value of a sector now.
+    pub fn sector(&self, sector: u64) -> &[u8; 512]
+        requires { sector < (header_in self.now).capacity }
+        ensures { result.now ≡ values_of (disk_in self.now) sector }
+    {
+        self.machine.sector(sector)
+    }
+}
