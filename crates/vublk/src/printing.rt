@@ -4,16 +4,16 @@ ghost use Rattle.std.specs.List.{AllByRecursion};
 ghost use Rattle.vub_base.specs.Causes.{Rose};
 ghost use Rattle.vub_schedule.specs.Spelling.{IsEvent};
 ghost use Rattle.vub_world.specs.declared.report.items.Record.{Record};
-ghost use Rattle.vub_world.specs.RecordText.{record_spelling};
+ghost use Rattle.vub_world.specs.RecordText.{head_spelling, record_spelling};
 ghost use Rattle.vub_world.specs.World.{header_in};
 ghost use Rattle.vublk.specs.Flows.{Wrote, WrotePart};
 ghost use Rattle.vublk.specs.Records.{IsRecorded, records_text};
 
 use std::alloc::Global;
-use vub_base::Sink;
+use vub_base::{Header1, Sink};
 use vub_schedule::Event;
 use vub_world::World;
-use vub_world::report::put_record;
+use vub_world::report::{head_text, put_record};
 
 /// Why a run stopped.
 #[derive(Clone, Copy, Debug, PartialEq, Eq)]
@@ -33,6 +33,22 @@ pub fn put<O: Sink>(out: &mut O, text: &[u8]) -> Result<(), PrintFault>
     ensures only { IsErrOf result PrintFault.Memory → ⊥ }
 {
     out.write(text).map_err(|_| PrintFault::Failed)
+}
+
+/// Prints the head line.
+pub fn print_head<O: Sink>(
+    alloc: Global,
+    header: &Header1,
+    out: &mut O,
+) -> Result<(), PrintFault>
+    ensures ok { OnOk result (Wrote (O.held out.old) (O.held out.new) (head_spelling header.now)) }
+    ensures memory { IsErrOf result PrintFault.Memory → O.held out.new ≡ O.held out.old }
+    ensures part { IsErrOf result PrintFault.Failed → WrotePart (O.held out.old) (O.held out.new) (head_spelling header.now) }
+    ensures later { O.faults out.old ≤ O.faults out.new }
+    ensures failed { IsErrOf result PrintFault.Failed → Rose (O.faults out.old) (O.faults out.new) }
+{
+    let text = head_text(alloc, header).map_err(|_| PrintFault::Memory)?;
+    put(out, &text)
 }
 
 /// Plays an event and prints its record. `text` is used for the record's text.

@@ -2,17 +2,17 @@
 ghost use Rattle.std.specs.Prelude.{◌≡◌, ◌+◌, ◌≤◌, ◌++◌, [], List, ℕ, length, IfOk};
 ghost use Rattle.vub_base.specs.Causes.{Rose};
 ghost use Rattle.vub_schedule.specs.Spelling.{IsSchedule};
+ghost use Rattle.vub_world.specs.World.{header_in};
 ghost use Rattle.vublk.specs.Flows.{Wrote, WrotePart, TakesAtMost, input_limit};
 ghost use Rattle.vublk.specs.Ends.{Prints, Plays, Replays, IsBadEnd, bad_line_text};
 
-use crate::printing::{PrintFault, print_all, put};
+use crate::printing::{PrintFault, print_all, print_head, put};
 use crate::reading::{ReadFault, read_all};
 use std::alloc::Global;
 use vub_base::{Memory, Sink, Source};
 use vub_schedule::writing::{put_number, put_text};
 use vub_schedule::{Schedule, ScheduleFault, parse_schedule};
 use vub_world::World;
-use vub_world::report::head_text;
 
 /// How a replay ended.
 #[derive(Clone, Copy, Debug, PartialEq, Eq)]
@@ -31,26 +31,41 @@ pub enum End {
     TooLong,
 }
 
-/// Prints the head line and the records.
+/// Prints the head line and the records that the world makes.
+fn print_world<O: Sink>(
+    alloc: Global,
+    world: &mut World,
+    schedule: &Schedule,
+    out: &mut O,
+) -> End
+    requires schedule { IsSchedule schedule.now }
+    requires header { header_in world.old ≡ schedule.now.header }
+    ensures ends { Prints schedule.now (O.held out.old) (O.held out.new) result }
+    ensures later { O.faults out.old ≤ O.faults out.new }
+    ensures failed { result ≡ End.WriteFault → Rose (O.faults out.old) (O.faults out.new) }
+{
+    match print_head(alloc, &schedule.header, out) {
+        Ok(()) => {}
+        Err(PrintFault::Memory) => return End::Memory,
+        Err(PrintFault::Failed) => return End::WriteFault,
+    }
+    match print_all(alloc, world, schedule.events.items(), out) {
+        Ok(()) => End::Done,
+        Err(PrintFault::Memory) => End::Memory,
+        Err(PrintFault::Failed) => End::WriteFault,
+    }
+}
+
+/// Runs a schedule and prints the head line and the records.
 fn print_run<O: Sink>(alloc: Global, schedule: &Schedule, out: &mut O) -> End
     requires { IsSchedule schedule.now }
     ensures ends { Prints schedule.now (O.held out.old) (O.held out.new) result }
     ensures later { O.faults out.old ≤ O.faults out.new }
     ensures failed { result ≡ End.WriteFault → Rose (O.faults out.old) (O.faults out.new) }
 {
-    let Ok(mut world) = World::new(alloc, &schedule.header) else {
-        return End::Memory;
-    };
-    let Ok(head) = head_text(alloc, &schedule.header) else {
-        return End::Memory;
-    };
-    if put(out, &head).is_err() {
-        return End::WriteFault;
-    }
-    match print_all(alloc, &mut world, schedule.events.items(), out) {
-        Ok(()) => End::Done,
-        Err(PrintFault::Memory) => End::Memory,
-        Err(PrintFault::Failed) => End::WriteFault,
+    match World::new(alloc, &schedule.header) {
+        Ok(mut world) => print_world(alloc, &mut world, schedule, out),
+        Err(Memory) => End::Memory,
     }
 }
 
