@@ -1,5 +1,5 @@
 -- The head line and then records.
-use Rattle.std.proofs.Common.{◌≡◌, ℕ, List, [], ◌∷◌, ◌++◌, take, refl, sym, ap, subst, ◌∙◌, Option}
+use Rattle.std.proofs.Common.{◌≡◌, ℕ, List, [], take, refl, sym, subst, Option}
 use Rattle.std.proofs.lemmas.List.{append-nil}
 use Rattle.vub_schedule.specs.declared.types.Event.{Event}
 use Rattle.vub_schedule.specs.declared.types.Schedule.{Schedule}

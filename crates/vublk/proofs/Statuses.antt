@@ -1,9 +1,9 @@
 -- From the end of a replay to its status, and from the input to the status.
-use Rattle.std.proofs.Common.{◌≡◌, ℕ, List, [], ◌∷◌, ◌++◌, ◌≤◌, ◌<◌, length, arith, ap, refl, sym, subst, ◌∙◌, Option, Some, None, ◌⊎◌, inl, inr}
+use Rattle.std.proofs.Common.{◌≡◌, ℕ, List, ◌≤◌, length, arith, refl, sym, subst, ◌∙◌, Option, Some, ◌⊎◌, inl, inr}
 use Rattle.vub_schedule.specs.Spelling.{IsText}
 use Rattle.vub_schedule.specs.Faults.{IsFirstBad}
 use Rattle.vub_schedule.proofs.Texts.{not_spelled}
-use Rattle.vublk.specs.Flows.{Took, TakesAtMost, input_limit}
+use Rattle.vublk.specs.Flows.{input_limit}
 use Rattle.vublk.specs.declared.replay.End.{End}
 use Rattle.vublk.specs.declared.replay.End.TheVariants.{Done, Memory, ReadFault, WriteFault, BadLine, TooLong}
 use Rattle.vublk.specs.Ends.{Replays, status_of}

@@ -1,9 +1,9 @@
 -- Reads and writes one after another.
-use Rattle.std.proofs.Common.{◌≡◌, ℕ, List, [], ◌∷◌, ◌++◌, append_assoc, refl, sym, ap, subst, ◌∙◌, Option, Some, None, Result, Ok, Err, IfOk, take, drop, length, length-append, length-take, ◌+◌, ◌-◌, ◌≤◌, arith}
+use Rattle.std.proofs.Common.{ℕ, List, [], ◌++◌, append_assoc, refl, sym, ap, ◌∙◌, Option, Some, None, Result, Ok, Err, IfOk, take, drop, length, length-append, length-take, ◌+◌, ◌≤◌, arith}
 use Rattle.std.proofs.Math.Seq.{take-append-add}
 use Rattle.std.proofs.lemmas.List.{take-append-drop}
 use Rattle.vub_base.specs.Sources.{Reads}
-use Rattle.vublk.specs.Flows.{Took, TookAll, TakesAtMost, Wrote, WrotePart}
+use Rattle.vublk.specs.Flows.{Took, TakesAtMost, Wrote, WrotePart}
 
 pub Took-then : (a b c : Option (List ℕ)) (xs ys : List ℕ) → Took a b xs → Took b c ys → Took a c (xs ++ ys)
 Took-then None b c xs ys p q = let e : Took None c ys = rw p at q in e

@@ -1,6 +1,6 @@
 -- From the words to the command, and from the end of a replay to its status.
-use Rattle.std.proofs.Common.{◌≡◌, ℕ, List, [], ◌∷◌, ◌≤◌, ◌<◌, length, get_or, Bool, arith, ap, refl, sym, subst, Option, Some, None}
-use Rattle.std.specs.Prelude.{IfSome, IsTrue, codes, map, string_bytes, String, ◌↔◌}
+use Rattle.std.proofs.Common.{◌≡◌, ℕ, List, [], ◌∷◌, ◌≤◌, ◌<◌, length, get_or, Bool, arith, ap, sym}
+use Rattle.std.specs.Prelude.{IsTrue, codes, string_bytes, String, ◌↔◌}
 use Rattle.std.specs.Global.{Global}
 use Rattle.vublk.specs.Words.{IsReplay}
 

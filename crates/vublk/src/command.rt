@@ -4,7 +4,7 @@ ghost use Rattle.vub_base.specs.Causes.{Rose};
 ghost use Rattle.vub_base.specs.Told.{WhereTold};
 ghost use Rattle.vub_schedule.specs.Spelling.{IsText};
 ghost use Rattle.vub_schedule.specs.Faults.{IsFirstBad};
-ghost use Rattle.vublk.specs.Flows.{Wrote, TakesAtMost, input_limit};
+ghost use Rattle.vublk.specs.Flows.{Wrote, WrotePart, TakesAtMost, input_limit};
 ghost use Rattle.vublk.specs.Words.{IsReplay, usage_text};
 ghost use Rattle.vublk.specs.Ends.{Replays, status_of};
 ghost use Rattle.vublk.specs.Statuses.{IsUnlessFault, Refuses};
@@ -80,8 +80,10 @@ pub fn run<I: Source, O: Sink, M: Shared, D: Disk, B: Bell>(
     ensures memory { result ≡ 3 → IsReplay words.now × Replays (I.left input.old) (I.left input.new) (O.held out.old) (O.held out.new) End.Memory }
     // 4: the source failed, and the sink is as it was.
     ensures read { result ≡ 4 → IsReplay words.now × Rose (I.faults input.old) (I.faults input.new) × (O.held out.new ≡ O.held out.old) }
-    // 5: the sink failed.
-    ensures write { result ≡ 5 → Rose (O.faults out.old) (O.faults out.new) }
+    // 5: the sink failed, and grew by a front of what was to be written.
+    ensures write { result ≡ 5 → Rose (O.faults out.old) (O.faults out.new) ×
+        ((IsReplay words.now × Replays (I.left input.old) (I.left input.new) (O.held out.old) (O.held out.new) End.WriteFault)
+        ⊎ ((IsReplay words.now → ⊥) × WrotePart (O.held out.old) (O.held out.new) usage_text)) }
     // 6: the sink grew by the line that names the first bad line of the input.
     ensures bad { result ≡ 6 → IsReplay words.now × ((n : ℕ) × Replays (I.left input.old) (I.left input.new) (O.held out.old) (O.held out.new) (End.BadLine n)) }
     // 10: the input is too long, and the sink is as it was.

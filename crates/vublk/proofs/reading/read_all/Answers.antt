@@ -1,4 +1,4 @@
-use Rattle.std.proofs.Common.{◌≡◌, ◌+◌, ◌-◌, ◌≤◌, length, vec_len, arith}
+use Rattle.std.proofs.Common.{◌+◌, ◌-◌, ◌≤◌, length, vec_len, arith}
 use Rattle.vublk.proofs.Streams.{Takes-then}
 use Rattle.vublk.proofs.reading.read_all.Goals as goal
 

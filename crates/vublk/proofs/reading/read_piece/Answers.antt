@@ -1,4 +1,4 @@
-use Rattle.std.proofs.Common.{◌≡◌, ◌+◌, ◌-◌, ◌≤◌, length, length-take, vec_len, arith}
+use Rattle.std.proofs.Common.{◌-◌, ◌≤◌, length, length-take, vec_len, arith}
 use Rattle.vublk.proofs.Streams.{Reads-takes, Takes-more}
 use Rattle.vublk.proofs.reading.read_piece.Goals as goal
 
