@@ -1,5 +1,4 @@
-pub mod Streams
-pub mod OneMore
-pub mod RunText
-pub mod Whole
-pub mod Statuses
+mod Streams
+mod OneMore
+mod RunText
+mod Statuses

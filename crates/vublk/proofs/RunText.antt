@@ -7,11 +7,8 @@ use Rattle.vub_world.specs.declared.report.items.Record.{Record}
 use Rattle.vub_world.specs.RecordText.{head_spelling}
 use Rattle.vublk.specs.Flows.{Wrote, WrotePart}
 use Rattle.vublk.specs.Records.{IsRecorded, records_text}
-use Rattle.vublk.specs.Ends.{PrintsSome, PrintsPart}
-use Rattle.vublk.proofs.Streams.{Wrote-then, Part-then}
-
-pub Some-after : (s : Schedule) (events : List Event) (a b c : Option (List ℕ)) → events ≡ s.events → Wrote a b (head_spelling s.header) → (n : ℕ) × (rs : List Record) × IsRecorded (take n events) rs × Wrote b c (records_text rs) → PrintsSome s a c
-Some-after s events a b c same head p = (p.0, p.1, subst (λ (es : List Event). IsRecorded (take p.0 es) p.1) same p.2, Wrote-then a b c (head_spelling s.header) (records_text p.1) head p.3)
+use Rattle.vublk.specs.Ends.{PrintsPart}
+use Rattle.vublk.proofs.Streams.{Part-then}
 
 pub Part-after : (s : Schedule) (events : List Event) (a b c : Option (List ℕ)) → events ≡ s.events → Wrote a b (head_spelling s.header) → (n : ℕ) × (rs : List Record) × IsRecorded (take n events) rs × WrotePart b c (records_text rs) → PrintsPart s a c
 Part-after s events a b c same head p = (p.0, p.1, subst (λ (es : List Event). IsRecorded (take p.0 es) p.1) same p.2, Part-then a b c (head_spelling s.header) (records_text p.1) head p.3)

@@ -10,18 +10,30 @@ mod replay;
 mod tests;
 
 use edge::{FileSink, FileSource, NoBell};
+use std::alloc::{AllocError, Global};
 use std::env;
+use std::io::ErrorKind;
 use std::process::ExitCode;
 use vub_disk::NoDisk;
 use vub_shared::MemShared;
 
+/// The words after the program's name. Where one isn't UTF-8, none: such words aren't accepted either.
+fn words_of(alloc: Global, rt: &HostRuntime) -> Result<Vec<String>, AllocError> {
+    match env::args(rt) {
+        Ok(mut args) => {
+            let _name = args.next();
+            args.collect::<Vec<String>>(alloc)
+        }
+        Err(error) => match error.kind() {
+            ErrorKind::OutOfMemory => Err(AllocError),
+            _ => Ok(Vec::new(alloc)),
+        },
+    }
+}
+
 fn main(rt: HostRuntime) -> ExitCode {
     let alloc = rt.alloc();
-    let Ok(mut args) = env::args(&rt) else {
-        return ExitCode::from(2);
-    };
-    let _name = args.next();
-    let Ok(words) = args.collect::<Vec<String>>(alloc) else {
+    let Ok(words) = words_of(alloc, &rt) else {
         return ExitCode::from(3);
     };
     let mut input = FileSource::new(rt.stdin());
