@@ -32,12 +32,5 @@ resting waiting unfinished completed = record { started = true; phase = phases.R
 pub fetch_first : any_turn 4 (resting 1 1 1) ≡ Fetch
 fetch_first = refl
 
-pub then_work : any_turn 4 (resting 0 1 1) ≡ Work 0
-then_work = refl
-
 pub batch_goes_on : any_turn 4 (record (resting 1 1 1) { phase = phases.Publish 1 }) ≡ Publish 4
 batch_goes_on = refl
-
--- nothing waits, nothing is at work, nothing is completed
-pub none_ready : is_ready (resting 0 0 0) (any_turn 4 (resting 0 0 0)) ≡ false
-none_ready = refl
