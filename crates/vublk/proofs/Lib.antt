@@ -1,0 +1,5 @@
+pub mod Streams
+pub mod OneMore
+pub mod RunText
+pub mod Whole
+pub mod Statuses
