@@ -1,15 +1,13 @@
 -- The definitions, tried on the first request of a queue of four places: a read of sector 0.
-use Rattle.std.specs.Prelude.{◌≡◌, ℕ, true, false, List, [], ◌∷◌, ◌++◌, length, map, replicate, Some, None, refl}
-use Rattle.vub_base.specs.declared.request.Ask.{Ask}
-use Rattle.vub_base.specs.declared.request.Ask.TheVariants.{Read, Flush}
+use Rattle.std.specs.Prelude.{◌≡◌, true, false, List, [], ◌∷◌, refl}
+use Rattle.vub_base.specs.declared.request.Ask.TheVariants.{Read}
 use Rattle.vub_base.specs.declared.request.Shape.TheVariants.{Direct}
 use Rattle.vub_shared.specs.Bytes.{Bytes}
 use Rattle.vub_shared.specs.Bytes as bytes
-use Rattle.vub_shared.specs.Stores.{Store, one_store, after_store}
-use Rattle.vub_ring.specs.Ring.{Ring, avail_idx, waiting, seen}
+use Rattle.vub_shared.specs.Stores.{Store, after_store}
+use Rattle.vub_ring.specs.Ring.{Ring, waiting}
 use Rattle.vub_driver.specs.Layout.{ring_of}
-use Rattle.vub_driver.specs.Requests.{descriptors_needed}
-use Rattle.vub_driver.specs.Stores.{request_stores, chain_stores, offer_stores}
+use Rattle.vub_driver.specs.Stores.{offer_stores}
 use Rattle.vub_driver.specs.Drivers.{new_driver, can_take, chosen, after_ask, after_stores}
 
 abbrev first_ring : Ring

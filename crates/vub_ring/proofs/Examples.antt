@@ -1,14 +1,14 @@
 -- The definitions, tried on publications and on the turns of a queue.
-use Rattle.std.specs.Prelude.{◌≡◌, ℕ, true, false, List, [], ◌∷◌, map, Some, None, refl}
+use Rattle.std.specs.Prelude.{◌≡◌, ℕ, true, [], ◌∷◌, map, Some, refl}
 use Rattle.vub_base.specs.declared.store.Tag.TheVariants.{SP1, SP2, SP5}
 use Rattle.vub_ring.specs.declared.steps.Phase.TheVariants as phases
 use Rattle.vub_ring.specs.declared.steps.Step.TheVariants.{Id, Len, Index}
 use Rattle.vub_ring.specs.declared.readiness.Standing.{Standing}
-use Rattle.vub_ring.specs.declared.readiness.Turn.TheVariants.{Start, Fetch, Work, Publish}
+use Rattle.vub_ring.specs.declared.readiness.Turn.TheVariants.{Fetch, Publish}
 use Rattle.vub_ring.specs.Ring.{Ring}
 use Rattle.vub_ring.specs.Rows.{row, row_of}
 use Rattle.vub_ring.specs.Steps.{publish_steps}
-use Rattle.vub_ring.specs.Readiness.{is_ready, any_turn}
+use Rattle.vub_ring.specs.Readiness.{any_turn}
 
 abbrev small_ring : Ring
 small_ring = record { space = 0; desc = 0; avail = 4096; used = 8192; size = 4 }
