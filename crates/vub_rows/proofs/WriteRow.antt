@@ -1,5 +1,5 @@
 -- The records of the write are a run of its schedule, and memory tracks their history: both by computing.
-use Rattle.std.proofs.Common.{◌≡◌, ◌<◌, [], ◌∷◌, ℕ, zero, suc, refl, inl, inr, arith}
+use Rattle.std.proofs.Common.{[], ◌∷◌, zero, suc, refl, inl, inr, arith}
 use Rattle.vub_base.specs.declared.request.Shape.TheVariants.{Direct}
 use Rattle.vub_shared.specs.Bytes as bytes
 use Rattle.vub_device.specs.Requests as zero
