@@ -36,11 +36,7 @@ pub fn put<O: Sink>(out: &mut O, text: &[u8]) -> Result<(), PrintFault>
 }
 
 /// Prints the head line.
-pub fn print_head<O: Sink>(
-    alloc: Global,
-    header: &Header1,
-    out: &mut O,
-) -> Result<(), PrintFault>
+pub fn print_head<O: Sink>(alloc: Global, header: &Header1, out: &mut O) -> Result<(), PrintFault>
     ensures ok { OnOk result (Wrote (O.held out.old) (O.held out.new) (head_spelling header.now)) }
     ensures memory { IsErrOf result PrintFault.Memory → O.held out.new ≡ O.held out.old }
     ensures part { IsErrOf result PrintFault.Failed → WrotePart (O.held out.old) (O.held out.new) (head_spelling header.now) }

@@ -32,12 +32,7 @@ pub enum End {
 }
 
 /// Prints the head line and the records that the world makes.
-fn print_world<O: Sink>(
-    alloc: Global,
-    world: &mut World,
-    schedule: &Schedule,
-    out: &mut O,
-) -> End
+fn print_world<O: Sink>(alloc: Global, world: &mut World, schedule: &Schedule, out: &mut O) -> End
     requires schedule { IsSchedule schedule.now }
     requires header { header_in world.old ≡ schedule.now.header }
     ensures ends { Prints schedule.now (O.held out.old) (O.held out.new) result }
