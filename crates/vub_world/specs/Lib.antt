@@ -1,7 +1,13 @@
 pub mod Guest
 pub mod Lives
 pub mod Machine
+pub mod Memory
+pub mod Moments
 pub mod Queue
 pub mod RecordText
+pub mod Run
 pub mod Split
+pub mod Tasks
+pub mod Tracking
+pub mod Turns
 pub mod World

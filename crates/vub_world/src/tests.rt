@@ -23,7 +23,8 @@ fn records(alloc: Global, text: &str) -> Result<Vec<u8>, Fail> {
 
 #[test]
 fn one_write(rt: HostRuntime) -> Result<(), Fail> {
-    let text = "vub 1 split 1 4 8 0 back\nboot\njoin\nask 0 d write 0 aa\nguest 0 16\ndrain 0\ncollect 0\ncollect 0\n";
+    let text =
+        "vub 1 split 1 4 8 0 back\nboot\njoin\nask 0 d write 0 aa\nguest 0 16\ndrain 0\ncollect 0\ncollect 0\n";
     let wanted = "record 1 split 1 4 8 0 back
 > boot
 > join

@@ -1,0 +1,4 @@
+pub mod Readiness
+pub mod Ring
+pub mod Rows
+pub mod Steps
