@@ -57,7 +57,7 @@ standing h q m = record {
   phase = (m.lanes q).phase;
   waiting = ahead (avail_idx (ring_of q h.size) m.scene.memory) (avail_position h q m.scene);
   unfinished = length (unfinished q m);
-  completed = length (m.lanes q).completed
+  completed = length (m.lanes q).completed;
 }
 
 -- the buffer of a request, by the head under which it was offered

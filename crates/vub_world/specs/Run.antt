@@ -63,8 +63,8 @@ with_driver v l = record l { driver = v }
 abbrev pub ask : Header1 → ℕ → Shape → Ask → Moment → Played
 ask h q shape a m =
     if_ready (can_take h.size shape a (m.lanes q).driver)
-      (played [] (with_lane q (with_driver (after_ask (ring_of q h.size) a (m.lanes q).driver) (m.lanes q)) m))
-      m
+    (played [] (with_lane q (with_driver (after_ask (ring_of q h.size) a (m.lanes q).driver) (m.lanes q)) m))
+    m
 
 -- the stores, and after the last one that the request has the offer
 abbrev pub guest_items : ℕ → ℕ → Ask → List Store → List Item
