@@ -1,35 +1,17 @@
--- The definitions, tried on the first request of a queue of four places: a write of sector 0, filled with 0xaa.
-use Rattle.std.specs.Prelude.{◌≡◌, ℕ, true, false, List, [], ◌∷◌, ◌++◌, length, map, replicate, Some, None, refl}
-use Rattle.vub_base.specs.declared.request.Ask.{Ask}
-use Rattle.vub_base.specs.declared.request.Ask.TheVariants.{Read, Flush}
+-- The definitions, tried on the first request of a queue of four places: a read of sector 0.
+use Rattle.std.specs.Prelude.{◌≡◌, true, false, List, [], ◌∷◌, refl}
+use Rattle.vub_base.specs.declared.request.Ask.TheVariants.{Read}
 use Rattle.vub_base.specs.declared.request.Shape.TheVariants.{Direct}
 use Rattle.vub_shared.specs.Bytes.{Bytes}
 use Rattle.vub_shared.specs.Bytes as bytes
-use Rattle.vub_shared.specs.Stores.{Store, one_store, after_store}
-use Rattle.vub_ring.specs.Ring.{Ring, avail_idx, waiting, seen}
+use Rattle.vub_shared.specs.Stores.{Store, after_store}
+use Rattle.vub_ring.specs.Ring.{Ring, waiting}
 use Rattle.vub_driver.specs.Layout.{ring_of}
-use Rattle.vub_driver.specs.Requests.{descriptors_needed}
-use Rattle.vub_driver.specs.Stores.{request_stores, chain_stores, offer_stores}
+use Rattle.vub_driver.specs.Stores.{offer_stores}
 use Rattle.vub_driver.specs.Drivers.{new_driver, can_take, chosen, after_ask, after_stores}
 
 abbrev first_ring : Ring
 first_ring = ring_of 0 4
-
--- the read of sector 0: header, status, three descriptors, avail entry, avail.idx
-pub read_stores : request_stores first_ring 1 (Read 0 1) (0 ∷ 1 ∷ 2 ∷ []) ≡
-    one_store 0 65536 (replicate 16 0)
-    ∷ one_store 0 65552 (255 ∷ [])
-    ∷ one_store 0 0 (0 ∷ 0 ∷ 1 ∷ 0 ∷ 0 ∷ 0 ∷ 0 ∷ 0 ∷ 16 ∷ 0 ∷ 0 ∷ 0 ∷ 1 ∷ 0 ∷ 1 ∷ 0 ∷ [])
-    ∷ one_store 0 16 (0 ∷ 16 ∷ 1 ∷ 0 ∷ 0 ∷ 0 ∷ 0 ∷ 0 ∷ 0 ∷ 2 ∷ 0 ∷ 0 ∷ 3 ∷ 0 ∷ 2 ∷ 0 ∷ [])
-    ∷ one_store 0 32 (16 ∷ 0 ∷ 1 ∷ 0 ∷ 0 ∷ 0 ∷ 0 ∷ 0 ∷ 1 ∷ 0 ∷ 0 ∷ 0 ∷ 2 ∷ 0 ∷ 0 ∷ 0 ∷ [])
-    ∷ one_store 0 4102 (0 ∷ 0 ∷ [])
-    ∷ one_store 0 4098 (2 ∷ 0 ∷ [])
-    ∷ []
-read_stores = refl
-
--- a flush has two descriptors, the others have three
-pub flush_needs : descriptors_needed Flush ≡ 2
-flush_needs = refl
 
 -- four places take one read, and no second one beside it
 pub first_fits : can_take 4 Direct (Read 0 1) (new_driver 0) ≡ true
@@ -46,11 +28,7 @@ abbrev after_stores_in : List Store → Bytes → Bytes
 after_stores_in [] m = m
 after_stores_in (st ∷ stores) m = after_stores_in stores (after_store st m)
 
--- once the offer stands, head 0 waits from position 0 on, and nothing is seen
+-- once the offer of head 2 stands, it waits from position 0 on
 pub offer_waits : waiting first_ring (after_stores_in (offer_stores first_ring 0 2) (λ s p. 0)) 0 ≡ 2 ∷ []
 unfolding bytes.word bytes.put
 offer_waits = refl
-
-pub nothing_seen : seen first_ring (after_stores_in (offer_stores first_ring 0 2) (λ s p. 0)) 0 ≡ []
-unfolding bytes.word bytes.put
-nothing_seen = refl

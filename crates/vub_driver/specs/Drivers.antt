@@ -1,5 +1,5 @@
 -- What the driver of a queue keeps, and what it does with it.
-use Rattle.std.specs.Prelude.{ℕ, zero, suc, ◌+◌, ◌%◌, Bool, true, false, ◌==◌, ◌&&◌, nat_le, is_none, if◌then◌else◌, List, [], ◌∷◌, length, take, drop, Option, Some, None}
+use Rattle.std.specs.Prelude.{ℕ, zero, suc, ◌+◌, ◌%◌, Bool, false, ◌==◌, ◌&&◌, nat_le, is_none, if◌then◌else◌, List, [], ◌∷◌, length, take, drop, Option, Some, None}
 use Rattle.vub_base.specs.declared.request.Ask.{Ask}
 use Rattle.vub_base.specs.declared.request.Shape.{Shape}
 use Rattle.vub_base.specs.declared.request.Shape.TheVariants.{Direct, Indirect}

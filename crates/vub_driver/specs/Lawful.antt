@@ -1,10 +1,20 @@
 -- Which stores of a driver are lawful: it changes only what it owns (VIRTIO 1.2, 2.7.13).
-use Rattle.std.specs.Prelude.{◌≡◌, ◌⊎◌, ◌≤◌, ◌<◌, ℕ, ◌+◌, ◌%◌, Bool, false, length}
+use Rattle.std.specs.Prelude.{◌≡◌, ◌⊎◌, ◌≤◌, ◌<◌, ℕ, ◌+◌, ◌%◌, Bool, false, not, length, Option, Some, None}
 use Rattle.byteorder.specs.Endian.{little_bytes}
 use Rattle.vub_shared.specs.Bytes.{Bytes}
 use Rattle.vub_shared.specs.Stores.{Store}
 use Rattle.vub_ring.specs.Ring.{Ring, desc_place, avail_entry_place, avail_idx_place, avail_idx}
 use Rattle.vub_driver.specs.Layout.{buffer_place, buffer_bytes}
+use Rattle.vub_driver.specs.Drivers.{Driver, Waiting, is_head}
+
+-- that owner is a request which is offered and not collected, and not the one that waits
+abbrev pub is_outstanding : Option ℕ → Option Waiting → Bool
+is_outstanding None w = false
+is_outstanding (Some head) w = not (is_head head w)
+
+-- the descriptor or the buffer of that number is in the device's hands
+abbrev pub is_busy : Driver → ℕ → Bool
+is_busy v d = is_outstanding (v.owner d) v.waiting
 
 -- the store changes only some of the w bytes from a place on
 pub record LiesIn (place w : ℕ) (st : Store) : Type 0 where

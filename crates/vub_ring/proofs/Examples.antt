@@ -1,14 +1,14 @@
 -- The definitions, tried on publications and on the turns of a queue.
-use Rattle.std.specs.Prelude.{◌≡◌, ℕ, true, false, List, [], ◌∷◌, map, Some, None, refl}
+use Rattle.std.specs.Prelude.{◌≡◌, ℕ, true, [], ◌∷◌, map, Some, refl}
 use Rattle.vub_base.specs.declared.store.Tag.TheVariants.{SP1, SP2, SP5}
 use Rattle.vub_ring.specs.declared.steps.Phase.TheVariants as phases
 use Rattle.vub_ring.specs.declared.steps.Step.TheVariants.{Id, Len, Index}
 use Rattle.vub_ring.specs.declared.readiness.Standing.{Standing}
-use Rattle.vub_ring.specs.declared.readiness.Turn.TheVariants.{Start, Fetch, Work, Publish}
+use Rattle.vub_ring.specs.declared.readiness.Turn.TheVariants.{Fetch, Publish}
 use Rattle.vub_ring.specs.Ring.{Ring}
 use Rattle.vub_ring.specs.Rows.{row, row_of}
 use Rattle.vub_ring.specs.Steps.{publish_steps}
-use Rattle.vub_ring.specs.Readiness.{is_ready, any_turn}
+use Rattle.vub_ring.specs.Readiness.{any_turn}
 
 abbrev small_ring : Ring
 small_ring = record { space = 0; desc = 0; avail = 4096; used = 8192; size = 4 }
@@ -32,12 +32,5 @@ resting waiting unfinished completed = record { started = true; phase = phases.R
 pub fetch_first : any_turn 4 (resting 1 1 1) ≡ Fetch
 fetch_first = refl
 
-pub then_work : any_turn 4 (resting 0 1 1) ≡ Work 0
-then_work = refl
-
 pub batch_goes_on : any_turn 4 (record (resting 1 1 1) { phase = phases.Publish 1 }) ≡ Publish 4
 batch_goes_on = refl
-
--- nothing waits, nothing is at work, nothing is completed
-pub none_ready : is_ready (resting 0 0 0) (any_turn 4 (resting 0 0 0)) ≡ false
-none_ready = refl

@@ -1,14 +1,14 @@
 -- Where a run stands: memory and history, the drivers, and what the device has under way.
-use Rattle.std.specs.Prelude.{ℕ, ◌+◌, Bool, true, false, not, List, [], ◌++◌, length, filter, slice_index}
+use Rattle.std.specs.Prelude.{ℕ, ◌+◌, Bool, false, not, List, [], ◌++◌, length, filter, slice_index}
 use Rattle.vub_base.specs.declared.header.Header1.{Header1}
 use Rattle.vub_ring.specs.declared.steps.Phase.{Phase}
 use Rattle.vub_ring.specs.declared.steps.Phase.TheVariants.{Rest}
 use Rattle.vub_ring.specs.declared.readiness.Standing.{Standing}
-use Rattle.vub_ring.specs.Ring.{Ring, ahead, avail_idx}
+use Rattle.vub_ring.specs.Ring.{ahead, avail_idx}
 use Rattle.vub_driver.specs.Layout.{ring_of, area_place, buffer_place}
 use Rattle.vub_driver.specs.Drivers.{Driver, new_driver}
 use Rattle.vub_device.specs.Past.{accepted, open_numbers, is_among, started}
-use Rattle.vub_world.specs.Memory.{Scene, opening_scene, with_at}
+use Rattle.vub_world.specs.Memory.{Scene, opening_scene}
 
 -- one queue: its driver, and the device's side of it in this life
 pub record Lane : Type 0 where
@@ -57,7 +57,7 @@ standing h q m = record {
   phase = (m.lanes q).phase;
   waiting = ahead (avail_idx (ring_of q h.size) m.scene.memory) (avail_position h q m.scene);
   unfinished = length (unfinished q m);
-  completed = length (m.lanes q).completed
+  completed = length (m.lanes q).completed;
 }
 
 -- the buffer of a request, by the head under which it was offered

@@ -1,5 +1,5 @@
 -- What it means that records are a run of a schedule.
-use Rattle.std.specs.Prelude.{◌≡◌, ◌⊎◌, ℕ, zero, suc, ◌+◌, ◌-◌, Bool, true, false, not, ◌&&◌, nat_lt, if◌then◌else◌, List, [], ◌∷◌, ◌++◌, length, take, replicate, flat_map, slice_index, Option, Some, None, is_some, ⊤}
+use Rattle.std.specs.Prelude.{◌≡◌, ◌⊎◌, ℕ, zero, suc, ◌+◌, ◌-◌, Bool, true, false, not, ◌&&◌, if◌then◌else◌, List, [], ◌∷◌, ◌++◌, replicate, flat_map, slice_index, Option, Some, None, is_some, ⊤}
 use Rattle.vub_base.specs.declared.header.Header1.{Header1}
 use Rattle.vub_base.specs.declared.request.Shape.{Shape}
 use Rattle.vub_base.specs.declared.request.Ask.{Ask}
@@ -24,7 +24,7 @@ use Rattle.vub_world.specs.declared.report.items.Item.TheVariants as items
 use Rattle.vub_world.specs.declared.report.items.Record.{Record}
 use Rattle.vub_world.specs.Memory.{with_at, after_items}
 use Rattle.vub_world.specs.Moments.{Lane, Moment, opening, fresh, standing}
-use Rattle.vub_world.specs.Turns.{Turned, turned}
+use Rattle.vub_world.specs.Turns.{turned}
 
 -- items, and where they lead
 pub record Played : Type 0 where
@@ -63,8 +63,8 @@ with_driver v l = record l { driver = v }
 abbrev pub ask : Header1 → ℕ → Shape → Ask → Moment → Played
 ask h q shape a m =
     if_ready (can_take h.size shape a (m.lanes q).driver)
-      (played [] (with_lane q (with_driver (after_ask (ring_of q h.size) a (m.lanes q).driver) (m.lanes q)) m))
-      m
+    (played [] (with_lane q (with_driver (after_ask (ring_of q h.size) a (m.lanes q).driver) (m.lanes q)) m))
+    m
 
 -- the stores, and after the last one that the request has the offer
 abbrev pub guest_items : ℕ → ℕ → Ask → List Store → List Item

@@ -489,7 +489,7 @@ impl Machine {
         Ok(true)
     }
 
-    /// Steps until none is ready.
+    /// Steps until none is ready. The loop's bound is one that no run reaches.
     fn drain_steps(&mut self, items: &mut Vec<Item>) -> Result<(), Memory>
         requires { IsSound self.old }
         ensures header { self.new.header ≡ self.old.header }

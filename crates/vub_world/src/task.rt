@@ -36,7 +36,11 @@ const UNSUPP: u8 = 2;
 #[derive(Clone, Copy, Debug, PartialEq, Eq)]
 struct Answer {
     status: u8,
+    /// The used length.
     len: u32,
+    /// The used length of an answer without data.
+    plain_len: u32,
+    /// Where the status stands, in its last byte.
     span: Span,
 }
 
@@ -74,11 +78,22 @@ pub struct Task {
     work: Work,
 }
 
-/// The answer without a transfer: its length is that of the status byte.
+/// The used length of an answer without data: 1 where the device may write the status byte alone,
+/// else 0.
+fn plain_len(parts: &Parts) -> u32 {
+    match parts.sectors {
+        Some(sectors) if sectors.writable && sectors.span.len != 0 => 0,
+        _ => u32::from(parts.status.len == 1),
+    }
+}
+
+/// An answer without data.
 fn plain_answer(parts: &Parts, status: u8) -> Answer {
+    let len = plain_len(parts);
     Answer {
         status,
-        len: if parts.status.len == 1 { 1 } else { 0 },
+        len,
+        plain_len: len,
         span: parts.status,
     }
 }
@@ -117,12 +132,8 @@ fn transfer_of(
         span,
         answer: Answer {
             status: OK,
-            len: if writable {
-                read
-            } else {
-                plain_answer(parts, OK).len
-            },
-            span: parts.status,
+            len: if writable { read } else { refused.len },
+            ..refused
         },
     })
 }
@@ -152,11 +163,12 @@ fn after_sector(transfer: Transfer, more: Work) -> Work {
     }
 }
 
-fn with_status(answer: Answer, status: u8) -> Answer {
+/// The answer of a request whose disk call failed.
+fn failed(answer: Answer) -> Answer {
     Answer {
-        status,
-        len: if answer.span.len == 1 { 1 } else { 0 },
-        span: answer.span,
+        status: IOERR,
+        len: answer.plain_len,
+        ..answer
     }
 }
 
@@ -213,7 +225,7 @@ impl Task {
             return None;
         }
         if disk.read(number, sector).is_err() {
-            self.work = Work::Reply(with_status(transfer.answer, IOERR));
+            self.work = Work::Reply(failed(transfer.answer));
             return Some(TaskStep::Faulted);
         }
         self.work = Work::Store(transfer);
@@ -264,7 +276,7 @@ impl Task {
             return Some(TaskStep::Failed);
         }
         if disk.write(number, sector).is_err() {
-            self.work = Work::Reply(with_status(transfer.answer, IOERR));
+            self.work = Work::Reply(failed(transfer.answer));
             return Some(TaskStep::Faulted);
         }
         let next = Transfer {
@@ -280,7 +292,7 @@ impl Task {
         ensures capacity { D.capacity disk.new ≡ D.capacity disk.old }
     {
         if disk.flush().is_err() {
-            self.work = Work::Reply(with_status(answer, IOERR));
+            self.work = Work::Reply(failed(answer));
             return TaskStep::Faulted;
         }
         self.work = Work::Reply(answer);

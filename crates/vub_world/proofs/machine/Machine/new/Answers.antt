@@ -1,4 +1,4 @@
-use Rattle.std.proofs.Common.{◌≡◌, ◌≤◌, ◌+◌, ℕ, sym, ap, ◌∙◌, arith, refl}
+use Rattle.std.proofs.Common.{◌≡◌, ap, ◌∙◌, arith}
 use Rattle.vub_base.specs.declared.store.Space.{Space}
 use Rattle.vub_shared.specs.MemSpaces.{sizes_of}
 use Rattle.vub_shared.specs.TrailForms.{inner_of}

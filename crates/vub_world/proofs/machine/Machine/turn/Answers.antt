@@ -1,4 +1,4 @@
-use Rattle.std.proofs.Common.{◌≡◌, ◌∙◌, ℕ, sym, ap, refl}
+use Rattle.std.proofs.Common.{◌∙◌, ap, refl}
 use Rattle.vub_shared.specs.MemSpaces.{sizes_of}
 use Rattle.vub_shared.specs.TrailForms.{inner_of}
 use Rattle.vub_world.specs.Split.{RingLies}

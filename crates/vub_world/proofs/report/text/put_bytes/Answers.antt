@@ -1,6 +1,5 @@
-use Rattle.std.proofs.Common.{◌≡◌, ◌++◌, ap, sym, ◌∙◌, length, arith, ◌<◌}
+use Rattle.std.proofs.Common.{◌++◌, ap, sym, ◌∙◌, length, arith, ◌<◌}
 use Rattle.std.proofs.lemmas.List.{append-nil}
-use Rattle.vub_world.specs.RecordText.{bytes_text}
 use Rattle.vub_world.proofs.RecordTextLemmas.{bytes_text-none}
 use Rattle.vub_world.proofs.report.text.put_bytes.Goals as goal
 

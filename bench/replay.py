@@ -1,0 +1,78 @@
+#!/usr/bin/env python3
+"""Times `vublk replay` on a schedule of just under 16 MiB.
+
+usage: bench/replay.py [PROGRAM]
+
+PROGRAM is the built program, crates/vublk/out/vublk by default. The schedule writes one sector after
+another: some 330,000 requests, each asked for, handed over, served and collected. The program runs
+on it with its output in a file, and `sha256sum` runs over that output, each three times in turn; the
+best time of each counts. Prints both, their ratio, which may be at most 6, and how much memory the
+program took at most beyond the input, which may be 200 MB. Ends with status 1 where either is more.
+"""
+import os
+import resource
+import subprocess
+import sys
+import tempfile
+import time
+
+ROOT = os.path.dirname(os.path.dirname(os.path.abspath(__file__)))
+LIMIT = 16_777_216
+RUNS = 3
+MOST_RATIO = 6.0
+MOST_MEMORY = 200_000_000
+CAPACITY = 4096
+
+
+def schedule():
+    """The text of the schedule, and how many requests it has."""
+    text = bytearray(b"vub 1 split 1 64 %d 0 back\nboot\njoin\n" % CAPACITY)
+    requests = 0
+    while True:
+        sector = requests * 7 % CAPACITY
+        group = b"ask 0 d write %d %02x\nguest 0 16\ndrain 0\ncollect 0\n" % (sector, requests % 256)
+        if len(text) + len(group) > LIMIT:
+            return bytes(text), requests
+        text += group
+        requests += 1
+
+
+def timed(command, source, target):
+    """The seconds that a command takes, and the most memory that it held, in bytes."""
+    with open(source, "rb") as stdin, open(target, "wb") as stdout:
+        start = time.perf_counter()
+        child = subprocess.Popen(command, stdin=stdin, stdout=stdout)
+        _, status, usage = os.wait4(child.pid, 0)
+        seconds = time.perf_counter() - start
+    if status != 0:
+        sys.exit(f"{command[0]} ended with status {os.waitstatus_to_exitcode(status)}")
+    return seconds, usage.ru_maxrss * 1024
+
+
+def main():
+    program = sys.argv[1] if len(sys.argv) > 1 else os.path.join(ROOT, "crates/vublk/out/vublk")
+    with tempfile.TemporaryDirectory() as folder:
+        source = os.path.join(folder, "schedule")
+        records = os.path.join(folder, "records")
+        digest = os.path.join(folder, "digest")
+        text, requests = schedule()
+        with open(source, "wb") as file:
+            file.write(text)
+        runs, sums, memory = [], [], 0
+        for _ in range(RUNS):
+            seconds, held = timed([program, "replay"], source, records)
+            runs.append(seconds)
+            memory = max(memory, held - len(text))
+            sums.append(timed(["sha256sum"], records, digest)[0])
+        ratio = min(runs) / min(sums)
+        print(f"schedule   {len(text):>12,} bytes, {requests:,} requests")
+        print(f"records    {os.path.getsize(records):>12,} bytes")
+        print(f"replay     {min(runs):>12.3f} s")
+        print(f"sha256sum  {min(sums):>12.3f} s")
+        print(f"ratio      {ratio:>12.2f}   (at most {MOST_RATIO})")
+        print(f"memory     {memory / 1e6:>12.1f} MB beyond the input (at most {MOST_MEMORY / 1e6:.0f})")
+        sys.exit(1 if ratio > MOST_RATIO or memory > MOST_MEMORY else 0)
+
+
+if __name__ == "__main__":
+    main()

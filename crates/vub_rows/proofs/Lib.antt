@@ -1,0 +1,2 @@
+pub mod ReadRow
+pub mod WriteRow

@@ -1,0 +1,121 @@
+-- A write and a read of sector 0, as schedules and as their records: a queue of four places, a disk of eight sectors.
+use Rattle.std.specs.Prelude.{ℕ, List, [], ◌∷◌, ◌++◌, replicate}
+use Rattle.vub_base.specs.declared.header.Header1.{Header1}
+use Rattle.vub_base.specs.declared.header.Format.TheVariants.{Split}
+use Rattle.vub_base.specs.declared.header.CacheMode.TheVariants.{Back}
+use Rattle.vub_base.specs.declared.request.Ask.{Ask}
+use Rattle.vub_base.specs.declared.request.Ask.TheVariants as asks
+use Rattle.vub_base.specs.declared.request.Shape.TheVariants.{Direct}
+use Rattle.vub_base.specs.declared.store.Tag.TheVariants.{G, T2, T5, SP1, SP2, SP5}
+use Rattle.vub_base.specs.declared.store.Area.TheVariants.{M}
+use Rattle.vub_device.specs.declared.entry.Asked.TheVariants as requests
+use Rattle.vub_device.specs.declared.entry.Answered.{Answered}
+use Rattle.vub_device.specs.declared.entry.Entry.TheVariants as entries
+use Rattle.vub_schedule.specs.declared.types.Event.{Event}
+use Rattle.vub_schedule.specs.declared.types.Event.TheVariants as events
+use Rattle.vub_schedule.specs.declared.types.Schedule.{Schedule}
+use Rattle.vub_world.specs.declared.report.items.Item.{Item}
+use Rattle.vub_world.specs.declared.report.items.Item.TheVariants as items
+use Rattle.vub_world.specs.declared.report.items.Record.{Record}
+
+abbrev pub header : Header1
+header = record { format = Split; queues = 1; size = 4; capacity = 8; base = 0; mode = Back }
+
+-- sector 0 filled with 0xaa
+abbrev pub write : Ask
+write = asks.Write 0 (record { items = 170 ∷ [] })
+
+abbrev pub read : Ask
+read = asks.Read 0 1
+
+abbrev pub sector : List ℕ
+sector = replicate 512 170
+
+abbrev pub zero_sector : List ℕ
+zero_sector = replicate 512 0
+
+abbrev pub answer : ℕ → List ℕ → Answered
+answer number read_bytes = record { number = number; status = 0; bytes = read_bytes }
+
+abbrev pub of : Event → List Item → Record
+of event is = record { event = event; items = is }
+
+-- the three descriptors, of which the second has these flags
+abbrev pub descriptors : ℕ → List Item
+descriptors flags =
+    items.Store G M 0 (0 ∷ 0 ∷ 1 ∷ 0 ∷ 0 ∷ 0 ∷ 0 ∷ 0 ∷ 16 ∷ 0 ∷ 0 ∷ 0 ∷ 1 ∷ 0 ∷ 1 ∷ 0 ∷ [])
+    ∷ items.Store G M 16 (0 ∷ 16 ∷ 1 ∷ 0 ∷ 0 ∷ 0 ∷ 0 ∷ 0 ∷ 0 ∷ 2 ∷ 0 ∷ 0 ∷ flags ∷ 0 ∷ 2 ∷ 0 ∷ [])
+    ∷ items.Store G M 32 (16 ∷ 0 ∷ 1 ∷ 0 ∷ 0 ∷ 0 ∷ 0 ∷ 0 ∷ 1 ∷ 0 ∷ 0 ∷ 0 ∷ 2 ∷ 0 ∷ 0 ∷ 0 ∷ [])
+    ∷ []
+
+abbrev pub write_offered : List Item
+write_offered =
+    items.Store G M 65536 (1 ∷ replicate 15 0)
+    ∷ items.Store G M 69632 sector
+    ∷ items.Store G M 65552 (255 ∷ [])
+    ∷ (descriptors 1
+    ++ items.Store G M 4100 (0 ∷ 0 ∷ [])
+    ∷ items.Store G M 4098 (1 ∷ 0 ∷ [])
+    ∷ items.Made (entries.Offer 0 (requests.Write 0 sector))
+    ∷ [])
+
+abbrev pub write_served : List Item
+write_served =
+    items.Made (entries.Start 0 [])
+    ∷ items.Made (entries.Accept 0 0)
+    ∷ items.Made (entries.Act 0 0 0 sector)
+    ∷ items.Store T5 M 65552 (0 ∷ [])
+    ∷ items.Store SP1 M 8196 (0 ∷ 0 ∷ 0 ∷ 0 ∷ [])
+    ∷ items.Store SP2 M 8200 (1 ∷ 0 ∷ 0 ∷ 0 ∷ [])
+    ∷ items.Store SP5 M 8194 (1 ∷ 0 ∷ [])
+    ∷ items.Made (entries.Publish 0 (answer 0 [] ∷ []))
+    ∷ []
+
+abbrev pub read_offered : List Item
+read_offered =
+    items.Store G M 65536 (replicate 16 0)
+    ∷ items.Store G M 65552 (255 ∷ [])
+    ∷ (descriptors 3
+    ++ items.Store G M 4100 (0 ∷ 0 ∷ [])
+    ∷ items.Store G M 4098 (1 ∷ 0 ∷ [])
+    ∷ items.Made (entries.Offer 0 (requests.Read 0 1))
+    ∷ [])
+
+abbrev pub read_served : List Item
+read_served =
+    items.Made (entries.Start 0 [])
+    ∷ items.Made (entries.Accept 0 0)
+    ∷ items.Made (entries.Look 0 0 0 zero_sector)
+    ∷ items.Store T2 M 69632 zero_sector
+    ∷ items.Store T5 M 65552 (0 ∷ [])
+    ∷ items.Store SP1 M 8196 (0 ∷ 0 ∷ 0 ∷ 0 ∷ [])
+    ∷ items.Store SP2 M 8200 (1 ∷ 2 ∷ 0 ∷ 0 ∷ [])
+    ∷ items.Store SP5 M 8194 (1 ∷ 0 ∷ [])
+    ∷ items.Made (entries.Publish 0 (answer 0 zero_sector ∷ []))
+    ∷ []
+
+-- a life, the request, its stores, a drain, and a collection
+abbrev pub events_of : Ask → List Event
+events_of a =
+    events.Boot ∷ events.Join
+    ∷ events.Ask 0 Direct a ∷ events.Guest 0 16 ∷ events.Drain 0 ∷ events.Collect 0
+    ∷ []
+
+abbrev pub records_of : Ask → List Item → List Item → List Record
+records_of a offered served =
+    of events.Boot []
+    ∷ of events.Join []
+    ∷ of (events.Ask 0 Direct a) []
+    ∷ of (events.Guest 0 16) offered
+    ∷ of (events.Drain 0) served
+    ∷ of (events.Collect 0) (items.Made (entries.Collect 0 0) ∷ [])
+    ∷ []
+
+abbrev pub schedule_of : Ask → Schedule
+schedule_of a = record { header = header; events = events_of a }
+
+abbrev pub write_records : List Record
+write_records = records_of write write_offered write_served
+
+abbrev pub read_records : List Record
+read_records = records_of read read_offered read_served

@@ -1,0 +1,6 @@
+//! Whole runs, worked out by hand and tried on the definitions.
+#![tactic(auto)]
+
+mod rows;
+
+pub use rows::{one_read, one_write};

@@ -1,0 +1,4 @@
+mod Streams
+mod OneMore
+mod RunText
+mod Statuses

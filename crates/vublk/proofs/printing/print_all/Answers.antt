@@ -1,0 +1,22 @@
+use Rattle.std.proofs.Common.{rules, ◌∙◌}
+use Rattle.std.proofs.lemmas.Result.{err_from_is_err_and}
+use Rattle.vublk.proofs.OneMore.{Part-more, Whole-more}
+use Rattle.vublk.proofs.printing.print_all.Goals as goal
+
+pub returns-in_err-print_next-clause-part : goal.returns-in_err-print_next-clause-part
+returns-in_err-print_next-clause-part g c = λ failed.
+    let r = err_from_is_err_and c.from_residual.result c.from_residual.ensures.1 in
+    let f = rw r.1 at failed in
+    let at = c.in_err-print_next.ensures.part (cc (f, r.2)) in
+    let inv = c.loop-event.invariant.printed in
+    Part-more c.args.events.now c.loop-event.event-index c.event-item.result inv.0 at.0 _ _ _ c.loop-event-test.true c.event-item.is inv.1 at.1 inv.2 at.2
+
+pub loop-event-preserved : goal.loop-event-preserved
+loop-event-preserved g c =
+    let inv = c.loop-event.invariant in
+    let at = c.in_ok-print_next.ensures.ok in
+    record {
+      header = c.print_next.ensures.header ∙ inv.header;
+      printed = Whole-more c.args.events.now c.loop-event.event-index c.event-item.result inv.printed.0 at.0 _ _ _ c.loop-event-test.true c.event-item.is inv.printed.1 at.1 inv.printed.2 at.2;
+      later = search rules;
+    }

@@ -1,0 +1,121 @@
+//! The command `replay`: reads a schedule, runs it and prints its records.
+ghost use Rattle.std.specs.Prelude.{◌≡◌, ◌+◌, ◌≤◌, ◌++◌, [], List, ℕ, length, IfOk};
+ghost use Rattle.vub_base.specs.Causes.{Rose};
+ghost use Rattle.vub_schedule.specs.Spelling.{IsSchedule};
+ghost use Rattle.vub_world.specs.World.{header_in};
+ghost use Rattle.vublk.specs.Flows.{Wrote, WrotePart, TakesAtMost, input_limit};
+ghost use Rattle.vublk.specs.Ends.{Prints, Plays, Replays, IsBadEnd, bad_line_text};
+
+use crate::printing::{PrintFault, print_all, print_head, put};
+use crate::reading::{ReadFault, read_all};
+use std::alloc::Global;
+use vub_base::{Memory, Sink, Source};
+use vub_schedule::writing::{put_number, put_text};
+use vub_schedule::{Schedule, ScheduleFault, parse_schedule};
+use vub_world::World;
+
+/// How a replay ended.
+#[derive(Clone, Copy, Debug, PartialEq, Eq)]
+pub enum End {
+    /// All events were played and their records printed.
+    Done,
+    /// Want of memory.
+    Memory,
+    /// The source failed.
+    ReadFault,
+    /// The sink failed.
+    WriteFault,
+    /// The first line outside the grammar has this number, from 1.
+    BadLine(u64),
+    /// The input has more than 16,777,216 bytes.
+    TooLong,
+}
+
+/// Prints the head line and the records that the world makes.
+fn print_world<O: Sink>(alloc: Global, world: &mut World, schedule: &Schedule, out: &mut O) -> End
+    requires schedule { IsSchedule schedule.now }
+    requires header { header_in world.old ≡ schedule.now.header }
+    ensures ends { Prints schedule.now (O.held out.old) (O.held out.new) result }
+    ensures later { O.faults out.old ≤ O.faults out.new }
+    ensures failed { result ≡ End.WriteFault → Rose (O.faults out.old) (O.faults out.new) }
+{
+    match print_head(alloc, &schedule.header, out) {
+        Ok(()) => {}
+        Err(PrintFault::Memory) => return End::Memory,
+        Err(PrintFault::Failed) => return End::WriteFault,
+    }
+    match print_all(alloc, world, schedule.events.items(), out) {
+        Ok(()) => End::Done,
+        Err(PrintFault::Memory) => End::Memory,
+        Err(PrintFault::Failed) => End::WriteFault,
+    }
+}
+
+/// Runs a schedule and prints the head line and the records.
+fn print_run<O: Sink>(alloc: Global, schedule: &Schedule, out: &mut O) -> End
+    requires { IsSchedule schedule.now }
+    ensures ends { Prints schedule.now (O.held out.old) (O.held out.new) result }
+    ensures later { O.faults out.old ≤ O.faults out.new }
+    ensures failed { result ≡ End.WriteFault → Rose (O.faults out.old) (O.faults out.new) }
+{
+    match World::new(alloc, &schedule.header) {
+        Ok(mut world) => print_world(alloc, &mut world, schedule, out),
+        Err(Memory) => End::Memory,
+    }
+}
+
+fn bad_line(alloc: Global, line: u64) -> Result<Vec<u8>, Memory>
+    ensures { IfOk result (λ v. v.items ≡ bad_line_text line) }
+{
+    let mut text = Vec::new(alloc);
+    put_text(&mut text, b"bad line ")?;
+    put_number(&mut text, line)?;
+    put_text(&mut text, b"\n")?;
+    Ok(text)
+}
+
+/// Prints the number of a bad line.
+fn print_bad<O: Sink>(alloc: Global, line: u64, out: &mut O) -> End
+    ensures done { result ≡ End.BadLine line → Wrote (O.held out.old) (O.held out.new) (bad_line_text line) }
+    ensures part { result ≡ End.WriteFault → WrotePart (O.held out.old) (O.held out.new) (bad_line_text line) }
+    ensures memory { result ≡ End.Memory → O.held out.new ≡ O.held out.old }
+    ensures later { O.faults out.old ≤ O.faults out.new }
+    ensures failed { result ≡ End.WriteFault → Rose (O.faults out.old) (O.faults out.new) }
+    ensures only { IsBadEnd line result }
+{
+    let Ok(text) = bad_line(alloc, line) else {
+        return End::Memory;
+    };
+    if put(out, &text).is_err() {
+        return End::WriteFault;
+    }
+    End::BadLine(line)
+}
+
+/// Plays a text.
+fn play<O: Sink>(alloc: Global, text: &[u8], out: &mut O) -> End
+    ensures ends { Plays text.now (O.held out.old) (O.held out.new) result }
+    ensures later { O.faults out.old ≤ O.faults out.new }
+    ensures failed { result ≡ End.WriteFault → Rose (O.faults out.old) (O.faults out.new) }
+{
+    match parse_schedule(alloc, text) {
+        Ok(schedule) => print_run(alloc, &schedule, out),
+        Err(ScheduleFault::BadLine(line)) => print_bad(alloc, line, out),
+        Err(ScheduleFault::Memory) => End::Memory,
+    }
+}
+
+/// Reads a text and plays it.
+pub fn replay<I: Source, O: Sink>(alloc: Global, input: &mut I, out: &mut O) -> End
+    ensures ends { Replays (I.left input.old) (I.left input.new) (O.held out.old) (O.held out.new) result }
+    ensures read { result ≡ End.ReadFault → Rose (I.faults input.old) (I.faults input.new) }
+    ensures write { result ≡ End.WriteFault → Rose (O.faults out.old) (O.faults out.new) }
+    ensures taken { TakesAtMost (input_limit + 1) (I.left input.old) (I.left input.new) }
+{
+    match read_all(alloc, input) {
+        Ok(text) => play(alloc, &text, out),
+        Err(ReadFault::Memory) => End::Memory,
+        Err(ReadFault::Failed) => End::ReadFault,
+        Err(ReadFault::TooLong) => End::TooLong,
+    }
+}

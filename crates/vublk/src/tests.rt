@@ -1,0 +1,182 @@
+//! Tests of `run`.
+ghost use Rattle.std.specs.Prelude.{◌<◌};
+
+use crate::command::run;
+use crate::edge::NoBell;
+use std::alloc::Global;
+use std::process::Abort;
+use std::test::Fail;
+use vub_base::{MemSink, MemSource};
+use vub_disk::NoDisk;
+use vub_shared::MemShared;
+
+const HEADER: &str = "vub 1 split 1 4 8 0 back\n";
+
+const WRITE_AND_READ: &str = "vub 1 split 1 4 8 0 back
+boot
+join
+ask 0 d write 0 aa
+guest 0 16
+drain 0
+collect 0
+ask 0 d read 0 1
+guest 0 16
+drain 0
+collect 0
+";
+
+const RECORDS: &str = "record 1 split 1 4 8 0 back
+> boot
+> join
+> ask 0 d write 0 aa
+> guest 0 16
+. G m 10000 01000000000000000000000000000000
+. G m 11000 aa*512
+. G m 10010 ff
+. G m 0 00000100000000001000000001000100
+. G m 10 00100100000000000002000001000200
+. G m 20 10000100000000000100000002000000
+. G m 1004 0000
+. G m 1002 0100
+! offer 0 write 0 aa*512
+> drain 0
+! start 0 -
+! accept 0 0
+! act 0 0 0 aa*512
+. T5 m 10010 00
+. SP1 m 2004 00000000
+. SP2 m 2008 01000000
+. SP5 m 2002 0100
+! publish 0 0:0
+> collect 0
+! collect 0 0
+> ask 0 d read 0 1
+> guest 0 16
+. G m 10000 00*16
+. G m 10010 ff
+. G m 0 00000100000000001000000001000100
+. G m 10 00100100000000000002000003000200
+. G m 20 10000100000000000100000002000000
+. G m 1006 0000
+. G m 1002 0200
+! offer 0 read 0 1
+> drain 0
+! accept 0 1
+! look 0 1 0 aa*512
+. T2 m 11000 aa*512
+. T5 m 10010 00
+. SP1 m 200c 00000000
+. SP2 m 2010 01020000
+. SP5 m 2002 0200
+! publish 0 1:0:aa*512
+> collect 0
+! collect 0 1
+";
+
+const USAGE: &str =
+    "usage: vublk replay|entries|bulk SEED COUNT|inspect FORMAT SIZE WORD|serve [--read-only] IMAGE NAME..\n";
+
+/// The words between the spaces of a line; none for the empty line.
+fn words_of(alloc: Global, line: &str) -> Result<Vec<String>, Fail> {
+    let mut words = Vec::new(alloc);
+    if !line.is_empty() {
+        for word in line.split(' ') {
+            words.push(String::from_str(alloc, word)?)?;
+        }
+    }
+    Ok(words)
+}
+
+/// The one call that fails, if one is to fail.
+fn fails_of(alloc: Global, call: Option<u64>) -> Result<Vec<u64>, Fail> {
+    let mut fails = Vec::new(alloc);
+    if let Some(call) = call {
+        fails.push(call)?;
+    }
+    Ok(fails)
+}
+
+/// The status of a run and what the sink holds after it. The source gives at most `piece` bytes a
+/// call.
+fn run_on(
+    alloc: Global,
+    words: &[String],
+    text: &str,
+    piece: usize,
+    source_fails: Vec<u64>,
+    sink_fails: Vec<u64>,
+) -> Result<(u8, Vec<u8>), Fail>
+    requires { 0 < piece }
+{
+    let bytes = Vec::from_slice(alloc, text.as_bytes())?;
+    let mut input = MemSource::new(bytes, piece, source_fails);
+    let mut out = MemSink::new(alloc, 4096, sink_fails).ok().ok_or("memory")?;
+    let mut regions = MemShared::new(alloc, Vec::new(alloc));
+    let status = run(
+        alloc,
+        words,
+        &mut input,
+        &mut out,
+        &mut regions,
+        &mut NoDisk,
+        &mut NoBell,
+    );
+    Ok((status, Vec::from_slice(alloc, out.bytes())?))
+}
+
+/// One worked row, with what the source has given whole and in single bytes.
+fn check_row(
+    rt: &impl Abort,
+    alloc: Global,
+    words: &str,
+    text: &str,
+    faults: (Option<u64>, Option<u64>),
+    wanted: (u8, &str),
+) -> Result<(), Fail> {
+    let words = words_of(alloc, words)?;
+    for piece in [1, 65_536] {
+        let source_fails = fails_of(alloc, faults.0)?;
+        let sink_fails = fails_of(alloc, faults.1)?;
+        let (status, out) = run_on(alloc, &words, text, piece, source_fails, sink_fails)?;
+        assert_eq!(rt; status, wanted.0);
+        assert_eq!(rt; out.as_slice(), wanted.1.as_bytes());
+    }
+    Ok(())
+}
+
+#[test]
+fn worked_rows(rt: HostRuntime) -> Result<(), Fail> {
+    let whole = (None, None);
+    let bad_word = "vub 1 split 1 4 8 0 back\nboot\njoin\nfetchh 0\nkill\n";
+    let kill = "vub 1 split 1 4 8 0 back\nkill\n";
+    for (text, status, out) in [
+        (WRITE_AND_READ, 0, RECORDS),
+        (HEADER, 0, "record 1 split 1 4 8 0 back\n"),
+        (bad_word, 6, "bad line 4\n"),
+        (kill, 6, "bad line 2\n"),
+        ("", 6, "bad line 1\n"),
+    ] {
+        check_row(&rt, rt.alloc(), "replay", text, whole, (status, out))?;
+    }
+    let started = "vub 1 split 1 4 8 0 back\nboot\njoin\n";
+    check_row(&rt, rt.alloc(), "replay", started, (Some(0), None), (4, ""))?;
+    check_row(&rt, rt.alloc(), "replay", started, (None, Some(0)), (5, ""))?;
+    // The sink fails in mid-stream, at the third record.
+    let front = "record 1 split 1 4 8 0 back\n> boot\n> join\n";
+    check_row(
+        &rt,
+        rt.alloc(),
+        "replay",
+        WRITE_AND_READ,
+        (None, Some(3)),
+        (5, front),
+    )
+}
+
+#[test]
+fn refused_words(rt: HostRuntime) -> Result<(), Fail> {
+    for words in ["", "replay now", "entries", "--help", "replay ", "Replay"] {
+        check_row(&rt, rt.alloc(), words, HEADER, (None, None), (2, USAGE))?;
+    }
+    Ok(())
+}
