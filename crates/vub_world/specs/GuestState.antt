@@ -19,6 +19,7 @@ use Rattle.vub_world.specs.declared.guest.Collected.TheVariants as collected
 
 -- ---- the guest as ring and driver
 
+-- the ring on which it plays
 abbrev pub ring_in : Guest → Ring
 ring_in g = record { space = g.memory.number; desc = g.area; avail = g.area + 4096; used = g.area + 8192; size = g.size }
 
@@ -26,9 +27,11 @@ ring_in g = record { space = g.memory.number; desc = g.area; avail = g.area + 40
 abbrev pub owner_at : List (Option ℕ) → ℕ → Option ℕ
 owner_at owners d = get_or owners d None
 
+-- a request that waits, with the stores from its stage on
 abbrev pub waiting_in : Ring → ℕ → Pending → Waiting
 waiting_in r index p = record { ask = p.ask; head = p.chain.head; left = stores_from r index p.ask (links_of p.chain) p.stage }
 
+-- what it keeps, as a driver
 abbrev pub driver_in : Guest → Driver
 driver_in g = record { avail_idx = g.avail_idx; owner = owner_at g.owners.items; waiting = option_map (waiting_in (ring_in g) g.avail_idx) g.waiting }
 
@@ -61,13 +64,15 @@ abbrev pub next_store : Option Waiting → Option Store
 next_store None = None
 next_store (Some w) = first_store w.left
 
--- the driver v before a step, and w after it. A step is idle where no request waits, and the last store offers it
+-- The driver v before a step, and w after it: a step is idle where no request waits, and the last store of a request
+-- offers it.
 abbrev pub Steps : GuestStep → Driver → Driver → Type 0
 Steps Idle v w = (v.waiting ≡ None) × (w ≡ v)
 Steps Stored v w = (x : Waiting) × (v.waiting ≡ Some x) × (1 < length x.left) × (w ≡ after_stores 1 x v)
 Steps Offered v w = (x : Waiting) × (v.waiting ≡ Some x) × (length x.left ≡ 1) × (w ≡ after_stores 1 x v)
 Steps Failed v w = (x : Waiting) × (v.waiting ≡ Some x) × (w ≡ v)
 
+-- a step is an error where it failed
 abbrev pub outcome : GuestStep → Result (Unit {0}) (Unit {0})
 outcome Failed = Err tt
 outcome step = Ok tt
@@ -100,6 +105,7 @@ abbrev pub Collects : Collected → Driver → Driver → ℕ → ℕ → Type 0
 Collects (collected.Head head) v w p q = (w ≡ after_collect head v) × (q ≡ (p + 1) % 65536)
 Collects c v w p q = (w ≡ v) × (q ≡ p)
 
+-- a collection is an error where it failed
 abbrev pub fetched : Collected → Result (Unit {0}) (Unit {0})
 fetched collected.Failed = Err tt
 fetched c = Ok tt

@@ -86,7 +86,7 @@ impl Chain {
         }
     }
 
-    /// Gives its descriptors to its head.
+    /// Gives the descriptors to the head.
     fn own(&self, owners: &mut [Option<u16>])
         requires { All (λ d. d < length owners.old) (descriptors (links_of self.now)) }
         ensures owners { (d : ℕ) → owner_at owners.new d ≡ owned_by self.now.head (descriptors (links_of self.now)) (owner_at owners.old) d }
@@ -222,8 +222,9 @@ impl Guest {
         })
     }
 
-    /// Gives the driver a request. It is false, and changes nothing, exactly where a request waits
-    /// or the free descriptors don't suffice. Takes no memory.
+    /// Gives the driver a request. It is false, and changes nothing, exactly where a request waits,
+    /// the free descriptors don't suffice, or the shape is indirect, which this driver doesn't
+    /// place. Takes no memory.
     pub fn queue_request(&mut self, shape: Shape, ask: &Ask) -> bool
         ensures memory { self.new.memory ≡ self.old.memory }
         ensures area { self.new.area ≡ self.old.area }
@@ -400,7 +401,9 @@ impl Guest {
         GuestStep::Offered
     }
 
-    /// Makes the next store of the request that waits. Takes no memory.
+    /// Makes the next store of the request that waits; where none waits it is idle, and changes
+    /// nothing. The last store, of avail.idx, offers the request. After `Failed` the driver is as
+    /// before: its store stands or not, and the next step makes it again. Takes no memory.
     pub fn step<M: Shared>(&mut self, mem: &mut M) -> GuestStep
         requires { GuestLies (M.sizes mem.old) self.old }
         ensures sizes { (s : ℕ) → M.sizes mem.new s ≡ M.sizes mem.old s }
@@ -461,8 +464,8 @@ impl Guest {
         }
     }
 
-    /// Goes on behind the element of a head, whose descriptors are free from then on if it names an
-    /// offered buffer.
+    /// Goes on to the element after one of this head, whose descriptors are free from then on if it
+    /// names an offered buffer.
     fn take(&mut self, head: u16)
         ensures memory { self.new.memory ≡ self.old.memory }
         ensures area { self.new.area ≡ self.old.area }
@@ -477,7 +480,9 @@ impl Guest {
     }
 
     /// Takes the next used element, and frees the descriptors of the buffer that it names. An
-    /// element that names no offered buffer frees nothing. Takes no memory.
+    /// element that names no offered buffer frees nothing, and is taken all the same. `Nothing` is
+    /// where used.idx is at the driver's position; then, and after `Failed`, the driver is as
+    /// before. Takes no memory.
     pub fn collect<M: Shared>(&mut self, mem: &mut M) -> Collected
         requires { GuestLies (M.sizes mem.old) self.old }
         ensures sizes { (s : ℕ) → M.sizes mem.new s ≡ M.sizes mem.old s }
