@@ -1,3 +1,5 @@
 pub mod MachineLemmas
 pub mod RecordTextLemmas
 pub mod SplitLemmas
+pub mod RunNumbers
+pub mod RunRings
