@@ -3,3 +3,5 @@ pub mod RecordTextLemmas
 pub mod SplitLemmas
 pub mod RunNumbers
 pub mod RunRings
+pub mod RunGood
+pub mod RunTracks
