@@ -5,3 +5,4 @@ pub mod RunNumbers
 pub mod RunRings
 pub mod RunGood
 pub mod RunTracks
+pub mod RunFrames
