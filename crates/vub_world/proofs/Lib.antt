@@ -6,3 +6,4 @@ pub mod RunRings
 pub mod RunGood
 pub mod RunTracks
 pub mod RunFrames
+pub mod RunOffers
