@@ -7,3 +7,4 @@ pub mod RunGood
 pub mod RunTracks
 pub mod RunFrames
 pub mod RunOffers
+pub mod RunGuests
