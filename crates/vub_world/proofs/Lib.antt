@@ -8,3 +8,4 @@ pub mod RunTracks
 pub mod RunFrames
 pub mod RunOffers
 pub mod RunGuests
+pub mod RunWork

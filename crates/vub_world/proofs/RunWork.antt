@@ -1,0 +1,210 @@
+-- A step of work keeps what holds.
+use Rattle.std.proofs.Common.{◌≡◌, ◌≢◌, ◌≤◌, ◌<◌, ◌⊎◌, ℕ, zero, suc, ◌+◌, ◌*◌, ◌/◌, Bool, true, false, List, [], ◌∷◌, ◌++◌, length, take, drop, get_or, refl, ap, sym, ◌∙◌, subst, inl, inr, arith}
+use Rattle.std.specs.Prelude.{Option, Some, None, slice_index, slice_get, slice_range, ◌||◌, ⊤, if◌then◌else◌, nat_lt, unwrap_or}
+use Rattle.std.proofs.lemmas.Bool.Decides.{nat_tests}
+use Rattle.std.proofs.lemmas.Bool.{cases_eq, cases_Bool}
+use Rattle.std.proofs.lemmas.List.{take_all, length-append, length-take-le, append_assoc}
+use Rattle.vub_base.specs.declared.header.CacheMode.{CacheMode}
+use Rattle.vub_base.specs.declared.header.CacheMode.TheVariants.{Back}
+use Rattle.vub_base.specs.declared.header.Header1.{Header1}
+use Rattle.vub_shared.specs.Bytes.{Bytes, put, word, bytes_from}
+use Rattle.vub_shared.proofs.BytesLemmas.{put_inside, put_other, bytes_from-put_other, bytes_from-put_same}
+use Rattle.vub_ring.specs.declared.steps.Phase.{Phase}
+use Rattle.vub_ring.specs.declared.steps.Phase.TheVariants as phases
+use Rattle.vub_ring.specs.Ring.{used_id_place, used_len_place}
+use Rattle.vub_driver.specs.Layout.{area_place, buffer_place, status_place, sectors_place}
+use Rattle.vub_driver.specs.Drivers.{Driver, Waiting}
+use Rattle.vub_device.specs.declared.entry.Asked.{Asked}
+use Rattle.vub_device.specs.declared.entry.Asked.TheVariants as asks
+use Rattle.vub_device.specs.declared.entry.Entry.{Entry}
+use Rattle.vub_device.specs.declared.entry.Entry.TheVariants as entries
+use Rattle.vub_device.specs.declared.entry.SectorValue.{SectorValue}
+use Rattle.vub_device.specs.Crash.{value}
+use Rattle.vub_device.specs.Legal.{LegalFrom, IsAtWork, MayLook, MayAct}
+use Rattle.vub_device.specs.Requests.{look_at, effect_at, refusal}
+use Rattle.vub_device.specs.Past.{asked, accepted, published, is_among, IsOpen, started, looks, seen, acts}
+use Rattle.vub_device.specs.Places.{are_distinct}
+use Rattle.vub_device.proofs.Numbers.{is_among_append}
+use Rattle.vub_world.specs.Memory.{Scene, with_at, after_items}
+use Rattle.vub_world.specs.Moments.{Lane, buffer_of}
+use Rattle.vub_world.specs.Tasks.{TaskStep, Look, Put, Act, Status, task_steps, task_items, look_items, act_items, status_of, unless_refused, disk_steps, act_steps}
+use Rattle.vub_world.specs.Tracking.{EveryTracks, GoesOn, AfterEach, entries_of, answered_len}
+use Rattle.vub_world.specs.Turns.{Turned, nothing, request_turn, task_turn, after_task_step}
+use Rattle.vub_world.proofs.RunNumbers.{distinct_parts, distinct_join, distinct_push}
+use Rattle.vub_world.proofs.RunGood.{the_ring, IsSize, IsSimple, Known, Ringed, IsOut, IsWaiting, WaitsWell, Driven, Progress, IsBegun, IsFull, Worked, Stored, IsRead, IsBuilt, Built, buffer, Holds}
+use Rattle.vub_world.proofs.RunFrames.{open_out, OffBuffer, ringed_elsewhere, built_elsewhere, sectors_elsewhere, status_elsewhere, other_buffer}
+use Rattle.vub_world.proofs.RunGuests.{IsGood, stored_at, holds_track}
+
+-- ---- what doesn't change with most entries
+
+waits_same : (n cap : ℕ) (past past' : List Entry) (heads : List ℕ) (v : Driver) (o : Option Waiting) → ((k : ℕ) → IsOut past' heads k → IsOut past heads k) → WaitsWell n cap past heads v o → WaitsWell n cap past' heads v o
+waits_same n cap past past' heads v None out w = tt
+waits_same n cap past past' heads v (Some x) out w = record {
+  simple = w.simple;
+  below = w.below;
+  mine = w.mine;
+  apart = λ k o. w.apart k (out k o);
+  plan = w.plan;
+}
+
+pub driven_same : (n cap base : ℕ) (past past' : List Entry) (heads : List ℕ) (v : Driver) → ((k : ℕ) → IsOut past' heads k → IsOut past heads k) → Driven n cap base past heads v → Driven n cap base past' heads v
+driven_same n cap base past past' heads v out d = record {
+  index = d.index;
+  below = λ k o. d.below k (out k o);
+  owned = λ k o. d.owned k (out k o);
+  apart = λ j k oj ok same. d.apart j k (out j oj) (out k ok) same;
+  waits = waits_same n cap past past' heads v v.waiting out d.waits;
+}
+
+pub built_same : (n base : ℕ) (past past' : List Entry) (heads : List ℕ) (m : Bytes) (batch : List ℕ) (phase : Phase) → published past' 0 ≡ published past 0 → ((k : ℕ) → asked past' 0 k ≡ asked past 0 k)
+    → Built n base past heads m batch phase → Built n base past' heads m batch phase
+built_same n base past past' heads m batch phases.Rest ps ks b = tt
+built_same n base past past' heads m batch (phases.Start done) ps ks b = tt
+built_same n base past past' heads m batch (phases.Fetch done) ps ks b = tt
+built_same n base past past' heads m batch (phases.Publish done) ps ks b = record {
+  ids = λ e l d. ap (λ (qs : List ℕ). word 4 m 0 (used_id_place (the_ring n) (base + length qs + e))) ps ∙ b.ids e l d;
+  lens = λ e l d. ap (λ (qs : List ℕ). word 4 m 0 (used_len_place (the_ring n) (base + length qs + e))) ps ∙ b.lens e l d ∙ sym (ap (answered_len 0) (ks (slice_index batch e)));
+}
+
+-- ---- requests
+
+pub simple_cases : (cap : ℕ) (o : Option Asked) → IsSimple cap o → ((s : ℕ) × (s < cap) × (o ≡ Some (asks.Read s 1))) ⊎ ((s : ℕ) × (bytes : List ℕ) × (s < cap) × (length bytes ≡ 512) × (o ≡ Some (asks.Write s bytes)))
+simple_cases cap (Some (asks.Read s c)) simple = inl (s, simple.0, ap (λ (k : ℕ). Some (asks.Read s k)) simple.1)
+simple_cases cap (Some (asks.Write s bytes)) simple = inr (s, bytes, simple.0, simple.1, refl)
+simple_cases cap (Some asks.Flush) simple = absurd simple
+simple_cases cap (Some asks.Id) simple = absurd simple
+simple_cases cap (Some (asks.Discard parts)) simple = absurd simple
+simple_cases cap (Some (asks.Zero parts)) simple = absurd simple
+simple_cases cap None simple = absurd simple
+
+pub read_served : (h : Header1) (s : ℕ) → s < h.capacity → refusal h.capacity h.mode (asks.Read s 1) ≡ None
+read_served h s low = grind (arith, nat_tests)
+
+pub write_served : (h : Header1) (s : ℕ) (bytes : List ℕ) → h.mode ≡ Back → s < h.capacity → length bytes ≡ 512 → refusal h.capacity h.mode (asks.Write s bytes) ≡ None
+write_served h s bytes back low long =
+    let one : length bytes / 512 ≡ 1 = ap (λ (k : ℕ). k / 512) long in
+    ap (λ (mode : CacheMode). refusal h.capacity mode (asks.Write s bytes)) back ∙ grind (arith, nat_tests)
+
+pub read_steps : (h : Header1) (s : ℕ) → s < h.capacity → task_steps h (asks.Read s 1) ≡ Look 0 ∷ Put 0 ∷ Status ∷ []
+read_steps h s low = ap (λ (o : Option ℕ). unless_refused o (disk_steps (asks.Read s 1)) ++ Status ∷ []) (read_served h s low)
+
+pub write_steps : (h : Header1) (s : ℕ) (bytes : List ℕ) → h.mode ≡ Back → s < h.capacity → length bytes ≡ 512 → task_steps h (asks.Write s bytes) ≡ Act 0 ∷ Status ∷ []
+write_steps h s bytes back low long =
+    let one : length bytes / 512 ≡ 1 = ap (λ (k : ℕ). k / 512) long in
+    ap (λ (o : Option ℕ). unless_refused o (disk_steps (asks.Write s bytes)) ++ Status ∷ []) (write_served h s bytes back low long)
+    ∙ ap (λ (k : ℕ). act_steps 0 k ++ Status ∷ []) one
+
+at_same : (f : ℕ → ℕ) (k x j : ℕ) → j ≡ k → with_at f k x j ≡ x
+at_same f k x j e = grind (arith, nat_tests)
+
+at_other : (f : ℕ → ℕ) (k x j : ℕ) → j ≢ k → with_at f k x j ≡ f j
+at_other f k x j e = grind (arith, nat_tests)
+
+-- a number that is among some isn't one that isn't
+among_apart : (xs : List ℕ) (j k : ℕ) → is_among xs j ≡ true → is_among xs k ≡ false → j ≢ k
+among_apart xs j k held out same = let both : is_among xs j ≡ is_among xs k = ap (is_among xs) same in absurd (cc)
+
+-- ---- turns
+
+-- these items and that lane are right
+pub record Fine (h : Header1) (s : Scene) (t : Turned) : Type 0 where
+  pub each : AfterEach h.size (EveryTracks h) s t.items
+  pub holds : Holds h (after_items h.size t.items s) t.lane
+  pub legal : LegalFrom h.capacity h.mode s.past (entries_of t.items)
+
+pub nothing_fine : (h : Header1) (s : Scene) (l : Lane) → Holds h s l → Fine h s (nothing l)
+nothing_fine h s l holds = record { each = tt; holds = holds; legal = tt }
+
+-- a request that is worked on
+pub record IsLeft (h : Header1) (s : Scene) (l : Lane) (k : ℕ) : Type 0 where
+  pub good : IsGood h
+  pub back : h.mode ≡ Back
+  pub holds : Holds h s l
+  pub started : started s.past 0 ≡ true
+  pub is_open : IsOpen s.past 0 k
+  pub left : is_among (l.completed ++ l.batch) k ≡ false
+
+at_work : (h : Header1) (s : Scene) (l : Lane) (k : ℕ) (r : Asked) → IsLeft h s l k → asked s.past 0 k ≡ Some r → refusal h.capacity h.mode r ≡ None → IsAtWork h.capacity h.mode s.past 0 k r
+at_work h s l k r x is served = record { started = x.started; is_open = x.is_open; asked = is; served = served; unfaulted = x.holds.known.unfaulted k }
+
+-- the lane after a step that isn't the last
+abbrev one_more : ℕ → Lane → Lane
+one_more k l = record l { made = with_at l.made k (l.made k + 1) }
+
+look_known : (n cap : ℕ) (past : List Entry) (heads : List ℕ) (k s : ℕ) (v : List ℕ) → Known n cap past heads → Known n cap (entries.Look 0 k s v ∷ past) heads
+look_known n cap past heads k s v a = record {
+  offers_are = a.offers_are; offered = a.offered; distinct = a.distinct; below = a.below; shown = a.shown; fewer = a.fewer; room = a.room; good = a.good; simple = a.simple; unfaulted = a.unfaulted; values = a.values;
+}
+
+look_worked : (past : List Entry) (phase : Phase) (batch completed : List ℕ) (made : ℕ → ℕ) (k s sector : ℕ) (v : List ℕ) → started past 0 ≡ true → IsOpen past 0 k → is_among (completed ++ batch) k ≡ false → made k ≡ 0 → asked past 0 k ≡ Some (asks.Read sector 1) → length v ≡ 512
+    → Worked past phase batch completed made → Worked (entries.Look 0 k s v ∷ past) phase batch completed (with_at made k (made k + 1))
+look_worked past phase batch completed made k s sector v run is_open left none is long w = record {
+  distinct = w.distinct;
+  opens = λ j held. record { taken = (w.opens j held).taken; unpublished = (w.opens j held).unpublished };
+  untouched = λ j high. at_other made k (made k + 1) j (λ same. omega (arith, is_open.taken)) ∙ w.untouched j high;
+  progress = λ j. elim (cases_eq j k) [
+    | inl same ↦
+        let now : with_at made k (made k + 1) j ≡ made k + 1 = at_same made k (made k + 1) j same in
+        let looked : looks (entries.Look 0 k s v ∷ past) 0 j ≡ looks past 0 j + 1 = grind (arith, nat_tests) in
+        let read : seen (entries.Look 0 k s v ∷ past) 0 j ≡ seen past 0 j ++ v = grind (arith, nat_tests) in
+        let zero_made : made j ≡ 0 = ap made same ∙ none in
+        let old : (looks past 0 j ≡ 0) × ((acts past 0 j ≡ 0) × (seen past 0 j ≡ [])) = (w.progress j).fresh zero_made in
+        let all : seen (entries.Look 0 k s v ∷ past) 0 j ≡ v = read ∙ ap (λ (xs : List ℕ). xs ++ v) old.1.1 in
+        let is_j : asked past 0 j ≡ Some (asks.Read sector 1) = ap (asked past 0) same ∙ is in
+        record {
+          fresh = λ e. absurd (omega arith);
+          begun = λ some. subst (λ (o : Option Asked). IsBegun (looks (entries.Look 0 k s v ∷ past) 0 j) (acts past 0 j) (seen (entries.Look 0 k s v ∷ past) 0 j) o) (sym is_j) (omega (arith, looked, old.0), ap length all ∙ long);
+        }
+    | inr apart ↦
+        let now : with_at made k (made k + 1) j ≡ made j = at_other made k (made k + 1) j apart in
+        let looked : looks (entries.Look 0 k s v ∷ past) 0 j ≡ looks past 0 j = grind (arith, nat_tests) in
+        let read : seen (entries.Look 0 k s v ∷ past) 0 j ≡ seen past 0 j = grind (arith, nat_tests) in
+        let both : Progress (made j) (looks (entries.Look 0 k s v ∷ past) 0 j) (acts past 0 j) (seen (entries.Look 0 k s v ∷ past) 0 j) (asked past 0 j) =
+        subst (λ (c : ℕ). Progress (made j) c (acts past 0 j) (seen (entries.Look 0 k s v ∷ past) 0 j) (asked past 0 j)) (sym looked)
+        (subst (λ (xs : List ℕ). Progress (made j) (looks past 0 j) (acts past 0 j) xs (asked past 0 j)) (sym read) (w.progress j)) in
+        subst (λ (c : ℕ). Progress c (looks (entries.Look 0 k s v ∷ past) 0 j) (acts past 0 j) (seen (entries.Look 0 k s v ∷ past) 0 j) (asked past 0 j)) (sym now) both
+  ];
+  full = λ j held. subst (λ (c : ℕ). IsFull c (asked past 0 j)) (sym (at_other made k (made k + 1) j (among_apart (completed ++ batch) j k held left))) (w.full j held);
+  quiet = λ stopped. absurd (let fails : true ≡ false = sym run ∙ stopped in cc);
+  phase_is = w.phase_is;
+}
+
+look_stored : (past : List Entry) (heads : List ℕ) (m : Bytes) (batch completed : List ℕ) (made : ℕ → ℕ) (k s : ℕ) (v : List ℕ) → made k ≡ 0 → Stored past heads m batch completed made → Stored (entries.Look 0 k s v ∷ past) heads m batch completed (with_at made k (made k + 1))
+look_stored past heads m batch completed made k s v none st = record {
+  sectors = λ j is_open far read. elim (cases_eq j k) [
+    | inl same ↦ absurd (let now : with_at made k (made k + 1) j ≡ made k + 1 = at_same made k (made k + 1) j same in omega arith)
+    | inr apart ↦
+        let now : with_at made k (made k + 1) j ≡ made j = at_other made k (made k + 1) j apart in
+        let same_seen : seen (entries.Look 0 k s v ∷ past) 0 j ≡ seen past 0 j = let differs : k ≢ j = λ e. apart (sym e) in grind (arith, nat_tests) in
+        st.sectors j (record { taken = is_open.taken; unpublished = is_open.unpublished }) (subst (λ (c : ℕ). 2 ≤ c) now far) read ∙ sym same_seen
+  ];
+  status = st.status;
+}
+
+look_holds : (h : Header1) (s : Scene) (l : Lane) (k sector place : ℕ) (v : List ℕ) → IsLeft h s l k → l.made k ≡ 0 → asked s.past 0 k ≡ Some (asks.Read sector 1) → length v ≡ 512 → Holds h (record s { past = entries.Look 0 k place v ∷ s.past }) (one_more k l)
+look_holds h s l k sector place v x none is long = record {
+  known = look_known h.size h.capacity s.past (s.heads 0) k place v x.holds.known;
+  ringed = record { avail_idx_is = x.holds.ringed.avail_idx_is; used_idx_is = x.holds.ringed.used_idx_is; avail_at = x.holds.ringed.avail_at; used_at = x.holds.ringed.used_at };
+  driven = driven_same h.size h.capacity h.base s.past (entries.Look 0 k place v ∷ s.past) (s.heads 0) l.driver (λ j o. record { below = o.below; kept = o.kept }) x.holds.driven;
+  worked = look_worked s.past l.phase l.batch l.completed l.made k place sector v x.started x.is_open x.left none is long x.holds.worked;
+  stored = look_stored s.past (s.heads 0) s.memory l.batch l.completed l.made k place v none x.holds.stored;
+  built = built_same h.size h.base s.past (entries.Look 0 k place v ∷ s.past) (s.heads 0) s.memory l.batch l.phase refl (λ j. refl) x.holds.built;
+}
+
+look_fine : (h : Header1) (s : Scene) (l : Lane) (k sector : ℕ) → IsLeft h s l k → l.made k ≡ 0 → sector < h.capacity → asked s.past 0 k ≡ Some (asks.Read sector 1)
+    → Fine h s (task_turn h 0 s l k (asks.Read sector 1) (Some (Look 0)))
+look_fine h s l k sector x none low is =
+    let v : List ℕ = value s.past (sector + 0) in
+    let holds = look_holds h s l k sector (sector + 0) v x none is (x.holds.known.values (sector + 0)) in
+    let zero_looks : looks s.past 0 k ≡ 0 = ((x.holds.worked.progress k).fresh none).0 in
+    let may : MayLook h.capacity h.mode s.past 0 k (sector + 0) v = record {
+      request = asks.Read sector 1;
+      works = at_work h s l k (asks.Read sector 1) x is (read_served h sector low);
+      next = ap (look_at (asks.Read sector 1)) zero_looks;
+      held = refl;
+    } in
+    record {
+      each = (inr (holds_track h (record s { past = entries.Look 0 k (sector + 0) v ∷ s.past }) (one_more k l) x.good holds), tt);
+      holds = holds;
+      legal = (may, tt);
+    }
