@@ -9,3 +9,4 @@ pub mod RunFrames
 pub mod RunOffers
 pub mod RunGuests
 pub mod RunWork
+pub mod RunPhases

@@ -65,7 +65,7 @@ length_map : (f : ℕ → ℕ × ℕ) (xs : List ℕ) → length (map f xs) ≡ 
 length_map f [] = refl
 length_map f (x ∷ xs) = omega (arith, length_map f xs)
 
-ahead_by : (base a b : ℕ) → b ≤ a → a < b + 65536 → ahead ((base + a) % 65536) (base + b) + b ≡ a
+pub ahead_by : (base a b : ℕ) → b ≤ a → a < b + 65536 → ahead ((base + a) % 65536) (base + b) + b ≡ a
 ahead_by base a b le near = omega arith
 
 pub tracks : (h : Header1) (s : Scene) → IsSize h.size → Known h.size h.capacity s.past (s.heads 0) → Ringed h.size h.base s.past (s.heads 0) s.memory → Tracks h 0 s
