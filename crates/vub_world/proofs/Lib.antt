@@ -10,3 +10,4 @@ pub mod RunOffers
 pub mod RunGuests
 pub mod RunWork
 pub mod RunPhases
+pub mod RunElements
