@@ -11,3 +11,4 @@ pub mod RunGuests
 pub mod RunWork
 pub mod RunPhases
 pub mod RunElements
+pub mod RunPublications
