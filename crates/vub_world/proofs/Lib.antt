@@ -12,3 +12,4 @@ pub mod RunWork
 pub mod RunPhases
 pub mod RunElements
 pub mod RunPublications
+pub mod RunShown

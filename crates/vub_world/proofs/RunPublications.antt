@@ -59,13 +59,13 @@ pub record IsUnderWay (h : Header1) (s : Scene) (l : Lane) (done : ℕ) : Type 0
 more_left : (m done : ℕ) → done + 1 < 2 * m + 1 → nat_lt (done + 1) (length (publish_steps m)) ≡ true
 more_left m done l = let many : length (publish_steps m) ≡ 2 * m + 1 = steps_many 0 m in grind (arith, nat_tests)
 
-none_left : (m done : ℕ) → done ≡ 2 * m → nat_lt (done + 1) (length (publish_steps m)) ≡ false
+pub none_left : (m done : ℕ) → done ≡ 2 * m → nat_lt (done + 1) (length (publish_steps m)) ≡ false
 none_left m done l = let many : length (publish_steps m) ≡ 2 * m + 1 = steps_many 0 m in grind (arith, nat_tests)
 
-in_batch : (h : Header1) (s : Scene) (l : Lane) (done k : ℕ) → IsUnderWay h s l done → is_among l.batch k ≡ true → is_among (l.completed ++ l.batch) k ≡ true
+pub in_batch : (h : Header1) (s : Scene) (l : Lane) (done k : ℕ) → IsUnderWay h s l done → is_among l.batch k ≡ true → is_among (l.completed ++ l.batch) k ≡ true
 in_batch h s l done k x held = is_among_append l.completed l.batch k ∙ or_right (is_among l.completed k) (is_among l.batch k) held
 
-batch_open : (h : Header1) (s : Scene) (l : Lane) (done k : ℕ) → IsUnderWay h s l done → is_among l.batch k ≡ true → IsOpen s.past 0 k
+pub batch_open : (h : Header1) (s : Scene) (l : Lane) (done k : ℕ) → IsUnderWay h s l done → is_among l.batch k ≡ true → IsOpen s.past 0 k
 batch_open h s l done k x held = x.holds.worked.opens k (in_batch h s l done k x held)
 
 batch_simple : (h : Header1) (s : Scene) (l : Lane) (done k : ℕ) → IsUnderWay h s l done → is_among l.batch k ≡ true → IsSimple h.capacity (asked s.past 0 k)
@@ -79,7 +79,7 @@ id_turn h l done o y more = record {
   lane = with_phase (if more then phases.Publish (done + 1) else phases.Rest) (publishing done l);
 }
 
-id_fine : (h : Header1) (s : Scene) (l : Lane) (done e : ℕ) → IsUnderWay h s l done → e < length l.batch → done ≡ 2 * e → Fine h s (phase_turn h 0 s (publishing done l) (Some (steps.Id e)))
+pub id_fine : (h : Header1) (s : Scene) (l : Lane) (done e : ℕ) → IsUnderWay h s l done → e < length l.batch → done ≡ 2 * e → Fine h s (phase_turn h 0 s (publishing done l) (Some (steps.Id e)))
 id_fine h s l done e x inside at =
     let k : ℕ = slice_index l.batch e in
     let held : is_among l.batch k ≡ true = among_at l.batch e inside in
@@ -106,7 +106,7 @@ len_turn h l done o y more = record {
   lane = with_phase (if more then phases.Publish (done + 1) else phases.Rest) (publishing done l);
 }
 
-len_fine : (h : Header1) (s : Scene) (l : Lane) (done e : ℕ) → IsUnderWay h s l done → e < length l.batch → done ≡ 2 * e + 1 → Fine h s (phase_turn h 0 s (publishing done l) (Some (steps.Len e)))
+pub len_fine : (h : Header1) (s : Scene) (l : Lane) (done e : ℕ) → IsUnderWay h s l done → e < length l.batch → done ≡ 2 * e + 1 → Fine h s (phase_turn h 0 s (publishing done l) (Some (steps.Len e)))
 len_fine h s l done e x inside at =
     let k : ℕ = slice_index l.batch e in
     let held : is_among l.batch k ≡ true = among_at l.batch e inside in
@@ -129,20 +129,20 @@ len_fine h s l done e x inside at =
 
 -- ---- the answers
 
-numbers_answers : (s : Scene) (xs : List ℕ) → numbers (map (answer_at 0 s) xs) ≡ xs
+pub numbers_answers : (s : Scene) (xs : List ℕ) → numbers (map (answer_at 0 s) xs) ≡ xs
 numbers_answers s [] = refl
 numbers_answers s (x ∷ xs) = ap (λ ks. x ∷ ks) (numbers_answers s xs)
 
-all_map : (P : Answered → Type 0) (f : ℕ → Answered) (xs : List ℕ) → ((k : ℕ) → is_among xs k ≡ true → P (f k)) → All P (map f xs)
+pub all_map : (P : Answered → Type 0) (f : ℕ → Answered) (xs : List ℕ) → ((k : ℕ) → is_among xs k ≡ true → P (f k)) → All P (map f xs)
 all_map P f [] each i d l = absurd (omega arith)
 all_map P f (x ∷ xs) each zero d l = each x (grind (arith, nat_tests))
 all_map P f (x ∷ xs) each (suc i) d l = all_map P f xs (λ k held. each k (grind (arith, nat_tests))) i d (omega arith)
 
-good_map : (f : ℕ → Answered) (xs : List ℕ) → ((k : ℕ) → is_among xs k ≡ true → (f k).status ≡ 0) → AllByRecursion (λ (a : Answered). a.status ≡ 0) (map f xs)
+pub good_map : (f : ℕ → Answered) (xs : List ℕ) → ((k : ℕ) → is_among xs k ≡ true → (f k).status ≡ 0) → AllByRecursion (λ (a : Answered). a.status ≡ 0) (map f xs)
 good_map f [] each = tt
 good_map f (x ∷ xs) each = (each x (grind (arith, nat_tests)), good_map f xs (λ k held. each k (grind (arith, nat_tests))))
 
-good_append : (xs ys : List Answered) → AllByRecursion (λ (a : Answered). a.status ≡ 0) xs → AllByRecursion (λ (a : Answered). a.status ≡ 0) ys → AllByRecursion (λ (a : Answered). a.status ≡ 0) (xs ++ ys)
+pub good_append : (xs ys : List Answered) → AllByRecursion (λ (a : Answered). a.status ≡ 0) xs → AllByRecursion (λ (a : Answered). a.status ≡ 0) ys → AllByRecursion (λ (a : Answered). a.status ≡ 0) (xs ++ ys)
 good_append [] ys p q = q
 good_append (x ∷ xs) ys p q = (p.0, good_append xs ys p.1 q)
 
@@ -171,7 +171,7 @@ write_answer h past heads m batch completed made phase k sector bytes back w st 
     (ap (effect_at (asks.Write sector bytes)) one ∙ whole, (λ through. absurd (let fails : Back ≡ Through = sym back ∙ through in cc)), ap (λ (c : ℕ). bytes_from c m 0 (sectors_place (buffer heads k))) long)
 
 -- each request of the batch was done, and its answer says so
-answer_right : (h : Header1) (s : Scene) (l : Lane) (done : ℕ) (m : Bytes) (k : ℕ) → IsUnderWay h s l done → Stored s.past (s.heads 0) m l.batch l.completed l.made → is_among l.batch k ≡ true → IsAnswer h.capacity h.mode s.past 0 (answer_at 0 (record s { memory = m }) k)
+pub answer_right : (h : Header1) (s : Scene) (l : Lane) (done : ℕ) (m : Bytes) (k : ℕ) → IsUnderWay h s l done → Stored s.past (s.heads 0) m l.batch l.completed l.made → is_among l.batch k ≡ true → IsAnswer h.capacity h.mode s.past 0 (answer_at 0 (record s { memory = m }) k)
 answer_right h s l done m k x st held =
     let among = in_batch h s l done k x held in
     let status : m 0 (status_place (buffer (s.heads 0) k)) ≡ 0 = st.status k among in
