@@ -13,3 +13,4 @@ pub mod RunPhases
 pub mod RunElements
 pub mod RunPublications
 pub mod RunShown
+pub mod RunTurns

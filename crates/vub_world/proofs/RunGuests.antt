@@ -11,6 +11,7 @@ use Rattle.vub_shared.specs.Stores.{Store, one_store}
 use Rattle.vub_ring.specs.Ring.{Ring, avail_entry_place, avail_idx_place, avail_idx, head_at, last_head}
 use Rattle.vub_driver.specs.Drivers.{Driver, Waiting}
 use Rattle.vub_driver.specs.Stores.{offer_stores}
+use Rattle.vub_device.specs.declared.entry.Asked.{Asked}
 use Rattle.vub_device.specs.declared.entry.Entry.{Entry}
 use Rattle.vub_device.specs.declared.entry.Entry.TheVariants as entries
 use Rattle.vub_device.specs.Legal.{LegalFrom}
@@ -62,10 +63,11 @@ abbrev pub offered : Lane → Lane
 offered l = record l { driver = record (l.driver) { avail_idx = (l.driver.avail_idx + 1) % 65536; waiting = None } }
 
 -- what the two last stores and the offer leave
-pub record Offered (h : Header1) (mode : CacheMode) (s : Scene) (l : Lane) (is : List Item) : Type 0 where
+pub record Offered (h : Header1) (mode : CacheMode) (s : Scene) (l : Lane) (r : Asked) (is : List Item) : Type 0 where
   pub each : AfterEach h.size (EveryTracks h) s is
   pub holds : Holds h (after_items h.size is s) (offered l)
   pub legal : LegalFrom h.capacity mode s.past (entries_of is)
+  pub past : (after_items h.size is s).past ≡ entries.Offer 0 r ∷ s.past
 
 entry_holds : (h : Header1) (s : Scene) (l : Lane) (w : Waiting) → IsGood h → IsWaiting h.size h.capacity s.past (s.heads 0) l.driver w → Holds h s l
     → Holds h (stored_at (avail_entry_place (the_ring h.size) l.driver.avail_idx) (little_bytes 2 w.head) s) l
@@ -118,7 +120,7 @@ index_holds h s l w good waits holds stands =
 
 -- all that are left, up to the offer
 pub guest_holds : (h : Header1) (mode : CacheMode) (s : Scene) (l : Lane) (w : Waiting) (count : ℕ) (first : List Store) → IsGood h → IsWaiting h.size h.capacity s.past (s.heads 0) l.driver w → AllByRecursion (IsHarmless w.head) first → length first + 2 ≤ count → Holds h s l
-    → Offered h mode s l (guest_items count 0 w.ask (first ++ offer_stores (the_ring h.size) l.driver.avail_idx w.head))
+    → Offered h mode s l (request_of w.ask) (guest_items count 0 w.ask (first ++ offer_stores (the_ring h.size) l.driver.avail_idx w.head))
 guest_holds h mode s l w (suc (suc count)) [] good waits harmless enough holds =
     let entry = entry_holds h s l w good waits holds in
     let s' : Scene = stored_at (avail_entry_place (the_ring h.size) l.driver.avail_idx) (little_bytes 2 w.head) s in
@@ -126,6 +128,7 @@ guest_holds h mode s l w (suc (suc count)) [] good waits harmless enough holds =
       each = (inr (holds_track h s' l good entry.0), (inl tt, (inr (holds_track h (after_item h.size (items.Made (entries.Offer 0 (request_of w.ask))) (stored_at (avail_idx_place (the_ring h.size)) (little_bytes 2 ((l.driver.avail_idx + 1) % 65536)) s')) (offered l) good done), tt)));
       holds = done;
       legal = (tt, tt);
+      past = refl;
     }
 guest_holds h mode s l w (suc count) (st ∷ []) good waits harmless enough holds =
     let s' : Scene = stored_at st.place st.bytes s in
@@ -134,6 +137,7 @@ guest_holds h mode s l w (suc count) (st ∷ []) good waits harmless enough hold
       each = (inr (holds_track h s' l good next), rest.each);
       holds = rest.holds;
       legal = rest.legal;
+      past = rest.past;
     }
 guest_holds h mode s l w (suc count) (st ∷ st' ∷ first) good waits harmless enough holds =
     let s' : Scene = stored_at st.place st.bytes s in
@@ -142,6 +146,7 @@ guest_holds h mode s l w (suc count) (st ∷ st' ∷ first) good waits harmless 
       each = (inr (holds_track h s' l good next), rest.each);
       holds = rest.holds;
       legal = rest.legal;
+      past = rest.past;
     }
 guest_holds h mode s l w zero first good waits harmless enough holds = absurd (omega arith)
 guest_holds h mode s l w (suc zero) [] good waits harmless enough holds = absurd (omega arith)

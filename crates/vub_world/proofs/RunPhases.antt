@@ -73,6 +73,8 @@ start_fine h s l good stopped x =
       each = (inr (holds_track h (record s { past = entries.Start 0 list ∷ s.past }) (resting l) good holds), tt);
       holds = holds;
       legal = (may, tt);
+      runs = refl;
+      collects = refl;
     }
 
 -- ---- fetch
@@ -128,6 +130,8 @@ fetch_fine h s l good run more x =
       each = (inr (holds_track h (record s { past = entries.Accept 0 k ∷ s.past }) (resting l) good holds), tt);
       holds = holds;
       legal = (may, tt);
+      runs = run;
+      collects = refl;
     }
 
 -- ---- a batch is taken

@@ -93,6 +93,8 @@ id_fine h s l done e x inside at =
       each = (inr (holds_track h (stored_at (used_id_place (the_ring h.size) (P + e)) (little_bytes 4 head) s) (one_on done l) x.good holds), tt);
       holds = holds;
       legal = tt;
+      runs = x.started;
+      collects = refl;
     } in
     let one : Fine h s (id_turn h l done (slice_get (map (element_of h 0 s) l.batch) e) (entry_of (the_ring h.size) (P + e)) true) =
     subst (λ (o : Option (ℕ × ℕ)). Fine h s (id_turn h l done o (entry_of (the_ring h.size) (P + e)) true)) (sym (get_map (element_of h 0 s) l.batch e inside)) whole in
@@ -120,6 +122,8 @@ len_fine h s l done e x inside at =
       each = (inr (holds_track h (stored_at (used_len_place (the_ring h.size) (P + e)) (little_bytes 4 len) s) (one_on done l) x.good holds), tt);
       holds = holds;
       legal = tt;
+      runs = x.started;
+      collects = refl;
     } in
     let one : Fine h s (len_turn h l done (slice_get (map (element_of h 0 s) l.batch) e) (entry_of (the_ring h.size) (P + e)) true) =
     subst (λ (o : Option (ℕ × ℕ)). Fine h s (len_turn h l done o (entry_of (the_ring h.size) (P + e)) true)) (sym (get_map (element_of h 0 s) l.batch e inside)) whole in

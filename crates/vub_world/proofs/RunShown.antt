@@ -205,6 +205,8 @@ index_fine h s l done u whole =
       each = (inl tt, (inr (holds_track h (record (shown_scene h x s) { past = shown_past h x s l }) (resting l) u.good holds), tt));
       holds = holds;
       legal = (shown_legal h x s l done u, tt);
+      runs = u.started;
+      collects = refl;
     } in
     subst (λ (b : Bool). Fine h s (index_turn h s l done x b)) (sym (none_left (length l.batch) done whole)) fine
 

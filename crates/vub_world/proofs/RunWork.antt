@@ -22,7 +22,7 @@ use Rattle.vub_device.specs.declared.entry.SectorValue.{SectorValue}
 use Rattle.vub_device.specs.Crash.{value}
 use Rattle.vub_device.specs.Legal.{LegalFrom, IsAtWork, MayLook, MayAct}
 use Rattle.vub_device.specs.Requests.{look_at, effect_at, refusal}
-use Rattle.vub_device.specs.Past.{asked, accepted, published, is_among, IsOpen, started, looks, seen, acts}
+use Rattle.vub_device.specs.Past.{asked, accepted, published, collected, is_among, IsOpen, started, looks, seen, acts}
 use Rattle.vub_device.specs.Places.{are_distinct}
 use Rattle.vub_device.proofs.Numbers.{is_among_append}
 use Rattle.vub_base.specs.declared.store.Tag.TheVariants.{T5}
@@ -114,9 +114,11 @@ pub record Fine (h : Header1) (s : Scene) (t : Turned) : Type 0 where
   pub each : AfterEach h.size (EveryTracks h) s t.items
   pub holds : Holds h (after_items h.size t.items s) t.lane
   pub legal : LegalFrom h.capacity h.mode s.past (entries_of t.items)
+  pub runs : started (after_items h.size t.items s).past 0 ≡ true
+  pub collects : collected (after_items h.size t.items s).past 0 ≡ collected s.past 0
 
-pub nothing_fine : (h : Header1) (s : Scene) (l : Lane) → Holds h s l → Fine h s (nothing l)
-nothing_fine h s l holds = record { each = tt; holds = holds; legal = tt }
+pub nothing_fine : (h : Header1) (s : Scene) (l : Lane) → started s.past 0 ≡ true → Holds h s l → Fine h s (nothing l)
+nothing_fine h s l run holds = record { each = tt; holds = holds; legal = tt; runs = run; collects = refl }
 
 -- a request that is worked on
 pub record IsLeft (h : Header1) (s : Scene) (l : Lane) (k : ℕ) : Type 0 where
@@ -210,6 +212,8 @@ look_fine h s l k sector x none low is =
       each = (inr (holds_track h (record s { past = entries.Look 0 k (sector + 0) v ∷ s.past }) (one_more k l) x.good holds), tt);
       holds = holds;
       legal = (may, tt);
+      runs = x.started;
+      collects = refl;
     }
 
 -- ---- writing a sector
@@ -296,6 +300,8 @@ act_fine h s l k sector bytes x none low long is =
       each = (inr (holds_track h (record s { past = entries.Act 0 k (sector + 0) v ∷ s.past }) (one_more k l) x.good holds), tt);
       holds = holds;
       legal = (may, tt);
+      runs = x.started;
+      collects = refl;
     } in
     subst (λ (o : Option SectorValue). Fine h s (record { items = act_items 0 k o; lane = one_more k l })) (sym effect) whole
 
@@ -366,6 +372,8 @@ put_fine h s l k sector x one is =
       each = (inr (holds_track h (stored_at p bs s) (one_more k l) x.good holds), tt);
       holds = holds;
       legal = tt;
+      runs = x.started;
+      collects = refl;
     }
 
 -- ---- the status
@@ -466,6 +474,8 @@ status_fine h s l k r x some served whole enough =
       each = (inr (holds_track h (stored_at p (0 ∷ []) s) (finished k l) x.good holds), tt);
       holds = holds;
       legal = tt;
+      runs = x.started;
+      collects = refl;
     } in
     subst (λ (st : ℕ). Fine h s (record { items = items.Store T5 M p (st ∷ []) ∷ []; lane = finished k l })) (sym zero_status) fine
 
@@ -485,14 +495,14 @@ read_turn : (h : Header1) (s : Scene) (l : Lane) (k sector : ℕ) → IsLeft h s
 read_turn h s l k sector x low is zero e = look_fine h s l k sector x e low is
 read_turn h s l k sector x low is (suc zero) e = put_fine h s l k sector x e is
 read_turn h s l k sector x low is (suc (suc zero)) e = status_fine h s l k (asks.Read sector 1) x (omega arith) (read_served h sector low) (full_read sector 1 (l.made k) (asked s.past 0 k) is (omega arith)) (λ r. omega arith)
-read_turn h s l k sector x low is (suc (suc (suc made))) e = nothing_fine h s l x.holds
+read_turn h s l k sector x low is (suc (suc (suc made))) e = nothing_fine h s l x.started x.holds
 
 write_turn : (h : Header1) (s : Scene) (l : Lane) (k sector : ℕ) (bytes : List ℕ) → IsLeft h s l k → sector < h.capacity → length bytes ≡ 512 → asked s.past 0 k ≡ Some (asks.Write sector bytes) → (made : ℕ) → l.made k ≡ made
     → Fine h s (task_turn h 0 s l k (asks.Write sector bytes) (slice_get (Act 0 ∷ Status ∷ []) made))
 write_turn h s l k sector bytes x low long is zero e = act_fine h s l k sector bytes x e low long is
 write_turn h s l k sector bytes x low long is (suc zero) e =
     status_fine h s l k (asks.Write sector bytes) x (omega arith) (write_served h sector bytes x.back low long) (full_write sector (l.made k) bytes (asked s.past 0 k) is (omega arith)) (never_read sector (l.made k) bytes (asked s.past 0 k) is)
-write_turn h s l k sector bytes x low long is (suc (suc made)) e = nothing_fine h s l x.holds
+write_turn h s l k sector bytes x low long is (suc (suc made)) e = nothing_fine h s l x.started x.holds
 
 pub request_fine : (h : Header1) (s : Scene) (l : Lane) (k : ℕ) → IsLeft h s l k → Fine h s (request_turn h 0 s l k (asked s.past 0 k))
 request_fine h s l k x =
