@@ -14,3 +14,5 @@ pub mod RunElements
 pub mod RunPublications
 pub mod RunShown
 pub mod RunTurns
+pub mod RunAsks
+pub mod RunCollects
