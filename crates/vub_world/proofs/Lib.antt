@@ -16,3 +16,4 @@ pub mod RunShown
 pub mod RunTurns
 pub mod RunAsks
 pub mod RunCollects
+pub mod RunEvents
