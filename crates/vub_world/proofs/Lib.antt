@@ -17,3 +17,4 @@ pub mod RunTurns
 pub mod RunAsks
 pub mod RunCollects
 pub mod RunEvents
+pub mod Runs
