@@ -18,3 +18,4 @@ pub mod RunAsks
 pub mod RunCollects
 pub mod RunEvents
 pub mod Runs
+pub mod RunDrains
