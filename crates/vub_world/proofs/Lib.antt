@@ -19,3 +19,4 @@ pub mod RunCollects
 pub mod RunEvents
 pub mod Runs
 pub mod RunDrains
+pub mod RunsTo

@@ -1,26 +1,26 @@
 -- A request that the driver takes keeps what holds.
-use Rattle.std.proofs.Common.{◌≡◌, ◌≢◌, ◌≤◌, ◌<◌, ◌⊎◌, ℕ, zero, suc, ◌+◌, ◌*◌, ◌%◌, Bool, true, false, List, [], ◌∷◌, ◌++◌, length, take, replicate, cond, refl, ap, sym, ◌∙◌, subst, inl, inr, arith}
-use Rattle.std.specs.Prelude.{Option, Some, None, slice_index, is_none, ◌&&◌, ⊤}
+use Rattle.std.proofs.Common.{◌≡◌, ◌≤◌, ◌<◌, ℕ, zero, suc, ◌+◌, ◌*◌, Bool, true, false, List, [], ◌∷◌, ◌++◌, length, take, replicate, cond, refl, ap, sym, ◌∙◌, inl, inr, arith}
+use Rattle.std.specs.Prelude.{Option, Some, None, slice_index, is_none}
 use Rattle.std.specs.List.{AllByRecursion, flat_map}
 use Rattle.byteorder.specs.Endian.{little_bytes}
 use Rattle.std.proofs.lemmas.Bool.Decides.{nat_tests}
-use Rattle.std.proofs.lemmas.Bool.{cases_eq, cases_Bool}
-use Rattle.std.proofs.lemmas.List.{length-append, length-replicate, append_assoc, append-nil, length-take-le}
+use Rattle.std.proofs.lemmas.Bool.{cases_eq}
+use Rattle.std.proofs.lemmas.List.{length-append, length-replicate, append_assoc, length-take-le}
 use Rattle.vub_base.specs.declared.header.Header1.{Header1}
 use Rattle.vub_base.specs.declared.request.Ask.{Ask}
 use Rattle.vub_base.specs.declared.request.Ask.TheVariants as asks
 use Rattle.vub_base.specs.declared.request.Shape.TheVariants.{Direct}
 use Rattle.vub_shared.specs.Stores.{Store, one_store}
 use Rattle.vub_driver.specs.Layout.{buffer_place, status_place, area_place}
-use Rattle.vub_driver.specs.Drivers.{Driver, Waiting, free_from, free_descriptors, can_take, chosen, first_or_zero, owned_by, waits_on, after_ask}
+use Rattle.vub_driver.specs.Drivers.{Driver, free_from, free_descriptors, can_take, chosen, first_or_zero, owned_by, waits_on, after_ask}
 use Rattle.vub_driver.specs.Requests.{Piece, pieces, descriptors_needed, header_bytes, written_bytes, data_place, descriptor_bytes, request_type, first_sector, write_flag}
-use Rattle.vub_driver.specs.Stores.{store_of_some, buffer_stores, chain_stores, offer_stores, stores_with, request_stores}
+use Rattle.vub_driver.specs.Stores.{store_of_some, buffer_stores, chain_stores, offer_stores, request_stores}
 use Rattle.vub_device.specs.declared.entry.Entry.{Entry}
 use Rattle.vub_schedule.specs.Spelling.{IsAsk}
 use Rattle.vub_world.specs.Memory.{Scene}
 use Rattle.vub_world.specs.Moments.{Lane}
 use Rattle.vub_world.specs.Run.{request_of, with_driver}
-use Rattle.vub_world.proofs.RunGood.{the_ring, IsSize, IsSimple, Known, IsOut, IsHarmless, IsPlan, IsWaiting, WaitsWell, Driven, Holds}
+use Rattle.vub_world.proofs.RunGood.{the_ring, IsSimple, IsHarmless, IsPlan, Driven, Holds}
 use Rattle.vub_world.proofs.RunFrames.{length_little}
 use Rattle.vub_world.proofs.RunGuests.{IsGood}
 

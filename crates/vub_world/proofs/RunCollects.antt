@@ -1,25 +1,24 @@
 -- A used element that the driver takes keeps what holds.
-use Rattle.std.proofs.Common.{◌≡◌, ◌≢◌, ◌≤◌, ◌<◌, ◌⊎◌, ℕ, zero, suc, ◌+◌, ◌*◌, ◌%◌, Bool, true, false, cond, List, [], ◌∷◌, ◌++◌, length, take, refl, ap, sym, ◌∙◌, subst, inl, inr, arith}
-use Rattle.std.specs.Prelude.{Option, Some, None, slice_index, slice_get, ◌||◌, ◌==◌, if◌then◌else◌, ⊤}
+use Rattle.std.proofs.Common.{◌≡◌, ◌≢◌, ◌≤◌, ◌<◌, ℕ, zero, suc, ◌+◌, ◌%◌, Bool, true, false, cond, List, [], ◌∷◌, ◌++◌, length, take, refl, ap, sym, ◌∙◌, inl, inr, arith}
+use Rattle.std.specs.Prelude.{Option, Some, None, slice_index, ◌||◌, ◌==◌}
 use Rattle.std.proofs.lemmas.Bool.Decides.{nat_tests}
-use Rattle.std.proofs.lemmas.Bool.{cases_eq, cases_lt, or_right}
-use Rattle.std.proofs.lemmas.List.{take_more, length_push}
+use Rattle.std.proofs.lemmas.Bool.{cases_eq}
+use Rattle.std.proofs.lemmas.List.{take_more}
 use Rattle.std.proofs.lemmas.Option.{slice_get-get_or}
 use Rattle.vub_base.specs.declared.header.Header1.{Header1}
 use Rattle.vub_shared.specs.Bytes.{Bytes}
 use Rattle.vub_ring.specs.Ring.{Ring, ahead, used_idx, element_at, elements_from, seen}
 use Rattle.vub_driver.specs.Drivers.{Driver, Waiting, is_that, without_owner, is_head, after_collect}
-use Rattle.vub_device.specs.declared.entry.Entry.{Entry}
 use Rattle.vub_device.specs.declared.entry.Entry.TheVariants as entries
 use Rattle.vub_device.specs.Legal.{MayCollect}
-use Rattle.vub_device.specs.Past.{asked, accepted, published, collected, is_among, IsOpen}
+use Rattle.vub_device.specs.Past.{published, collected, is_among}
 use Rattle.vub_device.specs.Places.{are_distinct}
 use Rattle.vub_device.proofs.Numbers.{is_among_append}
 use Rattle.vub_world.specs.Memory.{Scene}
 use Rattle.vub_world.specs.Moments.{Lane}
 use Rattle.vub_world.specs.Run.{with_driver}
-use Rattle.vub_world.proofs.RunNumbers.{among_at, among-take}
-use Rattle.vub_world.proofs.RunGood.{the_ring, IsSize, Known, Ringed, spot, IsOut, IsWaiting, WaitsWell, Driven, Worked, Stored, Built, Holds}
+use Rattle.vub_world.proofs.RunNumbers.{among_at}
+use Rattle.vub_world.proofs.RunGood.{the_ring, Known, Ringed, spot, IsOut, WaitsWell, Driven, Worked, Holds}
 use Rattle.vub_world.proofs.RunTracks.{ahead_by}
 use Rattle.vub_world.proofs.RunGuests.{IsGood}
 use Rattle.vub_world.proofs.RunWork.{built_same}

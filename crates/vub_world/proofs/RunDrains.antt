@@ -1,6 +1,6 @@
 -- After a drain of an attached queue nothing is open, and every offer is accepted.
-use Rattle.std.proofs.Common.{◌≡◌, ◌≢◌, ◌≤◌, ◌<◌, ◌⊎◌, ℕ, zero, suc, ◌+◌, ◌-◌, ◌*◌, Bool, true, false, not, cond, List, [], ◌∷◌, ◌++◌, length, refl, ap, sym, ◌∙◌, subst, inl, inr, arith}
-use Rattle.std.specs.Prelude.{Option, Some, None, slice_get, nat_lt, ◌&&◌, ◌||◌, filter, ⊤}
+use Rattle.std.proofs.Common.{◌≡◌, ◌≤◌, ◌<◌, ℕ, zero, suc, ◌-◌, Bool, true, false, not, cond, List, [], ◌++◌, length, refl, ap, sym, ◌∙◌, subst, inl, inr, arith}
+use Rattle.std.specs.Prelude.{Option, Some, None, slice_get}
 use Rattle.std.proofs.lemmas.Bool.Decides.{nat_tests}
 use Rattle.std.proofs.lemmas.Bool.{cases_Bool, cases_lt}
 use Rattle.std.proofs.lemmas.List.{nil_from_length}
@@ -10,19 +10,18 @@ use Rattle.vub_ring.specs.declared.steps.Phase.TheVariants as phases
 use Rattle.vub_ring.specs.declared.readiness.Standing.{Standing}
 use Rattle.vub_ring.specs.declared.readiness.Turn.{Turn}
 use Rattle.vub_ring.specs.declared.readiness.Turn.TheVariants as turns
-use Rattle.vub_ring.specs.Readiness.{is_ready, is_fetch, is_publication, any_turn, work_or_publish, drain_turn}
+use Rattle.vub_ring.specs.Readiness.{is_ready, is_fetch, is_publication, work_or_publish, drain_turn}
 use Rattle.vub_ring.specs.Steps.{next_step}
 use Rattle.vub_device.specs.declared.entry.Asked.{Asked}
-use Rattle.vub_device.specs.Past.{offers, asked, accepted, published, collected, is_among, open_numbers, started}
+use Rattle.vub_device.specs.Past.{offers, asked, accepted, collected, is_among, open_numbers, started}
 use Rattle.vub_world.specs.declared.report.items.Item.{Item}
-use Rattle.vub_world.specs.declared.report.items.Item.TheVariants as items
 use Rattle.vub_world.specs.Memory.{Scene}
 use Rattle.vub_world.specs.Moments.{Lane, Moment, standing, unfinished}
 use Rattle.vub_world.specs.Run.{Played, played, one_turn, is_due, then_played, turns as many_turns, drain_choice, IsDrained, Drains}
 use Rattle.vub_world.specs.Tasks.{TaskStep, Look, Put, Act, Sync, Status, task_steps}
 use Rattle.vub_world.specs.Turns.{is_rest, turned, phase_turn, phase_goes_on, under_way, begun, work_turn, request_turn, task_turn}
 use Rattle.vub_world.proofs.RunNumbers.{filter_none}
-use Rattle.vub_world.proofs.RunGood.{the_ring, Known, Holds}
+use Rattle.vub_world.proofs.RunGood.{Known}
 use Rattle.vub_world.proofs.RunWork.{Fine}
 use Rattle.vub_world.proofs.RunPhases.{some_waits}
 use Rattle.vub_world.proofs.RunTurns.{IsPlain, Good, phase_cases, turn_fine}

@@ -1,39 +1,35 @@
 -- The stores of used elements keep what holds.
-use Rattle.std.proofs.Common.{◌≡◌, ◌≢◌, ◌≤◌, ◌<◌, ◌⊎◌, ℕ, zero, suc, ◌+◌, ◌-◌, ◌*◌, ◌%◌, ◌^◌, Bool, true, false, List, [], ◌∷◌, ◌++◌, length, take, drop, map, min, refl, ap, sym, ◌∙◌, subst, inl, inr, arith}
-use Rattle.std.specs.Prelude.{Option, Some, None, slice_index, slice_get, option_map, nat_lt, ◌||◌, if◌then◌else◌, unwrap_or, ⊤}
+use Rattle.std.proofs.Common.{◌≡◌, ◌≢◌, ◌≤◌, ◌<◌, ℕ, zero, suc, ◌+◌, ◌*◌, ◌%◌, ◌^◌, true, List, [], ◌∷◌, ◌++◌, length, map, refl, ap, sym, ◌∙◌, subst, inl, inr, arith}
+use Rattle.std.specs.Prelude.{Option, Some, slice_index, slice_get, ◌||◌, unwrap_or}
 use Rattle.byteorder.specs.Endian.{little_bytes}
 use Rattle.std.proofs.lemmas.Bool.Decides.{nat_tests}
-use Rattle.std.proofs.lemmas.Bool.{cases_eq, cases_lt, cases_Bool, or_right}
+use Rattle.std.proofs.lemmas.Bool.{cases_lt, cases_Bool, or_right}
 use Rattle.std.proofs.lemmas.List.{length-append}
 use Rattle.vub_base.specs.declared.header.CacheMode.TheVariants.{Back}
 use Rattle.vub_base.specs.declared.header.Header1.{Header1}
-use Rattle.vub_base.specs.declared.store.Tag.TheVariants.{SP1, SP2, SP5}
-use Rattle.vub_base.specs.declared.store.Area.TheVariants.{M}
-use Rattle.vub_shared.specs.Bytes.{Bytes, put, word, bytes_from}
+use Rattle.vub_shared.specs.Bytes.{Bytes, put, word}
 use Rattle.vub_shared.proofs.BytesLemmas.{word-put_same}
 use Rattle.vub_ring.specs.declared.steps.Phase.{Phase}
 use Rattle.vub_ring.specs.declared.steps.Phase.TheVariants as phases
 use Rattle.vub_ring.specs.declared.steps.Step.{Step}
 use Rattle.vub_ring.specs.declared.steps.Step.TheVariants as steps
 use Rattle.vub_ring.specs.Ring.{entry_of, avail_idx_place, avail_entry_place, used_idx_place, used_id_place, used_len_place, used_idx}
-use Rattle.vub_ring.specs.Steps.{element_steps, publish_steps}
+use Rattle.vub_ring.specs.Steps.{element_steps}
 use Rattle.vub_device.specs.declared.entry.Asked.{Asked}
 use Rattle.vub_device.specs.declared.entry.Asked.TheVariants as asks
 use Rattle.vub_device.specs.declared.entry.Entry.{Entry}
 use Rattle.vub_device.specs.Past.{asked, accepted, published, collected, is_among, IsOpen}
 use Rattle.vub_device.proofs.Numbers.{is_among_append}
-use Rattle.vub_world.specs.declared.report.items.Item.TheVariants as items
 use Rattle.vub_world.specs.Memory.{Scene}
 use Rattle.vub_world.specs.Moments.{Lane}
-use Rattle.vub_world.specs.Tasks.{status_of}
 use Rattle.vub_world.specs.Tracking.{answered_len}
-use Rattle.vub_world.specs.Turns.{Turned, element_of, len_of, phase_turn}
-use Rattle.vub_world.proofs.RunNumbers.{among_at, few_below, distinct_parts, distinct_join}
+use Rattle.vub_world.specs.Turns.{len_of}
+use Rattle.vub_world.proofs.RunNumbers.{few_below, distinct_parts, distinct_join}
 use Rattle.vub_world.proofs.RunRings.{entries_apart}
-use Rattle.vub_world.proofs.RunGood.{the_ring, IsSize, IsSimple, Known, Ringed, Worked, PhaseIs, Stored, IsBuilt, Built, Holds}
-use Rattle.vub_world.proofs.RunFrames.{keeps, entry_small, length_little, stored_elsewhere, below_buffers, open_out}
-use Rattle.vub_world.proofs.RunGuests.{IsGood, stored_at, holds_track}
-use Rattle.vub_world.proofs.RunWork.{Fine, simple_cases, read_served, write_served}
+use Rattle.vub_world.proofs.RunGood.{the_ring, IsSize, IsSimple, Known, Ringed, Worked, PhaseIs, IsBuilt, Built, Holds}
+use Rattle.vub_world.proofs.RunFrames.{keeps, entry_small, length_little, stored_elsewhere, below_buffers}
+use Rattle.vub_world.proofs.RunGuests.{IsGood, stored_at}
+use Rattle.vub_world.proofs.RunWork.{simple_cases, read_served, write_served}
 
 -- ---- which step is next
 

@@ -1,7 +1,6 @@
 -- Every event keeps what holds; its entries are legal, and memory tracks them.
-use Rattle.std.proofs.Common.{◌≡◌, ◌≢◌, ◌≤◌, ◌<◌, ◌⊎◌, ℕ, zero, suc, ◌+◌, ◌-◌, ◌*◌, ◌%◌, Bool, true, false, not, cond, List, [], ◌∷◌, ◌++◌, length, drop, refl, ap, sym, ◌∙◌, subst, inl, inr, arith}
-use Rattle.std.specs.Prelude.{Option, Some, None, is_some, slice_index, ◌||◌, ◌&&◌, ⊤}
-use Rattle.std.specs.List.{AllByRecursion}
+use Rattle.std.proofs.Common.{◌≡◌, ◌≤◌, ℕ, zero, suc, ◌+◌, Bool, true, false, not, cond, List, [], ◌∷◌, ◌++◌, length, drop, refl, ap, sym, ◌∙◌, subst, inl, inr, arith}
+use Rattle.std.specs.Prelude.{Option, Some, None, is_some, ◌&&◌}
 use Rattle.std.proofs.lemmas.Bool.Decides.{nat_tests}
 use Rattle.std.proofs.lemmas.List.{length-append, drop_all}
 use Rattle.vub_base.specs.declared.header.CacheMode.{CacheMode}
@@ -14,12 +13,12 @@ use Rattle.vub_ring.specs.declared.readiness.Turn.{Turn}
 use Rattle.vub_ring.specs.declared.steps.Phase.TheVariants as phases
 use Rattle.vub_ring.specs.Ring.{seen}
 use Rattle.vub_ring.specs.Readiness.{is_ready}
-use Rattle.vub_driver.specs.Drivers.{Driver, Waiting, can_take, after_ask, after_stores, after_collect, with_left, without_owner}
+use Rattle.vub_driver.specs.Drivers.{Driver, Waiting, can_take, after_ask, after_stores, with_left, without_owner}
 use Rattle.vub_driver.specs.Stores.{offer_stores}
 use Rattle.vub_device.specs.declared.entry.Entry.{Entry}
 use Rattle.vub_device.specs.declared.entry.Entry.TheVariants as entries
 use Rattle.vub_device.specs.Legal.{LegalFrom, after}
-use Rattle.vub_device.specs.Past.{accepted, collected, started, is_among}
+use Rattle.vub_device.specs.Past.{accepted, collected, started}
 use Rattle.vub_schedule.specs.declared.types.Event.{Event}
 use Rattle.vub_schedule.specs.declared.types.Event.TheVariants as events
 use Rattle.vub_schedule.specs.Spelling.{IsAsk, IsEvent}
@@ -27,11 +26,11 @@ use Rattle.vub_world.specs.declared.report.items.Item.{Item}
 use Rattle.vub_world.specs.declared.report.items.Item.TheVariants as items
 use Rattle.vub_world.specs.Memory.{Scene, after_item, after_items}
 use Rattle.vub_world.specs.Moments.{Lane, Moment, fresh, standing}
-use Rattle.vub_world.specs.Run.{Played, played, if_ready, with_lane, comes_about, with_driver, ask, guest, guest_items, guest_stores, take_first, collect, boot, join, one_turn, is_due, then_played, turns, drain_choice, IsDrained, Drains, Plays, request_of}
+use Rattle.vub_world.specs.Run.{Played, played, if_ready, with_lane, comes_about, with_driver, ask, guest, guest_items, guest_stores, take_first, collect, boot, join, one_turn, is_due, then_played, turns, drain_choice, Drains, Plays, request_of}
 use Rattle.vub_world.specs.Tracking.{EveryTracks, GoesOn, AfterEach, entries_of}
 use Rattle.vub_world.specs.Turns.{turned}
-use Rattle.vub_world.proofs.RunGood.{the_ring, IsHarmless, IsPlan, IsWaiting, WaitsWell, Worked, Holds}
-use Rattle.vub_world.proofs.RunGuests.{IsGood, holds_track, offered, Offered, guest_holds}
+use Rattle.vub_world.proofs.RunGood.{the_ring, IsPlan, IsWaiting, WaitsWell, Worked}
+use Rattle.vub_world.proofs.RunGuests.{holds_track, Offered, guest_holds}
 use Rattle.vub_world.proofs.RunWork.{Fine}
 use Rattle.vub_world.proofs.RunTurns.{IsPlain, Good, turn_fine}
 use Rattle.vub_world.proofs.RunAsks.{plain_ask, ask_holds}

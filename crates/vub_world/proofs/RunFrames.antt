@@ -1,6 +1,6 @@
 -- What stores elsewhere leave.
-use Rattle.std.proofs.Common.{◌≡◌, ◌≢◌, ◌≤◌, ◌<◌, ◌⊎◌, ℕ, suc, ◌+◌, ◌*◌, ◌%◌, true, false, List, [], ◌∷◌, ◌++◌, length, take, refl, ap, sym, ◌∙◌, inl, inr, arith}
-use Rattle.std.specs.Prelude.{slice_index, ⊤}
+use Rattle.std.proofs.Common.{◌≡◌, ◌≢◌, ◌≤◌, ◌<◌, ◌⊎◌, ℕ, ◌+◌, ◌*◌, ◌%◌, true, List, ◌++◌, length, ap, sym, ◌∙◌, inl, inr, arith}
+use Rattle.std.specs.Prelude.{slice_index}
 use Rattle.byteorder.specs.Endian.{little_bytes}
 use Rattle.byteorder.specs.Numbers.{length-bytes_low_first}
 use Rattle.std.proofs.lemmas.Bool.{cases_lt}
@@ -14,7 +14,7 @@ use Rattle.vub_device.specs.declared.entry.Entry.{Entry}
 use Rattle.vub_device.specs.Past.{accepted, published, collected, is_among, IsOpen}
 use Rattle.vub_world.proofs.RunNumbers.{not_among-take}
 use Rattle.vub_world.proofs.RunRings.{entries_apart}
-use Rattle.vub_world.proofs.RunGood.{the_ring, IsSize, Known, Ringed, IsOut, Worked, Stored, IsBuilt, Built, buffer}
+use Rattle.vub_world.proofs.RunGood.{the_ring, IsSize, Known, Ringed, IsOut, Stored, Built, buffer}
 
 -- an open number is offered and not collected
 pub open_out : (n cap : ℕ) (past : List Entry) (heads : List ℕ) (k : ℕ) → Known n cap past heads → IsOpen past 0 k → IsOut past heads k

@@ -1,28 +1,26 @@
 -- The driver's stores keep what holds, up to the offer.
-use Rattle.std.proofs.Common.{◌≡◌, ◌≢◌, ◌≤◌, ◌<◌, ◌⊎◌, ℕ, zero, suc, ◌+◌, ◌*◌, ◌%◌, true, false, List, [], ◌∷◌, ◌++◌, length, refl, ap, sym, ◌∙◌, subst, inl, inr, arith}
-use Rattle.std.specs.Prelude.{Option, Some, None, slice_index, ⊤}
+use Rattle.std.proofs.Common.{◌≡◌, ◌≤◌, ◌<◌, ℕ, zero, suc, ◌+◌, ◌*◌, ◌%◌, List, [], ◌∷◌, ◌++◌, length, refl, ap, sym, ◌∙◌, subst, inl, inr, arith}
+use Rattle.std.specs.Prelude.{None}
 use Rattle.std.specs.List.{AllByRecursion}
 use Rattle.byteorder.specs.Endian.{little_bytes}
 use Rattle.vub_base.specs.declared.header.CacheMode.{CacheMode}
 use Rattle.vub_base.specs.declared.header.Header1.{Header1}
-use Rattle.vub_base.specs.declared.request.Ask.{Ask}
 use Rattle.vub_shared.specs.Bytes.{Bytes, put}
 use Rattle.vub_shared.specs.Stores.{Store, one_store}
-use Rattle.vub_ring.specs.Ring.{Ring, avail_entry_place, avail_idx_place, avail_idx, head_at, last_head}
-use Rattle.vub_driver.specs.Drivers.{Driver, Waiting}
+use Rattle.vub_ring.specs.Ring.{avail_entry_place, avail_idx_place, head_at, last_head}
+use Rattle.vub_driver.specs.Drivers.{Waiting}
 use Rattle.vub_driver.specs.Stores.{offer_stores}
 use Rattle.vub_device.specs.declared.entry.Asked.{Asked}
-use Rattle.vub_device.specs.declared.entry.Entry.{Entry}
 use Rattle.vub_device.specs.declared.entry.Entry.TheVariants as entries
 use Rattle.vub_device.specs.Legal.{LegalFrom}
-use Rattle.vub_device.specs.Past.{IsOpen, is_among}
+use Rattle.vub_device.specs.Past.{IsOpen}
 use Rattle.vub_world.specs.declared.report.items.Item.{Item}
 use Rattle.vub_world.specs.declared.report.items.Item.TheVariants as items
 use Rattle.vub_world.specs.Memory.{Scene, with_at, after_item, after_items}
 use Rattle.vub_world.specs.Moments.{Lane}
-use Rattle.vub_world.specs.Run.{request_of, with_driver, guest_items}
-use Rattle.vub_world.specs.Tracking.{EveryTracks, GoesOn, AfterEach, entries_of}
-use Rattle.vub_world.proofs.RunGood.{the_ring, IsSize, Known, Ringed, IsOut, IsHarmless, IsWaiting, Driven, WaitsWell, Worked, Stored, Built, Holds}
+use Rattle.vub_world.specs.Run.{request_of, guest_items}
+use Rattle.vub_world.specs.Tracking.{EveryTracks, AfterEach, entries_of}
+use Rattle.vub_world.proofs.RunGood.{the_ring, IsSize, IsHarmless, IsWaiting, Holds}
 use Rattle.vub_world.proofs.RunTracks.{tracks, every_tracks}
 use Rattle.vub_world.proofs.RunFrames.{entry_small, open_out, OffRings, OffBuffer, ringed_elsewhere, built_elsewhere, built_below, stored_elsewhere, below_buffers, other_buffer, length_little, ringed_entry, same_entry}
 use Rattle.vub_world.proofs.RunOffers.{offer_room, offer_known, offer_ringed, shown_head, offer_driven, offer_worked, offer_stored, offer_built, batch_taken}

@@ -1,27 +1,25 @@
 -- An offer keeps what holds.
-use Rattle.std.proofs.Common.{◌≡◌, ◌≢◌, ◌≤◌, ◌<◌, ◌⊎◌, ℕ, suc, ◌+◌, ◌*◌, ◌%◌, true, false, List, [], ◌∷◌, ◌++◌, length, take, get_or, refl, ap, sym, ◌∙◌, subst, inl, inr, arith}
-use Rattle.std.specs.Prelude.{Option, Some, None, slice_index, ⊤}
+use Rattle.std.proofs.Common.{◌≡◌, ◌≤◌, ◌<◌, ℕ, ◌+◌, ◌*◌, ◌%◌, true, List, [], ◌∷◌, ◌++◌, length, take, refl, ap, sym, ◌∙◌, subst, inl, inr, arith}
+use Rattle.std.specs.Prelude.{Option, Some, None, slice_index}
 use Rattle.byteorder.specs.Endian.{little_bytes}
 use Rattle.std.proofs.lemmas.Bool.Decides.{nat_tests}
-use Rattle.std.proofs.lemmas.Bool.{cases_lt, cases_eq, or_right}
+use Rattle.std.proofs.lemmas.Bool.{cases_lt, or_right}
 use Rattle.std.proofs.lemmas.List.{length_push, get_or_append_left, get_or_push, length-take-le}
 use Rattle.vub_shared.specs.Bytes.{Bytes, put, word, bytes_from}
 use Rattle.vub_shared.proofs.BytesLemmas.{word-put_same}
 use Rattle.vub_ring.specs.declared.steps.Phase.{Phase}
 use Rattle.vub_ring.specs.declared.steps.Phase.TheVariants as phases
-use Rattle.vub_ring.specs.Ring.{entry_of, avail_entry_place, avail_idx_place, avail_idx, used_id_place, used_len_place, head_at, last_head}
-use Rattle.vub_driver.specs.Layout.{status_place, sectors_place}
+use Rattle.vub_ring.specs.Ring.{avail_entry_place, avail_idx_place, avail_idx, used_id_place, used_len_place, head_at, last_head}
 use Rattle.vub_driver.specs.Drivers.{Driver, Waiting}
 use Rattle.vub_device.specs.declared.entry.Asked.{Asked}
 use Rattle.vub_device.specs.declared.entry.Entry.{Entry}
 use Rattle.vub_device.specs.declared.entry.Entry.TheVariants as entries
-use Rattle.vub_device.specs.Past.{offers, asked, accepted, published, collected, is_among, IsOpen, looks, seen, acts}
+use Rattle.vub_device.specs.Past.{offers, asked, accepted, published, collected, is_among, looks, seen, acts}
 use Rattle.vub_device.proofs.Numbers.{is_among_append}
-use Rattle.vub_world.specs.Run.{request_of}
 use Rattle.vub_world.specs.Tracking.{answered_len}
-use Rattle.vub_world.proofs.RunNumbers.{among_at, few_places, not_among-take}
-use Rattle.vub_world.proofs.RunGood.{the_ring, IsSize, IsSimple, Known, Ringed, spot, IsOut, IsWaiting, Driven, Progress, IsBegun, IsFull, Worked, Stored, IsRead, IsBuilt, Built, buffer}
-use Rattle.vub_world.proofs.RunFrames.{keeps, entry_small, length_little, below_buffers, sectors_elsewhere, status_elsewhere}
+use Rattle.vub_world.proofs.RunNumbers.{among_at, few_places}
+use Rattle.vub_world.proofs.RunGood.{the_ring, IsSize, IsSimple, Known, Ringed, spot, IsOut, IsWaiting, Driven, IsBegun, IsFull, Worked, Stored, IsRead, Built}
+use Rattle.vub_world.proofs.RunFrames.{keeps, length_little}
 
 pub same_head : (heads : List ℕ) (h k : ℕ) → k < length heads → slice_index (heads ++ h ∷ []) k ≡ slice_index heads k
 same_head heads h k l = get_or_append_left heads (h ∷ []) 0 k l

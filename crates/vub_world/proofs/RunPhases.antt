@@ -1,28 +1,25 @@
 -- Start and fetch keep what holds, and so does the begin of a publication.
-use Rattle.std.proofs.Common.{◌≡◌, ◌≢◌, ◌≤◌, ◌<◌, ◌⊎◌, ℕ, zero, suc, ◌+◌, ◌*◌, ◌%◌, Bool, true, false, List, [], ◌∷◌, ◌++◌, length, take, drop, refl, ap, sym, ◌∙◌, subst, inl, inr, arith}
-use Rattle.std.specs.Prelude.{Option, Some, None, slice_index, slice_get, ◌||◌, ⊤}
+use Rattle.std.proofs.Common.{◌≡◌, ◌≤◌, ◌<◌, ℕ, ◌+◌, true, false, List, [], ◌∷◌, ◌++◌, length, take, drop, refl, ap, sym, ◌∙◌, inl, inr, arith}
+use Rattle.std.specs.Prelude.{◌||◌}
 use Rattle.std.proofs.lemmas.Bool.Decides.{nat_tests}
 use Rattle.std.proofs.lemmas.Bool.{cases_lt, cases_Bool}
-use Rattle.std.proofs.lemmas.List.{append-nil, length-take, length-append, take-append-drop}
+use Rattle.std.proofs.lemmas.List.{append-nil, length-take, take-append-drop}
 use Rattle.vub_base.specs.declared.header.Header1.{Header1}
-use Rattle.vub_shared.specs.Bytes.{Bytes, bytes_from}
 use Rattle.vub_ring.specs.declared.steps.Phase.{Phase}
 use Rattle.vub_ring.specs.declared.steps.Phase.TheVariants as phases
 use Rattle.vub_ring.specs.declared.readiness.Turn.TheVariants as turns
-use Rattle.vub_ring.specs.Ring.{ahead, avail_idx, head_at}
-use Rattle.vub_driver.specs.Layout.{sectors_place}
-use Rattle.vub_device.specs.declared.entry.Asked.{Asked}
+use Rattle.vub_ring.specs.Ring.{ahead, avail_idx}
 use Rattle.vub_device.specs.declared.entry.Entry.{Entry}
 use Rattle.vub_device.specs.declared.entry.Entry.TheVariants as entries
 use Rattle.vub_device.specs.Legal.{MayStart, MayAccept}
-use Rattle.vub_device.specs.Past.{asked, accepted, published, is_among, IsOpen, open_numbers, offers, started, looks, seen, acts}
+use Rattle.vub_device.specs.Past.{accepted, is_among, open_numbers, started}
 use Rattle.vub_device.specs.Places.{are_distinct}
 use Rattle.vub_device.proofs.Numbers.{is_among_append}
 use Rattle.vub_world.specs.Memory.{Scene}
 use Rattle.vub_world.specs.Moments.{Lane}
 use Rattle.vub_world.specs.Turns.{under_way, phase_goes_on}
-use Rattle.vub_world.proofs.RunNumbers.{distinct_parts, distinct_join, among-take}
-use Rattle.vub_world.proofs.RunGood.{the_ring, IsSize, Known, Ringed, Progress, IsBegun, IsFull, Worked, Stored, IsRead, Built, buffer, Holds}
+use Rattle.vub_world.proofs.RunNumbers.{distinct_parts, distinct_join}
+use Rattle.vub_world.proofs.RunGood.{the_ring, Worked, Holds}
 use Rattle.vub_world.proofs.RunTracks.{ahead_by}
 use Rattle.vub_world.proofs.RunGuests.{IsGood, holds_track}
 use Rattle.vub_world.proofs.RunWork.{Fine, driven_same, built_same}

@@ -1,49 +1,38 @@
 -- A publication keeps what holds, and its answers are those of a legal history.
-use Rattle.std.proofs.Common.{◌≡◌, ◌≢◌, ◌≤◌, ◌<◌, ◌⊎◌, ℕ, zero, suc, ◌+◌, ◌-◌, ◌*◌, ◌/◌, ◌%◌, ◌^◌, Bool, true, false, List, [], ◌∷◌, ◌++◌, length, take, drop, map, get_or, refl, ap, sym, ◌∙◌, subst, inl, inr, arith}
-use Rattle.std.specs.Prelude.{Option, Some, None, slice_index, slice_get, option_map, nat_lt, if◌then◌else◌, ◌||◌, All, ⊤}
+use Rattle.std.proofs.Common.{◌≡◌, ◌≤◌, ◌<◌, ℕ, zero, suc, ◌+◌, ◌*◌, ◌/◌, ◌^◌, Bool, true, false, List, [], ◌∷◌, ◌++◌, length, map, refl, ap, sym, ◌∙◌, subst, inl, inr, arith}
+use Rattle.std.specs.Prelude.{Option, Some, None, slice_index, slice_get, option_map, nat_lt, if◌then◌else◌, All}
 use Rattle.std.specs.List.{AllByRecursion}
 use Rattle.byteorder.specs.Endian.{little_bytes}
 use Rattle.std.proofs.lemmas.Bool.Decides.{nat_tests}
-use Rattle.std.proofs.lemmas.Bool.{cases_eq, cases_lt, cases_Bool, or_right, or_left}
-use Rattle.std.proofs.lemmas.List.{length-append, append-nil, take-append-le, get_or_append_left, get_or-append_right}
-use Rattle.vub_base.specs.declared.header.CacheMode.{CacheMode}
+use Rattle.std.proofs.lemmas.Bool.{or_right}
 use Rattle.vub_base.specs.declared.header.CacheMode.TheVariants.{Back, Through}
 use Rattle.vub_base.specs.declared.header.Header1.{Header1}
-use Rattle.vub_base.specs.declared.store.Tag.TheVariants.{SP1, SP2, SP5}
-use Rattle.vub_base.specs.declared.store.Area.TheVariants.{M}
-use Rattle.vub_shared.specs.Bytes.{Bytes, put, word, bytes_from}
-use Rattle.vub_shared.proofs.BytesLemmas.{word-put_same}
+use Rattle.vub_base.specs.declared.store.Tag.TheVariants.{SP1, SP2}
+use Rattle.vub_shared.specs.Bytes.{Bytes, bytes_from}
 use Rattle.vub_ring.specs.declared.steps.Phase.{Phase}
 use Rattle.vub_ring.specs.declared.steps.Phase.TheVariants as phases
-use Rattle.vub_ring.specs.declared.steps.Step.{Step}
 use Rattle.vub_ring.specs.declared.steps.Step.TheVariants as steps
-use Rattle.vub_ring.specs.Ring.{entry_of, avail_idx_place, avail_entry_place, used_idx_place, used_id_place, used_len_place, used_idx, element_at}
+use Rattle.vub_ring.specs.Ring.{entry_of, used_id_place, used_len_place, used_idx}
 use Rattle.vub_ring.specs.Rows.{row}
-use Rattle.vub_ring.specs.Steps.{element_steps, publish_steps}
+use Rattle.vub_ring.specs.Steps.{publish_steps}
 use Rattle.vub_driver.specs.Layout.{status_place, sectors_place}
 use Rattle.vub_device.specs.declared.entry.Answered.{Answered}
 use Rattle.vub_device.specs.declared.entry.Asked.{Asked}
 use Rattle.vub_device.specs.declared.entry.Asked.TheVariants as asks
 use Rattle.vub_device.specs.declared.entry.Entry.{Entry}
-use Rattle.vub_device.specs.declared.entry.Entry.TheVariants as entries
-use Rattle.vub_device.specs.Legal.{IsAnswer, IsSuccess, IsDone, MayPublish}
-use Rattle.vub_device.specs.Past.{asked, accepted, published, collected, numbers, is_among, IsOpen, started, looks, seen, acts}
-use Rattle.vub_device.specs.Places.{are_distinct}
+use Rattle.vub_device.specs.Legal.{IsAnswer, IsDone}
+use Rattle.vub_device.specs.Past.{asked, published, numbers, is_among, IsOpen, started, looks, seen, acts}
 use Rattle.vub_device.specs.Requests.{look_at, effect_at}
-use Rattle.vub_device.proofs.Distinct.{distinct_from_test}
 use Rattle.vub_device.proofs.Numbers.{is_among_append}
-use Rattle.vub_world.specs.declared.report.items.Item.TheVariants as items
 use Rattle.vub_world.specs.Memory.{Scene}
 use Rattle.vub_world.specs.Moments.{Lane}
-use Rattle.vub_world.specs.Tracking.{answers, answered_len}
-use Rattle.vub_world.specs.Turns.{Turned, element_of, len_of, phase_turn, phase_goes_on, answer_at, answer_len, row_items, with_phase}
-use Rattle.vub_world.proofs.RunNumbers.{among_at, distinct_parts, distinct_join}
-use Rattle.vub_world.proofs.RunGood.{the_ring, IsSize, IsSimple, Known, Ringed, spot, IsBegun, IsFull, Worked, PhaseIs, Stored, IsRead, IsBuilt, Built, buffer, Holds}
-use Rattle.vub_world.proofs.RunFrames.{keeps, entry_small, length_little, stored_elsewhere, below_buffers, open_out}
+use Rattle.vub_world.specs.Turns.{Turned, element_of, len_of, phase_turn, answer_at, answer_len, row_items, with_phase}
+use Rattle.vub_world.proofs.RunNumbers.{among_at}
+use Rattle.vub_world.proofs.RunGood.{the_ring, IsSimple, IsBegun, IsFull, Worked, Stored, IsRead, buffer, Holds}
+use Rattle.vub_world.proofs.RunFrames.{open_out}
 use Rattle.vub_world.proofs.RunGuests.{IsGood, stored_at, holds_track}
-use Rattle.vub_world.proofs.RunPhases.{resting}
-use Rattle.vub_world.proofs.RunWork.{Fine, simple_cases, read_served, write_served, driven_same}
-use Rattle.vub_world.proofs.RunElements.{StepAt, AtId, AtLen, AtIndex, step_at, steps_many, get_map, length_map, len_is, batch_room, element_place, IsNextElement, one_on, id_holds, len_holds}
+use Rattle.vub_world.proofs.RunWork.{Fine, simple_cases, read_served, write_served}
+use Rattle.vub_world.proofs.RunElements.{steps_many, get_map, len_is, element_place, IsNextElement, one_on, id_holds, len_holds}
 
 -- the lane with so many stores of its publication made
 abbrev pub publishing : ℕ → Lane → Lane

@@ -2,11 +2,10 @@
 use Rattle.std.proofs.Common.{◌≡◌, ◌≢◌, ◌≤◌, ◌<◌, ℕ, zero, suc, ◌+◌, ◌*◌, ◌%◌, ◌/◌, List, [], ◌∷◌, length, get_or, refl, ap, sym, ◌∙◌, inl, inr, arith}
 use Rattle.std.specs.Prelude.{slice_index}
 use Rattle.std.specs.Int.{◌∣◌}
-use Rattle.std.proofs.lemmas.Bool.Decides.{nat_tests}
 use Rattle.std.proofs.lemmas.Bool.{cases_lt}
 use Rattle.std.proofs.Math.Nat.{mod-mod_of_dvd, div-add-mod, mul-le-mul_left}
 use Rattle.vub_shared.specs.Bytes.{Bytes}
-use Rattle.vub_ring.specs.Ring.{Ring, entry_of, head_at, element_at, heads_from, elements_from}
+use Rattle.vub_ring.specs.Ring.{Ring, head_at, element_at, heads_from, elements_from}
 
 places_apart : (n a b : ℕ) → 0 < n → a < b → b < a + n → a % n ≢ b % n
 places_apart n a b some less near same =

@@ -1,29 +1,25 @@
 -- The store of used.idx with its publication keeps what holds.
-use Rattle.std.proofs.Common.{◌≡◌, ◌≢◌, ◌≤◌, ◌<◌, ◌⊎◌, ℕ, zero, suc, ◌+◌, ◌-◌, ◌*◌, ◌%◌, Bool, true, false, List, [], ◌∷◌, ◌++◌, length, take, drop, map, get_or, refl, ap, sym, ◌∙◌, subst, inl, inr, arith}
-use Rattle.std.specs.Prelude.{Option, Some, None, slice_index, slice_get, nat_lt, if◌then◌else◌, ◌||◌, ⊤}
-use Rattle.std.specs.List.{AllByRecursion}
+use Rattle.std.proofs.Common.{◌≡◌, ◌≤◌, ◌<◌, ℕ, ◌+◌, ◌-◌, ◌*◌, ◌%◌, Bool, true, false, List, [], ◌∷◌, ◌++◌, length, take, map, refl, ap, sym, ◌∙◌, subst, inl, inr, arith}
+use Rattle.std.specs.Prelude.{Option, Some, slice_index, slice_get, if◌then◌else◌, ◌||◌}
 use Rattle.byteorder.specs.Endian.{little_bytes}
 use Rattle.std.proofs.lemmas.Bool.Decides.{nat_tests}
-use Rattle.std.proofs.lemmas.Bool.{cases_eq, cases_lt, cases_Bool, or_left}
+use Rattle.std.proofs.lemmas.Bool.{cases_lt, cases_Bool, or_left}
 use Rattle.std.proofs.lemmas.List.{length-append, length-map, append-nil, take-append-le, get_or_append_left, get_or-append-add}
-use Rattle.vub_base.specs.declared.header.CacheMode.TheVariants.{Back}
 use Rattle.vub_base.specs.declared.header.Header1.{Header1}
 use Rattle.vub_base.specs.declared.store.Tag.TheVariants.{SP5}
 use Rattle.vub_base.specs.declared.store.Area.TheVariants.{M}
-use Rattle.vub_shared.specs.Bytes.{Bytes, put, word}
+use Rattle.vub_shared.specs.Bytes.{put, word}
 use Rattle.vub_shared.proofs.BytesLemmas.{word-put_same}
-use Rattle.vub_ring.specs.declared.steps.Phase.{Phase}
 use Rattle.vub_ring.specs.declared.steps.Phase.TheVariants as phases
 use Rattle.vub_ring.specs.declared.steps.Step.{Step}
 use Rattle.vub_ring.specs.declared.steps.Step.TheVariants as steps
 use Rattle.vub_ring.specs.Ring.{avail_idx_place, avail_entry_place, used_idx_place, used_id_place, used_len_place, used_idx, element_at}
-use Rattle.vub_ring.specs.Rows.{row}
-use Rattle.vub_ring.specs.Steps.{element_steps, publish_steps}
+use Rattle.vub_ring.specs.Steps.{publish_steps}
 use Rattle.vub_device.specs.declared.entry.Answered.{Answered}
 use Rattle.vub_device.specs.declared.entry.Entry.{Entry}
 use Rattle.vub_device.specs.declared.entry.Entry.TheVariants as entries
 use Rattle.vub_device.specs.Legal.{IsAnswer, MayPublish}
-use Rattle.vub_device.specs.Past.{asked, accepted, published, collected, numbers, is_among, IsOpen, started}
+use Rattle.vub_device.specs.Past.{asked, accepted, published, collected, numbers, is_among, IsOpen}
 use Rattle.vub_device.specs.Places.{are_distinct}
 use Rattle.vub_device.proofs.Distinct.{distinct_from_test}
 use Rattle.vub_device.proofs.Numbers.{is_among_append}
@@ -32,10 +28,10 @@ use Rattle.vub_world.specs.Memory.{Scene}
 use Rattle.vub_world.specs.Moments.{Lane}
 use Rattle.vub_world.specs.Tracking.{answers, answered_len}
 use Rattle.vub_world.specs.Turns.{Turned, element_of, phase_turn, phase_goes_on, answer_at, with_phase}
-use Rattle.vub_world.proofs.RunNumbers.{among_at, distinct_parts, distinct_join}
-use Rattle.vub_world.proofs.RunGood.{the_ring, IsSize, Known, Ringed, spot, IsOut, Driven, Worked, PhaseIs, Stored, IsBuilt, Built, buffer, Holds}
+use Rattle.vub_world.proofs.RunNumbers.{distinct_parts, distinct_join}
+use Rattle.vub_world.proofs.RunGood.{the_ring, Known, Ringed, spot, Worked, Stored, IsBuilt, Holds}
 use Rattle.vub_world.proofs.RunFrames.{keeps, entry_small, length_little, stored_elsewhere, below_buffers}
-use Rattle.vub_world.proofs.RunGuests.{IsGood, stored_at, holds_track}
+use Rattle.vub_world.proofs.RunGuests.{stored_at, holds_track}
 use Rattle.vub_world.proofs.RunPhases.{resting}
 use Rattle.vub_world.proofs.RunWork.{Fine, driven_same}
 use Rattle.vub_world.proofs.RunElements.{StepAt, AtId, AtLen, AtIndex, step_at, length_map, batch_room}

@@ -1,6 +1,6 @@
 -- A turn that is due keeps what holds.
-use Rattle.std.proofs.Common.{◌≡◌, ◌≢◌, ◌≤◌, ◌<◌, ◌⊎◌, ℕ, zero, suc, ◌+◌, ◌*◌, Bool, true, false, not, List, [], ◌∷◌, ◌++◌, length, refl, ap, sym, ◌∙◌, subst, inl, inr, arith}
-use Rattle.std.specs.Prelude.{Option, Some, None, slice_get, nat_lt, ◌&&◌, ◌||◌, filter, ⊤}
+use Rattle.std.proofs.Common.{◌≡◌, ◌<◌, ◌⊎◌, ℕ, true, false, not, List, [], ◌++◌, length, refl, ap, sym, subst, inl, inr, arith}
+use Rattle.std.specs.Prelude.{Option, Some, None, slice_get}
 use Rattle.std.proofs.lemmas.Bool.Decides.{nat_tests}
 use Rattle.vub_base.specs.declared.header.CacheMode.TheVariants.{Back}
 use Rattle.vub_base.specs.declared.header.Header1.{Header1}
@@ -10,15 +10,14 @@ use Rattle.vub_ring.specs.declared.readiness.Turn.{Turn}
 use Rattle.vub_ring.specs.declared.readiness.Turn.TheVariants as turns
 use Rattle.vub_ring.specs.Readiness.{is_ready, is_fetch, is_publication}
 use Rattle.vub_device.specs.Past.{accepted, published, is_among, open_numbers, started}
-use Rattle.vub_world.specs.Memory.{Scene}
 use Rattle.vub_world.specs.Moments.{Lane, Moment, standing, unfinished}
-use Rattle.vub_world.specs.Turns.{Turned, turned, work_turn, request_turn, phase_goes_on, under_way}
+use Rattle.vub_world.specs.Turns.{turned, work_turn, phase_goes_on, under_way}
 use Rattle.vub_world.proofs.RunNumbers.{among_get, among_filter, missing-among}
 use Rattle.vub_world.proofs.RunGood.{PhaseIs, Holds}
 use Rattle.vub_world.proofs.RunGuests.{IsGood}
-use Rattle.vub_world.proofs.RunWork.{Fine, IsLeft, nothing_fine, request_fine}
+use Rattle.vub_world.proofs.RunWork.{Fine, nothing_fine, request_fine}
 use Rattle.vub_world.proofs.RunPhases.{resting, rest_is, start_fine, some_waits, fetch_fine, taking, taking_holds}
-use Rattle.vub_world.proofs.RunPublications.{publishing, IsUnderWay}
+use Rattle.vub_world.proofs.RunPublications.{publishing}
 use Rattle.vub_world.proofs.RunShown.{publication_fine}
 
 -- a header of this grammar

@@ -1,18 +1,18 @@
 -- A step of work keeps what holds.
-use Rattle.std.proofs.Common.{◌≡◌, ◌≢◌, ◌≤◌, ◌<◌, ◌⊎◌, ℕ, zero, suc, ◌+◌, ◌*◌, ◌/◌, Bool, true, false, List, [], ◌∷◌, ◌++◌, length, take, drop, get_or, refl, ap, sym, ◌∙◌, subst, inl, inr, arith}
-use Rattle.std.specs.Prelude.{Option, Some, None, slice_index, slice_get, slice_range, ◌||◌, ⊤, if◌then◌else◌, nat_lt, unwrap_or}
+use Rattle.std.proofs.Common.{◌≡◌, ◌≢◌, ◌≤◌, ◌<◌, ◌⊎◌, ℕ, zero, suc, ◌+◌, ◌*◌, ◌/◌, true, false, List, [], ◌∷◌, ◌++◌, length, refl, ap, sym, ◌∙◌, subst, inl, inr, arith}
+use Rattle.std.specs.Prelude.{Option, Some, None, slice_index, slice_get, slice_range, ◌||◌, if◌then◌else◌, nat_lt, unwrap_or}
 use Rattle.std.proofs.lemmas.Bool.Decides.{nat_tests}
-use Rattle.std.proofs.lemmas.Bool.{cases_eq, cases_Bool}
-use Rattle.std.proofs.lemmas.List.{take_all, length-append, length-take-le, append_assoc}
+use Rattle.std.proofs.lemmas.Bool.{cases_eq}
+use Rattle.std.proofs.lemmas.List.{take_all, length-take-le}
 use Rattle.vub_base.specs.declared.header.CacheMode.{CacheMode}
 use Rattle.vub_base.specs.declared.header.CacheMode.TheVariants.{Back}
 use Rattle.vub_base.specs.declared.header.Header1.{Header1}
 use Rattle.vub_shared.specs.Bytes.{Bytes, put, word, bytes_from}
-use Rattle.vub_shared.proofs.BytesLemmas.{put_inside, put_other, bytes_from-put_other, bytes_from-put_same}
+use Rattle.vub_shared.proofs.BytesLemmas.{put_inside, bytes_from-put_other, bytes_from-put_same}
 use Rattle.vub_ring.specs.declared.steps.Phase.{Phase}
 use Rattle.vub_ring.specs.declared.steps.Phase.TheVariants as phases
 use Rattle.vub_ring.specs.Ring.{used_id_place, used_len_place}
-use Rattle.vub_driver.specs.Layout.{area_place, buffer_place, status_place, sectors_place}
+use Rattle.vub_driver.specs.Layout.{status_place, sectors_place}
 use Rattle.vub_driver.specs.Drivers.{Driver, Waiting}
 use Rattle.vub_device.specs.declared.entry.Asked.{Asked}
 use Rattle.vub_device.specs.declared.entry.Asked.TheVariants as asks
@@ -22,19 +22,19 @@ use Rattle.vub_device.specs.declared.entry.SectorValue.{SectorValue}
 use Rattle.vub_device.specs.Crash.{value}
 use Rattle.vub_device.specs.Legal.{LegalFrom, IsAtWork, MayLook, MayAct}
 use Rattle.vub_device.specs.Requests.{look_at, effect_at, refusal}
-use Rattle.vub_device.specs.Past.{asked, accepted, published, collected, is_among, IsOpen, started, looks, seen, acts}
+use Rattle.vub_device.specs.Past.{asked, published, collected, is_among, IsOpen, started, looks, seen, acts}
 use Rattle.vub_device.specs.Places.{are_distinct}
 use Rattle.vub_device.proofs.Numbers.{is_among_append}
 use Rattle.vub_base.specs.declared.store.Tag.TheVariants.{T5}
 use Rattle.vub_base.specs.declared.store.Area.TheVariants.{M}
 use Rattle.vub_world.specs.declared.report.items.Item.TheVariants as items
 use Rattle.vub_world.specs.Memory.{Scene, with_at, after_items}
-use Rattle.vub_world.specs.Moments.{Lane, buffer_of}
-use Rattle.vub_world.specs.Tasks.{TaskStep, Look, Put, Act, Status, task_steps, task_items, look_items, act_items, status_of, unless_refused, disk_steps, act_steps}
-use Rattle.vub_world.specs.Tracking.{EveryTracks, GoesOn, AfterEach, entries_of, answered_len}
-use Rattle.vub_world.specs.Turns.{Turned, nothing, request_turn, task_turn, after_task_step}
+use Rattle.vub_world.specs.Moments.{Lane}
+use Rattle.vub_world.specs.Tasks.{TaskStep, Look, Put, Act, Status, task_steps, act_items, status_of, unless_refused, disk_steps, act_steps}
+use Rattle.vub_world.specs.Tracking.{EveryTracks, AfterEach, entries_of, answered_len}
+use Rattle.vub_world.specs.Turns.{Turned, nothing, request_turn, task_turn}
 use Rattle.vub_world.proofs.RunNumbers.{distinct_parts, distinct_join, distinct_push}
-use Rattle.vub_world.proofs.RunGood.{the_ring, IsSize, IsSimple, Known, Ringed, IsOut, IsWaiting, WaitsWell, Driven, Progress, IsBegun, IsFull, Worked, Stored, IsRead, IsBuilt, Built, buffer, Holds}
+use Rattle.vub_world.proofs.RunGood.{the_ring, IsSimple, Known, IsOut, WaitsWell, Driven, Progress, IsBegun, IsFull, Worked, Stored, IsRead, Built, buffer, Holds}
 use Rattle.vub_world.proofs.RunFrames.{open_out, OffBuffer, ringed_elsewhere, built_elsewhere, sectors_elsewhere, status_elsewhere, other_buffer}
 use Rattle.vub_world.proofs.RunGuests.{IsGood, stored_at, holds_track}
 

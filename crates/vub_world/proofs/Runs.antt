@@ -1,31 +1,26 @@
 -- Every run of a schedule is a legal history, and memory tracks it.
-use Rattle.std.proofs.Common.{◌≡◌, ◌≢◌, ◌≤◌, ◌<◌, ◌⊎◌, ℕ, zero, suc, ◌+◌, ◌-◌, ◌*◌, ◌%◌, Bool, true, false, not, cond, List, [], ◌∷◌, ◌++◌, length, refl, ap, sym, ◌∙◌, subst, inl, inr, arith}
-use Rattle.std.specs.Prelude.{Option, Some, None, slice_index, ⊤}
+use Rattle.std.proofs.Common.{◌≡◌, ◌<◌, ℕ, true, false, List, [], ◌∷◌, length, refl, ap, sym, ◌∙◌, subst, inl, arith}
 use Rattle.std.specs.List.{AllByRecursion}
 use Rattle.byteorder.specs.Endian.{little_bytes}
-use Rattle.std.proofs.lemmas.Bool.Decides.{nat_tests}
 use Rattle.std.proofs.lemmas.List.{length-replicate}
-use Rattle.vub_base.specs.declared.header.CacheMode.{CacheMode}
 use Rattle.vub_base.specs.declared.header.Header1.{Header1}
-use Rattle.vub_shared.specs.Bytes.{Bytes, put, word}
+use Rattle.vub_shared.specs.Bytes.{Bytes, put}
 use Rattle.vub_shared.proofs.BytesLemmas.{word-put_same}
-use Rattle.vub_ring.specs.declared.steps.Phase.TheVariants as phases
 use Rattle.vub_ring.specs.Ring.{avail_idx_place, used_idx_place}
 use Rattle.vub_device.specs.declared.entry.Entry.{Entry}
 use Rattle.vub_device.specs.Legal.{Legal, LegalFrom, after}
 use Rattle.vub_device.specs.Requests.{zeros}
 use Rattle.vub_schedule.specs.declared.types.Event.{Event}
 use Rattle.vub_schedule.specs.declared.types.Schedule.{Schedule}
-use Rattle.vub_schedule.specs.Spelling.{IsHeader, IsEvent, IsSchedule, is_size}
+use Rattle.vub_schedule.specs.Spelling.{IsHeader, IsEvent, IsSchedule}
 use Rattle.vub_world.specs.declared.report.items.Record.{Record}
-use Rattle.vub_world.specs.Memory.{Scene, opening_memory, opening_scene, opened, after_items}
-use Rattle.vub_world.specs.Moments.{Lane, Moment, opening, opening_lane}
-use Rattle.vub_world.specs.Run.{Plays, RunFrom, Run}
-use Rattle.vub_world.specs.Tracking.{EveryTracks, AfterEach, TracksFrom, TracksAlways, entries_of, history_of}
+use Rattle.vub_world.specs.Memory.{Scene, opening_scene, opened}
+use Rattle.vub_world.specs.Moments.{Moment, opening, opening_lane}
+use Rattle.vub_world.specs.Run.{RunFrom, Run}
+use Rattle.vub_world.specs.Tracking.{TracksFrom, TracksAlways, entries_of, history_of}
 use Rattle.vub_world.proofs.MachineLemmas.{size_laps}
-use Rattle.vub_world.proofs.RunGood.{the_ring, IsSize, Known, Ringed, IsOut, Driven, Progress, Worked, Stored, Holds}
+use Rattle.vub_world.proofs.RunGood.{the_ring, Known, Ringed, IsOut, Holds}
 use Rattle.vub_world.proofs.RunFrames.{keeps, length_little}
-use Rattle.vub_world.proofs.RunGuests.{IsGood}
 use Rattle.vub_world.proofs.RunTurns.{IsPlain, Good}
 use Rattle.vub_world.proofs.RunEvents.{Right, event_right, legal-append, past_after}
 
