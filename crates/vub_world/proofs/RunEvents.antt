@@ -1,0 +1,301 @@
+-- Every event keeps what holds; its entries are legal, and memory tracks them.
+use Rattle.std.proofs.Common.{◌≡◌, ◌≤◌, ℕ, zero, suc, ◌+◌, Bool, true, false, not, cond, List, [], ◌∷◌, ◌++◌, length, drop, refl, ap, sym, ◌∙◌, subst, inl, inr, arith}
+use Rattle.std.specs.Prelude.{Option, Some, None, is_some, ◌&&◌}
+use Rattle.std.proofs.lemmas.Bool.Decides.{nat_tests}
+use Rattle.std.proofs.lemmas.List.{length-append, drop_all}
+use Rattle.vub_base.specs.declared.header.CacheMode.{CacheMode}
+use Rattle.vub_base.specs.declared.header.Header1.{Header1}
+use Rattle.vub_base.specs.declared.request.Ask.{Ask}
+use Rattle.vub_base.specs.declared.request.Shape.{Shape}
+use Rattle.vub_base.specs.declared.request.Shape.TheVariants.{Direct}
+use Rattle.vub_shared.specs.Stores.{Store}
+use Rattle.vub_ring.specs.declared.readiness.Turn.{Turn}
+use Rattle.vub_ring.specs.declared.steps.Phase.TheVariants as phases
+use Rattle.vub_ring.specs.Ring.{seen}
+use Rattle.vub_ring.specs.Readiness.{is_ready}
+use Rattle.vub_driver.specs.Drivers.{Driver, Waiting, can_take, after_ask, after_stores, with_left, without_owner}
+use Rattle.vub_driver.specs.Stores.{offer_stores}
+use Rattle.vub_device.specs.declared.entry.Entry.{Entry}
+use Rattle.vub_device.specs.declared.entry.Entry.TheVariants as entries
+use Rattle.vub_device.specs.Legal.{LegalFrom, after}
+use Rattle.vub_device.specs.Past.{accepted, collected, started}
+use Rattle.vub_schedule.specs.declared.types.Event.{Event}
+use Rattle.vub_schedule.specs.declared.types.Event.TheVariants as events
+use Rattle.vub_schedule.specs.Spelling.{IsAsk, IsEvent}
+use Rattle.vub_world.specs.declared.report.items.Item.{Item}
+use Rattle.vub_world.specs.declared.report.items.Item.TheVariants as items
+use Rattle.vub_world.specs.Memory.{Scene, after_item, after_items}
+use Rattle.vub_world.specs.Moments.{Lane, Moment, fresh, standing}
+use Rattle.vub_world.specs.Run.{Played, played, if_ready, with_lane, comes_about, with_driver, ask, guest, guest_items, guest_stores, take_first, collect, boot, join, one_turn, is_due, then_played, turns, drain_choice, Drains, Plays, request_of}
+use Rattle.vub_world.specs.Tracking.{EveryTracks, GoesOn, AfterEach, entries_of}
+use Rattle.vub_world.specs.Turns.{turned}
+use Rattle.vub_world.proofs.RunGood.{the_ring, IsPlan, IsWaiting, WaitsWell, Worked}
+use Rattle.vub_world.proofs.RunGuests.{holds_track, Offered, guest_holds}
+use Rattle.vub_world.proofs.RunWork.{Fine}
+use Rattle.vub_world.proofs.RunTurns.{IsPlain, Good, turn_fine}
+use Rattle.vub_world.proofs.RunAsks.{plain_ask, ask_holds}
+use Rattle.vub_world.proofs.RunCollects.{IsTaken, next_number, after_taken, taken_holds, taken_legal, first_seen}
+
+-- items from one moment to another
+pub record Right (h : Header1) (m : Moment) (is : List Item) (next : Moment) : Type 0 where
+  pub good : Good h next
+  pub each : AfterEach h.size (EveryTracks h) m.scene is
+  pub scene : next.scene ≡ after_items h.size is m.scene
+  pub legal : LegalFrom h.capacity h.mode m.scene.past (entries_of is)
+
+abbrev pub Leads : Header1 → Moment → Played → Type 0
+Leads h m p = Right h m p.items p.next
+
+-- ---- one after another
+
+goes_on-append : (i : Item) (is js : List Item) → GoesOn i is → GoesOn i (is ++ js)
+goes_on-append (items.Store tag area place bytes) [] js g = absurd g
+goes_on-append (items.Store tag area place bytes) (items.Made (entries.Offer q r) ∷ is) js g = tt
+goes_on-append (items.Store tag area place bytes) (items.Made (entries.Publish q list) ∷ is) js g = tt
+goes_on-append (items.Store tag area place bytes) (items.Made (entries.Accept q k) ∷ is) js g = absurd g
+goes_on-append (items.Store tag area place bytes) (items.Made (entries.Look q k s v) ∷ is) js g = absurd g
+goes_on-append (items.Store tag area place bytes) (items.Made (entries.Act q k s v) ∷ is) js g = absurd g
+goes_on-append (items.Store tag area place bytes) (items.Made (entries.Sync q k) ∷ is) js g = absurd g
+goes_on-append (items.Store tag area place bytes) (items.Made (entries.Fault q k) ∷ is) js g = absurd g
+goes_on-append (items.Store tag area place bytes) (items.Made entries.Kill ∷ is) js g = absurd g
+goes_on-append (items.Store tag area place bytes) (items.Made (entries.Start q list) ∷ is) js g = absurd g
+goes_on-append (items.Store tag area place bytes) (items.Made (entries.Collect q k) ∷ is) js g = absurd g
+goes_on-append (items.Store tag area place bytes) (items.Made (entries.Power image) ∷ is) js g = absurd g
+goes_on-append (items.Store tag area place bytes) (items.Store t a p b ∷ is) js g = absurd g
+goes_on-append (items.Store tag area place bytes) (items.Idle ∷ is) js g = absurd g
+goes_on-append (items.Made e) is js g = absurd g
+goes_on-append items.Idle is js g = absurd g
+
+pub after-append : (size : ℕ) (xs ys : List Item) (s : Scene) → after_items size (xs ++ ys) s ≡ after_items size ys (after_items size xs s)
+after-append size [] ys s = refl
+after-append size (x ∷ xs) ys s = after-append size xs ys (after_item size x s)
+
+pub each-append : (size : ℕ) (P : Scene → Type 0) (s : Scene) (xs ys : List Item) → AfterEach size P s xs → AfterEach size P (after_items size xs s) ys → AfterEach size P s (xs ++ ys)
+each-append size P s [] ys p q = q
+each-append size P s (x ∷ xs) ys p q = (elim p.0 [
+  | inl goes ↦ inl (goes_on-append x xs ys goes)
+  | inr holds ↦ inr holds
+], each-append size P (after_item size x s) xs ys p.1 q)
+
+pub entries-append : (xs ys : List Item) → entries_of (xs ++ ys) ≡ entries_of xs ++ entries_of ys
+entries-append [] ys = refl
+entries-append (items.Made e ∷ xs) ys = ap (λ es. e ∷ es) (entries-append xs ys)
+entries-append (items.Store tag area place bytes ∷ xs) ys = entries-append xs ys
+entries-append (items.Idle ∷ xs) ys = entries-append xs ys
+
+pub legal-append : (capacity : ℕ) (mode : CacheMode) (past es fs : List Entry) → LegalFrom capacity mode past es → LegalFrom capacity mode (after past es) fs → LegalFrom capacity mode past (es ++ fs)
+legal-append capacity mode past [] fs p q = q
+legal-append capacity mode past (e ∷ es) fs p q = (p.0, legal-append capacity mode (e ∷ past) es fs p.1 q)
+
+entry_past : (size : ℕ) (e : Entry) (s : Scene) → (after_item size (items.Made e) s).past ≡ e ∷ s.past
+entry_past size (entries.Offer q r) s = refl
+entry_past size (entries.Accept q k) s = refl
+entry_past size (entries.Look q k t v) s = refl
+entry_past size (entries.Act q k t v) s = refl
+entry_past size (entries.Sync q k) s = refl
+entry_past size (entries.Fault q k) s = refl
+entry_past size (entries.Publish q list) s = refl
+entry_past size entries.Kill s = refl
+entry_past size (entries.Start q list) s = refl
+entry_past size (entries.Collect q k) s = refl
+entry_past size (entries.Power image) s = refl
+
+-- the past of a scene is that of its entries
+pub past_after : (size : ℕ) (is : List Item) (s : Scene) → (after_items size is s).past ≡ after s.past (entries_of is)
+past_after size [] s = refl
+past_after size (items.Made e ∷ is) s = past_after size is (after_item size (items.Made e) s) ∙ ap (λ (past : List Entry). after past (entries_of is)) (entry_past size e s)
+past_after size (items.Store tag area place bytes ∷ is) s = past_after size is (after_item size (items.Store tag area place bytes) s)
+past_after size (items.Idle ∷ is) s = past_after size is s
+
+pub right-append : (h : Header1) (m n k : Moment) (xs ys : List Item) → Right h m xs n → Right h n ys k → Right h m (xs ++ ys) k
+right-append h m n k xs ys p q =
+    let legal_next : LegalFrom h.capacity h.mode (after m.scene.past (entries_of xs)) (entries_of ys) =
+    subst (λ (past : List Entry). LegalFrom h.capacity h.mode past (entries_of ys)) (ap (λ (s : Scene). s.past) p.scene ∙ past_after h.size xs m.scene) q.legal in record {
+      good = q.good;
+      each = each-append h.size (EveryTracks h) m.scene xs ys p.each (subst (λ (s : Scene). AfterEach h.size (EveryTracks h) s ys) p.scene q.each);
+      scene = q.scene ∙ ap (after_items h.size ys) p.scene ∙ sym (after-append h.size xs ys m.scene);
+      legal = subst (λ (es : List Entry). LegalFrom h.capacity h.mode m.scene.past es) (sym (entries-append xs ys)) (legal-append h.capacity h.mode m.scene.past (entries_of xs) (entries_of ys) p.legal legal_next);
+    }
+
+-- ---- nothing happens
+
+pub nothing_right : (h : Header1) (m : Moment) → Good h m → Right h m [] m
+nothing_right h m good = record { good = good; each = tt; scene = refl; legal = tt }
+
+pub idle_right : (h : Header1) (m : Moment) → IsPlain h → Good h m → Right h m (items.Idle ∷ []) m
+idle_right h m plain good = record {
+  good = good;
+  each = (inr (holds_track h m.scene (m.lanes 0) plain.good good.holds), tt);
+  scene = refl;
+  legal = tt;
+}
+
+-- an event that has a test
+tested : (h : Header1) (m : Moment) (ready : Bool) (p : Played) → IsPlain h → Good h m → (ready ≡ true → Leads h m p) → Leads h m (if_ready ready p m)
+tested h m true p plain good then = then refl
+tested h m false p plain good then = idle_right h m plain good
+
+-- ---- the driver
+
+ask_right : (h : Header1) (m : Moment) (a : Ask) → IsPlain h → Good h m → IsAsk h a → Leads h m (ask h 0 Direct a m)
+ask_right h m a plain good is = tested h m (can_take h.size Direct a (m.lanes 0).driver) (played [] (with_lane 0 (with_driver (after_ask (the_ring h.size) a (m.lanes 0).driver) (m.lanes 0)) m)) plain good (λ ready. record {
+  good = record { holds = ask_holds h m.scene (m.lanes 0) a plain.good (plain_ask h a is) ready good.holds; asleep = good.asleep; idle = good.idle };
+  each = tt;
+  scene = refl;
+  legal = tt;
+})
+
+-- all the stores of a request
+guest_some : (h : Header1) (m : Moment) (w : Waiting) → IsPlain h → Good h m → (m.lanes 0).driver.waiting ≡ Some w → Leads h m (guest_stores h 0 16 (Some w) m)
+guest_some h m w plain good waiting =
+    let l : Lane = m.lanes 0 in
+    let waits : IsWaiting h.size h.capacity m.scene.past (m.scene.heads 0) l.driver w = subst (λ (o : Option Waiting). WaitsWell h.size h.capacity m.scene.past (m.scene.heads 0) l.driver o) waiting good.holds.driven.waits in
+    let plan : IsPlan h.size l.driver.avail_idx w.head w.left = waits.plan in
+    let stores : List Store = plan.first ++ offer_stores (the_ring h.size) l.driver.avail_idx w.head in
+    let long : length stores ≡ length plan.first + 2 = length-append plan.first (offer_stores (the_ring h.size) l.driver.avail_idx w.head) in
+    let few : length plan.first ≤ 14 = plan.few in
+    let all : Offered h h.mode m.scene l (request_of w.ask) (guest_items 16 0 w.ask stores) = guest_holds h h.mode m.scene l w 16 plan.first plain.good waits plan.harmless (omega arith) good.holds in
+    let none : drop 16 stores ≡ [] = drop_all 16 stores (omega arith) in
+    let past : (after_items h.size (guest_items 16 0 w.ask stores) m.scene).past ≡ entries.Offer 0 (request_of w.ask) ∷ m.scene.past = all.past in
+    let P : List Store → Type 0 = λ left. Leads h m (comes_about h 0 (guest_items 16 0 w.ask left) (with_driver (after_stores 16 (record w { left = left }) l.driver) l) m) in
+    let whole : P stores =
+    subst (λ (rest : List Store). Leads h m (comes_about h 0 (guest_items 16 0 w.ask stores) (with_driver (with_left (record w { left = stores }) rest l.driver) l) m)) (sym none) (record {
+      good = record {
+        holds = all.holds;
+        asleep = λ dead. (((good.asleep dead).0), (ap (λ (p : List Entry). started p 0) past ∙ (good.asleep dead).1));
+        idle = λ stopped. ap (λ (p : List Entry). accepted p 0) past ∙ good.idle (sym (ap (λ (p : List Entry). started p 0) past) ∙ stopped);
+      };
+      each = all.each;
+      scene = refl;
+      legal = all.legal;
+    }) in
+    subst P (sym plan.whole) whole
+
+guest_right : (h : Header1) (m : Moment) → IsPlain h → Good h m → Leads h m (guest h 0 16 m)
+guest_right h m plain good = tested h m (is_some (m.lanes 0).driver.waiting) (guest_stores h 0 16 (m.lanes 0).driver.waiting m) plain good (λ ready. go (m.lanes 0).driver.waiting refl)
+  where
+    go : (o : Option Waiting) → (m.lanes 0).driver.waiting ≡ o → Leads h m (guest_stores h 0 16 o m)
+    go None e = nothing_right h m good
+    go (Some w) e = guest_some h m w plain good e
+
+collect_right : (h : Header1) (m : Moment) → IsPlain h → Good h m → Leads h m (collect h 0 m)
+collect_right h m plain good = go (seen (the_ring h.size) m.scene.memory (h.base + collected m.scene.past 0)) refl
+  where
+    go : (xs : List (ℕ × ℕ)) → seen (the_ring h.size) m.scene.memory (h.base + collected m.scene.past 0) ≡ xs → Leads h m (take_first h 0 xs m)
+    go [] e = idle_right h m plain good
+    go (x ∷ xs) e =
+        let l : Lane = m.lanes 0 in
+        let t : IsTaken h m.scene l x.0 = first_seen h m.scene l x xs plain.good good.holds e in
+        let k : ℕ = next_number m.scene in
+        let v : Driver = record l.driver { owner = without_owner x.0 l.driver.owner } in
+        let next = taken_holds h m.scene l x.0 k t in
+        let whole : Leads h m (comes_about h 0 (items.Made (entries.Collect 0 k) ∷ []) (with_driver v l) m) = record {
+          good = record { holds = next; asleep = good.asleep; idle = good.idle };
+          each = (inr (holds_track h (record m.scene { past = entries.Collect 0 k ∷ m.scene.past }) (with_driver v l) plain.good next), tt);
+          scene = refl;
+          legal = (taken_legal h m.scene l x.0 t, tt);
+        } in
+        subst (λ (d : Driver). Leads h m (comes_about h 0 (items.Made (entries.Collect 0 k) ∷ []) (with_driver d l) m)) (sym (after_taken h m.scene l x.0 t)) whole
+
+-- ---- lives
+
+fresh_worked : (past : List Entry) (l : Lane) → started past 0 ≡ false → Worked past l.phase l.batch l.completed l.made → Worked past phases.Rest [] [] (λ k. 0)
+fresh_worked past l stopped w =
+    let none : (k : ℕ) → l.made k ≡ 0 = (w.quiet stopped).1.1 in record {
+      distinct = refl;
+      opens = λ k held. absurd (let fails : false ≡ true = held in cc);
+      untouched = λ k high. refl;
+      progress = λ k. record { fresh = λ e. (w.progress k).fresh (none k); begun = λ some. absurd (omega arith) };
+      full = λ k held. absurd (let fails : false ≡ true = held in cc);
+      quiet = λ e. (refl, (refl, λ k. refl));
+      phase_is = refl;
+    }
+
+boot_right : (h : Header1) (m : Moment) → IsPlain h → Good h m → Leads h m (boot m)
+boot_right h m plain good = tested h m (not m.lives) (played [] (record m { lives = true; joined = false; lanes = λ q. fresh (m.lanes q) })) plain good (λ ready.
+  let dead : m.lives ≡ false = grind (arith, nat_tests) in
+  let stopped : started m.scene.past 0 ≡ false = (good.asleep dead).1 in record {
+    good = record {
+      holds = record {
+        known = good.holds.known;
+        ringed = good.holds.ringed;
+        driven = good.holds.driven;
+        worked = fresh_worked m.scene.past (m.lanes 0) stopped good.holds.worked;
+        stored = record { sectors = λ k is_open far read. absurd (omega arith); status = λ k held. absurd (let fails : false ≡ true = held in cc) };
+        built = tt;
+      };
+      asleep = λ e. absurd (let fails : true ≡ false = e in cc);
+      idle = good.idle;
+    };
+    each = tt;
+    scene = refl;
+    legal = tt;
+  })
+
+join_right : (h : Header1) (m : Moment) → IsPlain h → Good h m → Leads h m (join m)
+join_right h m plain good = tested h m (m.lives && not m.joined) (played [] (record m { joined = true; lanes = λ q. record (m.lanes q) { attached = true } })) plain good (λ ready. record {
+  good = record {
+    holds = record { known = good.holds.known; ringed = good.holds.ringed; driven = good.holds.driven; worked = good.holds.worked; stored = good.holds.stored; built = good.holds.built };
+    asleep = λ dead. absurd (grind (arith, nat_tests));
+    idle = good.idle;
+  };
+  each = tt;
+  scene = refl;
+  legal = tt;
+})
+
+-- ---- turns
+
+pub turn_right : (h : Header1) (t : Turn) (m : Moment) → IsPlain h → Good h m → is_due h 0 t m ≡ true → Leads h m (one_turn h 0 t m)
+turn_right h t m plain good due =
+    let ready : is_ready (standing h 0 m) t ≡ true = grind (arith, nat_tests) in
+    let attached : (m.lanes 0).attached ≡ true = grind (arith, nat_tests) in
+    let fine : Fine h m.scene (turned h 0 t m) = turn_fine h t m plain good ready in record {
+      good = record {
+        holds = fine.holds;
+        asleep = λ dead. absurd (let fails : true ≡ false = sym attached ∙ (good.asleep dead).0 in cc);
+        idle = λ stopped. absurd (let fails : true ≡ false = sym fine.runs ∙ stopped in cc);
+      };
+      each = fine.each;
+      scene = refl;
+      legal = fine.legal;
+    }
+
+pub turns_right : (count : ℕ) (choose : Moment → Turn) (h : Header1) (m : Moment) → IsPlain h → Good h m → Leads h m (turns count choose h 0 m)
+turns_right zero choose h m plain good = nothing_right h m good
+turns_right (suc count) choose h m plain good = go (is_due h 0 (choose m) m) refl (λ good'. turns_right count choose h (one_turn h 0 (choose m) m).next plain good')
+  where
+    go : (b : Bool) → is_due h 0 (choose m) m ≡ b → (Good h (one_turn h 0 (choose m) m).next → Leads h (one_turn h 0 (choose m) m).next (turns count choose h 0 (one_turn h 0 (choose m) m).next))
+        → Leads h m (cond {A = Played} b (then_played (one_turn h 0 (choose m) m) (turns count choose h 0 (one_turn h 0 (choose m) m).next)) (played [] m))
+    go true due rest =
+        let first = turn_right h (choose m) m plain good due in
+        right-append h m (one_turn h 0 (choose m) m).next (turns count choose h 0 (one_turn h 0 (choose m) m).next).next (one_turn h 0 (choose m) m).items (turns count choose h 0 (one_turn h 0 (choose m) m).next).items first (rest first.good)
+    go false due rest = nothing_right h m good
+
+-- what is made is right
+made_right : (h : Header1) (m : Moment) (is : List Item) (next : Moment) (p : Played) → played is next ≡ p → Leads h m p → Right h m is next
+made_right h m is next p e r = subst (λ (x : Played). Leads h m x) (sym e) r
+
+pub drain_right : (h : Header1) (m : Moment) (choose : Moment → Turn) (is : List Item) (next : Moment) → IsPlain h → Good h m → Drains h 0 m choose is next → Right h m is next
+drain_right h m choose is next plain good (inl none) = made_right h m is next (played (items.Idle ∷ []) m) none.1 (idle_right h m plain good)
+drain_right h m choose is next plain good (inr some) = made_right h m is next (turns some.1.count choose h 0 m) some.1.made (turns_right some.1.count choose h m plain good)
+
+-- ---- any event
+
+pub event_right : (h : Header1) (m : Moment) (e : Event) (is : List Item) (next : Moment) → IsPlain h → Good h m → IsEvent h e → Plays h m e is next → Right h m is next
+event_right h m (events.Ask q shape a) is next plain good fits plays =
+    let P : ℕ → Shape → Type 0 = λ p sh. Plays h m (events.Ask p sh a) is next in
+    let here : P 0 Direct = subst (λ (sh : Shape). P 0 sh) fits.1 (subst (λ (p : ℕ). P p shape) fits.0 plays) in
+    made_right h m is next (ask h 0 Direct a m) here (ask_right h m a plain good fits.2)
+event_right h m (events.Guest q k) is next plain good fits plays =
+    let P : ℕ → ℕ → Type 0 = λ p c. Plays h m (events.Guest p c) is next in
+    let here : P 0 16 = subst (λ (c : ℕ). P 0 c) fits.1 (subst (λ (p : ℕ). P p k) fits.0 plays) in
+    made_right h m is next (guest h 0 16 m) here (guest_right h m plain good)
+event_right h m (events.Collect q) is next plain good fits plays =
+    let here : Plays h m (events.Collect 0) is next = subst (λ (p : ℕ). Plays h m (events.Collect p) is next) fits plays in
+    made_right h m is next (collect h 0 m) here (collect_right h m plain good)
+event_right h m events.Boot is next plain good fits plays = made_right h m is next (boot m) plays (boot_right h m plain good)
+event_right h m events.Join is next plain good fits plays = made_right h m is next (join m) plays (join_right h m plain good)
+event_right h m (events.Drain q) is next plain good fits plays =
+    let here : Plays h m (events.Drain 0) is next = subst (λ (p : ℕ). Plays h m (events.Drain p) is next) fits plays in
+    drain_right h m (drain_choice h 0 (accepted m.scene.past 0)) is next plain good here

@@ -1,0 +1,150 @@
+-- The driver's stores keep what holds, up to the offer.
+use Rattle.std.proofs.Common.{◌≡◌, ◌≤◌, ◌<◌, ℕ, zero, suc, ◌+◌, ◌*◌, ◌%◌, List, [], ◌∷◌, ◌++◌, length, refl, ap, sym, ◌∙◌, subst, inl, inr, arith}
+use Rattle.std.specs.Prelude.{None}
+use Rattle.std.specs.List.{AllByRecursion}
+use Rattle.byteorder.specs.Endian.{little_bytes}
+use Rattle.vub_base.specs.declared.header.CacheMode.{CacheMode}
+use Rattle.vub_base.specs.declared.header.Header1.{Header1}
+use Rattle.vub_shared.specs.Bytes.{Bytes, put}
+use Rattle.vub_shared.specs.Stores.{Store, one_store}
+use Rattle.vub_ring.specs.Ring.{avail_entry_place, avail_idx_place, head_at, last_head}
+use Rattle.vub_driver.specs.Drivers.{Waiting}
+use Rattle.vub_driver.specs.Stores.{offer_stores}
+use Rattle.vub_device.specs.declared.entry.Asked.{Asked}
+use Rattle.vub_device.specs.declared.entry.Entry.TheVariants as entries
+use Rattle.vub_device.specs.Legal.{LegalFrom}
+use Rattle.vub_device.specs.Past.{IsOpen}
+use Rattle.vub_world.specs.declared.report.items.Item.{Item}
+use Rattle.vub_world.specs.declared.report.items.Item.TheVariants as items
+use Rattle.vub_world.specs.Memory.{Scene, with_at, after_item, after_items}
+use Rattle.vub_world.specs.Moments.{Lane}
+use Rattle.vub_world.specs.Run.{request_of, guest_items}
+use Rattle.vub_world.specs.Tracking.{EveryTracks, AfterEach, entries_of}
+use Rattle.vub_world.proofs.RunGood.{the_ring, IsSize, IsHarmless, IsWaiting, Holds}
+use Rattle.vub_world.proofs.RunTracks.{tracks, every_tracks}
+use Rattle.vub_world.proofs.RunFrames.{entry_small, open_out, OffRings, OffBuffer, ringed_elsewhere, built_elsewhere, built_below, stored_elsewhere, below_buffers, other_buffer, length_little, ringed_entry, same_entry}
+use Rattle.vub_world.proofs.RunOffers.{offer_room, offer_known, offer_ringed, shown_head, offer_driven, offer_worked, offer_stored, offer_built, batch_taken}
+
+-- the scene after a store into guest memory
+abbrev pub stored_at : ℕ → List ℕ → Scene → Scene
+stored_at p bs s = record s { memory = put s.memory 0 p bs }
+
+-- what a header of this grammar gives
+pub record IsGood (h : Header1) : Type 0 where
+  pub size : IsSize h.size
+  pub queues : h.queues ≡ 1
+  pub base : h.base < 65536
+
+pub holds_track : (h : Header1) (s : Scene) (l : Lane) → IsGood h → Holds h s l → EveryTracks h s
+holds_track h s l good holds = every_tracks h s good.queues (tracks h s good.size holds.known holds.ringed)
+
+-- a store of the driver into the table, or into the buffer of the request that waits
+pub harmless_holds : (h : Header1) (s : Scene) (l : Lane) (w : Waiting) (p : ℕ) (bs : List ℕ) → IsGood h → IsWaiting h.size h.capacity s.past (s.heads 0) l.driver w → IsHarmless w.head (one_store 0 p bs) → Holds h s l → Holds h (stored_at p bs s) l
+harmless_holds h s l w p bs good waits harmless holds =
+    let off : OffRings p bs = elim harmless.lies [
+      | inl low ↦ inl low
+      | inr high ↦ inr (omega (arith, high.0))
+    ] in
+    let off_buffers : (k : ℕ) → IsOpen s.past 0 k → OffBuffer (s.heads 0) k p bs = λ k is_open. elim harmless.lies [
+      | inl low ↦ below_buffers (s.heads 0) k p bs (omega (arith, low))
+      | inr high ↦ other_buffer (s.heads 0) k w.head p bs (waits.apart k (open_out h.size h.capacity s.past (s.heads 0) k holds.known is_open)) high.0 high.1
+    ] in record {
+      known = holds.known;
+      ringed = ringed_elsewhere h.size h.base s.past (s.heads 0) s.memory p bs good.size off holds.ringed;
+      driven = holds.driven;
+      worked = holds.worked;
+      stored = stored_elsewhere s.past (s.heads 0) s.memory p bs l.batch l.completed l.made holds.worked.opens off_buffers holds.stored;
+      built = built_elsewhere h.size h.base s.past (s.heads 0) s.memory p bs l.batch l.phase good.size off holds.built;
+    }
+
+abbrev pub offered : Lane → Lane
+offered l = record l { driver = record (l.driver) { avail_idx = (l.driver.avail_idx + 1) % 65536; waiting = None } }
+
+-- what the two last stores and the offer leave
+pub record Offered (h : Header1) (mode : CacheMode) (s : Scene) (l : Lane) (r : Asked) (is : List Item) : Type 0 where
+  pub each : AfterEach h.size (EveryTracks h) s is
+  pub holds : Holds h (after_items h.size is s) (offered l)
+  pub legal : LegalFrom h.capacity mode s.past (entries_of is)
+  pub past : (after_items h.size is s).past ≡ entries.Offer 0 r ∷ s.past
+
+entry_holds : (h : Header1) (s : Scene) (l : Lane) (w : Waiting) → IsGood h → IsWaiting h.size h.capacity s.past (s.heads 0) l.driver w → Holds h s l
+    → Holds h (stored_at (avail_entry_place (the_ring h.size) l.driver.avail_idx) (little_bytes 2 w.head) s) l
+    × (head_at (the_ring h.size) (put s.memory 0 (avail_entry_place (the_ring h.size) l.driver.avail_idx) (little_bytes 2 w.head)) (h.base + length (s.heads 0)) ≡ w.head)
+entry_holds h s l w good waits holds =
+    let p : ℕ = avail_entry_place (the_ring h.size) l.driver.avail_idx in
+    let bs : List ℕ = little_bytes 2 w.head in
+    let two : length bs ≡ 2 = length_little 2 w.head in
+    let index : l.driver.avail_idx ≡ (h.base + length (s.heads 0)) % 65536 = holds.driven.index in
+    let at : p ≡ avail_entry_place (the_ring h.size) (h.base + length (s.heads 0)) = ap (avail_entry_place (the_ring h.size)) index ∙ ap (λ (y : ℕ). 1048576 * 0 + 4096 + (4 + 2 * y)) (same_entry h.size (h.base + length (s.heads 0))) in
+    let room = offer_room h.size h.capacity h.base s.past (s.heads 0) l.driver w holds.known holds.driven waits in
+    let small : h.size ≤ 64 = good.size.small in
+    let low = entry_small h.size l.driver.avail_idx good.size in
+    let below : p + length bs ≤ 8192 = omega arith in
+    let ring = ringed_entry h.size h.capacity h.base s.past (s.heads 0) s.memory p w.head good.size holds.known room at (omega (arith, waits.below)) holds.ringed in (
+      record {
+        known = holds.known;
+        ringed = ring.0;
+        driven = holds.driven;
+        worked = holds.worked;
+        stored = stored_elsewhere s.past (s.heads 0) s.memory p bs l.batch l.completed l.made holds.worked.opens (λ k is_open. below_buffers (s.heads 0) k p bs (omega arith)) holds.stored;
+        built = built_below h.size h.base s.past (s.heads 0) s.memory p bs l.batch l.phase below holds.built;
+      },
+      ring.1,
+    )
+
+index_holds : (h : Header1) (s : Scene) (l : Lane) (w : Waiting) → IsGood h → IsWaiting h.size h.capacity s.past (s.heads 0) l.driver w → Holds h s l → head_at (the_ring h.size) s.memory (h.base + length (s.heads 0)) ≡ w.head
+    → Holds h (after_item h.size (items.Made (entries.Offer 0 (request_of w.ask))) (stored_at (avail_idx_place (the_ring h.size)) (little_bytes 2 ((l.driver.avail_idx + 1) % 65536)) s)) (offered l)
+index_holds h s l w good waits holds stands =
+    let p : ℕ = avail_idx_place (the_ring h.size) in
+    let x : ℕ = (l.driver.avail_idx + 1) % 65536 in
+    let bs : List ℕ = little_bytes 2 x in
+    let two : length bs ≡ 2 = length_little 2 x in
+    let m : Bytes = put s.memory 0 p bs in
+    let r = request_of w.ask in
+    let room = offer_room h.size h.capacity h.base s.past (s.heads 0) l.driver w holds.known holds.driven waits in
+    let ringed = offer_ringed h.size h.capacity h.base s.past (s.heads 0) s.memory r w.head l.driver.avail_idx good.size holds.known holds.driven.index stands holds.ringed in
+    let last : last_head (the_ring h.size) m ≡ w.head = shown_head h.size h.base s.past (s.heads 0) m r w.head holds.known.offered ringed in
+    let stored = stored_elsewhere s.past (s.heads 0) s.memory p bs l.batch l.completed l.made holds.worked.opens (λ k is_open. below_buffers (s.heads 0) k p bs (omega arith)) holds.stored in
+    let built = built_below h.size h.base s.past (s.heads 0) s.memory p bs l.batch l.phase (omega arith) holds.built in
+    let whole : Holds h (record { memory = m; past = entries.Offer 0 r ∷ s.past; heads = with_at s.heads 0 (s.heads 0 ++ w.head ∷ []) }) (offered l) = record {
+      known = offer_known h.size h.capacity s.past (s.heads 0) r w.head holds.known waits.simple room;
+      ringed = ringed;
+      driven = offer_driven h.size h.capacity h.base s.past (s.heads 0) l.driver w r holds.driven waits;
+      worked = offer_worked h.size h.capacity s.past (s.heads 0) r l.phase l.batch l.completed l.made holds.known holds.worked;
+      stored = offer_stored h.size h.capacity s.past (s.heads 0) r w.head m l.phase l.batch l.completed l.made holds.known holds.worked stored;
+      built = offer_built h.size h.capacity h.base s.past (s.heads 0) r w.head m l.phase l.batch l.completed l.made holds.known (batch_taken s.past l.phase l.batch l.completed l.made holds.worked) built;
+    } in
+    subst (λ (y : ℕ). Holds h (record { memory = m; past = entries.Offer 0 r ∷ s.past; heads = with_at s.heads 0 (s.heads 0 ++ y ∷ []) }) (offered l)) (sym last) whole
+
+-- all that are left, up to the offer
+pub guest_holds : (h : Header1) (mode : CacheMode) (s : Scene) (l : Lane) (w : Waiting) (count : ℕ) (first : List Store) → IsGood h → IsWaiting h.size h.capacity s.past (s.heads 0) l.driver w → AllByRecursion (IsHarmless w.head) first → length first + 2 ≤ count → Holds h s l
+    → Offered h mode s l (request_of w.ask) (guest_items count 0 w.ask (first ++ offer_stores (the_ring h.size) l.driver.avail_idx w.head))
+guest_holds h mode s l w (suc (suc count)) [] good waits harmless enough holds =
+    let entry = entry_holds h s l w good waits holds in
+    let s' : Scene = stored_at (avail_entry_place (the_ring h.size) l.driver.avail_idx) (little_bytes 2 w.head) s in
+    let done = index_holds h s' l w good waits entry.0 entry.1 in record {
+      each = (inr (holds_track h s' l good entry.0), (inl tt, (inr (holds_track h (after_item h.size (items.Made (entries.Offer 0 (request_of w.ask))) (stored_at (avail_idx_place (the_ring h.size)) (little_bytes 2 ((l.driver.avail_idx + 1) % 65536)) s')) (offered l) good done), tt)));
+      holds = done;
+      legal = (tt, tt);
+      past = refl;
+    }
+guest_holds h mode s l w (suc count) (st ∷ []) good waits harmless enough holds =
+    let s' : Scene = stored_at st.place st.bytes s in
+    let next = harmless_holds h s l w st.place st.bytes good waits (record { space = refl; lies = harmless.0.lies }) holds in
+    let rest = guest_holds h mode s' l w count [] good waits tt (omega arith) next in record {
+      each = (inr (holds_track h s' l good next), rest.each);
+      holds = rest.holds;
+      legal = rest.legal;
+      past = rest.past;
+    }
+guest_holds h mode s l w (suc count) (st ∷ st' ∷ first) good waits harmless enough holds =
+    let s' : Scene = stored_at st.place st.bytes s in
+    let next = harmless_holds h s l w st.place st.bytes good waits (record { space = refl; lies = harmless.0.lies }) holds in
+    let rest = guest_holds h mode s' l w count (st' ∷ first) good waits harmless.1 (omega arith) next in record {
+      each = (inr (holds_track h s' l good next), rest.each);
+      holds = rest.holds;
+      legal = rest.legal;
+      past = rest.past;
+    }
+guest_holds h mode s l w zero first good waits harmless enough holds = absurd (omega arith)
+guest_holds h mode s l w (suc zero) [] good waits harmless enough holds = absurd (omega arith)
