@@ -4,6 +4,7 @@
 
 mod chain;
 mod guest;
+pub mod laws;
 mod layout;
 mod log;
 mod machine;
