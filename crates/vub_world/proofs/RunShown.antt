@@ -83,6 +83,41 @@ shown_known h x s l done u =
       values = known.values;
     }
 
+-- the store of used.idx leaves the elements
+element_stays : (h : Header1) (x : ℕ) (s : Scene) (i : ℕ) → element_at (the_ring h.size) (shown_scene h x s).memory (h.base + i) ≡ element_at (the_ring h.size) s.memory (h.base + i)
+element_stays h x s i =
+    let bs : List ℕ = little_bytes 2 x in
+    let two : length bs ≡ 2 = length_little 2 x in
+    let p : ℕ = used_idx_place (the_ring h.size) in
+    let id : word 4 (put s.memory 0 p bs) 0 (used_id_place (the_ring h.size) (h.base + i)) ≡ word 4 s.memory 0 (used_id_place (the_ring h.size) (h.base + i)) = keeps 4 s.memory p bs (used_id_place (the_ring h.size) (h.base + i)) (inr (omega arith)) in
+    let len : word 4 (put s.memory 0 p bs) 0 (used_len_place (the_ring h.size) (h.base + i)) ≡ word 4 s.memory 0 (used_len_place (the_ring h.size) (h.base + i)) = keeps 4 s.memory p bs (used_len_place (the_ring h.size) (h.base + i)) (inr (omega arith)) in
+    ap (λ (y : ℕ). (y, word 4 (put s.memory 0 p bs) 0 (used_len_place (the_ring h.size) (h.base + i)))) id ∙ ap (λ (y : ℕ). (word 4 s.memory 0 (used_id_place (the_ring h.size) (h.base + i)), y)) len
+
+-- the elements of the batch stand
+new_element : (h : Header1) (s : Scene) (l : Lane) (done e : ℕ) → IsUnderWay h s l done → done ≡ 2 * length l.batch → e < length l.batch
+    → element_at (the_ring h.size) s.memory (h.base + length (published s.past 0) + e) ≡ spot (s.heads 0) s.past (slice_index l.batch e)
+new_element h s l done e u whole inside =
+    let b : IsBuilt h.size h.base s.past (s.heads 0) s.memory l.batch done = u.holds.built in
+    pairs (b.ids e inside (omega arith)) (b.lens e inside (omega arith))
+  where
+    pairs : {a b c d : ℕ} → a ≡ b → c ≡ d → ◌≡◌ {A = ℕ × ℕ} (a, c) (b, d)
+    pairs p q = cc
+
+-- so each element stands that will be seen: an old one, or one of the batch
+shown_element : (h : Header1) (s : Scene) (l : Lane) (done i : ℕ) → IsUnderWay h s l done → done ≡ 2 * length l.batch → collected s.past 0 ≤ i → i < length (published s.past 0) + length l.batch
+    → element_at (the_ring h.size) s.memory (h.base + i) ≡ spot (s.heads 0) s.past (slice_index (published s.past 0 ++ l.batch) i)
+shown_element h s l done i u whole from upto =
+    let r : Ringed h.size h.base s.past (s.heads 0) s.memory = u.holds.ringed in
+    elim (cases_lt i (length (published s.past 0))) [
+      | inl low ↦ r.used_at i from low ∙ sym (ap (spot (s.heads 0) s.past) (get_or_append_left (published s.past 0) l.batch 0 i low))
+      | inr high ↦
+          let e : ℕ = i - length (published s.past 0) in
+          let at : i ≡ length (published s.past 0) + e = omega arith in
+          let place : h.base + i ≡ h.base + length (published s.past 0) + e = omega arith in
+          let k : slice_index (published s.past 0 ++ l.batch) i ≡ slice_index l.batch e = ap (slice_index (published s.past 0 ++ l.batch)) at ∙ get_or-append-add (published s.past 0) l.batch e 0 in
+          ap (element_at (the_ring h.size) s.memory) place ∙ new_element h s l done e u whole (omega arith) ∙ sym (ap (spot (s.heads 0) s.past) k)
+    ]
+
 shown_ringed : (h : Header1) (x : ℕ) (s : Scene) (l : Lane) (done : ℕ) → IsUnderWay h s l done → done ≡ 2 * length l.batch → x ≡ (h.base + length (published s.past 0) + length l.batch) % 65536
     → Ringed h.size h.base (shown_past h x s l) (s.heads 0) (shown_scene h x s).memory
 shown_ringed h x s l done u whole is =
@@ -97,23 +132,8 @@ shown_ringed h x s l done u whole is =
       used_idx_is = word-put_same 2 s.memory 0 p x (omega arith) ∙ is ∙ omega (arith, many);
       avail_at = λ i from upto. let small = entry_small h.size (h.base + i) u.good.size in keeps 2 s.memory p bs (avail_entry_place (the_ring h.size) (h.base + i)) (inl (omega arith)) ∙ r.avail_at i from upto;
       used_at = λ i from upto.
-      let id : word 4 (put s.memory 0 p bs) 0 (used_id_place (the_ring h.size) (h.base + i)) ≡ word 4 s.memory 0 (used_id_place (the_ring h.size) (h.base + i)) = keeps 4 s.memory p bs (used_id_place (the_ring h.size) (h.base + i)) (inr (omega arith)) in
-      let len : word 4 (put s.memory 0 p bs) 0 (used_len_place (the_ring h.size) (h.base + i)) ≡ word 4 s.memory 0 (used_len_place (the_ring h.size) (h.base + i)) = keeps 4 s.memory p bs (used_len_place (the_ring h.size) (h.base + i)) (inr (omega arith)) in
-      let stays : element_at (the_ring h.size) (put s.memory 0 p bs) (h.base + i) ≡ element_at (the_ring h.size) s.memory (h.base + i) =
-      ap (λ (y : ℕ). (y, word 4 (put s.memory 0 p bs) 0 (used_len_place (the_ring h.size) (h.base + i)))) id ∙ ap (λ (y : ℕ). (word 4 s.memory 0 (used_id_place (the_ring h.size) (h.base + i)), y)) len in
       let named : slice_index (published (shown_past h x s l) 0) i ≡ slice_index (published s.past 0 ++ l.batch) i = ap (λ (ks : List ℕ). slice_index ks i) ps in
-      stays ∙ elim (cases_lt i (length (published s.past 0))) [
-        | inl low ↦ r.used_at i from low ∙ sym (ap (spot (s.heads 0) s.past) (named ∙ get_or_append_left (published s.past 0) l.batch 0 i low))
-        | inr high ↦
-            let e : ℕ = i - length (published s.past 0) in
-            let at : length (published s.past 0) + e ≡ i = omega arith in
-            let place : h.base + length (published s.past 0) + e ≡ h.base + i = omega arith in
-            let inside : e < length l.batch = omega (arith, many) in
-            let k : slice_index (published s.past 0 ++ l.batch) i ≡ slice_index l.batch e = ap (slice_index (published s.past 0 ++ l.batch)) (sym at) ∙ get_or-append-add (published s.past 0) l.batch e 0 in
-            let id_is : word 4 s.memory 0 (used_id_place (the_ring h.size) (h.base + i)) ≡ slice_index (s.heads 0) (slice_index l.batch e) = ap (λ (q : ℕ). word 4 s.memory 0 (used_id_place (the_ring h.size) q)) (sym place) ∙ b.ids e inside (omega arith) in
-            let len_is : word 4 s.memory 0 (used_len_place (the_ring h.size) (h.base + i)) ≡ answered_len 0 (asked s.past 0 (slice_index l.batch e)) = ap (λ (q : ℕ). word 4 s.memory 0 (used_len_place (the_ring h.size) q)) (sym place) ∙ b.lens e inside (omega arith) in
-            ap (λ (y : ℕ). (y, word 4 s.memory 0 (used_len_place (the_ring h.size) (h.base + i)))) id_is ∙ ap (λ (y : ℕ). (slice_index (s.heads 0) (slice_index l.batch e), y)) len_is ∙ sym (ap (spot (s.heads 0) s.past) (named ∙ k))
-      ];
+      element_stays h x s i ∙ shown_element h s l done i u whole from (omega (arith, many)) ∙ sym (ap (spot (s.heads 0) s.past) named);
     }
 
 shown_worked : (h : Header1) (x : ℕ) (s : Scene) (l : Lane) (done : ℕ) → IsUnderWay h s l done → Worked (shown_past h x s l) phases.Rest [] l.completed l.made
@@ -138,6 +158,11 @@ shown_worked h x s l done u =
       untouched = w.untouched;
       progress = w.progress;
       full = λ k held. w.full k (same k held);
+      pending = λ k is_open out.
+      let whole : is_among (published s.past 0 ++ l.batch) k ≡ false = ap (λ (ks : List ℕ). is_among ks k) (sym ps) ∙ is_open.unpublished in
+      let joined : is_among (published s.past 0 ++ l.batch) k ≡ (is_among (published s.past 0) k || is_among l.batch k) = is_among_append (published s.past 0) l.batch k in
+      let left : is_among l.completed k ≡ false = ap (λ (ks : List ℕ). is_among ks k) (sym (append-nil l.completed)) ∙ out in
+      w.pending k (record { taken = is_open.taken; unpublished = grind (arith, nat_tests) }) (is_among_append l.completed l.batch k ∙ grind (arith, nat_tests));
       quiet = λ stopped. absurd (let fails : true ≡ false = sym u.started ∙ stopped in cc);
       phase_is = refl;
     }

@@ -34,7 +34,7 @@ use Rattle.vub_world.specs.Tasks.{TaskStep, Look, Put, Act, Status, task_steps, 
 use Rattle.vub_world.specs.Tracking.{EveryTracks, AfterEach, entries_of, answered_len}
 use Rattle.vub_world.specs.Turns.{Turned, nothing, request_turn, task_turn}
 use Rattle.vub_world.proofs.RunNumbers.{distinct_parts, distinct_join, distinct_push}
-use Rattle.vub_world.proofs.RunGood.{the_ring, IsSimple, Known, IsOut, WaitsWell, Driven, Progress, IsBegun, IsFull, Worked, Stored, IsRead, Built, buffer, Holds}
+use Rattle.vub_world.proofs.RunGood.{the_ring, IsSimple, Known, IsOut, WaitsWell, Driven, Progress, IsBegun, IsFull, IsPending, Worked, Stored, IsRead, Built, buffer, Holds}
 use Rattle.vub_world.proofs.RunFrames.{open_out, OffBuffer, ringed_elsewhere, built_elsewhere, sectors_elsewhere, status_elsewhere, other_buffer}
 use Rattle.vub_world.proofs.RunGuests.{IsGood, stored_at, holds_track}
 
@@ -170,6 +170,10 @@ look_worked past phase batch completed made k s sector v run is_open left none i
         subst (λ (c : ℕ). Progress c (looks (entries.Look 0 k s v ∷ past) 0 j) (acts past 0 j) (seen (entries.Look 0 k s v ∷ past) 0 j) (asked past 0 j)) (sym now) both
   ];
   full = λ j held. subst (λ (c : ℕ). IsFull c (asked past 0 j)) (sym (at_other made k (made k + 1) j (among_apart (completed ++ batch) j k held left))) (w.full j held);
+  pending = λ j is_open_j out. elim (cases_eq j k) [
+    | inl same ↦ subst (λ (o : Option Asked). IsPending (with_at made k (made k + 1) j) o) (sym (ap (asked past 0) same ∙ is)) (let now : with_at made k (made k + 1) j ≡ made k + 1 = at_same made k (made k + 1) j same in omega arith)
+    | inr apart ↦ subst (λ (c : ℕ). IsPending c (asked past 0 j)) (sym (at_other made k (made k + 1) j apart)) (w.pending j (record { taken = is_open_j.taken; unpublished = is_open_j.unpublished }) out)
+  ];
   quiet = λ stopped. absurd (let fails : true ≡ false = sym run ∙ stopped in cc);
   phase_is = w.phase_is;
 }
@@ -252,6 +256,10 @@ act_worked past phase batch completed made k s sector v bytes run is_open left n
         subst (λ (c : ℕ). Progress c (looks past 0 j) (acts (entries.Act 0 k s v ∷ past) 0 j) (seen past 0 j) (asked past 0 j)) (sym now) both
   ];
   full = λ j held. subst (λ (c : ℕ). IsFull c (asked past 0 j)) (sym (at_other made k (made k + 1) j (among_apart (completed ++ batch) j k held left))) (w.full j held);
+  pending = λ j is_open_j out. elim (cases_eq j k) [
+    | inl same ↦ subst (λ (o : Option Asked). IsPending (with_at made k (made k + 1) j) o) (sym (ap (asked past 0) same ∙ is)) (let now : with_at made k (made k + 1) j ≡ made k + 1 = at_same made k (made k + 1) j same in omega arith)
+    | inr apart ↦ subst (λ (c : ℕ). IsPending c (asked past 0 j)) (sym (at_other made k (made k + 1) j apart)) (w.pending j (record { taken = is_open_j.taken; unpublished = is_open_j.unpublished }) out)
+  ];
   quiet = λ stopped. absurd (let fails : true ≡ false = sym run ∙ stopped in cc);
   phase_is = w.phase_is;
 }
@@ -315,23 +323,31 @@ other_open h s l k j x is_open apart same =
 off_other : (h : Header1) (s : Scene) (l : Lane) (k j p : ℕ) (bs : List ℕ) → IsLeft h s l k → IsOpen s.past 0 j → j ≢ k → buffer (s.heads 0) k ≤ p → p + length bs ≤ buffer (s.heads 0) k + 8192 → OffBuffer (s.heads 0) j p bs
 off_other h s l k j p bs x is_open apart from upto = other_buffer (s.heads 0) j (slice_index (s.heads 0) k) p bs (other_open h s l k j x is_open apart) (omega arith) (omega arith)
 
-made_worked : (past : List Entry) (phase : Phase) (batch completed : List ℕ) (made : ℕ → ℕ) (k : ℕ) → started past 0 ≡ true → IsOpen past 0 k → is_among (completed ++ batch) k ≡ false → 0 < made k
+made_progress : (past : List Entry) (made : ℕ → ℕ) (k j : ℕ) → 0 < made k → Progress (made j) (looks past 0 j) (acts past 0 j) (seen past 0 j) (asked past 0 j)
+    → Progress (with_at made k (made k + 1) j) (looks past 0 j) (acts past 0 j) (seen past 0 j) (asked past 0 j)
+made_progress past made k j some p = elim (cases_eq j k) [
+  | inl same ↦
+      let now : with_at made k (made k + 1) j ≡ made k + 1 = at_same made k (made k + 1) j same in
+      let at_j : made j ≡ made k = ap made same in
+      record {
+        fresh = λ e. absurd (omega arith);
+        begun = λ more. p.begun (omega arith);
+      }
+  | inr apart ↦ subst (λ (c : ℕ). Progress c (looks past 0 j) (acts past 0 j) (seen past 0 j) (asked past 0 j)) (sym (at_other made k (made k + 1) j apart)) p
+]
+
+made_worked : (past : List Entry) (phase : Phase) (batch completed : List ℕ) (made : ℕ → ℕ) (k : ℕ) → started past 0 ≡ true → IsOpen past 0 k → is_among (completed ++ batch) k ≡ false → 0 < made k → IsPending (made k + 1) (asked past 0 k)
     → Worked past phase batch completed made → Worked past phase batch completed (with_at made k (made k + 1))
-made_worked past phase batch completed made k run is_open left some w = record {
+made_worked past phase batch completed made k run is_open left some next w = record {
   distinct = w.distinct;
   opens = w.opens;
   untouched = λ j high. at_other made k (made k + 1) j (λ same. omega (arith, is_open.taken)) ∙ w.untouched j high;
-  progress = λ j. elim (cases_eq j k) [
-    | inl same ↦
-        let now : with_at made k (made k + 1) j ≡ made k + 1 = at_same made k (made k + 1) j same in
-        let at_j : made j ≡ made k = ap made same in
-        record {
-          fresh = λ e. absurd (omega arith);
-          begun = λ more. (w.progress j).begun (omega arith);
-        }
-    | inr apart ↦ subst (λ (c : ℕ). Progress c (looks past 0 j) (acts past 0 j) (seen past 0 j) (asked past 0 j)) (sym (at_other made k (made k + 1) j apart)) (w.progress j)
-  ];
+  progress = λ j. made_progress past made k j some (w.progress j);
   full = λ j held. subst (λ (c : ℕ). IsFull c (asked past 0 j)) (sym (at_other made k (made k + 1) j (among_apart (completed ++ batch) j k held left))) (w.full j held);
+  pending = λ j is_open_j out. elim (cases_eq j k) [
+    | inl same ↦ subst (λ (c : ℕ). IsPending c (asked past 0 j)) (sym (at_same made k (made k + 1) j same)) (subst (λ (i : ℕ). IsPending (made k + 1) (asked past 0 i)) (sym same) next)
+    | inr apart ↦ subst (λ (c : ℕ). IsPending c (asked past 0 j)) (sym (at_other made k (made k + 1) j apart)) (w.pending j is_open_j out)
+  ];
   quiet = λ stopped. absurd (let fails : true ≡ false = sym run ∙ stopped in cc);
   phase_is = w.phase_is;
 }
@@ -342,7 +358,7 @@ put_holds h s l k sector p bs x one is at what long = record {
   known = x.holds.known;
   ringed = ringed_elsewhere h.size h.base s.past (s.heads 0) s.memory p bs x.good.size (inr (omega arith)) x.holds.ringed;
   driven = x.holds.driven;
-  worked = made_worked s.past l.phase l.batch l.completed l.made k x.started x.is_open x.left (omega arith) x.holds.worked;
+  worked = made_worked s.past l.phase l.batch l.completed l.made k x.started x.is_open x.left (omega arith) (subst (λ (o : Option Asked). IsPending (l.made k + 1) o) (sym is) (omega arith)) x.holds.worked;
   stored = record {
     sectors = λ j is_open far read. elim (cases_eq j k) [
       | inl same ↦
@@ -392,6 +408,13 @@ among_more xs ys k j held =
       | inr apart ↦ inr (let out : k ≢ j = λ e. apart (sym e) in grind (arith, nat_tests))
     ]
 
+not_more : (xs ys : List ℕ) (k j : ℕ) → is_among ((xs ++ k ∷ []) ++ ys) j ≡ false → (j ≢ k) × (is_among (xs ++ ys) j ≡ false)
+not_more xs ys k j out =
+    let left : is_among ((xs ++ k ∷ []) ++ ys) j ≡ (is_among (xs ++ k ∷ []) j || is_among ys j) = is_among_append (xs ++ k ∷ []) ys j in
+    let inner : is_among (xs ++ k ∷ []) j ≡ (is_among xs j || is_among (k ∷ []) j) = is_among_append xs (k ∷ []) j in
+    let right : is_among (xs ++ ys) j ≡ (is_among xs j || is_among ys j) = is_among_append xs ys j in
+    (λ same. let turned : k ≡ j = sym same in grind (arith, nat_tests), grind (arith, nat_tests))
+
 distinct_more : (xs ys : List ℕ) (k : ℕ) → are_distinct (xs ++ ys) ≡ true → is_among (xs ++ ys) k ≡ false → are_distinct ((xs ++ k ∷ []) ++ ys) ≡ true
 distinct_more xs ys k d out =
     let parts = distinct_parts xs ys d in
@@ -407,23 +430,25 @@ distinct_more xs ys k d out =
 
 status_worked : (past : List Entry) (phase : Phase) (batch completed : List ℕ) (made : ℕ → ℕ) (k : ℕ) → started past 0 ≡ true → IsOpen past 0 k → is_among (completed ++ batch) k ≡ false → 0 < made k → IsFull (made k) (asked past 0 k)
     → Worked past phase batch completed made → Worked past phase batch (completed ++ k ∷ []) (with_at made k (made k + 1))
-status_worked past phase batch completed made k run is_open left some whole w =
-    let more : Worked past phase batch completed (with_at made k (made k + 1)) = made_worked past phase batch completed made k run is_open left some w in record {
-      distinct = distinct_more completed batch k w.distinct left;
-      opens = λ j held. elim (among_more completed batch k j held) [
-        | inl same ↦ subst (λ (i : ℕ). IsOpen past 0 i) (sym same) is_open
-        | inr old ↦ w.opens j old
-      ];
-      untouched = more.untouched;
-      progress = more.progress;
-      full = λ j held. elim (among_more completed batch k j held) [
-        | inl same ↦ subst (λ (i : ℕ). IsFull (with_at made k (made k + 1) i) (asked past 0 i)) (sym same)
-            (subst (λ (c : ℕ). IsFull c (asked past 0 k)) (sym (at_same made k (made k + 1) k refl)) (full_more (made k) (asked past 0 k) whole))
-        | inr old ↦ more.full j old
-      ];
-      quiet = λ stopped. absurd (let fails : true ≡ false = sym run ∙ stopped in cc);
-      phase_is = w.phase_is;
-    }
+status_worked past phase batch completed made k run is_open left some whole w = record {
+  distinct = distinct_more completed batch k w.distinct left;
+  opens = λ j held. elim (among_more completed batch k j held) [
+    | inl same ↦ subst (λ (i : ℕ). IsOpen past 0 i) (sym same) is_open
+    | inr old ↦ w.opens j old
+  ];
+  untouched = λ j high. at_other made k (made k + 1) j (λ same. omega (arith, is_open.taken)) ∙ w.untouched j high;
+  progress = λ j. made_progress past made k j some (w.progress j);
+  full = λ j held. elim (among_more completed batch k j held) [
+    | inl same ↦ subst (λ (i : ℕ). IsFull (with_at made k (made k + 1) i) (asked past 0 i)) (sym same)
+        (subst (λ (c : ℕ). IsFull c (asked past 0 k)) (sym (at_same made k (made k + 1) k refl)) (full_more (made k) (asked past 0 k) whole))
+    | inr old ↦ subst (λ (c : ℕ). IsFull c (asked past 0 j)) (sym (at_other made k (made k + 1) j (among_apart (completed ++ batch) j k old left))) (w.full j old)
+  ];
+  pending = λ j is_open_j out.
+  let parts = not_more completed batch k j out in
+  subst (λ (c : ℕ). IsPending c (asked past 0 j)) (sym (at_other made k (made k + 1) j parts.0)) (w.pending j is_open_j parts.1);
+  quiet = λ stopped. absurd (let fails : true ≡ false = sym run ∙ stopped in cc);
+  phase_is = w.phase_is;
+}
   where
     full_more : (c : ℕ) (o : Option Asked) → IsFull c o → IsFull (c + 1) o
     full_more c (Some (asks.Read s n)) f = omega arith
