@@ -8,6 +8,7 @@ pub mod RunTracks
 pub mod RunFrames
 pub mod RunOffers
 pub mod RunGuests
+pub mod RunEfforts
 pub mod RunWork
 pub mod RunPhases
 pub mod RunElements
