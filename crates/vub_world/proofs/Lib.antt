@@ -21,3 +21,4 @@ pub mod RunEvents
 pub mod Runs
 pub mod RunDrains
 pub mod RunsTo
+pub mod RunEnds

@@ -252,7 +252,7 @@ pub turn_right : (h : Header1) (t : Turn) (m : Moment) → IsPlain h → Good h 
 turn_right h t m plain good due =
     let ready : is_ready (standing h 0 m) t ≡ true = grind (arith, nat_tests) in
     let attached : (m.lanes 0).attached ≡ true = grind (arith, nat_tests) in
-    let fine : Fine h m.scene (turned h 0 t m) = turn_fine h t m plain good ready in record {
+    let fine : Fine h m.scene (m.lanes 0) (turned h 0 t m) = turn_fine h t m plain good ready in record {
       good = record {
         holds = fine.holds;
         asleep = λ dead. absurd (let fails : true ≡ false = sym attached ∙ (good.asleep dead).0 in cc);

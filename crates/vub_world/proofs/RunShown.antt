@@ -30,6 +30,7 @@ use Rattle.vub_world.specs.Tracking.{answers, answered_len}
 use Rattle.vub_world.specs.Turns.{Turned, element_of, phase_turn, phase_goes_on, answer_at, with_phase}
 use Rattle.vub_world.proofs.RunNumbers.{distinct_parts, distinct_join}
 use Rattle.vub_world.proofs.RunGood.{the_ring, Known, Ringed, spot, Worked, Stored, IsBuilt, Holds}
+use Rattle.vub_world.proofs.RunEfforts.{shown_falls}
 use Rattle.vub_world.proofs.RunFrames.{keeps, entry_small, length_little, stored_elsewhere, below_buffers}
 use Rattle.vub_world.proofs.RunGuests.{stored_at, holds_track}
 use Rattle.vub_world.proofs.RunPhases.{resting}
@@ -216,29 +217,30 @@ index_turn h s l done x more = record {
   lane = with_phase (if more then phases.Publish (done + 1) else phases.Rest) (publishing done l);
 }
 
-index_fine : (h : Header1) (s : Scene) (l : Lane) (done : ℕ) → IsUnderWay h s l done → done ≡ 2 * length l.batch → Fine h s (phase_turn h 0 s (publishing done l) (Some steps.Index))
+index_fine : (h : Header1) (s : Scene) (l : Lane) (done : ℕ) → IsUnderWay h s l done → done ≡ 2 * length l.batch → Fine h s (publishing done l) (phase_turn h 0 s (publishing done l) (Some steps.Index))
 index_fine h s l done u whole =
     let x : ℕ = (used_idx (the_ring h.size) s.memory + length (map (element_of h 0 s) l.batch)) % 65536 in
     let many : length (map (element_of h 0 s) l.batch) ≡ length l.batch = length_map (element_of h 0 s) l.batch in
     let is : x ≡ (h.base + length (published s.past 0) + length l.batch) % 65536 = omega (arith, u.holds.ringed.used_idx_is, many) in
     let holds = shown_holds h x s l done u whole is in
-    let fine : Fine h s (index_turn h s l done x false) = record {
+    let fine : Fine h s (publishing done l) (index_turn h s l done x false) = record {
       each = (inl tt, (inr (holds_track h (record (shown_scene h x s) { past = shown_past h x s l }) (resting l) u.good holds), tt));
       holds = holds;
       legal = (shown_legal h x s l done u, tt);
       runs = u.started;
       collects = refl;
+      falls = omega (arith, shown_falls (published s.past 0) (published (shown_past h x s l) 0) l.completed l.batch l.made (accepted s.past 0) (shown_published h x s l));
     } in
-    subst (λ (b : Bool). Fine h s (index_turn h s l done x b)) (sym (none_left (length l.batch) done whole)) fine
+    subst (λ (b : Bool). Fine h s (publishing done l) (index_turn h s l done x b)) (sym (none_left (length l.batch) done whole)) fine
 
 -- the next store of a publication, and at its end the publication
-pub publication_fine : (h : Header1) (s : Scene) (l : Lane) (done : ℕ) → IsUnderWay h s l done → Fine h s (phase_goes_on h 0 s (publishing done l))
+pub publication_fine : (h : Header1) (s : Scene) (l : Lane) (done : ℕ) → IsUnderWay h s l done → Fine h s (publishing done l) (phase_goes_on h 0 s (publishing done l))
 publication_fine h s l done u =
     let w : Worked s.past (phases.Publish done) l.batch l.completed l.made = u.holds.worked in
     let some : (0 < length l.batch) × (done < 2 * length l.batch + 1) = w.phase_is in
     go (slice_get (publish_steps (length l.batch)) done) (step_at 0 (length l.batch) done some.1)
   where
-    go : (o : Option Step) → StepAt 0 (length l.batch) done o → Fine h s (phase_turn h 0 s (publishing done l) o)
-    go o (AtId e inside at is) = subst (λ (x : Option Step). Fine h s (phase_turn h 0 s (publishing done l) x)) (sym (is ∙ ap (λ (k : ℕ). Some (steps.Id k)) (let same : 0 + e ≡ e = omega arith in same))) (id_fine h s l done e u inside at)
-    go o (AtLen e inside at is) = subst (λ (x : Option Step). Fine h s (phase_turn h 0 s (publishing done l) x)) (sym (is ∙ ap (λ (k : ℕ). Some (steps.Len k)) (let same : 0 + e ≡ e = omega arith in same))) (len_fine h s l done e u inside at)
-    go o (AtIndex at is) = subst (λ (x : Option Step). Fine h s (phase_turn h 0 s (publishing done l) x)) (sym is) (index_fine h s l done u at)
+    go : (o : Option Step) → StepAt 0 (length l.batch) done o → Fine h s (publishing done l) (phase_turn h 0 s (publishing done l) o)
+    go o (AtId e inside at is) = subst (λ (x : Option Step). Fine h s (publishing done l) (phase_turn h 0 s (publishing done l) x)) (sym (is ∙ ap (λ (k : ℕ). Some (steps.Id k)) (let same : 0 + e ≡ e = omega arith in same))) (id_fine h s l done e u inside at)
+    go o (AtLen e inside at is) = subst (λ (x : Option Step). Fine h s (publishing done l) (phase_turn h 0 s (publishing done l) x)) (sym (is ∙ ap (λ (k : ℕ). Some (steps.Len k)) (let same : 0 + e ≡ e = omega arith in same))) (len_fine h s l done e u inside at)
+    go o (AtIndex at is) = subst (λ (x : Option Step). Fine h s (publishing done l) (phase_turn h 0 s (publishing done l) x)) (sym is) (index_fine h s l done u at)
