@@ -22,3 +22,4 @@ pub mod Runs
 pub mod RunDrains
 pub mod RunsTo
 pub mod RunEnds
+pub mod RunExists
