@@ -1,6 +1,6 @@
 -- A drain ends: each turn leaves less to do, and there is never much.
-use Rattle.std.proofs.Common.{◌≡◌, ◌≢◌, ◌≤◌, ◌<◌, ℕ, zero, suc, ◌+◌, ◌-◌, ◌*◌, Bool, true, false, cond, List, [], ◌∷◌, ◌++◌, length, map, refl, ap, sym, ◌∙◌, subst, inl, inr, arith, length-append}
-use Rattle.std.specs.Prelude.{◌||◌, ◌&&◌, if◌then◌else◌}
+use Rattle.std.proofs.Common.{◌≡◌, ◌≤◌, ◌<◌, ℕ, zero, suc, ◌+◌, ◌*◌, Bool, true, false, cond, List, [], ◌∷◌, ◌++◌, length, refl, ap, sym, ◌∙◌, inl, inr, arith, length-append}
+use Rattle.std.specs.Prelude.{◌||◌}
 use Rattle.std.proofs.lemmas.Bool.Decides.{nat_tests}
 use Rattle.std.proofs.lemmas.Bool.{cases_Bool}
 use Rattle.std.proofs.lemmas.List.{append-nil, append_assoc}
@@ -10,18 +10,16 @@ use Rattle.vub_ring.specs.declared.steps.Phase.{Phase}
 use Rattle.vub_ring.specs.declared.steps.Phase.TheVariants as phases
 use Rattle.vub_ring.specs.Readiness.{is_ready}
 use Rattle.vub_device.specs.declared.entry.Entry.{Entry}
-use Rattle.vub_device.specs.Past.{accepted, published, collected, is_among, missing_below, open_numbers, started, IsOpen}
+use Rattle.vub_device.specs.Past.{accepted, published, collected, is_among, missing_below, open_numbers, started}
 use Rattle.vub_device.specs.Places.{are_distinct}
 use Rattle.vub_device.proofs.Numbers.{is_among_append}
 use Rattle.vub_world.specs.declared.report.items.Item.{Item}
 use Rattle.vub_world.specs.Memory.{Scene}
 use Rattle.vub_world.specs.Moments.{Lane, Moment, standing}
 use Rattle.vub_world.specs.Run.{Played, played, one_turn, is_due, then_played, turns}
-use Rattle.vub_world.specs.Turns.{turned}
-use Rattle.vub_world.proofs.RunNumbers.{missing-among, distinct_push, distinct_join, distinct_parts, few_below, among_at}
-use Rattle.vub_world.proofs.RunGood.{Known, PhaseIs, Worked, Holds}
+use Rattle.vub_world.proofs.RunNumbers.{missing-among, distinct_push, distinct_join, few_below}
+use Rattle.vub_world.proofs.RunGood.{Known, Worked}
 use Rattle.vub_world.proofs.RunEfforts.{weight, sum_below, phase_left, effort, weight_small}
-use Rattle.vub_world.proofs.RunWork.{Fine}
 use Rattle.vub_world.proofs.RunTurns.{IsPlain, Good, turn_fine}
 
 -- what is left to do at a moment

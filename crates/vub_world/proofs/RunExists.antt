@@ -1,5 +1,5 @@
 -- Every schedule of the grammar has a run.
-use Rattle.std.proofs.Common.{◌≡◌, ◌≤◌, ◌<◌, ℕ, zero, suc, ◌+◌, Bool, true, false, cond, List, [], ◌∷◌, refl, ap, sym, ◌∙◌, subst, inl, inr, arith}
+use Rattle.std.proofs.Common.{◌≡◌, ◌≤◌, ℕ, zero, suc, Bool, true, false, cond, List, [], ◌∷◌, refl, ap, sym, subst, inl, inr, arith}
 use Rattle.std.specs.List.{AllByRecursion}
 use Rattle.vub_base.specs.declared.header.Header1.{Header1}
 use Rattle.vub_ring.specs.declared.readiness.Turn.{Turn}
@@ -12,7 +12,7 @@ use Rattle.vub_world.specs.declared.report.items.Item.{Item}
 use Rattle.vub_world.specs.declared.report.items.Item.TheVariants as items
 use Rattle.vub_world.specs.declared.report.items.Record.{Record}
 use Rattle.vub_world.specs.Moments.{Moment, opening}
-use Rattle.vub_world.specs.Run.{Played, played, ask, guest, collect, boot, join, one_turn, is_due, then_played, turns, drain_choice, IsDrained, Drains, Plays, RunFrom, Run}
+use Rattle.vub_world.specs.Run.{Played, played, ask, guest, collect, boot, join, one_turn, is_due, then_played, turns, drain_choice, Drains, Plays, RunFrom, Run}
 use Rattle.vub_world.proofs.RunTurns.{IsPlain, Good}
 use Rattle.vub_world.proofs.RunEvents.{Right, turn_right, event_right}
 use Rattle.vub_world.proofs.RunEnds.{effort_at, turn_falls}

@@ -19,14 +19,14 @@ use Rattle.vub_device.specs.declared.entry.Answered.{Answered}
 use Rattle.vub_device.specs.declared.entry.Entry.{Entry}
 use Rattle.vub_device.specs.declared.entry.Entry.TheVariants as entries
 use Rattle.vub_device.specs.Legal.{IsAnswer, MayPublish}
-use Rattle.vub_device.specs.Past.{asked, accepted, published, collected, numbers, is_among, IsOpen}
+use Rattle.vub_device.specs.Past.{accepted, published, collected, numbers, is_among, IsOpen}
 use Rattle.vub_device.specs.Places.{are_distinct}
 use Rattle.vub_device.proofs.Distinct.{distinct_from_test}
 use Rattle.vub_device.proofs.Numbers.{is_among_append}
 use Rattle.vub_world.specs.declared.report.items.Item.TheVariants as items
 use Rattle.vub_world.specs.Memory.{Scene}
 use Rattle.vub_world.specs.Moments.{Lane}
-use Rattle.vub_world.specs.Tracking.{answers, answered_len}
+use Rattle.vub_world.specs.Tracking.{answers}
 use Rattle.vub_world.specs.Turns.{Turned, element_of, phase_turn, phase_goes_on, answer_at, with_phase}
 use Rattle.vub_world.proofs.RunNumbers.{distinct_parts, distinct_join}
 use Rattle.vub_world.proofs.RunGood.{the_ring, Known, Ringed, spot, Worked, Stored, IsBuilt, Holds}

@@ -32,7 +32,7 @@ use Rattle.vub_world.specs.Memory.{Scene, with_at, after_items}
 use Rattle.vub_world.specs.Moments.{Lane}
 use Rattle.vub_world.specs.Tasks.{TaskStep, Look, Put, Act, Status, task_steps, act_items, status_of, unless_refused, disk_steps, act_steps}
 use Rattle.vub_world.specs.Tracking.{EveryTracks, AfterEach, entries_of, answered_len}
-use Rattle.vub_world.specs.Turns.{Turned, nothing, request_turn, task_turn}
+use Rattle.vub_world.specs.Turns.{Turned, request_turn, task_turn}
 use Rattle.vub_world.proofs.RunNumbers.{distinct_parts, distinct_join, distinct_push}
 use Rattle.vub_world.proofs.RunGood.{the_ring, IsSimple, Known, IsOut, WaitsWell, Driven, Progress, IsBegun, IsFull, IsPending, Worked, Stored, IsRead, Built, buffer, Holds}
 use Rattle.vub_world.proofs.RunEfforts.{effort, step_falls, status_falls}
