@@ -11,6 +11,7 @@ pub mod RunTracks
 pub mod RunFrames
 pub mod RunOffers
 pub mod RunGuests
+pub mod RunEfforts
 pub mod RunWork
 pub mod RunPhases
 pub mod RunElements
@@ -23,3 +24,5 @@ pub mod RunEvents
 pub mod Runs
 pub mod RunDrains
 pub mod RunsTo
+pub mod RunEnds
+pub mod RunExists

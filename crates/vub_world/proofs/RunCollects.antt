@@ -123,6 +123,7 @@ taken_worked h s l k w = record {
   untouched = w.untouched;
   progress = w.progress;
   full = w.full;
+  pending = λ j is_open out. w.pending j (record { taken = is_open.taken; unpublished = is_open.unpublished }) out;
   quiet = w.quiet;
   phase_is = w.phase_is;
 }

@@ -83,7 +83,7 @@ turns_stay (suc count) choose h m plain good = go (is_due h 0 (choose m) m) refl
         → Stays m (cond {A = Played} b (then_played (one_turn h 0 (choose m) m) (many_turns count choose h 0 (one_turn h 0 (choose m) m).next)) (played [] m)).next
     go true due rest =
         let ready : is_ready (standing h 0 m) (choose m) ≡ true = grind (arith, nat_tests) in
-        let fine : Fine h m.scene (turned h 0 (choose m) m) = turn_fine h (choose m) m plain good ready in
+        let fine : Fine h m.scene (m.lanes 0) (turned h 0 (choose m) m) = turn_fine h (choose m) m plain good ready in
         let later = rest (turn_right h (choose m) m plain good due).good in
         (later.0 ∙ turned_stays h (choose m) m, later.1 ∙ fine.collects)
     go false due rest = (refl, refl)

@@ -182,6 +182,7 @@ worked_on past batch completed made phase done is more w =
       untouched = w.untouched;
       progress = w.progress;
       full = w.full;
+      pending = w.pending;
       quiet = λ stopped. absurd (let fails : phases.Publish done ≡ phases.Rest = sym is ∙ (w.quiet stopped).0 in cc);
       phase_is = (some.0, more);
     }

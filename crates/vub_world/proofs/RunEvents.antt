@@ -10,6 +10,7 @@ use Rattle.vub_base.specs.declared.request.Shape.{Shape}
 use Rattle.vub_base.specs.declared.request.Shape.TheVariants.{Direct}
 use Rattle.vub_shared.specs.Stores.{Store}
 use Rattle.vub_ring.specs.declared.readiness.Turn.{Turn}
+use Rattle.vub_ring.specs.declared.steps.Phase.{Phase}
 use Rattle.vub_ring.specs.declared.steps.Phase.TheVariants as phases
 use Rattle.vub_ring.specs.Ring.{seen}
 use Rattle.vub_ring.specs.Readiness.{is_ready}
@@ -18,7 +19,7 @@ use Rattle.vub_driver.specs.Stores.{offer_stores}
 use Rattle.vub_device.specs.declared.entry.Entry.{Entry}
 use Rattle.vub_device.specs.declared.entry.Entry.TheVariants as entries
 use Rattle.vub_device.specs.Legal.{LegalFrom, after}
-use Rattle.vub_device.specs.Past.{accepted, collected, started}
+use Rattle.vub_device.specs.Past.{asked, accepted, collected, is_among, started}
 use Rattle.vub_schedule.specs.declared.types.Event.{Event}
 use Rattle.vub_schedule.specs.declared.types.Event.TheVariants as events
 use Rattle.vub_schedule.specs.Spelling.{IsAsk, IsEvent}
@@ -29,7 +30,7 @@ use Rattle.vub_world.specs.Moments.{Lane, Moment, fresh, standing}
 use Rattle.vub_world.specs.Run.{Played, played, if_ready, with_lane, comes_about, with_driver, ask, guest, guest_items, guest_stores, take_first, collect, boot, join, one_turn, is_due, then_played, turns, drain_choice, Drains, Plays, request_of}
 use Rattle.vub_world.specs.Tracking.{EveryTracks, GoesOn, AfterEach, entries_of}
 use Rattle.vub_world.specs.Turns.{turned}
-use Rattle.vub_world.proofs.RunGood.{the_ring, IsPlan, IsWaiting, WaitsWell, Worked}
+use Rattle.vub_world.proofs.RunGood.{the_ring, IsPlan, IsWaiting, WaitsWell, IsPending, PhaseIs, Worked}
 use Rattle.vub_world.proofs.RunGuests.{holds_track, Offered, guest_holds}
 use Rattle.vub_world.proofs.RunWork.{Fine}
 use Rattle.vub_world.proofs.RunTurns.{IsPlain, Good, turn_fine}
@@ -207,6 +208,7 @@ fresh_worked past l stopped w =
       untouched = λ k high. refl;
       progress = λ k. record { fresh = λ e. (w.progress k).fresh (none k); begun = λ some. absurd (omega arith) };
       full = λ k held. absurd (let fails : false ≡ true = held in cc);
+      pending = λ k is_open out. subst (λ (c : ℕ). IsPending c (asked past 0 k)) (none k) (w.pending k is_open (ap (λ (xs : List ℕ). is_among (xs ++ l.batch) k) (w.quiet stopped).1.0 ∙ ap (λ (xs : List ℕ). is_among xs k) (subst (λ (p : Phase). PhaseIs l.batch p) (w.quiet stopped).0 w.phase_is)));
       quiet = λ e. (refl, (refl, λ k. refl));
       phase_is = refl;
     }
@@ -250,7 +252,7 @@ pub turn_right : (h : Header1) (t : Turn) (m : Moment) → IsPlain h → Good h 
 turn_right h t m plain good due =
     let ready : is_ready (standing h 0 m) t ≡ true = grind (arith, nat_tests) in
     let attached : (m.lanes 0).attached ≡ true = grind (arith, nat_tests) in
-    let fine : Fine h m.scene (turned h 0 t m) = turn_fine h t m plain good ready in record {
+    let fine : Fine h m.scene (m.lanes 0) (turned h 0 t m) = turn_fine h t m plain good ready in record {
       good = record {
         holds = fine.holds;
         asleep = λ dead. absurd (let fails : true ≡ false = sym attached ∙ (good.asleep dead).0 in cc);

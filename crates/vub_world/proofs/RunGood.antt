@@ -121,6 +121,12 @@ IsFull made (Some (asks.Read s c)) = 2 ≤ made
 IsFull made (Some (asks.Write s bytes)) = 1 ≤ made
 IsFull made r = ⊤
 
+-- a step is left
+abbrev pub IsPending : ℕ → Option Asked → Type 0
+IsPending made (Some (asks.Read s c)) = made ≤ 2
+IsPending made (Some (asks.Write s bytes)) = made ≤ 1
+IsPending made r = ⊤
+
 abbrev pub PhaseIs : List ℕ → Phase → Type 0
 PhaseIs batch phases.Rest = batch ≡ []
 PhaseIs batch (phases.Publish done) = (0 < length batch) × (done < 2 * length batch + 1)
@@ -132,6 +138,7 @@ pub record Worked (past : List Entry) (phase : Phase) (batch completed : List �
   pub untouched : (k : ℕ) → accepted past 0 ≤ k → made k ≡ 0
   pub progress : (k : ℕ) → Progress (made k) (looks past 0 k) (acts past 0 k) (seen past 0 k) (asked past 0 k)
   pub full : (k : ℕ) → is_among (completed ++ batch) k ≡ true → IsFull (made k) (asked past 0 k)
+  pub pending : (k : ℕ) → IsOpen past 0 k → is_among (completed ++ batch) k ≡ false → IsPending (made k) (asked past 0 k)
   pub quiet : started past 0 ≡ false → (phase ≡ phases.Rest) × ((completed ≡ []) × ((k : ℕ) → made k ≡ 0))
   pub phase_is : PhaseIs batch phase
 

@@ -18,7 +18,7 @@ use Rattle.vub_device.specs.Past.{offers, asked, accepted, published, collected,
 use Rattle.vub_device.proofs.Numbers.{is_among_append}
 use Rattle.vub_world.specs.Tracking.{answered_len}
 use Rattle.vub_world.proofs.RunNumbers.{among_at, few_places}
-use Rattle.vub_world.proofs.RunGood.{the_ring, IsSize, IsSimple, Known, Ringed, spot, IsOut, IsWaiting, Driven, IsBegun, IsFull, Worked, Stored, IsRead, Built}
+use Rattle.vub_world.proofs.RunGood.{the_ring, IsSize, IsSimple, Known, Ringed, spot, IsOut, IsWaiting, Driven, IsBegun, IsFull, IsPending, Worked, Stored, IsRead, Built}
 use Rattle.vub_world.proofs.RunFrames.{keeps, length_little}
 
 pub same_head : (heads : List ℕ) (h k : ℕ) → k < length heads → slice_index (heads ++ h ∷ []) k ≡ slice_index heads k
@@ -168,6 +168,9 @@ offer_worked n cap past heads r phase batch completed made known worked = record
   full = λ k held.
   let low : k < offers past 0 = omega (arith, (worked.opens k held).taken, known.offers_are, known.offered) in
   subst (λ (o : Option Asked). IsFull (made k) o) (sym (same_asked past r k low)) (worked.full k held);
+  pending = λ k is_open out.
+  let low : k < offers past 0 = omega (arith, is_open.taken, known.offers_are, known.offered) in
+  subst (λ (o : Option Asked). IsPending (made k) o) (sym (same_asked past r k low)) (worked.pending k (record { taken = is_open.taken; unpublished = is_open.unpublished }) out);
   quiet = worked.quiet;
   phase_is = worked.phase_is;
 }

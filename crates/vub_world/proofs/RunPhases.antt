@@ -1,26 +1,29 @@
 -- Start and fetch keep what holds, and so does the begin of a publication.
-use Rattle.std.proofs.Common.{◌≡◌, ◌≤◌, ◌<◌, ℕ, ◌+◌, true, false, List, [], ◌∷◌, ◌++◌, length, take, drop, refl, ap, sym, ◌∙◌, inl, inr, arith}
-use Rattle.std.specs.Prelude.{◌||◌}
+use Rattle.std.proofs.Common.{◌≡◌, ◌≤◌, ◌<◌, ℕ, ◌+◌, true, false, List, [], ◌∷◌, ◌++◌, length, take, drop, refl, ap, sym, ◌∙◌, subst, inl, inr, arith}
+use Rattle.std.specs.Prelude.{Option, Some, None, ◌||◌, if◌then◌else◌}
 use Rattle.std.proofs.lemmas.Bool.Decides.{nat_tests}
 use Rattle.std.proofs.lemmas.Bool.{cases_lt, cases_Bool}
-use Rattle.std.proofs.lemmas.List.{append-nil, length-take, take-append-drop}
+use Rattle.std.proofs.lemmas.List.{length-drop, append-nil, length-take, take-append-drop}
 use Rattle.vub_base.specs.declared.header.Header1.{Header1}
 use Rattle.vub_ring.specs.declared.steps.Phase.{Phase}
 use Rattle.vub_ring.specs.declared.steps.Phase.TheVariants as phases
 use Rattle.vub_ring.specs.declared.readiness.Turn.TheVariants as turns
 use Rattle.vub_ring.specs.Ring.{ahead, avail_idx}
+use Rattle.vub_device.specs.declared.entry.Asked.{Asked}
+use Rattle.vub_device.specs.declared.entry.Asked.TheVariants as asks
 use Rattle.vub_device.specs.declared.entry.Entry.{Entry}
 use Rattle.vub_device.specs.declared.entry.Entry.TheVariants as entries
 use Rattle.vub_device.specs.Legal.{MayStart, MayAccept}
-use Rattle.vub_device.specs.Past.{accepted, is_among, open_numbers, started}
+use Rattle.vub_device.specs.Past.{asked, accepted, published, is_among, open_numbers, started}
 use Rattle.vub_device.specs.Places.{are_distinct}
 use Rattle.vub_device.proofs.Numbers.{is_among_append}
 use Rattle.vub_world.specs.Memory.{Scene}
 use Rattle.vub_world.specs.Moments.{Lane}
 use Rattle.vub_world.specs.Turns.{under_way, phase_goes_on}
 use Rattle.vub_world.proofs.RunNumbers.{distinct_parts, distinct_join}
-use Rattle.vub_world.proofs.RunGood.{the_ring, Worked, Holds}
+use Rattle.vub_world.proofs.RunGood.{the_ring, IsPending, Worked, Holds}
 use Rattle.vub_world.proofs.RunTracks.{ahead_by}
+use Rattle.vub_world.proofs.RunEfforts.{weight, effort, sum_more, weight_small, sum_moved}
 use Rattle.vub_world.proofs.RunGuests.{IsGood, holds_track}
 use Rattle.vub_world.proofs.RunWork.{Fine, driven_same, built_same}
 
@@ -41,6 +44,7 @@ start_worked past list batch completed made phase stopped w =
       untouched = w.untouched;
       progress = λ k. record { fresh = λ e. (refl, (refl, refl)); begun = λ some. absurd (let zero_made : made k ≡ 0 = none k in omega arith) };
       full = w.full;
+      pending = λ j is_open out. w.pending j (record { taken = is_open.taken; unpublished = is_open.unpublished }) out;
       quiet = λ stops. absurd (let fails : true ≡ false = stops in cc);
       phase_is = w.phase_is;
     }
@@ -61,7 +65,7 @@ start_holds h s l list stopped x = record {
   built = built_same h.size h.base s.past (entries.Start 0 list ∷ s.past) (s.heads 0) s.memory l.batch l.phase refl (λ j. refl) x.built;
 }
 
-pub start_fine : (h : Header1) (s : Scene) (l : Lane) → IsGood h → started s.past 0 ≡ false → Holds h s (resting l) → Fine h s (phase_goes_on h 0 s (under_way turns.Start (resting l)))
+pub start_fine : (h : Header1) (s : Scene) (l : Lane) → IsGood h → started s.past 0 ≡ false → Holds h s (resting l) → Fine h s (resting l) (phase_goes_on h 0 s (under_way turns.Start (resting l)))
 start_fine h s l good stopped x =
     let list : List ℕ = open_numbers s.past 0 in
     let holds : Holds h (record s { past = entries.Start 0 list ∷ s.past }) (resting l) = start_holds h s (resting l) list stopped x in
@@ -72,6 +76,7 @@ start_fine h s l good stopped x =
       legal = (may, tt);
       runs = refl;
       collects = refl;
+      falls = let rest : ℕ = if started s.past 0 then 0 else 1 in let one : rest ≡ 1 = grind (arith, nat_tests) in omega (arith, one);
     }
 
 -- ---- fetch
@@ -83,9 +88,22 @@ accept_worked past k batch completed made phase w = record {
   untouched = λ j high. w.untouched j (omega arith);
   progress = w.progress;
   full = w.full;
+  pending = λ j is_open out. elim (cases_lt j (accepted past 0)) [
+    | inl low ↦ w.pending j (record { taken = low; unpublished = is_open.unpublished }) out
+    | inr high ↦ subst (λ (c : ℕ). IsPending c (asked past 0 j)) (sym (w.untouched j high)) (pending_none (asked past 0 j))
+  ];
   quiet = w.quiet;
   phase_is = w.phase_is;
 }
+  where
+    pending_none : (o : Option Asked) → IsPending 0 o
+    pending_none (Some (asks.Read s n)) = omega arith
+    pending_none (Some (asks.Write s bytes)) = omega arith
+    pending_none (Some asks.Flush) = tt
+    pending_none (Some asks.Id) = tt
+    pending_none (Some (asks.Discard parts)) = tt
+    pending_none (Some (asks.Zero parts)) = tt
+    pending_none None = tt
 
 accept_holds : (h : Header1) (s : Scene) (l : Lane) (k : ℕ) → accepted s.past 0 < length (s.heads 0) → Holds h s l → Holds h (record s { past = entries.Accept 0 k ∷ s.past }) l
 accept_holds h s l k more x = record {
@@ -118,7 +136,7 @@ some_waits h s l good x =
     let fewer = x.known.fewer in
     ap (λ (u : ℕ). ahead u (h.base + accepted s.past 0) + accepted s.past 0) x.ringed.avail_idx_is ∙ ahead_by h.base (length (s.heads 0)) (accepted s.past 0) x.known.offered (omega arith)
 
-pub fetch_fine : (h : Header1) (s : Scene) (l : Lane) → IsGood h → started s.past 0 ≡ true → accepted s.past 0 < length (s.heads 0) → Holds h s (resting l) → Fine h s (phase_goes_on h 0 s (under_way turns.Fetch (resting l)))
+pub fetch_fine : (h : Header1) (s : Scene) (l : Lane) → IsGood h → started s.past 0 ≡ true → accepted s.past 0 < length (s.heads 0) → Holds h s (resting l) → Fine h s (resting l) (phase_goes_on h 0 s (under_way turns.Fetch (resting l)))
 fetch_fine h s l good run more x =
     let k : ℕ = accepted s.past 0 in
     let holds : Holds h (record s { past = entries.Accept 0 k ∷ s.past }) (resting l) = accept_holds h s (resting l) k more x in
@@ -129,6 +147,7 @@ fetch_fine h s l good run more x =
       legal = (may, tt);
       runs = run;
       collects = refl;
+      falls = omega (arith, sum_more (weight (published s.past 0) (l.completed ++ []) l.made) k, weight_small (published s.past 0) (l.completed ++ []) l.made k);
     }
 
 -- ---- a batch is taken
@@ -166,6 +185,7 @@ taking_holds h s l most some any run x =
         untouched = x.worked.untouched;
         progress = x.worked.progress;
         full = λ k held. x.worked.full k (same k held);
+        pending = λ k is_open out. x.worked.pending k is_open (sym (swap_among most l.completed k) ∙ out);
         quiet = λ stopped. absurd (let fails : true ≡ false = sym run ∙ stopped in cc);
         phase_is = (omega (arith, length-take most l.completed), omega arith);
       };
@@ -178,3 +198,8 @@ taking_holds h s l most some any run x =
         lens = λ e l d. absurd (omega arith);
       };
     }
+
+-- and what is left to do grows by no more than the store that follows
+pub taking_effort : (past : List Entry) (offered most : ℕ) (l : Lane) → 0 < most → 0 < length l.completed → effort past offered (taking most l) ≤ effort past offered (resting l)
+taking_effort past offered most l some any =
+    omega (arith, length-take most l.completed, length-drop most l.completed, sum_moved (published past 0) (l.completed ++ []) (drop most l.completed ++ take most l.completed) l.made (accepted past 0) (swap_among most l.completed))

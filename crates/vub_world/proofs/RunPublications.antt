@@ -68,7 +68,7 @@ id_turn h l done o y more = record {
   lane = with_phase (if more then phases.Publish (done + 1) else phases.Rest) (publishing done l);
 }
 
-pub id_fine : (h : Header1) (s : Scene) (l : Lane) (done e : ℕ) → IsUnderWay h s l done → e < length l.batch → done ≡ 2 * e → Fine h s (phase_turn h 0 s (publishing done l) (Some (steps.Id e)))
+pub id_fine : (h : Header1) (s : Scene) (l : Lane) (done e : ℕ) → IsUnderWay h s l done → e < length l.batch → done ≡ 2 * e → Fine h s (publishing done l) (phase_turn h 0 s (publishing done l) (Some (steps.Id e)))
 id_fine h s l done e x inside at =
     let k : ℕ = slice_index l.batch e in
     let held : is_among l.batch k ≡ true = among_at l.batch e inside in
@@ -78,18 +78,19 @@ id_fine h s l done e x inside at =
     let P : ℕ = h.base + length (published s.past 0) in
     let next : IsNextElement h s (publishing done l) done e = record { good = x.good; back = x.back; holds = x.holds; phase = refl; inside = inside } in
     let holds = id_holds h s (publishing done l) done e head next at refl (omega arith) in
-    let whole : Fine h s (id_turn h l done (Some (element_of h 0 s k)) (entry_of (the_ring h.size) (P + e)) true) = record {
+    let whole : Fine h s (publishing done l) (id_turn h l done (Some (element_of h 0 s k)) (entry_of (the_ring h.size) (P + e)) true) = record {
       each = (inr (holds_track h (stored_at (used_id_place (the_ring h.size) (P + e)) (little_bytes 4 head) s) (one_on done l) x.good holds), tt);
       holds = holds;
       legal = tt;
       runs = x.started;
       collects = refl;
+      falls = omega arith;
     } in
-    let one : Fine h s (id_turn h l done (slice_get (map (element_of h 0 s) l.batch) e) (entry_of (the_ring h.size) (P + e)) true) =
-    subst (λ (o : Option (ℕ × ℕ)). Fine h s (id_turn h l done o (entry_of (the_ring h.size) (P + e)) true)) (sym (get_map (element_of h 0 s) l.batch e inside)) whole in
-    let two : Fine h s (id_turn h l done (slice_get (map (element_of h 0 s) l.batch) e) (entry_of (the_ring h.size) (used_idx (the_ring h.size) s.memory + e)) true) =
-    subst (λ (y : ℕ). Fine h s (id_turn h l done (slice_get (map (element_of h 0 s) l.batch) e) y true)) (sym (element_place h.size h.base s.past (s.heads 0) s.memory e x.holds.ringed)) one in
-    subst (λ (b : Bool). Fine h s (id_turn h l done (slice_get (map (element_of h 0 s) l.batch) e) (entry_of (the_ring h.size) (used_idx (the_ring h.size) s.memory + e)) b)) (sym (more_left (length l.batch) done (omega arith))) two
+    let one : Fine h s (publishing done l) (id_turn h l done (slice_get (map (element_of h 0 s) l.batch) e) (entry_of (the_ring h.size) (P + e)) true) =
+    subst (λ (o : Option (ℕ × ℕ)). Fine h s (publishing done l) (id_turn h l done o (entry_of (the_ring h.size) (P + e)) true)) (sym (get_map (element_of h 0 s) l.batch e inside)) whole in
+    let two : Fine h s (publishing done l) (id_turn h l done (slice_get (map (element_of h 0 s) l.batch) e) (entry_of (the_ring h.size) (used_idx (the_ring h.size) s.memory + e)) true) =
+    subst (λ (y : ℕ). Fine h s (publishing done l) (id_turn h l done (slice_get (map (element_of h 0 s) l.batch) e) y true)) (sym (element_place h.size h.base s.past (s.heads 0) s.memory e x.holds.ringed)) one in
+    subst (λ (b : Bool). Fine h s (publishing done l) (id_turn h l done (slice_get (map (element_of h 0 s) l.batch) e) (entry_of (the_ring h.size) (used_idx (the_ring h.size) s.memory + e)) b)) (sym (more_left (length l.batch) done (omega arith))) two
 
 abbrev len_turn : (h : Header1) (l : Lane) (done : ℕ) → Option (ℕ × ℕ) → ℕ → Bool → Turned
 len_turn h l done o y more = record {
@@ -97,7 +98,7 @@ len_turn h l done o y more = record {
   lane = with_phase (if more then phases.Publish (done + 1) else phases.Rest) (publishing done l);
 }
 
-pub len_fine : (h : Header1) (s : Scene) (l : Lane) (done e : ℕ) → IsUnderWay h s l done → e < length l.batch → done ≡ 2 * e + 1 → Fine h s (phase_turn h 0 s (publishing done l) (Some (steps.Len e)))
+pub len_fine : (h : Header1) (s : Scene) (l : Lane) (done e : ℕ) → IsUnderWay h s l done → e < length l.batch → done ≡ 2 * e + 1 → Fine h s (publishing done l) (phase_turn h 0 s (publishing done l) (Some (steps.Len e)))
 len_fine h s l done e x inside at =
     let k : ℕ = slice_index l.batch e in
     let held : is_among l.batch k ≡ true = among_at l.batch e inside in
@@ -107,18 +108,19 @@ len_fine h s l done e x inside at =
     let P : ℕ = h.base + length (published s.past 0) in
     let next : IsNextElement h s (publishing done l) done e = record { good = x.good; back = x.back; holds = x.holds; phase = refl; inside = inside } in
     let holds = len_holds h s (publishing done l) done e len next at is_len.0 fits in
-    let whole : Fine h s (len_turn h l done (Some (element_of h 0 s k)) (entry_of (the_ring h.size) (P + e)) true) = record {
+    let whole : Fine h s (publishing done l) (len_turn h l done (Some (element_of h 0 s k)) (entry_of (the_ring h.size) (P + e)) true) = record {
       each = (inr (holds_track h (stored_at (used_len_place (the_ring h.size) (P + e)) (little_bytes 4 len) s) (one_on done l) x.good holds), tt);
       holds = holds;
       legal = tt;
       runs = x.started;
       collects = refl;
+      falls = omega arith;
     } in
-    let one : Fine h s (len_turn h l done (slice_get (map (element_of h 0 s) l.batch) e) (entry_of (the_ring h.size) (P + e)) true) =
-    subst (λ (o : Option (ℕ × ℕ)). Fine h s (len_turn h l done o (entry_of (the_ring h.size) (P + e)) true)) (sym (get_map (element_of h 0 s) l.batch e inside)) whole in
-    let two : Fine h s (len_turn h l done (slice_get (map (element_of h 0 s) l.batch) e) (entry_of (the_ring h.size) (used_idx (the_ring h.size) s.memory + e)) true) =
-    subst (λ (y : ℕ). Fine h s (len_turn h l done (slice_get (map (element_of h 0 s) l.batch) e) y true)) (sym (element_place h.size h.base s.past (s.heads 0) s.memory e x.holds.ringed)) one in
-    subst (λ (b : Bool). Fine h s (len_turn h l done (slice_get (map (element_of h 0 s) l.batch) e) (entry_of (the_ring h.size) (used_idx (the_ring h.size) s.memory + e)) b)) (sym (more_left (length l.batch) done (omega arith))) two
+    let one : Fine h s (publishing done l) (len_turn h l done (slice_get (map (element_of h 0 s) l.batch) e) (entry_of (the_ring h.size) (P + e)) true) =
+    subst (λ (o : Option (ℕ × ℕ)). Fine h s (publishing done l) (len_turn h l done o (entry_of (the_ring h.size) (P + e)) true)) (sym (get_map (element_of h 0 s) l.batch e inside)) whole in
+    let two : Fine h s (publishing done l) (len_turn h l done (slice_get (map (element_of h 0 s) l.batch) e) (entry_of (the_ring h.size) (used_idx (the_ring h.size) s.memory + e)) true) =
+    subst (λ (y : ℕ). Fine h s (publishing done l) (len_turn h l done (slice_get (map (element_of h 0 s) l.batch) e) y true)) (sym (element_place h.size h.base s.past (s.heads 0) s.memory e x.holds.ringed)) one in
+    subst (λ (b : Bool). Fine h s (publishing done l) (len_turn h l done (slice_get (map (element_of h 0 s) l.batch) e) (entry_of (the_ring h.size) (used_idx (the_ring h.size) s.memory + e)) b)) (sym (more_left (length l.batch) done (omega arith))) two
 
 -- ---- the answers
 

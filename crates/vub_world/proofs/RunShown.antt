@@ -19,17 +19,18 @@ use Rattle.vub_device.specs.declared.entry.Answered.{Answered}
 use Rattle.vub_device.specs.declared.entry.Entry.{Entry}
 use Rattle.vub_device.specs.declared.entry.Entry.TheVariants as entries
 use Rattle.vub_device.specs.Legal.{IsAnswer, MayPublish}
-use Rattle.vub_device.specs.Past.{asked, accepted, published, collected, numbers, is_among, IsOpen}
+use Rattle.vub_device.specs.Past.{accepted, published, collected, numbers, is_among, IsOpen}
 use Rattle.vub_device.specs.Places.{are_distinct}
 use Rattle.vub_device.proofs.Distinct.{distinct_from_test}
 use Rattle.vub_device.proofs.Numbers.{is_among_append}
 use Rattle.vub_world.specs.declared.report.items.Item.TheVariants as items
 use Rattle.vub_world.specs.Memory.{Scene}
 use Rattle.vub_world.specs.Moments.{Lane}
-use Rattle.vub_world.specs.Tracking.{answers, answered_len}
+use Rattle.vub_world.specs.Tracking.{answers}
 use Rattle.vub_world.specs.Turns.{Turned, element_of, phase_turn, phase_goes_on, answer_at, with_phase}
 use Rattle.vub_world.proofs.RunNumbers.{distinct_parts, distinct_join}
 use Rattle.vub_world.proofs.RunGood.{the_ring, Known, Ringed, spot, Worked, Stored, IsBuilt, Holds}
+use Rattle.vub_world.proofs.RunEfforts.{shown_falls}
 use Rattle.vub_world.proofs.RunFrames.{keeps, entry_small, length_little, stored_elsewhere, below_buffers}
 use Rattle.vub_world.proofs.RunGuests.{stored_at, holds_track}
 use Rattle.vub_world.proofs.RunPhases.{resting}
@@ -83,6 +84,41 @@ shown_known h x s l done u =
       values = known.values;
     }
 
+-- the store of used.idx leaves the elements
+element_stays : (h : Header1) (x : ℕ) (s : Scene) (i : ℕ) → element_at (the_ring h.size) (shown_scene h x s).memory (h.base + i) ≡ element_at (the_ring h.size) s.memory (h.base + i)
+element_stays h x s i =
+    let bs : List ℕ = little_bytes 2 x in
+    let two : length bs ≡ 2 = length_little 2 x in
+    let p : ℕ = used_idx_place (the_ring h.size) in
+    let id : word 4 (put s.memory 0 p bs) 0 (used_id_place (the_ring h.size) (h.base + i)) ≡ word 4 s.memory 0 (used_id_place (the_ring h.size) (h.base + i)) = keeps 4 s.memory p bs (used_id_place (the_ring h.size) (h.base + i)) (inr (omega arith)) in
+    let len : word 4 (put s.memory 0 p bs) 0 (used_len_place (the_ring h.size) (h.base + i)) ≡ word 4 s.memory 0 (used_len_place (the_ring h.size) (h.base + i)) = keeps 4 s.memory p bs (used_len_place (the_ring h.size) (h.base + i)) (inr (omega arith)) in
+    ap (λ (y : ℕ). (y, word 4 (put s.memory 0 p bs) 0 (used_len_place (the_ring h.size) (h.base + i)))) id ∙ ap (λ (y : ℕ). (word 4 s.memory 0 (used_id_place (the_ring h.size) (h.base + i)), y)) len
+
+-- the elements of the batch stand
+new_element : (h : Header1) (s : Scene) (l : Lane) (done e : ℕ) → IsUnderWay h s l done → done ≡ 2 * length l.batch → e < length l.batch
+    → element_at (the_ring h.size) s.memory (h.base + length (published s.past 0) + e) ≡ spot (s.heads 0) s.past (slice_index l.batch e)
+new_element h s l done e u whole inside =
+    let b : IsBuilt h.size h.base s.past (s.heads 0) s.memory l.batch done = u.holds.built in
+    pairs (b.ids e inside (omega arith)) (b.lens e inside (omega arith))
+  where
+    pairs : {a b c d : ℕ} → a ≡ b → c ≡ d → ◌≡◌ {A = ℕ × ℕ} (a, c) (b, d)
+    pairs p q = cc
+
+-- so each element stands that will be seen: an old one, or one of the batch
+shown_element : (h : Header1) (s : Scene) (l : Lane) (done i : ℕ) → IsUnderWay h s l done → done ≡ 2 * length l.batch → collected s.past 0 ≤ i → i < length (published s.past 0) + length l.batch
+    → element_at (the_ring h.size) s.memory (h.base + i) ≡ spot (s.heads 0) s.past (slice_index (published s.past 0 ++ l.batch) i)
+shown_element h s l done i u whole from upto =
+    let r : Ringed h.size h.base s.past (s.heads 0) s.memory = u.holds.ringed in
+    elim (cases_lt i (length (published s.past 0))) [
+      | inl low ↦ r.used_at i from low ∙ sym (ap (spot (s.heads 0) s.past) (get_or_append_left (published s.past 0) l.batch 0 i low))
+      | inr high ↦
+          let e : ℕ = i - length (published s.past 0) in
+          let at : i ≡ length (published s.past 0) + e = omega arith in
+          let place : h.base + i ≡ h.base + length (published s.past 0) + e = omega arith in
+          let k : slice_index (published s.past 0 ++ l.batch) i ≡ slice_index l.batch e = ap (slice_index (published s.past 0 ++ l.batch)) at ∙ get_or-append-add (published s.past 0) l.batch e 0 in
+          ap (element_at (the_ring h.size) s.memory) place ∙ new_element h s l done e u whole (omega arith) ∙ sym (ap (spot (s.heads 0) s.past) k)
+    ]
+
 shown_ringed : (h : Header1) (x : ℕ) (s : Scene) (l : Lane) (done : ℕ) → IsUnderWay h s l done → done ≡ 2 * length l.batch → x ≡ (h.base + length (published s.past 0) + length l.batch) % 65536
     → Ringed h.size h.base (shown_past h x s l) (s.heads 0) (shown_scene h x s).memory
 shown_ringed h x s l done u whole is =
@@ -97,23 +133,8 @@ shown_ringed h x s l done u whole is =
       used_idx_is = word-put_same 2 s.memory 0 p x (omega arith) ∙ is ∙ omega (arith, many);
       avail_at = λ i from upto. let small = entry_small h.size (h.base + i) u.good.size in keeps 2 s.memory p bs (avail_entry_place (the_ring h.size) (h.base + i)) (inl (omega arith)) ∙ r.avail_at i from upto;
       used_at = λ i from upto.
-      let id : word 4 (put s.memory 0 p bs) 0 (used_id_place (the_ring h.size) (h.base + i)) ≡ word 4 s.memory 0 (used_id_place (the_ring h.size) (h.base + i)) = keeps 4 s.memory p bs (used_id_place (the_ring h.size) (h.base + i)) (inr (omega arith)) in
-      let len : word 4 (put s.memory 0 p bs) 0 (used_len_place (the_ring h.size) (h.base + i)) ≡ word 4 s.memory 0 (used_len_place (the_ring h.size) (h.base + i)) = keeps 4 s.memory p bs (used_len_place (the_ring h.size) (h.base + i)) (inr (omega arith)) in
-      let stays : element_at (the_ring h.size) (put s.memory 0 p bs) (h.base + i) ≡ element_at (the_ring h.size) s.memory (h.base + i) =
-      ap (λ (y : ℕ). (y, word 4 (put s.memory 0 p bs) 0 (used_len_place (the_ring h.size) (h.base + i)))) id ∙ ap (λ (y : ℕ). (word 4 s.memory 0 (used_id_place (the_ring h.size) (h.base + i)), y)) len in
       let named : slice_index (published (shown_past h x s l) 0) i ≡ slice_index (published s.past 0 ++ l.batch) i = ap (λ (ks : List ℕ). slice_index ks i) ps in
-      stays ∙ elim (cases_lt i (length (published s.past 0))) [
-        | inl low ↦ r.used_at i from low ∙ sym (ap (spot (s.heads 0) s.past) (named ∙ get_or_append_left (published s.past 0) l.batch 0 i low))
-        | inr high ↦
-            let e : ℕ = i - length (published s.past 0) in
-            let at : length (published s.past 0) + e ≡ i = omega arith in
-            let place : h.base + length (published s.past 0) + e ≡ h.base + i = omega arith in
-            let inside : e < length l.batch = omega (arith, many) in
-            let k : slice_index (published s.past 0 ++ l.batch) i ≡ slice_index l.batch e = ap (slice_index (published s.past 0 ++ l.batch)) (sym at) ∙ get_or-append-add (published s.past 0) l.batch e 0 in
-            let id_is : word 4 s.memory 0 (used_id_place (the_ring h.size) (h.base + i)) ≡ slice_index (s.heads 0) (slice_index l.batch e) = ap (λ (q : ℕ). word 4 s.memory 0 (used_id_place (the_ring h.size) q)) (sym place) ∙ b.ids e inside (omega arith) in
-            let len_is : word 4 s.memory 0 (used_len_place (the_ring h.size) (h.base + i)) ≡ answered_len 0 (asked s.past 0 (slice_index l.batch e)) = ap (λ (q : ℕ). word 4 s.memory 0 (used_len_place (the_ring h.size) q)) (sym place) ∙ b.lens e inside (omega arith) in
-            ap (λ (y : ℕ). (y, word 4 s.memory 0 (used_len_place (the_ring h.size) (h.base + i)))) id_is ∙ ap (λ (y : ℕ). (slice_index (s.heads 0) (slice_index l.batch e), y)) len_is ∙ sym (ap (spot (s.heads 0) s.past) (named ∙ k))
-      ];
+      element_stays h x s i ∙ shown_element h s l done i u whole from (omega (arith, many)) ∙ sym (ap (spot (s.heads 0) s.past) named);
     }
 
 shown_worked : (h : Header1) (x : ℕ) (s : Scene) (l : Lane) (done : ℕ) → IsUnderWay h s l done → Worked (shown_past h x s l) phases.Rest [] l.completed l.made
@@ -138,6 +159,11 @@ shown_worked h x s l done u =
       untouched = w.untouched;
       progress = w.progress;
       full = λ k held. w.full k (same k held);
+      pending = λ k is_open out.
+      let whole : is_among (published s.past 0 ++ l.batch) k ≡ false = ap (λ (ks : List ℕ). is_among ks k) (sym ps) ∙ is_open.unpublished in
+      let joined : is_among (published s.past 0 ++ l.batch) k ≡ (is_among (published s.past 0) k || is_among l.batch k) = is_among_append (published s.past 0) l.batch k in
+      let left : is_among l.completed k ≡ false = ap (λ (ks : List ℕ). is_among ks k) (sym (append-nil l.completed)) ∙ out in
+      w.pending k (record { taken = is_open.taken; unpublished = grind (arith, nat_tests) }) (is_among_append l.completed l.batch k ∙ grind (arith, nat_tests));
       quiet = λ stopped. absurd (let fails : true ≡ false = sym u.started ∙ stopped in cc);
       phase_is = refl;
     }
@@ -191,29 +217,30 @@ index_turn h s l done x more = record {
   lane = with_phase (if more then phases.Publish (done + 1) else phases.Rest) (publishing done l);
 }
 
-index_fine : (h : Header1) (s : Scene) (l : Lane) (done : ℕ) → IsUnderWay h s l done → done ≡ 2 * length l.batch → Fine h s (phase_turn h 0 s (publishing done l) (Some steps.Index))
+index_fine : (h : Header1) (s : Scene) (l : Lane) (done : ℕ) → IsUnderWay h s l done → done ≡ 2 * length l.batch → Fine h s (publishing done l) (phase_turn h 0 s (publishing done l) (Some steps.Index))
 index_fine h s l done u whole =
     let x : ℕ = (used_idx (the_ring h.size) s.memory + length (map (element_of h 0 s) l.batch)) % 65536 in
     let many : length (map (element_of h 0 s) l.batch) ≡ length l.batch = length_map (element_of h 0 s) l.batch in
     let is : x ≡ (h.base + length (published s.past 0) + length l.batch) % 65536 = omega (arith, u.holds.ringed.used_idx_is, many) in
     let holds = shown_holds h x s l done u whole is in
-    let fine : Fine h s (index_turn h s l done x false) = record {
+    let fine : Fine h s (publishing done l) (index_turn h s l done x false) = record {
       each = (inl tt, (inr (holds_track h (record (shown_scene h x s) { past = shown_past h x s l }) (resting l) u.good holds), tt));
       holds = holds;
       legal = (shown_legal h x s l done u, tt);
       runs = u.started;
       collects = refl;
+      falls = omega (arith, shown_falls (published s.past 0) (published (shown_past h x s l) 0) l.completed l.batch l.made (accepted s.past 0) (shown_published h x s l));
     } in
-    subst (λ (b : Bool). Fine h s (index_turn h s l done x b)) (sym (none_left (length l.batch) done whole)) fine
+    subst (λ (b : Bool). Fine h s (publishing done l) (index_turn h s l done x b)) (sym (none_left (length l.batch) done whole)) fine
 
 -- the next store of a publication, and at its end the publication
-pub publication_fine : (h : Header1) (s : Scene) (l : Lane) (done : ℕ) → IsUnderWay h s l done → Fine h s (phase_goes_on h 0 s (publishing done l))
+pub publication_fine : (h : Header1) (s : Scene) (l : Lane) (done : ℕ) → IsUnderWay h s l done → Fine h s (publishing done l) (phase_goes_on h 0 s (publishing done l))
 publication_fine h s l done u =
     let w : Worked s.past (phases.Publish done) l.batch l.completed l.made = u.holds.worked in
     let some : (0 < length l.batch) × (done < 2 * length l.batch + 1) = w.phase_is in
     go (slice_get (publish_steps (length l.batch)) done) (step_at 0 (length l.batch) done some.1)
   where
-    go : (o : Option Step) → StepAt 0 (length l.batch) done o → Fine h s (phase_turn h 0 s (publishing done l) o)
-    go o (AtId e inside at is) = subst (λ (x : Option Step). Fine h s (phase_turn h 0 s (publishing done l) x)) (sym (is ∙ ap (λ (k : ℕ). Some (steps.Id k)) (let same : 0 + e ≡ e = omega arith in same))) (id_fine h s l done e u inside at)
-    go o (AtLen e inside at is) = subst (λ (x : Option Step). Fine h s (phase_turn h 0 s (publishing done l) x)) (sym (is ∙ ap (λ (k : ℕ). Some (steps.Len k)) (let same : 0 + e ≡ e = omega arith in same))) (len_fine h s l done e u inside at)
-    go o (AtIndex at is) = subst (λ (x : Option Step). Fine h s (phase_turn h 0 s (publishing done l) x)) (sym is) (index_fine h s l done u at)
+    go : (o : Option Step) → StepAt 0 (length l.batch) done o → Fine h s (publishing done l) (phase_turn h 0 s (publishing done l) o)
+    go o (AtId e inside at is) = subst (λ (x : Option Step). Fine h s (publishing done l) (phase_turn h 0 s (publishing done l) x)) (sym (is ∙ ap (λ (k : ℕ). Some (steps.Id k)) (let same : 0 + e ≡ e = omega arith in same))) (id_fine h s l done e u inside at)
+    go o (AtLen e inside at is) = subst (λ (x : Option Step). Fine h s (publishing done l) (phase_turn h 0 s (publishing done l) x)) (sym (is ∙ ap (λ (k : ℕ). Some (steps.Len k)) (let same : 0 + e ≡ e = omega arith in same))) (len_fine h s l done e u inside at)
+    go o (AtIndex at is) = subst (λ (x : Option Step). Fine h s (publishing done l) (phase_turn h 0 s (publishing done l) x)) (sym is) (index_fine h s l done u at)

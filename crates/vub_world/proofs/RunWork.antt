@@ -1,5 +1,5 @@
 -- A step of work keeps what holds.
-use Rattle.std.proofs.Common.{◌≡◌, ◌≢◌, ◌≤◌, ◌<◌, ◌⊎◌, ℕ, zero, suc, ◌+◌, ◌*◌, ◌/◌, true, false, List, [], ◌∷◌, ◌++◌, length, refl, ap, sym, ◌∙◌, subst, inl, inr, arith}
+use Rattle.std.proofs.Common.{◌≡◌, ◌≢◌, ◌≤◌, ◌<◌, ◌⊎◌, ℕ, zero, suc, ◌+◌, ◌*◌, ◌/◌, true, false, List, [], ◌∷◌, ◌++◌, length, refl, ap, sym, ◌∙◌, subst, inl, inr, arith, length-append}
 use Rattle.std.specs.Prelude.{Option, Some, None, slice_index, slice_get, slice_range, ◌||◌, if◌then◌else◌, nat_lt, unwrap_or}
 use Rattle.std.proofs.lemmas.Bool.Decides.{nat_tests}
 use Rattle.std.proofs.lemmas.Bool.{cases_eq}
@@ -22,7 +22,7 @@ use Rattle.vub_device.specs.declared.entry.SectorValue.{SectorValue}
 use Rattle.vub_device.specs.Crash.{value}
 use Rattle.vub_device.specs.Legal.{LegalFrom, IsAtWork, MayLook, MayAct}
 use Rattle.vub_device.specs.Requests.{look_at, effect_at, refusal}
-use Rattle.vub_device.specs.Past.{asked, published, collected, is_among, IsOpen, started, looks, seen, acts}
+use Rattle.vub_device.specs.Past.{accepted, asked, published, collected, is_among, IsOpen, started, looks, seen, acts}
 use Rattle.vub_device.specs.Places.{are_distinct}
 use Rattle.vub_device.proofs.Numbers.{is_among_append}
 use Rattle.vub_base.specs.declared.store.Tag.TheVariants.{T5}
@@ -32,9 +32,10 @@ use Rattle.vub_world.specs.Memory.{Scene, with_at, after_items}
 use Rattle.vub_world.specs.Moments.{Lane}
 use Rattle.vub_world.specs.Tasks.{TaskStep, Look, Put, Act, Status, task_steps, act_items, status_of, unless_refused, disk_steps, act_steps}
 use Rattle.vub_world.specs.Tracking.{EveryTracks, AfterEach, entries_of, answered_len}
-use Rattle.vub_world.specs.Turns.{Turned, nothing, request_turn, task_turn}
+use Rattle.vub_world.specs.Turns.{Turned, request_turn, task_turn}
 use Rattle.vub_world.proofs.RunNumbers.{distinct_parts, distinct_join, distinct_push}
-use Rattle.vub_world.proofs.RunGood.{the_ring, IsSimple, Known, IsOut, WaitsWell, Driven, Progress, IsBegun, IsFull, Worked, Stored, IsRead, Built, buffer, Holds}
+use Rattle.vub_world.proofs.RunGood.{the_ring, IsSimple, Known, IsOut, WaitsWell, Driven, Progress, IsBegun, IsFull, IsPending, Worked, Stored, IsRead, Built, buffer, Holds}
+use Rattle.vub_world.proofs.RunEfforts.{effort, step_falls, status_falls}
 use Rattle.vub_world.proofs.RunFrames.{open_out, OffBuffer, ringed_elsewhere, built_elsewhere, sectors_elsewhere, status_elsewhere, other_buffer}
 use Rattle.vub_world.proofs.RunGuests.{IsGood, stored_at, holds_track}
 
@@ -109,16 +110,14 @@ among_apart xs j k held out same = let both : is_among xs j ≡ is_among xs k = 
 
 -- ---- turns
 
--- these items and that lane are right
-pub record Fine (h : Header1) (s : Scene) (t : Turned) : Type 0 where
+-- from that lane on these items and their lane are right, and less is left to do
+pub record Fine (h : Header1) (s : Scene) (l : Lane) (t : Turned) : Type 0 where
   pub each : AfterEach h.size (EveryTracks h) s t.items
   pub holds : Holds h (after_items h.size t.items s) t.lane
   pub legal : LegalFrom h.capacity h.mode s.past (entries_of t.items)
   pub runs : started (after_items h.size t.items s).past 0 ≡ true
   pub collects : collected (after_items h.size t.items s).past 0 ≡ collected s.past 0
-
-pub nothing_fine : (h : Header1) (s : Scene) (l : Lane) → started s.past 0 ≡ true → Holds h s l → Fine h s (nothing l)
-nothing_fine h s l run holds = record { each = tt; holds = holds; legal = tt; runs = run; collects = refl }
+  pub falls : effort (after_items h.size t.items s).past (length ((after_items h.size t.items s).heads 0)) t.lane + 1 ≤ effort s.past (length (s.heads 0)) l
 
 -- a request that is worked on
 pub record IsLeft (h : Header1) (s : Scene) (l : Lane) (k : ℕ) : Type 0 where
@@ -135,6 +134,9 @@ at_work h s l k r x is served = record { started = x.started; is_open = x.is_ope
 -- the lane after a step that isn't the last
 abbrev one_more : ℕ → Lane → Lane
 one_more k l = record l { made = with_at l.made k (l.made k + 1) }
+
+one_more_falls : (h : Header1) (s : Scene) (l : Lane) (k : ℕ) → IsLeft h s l k → l.made k ≤ 2 → effort s.past (length (s.heads 0)) (one_more k l) + 1 ≤ effort s.past (length (s.heads 0)) l
+one_more_falls h s l k x small = omega (arith, step_falls (published s.past 0) (l.completed ++ l.batch) l.made (accepted s.past 0) k x.is_open.taken x.is_open.unpublished x.left small)
 
 look_known : (n cap : ℕ) (past : List Entry) (heads : List ℕ) (k s : ℕ) (v : List ℕ) → Known n cap past heads → Known n cap (entries.Look 0 k s v ∷ past) heads
 look_known n cap past heads k s v a = record {
@@ -170,6 +172,10 @@ look_worked past phase batch completed made k s sector v run is_open left none i
         subst (λ (c : ℕ). Progress c (looks (entries.Look 0 k s v ∷ past) 0 j) (acts past 0 j) (seen (entries.Look 0 k s v ∷ past) 0 j) (asked past 0 j)) (sym now) both
   ];
   full = λ j held. subst (λ (c : ℕ). IsFull c (asked past 0 j)) (sym (at_other made k (made k + 1) j (among_apart (completed ++ batch) j k held left))) (w.full j held);
+  pending = λ j is_open_j out. elim (cases_eq j k) [
+    | inl same ↦ subst (λ (o : Option Asked). IsPending (with_at made k (made k + 1) j) o) (sym (ap (asked past 0) same ∙ is)) (let now : with_at made k (made k + 1) j ≡ made k + 1 = at_same made k (made k + 1) j same in omega arith)
+    | inr apart ↦ subst (λ (c : ℕ). IsPending c (asked past 0 j)) (sym (at_other made k (made k + 1) j apart)) (w.pending j (record { taken = is_open_j.taken; unpublished = is_open_j.unpublished }) out)
+  ];
   quiet = λ stopped. absurd (let fails : true ≡ false = sym run ∙ stopped in cc);
   phase_is = w.phase_is;
 }
@@ -197,7 +203,7 @@ look_holds h s l k sector place v x none is long = record {
 }
 
 look_fine : (h : Header1) (s : Scene) (l : Lane) (k sector : ℕ) → IsLeft h s l k → l.made k ≡ 0 → sector < h.capacity → asked s.past 0 k ≡ Some (asks.Read sector 1)
-    → Fine h s (task_turn h 0 s l k (asks.Read sector 1) (Some (Look 0)))
+    → Fine h s l (task_turn h 0 s l k (asks.Read sector 1) (Some (Look 0)))
 look_fine h s l k sector x none low is =
     let v : List ℕ = value s.past (sector + 0) in
     let holds = look_holds h s l k sector (sector + 0) v x none is (x.holds.known.values (sector + 0)) in
@@ -214,6 +220,7 @@ look_fine h s l k sector x none low is =
       legal = (may, tt);
       runs = x.started;
       collects = refl;
+      falls = one_more_falls h s l k x (omega arith);
     }
 
 -- ---- writing a sector
@@ -252,6 +259,10 @@ act_worked past phase batch completed made k s sector v bytes run is_open left n
         subst (λ (c : ℕ). Progress c (looks past 0 j) (acts (entries.Act 0 k s v ∷ past) 0 j) (seen past 0 j) (asked past 0 j)) (sym now) both
   ];
   full = λ j held. subst (λ (c : ℕ). IsFull c (asked past 0 j)) (sym (at_other made k (made k + 1) j (among_apart (completed ++ batch) j k held left))) (w.full j held);
+  pending = λ j is_open_j out. elim (cases_eq j k) [
+    | inl same ↦ subst (λ (o : Option Asked). IsPending (with_at made k (made k + 1) j) o) (sym (ap (asked past 0) same ∙ is)) (let now : with_at made k (made k + 1) j ≡ made k + 1 = at_same made k (made k + 1) j same in omega arith)
+    | inr apart ↦ subst (λ (c : ℕ). IsPending c (asked past 0 j)) (sym (at_other made k (made k + 1) j apart)) (w.pending j (record { taken = is_open_j.taken; unpublished = is_open_j.unpublished }) out)
+  ];
   quiet = λ stopped. absurd (let fails : true ≡ false = sym run ∙ stopped in cc);
   phase_is = w.phase_is;
 }
@@ -283,7 +294,7 @@ effect_is sector bytes long =
     ap (λ (k : ℕ). if nat_lt 0 k then Some (record { sector = sector + 0; value = slice_range bytes (512 * 0) (512 * 0 + 512) }) else None) one
 
 act_fine : (h : Header1) (s : Scene) (l : Lane) (k sector : ℕ) (bytes : List ℕ) → IsLeft h s l k → l.made k ≡ 0 → sector < h.capacity → length bytes ≡ 512 → asked s.past 0 k ≡ Some (asks.Write sector bytes)
-    → Fine h s (task_turn h 0 s l k (asks.Write sector bytes) (Some (Act 0)))
+    → Fine h s l (task_turn h 0 s l k (asks.Write sector bytes) (Some (Act 0)))
 act_fine h s l k sector bytes x none low long is =
     let v : List ℕ = slice_range bytes (512 * 0) (512 * 0 + 512) in
     let v_long : length v ≡ 512 = length-take-le 512 bytes (omega arith) in
@@ -296,14 +307,15 @@ act_fine h s l k sector bytes x none low long is =
       works = at_work h s l k (asks.Write sector bytes) x is (write_served h sector bytes x.back low long);
       next = ap (effect_at (asks.Write sector bytes)) zero_acts ∙ effect;
     } in
-    let whole : Fine h s (record { items = act_items 0 k (Some e); lane = one_more k l }) = record {
+    let whole : Fine h s l (record { items = act_items 0 k (Some e); lane = one_more k l }) = record {
       each = (inr (holds_track h (record s { past = entries.Act 0 k (sector + 0) v ∷ s.past }) (one_more k l) x.good holds), tt);
       holds = holds;
       legal = (may, tt);
       runs = x.started;
       collects = refl;
+      falls = one_more_falls h s l k x (omega arith);
     } in
-    subst (λ (o : Option SectorValue). Fine h s (record { items = act_items 0 k o; lane = one_more k l })) (sym effect) whole
+    subst (λ (o : Option SectorValue). Fine h s l (record { items = act_items 0 k o; lane = one_more k l })) (sym effect) whole
 
 -- ---- storing what was read
 
@@ -315,23 +327,31 @@ other_open h s l k j x is_open apart same =
 off_other : (h : Header1) (s : Scene) (l : Lane) (k j p : ℕ) (bs : List ℕ) → IsLeft h s l k → IsOpen s.past 0 j → j ≢ k → buffer (s.heads 0) k ≤ p → p + length bs ≤ buffer (s.heads 0) k + 8192 → OffBuffer (s.heads 0) j p bs
 off_other h s l k j p bs x is_open apart from upto = other_buffer (s.heads 0) j (slice_index (s.heads 0) k) p bs (other_open h s l k j x is_open apart) (omega arith) (omega arith)
 
-made_worked : (past : List Entry) (phase : Phase) (batch completed : List ℕ) (made : ℕ → ℕ) (k : ℕ) → started past 0 ≡ true → IsOpen past 0 k → is_among (completed ++ batch) k ≡ false → 0 < made k
+made_progress : (past : List Entry) (made : ℕ → ℕ) (k j : ℕ) → 0 < made k → Progress (made j) (looks past 0 j) (acts past 0 j) (seen past 0 j) (asked past 0 j)
+    → Progress (with_at made k (made k + 1) j) (looks past 0 j) (acts past 0 j) (seen past 0 j) (asked past 0 j)
+made_progress past made k j some p = elim (cases_eq j k) [
+  | inl same ↦
+      let now : with_at made k (made k + 1) j ≡ made k + 1 = at_same made k (made k + 1) j same in
+      let at_j : made j ≡ made k = ap made same in
+      record {
+        fresh = λ e. absurd (omega arith);
+        begun = λ more. p.begun (omega arith);
+      }
+  | inr apart ↦ subst (λ (c : ℕ). Progress c (looks past 0 j) (acts past 0 j) (seen past 0 j) (asked past 0 j)) (sym (at_other made k (made k + 1) j apart)) p
+]
+
+made_worked : (past : List Entry) (phase : Phase) (batch completed : List ℕ) (made : ℕ → ℕ) (k : ℕ) → started past 0 ≡ true → IsOpen past 0 k → is_among (completed ++ batch) k ≡ false → 0 < made k → IsPending (made k + 1) (asked past 0 k)
     → Worked past phase batch completed made → Worked past phase batch completed (with_at made k (made k + 1))
-made_worked past phase batch completed made k run is_open left some w = record {
+made_worked past phase batch completed made k run is_open left some next w = record {
   distinct = w.distinct;
   opens = w.opens;
   untouched = λ j high. at_other made k (made k + 1) j (λ same. omega (arith, is_open.taken)) ∙ w.untouched j high;
-  progress = λ j. elim (cases_eq j k) [
-    | inl same ↦
-        let now : with_at made k (made k + 1) j ≡ made k + 1 = at_same made k (made k + 1) j same in
-        let at_j : made j ≡ made k = ap made same in
-        record {
-          fresh = λ e. absurd (omega arith);
-          begun = λ more. (w.progress j).begun (omega arith);
-        }
-    | inr apart ↦ subst (λ (c : ℕ). Progress c (looks past 0 j) (acts past 0 j) (seen past 0 j) (asked past 0 j)) (sym (at_other made k (made k + 1) j apart)) (w.progress j)
-  ];
+  progress = λ j. made_progress past made k j some (w.progress j);
   full = λ j held. subst (λ (c : ℕ). IsFull c (asked past 0 j)) (sym (at_other made k (made k + 1) j (among_apart (completed ++ batch) j k held left))) (w.full j held);
+  pending = λ j is_open_j out. elim (cases_eq j k) [
+    | inl same ↦ subst (λ (c : ℕ). IsPending c (asked past 0 j)) (sym (at_same made k (made k + 1) j same)) (subst (λ (i : ℕ). IsPending (made k + 1) (asked past 0 i)) (sym same) next)
+    | inr apart ↦ subst (λ (c : ℕ). IsPending c (asked past 0 j)) (sym (at_other made k (made k + 1) j apart)) (w.pending j is_open_j out)
+  ];
   quiet = λ stopped. absurd (let fails : true ≡ false = sym run ∙ stopped in cc);
   phase_is = w.phase_is;
 }
@@ -342,7 +362,7 @@ put_holds h s l k sector p bs x one is at what long = record {
   known = x.holds.known;
   ringed = ringed_elsewhere h.size h.base s.past (s.heads 0) s.memory p bs x.good.size (inr (omega arith)) x.holds.ringed;
   driven = x.holds.driven;
-  worked = made_worked s.past l.phase l.batch l.completed l.made k x.started x.is_open x.left (omega arith) x.holds.worked;
+  worked = made_worked s.past l.phase l.batch l.completed l.made k x.started x.is_open x.left (omega arith) (subst (λ (o : Option Asked). IsPending (l.made k + 1) o) (sym is) (omega arith)) x.holds.worked;
   stored = record {
     sectors = λ j is_open far read. elim (cases_eq j k) [
       | inl same ↦
@@ -360,7 +380,7 @@ put_holds h s l k sector p bs x one is at what long = record {
 }
 
 put_fine : (h : Header1) (s : Scene) (l : Lane) (k sector : ℕ) → IsLeft h s l k → l.made k ≡ 1 → asked s.past 0 k ≡ Some (asks.Read sector 1)
-    → Fine h s (task_turn h 0 s l k (asks.Read sector 1) (Some (Put 0)))
+    → Fine h s l (task_turn h 0 s l k (asks.Read sector 1) (Some (Put 0)))
 put_fine h s l k sector x one is =
     let begun : IsBegun (looks s.past 0 k) (acts s.past 0 k) (seen s.past 0 k) (asked s.past 0 k) = (x.holds.worked.progress k).begun (omega arith) in
     let read : (looks s.past 0 k ≡ 1) × (length (seen s.past 0 k) ≡ 512) = subst (λ (o : Option Asked). IsBegun (looks s.past 0 k) (acts s.past 0 k) (seen s.past 0 k) o) is begun in
@@ -374,6 +394,7 @@ put_fine h s l k sector x one is =
       legal = tt;
       runs = x.started;
       collects = refl;
+      falls = one_more_falls h s l k x (omega arith);
     }
 
 -- ---- the status
@@ -392,6 +413,13 @@ among_more xs ys k j held =
       | inr apart ↦ inr (let out : k ≢ j = λ e. apart (sym e) in grind (arith, nat_tests))
     ]
 
+not_more : (xs ys : List ℕ) (k j : ℕ) → is_among ((xs ++ k ∷ []) ++ ys) j ≡ false → (j ≢ k) × (is_among (xs ++ ys) j ≡ false)
+not_more xs ys k j out =
+    let left : is_among ((xs ++ k ∷ []) ++ ys) j ≡ (is_among (xs ++ k ∷ []) j || is_among ys j) = is_among_append (xs ++ k ∷ []) ys j in
+    let inner : is_among (xs ++ k ∷ []) j ≡ (is_among xs j || is_among (k ∷ []) j) = is_among_append xs (k ∷ []) j in
+    let right : is_among (xs ++ ys) j ≡ (is_among xs j || is_among ys j) = is_among_append xs ys j in
+    (λ same. let turned : k ≡ j = sym same in grind (arith, nat_tests), grind (arith, nat_tests))
+
 distinct_more : (xs ys : List ℕ) (k : ℕ) → are_distinct (xs ++ ys) ≡ true → is_among (xs ++ ys) k ≡ false → are_distinct ((xs ++ k ∷ []) ++ ys) ≡ true
 distinct_more xs ys k d out =
     let parts = distinct_parts xs ys d in
@@ -407,23 +435,25 @@ distinct_more xs ys k d out =
 
 status_worked : (past : List Entry) (phase : Phase) (batch completed : List ℕ) (made : ℕ → ℕ) (k : ℕ) → started past 0 ≡ true → IsOpen past 0 k → is_among (completed ++ batch) k ≡ false → 0 < made k → IsFull (made k) (asked past 0 k)
     → Worked past phase batch completed made → Worked past phase batch (completed ++ k ∷ []) (with_at made k (made k + 1))
-status_worked past phase batch completed made k run is_open left some whole w =
-    let more : Worked past phase batch completed (with_at made k (made k + 1)) = made_worked past phase batch completed made k run is_open left some w in record {
-      distinct = distinct_more completed batch k w.distinct left;
-      opens = λ j held. elim (among_more completed batch k j held) [
-        | inl same ↦ subst (λ (i : ℕ). IsOpen past 0 i) (sym same) is_open
-        | inr old ↦ w.opens j old
-      ];
-      untouched = more.untouched;
-      progress = more.progress;
-      full = λ j held. elim (among_more completed batch k j held) [
-        | inl same ↦ subst (λ (i : ℕ). IsFull (with_at made k (made k + 1) i) (asked past 0 i)) (sym same)
-            (subst (λ (c : ℕ). IsFull c (asked past 0 k)) (sym (at_same made k (made k + 1) k refl)) (full_more (made k) (asked past 0 k) whole))
-        | inr old ↦ more.full j old
-      ];
-      quiet = λ stopped. absurd (let fails : true ≡ false = sym run ∙ stopped in cc);
-      phase_is = w.phase_is;
-    }
+status_worked past phase batch completed made k run is_open left some whole w = record {
+  distinct = distinct_more completed batch k w.distinct left;
+  opens = λ j held. elim (among_more completed batch k j held) [
+    | inl same ↦ subst (λ (i : ℕ). IsOpen past 0 i) (sym same) is_open
+    | inr old ↦ w.opens j old
+  ];
+  untouched = λ j high. at_other made k (made k + 1) j (λ same. omega (arith, is_open.taken)) ∙ w.untouched j high;
+  progress = λ j. made_progress past made k j some (w.progress j);
+  full = λ j held. elim (among_more completed batch k j held) [
+    | inl same ↦ subst (λ (i : ℕ). IsFull (with_at made k (made k + 1) i) (asked past 0 i)) (sym same)
+        (subst (λ (c : ℕ). IsFull c (asked past 0 k)) (sym (at_same made k (made k + 1) k refl)) (full_more (made k) (asked past 0 k) whole))
+    | inr old ↦ subst (λ (c : ℕ). IsFull c (asked past 0 j)) (sym (at_other made k (made k + 1) j (among_apart (completed ++ batch) j k old left))) (w.full j old)
+  ];
+  pending = λ j is_open_j out.
+  let parts = not_more completed batch k j out in
+  subst (λ (c : ℕ). IsPending c (asked past 0 j)) (sym (at_other made k (made k + 1) j parts.0)) (w.pending j is_open_j parts.1);
+  quiet = λ stopped. absurd (let fails : true ≡ false = sym run ∙ stopped in cc);
+  phase_is = w.phase_is;
+}
   where
     full_more : (c : ℕ) (o : Option Asked) → IsFull c o → IsFull (c + 1) o
     full_more c (Some (asks.Read s n)) f = omega arith
@@ -464,20 +494,21 @@ status_holds h s l k p x some whole enough at = record {
   built = built_elsewhere h.size h.base s.past (s.heads 0) s.memory p (0 ∷ []) l.batch l.phase x.good.size (inr (omega arith)) x.holds.built;
 }
 
-status_fine : (h : Header1) (s : Scene) (l : Lane) (k : ℕ) (r : Asked) → IsLeft h s l k → 0 < l.made k → refusal h.capacity h.mode r ≡ None → IsFull (l.made k) (asked s.past 0 k) → (IsRead (asked s.past 0 k) → 2 ≤ l.made k)
-    → Fine h s (task_turn h 0 s l k r (Some Status))
-status_fine h s l k r x some served whole enough =
+status_fine : (h : Header1) (s : Scene) (l : Lane) (k : ℕ) (r : Asked) → IsLeft h s l k → 0 < l.made k → refusal h.capacity h.mode r ≡ None → IsFull (l.made k) (asked s.past 0 k) → (IsRead (asked s.past 0 k) → 2 ≤ l.made k) → l.made k ≤ 2
+    → Fine h s l (task_turn h 0 s l k r (Some Status))
+status_fine h s l k r x some served whole enough small =
     let p : ℕ = status_place (buffer (s.heads 0) k) in
     let holds = status_holds h s l k p x some whole enough refl in
     let zero_status : status_of h r ≡ 0 = ap (λ (o : Option ℕ). unwrap_or o 0) served in
-    let fine : Fine h s (record { items = items.Store T5 M p (0 ∷ []) ∷ []; lane = finished k l }) = record {
+    let fine : Fine h s l (record { items = items.Store T5 M p (0 ∷ []) ∷ []; lane = finished k l }) = record {
       each = (inr (holds_track h (stored_at p (0 ∷ []) s) (finished k l) x.good holds), tt);
       holds = holds;
       legal = tt;
       runs = x.started;
       collects = refl;
+      falls = omega (arith, length-append l.completed (k ∷ []), status_falls (published s.past 0) l.completed l.batch l.made (accepted s.past 0) k x.is_open.taken x.is_open.unpublished x.left small);
     } in
-    subst (λ (st : ℕ). Fine h s (record { items = items.Store T5 M p (st ∷ []) ∷ []; lane = finished k l })) (sym zero_status) fine
+    subst (λ (st : ℕ). Fine h s l (record { items = items.Store T5 M p (st ∷ []) ∷ []; lane = finished k l })) (sym zero_status) fine
 
 -- ---- any step of a request
 
@@ -491,26 +522,26 @@ never_read : (s made : ℕ) (bytes : List ℕ) (o : Option Asked) → o ≡ Some
 never_read s made bytes o is read = absurd (subst (λ (x : Option Asked). IsRead x) is read)
 
 read_turn : (h : Header1) (s : Scene) (l : Lane) (k sector : ℕ) → IsLeft h s l k → sector < h.capacity → asked s.past 0 k ≡ Some (asks.Read sector 1) → (made : ℕ) → l.made k ≡ made
-    → Fine h s (task_turn h 0 s l k (asks.Read sector 1) (slice_get (Look 0 ∷ Put 0 ∷ Status ∷ []) made))
+    → Fine h s l (task_turn h 0 s l k (asks.Read sector 1) (slice_get (Look 0 ∷ Put 0 ∷ Status ∷ []) made))
 read_turn h s l k sector x low is zero e = look_fine h s l k sector x e low is
 read_turn h s l k sector x low is (suc zero) e = put_fine h s l k sector x e is
-read_turn h s l k sector x low is (suc (suc zero)) e = status_fine h s l k (asks.Read sector 1) x (omega arith) (read_served h sector low) (full_read sector 1 (l.made k) (asked s.past 0 k) is (omega arith)) (λ r. omega arith)
-read_turn h s l k sector x low is (suc (suc (suc made))) e = nothing_fine h s l x.started x.holds
+read_turn h s l k sector x low is (suc (suc zero)) e = status_fine h s l k (asks.Read sector 1) x (omega arith) (read_served h sector low) (full_read sector 1 (l.made k) (asked s.past 0 k) is (omega arith)) (λ r. omega arith) (omega arith)
+read_turn h s l k sector x low is (suc (suc (suc made))) e = absurd (let few : l.made k ≤ 2 = subst (λ (o : Option Asked). IsPending (l.made k) o) is (x.holds.worked.pending k x.is_open x.left) in omega arith)
 
 write_turn : (h : Header1) (s : Scene) (l : Lane) (k sector : ℕ) (bytes : List ℕ) → IsLeft h s l k → sector < h.capacity → length bytes ≡ 512 → asked s.past 0 k ≡ Some (asks.Write sector bytes) → (made : ℕ) → l.made k ≡ made
-    → Fine h s (task_turn h 0 s l k (asks.Write sector bytes) (slice_get (Act 0 ∷ Status ∷ []) made))
+    → Fine h s l (task_turn h 0 s l k (asks.Write sector bytes) (slice_get (Act 0 ∷ Status ∷ []) made))
 write_turn h s l k sector bytes x low long is zero e = act_fine h s l k sector bytes x e low long is
 write_turn h s l k sector bytes x low long is (suc zero) e =
-    status_fine h s l k (asks.Write sector bytes) x (omega arith) (write_served h sector bytes x.back low long) (full_write sector (l.made k) bytes (asked s.past 0 k) is (omega arith)) (never_read sector (l.made k) bytes (asked s.past 0 k) is)
-write_turn h s l k sector bytes x low long is (suc (suc made)) e = nothing_fine h s l x.started x.holds
+    status_fine h s l k (asks.Write sector bytes) x (omega arith) (write_served h sector bytes x.back low long) (full_write sector (l.made k) bytes (asked s.past 0 k) is (omega arith)) (never_read sector (l.made k) bytes (asked s.past 0 k) is) (omega arith)
+write_turn h s l k sector bytes x low long is (suc (suc made)) e = absurd (let few : l.made k ≤ 1 = subst (λ (o : Option Asked). IsPending (l.made k) o) is (x.holds.worked.pending k x.is_open x.left) in omega arith)
 
-pub request_fine : (h : Header1) (s : Scene) (l : Lane) (k : ℕ) → IsLeft h s l k → Fine h s (request_turn h 0 s l k (asked s.past 0 k))
+pub request_fine : (h : Header1) (s : Scene) (l : Lane) (k : ℕ) → IsLeft h s l k → Fine h s l (request_turn h 0 s l k (asked s.past 0 k))
 request_fine h s l k x =
     let known : Known h.size h.capacity s.past (s.heads 0) = x.holds.known in
     let low : k < length (s.heads 0) = omega (arith, x.is_open.taken, known.offered) in
     elim (simple_cases h.capacity (asked s.past 0 k) (known.simple k low)) [
-      | inl r ↦ subst (λ (o : Option Asked). Fine h s (request_turn h 0 s l k o)) (sym r.2)
-          (subst (λ (steps : List TaskStep). Fine h s (task_turn h 0 s l k (asks.Read r.0 1) (slice_get steps (l.made k)))) (sym (read_steps h r.0 r.1)) (read_turn h s l k r.0 x r.1 r.2 (l.made k) refl))
-      | inr r ↦ subst (λ (o : Option Asked). Fine h s (request_turn h 0 s l k o)) (sym r.4)
-          (subst (λ (steps : List TaskStep). Fine h s (task_turn h 0 s l k (asks.Write r.0 r.1) (slice_get steps (l.made k)))) (sym (write_steps h r.0 r.1 x.back r.2 r.3)) (write_turn h s l k r.0 r.1 x r.2 r.3 r.4 (l.made k) refl))
+      | inl r ↦ subst (λ (o : Option Asked). Fine h s l (request_turn h 0 s l k o)) (sym r.2)
+          (subst (λ (steps : List TaskStep). Fine h s l (task_turn h 0 s l k (asks.Read r.0 1) (slice_get steps (l.made k)))) (sym (read_steps h r.0 r.1)) (read_turn h s l k r.0 x r.1 r.2 (l.made k) refl))
+      | inr r ↦ subst (λ (o : Option Asked). Fine h s l (request_turn h 0 s l k o)) (sym r.4)
+          (subst (λ (steps : List TaskStep). Fine h s l (task_turn h 0 s l k (asks.Write r.0 r.1) (slice_get steps (l.made k)))) (sym (write_steps h r.0 r.1 x.back r.2 r.3)) (write_turn h s l k r.0 r.1 x r.2 r.3 r.4 (l.made k) refl))
     ]

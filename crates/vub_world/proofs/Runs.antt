@@ -77,6 +77,7 @@ opening_holds h plain = record {
     untouched = λ k high. refl;
     progress = λ k. record { fresh = λ e. (refl, (refl, refl)); begun = λ some. absurd (omega arith) };
     full = λ k held. absurd (let fails : false ≡ true = held in cc);
+    pending = λ k is_open out. tt;
     quiet = λ e. (refl, (refl, λ k. refl));
     phase_is = refl;
   };
