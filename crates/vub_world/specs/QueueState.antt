@@ -1,0 +1,202 @@
+-- The state of the device's side of one queue, and what its own steps make of it.
+use Rattle.std.specs.Prelude.{◌≡◌, ◌<◌, ◌≤◌, ℕ, ◌+◌, ◌%◌, Bool, true, false, not, if◌then◌else◌, List, [], ◌∷◌, ◌++◌, length, map, take, drop, set, replicate, Option, Some, None, Result, Ok, Err, ⊤}
+use Rattle.vub_base.specs.declared.ring_fault.RingFault.{RingFault}
+use Rattle.vub_base.specs.declared.ring_fault.RingFault.TheVariants as faults
+use Rattle.vub_base.specs.declared.store.Tag.TheVariants.{SP5}
+use Rattle.vub_base.specs.Told.{WhereTold}
+use Rattle.vub_shared.specs.Bytes.{Bytes}
+use Rattle.vub_shared.specs.Stores.{Store, Stores, Trails}
+use Rattle.vub_ring.specs.declared.steps.Phase.{Phase}
+use Rattle.vub_ring.specs.declared.steps.Phase.TheVariants as phases
+use Rattle.vub_ring.specs.declared.steps.Step.{Step}
+use Rattle.vub_ring.specs.declared.readiness.Standing.{Standing}
+use Rattle.vub_ring.specs.declared.readiness.Turn.TheVariants.{Fetch, Publish}
+use Rattle.vub_ring.specs.Ring.{Ring, ahead}
+use Rattle.vub_ring.specs.Rows.{Row, row_of}
+use Rattle.vub_ring.specs.Steps.{next_step, after_step}
+use Rattle.vub_ring.specs.Readiness.{is_ready, is_publication}
+use Rattle.vub_world.specs.declared.split.SplitRing.{SplitRing}
+use Rattle.vub_world.specs.Split.{avail_idx_word, head_word}
+use Rattle.vub_world.specs.declared.task.Task.{Task}
+use Rattle.vub_world.specs.QueueParts.{element, is_taken, without_heads}
+use Rattle.vub_world.specs.declared.queue.Stop.{Stop}
+use Rattle.vub_world.specs.declared.queue.Stop.TheVariants as stops
+use Rattle.vub_world.specs.declared.queue.Stepped.{Stepped}
+use Rattle.vub_world.specs.declared.queue.Stepped.TheVariants as says
+use Rattle.vub_world.specs.declared.queue.Queue.{Queue}
+
+pub record QueueState : Type 0 where
+  pub ring : SplitRing
+  pub started : Bool
+  pub stopped : Option Stop
+  -- the index of the avail entry that is fetched next
+  pub avail : ℕ
+  -- used.idx as it stands in the ring
+  pub used : ℕ
+  -- the heads of the requests that aren't completed, in the order in which they were accepted
+  pub unfinished : List ℕ
+  -- head and used length of those that are completed and in no batch, in the order in which they were completed
+  pub completed : List (ℕ × ℕ)
+  -- and of those that are being published
+  pub batch : List (ℕ × ℕ)
+  pub phase : Phase
+  -- whether each head is accepted and not published
+  pub taken : List Bool
+
+abbrev pub head_of : Task → ℕ
+head_of t = t.head
+
+abbrev pub state_of : Queue → QueueState
+state_of q = record {
+  ring = q.ring;
+  started = q.started;
+  stopped = q.stopped;
+  avail = q.avail;
+  used = q.used;
+  unfinished = map head_of q.unfinished.items;
+  completed = map element (drop q.batch q.completed.items);
+  batch = map element (take q.batch q.completed.items);
+  phase = q.phase;
+  taken = q.taken.items;
+}
+
+-- a queue that isn't started, whose rings begin at this index
+abbrev pub new_state : SplitRing → ℕ → QueueState
+new_state ring base = record {
+  ring = ring;
+  started = false;
+  stopped = None;
+  avail = base;
+  used = base;
+  unfinished = [];
+  completed = [];
+  batch = [];
+  phase = phases.Rest;
+  taken = replicate ring.size false;
+}
+
+-- how many requests wait in the avail ring
+abbrev pub waiting : QueueState → Bytes → ℕ
+waiting s m = ahead (avail_idx_word s.ring m) s.avail
+
+-- what its readiness depends on, where so many requests wait
+abbrev pub standing_at : QueueState → ℕ → Standing
+standing_at s waiting = record { started = s.started; phase = s.phase; waiting = waiting; unfinished = length s.unfinished; completed = length s.completed }
+
+-- ---- the start
+
+abbrev pub started_from : QueueState → Stepped
+started_from s = if s.started then says.Idle else says.Started
+
+-- ---- a fetch
+
+-- some requests wait, and no more than the ring has places
+pub record SomeWait (s : QueueState) (m : Bytes) : Type 0 where
+  pub some : 1 ≤ waiting s m
+  pub few : waiting s m ≤ s.ring.size
+
+-- the avail ring breaks this rule
+abbrev pub Breaks : QueueState → Bytes → RingFault → Type 0
+Breaks s m (faults.Jump ahead) = (ahead ≡ waiting s m) × (s.ring.size < ahead)
+Breaks s m (faults.BadHead head) = SomeWait s m × (head ≡ head_word s.ring m s.avail) × (s.ring.size ≤ head)
+Breaks s m (faults.Twice head) = SomeWait s m × (head ≡ head_word s.ring m s.avail) × (head < s.ring.size) × (is_taken s.taken head ≡ true)
+Breaks s m fault = ⊥
+
+-- what stands at the avail index: no head, a head that is free, or a break of a rule
+abbrev pub Finds : QueueState → Bytes → Result (Option ℕ) Stop → Type 0
+Finds s m (Ok None) = waiting s m ≡ 0
+Finds s m (Ok (Some head)) = SomeWait s m × (head ≡ head_word s.ring m s.avail) × (head < s.ring.size) × (is_taken s.taken head ≡ false)
+Finds s m (Err (stops.Broken fault)) = Breaks s m fault
+Finds s m (Err stops.Shared) = ⊤
+
+-- a head that is found lies in the table and is free
+abbrev pub IsFree : QueueState → Result (Option ℕ) Stop → Type 0
+IsFree s (Ok (Some head)) = (head < s.ring.size) × (is_taken s.taken head ≡ false)
+IsFree s x = ⊤
+
+abbrev pub found_outcome : Result (Option ℕ) Stop → Result (Unit {0}) (Unit {0})
+found_outcome (Err stops.Shared) = Err tt
+found_outcome x = Ok tt
+
+-- the request of a head is accepted
+abbrev pub accepted : ℕ → QueueState → QueueState
+accepted head s = record s { unfinished = s.unfinished ++ head ∷ []; avail = (s.avail + 1) % 65536; taken = set s.taken head true }
+
+-- it isn't started, or publishes: no fetch is ready
+abbrev pub may_fetch : QueueState → Bool
+may_fetch s = if s.started then not (is_publication s.phase) else false
+
+-- what a fetch says, and the queue before and after it
+abbrev pub Fetches : Option Bytes → Stepped → QueueState → QueueState → Type 0
+Fetches told says.Idle s t = (t ≡ s) × WhereTold told (λ m. is_ready (standing_at s (waiting s m)) Fetch ≡ false)
+Fetches told (says.Accepted head) s t = (t ≡ accepted head s) × (may_fetch s ≡ true) × WhereTold told (λ m. Finds s m (Ok (Some head)))
+Fetches told (says.Broken fault) s t = (t ≡ s) × (may_fetch s ≡ true) × WhereTold told (λ m. Breaks s m fault)
+Fetches told says.SharedFault s t = (t ≡ s) × (may_fetch s ≡ true)
+Fetches told x s t = ⊥
+
+-- ---- a publication
+
+-- the ring as it lies in the space of its used part
+abbrev pub used_side : SplitRing → Ring
+used_side r = record { space = r.used.0.number; desc = r.desc.1; avail = r.avail.1; used = r.used.1; size = r.size }
+
+-- a batch of the first completed requests, at most so many
+abbrev pub begun : ℕ → QueueState → QueueState
+begun most s = record s { batch = take most s.completed; completed = drop most s.completed; phase = phases.Publish 0 }
+
+-- the publication that a turn goes on with
+abbrev pub under_way : ℕ → QueueState → QueueState
+under_way most s = if is_publication s.phase then s else begun most s
+
+abbrev pub row_at : QueueState → Option Step → Option Row
+row_at s None = None
+row_at s (Some step) = row_of (used_side s.ring) s.used s.batch step
+
+-- the row of the next step of the publication
+abbrev pub next_row : QueueState → Option Row
+next_row s = row_at s (next_step (length s.batch) s.phase)
+
+-- after the last step the batch is shown, and its heads are free
+abbrev pub with_phase : Phase → QueueState → QueueState
+with_phase phases.Rest s = record s { phase = phases.Rest; used = (s.used + length s.batch) % 65536; batch = []; taken = without_heads s.batch s.taken }
+with_phase p s = record s { phase = p }
+
+-- the queue after the next step of its publication
+abbrev pub moved : QueueState → QueueState
+moved s = with_phase (after_step (length s.batch) s.phase) s
+
+-- what a step with this row says, and the queue before and after it
+abbrev pub Moves : Stepped → Option Row → QueueState → QueueState → Type 0
+Moves (says.Stored tag) (Some x) s t = (tag ≡ x.tag) × (t ≡ moved s) × (is_publication t.phase ≡ true)
+Moves says.Published (Some x) s t = (SP5 ≡ x.tag) × (t ≡ moved s) × (t.phase ≡ phases.Rest)
+Moves says.SharedFault (Some x) s t = t ≡ s
+Moves x y s t = ⊥
+
+abbrev pub outcome : Stepped → Result (Unit {0}) (Unit {0})
+outcome says.SharedFault = Err tt
+outcome x = Ok tt
+
+-- the told bytes, and the told list of stores, before and after a step with this row
+abbrev pub StoresRow : Option Bytes → Option Bytes → Stepped → Option Row → Type 0
+StoresRow before after x None = after ≡ before
+StoresRow before after x (Some y) = Stores before after (outcome x) y.store
+
+abbrev pub TrailsRow : Option (List Store) → Option (List Store) → Stepped → Option Row → Type 0
+TrailsRow before after x None = after ≡ before
+TrailsRow before after x (Some y) = Trails before after (outcome x) y.store
+
+-- whether a publication of at most so many makes a step
+abbrev pub publishes : ℕ → QueueState → Bool
+publishes most s = is_ready (standing_at s 0) (Publish most)
+
+abbrev pub row_if : Bool → QueueState → Option Row
+row_if ready s = if ready then next_row s else None
+
+-- the row of a publication's step; none where none is ready
+abbrev pub publish_row : ℕ → QueueState → Option Row
+publish_row most s = row_if (publishes most s) (under_way most s)
+
+-- a publication: nothing where none is ready
+abbrev pub Publishes : Bool → Stepped → QueueState → QueueState → QueueState → Type 0
+Publishes false x s u t = (x ≡ says.Idle) × (t ≡ s)
+Publishes true x s u t = Moves x (next_row u) u t
