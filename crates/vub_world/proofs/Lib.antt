@@ -1,4 +1,5 @@
 pub mod ChainLemmas
+pub mod ChainReading
 pub mod GuestLemmas
 pub mod MachineLemmas
 pub mod RecordTextLemmas

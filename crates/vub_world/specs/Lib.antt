@@ -1,3 +1,4 @@
+pub mod ChainState
 pub mod Guest
 pub mod GuestChain
 pub mod GuestRequest
