@@ -5,3 +5,4 @@ pub mod MachineLemmas
 pub mod RecordTextLemmas
 pub mod RequestLemmas
 pub mod SplitLemmas
+pub mod TaskLemmas
