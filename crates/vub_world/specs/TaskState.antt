@@ -66,6 +66,12 @@ IsBasic (asked.Write s bytes) = length bytes % 512 ≡ 0
 IsBasic asked.Flush = ⊤
 IsBasic request = ⊥
 
+-- such a request on a disk of so many sectors that is written back at flushes
+pub record IsServed (h : Header1) (sectors : ℕ) (request : Asked) : Type 0 where
+  pub basic : IsBasic request
+  pub capacity : h.capacity ≡ sectors
+  pub cached : h.mode ≡ Back
+
 -- ---- the parts of a request, as it is begun
 
 -- whether the device may write bytes of them

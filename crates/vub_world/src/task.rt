@@ -203,6 +203,15 @@ fn failed(answer: Answer) -> Answer {
 }
 
 impl Task {
+    ghost use Rattle.std.specs.Prelude.{slice_get};
+    ghost use Rattle.vub_base.specs.declared.header.Header1.{Header1};
+    ghost use Rattle.vub_device.specs.declared.entry.Asked.{Asked};
+    ghost use Rattle.vub_world.specs.GuestChain.{Links};
+    ghost use Rattle.vub_world.specs.Tasks as Tasks;
+    ghost use Rattle.vub_world.specs.Tasks.{task_steps};
+    ghost use Rattle.vub_world.specs.ChainState.{MeansRequest, Reads};
+    ghost use Rattle.vub_world.specs.TaskState.{IsServed, work_for};
+
     /// A request that was accepted under this head.
     pub fn new(head: u16) -> Task
         ensures head { result.head ≡ head }
@@ -224,6 +233,7 @@ impl Task {
     fn begin<M: Shared>(&self, ring: &SplitRing, mem: &mut M, capacity: u64) -> Result<Work, Unread>
         requires lies { RingLies (M.sizes mem.old) ring.now }
         requires fits { self.now.head < ring.now.size }
+        ensures begins { (h : Header1) (l : Links) (buffer : ℕ) (request : Asked) (step : Tasks.TaskStep) → WhereTold (M.told mem.old) (λ m. MeansRequest (M.sizes mem.old) ring.now m l buffer request → l.head ≡ self.now.head → IsServed h capacity request → slice_get (task_steps h request) 0 ≡ Some step → Reads result (work_for h ring.now buffer request step)) }
         ensures told { M.told mem.new ≡ M.told mem.old }
         ensures trail { M.trail mem.new ≡ M.trail mem.old }
         ensures sizes { (s : ℕ) → M.sizes mem.new s ≡ M.sizes mem.old s }
