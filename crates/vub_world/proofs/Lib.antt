@@ -1,4 +1,5 @@
 pub mod ChainLemmas
+pub mod ChainReading
 pub mod GuestLemmas
 pub mod MachineLemmas
 pub mod QueueLemmas
@@ -27,3 +28,4 @@ pub mod RunDrains
 pub mod RunsTo
 pub mod RunEnds
 pub mod RunExists
+pub mod TaskLemmas

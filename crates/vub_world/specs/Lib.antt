@@ -1,3 +1,4 @@
+pub mod ChainState
 pub mod Guest
 pub mod GuestChain
 pub mod GuestRequest
@@ -14,6 +15,7 @@ pub mod RecordText
 pub mod Run
 pub mod Split
 pub mod Tasks
+pub mod TaskState
 pub mod Tracking
 pub mod Turns
 pub mod World
