@@ -1,3 +1,4 @@
+pub mod ArmLemmas
 pub mod ChainLemmas
 pub mod ChainReading
 pub mod GuestLemmas
@@ -5,4 +6,5 @@ pub mod MachineLemmas
 pub mod RecordTextLemmas
 pub mod RequestLemmas
 pub mod SplitLemmas
+pub mod StepLemmas
 pub mod TaskLemmas
