@@ -210,13 +210,13 @@ impl Task {
     ghost use Rattle.vub_world.specs.Tasks as Tasks;
     ghost use Rattle.vub_world.specs.Tasks.{task_steps};
     ghost use Rattle.vub_world.specs.ChainState.{MeansRequest, Reads};
-    ghost use Rattle.vub_world.specs.TaskState.{Making, IsNext, IsServed, IsReady, HasMade, LooksAt, answer_in, memory_after, values_after, work_for, work_of};
+    ghost use Rattle.vub_world.specs.TaskState.{Making, IsNext, IsServed, IsReady, IsTaskAt, HasMade, LooksAt, answer_in, memory_after, values_after, work_for, work_of};
     ghost use Rattle.vub_world.specs.declared.split.SplitRing.{SplitRing};
 
     /// A request that was accepted under this head.
     pub fn new(head: u16) -> Task
         ensures head { result.head ≡ head }
-        ensures fresh { result.work ≡ work.Begin }
+        ensures fresh { (h : Header1) (r : SplitRing) (buffer : ℕ) (request : Asked) → IsTaskAt h r buffer request 0 result }
     {
         Task {
             head,
