@@ -1,3 +1,4 @@
+pub mod ArmLemmas
 pub mod ChainLemmas
 pub mod ChainReading
 pub mod GuestLemmas
@@ -28,4 +29,5 @@ pub mod RunDrains
 pub mod RunsTo
 pub mod RunEnds
 pub mod RunExists
+pub mod StepLemmas
 pub mod TaskLemmas

@@ -7,19 +7,19 @@ use Rattle.vub_shared.specs.Bytes.{Bytes, bytes_from, word}
 use Rattle.vub_base.specs.Fields.{field}
 use Rattle.vub_world.proofs.ChainReading.{field_of_loaded}
 use Rattle.vub_disk.specs.Values.{Values, Writes, with_value}
-use Rattle.std.proofs.Common.{◌/◌, ◌%◌, ◌++◌, add-zero}
+use Rattle.std.proofs.Common.{◌/◌, ◌%◌, ◌++◌}
 use Rattle.std.proofs.lemmas.Bool.Decides.{nat_tests}
-use Rattle.std.specs.Prelude.{unwrap_or, slice_get, nat_lt, ◌==◌, ◌&&◌, not, min, if◌then◌else◌}
+use Rattle.std.specs.Prelude.{unwrap_or, slice_get, nat_lt, if◌then◌else◌}
 use Rattle.vub_base.specs.declared.header.Header1.{Header1}
 use Rattle.vub_base.specs.declared.header.CacheMode.{CacheMode}
 use Rattle.vub_base.specs.declared.header.CacheMode.TheVariants.{Back}
 use Rattle.vub_device.specs.declared.entry.Asked.{Asked}
 use Rattle.vub_device.specs.declared.entry.Asked.TheVariants.{Read, Write, Flush, Id, Discard, Zero}
-use Rattle.vub_device.specs.Requests.{refusal, is_read_only, is_through}
+use Rattle.vub_device.specs.Requests.{refusal}
 use Rattle.vub_driver.specs.Layout.{status_place}
-use Rattle.vub_world.specs.Tasks.{TaskStep, Look, Put, Act, Sync, Status, task_steps, status_of, used_len, unless_refused, disk_steps, act_steps}
-use Rattle.vub_world.specs.ChainState.{parts_of, span_at, type_of, sector_of, data_start, data_len}
-use Rattle.vub_world.specs.TaskState.{IsServed, IsBasic, answer_of, transfer_at, work_for, whole_transfer, plain_answer_of, plain_len_of}
+use Rattle.vub_world.specs.Tasks.{TaskStep, Look, Act, Sync, Status, task_steps, status_of, used_len, unless_refused, disk_steps, act_steps}
+use Rattle.vub_world.specs.ChainState.{parts_of, span_at, type_of, sector_of, data_start}
+use Rattle.vub_world.specs.TaskState.{IsServed, IsBasic, answer_of, work_for, whole_transfer, plain_answer_of, plain_len_of}
 use Rattle.vub_world.specs.declared.split.SplitRing.{SplitRing}
 use Rattle.vub_world.specs.declared.chain.Parts.{Parts}
 use Rattle.vub_world.specs.declared.chain.Sectors.{Sectors}

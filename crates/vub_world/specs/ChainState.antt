@@ -1,6 +1,5 @@
 -- The chain of a request in the descriptor table, and what it means (VIRTIO 1.2, 2.7.5 and 5.2.6).
-use Rattle.std.specs.Prelude.{◌≡◌, ◌<◌, ◌≤◌, ℕ, zero, suc, ◌+◌, ◌*◌, ◌/◌, ◌%◌, Bool, true, false, List, [], ◌∷◌, length, unwrap_or, Option, Some, None, option_map, Result, Ok, Err, ⊤, flat_map}
-use Rattle.vub_base.specs.declared.store.Space.{Space}
+use Rattle.std.specs.Prelude.{◌≡◌, ◌<◌, ◌≤◌, ℕ, ◌+◌, ◌*◌, Bool, true, false, List, [], length, unwrap_or, Option, Some, None, option_map, Result, Ok, Err, ⊤, flat_map}
 use Rattle.vub_shared.specs.Bytes.{Bytes, word, bytes_from}
 use Rattle.vub_driver.specs.Layout.{status_place, parts_place, sectors_place}
 use Rattle.vub_driver.specs.Requests.{Piece, readable_piece, writable_piece, write_flag, part_bytes}

@@ -15,7 +15,6 @@ use Rattle.vub_world.specs.GuestChain.{Links}
 use Rattle.vub_world.specs.Tasks.{TaskStep, Look, Put, Act, Sync, Status, task_steps, status_of, used_len}
 use Rattle.vub_world.specs.ChainState.{MeansRequest, sector_of, data_start, data_len, span_at}
 use Rattle.vub_world.specs.declared.split.SplitRing.{SplitRing}
-use Rattle.vub_world.specs.declared.chain.Span.{Span}
 use Rattle.vub_world.specs.declared.chain.Sectors.{Sectors}
 use Rattle.vub_world.specs.declared.chain.Parts.{Parts}
 use Rattle.vub_world.specs.declared.task.Answer.{Answer}
@@ -139,3 +138,42 @@ with_effect (Some x) v = with_value x.sector x.value v
 abbrev pub values_after : Asked → TaskStep → Values → Values
 values_after request (Act place) v = with_effect (effect_at request place) v
 values_after request step v = v
+
+-- ---- one step of a request
+
+-- a step that is made of a request, which so many were made of
+pub record Making : Type 0 where
+  pub header : Header1
+  pub links : Links
+  pub buffer : ℕ
+  pub request : Asked
+  pub made : ℕ
+  pub step : TaskStep
+
+-- memory m means its request, the disk serves it, and the step is next in the step table
+pub record IsNext (sectors : ℕ) (sizes : ℕ → ℕ) (r : SplitRing) (m : Bytes) (n : Making) : Type 0 where
+  pub means : MeansRequest sizes r m n.links n.buffer n.request
+  pub served : IsServed n.header sectors n.request
+  pub next : slice_get (task_steps n.header n.request) n.made ≡ Some n.step
+
+-- a task that makes it, and the task after it
+abbrev pub IsReady : SplitRing → Making → Task → Type 0
+IsReady r n task = (n.links.head ≡ task.head) × IsTaskAt n.header r n.buffer n.request n.made task
+
+abbrev pub HasMade : SplitRing → Making → Task → Type 0
+HasMade r n task = IsTaskAt n.header r n.buffer n.request (n.made + 1) task
+
+-- what makes it, where the request was begun
+abbrev pub work_of : SplitRing → Making → Work
+work_of r n = work_for n.header r n.buffer n.request n.step
+
+abbrev pub answer_in : Making → made.TaskStep
+answer_in n = answer_to n.header n.request n.step
+
+-- the told memory after it
+abbrev pub memory_after : SplitRing → Making → List ℕ → Bytes → Bytes
+memory_after r n sector m = after_maybe (store_of n.header r n.buffer n.request sector n.step) m
+
+-- a look leaves the value of its sector
+abbrev pub LooksAt : Making → Values → List ℕ → Type 0
+LooksAt n v sector = (place : ℕ) → n.step ≡ Look place → sector ≡ v (sector_of n.request + place)

@@ -210,12 +210,13 @@ impl Task {
     ghost use Rattle.vub_world.specs.Tasks as Tasks;
     ghost use Rattle.vub_world.specs.Tasks.{task_steps};
     ghost use Rattle.vub_world.specs.ChainState.{MeansRequest, Reads};
-    ghost use Rattle.vub_world.specs.TaskState.{IsServed, work_for};
+    ghost use Rattle.vub_world.specs.TaskState.{Making, IsNext, IsServed, IsReady, IsTaskAt, HasMade, LooksAt, answer_in, memory_after, values_after, work_for, work_of};
+    ghost use Rattle.vub_world.specs.declared.split.SplitRing.{SplitRing};
 
     /// A request that was accepted under this head.
     pub fn new(head: u16) -> Task
         ensures head { result.head ≡ head }
-        ensures fresh { result.work ≡ work.Begin }
+        ensures fresh { (h : Header1) (r : SplitRing) (buffer : ℕ) (request : Asked) → IsTaskAt h r buffer request 0 result }
     {
         Task {
             head,
@@ -374,8 +375,31 @@ impl Task {
         })
     }
 
+    /// What is to be done next, which the chain and the header say at first.
+    fn prepare<M: Shared>(
+        &self,
+        ring: &SplitRing,
+        mem: &mut M,
+        capacity: u64,
+    ) -> Result<Work, Unread>
+        requires lies { RingLies (M.sizes mem.old) ring.now }
+        requires fits { self.now.head < ring.now.size }
+        ensures ready { (n : Making) → WhereTold (M.told mem.old) (λ m. IsNext capacity (M.sizes mem.old) ring.now m n → IsReady ring.now n self.now → Reads result (work_of ring.now n)) }
+        ensures told { M.told mem.new ≡ M.told mem.old }
+        ensures trail { M.trail mem.new ≡ M.trail mem.old }
+        ensures sizes { (s : ℕ) → M.sizes mem.new s ≡ M.sizes mem.old s }
+    {
+        match self.work {
+            Work::Begin => self.begin(ring, mem, capacity),
+            work => Ok(work),
+        }
+    }
+
     /// Makes the next step: a disk call or a store. The first one reads the chain and the header
     /// before. A sector on its way stands in `sector` between a look and its store.
+    ///
+    /// Where the memory is told and means the task's request, and neither it nor the disk fails,
+    /// this is the next step of the step table.
     pub fn step<M: Shared, D: Disk>(
         &mut self,
         ring: &SplitRing,
@@ -386,17 +410,22 @@ impl Task {
         requires lies { RingLies (M.sizes mem.old) ring.now }
         requires fits { self.old.head < ring.now.size }
         ensures head { self.new.head ≡ self.old.head }
+        ensures answer { (n : Making) → WhereTold (M.told mem.old) (λ m. IsNext (D.capacity disk.old) (M.sizes mem.old) ring.now m n → IsReady ring.now n self.old → IfMade (Some result) (λ step. step ≡ answer_in n)) }
+        ensures stored { (n : Making) → WhereTold (M.told mem.old) (λ m. IsNext (D.capacity disk.old) (M.sizes mem.old) ring.now m n → IsReady ring.now n self.old → IfMade (Some result) (λ step. M.told mem.new ≡ Some (memory_after ring.now n sector.old m))) }
+        ensures looked { (n : Making) → WhereTold (M.told mem.old) (λ m. IsNext (D.capacity disk.old) (M.sizes mem.old) ring.now m n → IsReady ring.now n self.old → IfMade (Some result) (λ step. WhereTold (D.values disk.old) (λ v. LooksAt n v sector.new))) }
+        ensures written { (n : Making) → WhereTold (M.told mem.old) (λ m. IsNext (D.capacity disk.old) (M.sizes mem.old) ring.now m n → IsReady ring.now n self.old → IfMade (Some result) (λ step. D.values disk.new ≡ option_map (values_after n.request n.step) (D.values disk.old))) }
+        ensures goes_on { (n : Making) → WhereTold (M.told mem.old) (λ m. IsNext (D.capacity disk.old) (M.sizes mem.old) ring.now m n → IsReady ring.now n self.old → IfMade (Some result) (λ step. HasMade ring.now n self.new)) }
         ensures sizes { (s : ℕ) → M.sizes mem.new s ≡ M.sizes mem.old s }
         ensures capacity { D.capacity disk.new ≡ D.capacity disk.old }
     {
-        if let Work::Begin = self.work {
-            match self.begin(ring, mem, disk.capacity()) {
-                Ok(work) => self.work = work,
-                Err(Unread::Failed) => return TaskStep::Failed,
-                Err(Unread::Broken(fault)) => return TaskStep::Broken(fault),
+        match self.prepare(ring, mem, disk.capacity()) {
+            Ok(work) => {
+                self.work = work;
+                self.go_on(mem, disk, sector)
             }
+            Err(Unread::Failed) => TaskStep::Failed,
+            Err(Unread::Broken(fault)) => TaskStep::Broken(fault),
         }
-        self.go_on(mem, disk, sector)
     }
 
     fn go_on<M: Shared, D: Disk>(
@@ -406,20 +435,44 @@ impl Task {
         sector: &mut [u8; 512],
     ) -> TaskStep
         ensures head { self.new.head ≡ self.old.head }
+        ensures answer { (r : SplitRing) (n : Making) → WhereTold (M.told mem.old) (λ m. IsNext (D.capacity disk.old) (M.sizes mem.old) r m n → self.old.work ≡ work_of r n → IfMade (Some result) (λ step. step ≡ answer_in n)) }
+        ensures stored { (r : SplitRing) (n : Making) → WhereTold (M.told mem.old) (λ m. IsNext (D.capacity disk.old) (M.sizes mem.old) r m n → self.old.work ≡ work_of r n → IfMade (Some result) (λ step. M.told mem.new ≡ Some (memory_after r n sector.old m))) }
+        ensures looked { (r : SplitRing) (n : Making) → WhereTold (M.told mem.old) (λ m. IsNext (D.capacity disk.old) (M.sizes mem.old) r m n → self.old.work ≡ work_of r n → IfMade (Some result) (λ step. WhereTold (D.values disk.old) (λ v. LooksAt n v sector.new))) }
+        ensures written { (r : SplitRing) (n : Making) → WhereTold (M.told mem.old) (λ m. IsNext (D.capacity disk.old) (M.sizes mem.old) r m n → self.old.work ≡ work_of r n → IfMade (Some result) (λ step. D.values disk.new ≡ option_map (values_after n.request n.step) (D.values disk.old))) }
+        ensures goes_on { (r : SplitRing) (n : Making) → WhereTold (M.told mem.old) (λ m. IsNext (D.capacity disk.old) (M.sizes mem.old) r m n → self.old.work ≡ work_of r n → IfMade (Some result) (λ step. HasMade r n self.new)) }
         ensures sizes { (s : ℕ) → M.sizes mem.new s ≡ M.sizes mem.old s }
         ensures capacity { D.capacity disk.new ≡ D.capacity disk.old }
     {
-        let made = match self.work {
+        match self.attempt(mem, disk, sector) {
+            Some(step) => step,
+            None => TaskStep::Broken(RingFault::Chain(ChainFault::Unmapped(0))),
+        }
+    }
+
+    /// Makes the next step of a request that was begun; `None` where its parts don't lie where they
+    /// should.
+    fn attempt<M: Shared, D: Disk>(
+        &mut self,
+        mem: &mut M,
+        disk: &mut D,
+        sector: &mut [u8; 512],
+    ) -> Option<TaskStep>
+        ensures head { self.new.head ≡ self.old.head }
+        ensures answer { (r : SplitRing) (n : Making) → WhereTold (M.told mem.old) (λ m. IsNext (D.capacity disk.old) (M.sizes mem.old) r m n → self.old.work ≡ work_of r n → IfMade result (λ step. step ≡ answer_in n)) }
+        ensures stored { (r : SplitRing) (n : Making) → WhereTold (M.told mem.old) (λ m. IsNext (D.capacity disk.old) (M.sizes mem.old) r m n → self.old.work ≡ work_of r n → IfMade result (λ step. M.told mem.new ≡ Some (memory_after r n sector.old m))) }
+        ensures looked { (r : SplitRing) (n : Making) → WhereTold (M.told mem.old) (λ m. IsNext (D.capacity disk.old) (M.sizes mem.old) r m n → self.old.work ≡ work_of r n → IfMade result (λ step. WhereTold (D.values disk.old) (λ v. LooksAt n v sector.new))) }
+        ensures written { (r : SplitRing) (n : Making) → WhereTold (M.told mem.old) (λ m. IsNext (D.capacity disk.old) (M.sizes mem.old) r m n → self.old.work ≡ work_of r n → IfMade result (λ step. D.values disk.new ≡ option_map (values_after n.request n.step) (D.values disk.old))) }
+        ensures goes_on { (r : SplitRing) (n : Making) → WhereTold (M.told mem.old) (λ m. IsNext (D.capacity disk.old) (M.sizes mem.old) r m n → self.old.work ≡ work_of r n → IfMade result (λ step. HasMade r n self.new)) }
+        ensures sizes { (s : ℕ) → M.sizes mem.new s ≡ M.sizes mem.old s }
+        ensures capacity { D.capacity disk.new ≡ D.capacity disk.old }
+    {
+        match self.work {
             Work::Begin => None,
             Work::Look(transfer) => self.look(transfer, disk, sector),
             Work::Store(transfer) => self.store(transfer, mem, sector),
             Work::Act(transfer) => self.act(transfer, mem, disk, sector),
             Work::Sync(answer) => Some(self.sync(answer, disk)),
             Work::Reply(answer) => self.reply(answer, mem),
-        };
-        match made {
-            Some(step) => step,
-            None => TaskStep::Broken(RingFault::Chain(ChainFault::Unmapped(0))),
         }
     }
 }

@@ -1,6 +1,5 @@
 use Rattle.std.proofs.Common.{◌≡◌, ◌≤◌, ◌+◌, ◌∙◌, ℕ, sym, ap, arith, add-zero, rules}
 use Rattle.std.proofs.lemmas.Result.{err_from_is_err_and}
-use Rattle.std.proofs.lemmas.Bool.{false≢true}
 use Rattle.vub_shared.specs.Bytes.{word}
 use Rattle.vub_world.specs.declared.chain.Parts.{Parts}
 use Rattle.vub_world.specs.ChainState.{parts_of}
