@@ -7,6 +7,8 @@ use Rattle.std.proofs.lemmas.Option.{slice_get-get_or, slice_get-map}
 use Rattle.std.specs.Prelude.{◌==◌, ◌&&◌, ◌||◌, not, if◌then◌else◌, nat_le, nat_lt, set, slice_get, option_map, Option, Some, None, Result, Ok, Err}
 use Rattle.byteorder.specs.Endian.{little_bytes}
 use Rattle.vub_base.specs.declared.store.Tag.TheVariants.{SP1, SP2, SP5}
+use Rattle.vub_base.specs.Causes.{Rose, HasCause}
+use Rattle.vub_ring.specs.declared.readiness.Turn.{Turn}
 use Rattle.vub_shared.specs.Bytes.{Bytes}
 use Rattle.vub_shared.specs.Stores.{Store, Stores, Trails}
 use Rattle.vub_ring.specs.declared.steps.Phase.{Phase}
@@ -25,7 +27,7 @@ use Rattle.vub_world.specs.declared.queue.Completed.{Completed}
 use Rattle.vub_world.specs.declared.queue.Stepped.{Stepped}
 use Rattle.vub_world.specs.declared.queue.Stepped.TheVariants as says
 use Rattle.vub_world.specs.QueueParts.{element, is_taken, taken_count, without_heads, phase_fits}
-use Rattle.vub_world.specs.QueueState.{QueueState, used_side, row_at, next_row, Moves, StoresRow, TrailsRow, outcome, publishes, Unless, is_idle, head_of, standing_at}
+use Rattle.vub_world.specs.QueueState.{QueueState, used_side, row_at, next_row, Moves, StoresRow, TrailsRow, outcome, publishes, Unless, DoesFault, is_idle, head_of, standing_at}
 
 pub set_beyond : (xs : List Bool) (i : ℕ) (y : Bool) → length xs ≤ i → set xs i y ≡ xs
 set_beyond xs i y past = set_past xs i y past
@@ -301,3 +303,19 @@ idle_is (says.Broken fault) idle = grind arith
 -- of a queue at rest from which no fetch is ready, work or publication is next
 pub any_is : (size : ℕ) (s : Standing) → s.started ≡ true → is_publication s.phase ≡ false → is_ready s turns.Fetch ≡ false → any_turn size s ≡ work_or_publish size s
 any_is size s started rests unready = rw (unready, started, rests) refl
+
+-- ---- causes
+
+rose_later : (before mid now : ℕ) → before ≤ mid → Rose mid now → Rose before now
+rose_later before mid now later rose = omega (arith, later, rose)
+
+cause_later : (before mid now : ℕ) (r : Result (Unit {0}) (Unit {0})) → before ≤ mid → HasCause mid now r → HasCause before now r
+cause_later before mid now (Ok x) later h = record { later = omega (arith, later, h.later); failed = h.failed }
+cause_later before mid now (Err e) later h = record { later = omega (arith, later, h.later); failed = rose_later before mid now later h.failed }
+
+-- a turn after something that made no fault
+pub fault_later : (turn : Turn) (before mid now : ℕ) (x : Stepped) → before ≤ mid → DoesFault turn mid now x → DoesFault turn before now x
+fault_later turns.Start before mid now x later h = cause_later before mid now (outcome x) later h
+fault_later turns.Fetch before mid now x later h = cause_later before mid now (outcome x) later h
+fault_later (turns.Work place) before mid now x later h = tt
+fault_later (turns.Publish most) before mid now x later h = cause_later before mid now (outcome x) later h

@@ -4,6 +4,7 @@ use Rattle.vub_base.specs.declared.ring_fault.RingFault.{RingFault}
 use Rattle.vub_base.specs.declared.ring_fault.RingFault.TheVariants as faults
 use Rattle.vub_base.specs.declared.store.Tag.TheVariants.{SP5}
 use Rattle.vub_base.specs.Told.{WhereTold}
+use Rattle.vub_base.specs.Causes.{HasCause}
 use Rattle.vub_shared.specs.Bytes.{Bytes}
 use Rattle.vub_shared.specs.Stores.{Store, Stores, Trails}
 use Rattle.vub_ring.specs.declared.steps.Phase.{Phase}
@@ -233,6 +234,23 @@ DoesOf (Publish most) told x s t = Publishes (publishes most s) x s (under_way m
 -- the same, unless the shared memory failed, which stops the queue
 abbrev pub Does : Turn → Option Bytes → Stepped → QueueState → QueueState → Type 0
 Does turn told x s t = Unless (is_fault x) (DoesOf turn told x s t)
+
+-- the told bytes before and after it: only a publication stores, beside work on a request
+abbrev pub DoesStore : Turn → Option Bytes → Option Bytes → Stepped → QueueState → Type 0
+DoesStore (Work place) before after x s = ⊤
+DoesStore (Publish most) before after x s = StoresRow before after x (publish_row most s)
+DoesStore turn before after x s = after ≡ before
+
+-- the told list of stores before and after it
+abbrev pub DoesTrail : Turn → Option (List Store) → Option (List Store) → Stepped → QueueState → Type 0
+DoesTrail (Work place) before after x s = ⊤
+DoesTrail (Publish most) before after x s = TrailsRow before after x (publish_row most s)
+DoesTrail turn before after x s = after ≡ before
+
+-- the count of faults before and after it
+abbrev pub DoesFault : Turn → ℕ → ℕ → Stepped → Type 0
+DoesFault (Work place) before after x = ⊤
+DoesFault turn before after x = HasCause before after (outcome x)
 
 -- the turn of the step table that this one is at a standing
 abbrev pub turn_at : ℕ → Standing → asked.Turn → Turn

@@ -159,7 +159,7 @@ impl Queue {
     ghost use Rattle.vub_ring.specs.declared.steps.Phase.TheVariants.{Rest};
     ghost use Rattle.vub_ring.specs.declared.steps.Step.TheVariants.{Id, Len, Index};
     ghost use Rattle.vub_world.specs.Queue.{ring_in};
-    ghost use Rattle.vub_world.specs.QueueState.{state_of, new_state, started_from, standing_at, waiting, IsFree, Finds, Fetches, accepted, may_fetch, begun, under_way, next_row, moved, with_phase, Moves, outcome, found_outcome, StoresRow, TrailsRow, publishes, publish_row, Publishes, is_idle, is_fault, Unless, Does, turn_at, halted, Turns};
+    ghost use Rattle.vub_world.specs.QueueState.{state_of, new_state, started_from, standing_at, waiting, IsFree, Finds, Fetches, accepted, may_fetch, begun, under_way, next_row, moved, with_phase, Moves, outcome, found_outcome, StoresRow, TrailsRow, publishes, publish_row, Publishes, is_idle, is_fault, Unless, Does, DoesStore, DoesTrail, DoesFault, turn_at, halted, Turns};
 
     /// A queue that isn't started. All memory that it needs is reserved here.
     pub fn new(alloc: Global, setup: &QueueSetup) -> Result<Queue, Memory>
@@ -552,6 +552,9 @@ impl Queue {
         requires lies { RingLies (M.sizes mem.old) (ring_in self.old) }
         ensures ring { ring_in self.new ≡ ring_in self.old }
         ensures does { (waiting : ℕ) → Does (work_or_publish self.old.ring.size (standing_at (state_of self.old) waiting)) (M.told mem.old) result (state_of self.old) (state_of self.new) }
+        ensures stores { (waiting : ℕ) → DoesStore (work_or_publish self.old.ring.size (standing_at (state_of self.old) waiting)) (M.told mem.old) (M.told mem.new) result (state_of self.old) }
+        ensures trails { (waiting : ℕ) → DoesTrail (work_or_publish self.old.ring.size (standing_at (state_of self.old) waiting)) (M.trail mem.old) (M.trail mem.new) result (state_of self.old) }
+        ensures cause { (waiting : ℕ) → DoesFault (work_or_publish self.old.ring.size (standing_at (state_of self.old) waiting)) (M.faults mem.old) (M.faults mem.new) result }
         ensures sizes { (s : ℕ) → M.sizes mem.new s ≡ M.sizes mem.old s }
         ensures capacity { D.capacity disk.new ≡ D.capacity disk.old }
     {
@@ -569,6 +572,9 @@ impl Queue {
         requires rests { is_publication self.old.phase ≡ false }
         ensures ring { ring_in self.new ≡ ring_in self.old }
         ensures does { WhereTold (M.told mem.old) (λ m. Does (any_turn self.old.ring.size (standing_at (state_of self.old) (waiting (state_of self.old) m))) (M.told mem.old) result (state_of self.old) (state_of self.new)) }
+        ensures stores { WhereTold (M.told mem.old) (λ m. DoesStore (any_turn self.old.ring.size (standing_at (state_of self.old) (waiting (state_of self.old) m))) (M.told mem.old) (M.told mem.new) result (state_of self.old)) }
+        ensures trails { WhereTold (M.told mem.old) (λ m. DoesTrail (any_turn self.old.ring.size (standing_at (state_of self.old) (waiting (state_of self.old) m))) (M.trail mem.old) (M.trail mem.new) result (state_of self.old)) }
+        ensures cause { WhereTold (M.told mem.old) (λ m. DoesFault (any_turn self.old.ring.size (standing_at (state_of self.old) (waiting (state_of self.old) m))) (M.faults mem.old) (M.faults mem.new) result) }
         ensures sizes { (s : ℕ) → M.sizes mem.new s ≡ M.sizes mem.old s }
         ensures capacity { D.capacity disk.new ≡ D.capacity disk.old }
     {
@@ -583,6 +589,9 @@ impl Queue {
         requires lies { RingLies (M.sizes mem.old) (ring_in self.old) }
         ensures ring { ring_in self.new ≡ ring_in self.old }
         ensures does { WhereTold (M.told mem.old) (λ m. Does (any_turn self.old.ring.size (standing_at (state_of self.old) (waiting (state_of self.old) m))) (M.told mem.old) result (state_of self.old) (state_of self.new)) }
+        ensures stores { WhereTold (M.told mem.old) (λ m. DoesStore (any_turn self.old.ring.size (standing_at (state_of self.old) (waiting (state_of self.old) m))) (M.told mem.old) (M.told mem.new) result (state_of self.old)) }
+        ensures trails { WhereTold (M.told mem.old) (λ m. DoesTrail (any_turn self.old.ring.size (standing_at (state_of self.old) (waiting (state_of self.old) m))) (M.trail mem.old) (M.trail mem.new) result (state_of self.old)) }
+        ensures cause { WhereTold (M.told mem.old) (λ m. DoesFault (any_turn self.old.ring.size (standing_at (state_of self.old) (waiting (state_of self.old) m))) (M.faults mem.old) (M.faults mem.new) result) }
         ensures sizes { (s : ℕ) → M.sizes mem.new s ≡ M.sizes mem.old s }
         ensures capacity { D.capacity disk.new ≡ D.capacity disk.old }
     {
@@ -599,6 +608,9 @@ impl Queue {
         requires lies { RingLies (M.sizes mem.old) (ring_in self.old) }
         ensures ring { ring_in self.new ≡ ring_in self.old }
         ensures does { WhereTold (M.told mem.old) (λ m. Does (turn_at self.old.ring.size (standing_at (state_of self.old) (waiting (state_of self.old) m)) turn) (M.told mem.old) result (state_of self.old) (state_of self.new)) }
+        ensures stores { WhereTold (M.told mem.old) (λ m. DoesStore (turn_at self.old.ring.size (standing_at (state_of self.old) (waiting (state_of self.old) m)) turn) (M.told mem.old) (M.told mem.new) result (state_of self.old)) }
+        ensures trails { WhereTold (M.told mem.old) (λ m. DoesTrail (turn_at self.old.ring.size (standing_at (state_of self.old) (waiting (state_of self.old) m)) turn) (M.trail mem.old) (M.trail mem.new) result (state_of self.old)) }
+        ensures cause { WhereTold (M.told mem.old) (λ m. DoesFault (turn_at self.old.ring.size (standing_at (state_of self.old) (waiting (state_of self.old) m)) turn) (M.faults mem.old) (M.faults mem.new) result) }
         ensures sizes { (s : ℕ) → M.sizes mem.new s ≡ M.sizes mem.old s }
         ensures capacity { D.capacity disk.new ≡ D.capacity disk.old }
     {
@@ -629,8 +641,11 @@ impl Queue {
     pub fn turn<M: Shared, D: Disk>(&mut self, turn: Turn, mem: &mut M, disk: &mut D) -> Stepped
         requires { RingLies (M.sizes mem.old) (ring_in self.old) }
         ensures ring { ring_in self.new ≡ ring_in self.old }
-        ensures stopped { is_some (state_of self.old).stopped ≡ true → (result ≡ Idle) × (state_of self.new ≡ state_of self.old) }
+        ensures stopped { is_some (state_of self.old).stopped ≡ true → (result ≡ Idle) × (state_of self.new ≡ state_of self.old) × (M.told mem.new ≡ M.told mem.old) × (M.trail mem.new ≡ M.trail mem.old) }
         ensures does { is_some (state_of self.old).stopped ≡ false → WhereTold (M.told mem.old) (λ m. Turns (turn_at (ring_in self.old).size (standing_at (state_of self.old) (waiting (state_of self.old) m)) turn) (M.told mem.old) result (state_of self.old) (state_of self.new)) }
+        ensures stores { is_some (state_of self.old).stopped ≡ false → WhereTold (M.told mem.old) (λ m. DoesStore (turn_at (ring_in self.old).size (standing_at (state_of self.old) (waiting (state_of self.old) m)) turn) (M.told mem.old) (M.told mem.new) result (state_of self.old)) }
+        ensures trails { is_some (state_of self.old).stopped ≡ false → WhereTold (M.told mem.old) (λ m. DoesTrail (turn_at (ring_in self.old).size (standing_at (state_of self.old) (waiting (state_of self.old) m)) turn) (M.trail mem.old) (M.trail mem.new) result (state_of self.old)) }
+        ensures cause { is_some (state_of self.old).stopped ≡ false → WhereTold (M.told mem.old) (λ m. DoesFault (turn_at (ring_in self.old).size (standing_at (state_of self.old) (waiting (state_of self.old) m)) turn) (M.faults mem.old) (M.faults mem.new) result) }
         ensures sizes { (s : ℕ) → M.sizes mem.new s ≡ M.sizes mem.old s }
         ensures capacity { D.capacity disk.new ≡ D.capacity disk.old }
     {
