@@ -4,9 +4,11 @@ use native.Mathlib.Numerals.{unary_clauses}
 use Rattle.std.proofs.lemmas.Bool.Decides.{nat_tests}
 use Rattle.std.proofs.lemmas.List.{take-map, drop-map, take_min, length-map, length-take-le, length-set, set_past}
 use Rattle.std.proofs.lemmas.Option.{slice_get-get_or, slice_get-map}
-use Rattle.std.specs.Prelude.{◌&&◌, ◌||◌, not, if◌then◌else◌, nat_le, nat_lt, set, slice_get, option_map, Option, Some, None, Result, Ok, Err}
+use Rattle.std.specs.Prelude.{◌==◌, ◌&&◌, ◌||◌, not, if◌then◌else◌, nat_le, nat_lt, set, slice_get, option_map, Option, Some, None, Result, Ok, Err}
 use Rattle.byteorder.specs.Endian.{little_bytes}
 use Rattle.vub_base.specs.declared.store.Tag.TheVariants.{SP1, SP2, SP5}
+use Rattle.vub_base.specs.Causes.{Rose, HasCause}
+use Rattle.vub_ring.specs.declared.readiness.Turn.{Turn}
 use Rattle.vub_shared.specs.Bytes.{Bytes}
 use Rattle.vub_shared.specs.Stores.{Store, Stores, Trails}
 use Rattle.vub_ring.specs.declared.steps.Phase.{Phase}
@@ -16,13 +18,16 @@ use Rattle.vub_ring.specs.declared.steps.Step.TheVariants.{Id, Len, Index}
 use Rattle.vub_ring.specs.Ring.{used_idx_place, used_id_place, used_len_place}
 use Rattle.vub_ring.specs.Rows.{Row, row}
 use Rattle.vub_ring.specs.Steps.{element_steps, publish_steps, next_step, after_step}
-use Rattle.vub_ring.specs.Readiness.{is_publication, is_fetch}
+use Rattle.vub_ring.specs.Readiness.{is_publication, is_fetch, is_ready, any_turn, work_or_publish}
+use Rattle.vub_ring.specs.declared.readiness.Standing.{Standing}
+use Rattle.vub_ring.specs.declared.readiness.Turn.TheVariants as turns
+use Rattle.vub_world.specs.declared.task.Task.{Task}
 use Rattle.vub_ring.proofs.StepLemmas.{length_publish}
 use Rattle.vub_world.specs.declared.queue.Completed.{Completed}
 use Rattle.vub_world.specs.declared.queue.Stepped.{Stepped}
 use Rattle.vub_world.specs.declared.queue.Stepped.TheVariants as says
 use Rattle.vub_world.specs.QueueParts.{element, is_taken, taken_count, without_heads, phase_fits}
-use Rattle.vub_world.specs.QueueState.{QueueState, used_side, row_at, next_row, Moves, StoresRow, TrailsRow, outcome, publishes}
+use Rattle.vub_world.specs.QueueState.{QueueState, used_side, row_at, next_row, Moves, StoresRow, TrailsRow, outcome, publishes, Unless, DoesFault, is_idle, head_of, standing_at}
 
 pub set_beyond : (xs : List Bool) (i : ℕ) (y : Bool) → length xs ≤ i → set xs i y ≡ xs
 set_beyond xs i y past = set_past xs i y past
@@ -257,3 +262,60 @@ goes_started (Publish done) n started fits goes = both_second (nat_le done (2 * 
 goes_started Rest n started fits goes = grind arith
 goes_started (Start done) n started fits goes = grind arith
 goes_started (Fetch done) n started fits goes = grind arith
+
+-- ---- turns
+
+pub unless : (b : Bool) (P : Type 0) → P → Unless b P
+unless true P p = tt
+unless false P p = p
+
+-- no request is at work, or some is
+pub none_at_work : (tasks : List Task) (n : ℕ) → n ≡ length tasks → (n == 0) ≡ true → nat_lt 0 (length (map head_of tasks)) ≡ false
+none_at_work tasks n is none = grind (arith, nat_tests, length-map tasks head_of)
+
+pub some_at_work : (tasks : List Task) (n : ℕ) → n ≡ length tasks → (n == 0) ≡ false → nat_lt 0 (length (map head_of tasks)) ≡ true
+some_at_work tasks n is some = grind (arith, nat_tests, length-map tasks head_of)
+
+or_true : (b : Bool) → (b || true) ≡ true
+or_true true = refl
+or_true false = refl
+
+-- something waits, and a fetch is ready
+pub fetch_ready : (s : QueueState) (n : ℕ) → s.started ≡ true → is_publication s.phase ≡ false → 1 ≤ n → is_ready (standing_at s n) turns.Fetch ≡ true
+fetch_ready s n started rests some =
+    let more : nat_lt 0 n ≡ true = grind (arith, nat_tests) in
+    rw (started, rests, more) (or_true (is_fetch s.phase))
+
+pub idle_is : (x : Stepped) → is_idle x ≡ true → x ≡ says.Idle
+idle_is says.Idle idle = refl
+idle_is (says.Stored tag) idle = grind arith
+idle_is (says.Accepted head) idle = grind arith
+idle_is (says.Looked head sector) idle = grind arith
+idle_is (says.Acted head sector) idle = grind arith
+idle_is (says.Synced head) idle = grind arith
+idle_is (says.Faulted head) idle = grind arith
+idle_is (says.Completed head) idle = grind arith
+idle_is says.Published idle = grind arith
+idle_is says.Started idle = grind arith
+idle_is says.SharedFault idle = grind arith
+idle_is (says.Broken fault) idle = grind arith
+
+-- of a queue at rest from which no fetch is ready, work or publication is next
+pub any_is : (size : ℕ) (s : Standing) → s.started ≡ true → is_publication s.phase ≡ false → is_ready s turns.Fetch ≡ false → any_turn size s ≡ work_or_publish size s
+any_is size s started rests unready = rw (unready, started, rests) refl
+
+-- ---- causes
+
+rose_later : (before mid now : ℕ) → before ≤ mid → Rose mid now → Rose before now
+rose_later before mid now later rose = omega (arith, later, rose)
+
+cause_later : (before mid now : ℕ) (r : Result (Unit {0}) (Unit {0})) → before ≤ mid → HasCause mid now r → HasCause before now r
+cause_later before mid now (Ok x) later h = record { later = omega (arith, later, h.later); failed = h.failed }
+cause_later before mid now (Err e) later h = record { later = omega (arith, later, h.later); failed = rose_later before mid now later h.failed }
+
+-- a turn after something that made no fault
+pub fault_later : (turn : Turn) (before mid now : ℕ) (x : Stepped) → before ≤ mid → DoesFault turn mid now x → DoesFault turn before now x
+fault_later turns.Start before mid now x later h = cause_later before mid now (outcome x) later h
+fault_later turns.Fetch before mid now x later h = cause_later before mid now (outcome x) later h
+fault_later (turns.Work place) before mid now x later h = tt
+fault_later (turns.Publish most) before mid now x later h = cause_later before mid now (outcome x) later h

@@ -4,17 +4,19 @@ use Rattle.vub_base.specs.declared.ring_fault.RingFault.{RingFault}
 use Rattle.vub_base.specs.declared.ring_fault.RingFault.TheVariants as faults
 use Rattle.vub_base.specs.declared.store.Tag.TheVariants.{SP5}
 use Rattle.vub_base.specs.Told.{WhereTold}
+use Rattle.vub_base.specs.Causes.{HasCause}
 use Rattle.vub_shared.specs.Bytes.{Bytes}
 use Rattle.vub_shared.specs.Stores.{Store, Stores, Trails}
 use Rattle.vub_ring.specs.declared.steps.Phase.{Phase}
 use Rattle.vub_ring.specs.declared.steps.Phase.TheVariants as phases
 use Rattle.vub_ring.specs.declared.steps.Step.{Step}
 use Rattle.vub_ring.specs.declared.readiness.Standing.{Standing}
-use Rattle.vub_ring.specs.declared.readiness.Turn.TheVariants.{Fetch, Publish}
+use Rattle.vub_ring.specs.declared.readiness.Turn.{Turn}
+use Rattle.vub_ring.specs.declared.readiness.Turn.TheVariants.{Start, Fetch, Work, Publish}
 use Rattle.vub_ring.specs.Ring.{Ring, ahead}
 use Rattle.vub_ring.specs.Rows.{Row, row_of}
 use Rattle.vub_ring.specs.Steps.{next_step, after_step}
-use Rattle.vub_ring.specs.Readiness.{is_ready, is_publication}
+use Rattle.vub_ring.specs.Readiness.{is_ready, is_publication, any_turn}
 use Rattle.vub_world.specs.declared.split.SplitRing.{SplitRing}
 use Rattle.vub_world.specs.Split.{avail_idx_word, head_word}
 use Rattle.vub_world.specs.declared.task.Task.{Task}
@@ -23,6 +25,8 @@ use Rattle.vub_world.specs.declared.queue.Stop.{Stop}
 use Rattle.vub_world.specs.declared.queue.Stop.TheVariants as stops
 use Rattle.vub_world.specs.declared.queue.Stepped.{Stepped}
 use Rattle.vub_world.specs.declared.queue.Stepped.TheVariants as says
+use Rattle.vub_world.specs.declared.queue.Turn as asked
+use Rattle.vub_world.specs.declared.queue.Turn.TheVariants as asks
 use Rattle.vub_world.specs.declared.queue.Queue.{Queue}
 
 pub record QueueState : Type 0 where
@@ -96,11 +100,15 @@ pub record SomeWait (s : QueueState) (m : Bytes) : Type 0 where
   pub few : waiting s m ≤ s.ring.size
 
 -- the avail ring breaks this rule
+abbrev pub BreaksBy : QueueState → Bytes → RingFault → Type 0
+BreaksBy s m (faults.Jump ahead) = (ahead ≡ waiting s m) × (s.ring.size < ahead)
+BreaksBy s m (faults.BadHead head) = SomeWait s m × (head ≡ head_word s.ring m s.avail) × (s.ring.size ≤ head)
+BreaksBy s m (faults.Twice head) = SomeWait s m × (head ≡ head_word s.ring m s.avail) × (head < s.ring.size) × (is_taken s.taken head ≡ true)
+BreaksBy s m fault = ⊥
+
+-- something waits, and the avail ring breaks a rule
 abbrev pub Breaks : QueueState → Bytes → RingFault → Type 0
-Breaks s m (faults.Jump ahead) = (ahead ≡ waiting s m) × (s.ring.size < ahead)
-Breaks s m (faults.BadHead head) = SomeWait s m × (head ≡ head_word s.ring m s.avail) × (s.ring.size ≤ head)
-Breaks s m (faults.Twice head) = SomeWait s m × (head ≡ head_word s.ring m s.avail) × (head < s.ring.size) × (is_taken s.taken head ≡ true)
-Breaks s m fault = ⊥
+Breaks s m fault = (1 ≤ waiting s m) × BreaksBy s m fault
 
 -- what stands at the avail index: no head, a head that is free, or a break of a rule
 abbrev pub Finds : QueueState → Bytes → Result (Option ℕ) Stop → Type 0
@@ -200,3 +208,64 @@ publish_row most s = row_if (publishes most s) (under_way most s)
 abbrev pub Publishes : Bool → Stepped → QueueState → QueueState → QueueState → Type 0
 Publishes false x s u t = (x ≡ says.Idle) × (t ≡ s)
 Publishes true x s u t = Moves x (next_row u) u t
+
+-- ---- turns
+
+abbrev pub is_idle : Stepped → Bool
+is_idle says.Idle = true
+is_idle x = false
+
+abbrev pub is_fault : Stepped → Bool
+is_fault says.SharedFault = true
+is_fault x = false
+
+-- where a test fails
+abbrev pub Unless : Bool → Type 0 → Type 0
+Unless true P = ⊤
+Unless false P = P
+
+-- what a turn of the step table does of the queue. Work on a request is told elsewhere
+abbrev pub DoesOf : Turn → Option Bytes → Stepped → QueueState → QueueState → Type 0
+DoesOf Start told x s t = (x ≡ started_from s) × (t ≡ record s { started = true })
+DoesOf Fetch told x s t = Fetches told x s t
+DoesOf (Work place) told x s t = ⊤
+DoesOf (Publish most) told x s t = Publishes (publishes most s) x s (under_way most s) t
+
+-- the same, unless the shared memory failed, which stops the queue
+abbrev pub Does : Turn → Option Bytes → Stepped → QueueState → QueueState → Type 0
+Does turn told x s t = Unless (is_fault x) (DoesOf turn told x s t)
+
+-- the told bytes before and after it: only a publication stores, beside work on a request
+abbrev pub DoesStore : Turn → Option Bytes → Option Bytes → Stepped → QueueState → Type 0
+DoesStore (Work place) before after x s = ⊤
+DoesStore (Publish most) before after x s = StoresRow before after x (publish_row most s)
+DoesStore turn before after x s = after ≡ before
+
+-- the told list of stores before and after it
+abbrev pub DoesTrail : Turn → Option (List Store) → Option (List Store) → Stepped → QueueState → Type 0
+DoesTrail (Work place) before after x s = ⊤
+DoesTrail (Publish most) before after x s = TrailsRow before after x (publish_row most s)
+DoesTrail turn before after x s = after ≡ before
+
+-- the count of faults before and after it
+abbrev pub DoesFault : Turn → ℕ → ℕ → Stepped → Type 0
+DoesFault (Work place) before after x = ⊤
+DoesFault turn before after x = HasCause before after (outcome x)
+
+-- the turn of the step table that this one is at a standing
+abbrev pub turn_at : ℕ → Standing → asked.Turn → Turn
+turn_at size standing asks.Start = Start
+turn_at size standing asks.Fetch = Fetch
+turn_at size standing (asks.Work place) = Work place
+turn_at size standing (asks.Publish most) = Publish most
+turn_at size standing asks.Any = any_turn size standing
+
+-- a fault of the ring or of the shared memory stops the queue
+abbrev pub halted : Stepped → QueueState → QueueState
+halted (says.Broken fault) s = record s { stopped = Some (stops.Broken fault) }
+halted says.SharedFault s = record s { stopped = Some stops.Shared }
+halted x s = s
+
+-- what a turn does of a queue that isn't stopped
+abbrev pub Turns : Turn → Option Bytes → Stepped → QueueState → QueueState → Type 0
+Turns turn told x s t = (u : QueueState) × (t ≡ halted x u) × Does turn told x s u

@@ -138,15 +138,28 @@ fn drop_front(completed: &mut Vec<Completed>, count: usize)
     let _ = completed.drain(..count);
 }
 
+impl Stepped {
+    ghost use Rattle.vub_world.specs.QueueState.{is_idle};
+
+    fn is_idle(&self) -> bool
+        ensures { result ≡ is_idle self.now }
+    {
+        matches!(self, Stepped::Idle)
+    }
+}
+
 impl Queue {
     ghost use Rattle.vub_base.specs.Causes.{HasCause};
     ghost use Rattle.vub_base.specs.Told.{WhereTold};
-    ghost use Rattle.vub_ring.specs.Readiness.{is_publication};
+    ghost use Rattle.vub_ring.specs.Readiness.{is_publication, is_ready, any_turn, work_or_publish, drain_turn};
+    ghost use Rattle.vub_ring.specs.declared.readiness.Turn.TheVariants.{Fetch};
+    ghost use Rattle.std.specs.Prelude.{not, ◌==◌, is_some};
     ghost use Rattle.vub_ring.specs.Steps.{next_step, after_step};
+    ghost use Rattle.vub_world.specs.declared.queue.Stepped.TheVariants.{Idle};
     ghost use Rattle.vub_ring.specs.declared.steps.Phase.TheVariants.{Rest};
     ghost use Rattle.vub_ring.specs.declared.steps.Step.TheVariants.{Id, Len, Index};
     ghost use Rattle.vub_world.specs.Queue.{ring_in};
-    ghost use Rattle.vub_world.specs.QueueState.{state_of, new_state, started_from, standing_at, waiting, IsFree, Finds, Fetches, accepted, may_fetch, begun, under_way, next_row, moved, with_phase, Moves, outcome, found_outcome, StoresRow, TrailsRow, publishes, publish_row, Publishes};
+    ghost use Rattle.vub_world.specs.QueueState.{state_of, new_state, started_from, standing_at, waiting, IsFree, Finds, Fetches, accepted, may_fetch, begun, under_way, next_row, moved, with_phase, Moves, outcome, found_outcome, StoresRow, TrailsRow, publishes, publish_row, Publishes, is_idle, is_fault, Unless, Does, DoesStore, DoesTrail, DoesFault, turn_at, halted, Turns};
 
     /// A queue that isn't started. All memory that it needs is reserved here.
     pub fn new(alloc: Global, setup: &QueueSetup) -> Result<Queue, Memory>
@@ -304,6 +317,7 @@ impl Queue {
     fn fetch<M: Shared>(&mut self, mem: &mut M) -> Stepped
         requires { RingLies (M.sizes mem.old) (ring_in self.old) }
         ensures ring { ring_in self.new ≡ ring_in self.old }
+        ensures ready { Unless (is_fault result) (WhereTold (M.told mem.old) (λ m. is_ready (standing_at (state_of self.old) (waiting (state_of self.old) m)) Fetch ≡ not (is_idle result))) }
         ensures fetches { Fetches (M.told mem.old) result (state_of self.old) (state_of self.new) }
         ensures told { M.told mem.new ≡ M.told mem.old }
         ensures trail { M.trail mem.new ≡ M.trail mem.old }
@@ -533,22 +547,14 @@ impl Queue {
         self.publish_step(mem)
     }
 
-    /// The first that is ready of fetch, work on the oldest request, and publication of all.
-    fn fetch_or_go_on<M: Shared, D: Disk>(&mut self, mem: &mut M, disk: &mut D) -> Stepped
-        requires { RingLies (M.sizes mem.old) (ring_in self.old) }
-        ensures ring { ring_in self.new ≡ ring_in self.old }
-        ensures sizes { (s : ℕ) → M.sizes mem.new s ≡ M.sizes mem.old s }
-        ensures capacity { D.capacity disk.new ≡ D.capacity disk.old }
-    {
-        match self.fetch(mem) {
-            Stepped::Idle => self.go_on(mem, disk),
-            stepped => stepped,
-        }
-    }
-
+    /// Works on the oldest request, or publishes all.
     fn go_on<M: Shared, D: Disk>(&mut self, mem: &mut M, disk: &mut D) -> Stepped
-        requires { RingLies (M.sizes mem.old) (ring_in self.old) }
+        requires lies { RingLies (M.sizes mem.old) (ring_in self.old) }
         ensures ring { ring_in self.new ≡ ring_in self.old }
+        ensures does { (waiting : ℕ) → Does (work_or_publish self.old.ring.size (standing_at (state_of self.old) waiting)) (M.told mem.old) result (state_of self.old) (state_of self.new) }
+        ensures stores { (waiting : ℕ) → DoesStore (work_or_publish self.old.ring.size (standing_at (state_of self.old) waiting)) (M.told mem.old) (M.told mem.new) result (state_of self.old) }
+        ensures trails { (waiting : ℕ) → DoesTrail (work_or_publish self.old.ring.size (standing_at (state_of self.old) waiting)) (M.trail mem.old) (M.trail mem.new) result (state_of self.old) }
+        ensures cause { (waiting : ℕ) → DoesFault (work_or_publish self.old.ring.size (standing_at (state_of self.old) waiting)) (M.faults mem.old) (M.faults mem.new) result }
         ensures sizes { (s : ℕ) → M.sizes mem.new s ≡ M.sizes mem.old s }
         ensures capacity { D.capacity disk.new ≡ D.capacity disk.old }
     {
@@ -559,9 +565,33 @@ impl Queue {
         }
     }
 
-    fn any<M: Shared, D: Disk>(&mut self, mem: &mut M, disk: &mut D) -> Stepped
-        requires { RingLies (M.sizes mem.old) (ring_in self.old) }
+    /// The first that is ready of fetch, work on the oldest request, and publication of all.
+    fn fetch_or_go_on<M: Shared, D: Disk>(&mut self, mem: &mut M, disk: &mut D) -> Stepped
+        requires lies { RingLies (M.sizes mem.old) (ring_in self.old) }
+        requires started { self.old.started ≡ true }
+        requires rests { is_publication self.old.phase ≡ false }
         ensures ring { ring_in self.new ≡ ring_in self.old }
+        ensures does { WhereTold (M.told mem.old) (λ m. Does (any_turn self.old.ring.size (standing_at (state_of self.old) (waiting (state_of self.old) m))) (M.told mem.old) result (state_of self.old) (state_of self.new)) }
+        ensures stores { WhereTold (M.told mem.old) (λ m. DoesStore (any_turn self.old.ring.size (standing_at (state_of self.old) (waiting (state_of self.old) m))) (M.told mem.old) (M.told mem.new) result (state_of self.old)) }
+        ensures trails { WhereTold (M.told mem.old) (λ m. DoesTrail (any_turn self.old.ring.size (standing_at (state_of self.old) (waiting (state_of self.old) m))) (M.trail mem.old) (M.trail mem.new) result (state_of self.old)) }
+        ensures cause { WhereTold (M.told mem.old) (λ m. DoesFault (any_turn self.old.ring.size (standing_at (state_of self.old) (waiting (state_of self.old) m))) (M.faults mem.old) (M.faults mem.new) result) }
+        ensures sizes { (s : ℕ) → M.sizes mem.new s ≡ M.sizes mem.old s }
+        ensures capacity { D.capacity disk.new ≡ D.capacity disk.old }
+    {
+        let stepped = self.fetch(mem);
+        if !stepped.is_idle() {
+            return stepped;
+        }
+        self.go_on(mem, disk)
+    }
+
+    fn any<M: Shared, D: Disk>(&mut self, mem: &mut M, disk: &mut D) -> Stepped
+        requires lies { RingLies (M.sizes mem.old) (ring_in self.old) }
+        ensures ring { ring_in self.new ≡ ring_in self.old }
+        ensures does { WhereTold (M.told mem.old) (λ m. Does (any_turn self.old.ring.size (standing_at (state_of self.old) (waiting (state_of self.old) m))) (M.told mem.old) result (state_of self.old) (state_of self.new)) }
+        ensures stores { WhereTold (M.told mem.old) (λ m. DoesStore (any_turn self.old.ring.size (standing_at (state_of self.old) (waiting (state_of self.old) m))) (M.told mem.old) (M.told mem.new) result (state_of self.old)) }
+        ensures trails { WhereTold (M.told mem.old) (λ m. DoesTrail (any_turn self.old.ring.size (standing_at (state_of self.old) (waiting (state_of self.old) m))) (M.trail mem.old) (M.trail mem.new) result (state_of self.old)) }
+        ensures cause { WhereTold (M.told mem.old) (λ m. DoesFault (any_turn self.old.ring.size (standing_at (state_of self.old) (waiting (state_of self.old) m))) (M.faults mem.old) (M.faults mem.new) result) }
         ensures sizes { (s : ℕ) → M.sizes mem.new s ≡ M.sizes mem.old s }
         ensures capacity { D.capacity disk.new ≡ D.capacity disk.old }
     {
@@ -575,8 +605,12 @@ impl Queue {
     }
 
     fn step_of<M: Shared, D: Disk>(&mut self, turn: Turn, mem: &mut M, disk: &mut D) -> Stepped
-        requires { RingLies (M.sizes mem.old) (ring_in self.old) }
+        requires lies { RingLies (M.sizes mem.old) (ring_in self.old) }
         ensures ring { ring_in self.new ≡ ring_in self.old }
+        ensures does { WhereTold (M.told mem.old) (λ m. Does (turn_at self.old.ring.size (standing_at (state_of self.old) (waiting (state_of self.old) m)) turn) (M.told mem.old) result (state_of self.old) (state_of self.new)) }
+        ensures stores { WhereTold (M.told mem.old) (λ m. DoesStore (turn_at self.old.ring.size (standing_at (state_of self.old) (waiting (state_of self.old) m)) turn) (M.told mem.old) (M.told mem.new) result (state_of self.old)) }
+        ensures trails { WhereTold (M.told mem.old) (λ m. DoesTrail (turn_at self.old.ring.size (standing_at (state_of self.old) (waiting (state_of self.old) m)) turn) (M.trail mem.old) (M.trail mem.new) result (state_of self.old)) }
+        ensures cause { WhereTold (M.told mem.old) (λ m. DoesFault (turn_at self.old.ring.size (standing_at (state_of self.old) (waiting (state_of self.old) m)) turn) (M.faults mem.old) (M.faults mem.new) result) }
         ensures sizes { (s : ℕ) → M.sizes mem.new s ≡ M.sizes mem.old s }
         ensures capacity { D.capacity disk.new ≡ D.capacity disk.old }
     {
@@ -589,12 +623,29 @@ impl Queue {
         }
     }
 
+    /// Stops where a step ended in a fault.
+    fn halt(&mut self, stepped: Stepped)
+        ensures ring { ring_in self.new ≡ ring_in self.old }
+        ensures state { state_of self.new ≡ halted stepped (state_of self.old) }
+    {
+        match stepped {
+            Stepped::Broken(fault) => self.stopped = Some(Stop::Broken(fault)),
+            Stepped::SharedFault => self.stopped = Some(Stop::Shared),
+            _ => {}
+        }
+    }
+
     /// Makes the next step of its kind, and is `Idle` where it isn't ready. A fault of shared
     /// memory, or a ring that breaks a rule, stops the queue: later turns are `Idle`. A disk fault
     /// stops nothing. Takes no memory.
     pub fn turn<M: Shared, D: Disk>(&mut self, turn: Turn, mem: &mut M, disk: &mut D) -> Stepped
         requires { RingLies (M.sizes mem.old) (ring_in self.old) }
         ensures ring { ring_in self.new ≡ ring_in self.old }
+        ensures stopped { is_some (state_of self.old).stopped ≡ true → (result ≡ Idle) × (state_of self.new ≡ state_of self.old) × (M.told mem.new ≡ M.told mem.old) × (M.trail mem.new ≡ M.trail mem.old) }
+        ensures does { is_some (state_of self.old).stopped ≡ false → WhereTold (M.told mem.old) (λ m. Turns (turn_at (ring_in self.old).size (standing_at (state_of self.old) (waiting (state_of self.old) m)) turn) (M.told mem.old) result (state_of self.old) (state_of self.new)) }
+        ensures stores { is_some (state_of self.old).stopped ≡ false → WhereTold (M.told mem.old) (λ m. DoesStore (turn_at (ring_in self.old).size (standing_at (state_of self.old) (waiting (state_of self.old) m)) turn) (M.told mem.old) (M.told mem.new) result (state_of self.old)) }
+        ensures trails { is_some (state_of self.old).stopped ≡ false → WhereTold (M.told mem.old) (λ m. DoesTrail (turn_at (ring_in self.old).size (standing_at (state_of self.old) (waiting (state_of self.old) m)) turn) (M.trail mem.old) (M.trail mem.new) result (state_of self.old)) }
+        ensures cause { is_some (state_of self.old).stopped ≡ false → WhereTold (M.told mem.old) (λ m. DoesFault (turn_at (ring_in self.old).size (standing_at (state_of self.old) (waiting (state_of self.old) m)) turn) (M.faults mem.old) (M.faults mem.new) result) }
         ensures sizes { (s : ℕ) → M.sizes mem.new s ≡ M.sizes mem.old s }
         ensures capacity { D.capacity disk.new ≡ D.capacity disk.old }
     {
@@ -602,17 +653,15 @@ impl Queue {
             return Stepped::Idle;
         }
         let stepped = self.step_of(turn, mem, disk);
-        match stepped {
-            Stepped::Broken(fault) => self.stopped = Some(Stop::Broken(fault)),
-            Stepped::SharedFault => self.stopped = Some(Stop::Shared),
-            _ => {}
-        }
+        self.halt(stepped);
         stepped
     }
 
     /// The next turn of a drain in which so many requests were accepted: any step, and once it
     /// accepted as many as the queue has places, none that fetches.
-    pub fn draining(&self, accepted: u16) -> Turn {
+    pub fn draining(&self, accepted: u16) -> Turn
+        ensures { (waiting : ℕ) → turn_at (ring_in self.now).size (standing_at (state_of self.now) waiting) result ≡ drain_turn (ring_in self.now).size accepted (standing_at (state_of self.now) waiting) }
+    {
         if accepted < self.ring.size {
             Turn::Any
         } else if self.is_publishing() || self.unfinished.is_empty() {
