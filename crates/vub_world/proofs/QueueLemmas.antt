@@ -2,9 +2,9 @@
 use Rattle.std.proofs.Common.{◌≡◌, ◌<◌, ◌≤◌, ℕ, zero, suc, ◌+◌, ◌*◌, ◌%◌, Bool, true, false, List, [], ◌∷◌, ◌++◌, length, get_or, map, take, drop, min, refl, ap, sym, ◌∙◌, subst, arith}
 use native.Mathlib.Numerals.{unary_clauses}
 use Rattle.std.proofs.lemmas.Bool.Decides.{nat_tests}
-use Rattle.std.proofs.lemmas.List.{take-map, drop-map, take_min, length-map, length-take-le, length-set, set_past}
+use Rattle.std.proofs.lemmas.List.{take-map, drop-map, take_min, length-map, length-take-le, length-set, set_past, drop-append-le, take-append-le, map-append}
 use Rattle.std.proofs.lemmas.Option.{slice_get-get_or, slice_get-map}
-use Rattle.std.specs.Prelude.{◌==◌, ◌&&◌, ◌||◌, not, if◌then◌else◌, nat_le, nat_lt, set, slice_get, option_map, Option, Some, None, Result, Ok, Err}
+use Rattle.std.specs.Prelude.{remove, ◌==◌, ◌&&◌, ◌||◌, not, if◌then◌else◌, nat_le, nat_lt, set, slice_get, option_map, Option, Some, None, Result, Ok, Err}
 use Rattle.byteorder.specs.Endian.{little_bytes}
 use Rattle.vub_base.specs.declared.store.Tag.TheVariants.{SP1, SP2, SP5}
 use Rattle.vub_base.specs.Causes.{Rose, HasCause}
@@ -303,6 +303,20 @@ idle_is (says.Broken fault) idle = grind arith
 -- of a queue at rest from which no fetch is ready, work or publication is next
 pub any_is : (size : ℕ) (s : Standing) → s.started ≡ true → is_publication s.phase ≡ false → is_ready s turns.Fetch ≡ false → any_turn size s ≡ work_or_publish size s
 any_is size s started rests unready = rw (unready, started, rests) refl
+
+-- ---- work
+
+pub heads_without : (xs : List Task) (i : ℕ) → map head_of (remove xs i) ≡ remove (map head_of xs) i
+heads_without [] zero = refl
+heads_without [] (suc i) = refl
+heads_without (x ∷ xs) zero = refl
+heads_without (x ∷ xs) (suc i) = ap (λ hs. head_of x ∷ hs) (heads_without xs i)
+
+pub completed_more : (n : ℕ) (xs : List Completed) (x : Completed) → n ≤ length xs → map element (drop n (xs ++ x ∷ [])) ≡ map element (drop n xs) ++ element x ∷ []
+completed_more n xs x few = ap (map element) (drop-append-le n xs (x ∷ []) few) ∙ map-append element (drop n xs) (x ∷ [])
+
+pub batch_still : (n : ℕ) (xs : List Completed) (x : Completed) → n ≤ length xs → map element (take n (xs ++ x ∷ [])) ≡ map element (take n xs)
+batch_still n xs x few = ap (map element) (take-append-le n xs (x ∷ []) few)
 
 -- ---- causes
 

@@ -1,5 +1,5 @@
 -- The state of the device's side of one queue, and what its own steps make of it.
-use Rattle.std.specs.Prelude.{◌≡◌, ◌<◌, ◌≤◌, ℕ, ◌+◌, ◌%◌, Bool, true, false, not, if◌then◌else◌, List, [], ◌∷◌, ◌++◌, length, map, take, drop, set, replicate, Option, Some, None, Result, Ok, Err, ⊤}
+use Rattle.std.specs.Prelude.{◌≡◌, ◌<◌, ◌≤◌, ℕ, ◌+◌, ◌%◌, Bool, true, false, not, if◌then◌else◌, List, [], ◌∷◌, ◌++◌, length, map, take, drop, set, replicate, remove, Option, Some, None, Result, Ok, Err, ⊤}
 use Rattle.vub_base.specs.declared.ring_fault.RingFault.{RingFault}
 use Rattle.vub_base.specs.declared.ring_fault.RingFault.TheVariants as faults
 use Rattle.vub_base.specs.declared.store.Tag.TheVariants.{SP5}
@@ -209,6 +209,14 @@ abbrev pub Publishes : Bool → Stepped → QueueState → QueueState → QueueS
 Publishes false x s u t = (x ≡ says.Idle) × (t ≡ s)
 Publishes true x s u t = Moves x (next_row u) u t
 
+-- ---- work
+
+-- a step of the request in this place changes nothing here, but the one that stores its status moves it to the completed
+-- ones with its used length
+abbrev pub Works : ℕ → Stepped → QueueState → QueueState → Type 0
+Works place (says.Completed head) s t = (len : ℕ) × (t ≡ record s { unfinished = remove s.unfinished place; completed = s.completed ++ (head, len) ∷ [] })
+Works place x s t = t ≡ s
+
 -- ---- turns
 
 abbrev pub is_idle : Stepped → Bool
@@ -224,11 +232,11 @@ abbrev pub Unless : Bool → Type 0 → Type 0
 Unless true P = ⊤
 Unless false P = P
 
--- what a turn of the step table does of the queue. Work on a request is told elsewhere
+-- what a turn of the step table does of the queue
 abbrev pub DoesOf : Turn → Option Bytes → Stepped → QueueState → QueueState → Type 0
 DoesOf Start told x s t = (x ≡ started_from s) × (t ≡ record s { started = true })
 DoesOf Fetch told x s t = Fetches told x s t
-DoesOf (Work place) told x s t = ⊤
+DoesOf (Work place) told x s t = Works place x s t
 DoesOf (Publish most) told x s t = Publishes (publishes most s) x s (under_way most s) t
 
 -- the same, unless the shared memory failed, which stops the queue

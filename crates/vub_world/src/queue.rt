@@ -153,13 +153,13 @@ impl Queue {
     ghost use Rattle.vub_base.specs.Told.{WhereTold};
     ghost use Rattle.vub_ring.specs.Readiness.{is_publication, is_ready, any_turn, work_or_publish, drain_turn};
     ghost use Rattle.vub_ring.specs.declared.readiness.Turn.TheVariants.{Fetch};
-    ghost use Rattle.std.specs.Prelude.{not, ◌==◌, is_some};
+    ghost use Rattle.std.specs.Prelude.{not, ◌==◌, is_some, remove, ◌++◌, ◌∷◌, []};
     ghost use Rattle.vub_ring.specs.Steps.{next_step, after_step};
     ghost use Rattle.vub_world.specs.declared.queue.Stepped.TheVariants.{Idle};
     ghost use Rattle.vub_ring.specs.declared.steps.Phase.TheVariants.{Rest};
     ghost use Rattle.vub_ring.specs.declared.steps.Step.TheVariants.{Id, Len, Index};
     ghost use Rattle.vub_world.specs.Queue.{ring_in};
-    ghost use Rattle.vub_world.specs.QueueState.{state_of, new_state, started_from, standing_at, waiting, IsFree, Finds, Fetches, accepted, may_fetch, begun, under_way, next_row, moved, with_phase, Moves, outcome, found_outcome, StoresRow, TrailsRow, publishes, publish_row, Publishes, is_idle, is_fault, Unless, Does, DoesStore, DoesTrail, DoesFault, turn_at, halted, Turns};
+    ghost use Rattle.vub_world.specs.QueueState.{state_of, new_state, started_from, standing_at, waiting, IsFree, Finds, Fetches, accepted, may_fetch, begun, under_way, next_row, moved, with_phase, Moves, outcome, found_outcome, StoresRow, TrailsRow, publishes, publish_row, Publishes, is_idle, is_fault, Unless, Works, Does, DoesStore, DoesTrail, DoesFault, turn_at, halted, Turns};
 
     /// A queue that isn't started. All memory that it needs is reserved here.
     pub fn new(alloc: Global, setup: &QueueSetup) -> Result<Queue, Memory>
@@ -341,7 +341,8 @@ impl Queue {
     /// Moves a request to the completed ones.
     fn complete(&mut self, place: usize, head: u16, len: u32)
         requires { place < vec_len self.old.unfinished }
-        ensures { ring_in self.new ≡ ring_in self.old }
+        ensures ring { ring_in self.new ≡ ring_in self.old }
+        ensures state { state_of self.new ≡ record (state_of self.old) { unfinished = remove (state_of self.old).unfinished place; completed = (state_of self.old).completed ++ (head, len) ∷ [] } }
     {
         self.unfinished.remove(place);
         self.completed.push_reserved(Completed { head, len });
@@ -356,6 +357,7 @@ impl Queue {
     ) -> Option<(u16, TaskStep)>
         requires { RingLies (M.sizes mem.old) (ring_in self.old) }
         ensures ring { ring_in self.new ≡ ring_in self.old }
+        ensures state { state_of self.new ≡ state_of self.old }
         ensures sizes { (s : ℕ) → M.sizes mem.new s ≡ M.sizes mem.old s }
         ensures capacity { D.capacity disk.new ≡ D.capacity disk.old }
     {
@@ -371,6 +373,7 @@ impl Queue {
     fn work<M: Shared, D: Disk>(&mut self, place: u16, mem: &mut M, disk: &mut D) -> Stepped
         requires { RingLies (M.sizes mem.old) (ring_in self.old) }
         ensures ring { ring_in self.new ≡ ring_in self.old }
+        ensures works { Works place result (state_of self.old) (state_of self.new) }
         ensures sizes { (s : ℕ) → M.sizes mem.new s ≡ M.sizes mem.old s }
         ensures capacity { D.capacity disk.new ≡ D.capacity disk.old }
     {

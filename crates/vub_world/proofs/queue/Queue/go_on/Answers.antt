@@ -14,7 +14,7 @@ pub returns-else-is_empty-clause-does : goal.returns-else-is_empty-clause-does
 returns-else-is_empty-clause-does g c waiting =
     let q = c.args.self.now in
     let some : nat_lt 0 (length (map head_of q.unfinished.items)) ≡ true = some_at_work q.unfinished.items q.unfinished.len (omega arith) (sym c.is_empty.ensures ∙ c.if-is_empty.false) in
-    rw some (unless (is_fault c.work.result) _ tt)
+    rw some (unless (is_fault c.work.result) _ c.work.ensures.works)
 
 pub returns-then-is_empty-clause-stores : goal.returns-then-is_empty-clause-stores
 returns-then-is_empty-clause-stores g c waiting =
