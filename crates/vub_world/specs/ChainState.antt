@@ -113,3 +113,8 @@ abbrev pub Reads : {T : Type 0} → Result T Unread → T → Type 0
 Reads (Ok x) y = x ≡ y
 Reads (Err unread.Failed) y = ⊤
 Reads (Err (unread.Broken fault)) y = ⊥
+
+-- whether the memory failed in a read
+abbrev pub read_outcome : {T : Type 0} → Result T Unread → Result (Unit {0}) (Unit {0})
+read_outcome (Err unread.Failed) = Err tt
+read_outcome r = Ok tt

@@ -1,5 +1,5 @@
 -- A request at work: which step its task makes next, and what that step leaves (VIRTIO 1.2, 5.2.6).
-use Rattle.std.specs.Prelude.{◌≡◌, ◌<◌, ℕ, ◌+◌, ◌*◌, ◌/◌, ◌%◌, Bool, false, not, ◌==◌, ◌&&◌, if◌then◌else◌, min, List, [], ◌∷◌, length, slice_get, Option, Some, None, ⊤}
+use Rattle.std.specs.Prelude.{◌≡◌, ◌<◌, ℕ, ◌+◌, ◌*◌, ◌/◌, ◌%◌, Bool, false, not, ◌==◌, ◌&&◌, if◌then◌else◌, min, List, [], ◌∷◌, length, slice_get, Option, Some, None, Result, Ok, Err, ⊤}
 use Rattle.vub_base.specs.declared.header.Header1.{Header1}
 use Rattle.vub_base.specs.declared.header.CacheMode.TheVariants.{Back}
 use Rattle.vub_base.specs.declared.store.Tag.TheVariants.{T2}
@@ -111,6 +111,15 @@ IfMade None P = ⊥
 IfMade (Some answers.Faulted) P = ⊤
 IfMade (Some answers.Failed) P = ⊤
 IfMade (Some step) P = P step
+
+-- whether the memory failed in a step, and whether the disk did
+abbrev pub memory_outcome : Option made.TaskStep → Result (Unit {0}) (Unit {0})
+memory_outcome (Some answers.Failed) = Err tt
+memory_outcome o = Ok tt
+
+abbrev pub disk_outcome : Option made.TaskStep → Result (Unit {0}) (Unit {0})
+disk_outcome (Some answers.Faulted) = Err tt
+disk_outcome o = Ok tt
 
 -- how a step is answered
 abbrev pub answer_to : Header1 → Asked → TaskStep → made.TaskStep

@@ -2,13 +2,14 @@
 //! (VIRTIO 1.2, 5.2.6).
 ghost use Rattle.std.specs.Prelude.{◌≡◌, ◌<◌, ◌≤◌, ◌+◌, ◌*◌, ◌/◌, ◌%◌, ◌^◌, ℕ, true, false, Option, Some, None, Ok, Err, option_map};
 ghost use Rattle.byteorder.specs.Endian.{little_bytes};
+ghost use Rattle.vub_base.specs.Causes.{HasCause};
 ghost use Rattle.vub_base.specs.Told.{WhereTold};
 ghost use Rattle.vub_base.specs.declared.store.Tag.TheVariants.{T2};
 ghost use Rattle.vub_shared.specs.Bytes.{bytes_from};
 ghost use Rattle.vub_shared.specs.Stores.{one_store, after_store};
 ghost use Rattle.vub_disk.specs.Values.{with_value};
 ghost use Rattle.vub_world.specs.Split.{RingLies};
-ghost use Rattle.vub_world.specs.TaskState.{IfMade, plain_len_of, plain_answer_of, whole_transfer};
+ghost use Rattle.vub_world.specs.TaskState.{IfMade, memory_outcome, disk_outcome, plain_len_of, plain_answer_of, whole_transfer};
 ghost use Rattle.vub_world.specs.declared.chain.Sectors.{Sectors};
 ghost use Rattle.vub_world.specs.declared.task.TaskStep.TheVariants as answers;
 ghost use Rattle.vub_world.specs.declared.task.Work.TheVariants as work;
@@ -209,7 +210,7 @@ impl Task {
     ghost use Rattle.vub_world.specs.GuestChain.{Links};
     ghost use Rattle.vub_world.specs.Tasks as Tasks;
     ghost use Rattle.vub_world.specs.Tasks.{task_steps};
-    ghost use Rattle.vub_world.specs.ChainState.{MeansRequest, Reads};
+    ghost use Rattle.vub_world.specs.ChainState.{MeansRequest, Reads, read_outcome};
     ghost use Rattle.vub_world.specs.TaskState.{Making, IsNext, IsServed, IsReady, IsTaskAt, HasMade, LooksAt, answer_in, memory_after, values_after, work_for, work_of};
     ghost use Rattle.vub_world.specs.declared.split.SplitRing.{SplitRing};
 
@@ -238,6 +239,7 @@ impl Task {
         ensures told { M.told mem.new ≡ M.told mem.old }
         ensures trail { M.trail mem.new ≡ M.trail mem.old }
         ensures sizes { (s : ℕ) → M.sizes mem.new s ≡ M.sizes mem.old s }
+        ensures cause { HasCause (M.faults mem.old) (M.faults mem.new) (read_outcome result) }
     {
         let parts = read_chain(ring, mem, self.head)?;
         let header = parts.header;
@@ -265,6 +267,8 @@ impl Task {
         ensures head { self.new.head ≡ self.old.head }
         ensures values { D.values disk.new ≡ D.values disk.old }
         ensures capacity { D.capacity disk.new ≡ D.capacity disk.old }
+        ensures disk_cause { HasCause (D.faults disk.old) (D.faults disk.new) (disk_outcome result) }
+        ensures no_memory { memory_outcome result ≡ Ok tt }
     {
         let number = transfer.sector.checked_add(transfer.done)?;
         if number >= disk.capacity() {
@@ -290,6 +294,8 @@ impl Task {
         ensures last { transfer.span.place + (512 * transfer.done + 512) ≤ M.sizes mem.old transfer.span.space.number → transfer.count ≤ transfer.done + 1 → IfMade result (λ step. self.new.work ≡ work.Reply transfer.answer) }
         ensures head { self.new.head ≡ self.old.head }
         ensures sizes { (s : ℕ) → M.sizes mem.new s ≡ M.sizes mem.old s }
+        ensures memory_cause { HasCause (M.faults mem.old) (M.faults mem.new) (memory_outcome result) }
+        ensures no_disk { disk_outcome result ≡ Ok tt }
     {
         let span = sector_span(&transfer)?;
         if span.len != 512 || !lies_in(mem, &span) {
@@ -321,6 +327,8 @@ impl Task {
         ensures told { M.told mem.new ≡ M.told mem.old }
         ensures sizes { (s : ℕ) → M.sizes mem.new s ≡ M.sizes mem.old s }
         ensures capacity { D.capacity disk.new ≡ D.capacity disk.old }
+        ensures memory_cause { HasCause (M.faults mem.old) (M.faults mem.new) (memory_outcome result) }
+        ensures disk_cause { HasCause (D.faults disk.old) (D.faults disk.new) (disk_outcome result) }
     {
         let span = sector_span(&transfer)?;
         let number = transfer.sector.checked_add(transfer.done)?;
@@ -348,6 +356,8 @@ impl Task {
         ensures values { D.values disk.new ≡ D.values disk.old }
         ensures head { self.new.head ≡ self.old.head }
         ensures capacity { D.capacity disk.new ≡ D.capacity disk.old }
+        ensures disk_cause { HasCause (D.faults disk.old) (D.faults disk.new) (disk_outcome (Some result)) }
+        ensures no_memory { memory_outcome (Some result) ≡ Ok tt }
     {
         if disk.flush().is_err() {
             self.work = Work::Reply(failed(answer));
@@ -361,6 +371,8 @@ impl Task {
         ensures answer { answer.span.len ≡ 1 → answer.span.place + 1 ≤ M.sizes mem.old answer.span.space.number → IfMade result (λ step. step ≡ answers.Done answer.status answer.len) }
         ensures stored { answer.span.len ≡ 1 → answer.span.place + 1 ≤ M.sizes mem.old answer.span.space.number → IfMade result (λ step. M.told mem.new ≡ option_map (after_store (one_store answer.span.space.number answer.span.place (little_bytes 1 answer.status))) (M.told mem.old)) }
         ensures sizes { (s : ℕ) → M.sizes mem.new s ≡ M.sizes mem.old s }
+        ensures memory_cause { HasCause (M.faults mem.old) (M.faults mem.new) (memory_outcome result) }
+        ensures no_disk { disk_outcome result ≡ Ok tt }
     {
         if answer.span.len == 0 || !lies_in(mem, &answer.span) {
             return None;
@@ -388,6 +400,7 @@ impl Task {
         ensures told { M.told mem.new ≡ M.told mem.old }
         ensures trail { M.trail mem.new ≡ M.trail mem.old }
         ensures sizes { (s : ℕ) → M.sizes mem.new s ≡ M.sizes mem.old s }
+        ensures cause { HasCause (M.faults mem.old) (M.faults mem.new) (read_outcome result) }
     {
         match self.work {
             Work::Begin => self.begin(ring, mem, capacity),
@@ -417,6 +430,8 @@ impl Task {
         ensures goes_on { (n : Making) → WhereTold (M.told mem.old) (λ m. IsNext (D.capacity disk.old) (M.sizes mem.old) ring.now m n → IsReady ring.now n self.old → IfMade (Some result) (λ step. HasMade ring.now n self.new)) }
         ensures sizes { (s : ℕ) → M.sizes mem.new s ≡ M.sizes mem.old s }
         ensures capacity { D.capacity disk.new ≡ D.capacity disk.old }
+        ensures memory_cause { HasCause (M.faults mem.old) (M.faults mem.new) (memory_outcome (Some result)) }
+        ensures disk_cause { HasCause (D.faults disk.old) (D.faults disk.new) (disk_outcome (Some result)) }
     {
         match self.prepare(ring, mem, disk.capacity()) {
             Ok(work) => {
@@ -442,6 +457,8 @@ impl Task {
         ensures goes_on { (r : SplitRing) (n : Making) → WhereTold (M.told mem.old) (λ m. IsNext (D.capacity disk.old) (M.sizes mem.old) r m n → self.old.work ≡ work_of r n → IfMade (Some result) (λ step. HasMade r n self.new)) }
         ensures sizes { (s : ℕ) → M.sizes mem.new s ≡ M.sizes mem.old s }
         ensures capacity { D.capacity disk.new ≡ D.capacity disk.old }
+        ensures memory_cause { HasCause (M.faults mem.old) (M.faults mem.new) (memory_outcome (Some result)) }
+        ensures disk_cause { HasCause (D.faults disk.old) (D.faults disk.new) (disk_outcome (Some result)) }
     {
         match self.attempt(mem, disk, sector) {
             Some(step) => step,
@@ -465,6 +482,8 @@ impl Task {
         ensures goes_on { (r : SplitRing) (n : Making) → WhereTold (M.told mem.old) (λ m. IsNext (D.capacity disk.old) (M.sizes mem.old) r m n → self.old.work ≡ work_of r n → IfMade result (λ step. HasMade r n self.new)) }
         ensures sizes { (s : ℕ) → M.sizes mem.new s ≡ M.sizes mem.old s }
         ensures capacity { D.capacity disk.new ≡ D.capacity disk.old }
+        ensures memory_cause { HasCause (M.faults mem.old) (M.faults mem.new) (memory_outcome result) }
+        ensures disk_cause { HasCause (D.faults disk.old) (D.faults disk.new) (disk_outcome result) }
     {
         match self.work {
             Work::Begin => None,
