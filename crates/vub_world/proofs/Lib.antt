@@ -1,4 +1,5 @@
 pub mod ChainLemmas
+pub mod ChainReading
 pub mod GuestLemmas
 pub mod MachineLemmas
 pub mod RecordTextLemmas
@@ -26,3 +27,4 @@ pub mod RunDrains
 pub mod RunsTo
 pub mod RunEnds
 pub mod RunExists
+pub mod TaskLemmas

@@ -1,3 +1,4 @@
+pub mod ChainState
 pub mod Guest
 pub mod GuestChain
 pub mod GuestRequest
@@ -12,6 +13,7 @@ pub mod RecordText
 pub mod Run
 pub mod Split
 pub mod Tasks
+pub mod TaskState
 pub mod Tracking
 pub mod Turns
 pub mod World

@@ -1,7 +1,12 @@
 //! The descriptors of a request, as the device reads them from a split ring (VIRTIO 1.2, 2.7.5).
-ghost use Rattle.std.specs.Prelude.{◌≡◌, ◌<◌, ◌≤◌, ◌+◌, ◌*◌, ℕ, true};
+ghost use Rattle.std.specs.Prelude.{◌≡◌, ◌<◌, ◌≤◌, ◌+◌, ◌*◌, ℕ, true, IfOk, Ok, Option, Some, None, option_map};
 ghost use Rattle.vub_base.specs.Causes.{HasCause};
+ghost use Rattle.vub_base.specs.Told.{WhereTold};
 ghost use Rattle.vub_world.specs.Split.{RingLies};
+ghost use Rattle.vub_driver.specs.Requests.{Piece};
+ghost use Rattle.vub_device.specs.declared.entry.Asked.{Asked};
+ghost use Rattle.vub_world.specs.GuestChain.{Links};
+ghost use Rattle.vub_world.specs.ChainState.{MeansRequest, Reads, desc_in, desc_of, parts_of, span_at};
 
 use crate::split::SplitRing;
 use vub_base::{ChainFault, Failed, RingFault, Space, get_u16, get_u32, get_u64};
@@ -54,7 +59,8 @@ pub enum Unread {
 
 /// Whether a span lies in its space.
 pub fn lies_in<M: Shared>(mem: &M, span: &Span) -> bool
-    ensures { result ≡ true → span.now.place + span.now.len ≤ M.sizes mem.now span.now.space.number }
+    ensures lies { span.now.place + span.now.len ≤ M.sizes mem.now span.now.space.number → result ≡ true }
+    ensures within { result ≡ true → span.now.place + span.now.len ≤ M.sizes mem.now span.now.space.number }
 {
     let size = mem.size(span.space);
     span.place <= size && u64::from(span.len) <= size - span.place
@@ -64,6 +70,7 @@ pub fn lies_in<M: Shared>(mem: &M, span: &Span) -> bool
 fn descriptor_at<M: Shared>(ring: &SplitRing, mem: &mut M, index: u16) -> Result<Desc, Failed>
     requires lies { RingLies (M.sizes mem.old) ring.now }
     requires fits { index < ring.now.size }
+    ensures loaded { IfOk result (λ d. WhereTold (M.told mem.old) (λ m. d ≡ desc_in ring.now m index)) }
     ensures told { M.told mem.new ≡ M.told mem.old }
     ensures trail { M.trail mem.new ≡ M.trail mem.old }
     ensures sizes { (s : ℕ) → M.sizes mem.new s ≡ M.sizes mem.old s }
@@ -82,6 +89,8 @@ fn descriptor_at<M: Shared>(ring: &SplitRing, mem: &mut M, index: u16) -> Result
 /// The descriptor after this one, if it has one.
 fn next_of<M: Shared>(ring: &SplitRing, mem: &mut M, desc: &Desc) -> Result<Option<Desc>, Unread>
     requires { RingLies (M.sizes mem.old) ring.now }
+    ensures ends { (p : Piece) → desc.now ≡ desc_of p None → result ≡ Ok None }
+    ensures follows { (p : Piece) (next : ℕ) → desc.now ≡ desc_of p (Some next) → next < ring.now.size → WhereTold (M.told mem.old) (λ m. Reads result (Some (desc_in ring.now m next))) }
     ensures told { M.told mem.new ≡ M.told mem.old }
     ensures trail { M.trail mem.new ≡ M.trail mem.old }
     ensures sizes { (s : ℕ) → M.sizes mem.new s ≡ M.sizes mem.old s }
@@ -103,7 +112,9 @@ fn broken(fault: ChainFault) -> Unread {
 }
 
 /// The buffer of a descriptor, which lies in the space of the table.
-fn span_of<M: Shared>(ring: &SplitRing, mem: &M, desc: &Desc) -> Result<Span, Unread> {
+fn span_of<M: Shared>(ring: &SplitRing, mem: &M, desc: &Desc) -> Result<Span, Unread>
+    ensures { desc.now.addr + desc.now.len ≤ M.sizes mem.now ring.now.desc.0.number → result ≡ Ok (span_at ring.now desc.now.addr desc.now.len) }
+{
     let span = Span {
         space: ring.desc.0,
         place: desc.addr,
@@ -124,6 +135,7 @@ fn tail_of<M: Shared>(
     first: &Desc,
 ) -> Result<(Option<Desc>, Desc), Unread>
     requires { RingLies (M.sizes mem.old) ring.now }
+    ensures tail { (l : Links) (buffer : ℕ) (request : Asked) → WhereTold (M.told mem.old) (λ m. MeansRequest (M.sizes mem.old) ring.now m l buffer request → first.now ≡ desc_in ring.now m l.head → Reads result (option_map (desc_in ring.now m) l.body, desc_in ring.now m l.status)) }
     ensures told { M.told mem.new ≡ M.told mem.old }
     ensures trail { M.trail mem.new ≡ M.trail mem.old }
     ensures sizes { (s : ℕ) → M.sizes mem.new s ≡ M.sizes mem.old s }
@@ -142,6 +154,7 @@ fn tail_of<M: Shared>(
 pub fn read_chain<M: Shared>(ring: &SplitRing, mem: &mut M, head: u16) -> Result<Parts, Unread>
     requires lies { RingLies (M.sizes mem.old) ring.now }
     requires fits { head < ring.now.size }
+    ensures read { (l : Links) (buffer : ℕ) (request : Asked) → WhereTold (M.told mem.old) (λ m. MeansRequest (M.sizes mem.old) ring.now m l buffer request → l.head ≡ head → Reads result (parts_of ring.now buffer request)) }
     ensures told { M.told mem.new ≡ M.told mem.old }
     ensures trail { M.trail mem.new ≡ M.trail mem.old }
     ensures sizes { (s : ℕ) → M.sizes mem.new s ≡ M.sizes mem.old s }

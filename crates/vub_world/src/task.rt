@@ -1,7 +1,17 @@
 //! One request at work: its disk calls and the stores of its data and its status, one a step
 //! (VIRTIO 1.2, 5.2.6).
-ghost use Rattle.std.specs.Prelude.{◌≡◌, ◌<◌, ◌≤◌, ℕ};
+ghost use Rattle.std.specs.Prelude.{◌≡◌, ◌<◌, ◌≤◌, ◌+◌, ◌*◌, ◌/◌, ◌%◌, ◌^◌, ℕ, true, false, Option, Some, None, Ok, Err, option_map};
+ghost use Rattle.byteorder.specs.Endian.{little_bytes};
+ghost use Rattle.vub_base.specs.Told.{WhereTold};
+ghost use Rattle.vub_base.specs.declared.store.Tag.TheVariants.{T2};
+ghost use Rattle.vub_shared.specs.Bytes.{bytes_from};
+ghost use Rattle.vub_shared.specs.Stores.{one_store, after_store};
+ghost use Rattle.vub_disk.specs.Values.{with_value};
 ghost use Rattle.vub_world.specs.Split.{RingLies};
+ghost use Rattle.vub_world.specs.TaskState.{IfMade, plain_len_of, plain_answer_of, whole_transfer};
+ghost use Rattle.vub_world.specs.declared.chain.Sectors.{Sectors};
+ghost use Rattle.vub_world.specs.declared.task.TaskStep.TheVariants as answers;
+ghost use Rattle.vub_world.specs.declared.task.Work.TheVariants as work;
 
 use crate::chain::{Parts, Sectors, Span, Unread, lies_in, read_chain};
 use crate::split::SplitRing;
@@ -80,7 +90,9 @@ pub struct Task {
 
 /// The used length of an answer without data: 1 where the device may write the status byte alone,
 /// else 0.
-fn plain_len(parts: &Parts) -> u32 {
+fn plain_len(parts: &Parts) -> u32
+    ensures { result ≡ plain_len_of parts.now }
+{
     match parts.sectors {
         Some(sectors) if sectors.writable && sectors.span.len != 0 => 0,
         _ => u32::from(parts.status.len == 1),
@@ -88,7 +100,9 @@ fn plain_len(parts: &Parts) -> u32 {
 }
 
 /// An answer without data.
-fn plain_answer(parts: &Parts, status: u8) -> Answer {
+fn plain_answer(parts: &Parts, status: u8) -> Answer
+    ensures { result ≡ plain_answer_of parts.now status }
+{
     let len = plain_len(parts);
     Answer {
         status,
@@ -99,7 +113,9 @@ fn plain_answer(parts: &Parts, status: u8) -> Answer {
 }
 
 /// The place of sector `done` of a transfer in its span, if it lies there.
-fn sector_span(transfer: &Transfer) -> Option<Span> {
+fn sector_span(transfer: &Transfer) -> Option<Span>
+    ensures { transfer.now.span.place + 512 * transfer.now.done < 2 ^ 64 → result ≡ Some (record { space = transfer.now.span.space; place = transfer.now.span.place + 512 * transfer.now.done; len = 512 }) }
+{
     let offset = transfer.done.checked_mul(512)?;
     Some(Span {
         space: transfer.span.space,
@@ -115,7 +131,10 @@ fn transfer_of(
     sector: u64,
     capacity: u64,
     writable: bool,
-) -> Result<Transfer, Answer> {
+) -> Result<Transfer, Answer>
+    ensures whole { (x : Sectors) → parts.now.sectors ≡ Some x → x.writable ≡ writable → x.span.len % 512 ≡ 0 → sector + x.span.len / 512 ≤ capacity → result ≡ Ok (whole_transfer parts.now sector x) }
+    ensures past { (x : Sectors) → parts.now.sectors ≡ Some x → capacity < sector + x.span.len / 512 → result ≡ Err (plain_answer_of parts.now 1) }
+{
     let refused = plain_answer(parts, IOERR);
     let Some(Sectors { span, writable: is }) = parts.sectors else {
         return Err(refused);
@@ -139,7 +158,15 @@ fn transfer_of(
 }
 
 /// What a request does first, by the type and the sector of its header.
-fn first_work(kind: u32, sector: u64, parts: &Parts, capacity: u64) -> Work {
+fn first_work(kind: u32, sector: u64, parts: &Parts, capacity: u64) -> Work
+    ensures read { (x : Sectors) → kind ≡ 0 → parts.now.sectors ≡ Some x → x.writable ≡ true → x.span.len % 512 ≡ 0 → sector + x.span.len / 512 ≤ capacity → 0 < x.span.len / 512 → result ≡ work.Look (whole_transfer parts.now sector x) }
+    ensures read_nothing { (x : Sectors) → kind ≡ 0 → parts.now.sectors ≡ Some x → x.writable ≡ true → x.span.len ≡ 0 → sector ≤ capacity → result ≡ work.Reply (whole_transfer parts.now sector x).answer }
+    ensures read_past { (x : Sectors) → kind ≡ 0 → parts.now.sectors ≡ Some x → capacity < sector + x.span.len / 512 → result ≡ work.Reply (plain_answer_of parts.now 1) }
+    ensures write { (x : Sectors) → kind ≡ 1 → parts.now.sectors ≡ Some x → x.writable ≡ false → x.span.len % 512 ≡ 0 → sector + x.span.len / 512 ≤ capacity → 0 < x.span.len / 512 → result ≡ work.Act (whole_transfer parts.now sector x) }
+    ensures write_nothing { (x : Sectors) → kind ≡ 1 → parts.now.sectors ≡ Some x → x.writable ≡ false → x.span.len ≡ 0 → sector ≤ capacity → result ≡ work.Reply (whole_transfer parts.now sector x).answer }
+    ensures write_past { (x : Sectors) → kind ≡ 1 → parts.now.sectors ≡ Some x → capacity < sector + x.span.len / 512 → result ≡ work.Reply (plain_answer_of parts.now 1) }
+    ensures flush { kind ≡ 4 → result ≡ work.Sync (plain_answer_of parts.now 0) }
+{
     match kind {
         0 => match transfer_of(parts, sector, capacity, true) {
             Ok(transfer) => after_sector(transfer, Work::Look(transfer)),
@@ -155,7 +182,10 @@ fn first_work(kind: u32, sector: u64, parts: &Parts, capacity: u64) -> Work {
 }
 
 /// The next sector, or the status after the last one.
-fn after_sector(transfer: Transfer, more: Work) -> Work {
+fn after_sector(transfer: Transfer, more: Work) -> Work
+    ensures goes_on { transfer.done < transfer.count → result ≡ more }
+    ensures ends { transfer.count ≤ transfer.done → result ≡ work.Reply transfer.answer }
+{
     if transfer.done < transfer.count {
         more
     } else {
@@ -175,7 +205,8 @@ fn failed(answer: Answer) -> Answer {
 impl Task {
     /// A request that was accepted under this head.
     pub fn new(head: u16) -> Task
-        ensures { result.head ≡ head }
+        ensures head { result.head ≡ head }
+        ensures fresh { result.work ≡ work.Begin }
     {
         Task {
             head,
@@ -217,7 +248,11 @@ impl Task {
         disk: &mut D,
         sector: &mut [u8; 512],
     ) -> Option<TaskStep>
+        ensures answer { transfer.sector + transfer.done < D.capacity disk.old → IfMade result (λ step. step ≡ answers.Looked (transfer.sector + transfer.done)) }
+        ensures read { transfer.sector + transfer.done < D.capacity disk.old → IfMade result (λ step. WhereTold (D.values disk.old) (λ v. sector.new ≡ v (transfer.sector + transfer.done))) }
+        ensures next { transfer.sector + transfer.done < D.capacity disk.old → IfMade result (λ step. self.new.work ≡ work.Store transfer) }
         ensures head { self.new.head ≡ self.old.head }
+        ensures values { D.values disk.new ≡ D.values disk.old }
         ensures capacity { D.capacity disk.new ≡ D.capacity disk.old }
     {
         let number = transfer.sector.checked_add(transfer.done)?;
@@ -238,6 +273,10 @@ impl Task {
         mem: &mut M,
         sector: &[u8; 512],
     ) -> Option<TaskStep>
+        ensures answer { transfer.span.place + (512 * transfer.done + 512) ≤ M.sizes mem.old transfer.span.space.number → IfMade result (λ step. step ≡ answers.Stored T2) }
+        ensures stored { transfer.span.place + (512 * transfer.done + 512) ≤ M.sizes mem.old transfer.span.space.number → IfMade result (λ step. M.told mem.new ≡ option_map (after_store (one_store transfer.span.space.number (transfer.span.place + 512 * transfer.done) sector.now)) (M.told mem.old)) }
+        ensures more { transfer.span.place + (512 * transfer.done + 512) ≤ M.sizes mem.old transfer.span.space.number → transfer.done + 1 < transfer.count → IfMade result (λ step. self.new.work ≡ work.Look (record transfer { done = transfer.done + 1 })) }
+        ensures last { transfer.span.place + (512 * transfer.done + 512) ≤ M.sizes mem.old transfer.span.space.number → transfer.count ≤ transfer.done + 1 → IfMade result (λ step. self.new.work ≡ work.Reply transfer.answer) }
         ensures head { self.new.head ≡ self.old.head }
         ensures sizes { (s : ℕ) → M.sizes mem.new s ≡ M.sizes mem.old s }
     {
@@ -263,7 +302,12 @@ impl Task {
         disk: &mut D,
         sector: &mut [u8; 512],
     ) -> Option<TaskStep>
+        ensures answer { transfer.span.place + (512 * transfer.done + 512) ≤ M.sizes mem.old transfer.span.space.number → transfer.sector + transfer.done < D.capacity disk.old → IfMade result (λ step. step ≡ answers.Acted (transfer.sector + transfer.done)) }
+        ensures written { transfer.span.place + (512 * transfer.done + 512) ≤ M.sizes mem.old transfer.span.space.number → transfer.sector + transfer.done < D.capacity disk.old → IfMade result (λ step. WhereTold (M.told mem.old) (λ m. D.values disk.new ≡ option_map (with_value (transfer.sector + transfer.done) (bytes_from 512 m transfer.span.space.number (transfer.span.place + 512 * transfer.done))) (D.values disk.old))) }
+        ensures more { transfer.span.place + (512 * transfer.done + 512) ≤ M.sizes mem.old transfer.span.space.number → transfer.sector + transfer.done < D.capacity disk.old → transfer.done + 1 < transfer.count → IfMade result (λ step. self.new.work ≡ work.Act (record transfer { done = transfer.done + 1 })) }
+        ensures last { transfer.span.place + (512 * transfer.done + 512) ≤ M.sizes mem.old transfer.span.space.number → transfer.sector + transfer.done < D.capacity disk.old → transfer.count ≤ transfer.done + 1 → IfMade result (λ step. self.new.work ≡ work.Reply transfer.answer) }
         ensures head { self.new.head ≡ self.old.head }
+        ensures told { M.told mem.new ≡ M.told mem.old }
         ensures sizes { (s : ℕ) → M.sizes mem.new s ≡ M.sizes mem.old s }
         ensures capacity { D.capacity disk.new ≡ D.capacity disk.old }
     {
@@ -288,6 +332,9 @@ impl Task {
     }
 
     fn sync<D: Disk>(&mut self, answer: Answer, disk: &mut D) -> TaskStep
+        ensures answer { IfMade (Some result) (λ step. step ≡ answers.Synced) }
+        ensures next { IfMade (Some result) (λ step. self.new.work ≡ work.Reply answer) }
+        ensures values { D.values disk.new ≡ D.values disk.old }
         ensures head { self.new.head ≡ self.old.head }
         ensures capacity { D.capacity disk.new ≡ D.capacity disk.old }
     {
@@ -300,7 +347,9 @@ impl Task {
     }
 
     fn reply<M: Shared>(&self, answer: Answer, mem: &mut M) -> Option<TaskStep>
-        ensures { (s : ℕ) → M.sizes mem.new s ≡ M.sizes mem.old s }
+        ensures answer { answer.span.len ≡ 1 → answer.span.place + 1 ≤ M.sizes mem.old answer.span.space.number → IfMade result (λ step. step ≡ answers.Done answer.status answer.len) }
+        ensures stored { answer.span.len ≡ 1 → answer.span.place + 1 ≤ M.sizes mem.old answer.span.space.number → IfMade result (λ step. M.told mem.new ≡ option_map (after_store (one_store answer.span.space.number answer.span.place (little_bytes 1 answer.status))) (M.told mem.old)) }
+        ensures sizes { (s : ℕ) → M.sizes mem.new s ≡ M.sizes mem.old s }
     {
         if answer.span.len == 0 || !lies_in(mem, &answer.span) {
             return None;
