@@ -27,4 +27,5 @@ pub mod RunDrains
 pub mod RunsTo
 pub mod RunEnds
 pub mod RunExists
+pub mod RunChains
 pub mod TaskLemmas
