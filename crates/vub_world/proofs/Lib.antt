@@ -28,4 +28,5 @@ pub mod RunsTo
 pub mod RunEnds
 pub mod RunExists
 pub mod RunChains
+pub mod RunChainsStores
 pub mod TaskLemmas
