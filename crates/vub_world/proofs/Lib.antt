@@ -29,4 +29,5 @@ pub mod RunEnds
 pub mod RunExists
 pub mod RunChains
 pub mod RunChainsStores
+pub mod RunChainsTurns
 pub mod TaskLemmas
