@@ -30,4 +30,5 @@ pub mod RunExists
 pub mod RunChains
 pub mod RunChainsStores
 pub mod RunChainsTurns
+pub mod RunChainsOffers
 pub mod TaskLemmas
