@@ -31,4 +31,5 @@ pub mod RunChains
 pub mod RunChainsStores
 pub mod RunChainsTurns
 pub mod RunChainsOffers
+pub mod RunChainsGuests
 pub mod TaskLemmas

@@ -128,7 +128,7 @@ header_made m b t s small_t small_s =
     let split : bs ≡ (x ++ y) ++ (z ++ []) = sym (append_assoc x y z) ∙ ap (λ (xs : List ℕ). (x ++ y) ++ xs) (sym (append-nil z)) in
     (word_made m b b [] (y ++ z) bs 4 t refl (omega arith) (omega arith) small_t, word_made m b (b + 8) (x ++ y) [] bs 8 s split (omega arith) (omega arith) small_s)
 
-header_long : (t s : ℕ) → length (little_bytes 4 t ++ little_bytes 4 0 ++ little_bytes 8 s) ≡ 16
+pub header_long : (t s : ℕ) → length (little_bytes 4 t ++ little_bytes 4 0 ++ little_bytes 8 s) ≡ 16
 header_long t s =
     length-append (little_bytes 4 t) (little_bytes 4 0 ++ little_bytes 8 s)
     ∙ omega (arith, length-append (little_bytes 4 0) (little_bytes 8 s), length_little 4 t, length_little 4 0, length_little 8 s)
