@@ -30,4 +30,9 @@ pub mod RunsTo
 pub mod RunEnds
 pub mod RunExists
 pub mod StepLemmas
+pub mod RunChains
+pub mod RunChainsStores
+pub mod RunChainsTurns
+pub mod RunChainsOffers
+pub mod RunChainsGuests
 pub mod TaskLemmas

@@ -1,0 +1,164 @@
+-- An offer adds the chain of its request; asks and collections leave the others.
+use Rattle.std.proofs.Common.{◌≡◌, ◌≢◌, ◌≤◌, ◌<◌, ◌⊎◌, ℕ, zero, suc, ◌+◌, ◌*◌, ◌%◌, Bool, true, false, cond, List, [], ◌∷◌, ◌++◌, length, take, drop, refl, ap, sym, ◌∙◌, subst, inl, inr, arith}
+use Rattle.std.specs.Prelude.{Option, Some, None, ⊤, slice_index, is_none, ◌||◌, ◌==◌}
+use Rattle.std.specs.List.{AllByRecursion}
+use Rattle.byteorder.specs.Endian.{little_bytes}
+use Rattle.std.proofs.lemmas.Bool.{cases_lt, cases_eq}
+use Rattle.std.proofs.lemmas.Bool.Decides.{nat_tests}
+use Rattle.std.proofs.lemmas.List.{length-take-le, length_push, take_more, length-append}
+use Rattle.vub_base.specs.declared.header.Header1.{Header1}
+use Rattle.vub_base.specs.declared.request.Ask.{Ask}
+use Rattle.vub_base.specs.declared.request.Ask.TheVariants as wants
+use Rattle.vub_base.specs.declared.request.Shape.TheVariants.{Direct}
+use Rattle.vub_shared.specs.Bytes.{Bytes, put, word}
+use Rattle.vub_shared.specs.Stores.{Store, one_store}
+use Rattle.vub_shared.proofs.BytesLemmas.{word-put_same}
+use Rattle.vub_ring.specs.Ring.{avail_idx, avail_entry_place, avail_idx_place, last_head}
+use Rattle.vub_driver.specs.Layout.{status_place, sectors_place, area_place}
+use Rattle.vub_driver.specs.Drivers.{Driver, Waiting, free_from, free_descriptors, can_take, chosen, first_or_zero, owned_by, waits_on, after_ask, is_that, without_owner}
+use Rattle.vub_driver.specs.Requests.{Piece, readable_piece, writable_piece, header_bytes, written_bytes, descriptor_bytes, descriptors_needed, request_type, first_sector}
+use Rattle.vub_driver.specs.Stores.{store_of_some, offer_stores, request_stores}
+use Rattle.vub_device.specs.declared.entry.Asked.{Asked}
+use Rattle.vub_device.specs.declared.entry.Entry.{Entry}
+use Rattle.vub_device.specs.declared.entry.Entry.TheVariants as entries
+use Rattle.vub_device.specs.Past.{asked, published, collected, is_among}
+use Rattle.vub_device.proofs.Numbers.{is_among_append}
+use Rattle.vub_world.specs.declared.report.items.Item.TheVariants as items
+use Rattle.vub_world.specs.Memory.{Scene, with_at, after_item, after_items}
+use Rattle.vub_world.specs.Moments.{Lane}
+use Rattle.vub_world.specs.Run.{request_of, guest_items}
+use Rattle.vub_world.specs.ChainState.{data_start, handed_bytes}
+use Rattle.vub_world.proofs.RunNumbers.{among_at}
+use Rattle.vub_world.proofs.RunGood.{the_ring, IsSize, IsSimple, IsOut, IsPlan, IsWaiting, WaitsWell, Known, Driven, Holds}
+use Rattle.vub_world.proofs.RunFrames.{keeps, length_little, entry_small}
+use Rattle.vub_world.proofs.RunGuests.{IsGood, stored_at}
+use Rattle.vub_world.proofs.RunOffers.{same_head, new_head, same_asked, new_asked}
+use Rattle.vub_world.proofs.RunCollects.{IsTaken, next_number, none_before}
+use Rattle.vub_world.proofs.RunChains.{table_place, buffer_at, HasChain, IsOff, Spares, chain_kept, desc_long}
+use Rattle.vub_world.proofs.RunChainsStores.{put_all, handed_fits, stores_make}
+use Rattle.vub_world.proofs.RunChainsTurns.{IsLinked, IsPrepared, PreparedWell, Chained, ring_spares, buffer_spares}
+
+-- ---- the descriptors that an ask takes
+
+-- rising from d on, below n, and nobody's
+abbrev IsFreeFrom : ℕ → (ℕ → Option ℕ) → ℕ → List ℕ → Type 0
+IsFreeFrom n owner d [] = ⊤
+IsFreeFrom n owner d (x ∷ xs) = (d ≤ x) × ((x < n) × ((owner x ≡ None) × IsFreeFrom n owner (x + 1) xs))
+
+free_lower : (n : ℕ) (owner : ℕ → Option ℕ) (d e : ℕ) (xs : List ℕ) → e ≤ d → IsFreeFrom n owner d xs → IsFreeFrom n owner e xs
+free_lower n owner d e [] l all = tt
+free_lower n owner d e (x ∷ xs) l all = (omega (arith, all.0), all.1)
+
+none_means : (o : Option ℕ) → is_none o ≡ true → o ≡ None
+none_means None e = refl
+none_means (Some x) e = absurd (let fails : false ≡ true = e in cc)
+
+free_are : (owner : ℕ → Option ℕ) (count d n : ℕ) → d + count ≤ n → IsFreeFrom n owner d (free_from owner count d)
+free_are owner zero d n l = tt
+free_are owner (suc count) d n l = go (is_none (owner d)) refl (free_are owner count (d + 1) n (omega arith))
+  where
+    go : (b : Bool) → is_none (owner d) ≡ b → IsFreeFrom n owner (d + 1) (free_from owner count (d + 1)) → IsFreeFrom n owner d (cond b (d ∷ free_from owner count (d + 1)) (free_from owner count (d + 1)))
+    go true e rest = (omega arith, (omega arith, (none_means (owner d) e, rest)))
+    go false e rest = free_lower n owner (d + 1) d (free_from owner count (d + 1)) (omega arith) rest
+
+free_taken : (n : ℕ) (owner : ℕ → Option ℕ) (d k : ℕ) (xs : List ℕ) → IsFreeFrom n owner d xs → IsFreeFrom n owner d (take k xs)
+free_taken n owner d zero xs all = tt
+free_taken n owner d (suc k) [] all = tt
+free_taken n owner d (suc k) (x ∷ xs) all = (all.0, (all.1.0, (all.1.1.0, free_taken n owner (x + 1) k xs all.1.1.1)))
+
+-- who owns something owns it still
+owned_still : (n head d : ℕ) (ds : List ℕ) (owner : ℕ → Option ℕ) (x e : ℕ) → IsFreeFrom n owner d ds → owner x ≡ Some e → owned_by head ds owner x ≡ Some e
+owned_still n head d [] owner x e all is = is
+owned_still n head d (y ∷ ys) owner x e all is = elim (cases_eq y x) [
+  | inl same ↦ absurd (let none : owner x ≡ None = ap owner (sym same) ∙ all.1.1.0 in let fails : None ≡ Some e = sym none ∙ is in cc)
+  | inr apart ↦ let rest : owned_by head ys owner x ≡ Some e = owned_still n head (y + 1) ys owner x e all.1.1.1 is in grind (arith, nat_tests)
+]
+
+three_needed : (cap : ℕ) (a : Ask) → IsSimple cap (Some (request_of a)) → descriptors_needed a ≡ 3
+three_needed cap (wants.Read s c) plain = refl
+three_needed cap (wants.Write s fills) plain = refl
+three_needed cap wants.Flush plain = absurd plain
+three_needed cap wants.Id plain = absurd plain
+three_needed cap (wants.Discard parts) plain = absurd plain
+three_needed cap (wants.Zero parts) plain = absurd plain
+
+linked_still : (n : ℕ) (owner owner' : ℕ → Option ℕ) (m : Bytes) (head : ℕ) (o : Option Asked) → ((d : ℕ) → owner d ≡ Some head → owner' d ≡ Some head) → IsLinked n owner m head o → IsLinked n owner' m head o
+linked_still n owner owner' m head o still was = record {
+  body = was.body; status = was.status; body_fits = was.body_fits; status_fits = was.status_fits; body_mine = still was.body was.body_mine; status_mine = still was.status was.status_mine; request = was.request;
+  is = was.is; stands = was.stands;
+}
+
+prepared : (n : ℕ) (a : Ask) (v : Driver) (ds : List ℕ) → length ds ≡ 3 → IsFreeFrom n v.owner 0 ds
+    → IsPrepared n (record v { owner = owned_by (first_or_zero ds) ds v.owner; waiting = Some (waits_on (the_ring n) a ds v.avail_idx) }) (waits_on (the_ring n) a ds v.avail_idx)
+prepared n a v [] three all = absurd (omega arith)
+prepared n a v (x ∷ []) three all = absurd (omega arith)
+prepared n a v (x ∷ y ∷ []) three all = absurd (omega arith)
+prepared n a v (x ∷ y ∷ z ∷ []) three all = record {
+  body = y;
+  status = z;
+  up = omega (arith, all.1.1.1.0);
+  upper = omega (arith, all.1.1.1.1.1.1.0);
+  fits = all.1.1.1.1.1.1.1.0;
+  body_mine = grind (arith, nat_tests);
+  status_mine = grind (arith, nat_tests);
+  stores = refl;
+}
+prepared n a v (x ∷ y ∷ z ∷ t ∷ ts) three all = absurd (omega arith)
+
+pub ask_chained : (h : Header1) (s : Scene) (v : Driver) (a : Ask) → IsSimple h.capacity (Some (request_of a)) → can_take h.size Direct a v ≡ true → Chained h.size s v → Chained h.size s (after_ask (the_ring h.size) a v)
+ask_chained h s v a plain ready c =
+    let free : List ℕ = free_descriptors h.size v in
+    let ds : List ℕ = chosen h.size a v in
+    let enough : descriptors_needed a ≤ length free = grind (arith, nat_tests) in
+    let three : length ds ≡ 3 = length-take-le (descriptors_needed a) free enough ∙ three_needed h.capacity a plain in
+    let all : IsFreeFrom h.size v.owner 0 ds = free_taken h.size v.owner 0 (descriptors_needed a) free (free_are v.owner h.size 0 h.size (omega arith)) in
+    record {
+      linked = λ k out. linked_still h.size v.owner (owned_by (first_or_zero ds) ds v.owner) s.memory (slice_index (s.heads 0) k) (asked s.past 0 k)
+      (λ d is. owned_still h.size (first_or_zero ds) 0 ds v.owner d (slice_index (s.heads 0) k) all is) (c.linked k out);
+      waits = prepared h.size a v ds three all;
+    }
+
+-- ---- a collection
+
+next_out : (h : Header1) (s : Scene) (l : Lane) (x : ℕ) → IsTaken h s l x → IsOut s.past (s.heads 0) (next_number s)
+next_out h s l x t = record {
+  below = omega (arith, t.holds.known.below (next_number s) (among_at (published s.past 0) (collected s.past 0) t.more), t.holds.known.offered);
+  kept = none_before (published s.past 0) (collected s.past 0) t.holds.known.distinct t.more;
+}
+
+-- what is out after it was out before, and is another one
+later_out : (h : Header1) (s : Scene) (l : Lane) (x j k : ℕ) → IsTaken h s l x → IsOut (entries.Collect 0 k ∷ s.past) (s.heads 0) j → IsOut s.past (s.heads 0) j × (j ≢ next_number s)
+later_out h s l x j k t out =
+    let c : ℕ = collected s.past 0 in
+    let ps : List ℕ = published s.past 0 in
+    let more : take (c + 1) ps ≡ take c ps ++ next_number s ∷ [] = take_more ps c 0 t.more in
+    let joined : is_among (take c ps ++ next_number s ∷ []) j ≡ (is_among (take c ps) j || is_among (next_number s ∷ []) j) = is_among_append (take c ps) (next_number s ∷ []) j in
+    let none : is_among (take c ps ++ next_number s ∷ []) j ≡ false = ap (λ (ks : List ℕ). is_among ks j) (sym more) ∙ out.kept in
+    let both : (is_among (take c ps) j || is_among (next_number s ∷ []) j) ≡ false = sym joined ∙ none in
+    (record { below = out.below; kept = grind (arith, nat_tests) }, λ same. let here : next_number s ≡ j = sym same in grind (arith, nat_tests))
+
+kept_owner : (owner : ℕ → Option ℕ) (x e d : ℕ) → e ≢ x → owner d ≡ Some e → without_owner x owner d ≡ Some e
+kept_owner owner x e d apart is =
+    let other : (e == x) ≡ false = grind (arith, nat_tests) in
+    ap (λ (o : Option ℕ). cond (is_that x o) None o) is ∙ ap (λ (b : Bool). cond {A = Option ℕ} b None (Some e)) other
+
+prepared_still : (h : Header1) (s : Scene) (l : Lane) (x : ℕ) (o : Option Waiting) → IsTaken h s l x → PreparedWell h.size l.driver o → ((w : Waiting) → o ≡ Some w → w.head ≢ x) → PreparedWell h.size (record l.driver { owner = without_owner x l.driver.owner }) o
+prepared_still h s l x None t p apart = tt
+prepared_still h s l x (Some w) t p apart = record {
+  body = p.body; status = p.status; up = p.up; upper = p.upper; fits = p.fits;
+  body_mine = kept_owner l.driver.owner x w.head p.body (apart w refl) p.body_mine;
+  status_mine = kept_owner l.driver.owner x w.head p.status (apart w refl) p.status_mine;
+  stores = p.stores;
+}
+
+pub collect_chained : (h : Header1) (s : Scene) (l : Lane) (x k : ℕ) → IsTaken h s l x → Chained h.size s l.driver → Chained h.size (record s { past = entries.Collect 0 k ∷ s.past }) (record l.driver { owner = without_owner x l.driver.owner })
+collect_chained h s l x k t c =
+    let d : Driven h.size h.capacity h.base s.past (s.heads 0) l.driver = t.holds.driven in record {
+      linked = λ j out.
+      let was = later_out h s l x j k t out in
+      let differs : slice_index (s.heads 0) j ≢ x = λ same. was.1 (d.apart j (next_number s) was.0 (next_out h s l x t) (same ∙ t.head)) in
+      linked_still h.size l.driver.owner (without_owner x l.driver.owner) s.memory (slice_index (s.heads 0) j) (asked s.past 0 j) (λ e is. kept_owner l.driver.owner x (slice_index (s.heads 0) j) e differs is) (c.linked j was.0);
+      waits = prepared_still h s l x l.driver.waiting t c.waits (λ w waits same.
+        let well : IsWaiting h.size h.capacity s.past (s.heads 0) l.driver w = subst (λ (o : Option Waiting). WaitsWell h.size h.capacity s.past (s.heads 0) l.driver o) waits d.waits in
+        well.apart (next_number s) (next_out h s l x t) (sym t.head ∙ sym same));
+    }

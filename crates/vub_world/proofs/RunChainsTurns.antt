@@ -1,0 +1,314 @@
+-- A turn leaves the chain of each offered request.
+use Rattle.std.proofs.Common.{◌≡◌, ◌≢◌, ◌≤◌, ◌<◌, ◌⊎◌, ℕ, zero, suc, ◌+◌, ◌*◌, ◌%◌, Bool, true, false, not, cond, List, [], ◌∷◌, ◌++◌, length, take, map, refl, ap, sym, ◌∙◌, subst, inl, inr, arith}
+use Rattle.std.specs.Prelude.{Option, Some, None, ⊤, slice_index, slice_get, slice_range, option_map}
+use Rattle.byteorder.specs.Endian.{little_bytes}
+use Rattle.std.proofs.lemmas.Bool.{cases_lt, cases_eq}
+use Rattle.std.proofs.lemmas.Bool.Decides.{nat_tests}
+use Rattle.std.proofs.lemmas.List.{take-append-le, length-take}
+use Rattle.vub_base.specs.declared.header.Header1.{Header1}
+use Rattle.vub_base.specs.declared.store.Tag.{Tag}
+use Rattle.vub_base.specs.declared.store.Tag.TheVariants.{SP1, SP2}
+use Rattle.vub_shared.specs.Bytes.{Bytes, put}
+use Rattle.vub_ring.specs.declared.steps.Phase.{Phase}
+use Rattle.vub_ring.specs.declared.steps.Step.{Step}
+use Rattle.vub_ring.specs.declared.steps.Step.TheVariants as steps
+use Rattle.vub_ring.specs.declared.readiness.Turn.{Turn}
+use Rattle.vub_ring.specs.declared.readiness.Turn.TheVariants as turns
+use Rattle.vub_ring.specs.Ring.{used_id_place, used_len_place, used_idx_place, used_idx}
+use Rattle.vub_ring.specs.Rows.{Row, row}
+use Rattle.vub_ring.specs.Steps.{next_step}
+use Rattle.vub_driver.specs.Layout.{status_place, sectors_place}
+use Rattle.vub_driver.specs.Drivers.{Driver, Waiting}
+use Rattle.vub_driver.specs.Stores.{request_stores}
+use Rattle.vub_device.specs.declared.entry.Answered.{Answered}
+use Rattle.vub_device.specs.declared.entry.Asked.{Asked}
+use Rattle.vub_device.specs.declared.entry.Asked.TheVariants as asks
+use Rattle.vub_device.specs.declared.entry.Entry.{Entry}
+use Rattle.vub_device.specs.declared.entry.Entry.TheVariants as entries
+use Rattle.vub_device.specs.Past.{asked, accepted, published, collected, is_among, IsOpen, open_numbers, seen, numbers}
+use Rattle.vub_world.specs.Memory.{Scene, after_items}
+use Rattle.vub_world.specs.Moments.{Lane, Moment, unfinished}
+use Rattle.vub_device.specs.declared.entry.SectorValue.{SectorValue}
+use Rattle.vub_device.specs.Crash.{value}
+use Rattle.vub_device.specs.Requests.{effect_at}
+use Rattle.vub_world.specs.Tasks.{TaskStep, Look, Put, Act, Sync, Status, task_steps, act_items, status_of}
+use Rattle.vub_world.specs.Turns.{turned, work_turn, request_turn, task_turn, phase_turn, phase_goes_on, under_way, begun, is_rest, step_items, row_items, element_of, answer_at}
+use Rattle.vub_world.proofs.RunNumbers.{among_get, among_filter, missing-among}
+use Rattle.vub_world.proofs.RunGood.{the_ring, IsSize, IsSimple, IsOut, Known, Holds, buffer}
+use Rattle.vub_world.proofs.RunFrames.{entry_small, open_out, length_little}
+use Rattle.vub_world.proofs.RunGuests.{IsGood, stored_at}
+use Rattle.vub_world.proofs.RunWork.{simple_cases, read_steps, write_steps}
+use Rattle.vub_world.proofs.RunTurns.{IsPlain, Good}
+use Rattle.vub_world.proofs.RunChains.{table_place, buffer_at, HasChain, IsOff, Spares, chain_kept}
+use Rattle.vub_world.proofs.RunChainsStores.{handed_fits}
+
+-- the chain of an offered request stands in memory, and its descriptors belong to its head
+pub record IsLinked (n : ℕ) (owner : ℕ → Option ℕ) (m : Bytes) (head : ℕ) (o : Option Asked) : Type 0 where
+  pub body : ℕ
+  pub status : ℕ
+  pub body_fits : body < n
+  pub status_fits : status < n
+  pub body_mine : owner body ≡ Some head
+  pub status_mine : owner status ≡ Some head
+  pub request : Asked
+  pub is : o ≡ Some request
+  pub stands : HasChain m head body status request
+
+-- a request that waits has all of its stores to make, for descriptors that belong to its head
+pub record IsPrepared (n : ℕ) (v : Driver) (w : Waiting) : Type 0 where
+  pub body : ℕ
+  pub status : ℕ
+  pub up : w.head < body
+  pub upper : body < status
+  pub fits : status < n
+  pub body_mine : v.owner body ≡ Some w.head
+  pub status_mine : v.owner status ≡ Some w.head
+  pub stores : w.left ≡ request_stores (the_ring n) v.avail_idx w.ask (w.head ∷ body ∷ status ∷ [])
+
+abbrev pub PreparedWell : ℕ → Driver → Option Waiting → Type 0
+PreparedWell n v None = ⊤
+PreparedWell n v (Some w) = IsPrepared n v w
+
+-- the chain of each request that is offered and not collected stands in memory
+pub record Chained (n : ℕ) (s : Scene) (v : Driver) : Type 0 where
+  pub linked : (k : ℕ) → IsOut s.past (s.heads 0) k → IsLinked n v.owner s.memory (slice_index (s.heads 0) k) (asked s.past 0 k)
+  pub waits : PreparedWell n v v.waiting
+
+-- ---- what leaves the chains
+
+pub record IsGentle (n : ℕ) (s s' : Scene) : Type 0 where
+  pub heads : s'.heads 0 ≡ s.heads 0
+  pub same : (k : ℕ) → asked s'.past 0 k ≡ asked s.past 0 k
+  pub out : (k : ℕ) → IsOut s'.past (s.heads 0) k → IsOut s.past (s.heads 0) k
+  pub chain : (k body status : ℕ) (r : Asked) → IsOut s.past (s.heads 0) k → body < n → status < n → asked s.past 0 k ≡ Some r
+      → HasChain s.memory (slice_index (s.heads 0) k) body status r → HasChain s'.memory (slice_index (s.heads 0) k) body status r
+
+pub gentle_chained : (n : ℕ) (s s' : Scene) (v : Driver) → IsGentle n s s' → Chained n s v → Chained n s' v
+gentle_chained n s s' v g c = record {
+  linked = λ k out'.
+  let out : IsOut s.past (s.heads 0) k = g.out k (subst (λ (hs : List ℕ). IsOut s'.past hs k) g.heads out') in
+  let was : IsLinked n v.owner s.memory (slice_index (s.heads 0) k) (asked s.past 0 k) = c.linked k out in
+  subst (λ (hs : List ℕ). IsLinked n v.owner s'.memory (slice_index hs k) (asked s'.past 0 k)) (sym g.heads) (record {
+    body = was.body; status = was.status; body_fits = was.body_fits; status_fits = was.status_fits; body_mine = was.body_mine; status_mine = was.status_mine; request = was.request;
+    is = g.same k ∙ was.is;
+    stands = g.chain k was.body was.status was.request out was.body_fits was.status_fits was.is was.stands;
+  });
+  waits = c.waits;
+}
+
+gentle_none : (n : ℕ) (s : Scene) → IsGentle n s s
+gentle_none n s = record { heads = refl; same = λ k. refl; out = λ k o. o; chain = λ k body status r out fb fs is c. c }
+
+-- a store that spares each chain
+pub store_gentle : (h : Header1) (s : Scene) (l : Lane) (p : ℕ) (bs : List ℕ) → Holds h s l
+    → ((k body status : ℕ) (r : Asked) → IsOut s.past (s.heads 0) k → slice_index (s.heads 0) k < h.size → body < h.size → status < h.size → asked s.past 0 k ≡ Some r → IsSimple h.capacity (Some r) → Spares (slice_index (s.heads 0) k) body status r p bs)
+    → IsGentle h.size s (stored_at p bs s)
+store_gentle h s l p bs x spares = record {
+  heads = refl;
+  same = λ k. refl;
+  out = λ k o. o;
+  chain = λ k body status r out fb fs is held.
+  let simple : IsSimple h.capacity (Some r) = subst (λ (o : Option Asked). IsSimple h.capacity o) is (x.known.simple k out.below) in
+  chain_kept s.memory (slice_index (s.heads 0) k) body status r p bs (spares k body status r out (x.driven.below k out) fb fs is simple) held;
+}
+
+-- between table and buffers
+pub ring_spares : (cap head body status : ℕ) (r : Asked) (p : ℕ) (bs : List ℕ) → head < 64 → body < 64 → status < 64 → IsSimple cap (Some r) → 4096 ≤ p → p + length bs ≤ 65536 → Spares head body status r p bs
+ring_spares cap head body status r p bs fh fb fs simple from upto =
+    let at = handed_fits cap (buffer_at head) r simple in record {
+      first = inl (omega arith);
+      middle = inl (omega arith);
+      last = inl (omega arith);
+      header = inr (omega arith);
+      handed = inr (omega (arith, at.0));
+    }
+
+-- in the buffer of another head
+pub buffer_spares : (cap head body status other : ℕ) (r : Asked) (p : ℕ) (bs : List ℕ) → head < 64 → body < 64 → status < 64 → IsSimple cap (Some r) → head ≢ other → 65536 + 8192 * other ≤ p → p + length bs ≤ 65536 + 8192 * other + 8192 → Spares head body status r p bs
+buffer_spares cap head body status other r p bs fh fb fs simple apart from upto =
+    let at = handed_fits cap (buffer_at head) r simple in record {
+      first = inl (omega arith);
+      middle = inl (omega arith);
+      last = inl (omega arith);
+      header = elim (cases_lt head other) [
+        | inl less ↦ inl (omega arith)
+        | inr more ↦ inr (let above : other < head = omega arith in omega arith)
+      ];
+      handed = elim (cases_lt head other) [
+        | inl less ↦ inl (omega (arith, at.0, at.1.0))
+        | inr more ↦ inr (let above : other < head = omega arith in omega (arith, at.0))
+      ];
+    }
+
+ring_gentle : (h : Header1) (s : Scene) (l : Lane) (p : ℕ) (bs : List ℕ) → IsGood h → Holds h s l → 4096 ≤ p → p + length bs ≤ 65536 → IsGentle h.size s (stored_at p bs s)
+ring_gentle h s l p bs good x from upto =
+    let small : h.size ≤ 64 = good.size.small in
+    store_gentle h s l p bs x (λ k body status r out fh fb fs is simple. ring_spares h.capacity (slice_index (s.heads 0) k) body status r p bs (omega arith) (omega arith) (omega arith) simple from upto)
+
+-- ---- start, fetch and publication
+
+publish_gentle : (n : ℕ) (s : Scene) (list : List Answered) → collected s.past 0 ≤ length (published s.past 0) → IsGentle n s (record s { past = entries.Publish 0 list ∷ s.past })
+publish_gentle n s list shown = record {
+  heads = refl;
+  same = λ k. refl;
+  out = λ k o. record { below = o.below; kept = ap (λ (ks : List ℕ). is_among ks k) (sym (take-append-le (collected s.past 0) (published s.past 0) (numbers list) shown)) ∙ o.kept };
+  chain = λ k body status r out fb fs is c. c;
+}
+
+step_gentle : (h : Header1) (s : Scene) (l : Lane) (batch : List ℕ) (step : Step) → IsGood h → Holds h s l → IsGentle h.size s (after_items h.size (step_items h 0 batch step s) s)
+step_gentle h s l batch steps.Start good x = record { heads = refl; same = λ k. refl; out = λ k o. record { below = o.below; kept = o.kept }; chain = λ k body status r out fb fs is c. c }
+step_gentle h s l batch steps.Accept good x = record { heads = refl; same = λ k. refl; out = λ k o. record { below = o.below; kept = o.kept }; chain = λ k body status r out fb fs is c. c }
+step_gentle h s l batch (steps.Id e) good x = go (slice_get (map (element_of h 0 s) batch) e)
+  where
+    i : ℕ
+    i = used_idx (the_ring h.size) s.memory + e
+    go : (o : Option (ℕ × ℕ)) → IsGentle h.size s (after_items h.size (row_items (option_map (λ (y : ℕ × ℕ). row (the_ring h.size) SP1 (used_id_place (the_ring h.size) i) (little_bytes 4 y.0)) o) ++ []) s)
+    go None = gentle_none h.size s
+    go (Some y) = let low = entry_small h.size i good.size in ring_gentle h s l (used_id_place (the_ring h.size) i) (little_bytes 4 y.0) good x (omega arith) (omega (arith, length_little 4 y.0))
+step_gentle h s l batch (steps.Len e) good x = go (slice_get (map (element_of h 0 s) batch) e)
+  where
+    i : ℕ
+    i = used_idx (the_ring h.size) s.memory + e
+    go : (o : Option (ℕ × ℕ)) → IsGentle h.size s (after_items h.size (row_items (option_map (λ (y : ℕ × ℕ). row (the_ring h.size) SP2 (used_len_place (the_ring h.size) i) (little_bytes 4 y.1)) o) ++ []) s)
+    go None = gentle_none h.size s
+    go (Some y) = let low = entry_small h.size i good.size in ring_gentle h s l (used_len_place (the_ring h.size) i) (little_bytes 4 y.1) good x (omega arith) (omega (arith, length_little 4 y.1))
+step_gentle h s l batch steps.Index good x =
+    let v : ℕ = (used_idx (the_ring h.size) s.memory + length (map (element_of h 0 s) batch)) % 65536 in
+    let p : ℕ = used_idx_place (the_ring h.size) in
+    let bs : List ℕ = little_bytes 2 v in
+    let s' : Scene = stored_at p bs s in
+    let ring : IsGentle h.size s s' = ring_gentle h s l p bs good x (omega arith) (omega (arith, length_little 2 v)) in
+    let shows = publish_gentle h.size s (map (answer_at 0 s') batch) x.known.shown in
+    record { heads = refl; same = λ k. refl; out = shows.out; chain = ring.chain }
+
+phase_gentle : (h : Header1) (s : Scene) (l l' : Lane) (o : Option Step) → IsGood h → Holds h s l → IsGentle h.size s (after_items h.size (phase_turn h 0 s l' o).items s)
+phase_gentle h s l l' None good x = gentle_none h.size s
+phase_gentle h s l l' (Some step) good x = step_gentle h s l l'.batch step good x
+
+-- ---- work
+
+own_status : (cap head body status : ℕ) (r : Asked) (byte : ℕ) → head < 64 → body < 64 → status < 64 → IsSimple cap (Some r) → Spares head body status r (status_place (buffer_at head)) (byte ∷ [])
+own_status cap head body status r byte fh fb fs simple =
+    let at = handed_fits cap (buffer_at head) r simple in record {
+      first = inl (omega arith); middle = inl (omega arith); last = inl (omega arith); header = inl (omega arith); handed = inr (omega (arith, at.0));
+    }
+
+own_read : (head body status sector c p : ℕ) (bs : List ℕ) → head < 64 → body < 64 → status < 64 → p ≡ sectors_place (buffer_at head) → Spares head body status (asks.Read sector c) p bs
+own_read head body status sector c p bs fh fb fs at = record { first = inl (omega arith); middle = inl (omega arith); last = inl (omega arith); header = inl (omega arith); handed = inl (omega arith) }
+
+few_in_range : (xs : List ℕ) → length (slice_range xs (512 * 0) (512 * 0 + 512)) ≤ 512
+few_in_range xs = omega (arith, length-take 512 xs)
+
+put_gentle : (h : Header1) (s : Scene) (l : Lane) (k sector : ℕ) → IsGood h → Holds h s l → IsOpen s.past 0 k → asked s.past 0 k ≡ Some (asks.Read sector 1)
+    → IsGentle h.size s (stored_at (sectors_place (buffer (s.heads 0) k) + 512 * 0) (slice_range (seen s.past 0 k) (512 * 0) (512 * 0 + 512)) s)
+put_gentle h s l k sector good x is_open is_k =
+    let small : h.size ≤ 64 = good.size.small in
+    let bs : List ℕ = slice_range (seen s.past 0 k) (512 * 0) (512 * 0 + 512) in
+    let p : ℕ = sectors_place (buffer (s.heads 0) k) + 512 * 0 in
+    let few : length bs ≤ 512 = few_in_range (seen s.past 0 k) in
+    let out_k = open_out h.size h.capacity s.past (s.heads 0) k x.known is_open in
+    store_gentle h s l p bs x (λ j body status r out fh fb fs is simple. elim (cases_eq j k) [
+      | inl same ↦
+          let both : Some r ≡ Some (asks.Read sector 1) = sym is ∙ ap (asked s.past 0) same ∙ is_k in
+          let is_r : r ≡ asks.Read sector 1 = cc in
+          let here : p ≡ sectors_place (buffer_at (slice_index (s.heads 0) j)) = ap (λ (i : ℕ). sectors_place (buffer (s.heads 0) i) + 512 * 0) (sym same) ∙ omega arith in
+          subst (λ (q : Asked). Spares (slice_index (s.heads 0) j) body status q p bs) (sym is_r) (own_read (slice_index (s.heads 0) j) body status sector 1 p bs (omega arith) (omega arith) (omega arith) here)
+      | inr apart ↦ buffer_spares h.capacity (slice_index (s.heads 0) j) body status (slice_index (s.heads 0) k) r p bs (omega arith) (omega arith) (omega arith) simple (λ same. apart (x.driven.apart j k out out_k same)) (omega arith) (omega arith)
+    ])
+
+status_gentle : (h : Header1) (s : Scene) (l : Lane) (k byte : ℕ) → IsGood h → Holds h s l → IsOpen s.past 0 k → IsGentle h.size s (stored_at (status_place (buffer (s.heads 0) k)) (byte ∷ []) s)
+status_gentle h s l k byte good x is_open =
+    let small : h.size ≤ 64 = good.size.small in
+    let p : ℕ = status_place (buffer (s.heads 0) k) in
+    let out_k = open_out h.size h.capacity s.past (s.heads 0) k x.known is_open in
+    store_gentle h s l p (byte ∷ []) x (λ j body status r out fh fb fs is simple. elim (cases_eq j k) [
+      | inl same ↦
+          subst (λ (i : ℕ). Spares (slice_index (s.heads 0) j) body status r (status_place (buffer (s.heads 0) i)) (byte ∷ [])) same (own_status h.capacity (slice_index (s.heads 0) j) body status r byte (omega arith) (omega arith) (omega arith) simple)
+      | inr apart ↦ buffer_spares h.capacity (slice_index (s.heads 0) j) body status (slice_index (s.heads 0) k) r p (byte ∷ []) (omega arith) (omega arith) (omega arith) simple (λ same. apart (x.driven.apart j k out out_k same)) (omega arith) (omega arith)
+    ])
+
+look_gentle : (n : ℕ) (s : Scene) (k sector : ℕ) (v : List ℕ) → IsGentle n s (record s { past = entries.Look 0 k sector v ∷ s.past })
+look_gentle n s k sector v = record { heads = refl; same = λ j. refl; out = λ j o. record { below = o.below; kept = o.kept }; chain = λ j body status r out fb fs is c. c }
+
+act_gentle : (n : ℕ) (s : Scene) (k sector : ℕ) (v : List ℕ) → IsGentle n s (record s { past = entries.Act 0 k sector v ∷ s.past })
+act_gentle n s k sector v = record { heads = refl; same = λ j. refl; out = λ j o. record { below = o.below; kept = o.kept }; chain = λ j body status r out fb fs is c. c }
+
+-- any step of a request at work
+request_gentle : (h : Header1) (s : Scene) (l : Lane) (k : ℕ) → IsPlain h → Holds h s l → IsOpen s.past 0 k → IsGentle h.size s (after_items h.size (request_turn h 0 s l k (asked s.past 0 k)).items s)
+request_gentle h s l k plain x is_open =
+    let low : k < length (s.heads 0) = omega (arith, is_open.taken, x.known.offered) in
+    elim (simple_cases h.capacity (asked s.past 0 k) (x.known.simple k low)) [
+      | inl r ↦ subst (λ (o : Option Asked). IsGentle h.size s (after_items h.size (request_turn h 0 s l k o).items s)) (sym r.2)
+          (subst (λ (steps : List TaskStep). IsGentle h.size s (after_items h.size (task_turn h 0 s l k (asks.Read r.0 1) (slice_get steps (l.made k))).items s)) (sym (read_steps h r.0 r.1)) (reads r.0 r.2 (l.made k)))
+      | inr r ↦ subst (λ (o : Option Asked). IsGentle h.size s (after_items h.size (request_turn h 0 s l k o).items s)) (sym r.4)
+          (subst (λ (steps : List TaskStep). IsGentle h.size s (after_items h.size (task_turn h 0 s l k (asks.Write r.0 r.1) (slice_get steps (l.made k))).items s)) (sym (write_steps h r.0 r.1 plain.back r.2 r.3)) (writes r.0 r.1 r.3 (l.made k)))
+    ]
+  where
+    reads : (sector : ℕ) → asked s.past 0 k ≡ Some (asks.Read sector 1) → (made : ℕ) → IsGentle h.size s (after_items h.size (task_turn h 0 s l k (asks.Read sector 1) (slice_get (Look 0 ∷ Put 0 ∷ Status ∷ []) made)).items s)
+    reads sector is zero = look_gentle h.size s k (sector + 0) (value s.past (sector + 0))
+    reads sector is (suc zero) = put_gentle h s l k sector plain.good x is_open is
+    reads sector is (suc (suc zero)) = status_gentle h s l k (status_of h (asks.Read sector 1)) plain.good x is_open
+    reads sector is (suc (suc (suc made))) = gentle_none h.size s
+    acts_of : (o : Option SectorValue) → IsGentle h.size s (after_items h.size (act_items 0 k o) s)
+    acts_of None = gentle_none h.size s
+    acts_of (Some y) = act_gentle h.size s k y.sector y.value
+    writes : (sector : ℕ) (bytes : List ℕ) → length bytes ≡ 512 → (made : ℕ) → IsGentle h.size s (after_items h.size (task_turn h 0 s l k (asks.Write sector bytes) (slice_get (Act 0 ∷ Status ∷ []) made)).items s)
+    writes sector bytes long zero = acts_of (effect_at (asks.Write sector bytes) 0)
+    writes sector bytes long (suc zero) = status_gentle h s l k (status_of h (asks.Write sector bytes)) plain.good x is_open
+    writes sector bytes long (suc (suc made)) = gentle_none h.size s
+
+work_gentle : (h : Header1) (m : Moment) (place : ℕ) → IsPlain h → Good h m → IsGentle h.size m.scene (after_items h.size (turned h 0 (turns.Work place) m).items m.scene)
+work_gentle h m place plain good = go (slice_get (unfinished 0 m) place) refl
+  where
+    go : (o : Option ℕ) → slice_get (unfinished 0 m) place ≡ o → IsGentle h.size m.scene (after_items h.size (work_turn h 0 m.scene (m.lanes 0) o).items m.scene)
+    go None is = gentle_none h.size m.scene
+    go (Some k) is =
+        let l : Lane = m.lanes 0 in
+        let kept = among_filter (λ j. not (is_among (l.completed ++ l.batch) j)) (open_numbers m.scene.past 0) k (among_get (unfinished 0 m) place k is) in
+        let opened = missing-among (published m.scene.past 0) (accepted m.scene.past 0) k kept.0 in
+        request_gentle h m.scene l k plain good.holds (record { taken = opened.0; unpublished = opened.1 })
+
+pub turn_gentle : (h : Header1) (t : Turn) (m : Moment) → IsPlain h → Good h m → IsGentle h.size m.scene (after_items h.size (turned h 0 t m).items m.scene)
+turn_gentle h turns.Start m plain good = phase_gentle h m.scene (m.lanes 0) (under_way turns.Start (m.lanes 0)) (next_step (length (under_way turns.Start (m.lanes 0)).batch) (under_way turns.Start (m.lanes 0)).phase) plain.good good.holds
+turn_gentle h turns.Fetch m plain good = phase_gentle h m.scene (m.lanes 0) (under_way turns.Fetch (m.lanes 0)) (next_step (length (under_way turns.Fetch (m.lanes 0)).batch) (under_way turns.Fetch (m.lanes 0)).phase) plain.good good.holds
+turn_gentle h (turns.Publish most) m plain good =
+    phase_gentle h m.scene (m.lanes 0) (under_way (turns.Publish most) (m.lanes 0)) (next_step (length (under_way (turns.Publish most) (m.lanes 0)).batch) (under_way (turns.Publish most) (m.lanes 0)).phase) plain.good good.holds
+turn_gentle h (turns.Work place) m plain good = work_gentle h m place plain good
+
+-- ---- the driver isn't the device's
+
+under_driver : (t : Turn) (l : Lane) (b : Bool) → (cond {A = Lane} b (begun t l) l).driver ≡ l.driver
+under_driver turns.Start l true = refl
+under_driver turns.Fetch l true = refl
+under_driver (turns.Publish most) l true = refl
+under_driver (turns.Work place) l true = refl
+under_driver t l false = refl
+
+phase_driver : (h : Header1) (s : Scene) (l : Lane) (o : Option Step) → (phase_turn h 0 s l o).lane.driver ≡ l.driver
+phase_driver h s l None = refl
+phase_driver h s l (Some step) = refl
+
+task_driver : (h : Header1) (s : Scene) (l : Lane) (k : ℕ) (r : Asked) (o : Option TaskStep) → (task_turn h 0 s l k r o).lane.driver ≡ l.driver
+task_driver h s l k r None = refl
+task_driver h s l k r (Some (Look i)) = refl
+task_driver h s l k r (Some (Put i)) = refl
+task_driver h s l k r (Some (Act i)) = refl
+task_driver h s l k r (Some Sync) = refl
+task_driver h s l k r (Some Status) = refl
+
+request_driver : (h : Header1) (s : Scene) (l : Lane) (k : ℕ) (o : Option Asked) → (request_turn h 0 s l k o).lane.driver ≡ l.driver
+request_driver h s l k None = refl
+request_driver h s l k (Some r) = task_driver h s l k r (slice_get (task_steps h r) (l.made k))
+
+work_driver : (h : Header1) (s : Scene) (l : Lane) (o : Option ℕ) → (work_turn h 0 s l o).lane.driver ≡ l.driver
+work_driver h s l None = refl
+work_driver h s l (Some k) = request_driver h s l k (asked s.past 0 k)
+
+goes_on_driver : (h : Header1) (s : Scene) (l : Lane) → (phase_goes_on h 0 s l).lane.driver ≡ l.driver
+goes_on_driver h s l = phase_driver h s l (next_step (length l.batch) l.phase)
+
+pub turn_driver : (h : Header1) (t : Turn) (m : Moment) → (turned h 0 t m).lane.driver ≡ (m.lanes 0).driver
+turn_driver h turns.Start m = goes_on_driver h m.scene (under_way turns.Start (m.lanes 0)) ∙ under_driver turns.Start (m.lanes 0) (is_rest (m.lanes 0).phase)
+turn_driver h turns.Fetch m = goes_on_driver h m.scene (under_way turns.Fetch (m.lanes 0)) ∙ under_driver turns.Fetch (m.lanes 0) (is_rest (m.lanes 0).phase)
+turn_driver h (turns.Publish most) m = goes_on_driver h m.scene (under_way (turns.Publish most) (m.lanes 0)) ∙ under_driver (turns.Publish most) (m.lanes 0) (is_rest (m.lanes 0).phase)
+turn_driver h (turns.Work place) m = work_driver h m.scene (m.lanes 0) (slice_get (unfinished 0 m) place)
