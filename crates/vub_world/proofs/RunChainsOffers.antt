@@ -84,8 +84,15 @@ three_needed cap (wants.Zero parts) plain = absurd plain
 
 linked_still : (n : ℕ) (owner owner' : ℕ → Option ℕ) (m : Bytes) (head : ℕ) (o : Option Asked) → ((d : ℕ) → owner d ≡ Some head → owner' d ≡ Some head) → IsLinked n owner m head o → IsLinked n owner' m head o
 linked_still n owner owner' m head o still was = record {
-  body = was.body; status = was.status; body_fits = was.body_fits; status_fits = was.status_fits; body_mine = still was.body was.body_mine; status_mine = still was.status was.status_mine; request = was.request;
-  is = was.is; stands = was.stands;
+  body = was.body;
+  status = was.status;
+  body_fits = was.body_fits;
+  status_fits = was.status_fits;
+  body_mine = still was.body was.body_mine;
+  status_mine = still was.status was.status_mine;
+  request = was.request;
+  is = was.is;
+  stands = was.stands;
 }
 
 prepared : (n : ℕ) (a : Ask) (v : Driver) (ds : List ℕ) → length ds ≡ 3 → IsFreeFrom n v.owner 0 ds
@@ -114,7 +121,7 @@ ask_chained h s v a plain ready c =
     let all : IsFreeFrom h.size v.owner 0 ds = free_taken h.size v.owner 0 (descriptors_needed a) free (free_are v.owner h.size 0 h.size (omega arith)) in
     record {
       linked = λ k out. linked_still h.size v.owner (owned_by (first_or_zero ds) ds v.owner) s.memory (slice_index (s.heads 0) k) (asked s.past 0 k)
-      (λ d is. owned_still h.size (first_or_zero ds) 0 ds v.owner d (slice_index (s.heads 0) k) all is) (c.linked k out);
+          (λ d is. owned_still h.size (first_or_zero ds) 0 ds v.owner d (slice_index (s.heads 0) k) all is) (c.linked k out);
       waits = prepared h.size a v ds three all;
     }
 
@@ -145,7 +152,11 @@ kept_owner owner x e d apart is =
 prepared_still : (h : Header1) (s : Scene) (l : Lane) (x : ℕ) (o : Option Waiting) → IsTaken h s l x → PreparedWell h.size l.driver o → ((w : Waiting) → o ≡ Some w → w.head ≢ x) → PreparedWell h.size (record l.driver { owner = without_owner x l.driver.owner }) o
 prepared_still h s l x None t p apart = tt
 prepared_still h s l x (Some w) t p apart = record {
-  body = p.body; status = p.status; up = p.up; upper = p.upper; fits = p.fits;
+  body = p.body;
+  status = p.status;
+  up = p.up;
+  upper = p.upper;
+  fits = p.fits;
   body_mine = kept_owner l.driver.owner x w.head p.body (apart w refl) p.body_mine;
   status_mine = kept_owner l.driver.owner x w.head p.status (apart w refl) p.status_mine;
   stores = p.stores;
@@ -155,10 +166,10 @@ pub collect_chained : (h : Header1) (s : Scene) (l : Lane) (x k : ℕ) → IsTak
 collect_chained h s l x k t c =
     let d : Driven h.size h.capacity h.base s.past (s.heads 0) l.driver = t.holds.driven in record {
       linked = λ j out.
-      let was = later_out h s l x j k t out in
-      let differs : slice_index (s.heads 0) j ≢ x = λ same. was.1 (d.apart j (next_number s) was.0 (next_out h s l x t) (same ∙ t.head)) in
-      linked_still h.size l.driver.owner (without_owner x l.driver.owner) s.memory (slice_index (s.heads 0) j) (asked s.past 0 j) (λ e is. kept_owner l.driver.owner x (slice_index (s.heads 0) j) e differs is) (c.linked j was.0);
+          let was = later_out h s l x j k t out in
+          let differs : slice_index (s.heads 0) j ≢ x = λ same. was.1 (d.apart j (next_number s) was.0 (next_out h s l x t) (same ∙ t.head)) in
+          linked_still h.size l.driver.owner (without_owner x l.driver.owner) s.memory (slice_index (s.heads 0) j) (asked s.past 0 j) (λ e is. kept_owner l.driver.owner x (slice_index (s.heads 0) j) e differs is) (c.linked j was.0);
       waits = prepared_still h s l x l.driver.waiting t c.waits (λ w waits same.
-        let well : IsWaiting h.size h.capacity s.past (s.heads 0) l.driver w = subst (λ (o : Option Waiting). WaitsWell h.size h.capacity s.past (s.heads 0) l.driver o) waits d.waits in
-        well.apart (next_number s) (next_out h s l x t) (sym t.head ∙ sym same));
+          let well : IsWaiting h.size h.capacity s.past (s.heads 0) l.driver w = subst (λ (o : Option Waiting). WaitsWell h.size h.capacity s.past (s.heads 0) l.driver o) waits d.waits in
+          well.apart (next_number s) (next_out h s l x t) (sym t.head ∙ sym same));
     }

@@ -94,13 +94,13 @@ chain_made n cap index head body status r m size simple up upper fits front =
     let last : HasDesc (put m2 0 (table_place status) three) status (desc_of (writable_piece (status_place b) 1) None) = desc_made m2 status (table_place status) (writable_piece (status_place b) 1) 0 0 refl (omega arith) (omega arith) (omega arith) (omega arith) in
     record {
       first = desc_stays (one_store 0 (table_place body) two ∷ one_store 0 (table_place status) three ∷ offer_stores (the_ring n) index head) m1 head (table_place head) (desc_of (readable_piece b 16) (Some body)) refl
-      (table_off body head two (omega arith) long_two, (table_off status head three (omega arith) long_three, offers head (omega arith))) first;
+          (table_off body head two (omega arith) long_two, (table_off status head three (omega arith) long_three, offers head (omega arith))) first;
       middle = desc_stays (one_store 0 (table_place status) three ∷ offer_stores (the_ring n) index head) m2 body (table_place body) (desc_of p (Some status)) refl
-      (table_off status body three (omega arith) long_three, offers body (omega arith)) middle;
+          (table_off status body three (omega arith) long_three, offers body (omega arith)) middle;
       last = desc_stays (offer_stores (the_ring n) index head) (put m2 0 (table_place status) three) status (table_place status) (desc_of (writable_piece (status_place b) 1) None) refl (offers status (omega arith)) last;
       front = front_stays (linked n index head body status p) m b r
-      (inr (omega arith), (inr (omega arith), (inr (omega arith), (inr (omega arith), (inr (omega arith), tt)))))
-      (inr (omega (arith, where_data.0)), (inr (omega (arith, where_data.0)), (inr (omega (arith, where_data.0)), (inr (omega (arith, where_data.0)), (inr (omega (arith, where_data.0)), tt))))) front;
+          (inr (omega arith), (inr (omega arith), (inr (omega arith), (inr (omega arith), (inr (omega arith), tt)))))
+          (inr (omega (arith, where_data.0)), (inr (omega (arith, where_data.0)), (inr (omega (arith, where_data.0)), (inr (omega (arith, where_data.0)), (inr (omega (arith, where_data.0)), tt))))) front;
     }
   where
     flags_small : (q : Asked) → (desc_of (data_of (buffer_at head) q) (Some status)).flags < 256 ^ 2
