@@ -1,31 +1,27 @@
 -- Along every run the chain of each request that is offered and not collected stands in memory.
-use Rattle.std.proofs.Common.{◌≡◌, ◌≤◌, ◌<◌, ℕ, zero, suc, ◌+◌, ◌*◌, Bool, true, false, not, cond, List, [], ◌∷◌, ◌++◌, length, drop, refl, ap, sym, ◌∙◌, subst, inl, inr, arith}
-use Rattle.std.specs.Prelude.{Option, Some, None, is_some, option_map, slice_index, ◌&&◌}
+use Rattle.std.proofs.Common.{◌≡◌, ◌≤◌, ◌<◌, ℕ, zero, suc, ◌+◌, Bool, true, false, not, cond, List, [], ◌∷◌, length, drop, refl, ap, sym, ◌∙◌, subst, inl, inr, arith}
+use Rattle.std.specs.Prelude.{Option, Some, None, is_some, ◌&&◌}
 use Rattle.std.specs.List.{AllByRecursion}
 use Rattle.std.proofs.lemmas.List.{length-append, drop_all}
 use Rattle.vub_base.specs.declared.header.Header1.{Header1}
 use Rattle.vub_base.specs.declared.request.Ask.{Ask}
 use Rattle.vub_base.specs.declared.request.Shape.{Shape}
 use Rattle.vub_base.specs.declared.request.Shape.TheVariants.{Direct}
-use Rattle.vub_shared.specs.Bytes.{Bytes, word, bytes_from}
 use Rattle.vub_shared.specs.Stores.{Store}
 use Rattle.vub_ring.specs.declared.readiness.Turn.{Turn}
 use Rattle.vub_ring.specs.Ring.{seen}
-use Rattle.vub_driver.specs.Layout.{area_place, buffer_place}
 use Rattle.vub_driver.specs.Drivers.{Driver, Waiting, can_take, with_left}
 use Rattle.vub_driver.specs.Stores.{offer_stores}
-use Rattle.vub_device.specs.declared.entry.Asked.{Asked}
-use Rattle.vub_device.specs.declared.entry.Asked.TheVariants as asks
 use Rattle.vub_device.specs.declared.entry.Entry.TheVariants as entries
-use Rattle.vub_device.specs.Past.{asked, accepted, published, collected, is_among}
+use Rattle.vub_device.specs.Past.{accepted, collected}
 use Rattle.vub_schedule.specs.declared.types.Event.{Event}
 use Rattle.vub_schedule.specs.declared.types.Event.TheVariants as events
-use Rattle.vub_schedule.specs.Spelling.{IsAsk, IsEvent, IsHeader}
+use Rattle.vub_schedule.specs.Spelling.{IsAsk, IsEvent}
 use Rattle.vub_world.specs.declared.report.items.Item.{Item}
 use Rattle.vub_world.specs.declared.report.items.Record.{Record}
 use Rattle.vub_world.specs.Memory.{Scene, after_items}
 use Rattle.vub_world.specs.Moments.{Lane, Moment, opening}
-use Rattle.vub_world.specs.Run.{Played, played, if_ready, with_driver, guest_items, guest, guest_stores, ask, collect, take_first, boot, join, one_turn, is_due, then_played, turns, drain_choice, Drains, Plays}
+use Rattle.vub_world.specs.Run.{Played, played, if_ready, guest_items, guest, guest_stores, ask, collect, take_first, boot, join, one_turn, is_due, then_played, turns, drain_choice, Drains, Plays}
 use Rattle.vub_world.specs.Turns.{turned}
 use Rattle.vub_world.proofs.RunGood.{the_ring, IsOut, IsPlan, IsWaiting, WaitsWell}
 use Rattle.vub_world.proofs.RunAsks.{plain_ask}
@@ -99,6 +95,7 @@ turns_chained (suc count) choose h m plain good c = go (is_due h 0 (choose m) m)
   where
     N : Moment
     N = (one_turn h 0 (choose m) m).next
+
     go : (b : Bool) → is_due h 0 (choose m) m ≡ b → (Good h N → ChainedAt h N → Good h (turns count choose h 0 N).next × ChainedAt h (turns count choose h 0 N).next)
         → Good h (cond {A = Played} b (then_played (one_turn h 0 (choose m) m) (turns count choose h 0 (one_turn h 0 (choose m) m).next)) (played [] m)).next
         × ChainedAt h (cond {A = Played} b (then_played (one_turn h 0 (choose m) m) (turns count choose h 0 (one_turn h 0 (choose m) m).next)) (played [] m)).next

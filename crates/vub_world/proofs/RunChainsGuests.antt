@@ -12,18 +12,18 @@ use Rattle.vub_shared.specs.Bytes.{Bytes, put, word}
 use Rattle.vub_shared.specs.Stores.{Store, one_store}
 use Rattle.vub_shared.proofs.BytesLemmas.{word-put_same}
 use Rattle.vub_ring.specs.Ring.{avail_idx, avail_entry_place, avail_idx_place, last_head}
-use Rattle.vub_driver.specs.Layout.{status_place, sectors_place, area_place}
+use Rattle.vub_driver.specs.Layout.{status_place, sectors_place}
 use Rattle.vub_driver.specs.Drivers.{Driver, Waiting}
-use Rattle.vub_driver.specs.Requests.{Piece, readable_piece, writable_piece, header_bytes, written_bytes, descriptor_bytes, request_type, first_sector}
+use Rattle.vub_driver.specs.Requests.{Piece, readable_piece, writable_piece, written_bytes, descriptor_bytes}
 use Rattle.vub_driver.specs.Stores.{store_of_some, offer_stores, request_stores}
 use Rattle.vub_device.specs.declared.entry.Asked.{Asked}
 use Rattle.vub_device.specs.declared.entry.Entry.{Entry}
 use Rattle.vub_device.specs.declared.entry.Entry.TheVariants as entries
-use Rattle.vub_device.specs.Past.{asked, offers}
+use Rattle.vub_device.specs.Past.{asked}
 use Rattle.vub_world.specs.declared.report.items.Item.TheVariants as items
 use Rattle.vub_world.specs.Memory.{Scene, with_at, after_item, after_items}
 use Rattle.vub_world.specs.Run.{request_of, guest_items}
-use Rattle.vub_world.specs.ChainState.{data_start, handed_bytes, data_of}
+use Rattle.vub_world.specs.ChainState.{data_of}
 use Rattle.vub_world.proofs.RunGood.{the_ring, IsSize, IsSimple, IsOut, IsPlan, IsWaiting, Known, Driven}
 use Rattle.vub_world.proofs.RunFrames.{keeps, length_little, entry_small}
 use Rattle.vub_world.proofs.RunGuests.{IsGood}
@@ -64,9 +64,16 @@ linked_mine : (n index : ℕ) (owner : ℕ → Option ℕ) (head body status : �
 linked_mine n index owner head body status p size fh fb fs mh mb ms =
     let low = entry_small n index size in
     let e : length (little_bytes 2 head) ≡ 2 = length_little 2 head in
-    let i : length (little_bytes 2 ((index + 1) % 65536)) ≡ 2 = length_little 2 ((index + 1) % 65536) in
-    (inr (inr (head, fh, mh, refl, desc_long (readable_piece (buffer_at head) 16) 1 body)), (inr (inr (body, fb, mb, refl, desc_long p 1 status)), (inr (inr (status, fs, ms, refl, desc_long (writable_piece (status_place (buffer_at head)) 1) 0 0)),
-      (inl (omega arith, omega arith), (inl (omega arith, omega arith), tt)))))
+    let i : length (little_bytes 2 ((index + 1) % 65536)) ≡ 2 = length_little 2 ((index + 1) % 65536) in (
+      inr (inr (head, fh, mh, refl, desc_long (readable_piece (buffer_at head) 16) 1 body)),
+      (
+        inr (inr (body, fb, mb, refl, desc_long p 1 status)),
+        (
+          inr (inr (status, fs, ms, refl, desc_long (writable_piece (status_place (buffer_at head)) 1) 0 0)),
+          (inl (omega arith, omega arith), (inl (omega arith, omega arith), tt)),
+        ),
+      ),
+    )
 
 stores_mine : (n cap index : ℕ) (owner : ℕ → Option ℕ) (head body status : ℕ) (a : Ask) → IsSize n → IsSimple cap (Some (request_of a)) → head < n → body < n → status < n → owner head ≡ Some head → owner body ≡ Some head → owner status ≡ Some head
     → AreMine owner head (request_stores (the_ring n) index a (head ∷ body ∷ status ∷ []))
@@ -78,10 +85,12 @@ stores_mine n cap index owner head body status (wants.Write s fills) size simple
     let bytes : List ℕ = written_bytes (wants.Write s fills) in
     let front : List Store = store_of_some 0 (sectors_place (buffer_at head)) bytes in
     let last : List Store = one_store 0 (status_place (buffer_at head)) (255 ∷ []) ∷ [] in
-    let rest : List Store = linked n index head body status (data_of (buffer_at head) (request_of (wants.Write s fills))) in
-    (inr (inl (omega arith, omega (arith, header_long 1 s))), mine_append owner head (front ++ last) rest
-      (mine_append owner head front last (some_mine owner head bytes (omega (arith, simple.1))) (inr (inl (omega arith, omega arith)), tt))
-      (linked_mine n index owner head body status (data_of (buffer_at head) (request_of (wants.Write s fills))) size (omega arith) (omega arith) (omega arith) mh mb ms))
+    let rest : List Store = linked n index head body status (data_of (buffer_at head) (request_of (wants.Write s fills))) in (
+      inr (inl (omega arith, omega (arith, header_long 1 s))),
+      mine_append owner head (front ++ last) rest
+          (mine_append owner head front last (some_mine owner head bytes (omega (arith, simple.1))) (inr (inl (omega arith, omega arith)), tt))
+          (linked_mine n index owner head body status (data_of (buffer_at head) (request_of (wants.Write s fills))) size (omega arith) (omega arith) (omega arith) mh mb ms),
+    )
 stores_mine n cap index owner head body status wants.Flush size simple fh fb fs mh mb ms = absurd simple
 stores_mine n cap index owner head body status wants.Id size simple fh fb fs mh mb ms = absurd simple
 stores_mine n cap index owner head body status (wants.Discard parts) size simple fh fb fs mh mb ms = absurd simple
@@ -192,7 +201,13 @@ guest_chained h s v w good few known driven waits ready c =
             let fs : was.status < n = was.status_fits in
             let simple : IsSimple h.capacity (Some was.request) = subst (λ (o : Option Asked). IsSimple h.capacity o) was.is (known.simple k low) in
             subst (λ (x : ℕ). IsLinked n v.owner m x (asked past 0 k)) (sym (same_head (s.heads 0) w.head k low)) (record {
-              body = was.body; status = was.status; body_fits = was.body_fits; status_fits = was.status_fits; body_mine = was.body_mine; status_mine = was.status_mine; request = was.request;
+              body = was.body;
+              status = was.status;
+              body_fits = was.body_fits;
+              status_fits = was.status_fits;
+              body_mine = was.body_mine;
+              status_mine = was.status_mine;
+              request = was.request;
               is = same_asked s.past r k (omega (arith, known.offers_are)) ∙ was.is;
               stands = chain_stays h.capacity v.owner w.head (slice_index (s.heads 0) k) was.body was.status was.request w.left s.memory simple (omega arith) (omega arith) (omega arith) (waits.apart k out_k) (driven.owned k out_k) was.body_mine was.status_mine all was.stands;
             })
@@ -201,7 +216,13 @@ guest_chained h s v w good few known driven waits ready c =
             let last : k ≡ length (s.heads 0) = omega (arith, longer, out.below) in
             let here : slice_index heads k ≡ w.head = ap (slice_index heads) last ∙ new_head (s.heads 0) w.head in
             subst (λ (x : ℕ). IsLinked n v.owner m x (asked past 0 k)) (sym here) (record {
-              body = ready.body; status = ready.status; body_fits = omega arith; status_fits = fits; body_mine = ready.body_mine; status_mine = ready.status_mine; request = r;
+              body = ready.body;
+              status = ready.status;
+              body_fits = omega arith;
+              status_fits = fits;
+              body_mine = ready.body_mine;
+              status_mine = ready.status_mine;
+              request = r;
               is = new_asked s.past r k (omega (arith, last, known.offers_are));
               stands = made;
             })

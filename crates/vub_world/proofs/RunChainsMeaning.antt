@@ -1,6 +1,6 @@
 -- What memory means along every run: each request that is offered and not published, at its head.
-use Rattle.std.proofs.Common.{◌≡◌, ◌≤◌, ◌<◌, ℕ, ◌+◌, ◌*◌, false, List, length, refl, ap, sym, ◌∙◌, subst, arith}
-use Rattle.std.specs.Prelude.{Option, Some, None, slice_index}
+use Rattle.std.proofs.Common.{◌≡◌, ◌≤◌, ◌<◌, ℕ, ◌+◌, not, false, List, ◌++◌, length, refl, ap, sym, ◌∙◌, subst, arith}
+use Rattle.std.specs.Prelude.{Option, Some, None, slice_index, slice_get}
 use Rattle.vub_base.specs.declared.header.Header1.{Header1}
 use Rattle.vub_shared.specs.Bytes.{Bytes, word, bytes_from}
 use Rattle.vub_ring.specs.declared.readiness.Turn.{Turn}
@@ -8,21 +8,22 @@ use Rattle.vub_driver.specs.Layout.{area_place, buffer_place, status_place}
 use Rattle.vub_driver.specs.Requests.{readable_piece, writable_piece}
 use Rattle.vub_device.specs.declared.entry.Asked.{Asked}
 use Rattle.vub_device.specs.declared.entry.Asked.TheVariants as asks
-use Rattle.vub_device.specs.Past.{asked, published, collected, is_among}
+use Rattle.vub_device.specs.Past.{asked, accepted, published, collected, is_among, open_numbers}
 use Rattle.vub_schedule.specs.declared.types.Event.{Event}
 use Rattle.vub_world.specs.declared.report.items.Record.{Record}
 use Rattle.vub_world.specs.declared.split.SplitRing.{SplitRing}
 use Rattle.vub_world.specs.declared.chain.Desc.{Desc}
 use Rattle.vub_world.specs.GuestChain.{Links}
-use Rattle.vub_world.specs.ChainState.{MeansRequest, desc_in, desc_place, desc_of, data_of, data_start, data_len, body_desc, handed_bytes}
-use Rattle.vub_world.specs.Moments.{Moment}
+use Rattle.vub_world.specs.ChainState.{MeansRequest, desc_in, desc_place, desc_of, data_of, data_start, body_desc, handed_bytes}
+use Rattle.vub_world.specs.Moments.{Moment, unfinished}
 use Rattle.vub_world.specs.Run.{turns}
-use Rattle.vub_world.proofs.RunNumbers.{not_among-take}
+use Rattle.vub_world.proofs.RunNumbers.{not_among-take, among_get, among_filter, missing-among}
+use Rattle.vub_world.proofs.RunFrames.{open_out}
 use Rattle.vub_world.proofs.RunGood.{IsSize, IsSimple, IsOut}
 use Rattle.vub_world.proofs.Runs.{plain_header}
 use Rattle.vub_world.proofs.RunTurns.{IsPlain, Good}
 use Rattle.vub_world.proofs.RunsTo.{Stands, stands_good}
-use Rattle.vub_world.proofs.RunChains.{table_place, buffer_at, HasDesc, HasChain}
+use Rattle.vub_world.proofs.RunChains.{table_place, buffer_at, HasDesc}
 use Rattle.vub_world.proofs.RunChainsStores.{handed_fits}
 use Rattle.vub_world.proofs.RunChainsTurns.{IsLinked}
 use Rattle.vub_world.proofs.RunChainsEvents.{ChainedAt, stands_chained, stands_turns}
@@ -120,3 +121,11 @@ pub turns_mean : (h : Header1) (es : List Event) (rs : List Record) (n : Moment)
 turns_mean h es rs n count choose sizes r k s ring low new =
     let both = stands_turns h es rs n count choose s in
     moment_means h (turns count choose h 0 n).next sizes r k (plain_header h s.header) both.0 both.1 ring (unpublished_out h (turns count choose h 0 n).next k low new)
+
+-- the request of which a turn makes the next step
+pub work_means : (h : Header1) (m : Moment) (sizes : ℕ → ℕ) (r : SplitRing) (place k : ℕ) → IsPlain h → Good h m → ChainedAt h m → IsFirstRing sizes r h.size → slice_get (unfinished 0 m) place ≡ Some k
+    → Meant sizes r m.scene.memory (slice_index (m.scene.heads 0) k) (asked m.scene.past 0 k)
+work_means h m sizes r place k plain good c ring is =
+    let kept = among_filter (λ j. not (is_among ((m.lanes 0).completed ++ (m.lanes 0).batch) j)) (open_numbers m.scene.past 0) k (among_get (unfinished 0 m) place k is) in
+    let opened = missing-among (published m.scene.past 0) (accepted m.scene.past 0) k kept.0 in
+    moment_means h m sizes r k plain good c ring (open_out h.size h.capacity m.scene.past (m.scene.heads 0) k good.holds.known (record { taken = opened.0; unpublished = opened.1 }))

@@ -1,42 +1,27 @@
 -- An offer adds the chain of its request; asks and collections leave the others.
-use Rattle.std.proofs.Common.{◌≡◌, ◌≢◌, ◌≤◌, ◌<◌, ◌⊎◌, ℕ, zero, suc, ◌+◌, ◌*◌, ◌%◌, Bool, true, false, cond, List, [], ◌∷◌, ◌++◌, length, take, drop, refl, ap, sym, ◌∙◌, subst, inl, inr, arith}
+use Rattle.std.proofs.Common.{◌≡◌, ◌≢◌, ◌≤◌, ◌<◌, ℕ, zero, suc, ◌+◌, Bool, true, false, cond, List, [], ◌∷◌, ◌++◌, length, take, refl, ap, sym, ◌∙◌, subst, inl, inr, arith}
 use Rattle.std.specs.Prelude.{Option, Some, None, ⊤, slice_index, is_none, ◌||◌, ◌==◌}
-use Rattle.std.specs.List.{AllByRecursion}
-use Rattle.byteorder.specs.Endian.{little_bytes}
-use Rattle.std.proofs.lemmas.Bool.{cases_lt, cases_eq}
+use Rattle.std.proofs.lemmas.Bool.{cases_eq}
 use Rattle.std.proofs.lemmas.Bool.Decides.{nat_tests}
-use Rattle.std.proofs.lemmas.List.{length-take-le, length_push, take_more, length-append}
+use Rattle.std.proofs.lemmas.List.{length-take-le, take_more}
 use Rattle.vub_base.specs.declared.header.Header1.{Header1}
 use Rattle.vub_base.specs.declared.request.Ask.{Ask}
 use Rattle.vub_base.specs.declared.request.Ask.TheVariants as wants
 use Rattle.vub_base.specs.declared.request.Shape.TheVariants.{Direct}
-use Rattle.vub_shared.specs.Bytes.{Bytes, put, word}
-use Rattle.vub_shared.specs.Stores.{Store, one_store}
-use Rattle.vub_shared.proofs.BytesLemmas.{word-put_same}
-use Rattle.vub_ring.specs.Ring.{avail_idx, avail_entry_place, avail_idx_place, last_head}
-use Rattle.vub_driver.specs.Layout.{status_place, sectors_place, area_place}
+use Rattle.vub_shared.specs.Bytes.{Bytes}
 use Rattle.vub_driver.specs.Drivers.{Driver, Waiting, free_from, free_descriptors, can_take, chosen, first_or_zero, owned_by, waits_on, after_ask, is_that, without_owner}
-use Rattle.vub_driver.specs.Requests.{Piece, readable_piece, writable_piece, header_bytes, written_bytes, descriptor_bytes, descriptors_needed, request_type, first_sector}
-use Rattle.vub_driver.specs.Stores.{store_of_some, offer_stores, request_stores}
+use Rattle.vub_driver.specs.Requests.{descriptors_needed}
 use Rattle.vub_device.specs.declared.entry.Asked.{Asked}
-use Rattle.vub_device.specs.declared.entry.Entry.{Entry}
 use Rattle.vub_device.specs.declared.entry.Entry.TheVariants as entries
 use Rattle.vub_device.specs.Past.{asked, published, collected, is_among}
 use Rattle.vub_device.proofs.Numbers.{is_among_append}
-use Rattle.vub_world.specs.declared.report.items.Item.TheVariants as items
-use Rattle.vub_world.specs.Memory.{Scene, with_at, after_item, after_items}
+use Rattle.vub_world.specs.Memory.{Scene}
 use Rattle.vub_world.specs.Moments.{Lane}
-use Rattle.vub_world.specs.Run.{request_of, guest_items}
-use Rattle.vub_world.specs.ChainState.{data_start, handed_bytes}
+use Rattle.vub_world.specs.Run.{request_of}
 use Rattle.vub_world.proofs.RunNumbers.{among_at}
-use Rattle.vub_world.proofs.RunGood.{the_ring, IsSize, IsSimple, IsOut, IsPlan, IsWaiting, WaitsWell, Known, Driven, Holds}
-use Rattle.vub_world.proofs.RunFrames.{keeps, length_little, entry_small}
-use Rattle.vub_world.proofs.RunGuests.{IsGood, stored_at}
-use Rattle.vub_world.proofs.RunOffers.{same_head, new_head, same_asked, new_asked}
+use Rattle.vub_world.proofs.RunGood.{the_ring, IsSimple, IsOut, IsWaiting, WaitsWell, Driven}
 use Rattle.vub_world.proofs.RunCollects.{IsTaken, next_number, none_before}
-use Rattle.vub_world.proofs.RunChains.{table_place, buffer_at, HasChain, IsOff, Spares, chain_kept, desc_long}
-use Rattle.vub_world.proofs.RunChainsStores.{put_all, handed_fits, stores_make}
-use Rattle.vub_world.proofs.RunChainsTurns.{IsLinked, IsPrepared, PreparedWell, Chained, ring_spares, buffer_spares}
+use Rattle.vub_world.proofs.RunChainsTurns.{IsLinked, IsPrepared, PreparedWell, Chained}
 
 -- ---- the descriptors that an ask takes
 
@@ -84,8 +69,15 @@ three_needed cap (wants.Zero parts) plain = absurd plain
 
 linked_still : (n : ℕ) (owner owner' : ℕ → Option ℕ) (m : Bytes) (head : ℕ) (o : Option Asked) → ((d : ℕ) → owner d ≡ Some head → owner' d ≡ Some head) → IsLinked n owner m head o → IsLinked n owner' m head o
 linked_still n owner owner' m head o still was = record {
-  body = was.body; status = was.status; body_fits = was.body_fits; status_fits = was.status_fits; body_mine = still was.body was.body_mine; status_mine = still was.status was.status_mine; request = was.request;
-  is = was.is; stands = was.stands;
+  body = was.body;
+  status = was.status;
+  body_fits = was.body_fits;
+  status_fits = was.status_fits;
+  body_mine = still was.body was.body_mine;
+  status_mine = still was.status was.status_mine;
+  request = was.request;
+  is = was.is;
+  stands = was.stands;
 }
 
 prepared : (n : ℕ) (a : Ask) (v : Driver) (ds : List ℕ) → length ds ≡ 3 → IsFreeFrom n v.owner 0 ds
@@ -114,7 +106,7 @@ ask_chained h s v a plain ready c =
     let all : IsFreeFrom h.size v.owner 0 ds = free_taken h.size v.owner 0 (descriptors_needed a) free (free_are v.owner h.size 0 h.size (omega arith)) in
     record {
       linked = λ k out. linked_still h.size v.owner (owned_by (first_or_zero ds) ds v.owner) s.memory (slice_index (s.heads 0) k) (asked s.past 0 k)
-      (λ d is. owned_still h.size (first_or_zero ds) 0 ds v.owner d (slice_index (s.heads 0) k) all is) (c.linked k out);
+          (λ d is. owned_still h.size (first_or_zero ds) 0 ds v.owner d (slice_index (s.heads 0) k) all is) (c.linked k out);
       waits = prepared h.size a v ds three all;
     }
 
@@ -145,7 +137,11 @@ kept_owner owner x e d apart is =
 prepared_still : (h : Header1) (s : Scene) (l : Lane) (x : ℕ) (o : Option Waiting) → IsTaken h s l x → PreparedWell h.size l.driver o → ((w : Waiting) → o ≡ Some w → w.head ≢ x) → PreparedWell h.size (record l.driver { owner = without_owner x l.driver.owner }) o
 prepared_still h s l x None t p apart = tt
 prepared_still h s l x (Some w) t p apart = record {
-  body = p.body; status = p.status; up = p.up; upper = p.upper; fits = p.fits;
+  body = p.body;
+  status = p.status;
+  up = p.up;
+  upper = p.upper;
+  fits = p.fits;
   body_mine = kept_owner l.driver.owner x w.head p.body (apart w refl) p.body_mine;
   status_mine = kept_owner l.driver.owner x w.head p.status (apart w refl) p.status_mine;
   stores = p.stores;
@@ -155,10 +151,10 @@ pub collect_chained : (h : Header1) (s : Scene) (l : Lane) (x k : ℕ) → IsTak
 collect_chained h s l x k t c =
     let d : Driven h.size h.capacity h.base s.past (s.heads 0) l.driver = t.holds.driven in record {
       linked = λ j out.
-      let was = later_out h s l x j k t out in
-      let differs : slice_index (s.heads 0) j ≢ x = λ same. was.1 (d.apart j (next_number s) was.0 (next_out h s l x t) (same ∙ t.head)) in
-      linked_still h.size l.driver.owner (without_owner x l.driver.owner) s.memory (slice_index (s.heads 0) j) (asked s.past 0 j) (λ e is. kept_owner l.driver.owner x (slice_index (s.heads 0) j) e differs is) (c.linked j was.0);
+          let was = later_out h s l x j k t out in
+          let differs : slice_index (s.heads 0) j ≢ x = λ same. was.1 (d.apart j (next_number s) was.0 (next_out h s l x t) (same ∙ t.head)) in
+          linked_still h.size l.driver.owner (without_owner x l.driver.owner) s.memory (slice_index (s.heads 0) j) (asked s.past 0 j) (λ e is. kept_owner l.driver.owner x (slice_index (s.heads 0) j) e differs is) (c.linked j was.0);
       waits = prepared_still h s l x l.driver.waiting t c.waits (λ w waits same.
-        let well : IsWaiting h.size h.capacity s.past (s.heads 0) l.driver w = subst (λ (o : Option Waiting). WaitsWell h.size h.capacity s.past (s.heads 0) l.driver o) waits d.waits in
-        well.apart (next_number s) (next_out h s l x t) (sym t.head ∙ sym same));
+          let well : IsWaiting h.size h.capacity s.past (s.heads 0) l.driver w = subst (λ (o : Option Waiting). WaitsWell h.size h.capacity s.past (s.heads 0) l.driver o) waits d.waits in
+          well.apart (next_number s) (next_out h s l x t) (sym t.head ∙ sym same));
     }

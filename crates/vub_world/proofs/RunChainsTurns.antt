@@ -1,21 +1,18 @@
 -- A turn leaves the chain of each offered request.
-use Rattle.std.proofs.Common.{◌≡◌, ◌≢◌, ◌≤◌, ◌<◌, ◌⊎◌, ℕ, zero, suc, ◌+◌, ◌*◌, ◌%◌, Bool, true, false, not, cond, List, [], ◌∷◌, ◌++◌, length, take, map, refl, ap, sym, ◌∙◌, subst, inl, inr, arith}
+use Rattle.std.proofs.Common.{◌≡◌, ◌≢◌, ◌≤◌, ◌<◌, ℕ, zero, suc, ◌+◌, ◌*◌, ◌%◌, Bool, true, false, not, cond, List, [], ◌∷◌, ◌++◌, length, map, refl, ap, sym, ◌∙◌, subst, inl, inr, arith}
 use Rattle.std.specs.Prelude.{Option, Some, None, ⊤, slice_index, slice_get, slice_range, option_map}
 use Rattle.byteorder.specs.Endian.{little_bytes}
 use Rattle.std.proofs.lemmas.Bool.{cases_lt, cases_eq}
-use Rattle.std.proofs.lemmas.Bool.Decides.{nat_tests}
 use Rattle.std.proofs.lemmas.List.{take-append-le, length-take}
 use Rattle.vub_base.specs.declared.header.Header1.{Header1}
-use Rattle.vub_base.specs.declared.store.Tag.{Tag}
 use Rattle.vub_base.specs.declared.store.Tag.TheVariants.{SP1, SP2}
-use Rattle.vub_shared.specs.Bytes.{Bytes, put}
-use Rattle.vub_ring.specs.declared.steps.Phase.{Phase}
+use Rattle.vub_shared.specs.Bytes.{Bytes}
 use Rattle.vub_ring.specs.declared.steps.Step.{Step}
 use Rattle.vub_ring.specs.declared.steps.Step.TheVariants as steps
 use Rattle.vub_ring.specs.declared.readiness.Turn.{Turn}
 use Rattle.vub_ring.specs.declared.readiness.Turn.TheVariants as turns
 use Rattle.vub_ring.specs.Ring.{used_id_place, used_len_place, used_idx_place, used_idx}
-use Rattle.vub_ring.specs.Rows.{Row, row}
+use Rattle.vub_ring.specs.Rows.{row}
 use Rattle.vub_ring.specs.Steps.{next_step}
 use Rattle.vub_driver.specs.Layout.{status_place, sectors_place}
 use Rattle.vub_driver.specs.Drivers.{Driver, Waiting}
@@ -23,7 +20,6 @@ use Rattle.vub_driver.specs.Stores.{request_stores}
 use Rattle.vub_device.specs.declared.entry.Answered.{Answered}
 use Rattle.vub_device.specs.declared.entry.Asked.{Asked}
 use Rattle.vub_device.specs.declared.entry.Asked.TheVariants as asks
-use Rattle.vub_device.specs.declared.entry.Entry.{Entry}
 use Rattle.vub_device.specs.declared.entry.Entry.TheVariants as entries
 use Rattle.vub_device.specs.Past.{asked, accepted, published, collected, is_among, IsOpen, open_numbers, seen, numbers}
 use Rattle.vub_world.specs.Memory.{Scene, after_items}
@@ -34,12 +30,12 @@ use Rattle.vub_device.specs.Requests.{effect_at}
 use Rattle.vub_world.specs.Tasks.{TaskStep, Look, Put, Act, Sync, Status, task_steps, act_items, status_of}
 use Rattle.vub_world.specs.Turns.{turned, work_turn, request_turn, task_turn, phase_turn, phase_goes_on, under_way, begun, is_rest, step_items, row_items, element_of, answer_at}
 use Rattle.vub_world.proofs.RunNumbers.{among_get, among_filter, missing-among}
-use Rattle.vub_world.proofs.RunGood.{the_ring, IsSize, IsSimple, IsOut, Known, Holds, buffer}
+use Rattle.vub_world.proofs.RunGood.{the_ring, IsSimple, IsOut, Holds, buffer}
 use Rattle.vub_world.proofs.RunFrames.{entry_small, open_out, length_little}
 use Rattle.vub_world.proofs.RunGuests.{IsGood, stored_at}
 use Rattle.vub_world.proofs.RunWork.{simple_cases, read_steps, write_steps}
 use Rattle.vub_world.proofs.RunTurns.{IsPlain, Good}
-use Rattle.vub_world.proofs.RunChains.{table_place, buffer_at, HasChain, IsOff, Spares, chain_kept}
+use Rattle.vub_world.proofs.RunChains.{buffer_at, HasChain, Spares, chain_kept}
 use Rattle.vub_world.proofs.RunChainsStores.{handed_fits}
 
 -- the chain of an offered request stands in memory, and its descriptors belong to its head
@@ -86,13 +82,19 @@ pub record IsGentle (n : ℕ) (s s' : Scene) : Type 0 where
 pub gentle_chained : (n : ℕ) (s s' : Scene) (v : Driver) → IsGentle n s s' → Chained n s v → Chained n s' v
 gentle_chained n s s' v g c = record {
   linked = λ k out'.
-  let out : IsOut s.past (s.heads 0) k = g.out k (subst (λ (hs : List ℕ). IsOut s'.past hs k) g.heads out') in
-  let was : IsLinked n v.owner s.memory (slice_index (s.heads 0) k) (asked s.past 0 k) = c.linked k out in
-  subst (λ (hs : List ℕ). IsLinked n v.owner s'.memory (slice_index hs k) (asked s'.past 0 k)) (sym g.heads) (record {
-    body = was.body; status = was.status; body_fits = was.body_fits; status_fits = was.status_fits; body_mine = was.body_mine; status_mine = was.status_mine; request = was.request;
-    is = g.same k ∙ was.is;
-    stands = g.chain k was.body was.status was.request out was.body_fits was.status_fits was.is was.stands;
-  });
+      let out : IsOut s.past (s.heads 0) k = g.out k (subst (λ (hs : List ℕ). IsOut s'.past hs k) g.heads out') in
+      let was : IsLinked n v.owner s.memory (slice_index (s.heads 0) k) (asked s.past 0 k) = c.linked k out in
+      subst (λ (hs : List ℕ). IsLinked n v.owner s'.memory (slice_index hs k) (asked s'.past 0 k)) (sym g.heads) (record {
+        body = was.body;
+        status = was.status;
+        body_fits = was.body_fits;
+        status_fits = was.status_fits;
+        body_mine = was.body_mine;
+        status_mine = was.status_mine;
+        request = was.request;
+        is = g.same k ∙ was.is;
+        stands = g.chain k was.body was.status was.request out was.body_fits was.status_fits was.is was.stands;
+      });
   waits = c.waits;
 }
 
@@ -108,8 +110,8 @@ store_gentle h s l p bs x spares = record {
   same = λ k. refl;
   out = λ k o. o;
   chain = λ k body status r out fb fs is held.
-  let simple : IsSimple h.capacity (Some r) = subst (λ (o : Option Asked). IsSimple h.capacity o) is (x.known.simple k out.below) in
-  chain_kept s.memory (slice_index (s.heads 0) k) body status r p bs (spares k body status r out (x.driven.below k out) fb fs is simple) held;
+      let simple : IsSimple h.capacity (Some r) = subst (λ (o : Option Asked). IsSimple h.capacity o) is (x.known.simple k out.below) in
+      chain_kept s.memory (slice_index (s.heads 0) k) body status r p bs (spares k body status r out (x.driven.below k out) fb fs is simple) held;
 }
 
 -- between table and buffers
@@ -162,6 +164,7 @@ step_gentle h s l batch (steps.Id e) good x = go (slice_get (map (element_of h 0
   where
     i : ℕ
     i = used_idx (the_ring h.size) s.memory + e
+
     go : (o : Option (ℕ × ℕ)) → IsGentle h.size s (after_items h.size (row_items (option_map (λ (y : ℕ × ℕ). row (the_ring h.size) SP1 (used_id_place (the_ring h.size) i) (little_bytes 4 y.0)) o) ++ []) s)
     go None = gentle_none h.size s
     go (Some y) = let low = entry_small h.size i good.size in ring_gentle h s l (used_id_place (the_ring h.size) i) (little_bytes 4 y.0) good x (omega arith) (omega (arith, length_little 4 y.0))
@@ -169,6 +172,7 @@ step_gentle h s l batch (steps.Len e) good x = go (slice_get (map (element_of h 
   where
     i : ℕ
     i = used_idx (the_ring h.size) s.memory + e
+
     go : (o : Option (ℕ × ℕ)) → IsGentle h.size s (after_items h.size (row_items (option_map (λ (y : ℕ × ℕ). row (the_ring h.size) SP2 (used_len_place (the_ring h.size) i) (little_bytes 4 y.1)) o) ++ []) s)
     go None = gentle_none h.size s
     go (Some y) = let low = entry_small h.size i good.size in ring_gentle h s l (used_len_place (the_ring h.size) i) (little_bytes 4 y.1) good x (omega arith) (omega (arith, length_little 4 y.1))
@@ -190,7 +194,11 @@ phase_gentle h s l l' (Some step) good x = step_gentle h s l l'.batch step good 
 own_status : (cap head body status : ℕ) (r : Asked) (byte : ℕ) → head < 64 → body < 64 → status < 64 → IsSimple cap (Some r) → Spares head body status r (status_place (buffer_at head)) (byte ∷ [])
 own_status cap head body status r byte fh fb fs simple =
     let at = handed_fits cap (buffer_at head) r simple in record {
-      first = inl (omega arith); middle = inl (omega arith); last = inl (omega arith); header = inl (omega arith); handed = inr (omega (arith, at.0));
+      first = inl (omega arith);
+      middle = inl (omega arith);
+      last = inl (omega arith);
+      header = inl (omega arith);
+      handed = inr (omega (arith, at.0));
     }
 
 own_read : (head body status sector c p : ℕ) (bs : List ℕ) → head < 64 → body < 64 → status < 64 → p ≡ sectors_place (buffer_at head) → Spares head body status (asks.Read sector c) p bs
@@ -249,9 +257,11 @@ request_gentle h s l k plain x is_open =
     reads sector is (suc zero) = put_gentle h s l k sector plain.good x is_open is
     reads sector is (suc (suc zero)) = status_gentle h s l k (status_of h (asks.Read sector 1)) plain.good x is_open
     reads sector is (suc (suc (suc made))) = gentle_none h.size s
+
     acts_of : (o : Option SectorValue) → IsGentle h.size s (after_items h.size (act_items 0 k o) s)
     acts_of None = gentle_none h.size s
     acts_of (Some y) = act_gentle h.size s k y.sector y.value
+
     writes : (sector : ℕ) (bytes : List ℕ) → length bytes ≡ 512 → (made : ℕ) → IsGentle h.size s (after_items h.size (task_turn h 0 s l k (asks.Write sector bytes) (slice_get (Act 0 ∷ Status ∷ []) made)).items s)
     writes sector bytes long zero = acts_of (effect_at (asks.Write sector bytes) 0)
     writes sector bytes long (suc zero) = status_gentle h s l k (status_of h (asks.Write sector bytes)) plain.good x is_open
