@@ -1,19 +1,21 @@
-use Rattle.std.proofs.Common.{◌≡◌, ◌≤◌, ℕ, zero, suc, ◌+◌, ◌*◌, List, [], ◌∷◌, drop, refl, ap, sym, ◌∙◌, subst, arith, add-zero, true, false, Bool}
+use Rattle.std.proofs.Common.{◌≡◌, ◌≤◌, ℕ, zero, suc, ◌+◌, ◌*◌, List, ◌∷◌, refl, ap, sym, ◌∙◌, subst, arith, add-zero}
 use Rattle.byteorder.specs.Endian.{little_from}
 use Rattle.byteorder.specs.Numbers.{little_from-cons}
+use Rattle.vub_base.specs.Causes.{HasCause}
 use Rattle.vub_base.specs.Fields.{field}
 use Rattle.vub_shared.specs.Bytes.{Bytes, word, bytes_from}
 use Rattle.vub_world.specs.declared.split.SplitRing.{SplitRing}
 use Rattle.vub_world.specs.declared.chain.Desc.{Desc}
 use Rattle.std.specs.Prelude.{Option, Some, None, option_map, Result, Ok, Err, unwrap_or, ◌<◌}
-use Rattle.vub_driver.specs.Requests.{Piece, readable_piece, writable_piece}
+use Rattle.vub_driver.specs.Requests.{Piece, writable_piece}
 use Rattle.vub_driver.specs.Layout.{status_place}
 use Rattle.vub_device.specs.declared.entry.Asked.{Asked}
 use Rattle.vub_device.specs.declared.entry.Asked.TheVariants.{Read, Write, Flush, Id, Discard, Zero}
-use Rattle.vub_world.specs.GuestChain.{Links, second}
+use Rattle.vub_world.specs.GuestChain.{Links}
+use Rattle.vub_base.specs.declared.ring_fault.RingFault.{RingFault}
 use Rattle.vub_world.specs.declared.chain.Unread.{Unread}
 use Rattle.vub_world.specs.declared.chain.Unread.TheVariants as unread
-use Rattle.vub_world.specs.ChainState.{MeansRequest, desc_in, desc_place, desc_of, data_of, body_desc, Reads}
+use Rattle.vub_world.specs.ChainState.{MeansRequest, desc_in, desc_place, desc_of, data_of, body_desc, Reads, read_outcome}
 
 -- the number at the start of a longer run
 number_of_start : (w n : ℕ) (m : Bytes) (s p : ℕ) → w ≤ n → little_from 0 w (bytes_from n m s p) ≡ word w m s p
@@ -109,3 +111,13 @@ means_still old new r m l buffer request sizes h = record {
   handed = h.handed;
   room = omega (arith, h.room, sizes r.desc.0.number);
 }
+
+-- a read is never broken
+pub reads_broken : {T : Type 0} (e : Unread) (fault : RingFault) (y : T) → e ≡ unread.Broken fault → Reads {T = T} (Err e) y → ⊥
+reads_broken unread.Failed fault y is h = absurd (cc is)
+reads_broken (unread.Broken f) fault y is h = h
+
+-- a read that isn't broken by memory has its cause
+pub cause_at_err : (T U : Type 0) (e : Unread) (before after : ℕ) → before ≤ after → read_outcome {T = T} (Err e) ≡ Ok tt → HasCause before after (read_outcome {T = U} (Err e))
+cause_at_err T U unread.Failed before after later is = absurd (cc is)
+cause_at_err T U (unread.Broken fault) before after later is = record { later = later; failed = tt }

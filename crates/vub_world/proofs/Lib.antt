@@ -1,7 +1,9 @@
+pub mod ArmLemmas
 pub mod ChainLemmas
 pub mod ChainReading
 pub mod GuestLemmas
 pub mod MachineLemmas
+pub mod QueueLemmas
 pub mod RecordTextLemmas
 pub mod RequestLemmas
 pub mod SplitLemmas
@@ -27,6 +29,7 @@ pub mod RunDrains
 pub mod RunsTo
 pub mod RunEnds
 pub mod RunExists
+pub mod StepLemmas
 pub mod RunChains
 pub mod RunChainsStores
 pub mod RunChainsTurns

@@ -119,9 +119,10 @@ buffer_harmless n cap head (asks.Write s fills) plain =
     let bytes : List ℕ = written_bytes (asks.Write s fills) in
     let p : ℕ = data_place (buffer_place (the_ring n).desc head) (asks.Write s fills) in
     let last : List Store = one_store 0 (status_place (buffer_place (the_ring n).desc head)) (255 ∷ []) ∷ [] in
-    let size : length bytes ≡ 512 = plain.1 in
-    ((record { space = refl; lies = inr (omega arith, omega (arith, header_long (asks.Write s fills))) }, harmless_append head (store_of_some 0 p bytes) last (some_harmless head p bytes (omega arith) (omega arith)) (record { space = refl; lies = inr (omega arith, omega arith) }, tt)),
-      omega (arith, some_few p bytes, length-append (store_of_some 0 p bytes) last))
+    let size : length bytes ≡ 512 = plain.1 in (
+      (record { space = refl; lies = inr (omega arith, omega (arith, header_long (asks.Write s fills))) }, harmless_append head (store_of_some 0 p bytes) last (some_harmless head p bytes (omega arith) (omega arith)) (record { space = refl; lies = inr (omega arith, omega arith) }, tt)),
+      omega (arith, some_few p bytes, length-append (store_of_some 0 p bytes) last),
+    )
 buffer_harmless n cap head asks.Flush plain = absurd plain
 buffer_harmless n cap head asks.Id plain = absurd plain
 buffer_harmless n cap head (asks.Discard parts) plain = absurd plain
@@ -173,9 +174,9 @@ ask_driven n cap base past heads a v (head ∷ ds) small plain three all d = rec
     below = all.0.0;
     mine = owned_first head ds v.owner;
     apart = λ k out same.
-    let none : v.owner (slice_index heads k) ≡ None = ap v.owner same ∙ all.0.1 in
-    let fails : None ≡ Some (slice_index heads k) = sym none ∙ d.owned k out in
-    absurd (cc);
+        let none : v.owner (slice_index heads k) ≡ None = ap v.owner same ∙ all.0.1 in
+        let fails : None ≡ Some (slice_index heads k) = sym none ∙ d.owned k out in
+        absurd (cc);
     plan = plan_of n cap v.avail_idx head v.owner a ds small plain (omega arith) all;
   };
 }

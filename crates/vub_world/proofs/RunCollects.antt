@@ -89,11 +89,11 @@ taken_driven h s l x k t =
       index = d.index;
       below = λ j out. d.below j (later_out h s l x j k t out).0;
       owned = λ j out.
-      let was = later_out h s l x j k t out in
-      let hj : ℕ = slice_index (s.heads 0) j in
-      let differs : hj ≢ x = λ same. was.1 (d.apart j (next_number s) was.0 (next_out h s l x t) (same ∙ t.head)) in
-      let other : (hj == x) ≡ false = grind (arith, nat_tests) in
-      ap (λ (o : Option ℕ). cond (is_that x o) None o) (d.owned j was.0) ∙ ap (λ (b : Bool). cond {A = Option ℕ} b None (Some hj)) other;
+          let was = later_out h s l x j k t out in
+          let hj : ℕ = slice_index (s.heads 0) j in
+          let differs : hj ≢ x = λ same. was.1 (d.apart j (next_number s) was.0 (next_out h s l x t) (same ∙ t.head)) in
+          let other : (hj == x) ≡ false = grind (arith, nat_tests) in
+          ap (λ (o : Option ℕ). cond (is_that x o) None o) (d.owned j was.0) ∙ ap (λ (b : Bool). cond {A = Option ℕ} b None (Some hj)) other;
       apart = λ i j out_i out_j same. d.apart i j (later_out h s l x i k t out_i).0 (later_out h s l x j k t out_j).0 same;
       waits = waits_on_still h s l x k l.driver.waiting t d.waits;
     }
@@ -133,7 +133,17 @@ taken_holds h s l x k t =
     let a : Known h.size h.capacity s.past (s.heads 0) = t.holds.known in
     let r : Ringed h.size h.base s.past (s.heads 0) s.memory = t.holds.ringed in record {
       known = record {
-        offers_are = a.offers_are; offered = a.offered; distinct = a.distinct; below = a.below; shown = omega (arith, t.more); fewer = a.fewer; room = omega (arith, a.room); good = a.good; simple = a.simple; unfaulted = a.unfaulted; values = a.values;
+        offers_are = a.offers_are;
+        offered = a.offered;
+        distinct = a.distinct;
+        below = a.below;
+        shown = omega (arith, t.more);
+        fewer = a.fewer;
+        room = omega (arith, a.room);
+        good = a.good;
+        simple = a.simple;
+        unfaulted = a.unfaulted;
+        values = a.values;
       };
       ringed = record { avail_idx_is = r.avail_idx_is; used_idx_is = r.used_idx_is; avail_at = r.avail_at; used_at = λ i from upto. r.used_at i (omega arith) upto };
       driven = taken_driven h s l x k t;

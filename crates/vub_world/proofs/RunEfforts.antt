@@ -62,9 +62,9 @@ step_falls gone done made a k low out left small =
     let after : weight gone done (with_at made k (made k + 1)) k ≡ 6 - (made k + 1) = weight_of_left gone done (with_at made k (made k + 1)) k out left ∙ ap (λ (c : ℕ). 6 - c) now in
     let before : weight gone done made k ≡ 6 - made k = weight_of_left gone done made k out left in
     sum_less (weight gone done made) (weight gone done (with_at made k (made k + 1))) a k 1 low (λ j l apart.
-      let same : with_at made k (made k + 1) j ≡ made j = grind (arith, nat_tests) in
-      let all : weight gone done (with_at made k (made k + 1)) j ≡ weight gone done made j = ap (λ (c : ℕ). if is_among gone j then 0 else (if is_among done j then 0 else 6 - c)) same in
-      omega arith) (omega arith)
+    let same : with_at made k (made k + 1) j ≡ made j = grind (arith, nat_tests) in
+    let all : weight gone done (with_at made k (made k + 1)) j ≡ weight gone done made j = ap (λ (c : ℕ). if is_among gone j then 0 else (if is_among done j then 0 else 6 - c)) same in
+    omega arith) (omega arith)
 
 -- the last step of a request
 pub status_falls : (gone xs ys : List ℕ) (made : ℕ → ℕ) (a k : ℕ) → k < a → is_among gone k ≡ false → is_among (xs ++ ys) k ≡ false → made k ≤ 2
@@ -75,14 +75,14 @@ status_falls gone xs ys made a k low out left small =
     let after : weight gone ((xs ++ k ∷ []) ++ ys) (with_at made k (made k + 1)) k ≡ 0 = let here = member k in grind (arith, nat_tests) in
     let before : weight gone (xs ++ ys) made k ≡ 6 - made k = weight_of_left gone (xs ++ ys) made k out left in
     sum_less (weight gone (xs ++ ys) made) (weight gone ((xs ++ k ∷ []) ++ ys) (with_at made k (made k + 1))) a k 4 low (λ j l apart.
-      let same : with_at made k (made k + 1) j ≡ made j = grind (arith, nat_tests) in
-      let turned : k ≢ j = λ e. apart (sym e) in
-      let new_j = member j in
-      let old_j = old j in
-      let members : is_among ((xs ++ k ∷ []) ++ ys) j ≡ is_among (xs ++ ys) j = grind (arith, nat_tests) in
-      let all : weight gone ((xs ++ k ∷ []) ++ ys) (with_at made k (made k + 1)) j ≡ weight gone (xs ++ ys) made j =
-      ap (λ b. if is_among gone j then 0 else (if b then 0 else 6 - with_at made k (made k + 1) j)) members ∙ ap (λ (c : ℕ). if is_among gone j then 0 else (if is_among (xs ++ ys) j then 0 else 6 - c)) same in
-      omega arith) (omega arith)
+    let same : with_at made k (made k + 1) j ≡ made j = grind (arith, nat_tests) in
+    let turned : k ≢ j = λ e. apart (sym e) in
+    let new_j = member j in
+    let old_j = old j in
+    let members : is_among ((xs ++ k ∷ []) ++ ys) j ≡ is_among (xs ++ ys) j = grind (arith, nat_tests) in
+    let all : weight gone ((xs ++ k ∷ []) ++ ys) (with_at made k (made k + 1)) j ≡ weight gone (xs ++ ys) made j =
+    ap (λ b. if is_among gone j then 0 else (if b then 0 else 6 - with_at made k (made k + 1) j)) members ∙ ap (λ (c : ℕ). if is_among gone j then 0 else (if is_among (xs ++ ys) j then 0 else 6 - c)) same in
+    omega arith) (omega arith)
 
 pub weight_small : (gone done : List ℕ) (made : ℕ → ℕ) (k : ℕ) → weight gone done made k ≤ 6
 weight_small gone done made k = elim (cases_Bool (is_among gone k)) [
@@ -96,23 +96,23 @@ weight_small gone done made k = elim (cases_Bool (is_among gone k)) [
 -- the end of a publication
 pub shown_falls : (gone gone' xs ys : List ℕ) (made : ℕ → ℕ) (a : ℕ) → gone' ≡ gone ++ ys → sum_below (weight gone' (xs ++ []) made) a ≤ sum_below (weight gone (xs ++ ys) made) a
 shown_falls gone gone' xs ys made a same = sum_le (weight gone (xs ++ ys) made) (weight gone' (xs ++ []) made) a (λ k l.
-  let goes : is_among gone' k ≡ (is_among gone k || is_among ys k) = ap (λ ks. is_among ks k) same ∙ is_among_append gone ys k in
-  let bare : is_among (xs ++ []) k ≡ is_among xs k = ap (λ ks. is_among ks k) (append-nil xs) in
-  let both : is_among (xs ++ ys) k ≡ (is_among xs k || is_among ys k) = is_among_append xs ys k in
-  elim (cases_Bool (is_among gone k)) [
-    | inl there ↦ grind (arith, nat_tests)
-    | inr out ↦ elim (cases_Bool (is_among ys k)) [
-      | inl shown ↦ grind (arith, nat_tests)
-      | inr hidden ↦
-          let all_gone : is_among gone' k ≡ is_among gone k = grind (arith, nat_tests) in
-          let all_done : is_among (xs ++ []) k ≡ is_among (xs ++ ys) k = grind (arith, nat_tests) in
-          let w : weight gone' (xs ++ []) made k ≡ weight gone (xs ++ ys) made k = ap (λ b. if b then 0 else (if is_among (xs ++ []) k then 0 else 6 - made k)) all_gone ∙ ap (λ b. if is_among gone k then 0 else (if b then 0 else 6 - made k)) all_done in
-          omega arith
-    ]
-  ])
+    let goes : is_among gone' k ≡ (is_among gone k || is_among ys k) = ap (λ ks. is_among ks k) same ∙ is_among_append gone ys k in
+    let bare : is_among (xs ++ []) k ≡ is_among xs k = ap (λ ks. is_among ks k) (append-nil xs) in
+    let both : is_among (xs ++ ys) k ≡ (is_among xs k || is_among ys k) = is_among_append xs ys k in
+    elim (cases_Bool (is_among gone k)) [
+      | inl there ↦ grind (arith, nat_tests)
+      | inr out ↦ elim (cases_Bool (is_among ys k)) [
+        | inl shown ↦ grind (arith, nat_tests)
+        | inr hidden ↦
+            let all_gone : is_among gone' k ≡ is_among gone k = grind (arith, nat_tests) in
+            let all_done : is_among (xs ++ []) k ≡ is_among (xs ++ ys) k = grind (arith, nat_tests) in
+            let w : weight gone' (xs ++ []) made k ≡ weight gone (xs ++ ys) made k = ap (λ b. if b then 0 else (if is_among (xs ++ []) k then 0 else 6 - made k)) all_gone ∙ ap (λ b. if is_among gone k then 0 else (if b then 0 else 6 - made k)) all_done in
+            omega arith
+      ]
+    ])
 
 -- where the same numbers are completed the sum is the same
 pub sum_moved : (gone done done' : List ℕ) (made : ℕ → ℕ) (a : ℕ) → ((k : ℕ) → is_among done' k ≡ is_among done k) → sum_below (weight gone done' made) a ≤ sum_below (weight gone done made) a
 sum_moved gone done done' made a same = sum_le (weight gone done made) (weight gone done' made) a (λ k l.
-  let w : weight gone done' made k ≡ weight gone done made k = ap (λ b. if is_among gone k then 0 else (if b then 0 else 6 - made k)) (same k) in
-  omega arith)
+    let w : weight gone done' made k ≡ weight gone done made k = ap (λ b. if is_among gone k then 0 else (if b then 0 else 6 - made k)) (same k) in
+    omega arith)

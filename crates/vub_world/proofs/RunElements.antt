@@ -164,7 +164,7 @@ ring_words n base past heads m p bs size high ids lens r = record {
   used_idx_is = keeps 2 m p bs (used_idx_place (the_ring n)) (inl (omega arith)) ∙ r.used_idx_is;
   avail_at = λ i from upto. let small = entry_small n (base + i) size in keeps 2 m p bs (avail_entry_place (the_ring n) (base + i)) (inl (omega arith)) ∙ r.avail_at i from upto;
   used_at = λ i from upto.
-  ap (λ (y : ℕ). (y, word 4 (put m 0 p bs) 0 (used_len_place (the_ring n) (base + i)))) (ids i from upto) ∙ ap (λ (y : ℕ). (word 4 m 0 (used_id_place (the_ring n) (base + i)), y)) (lens i from upto) ∙ r.used_at i from upto;
+      ap (λ (y : ℕ). (y, word 4 (put m 0 p bs) 0 (used_len_place (the_ring n) (base + i)))) (ids i from upto) ∙ ap (λ (y : ℕ). (word 4 m 0 (used_id_place (the_ring n) (base + i)), y)) (lens i from upto) ∙ r.used_at i from upto;
 }
 
 -- the lane with one more store made
@@ -199,8 +199,8 @@ id_holds h s l done e x n at is fits =
     let old : IsBuilt h.size h.base s.past (s.heads 0) s.memory l.batch done = built_of h.size h.base s.past (s.heads 0) s.memory l.batch l.phase done n.phase n.holds.built in record {
       known = n.holds.known;
       ringed = ring_words h.size h.base s.past (s.heads 0) s.memory p bs n.good.size (omega arith)
-      (λ i from upto. id_and_id ((P + e) % 65536 % h.size) ((h.base + i) % 65536 % h.size) x s.memory (unseen_entry h s l done e i n from upto))
-      (λ i from upto. id_and_len ((P + e) % 65536 % h.size) ((h.base + i) % 65536 % h.size) x s.memory) n.holds.ringed;
+          (λ i from upto. id_and_id ((P + e) % 65536 % h.size) ((h.base + i) % 65536 % h.size) x s.memory (unseen_entry h s l done e i n from upto))
+          (λ i from upto. id_and_len ((P + e) % 65536 % h.size) ((h.base + i) % 65536 % h.size) x s.memory) n.holds.ringed;
       driven = n.holds.driven;
       worked = worked_on s.past l.batch l.completed l.made l.phase done n.phase (omega arith) n.holds.worked;
       stored = stored_elsewhere s.past (s.heads 0) s.memory p bs l.batch l.completed l.made n.holds.worked.opens (λ k is_open. below_buffers (s.heads 0) k p bs (omega arith)) n.holds.stored;
@@ -227,8 +227,8 @@ len_holds h s l done e x n at is fits =
     let old : IsBuilt h.size h.base s.past (s.heads 0) s.memory l.batch done = built_of h.size h.base s.past (s.heads 0) s.memory l.batch l.phase done n.phase n.holds.built in record {
       known = n.holds.known;
       ringed = ring_words h.size h.base s.past (s.heads 0) s.memory p bs n.good.size (omega arith)
-      (λ i from upto. len_and_id ((P + e) % 65536 % h.size) ((h.base + i) % 65536 % h.size) x s.memory)
-      (λ i from upto. len_and_len ((P + e) % 65536 % h.size) ((h.base + i) % 65536 % h.size) x s.memory (unseen_entry h s l done e i n from upto)) n.holds.ringed;
+          (λ i from upto. len_and_id ((P + e) % 65536 % h.size) ((h.base + i) % 65536 % h.size) x s.memory)
+          (λ i from upto. len_and_len ((P + e) % 65536 % h.size) ((h.base + i) % 65536 % h.size) x s.memory (unseen_entry h s l done e i n from upto)) n.holds.ringed;
       driven = n.holds.driven;
       worked = worked_on s.past l.batch l.completed l.made l.phase done n.phase (omega arith) n.holds.worked;
       stored = stored_elsewhere s.past (s.heads 0) s.memory p bs l.batch l.completed l.made n.holds.worked.opens (λ k is_open. below_buffers (s.heads 0) k p bs (omega arith)) n.holds.stored;

@@ -133,11 +133,11 @@ turns_more (suc count) choose h m due = go (is_due h 0 (choose m) m) refl due (t
     go : (b : Bool) → is_due h 0 (choose m) m ≡ b
         → is_due h 0 (choose (cond {A = Played} b (then_played (one_turn h 0 (choose m) m) (turns count choose h 0 (one_turn h 0 (choose m) m).next)) (played [] m)).next) (cond {A = Played} b (then_played (one_turn h 0 (choose m) m) (turns count choose h 0 (one_turn h 0 (choose m) m).next)) (played [] m)).next ≡ true
         → (is_due h 0 (choose (turns count choose h 0 (one_turn h 0 (choose m) m).next).next) (turns count choose h 0 (one_turn h 0 (choose m) m).next).next ≡ true
-          → turns (suc count) choose h 0 (one_turn h 0 (choose m) m).next ≡ then_played (turns count choose h 0 (one_turn h 0 (choose m) m).next) (one_turn h 0 (choose (turns count choose h 0 (one_turn h 0 (choose m) m).next).next) (turns count choose h 0 (one_turn h 0 (choose m) m).next).next))
+        → turns (suc count) choose h 0 (one_turn h 0 (choose m) m).next ≡ then_played (turns count choose h 0 (one_turn h 0 (choose m) m).next) (one_turn h 0 (choose (turns count choose h 0 (one_turn h 0 (choose m) m).next).next) (turns count choose h 0 (one_turn h 0 (choose m) m).next).next))
         → cond {A = Played} b (then_played (one_turn h 0 (choose m) m) (turns (suc count) choose h 0 (one_turn h 0 (choose m) m).next)) (played [] m)
         ≡ then_played (cond {A = Played} b (then_played (one_turn h 0 (choose m) m) (turns count choose h 0 (one_turn h 0 (choose m) m).next)) (played [] m))
-          (one_turn h 0 (choose (cond {A = Played} b (then_played (one_turn h 0 (choose m) m) (turns count choose h 0 (one_turn h 0 (choose m) m).next)) (played [] m)).next)
-            (cond {A = Played} b (then_played (one_turn h 0 (choose m) m) (turns count choose h 0 (one_turn h 0 (choose m) m).next)) (played [] m)).next)
+        (one_turn h 0 (choose (cond {A = Played} b (then_played (one_turn h 0 (choose m) m) (turns count choose h 0 (one_turn h 0 (choose m) m).next)) (played [] m)).next)
+        (cond {A = Played} b (then_played (one_turn h 0 (choose m) m) (turns count choose h 0 (one_turn h 0 (choose m) m).next)) (played [] m)).next)
     go true is later rest =
         let P : Played = turns count choose h 0 (one_turn h 0 (choose m) m).next in
         ap (then_played (one_turn h 0 (choose m) m)) (rest later) ∙ then_then (one_turn h 0 (choose m) m) P (one_turn h 0 (choose P.next) P.next)

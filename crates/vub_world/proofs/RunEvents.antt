@@ -73,10 +73,13 @@ after-append size (x ∷ xs) ys s = after-append size xs ys (after_item size x s
 
 pub each-append : (size : ℕ) (P : Scene → Type 0) (s : Scene) (xs ys : List Item) → AfterEach size P s xs → AfterEach size P (after_items size xs s) ys → AfterEach size P s (xs ++ ys)
 each-append size P s [] ys p q = q
-each-append size P s (x ∷ xs) ys p q = (elim p.0 [
-  | inl goes ↦ inl (goes_on-append x xs ys goes)
-  | inr holds ↦ inr holds
-], each-append size P (after_item size x s) xs ys p.1 q)
+each-append size P s (x ∷ xs) ys p q = (
+  elim p.0 [
+    | inl goes ↦ inl (goes_on-append x xs ys goes)
+    | inr holds ↦ inr holds
+  ],
+  each-append size P (after_item size x s) xs ys p.1 q,
+)
 
 pub entries-append : (xs ys : List Item) → entries_of (xs ++ ys) ≡ entries_of xs ++ entries_of ys
 entries-append [] ys = refl
@@ -215,24 +218,24 @@ fresh_worked past l stopped w =
 
 boot_right : (h : Header1) (m : Moment) → IsPlain h → Good h m → Leads h m (boot m)
 boot_right h m plain good = tested h m (not m.lives) (played [] (record m { lives = true; joined = false; lanes = λ q. fresh (m.lanes q) })) plain good (λ ready.
-  let dead : m.lives ≡ false = grind (arith, nat_tests) in
-  let stopped : started m.scene.past 0 ≡ false = (good.asleep dead).1 in record {
-    good = record {
-      holds = record {
-        known = good.holds.known;
-        ringed = good.holds.ringed;
-        driven = good.holds.driven;
-        worked = fresh_worked m.scene.past (m.lanes 0) stopped good.holds.worked;
-        stored = record { sectors = λ k is_open far read. absurd (omega arith); status = λ k held. absurd (let fails : false ≡ true = held in cc) };
-        built = tt;
+    let dead : m.lives ≡ false = grind (arith, nat_tests) in
+    let stopped : started m.scene.past 0 ≡ false = (good.asleep dead).1 in record {
+      good = record {
+        holds = record {
+          known = good.holds.known;
+          ringed = good.holds.ringed;
+          driven = good.holds.driven;
+          worked = fresh_worked m.scene.past (m.lanes 0) stopped good.holds.worked;
+          stored = record { sectors = λ k is_open far read. absurd (omega arith); status = λ k held. absurd (let fails : false ≡ true = held in cc) };
+          built = tt;
+        };
+        asleep = λ e. absurd (let fails : true ≡ false = e in cc);
+        idle = good.idle;
       };
-      asleep = λ e. absurd (let fails : true ≡ false = e in cc);
-      idle = good.idle;
-    };
-    each = tt;
-    scene = refl;
-    legal = tt;
-  })
+      each = tt;
+      scene = refl;
+      legal = tt;
+    })
 
 join_right : (h : Header1) (m : Moment) → IsPlain h → Good h m → Leads h m (join m)
 join_right h m plain good = tested h m (m.lives && not m.joined) (played [] (record m { joined = true; lanes = λ q. record (m.lanes q) { attached = true } })) plain good (λ ready. record {

@@ -30,7 +30,7 @@ turns_end (suc fuel) choose h m plain good small = go (is_due h 0 (choose m) m) 
   where
     go : (b : Bool) → is_due h 0 (choose m) m ≡ b
         → (Good h (one_turn h 0 (choose m) m).next → effort_at (one_turn h 0 (choose m) m).next ≤ fuel
-          → (count : ℕ) × (is_due h 0 (choose (turns count choose h 0 (one_turn h 0 (choose m) m).next).next) (turns count choose h 0 (one_turn h 0 (choose m) m).next).next ≡ false))
+        → (count : ℕ) × (is_due h 0 (choose (turns count choose h 0 (one_turn h 0 (choose m) m).next).next) (turns count choose h 0 (one_turn h 0 (choose m) m).next).next ≡ false))
         → (count : ℕ) × (is_due h 0 (choose (turns count choose h 0 m).next) (turns count choose h 0 m).next ≡ false)
     go false is rest = (0, is)
     go true is rest =

@@ -43,10 +43,10 @@ ringed_elsewhere n base past heads m p bs size off r = record {
   used_idx_is = off_rings 2 m p bs (1048576 * 0 + 8192 + 2) off (omega arith) (omega arith) ∙ r.used_idx_is;
   avail_at = λ i from upto. let small = entry_small n (base + i) size in off_rings 2 m p bs (avail_entry_place (the_ring n) (base + i)) off (omega arith) (omega arith) ∙ r.avail_at i from upto;
   used_at = λ i from upto.
-  let small = entry_small n (base + i) size in
-  let id : word 4 (put m 0 p bs) 0 (used_id_place (the_ring n) (base + i)) ≡ word 4 m 0 (used_id_place (the_ring n) (base + i)) = off_rings 4 m p bs (used_id_place (the_ring n) (base + i)) off (omega arith) (omega arith) in
-  let len : word 4 (put m 0 p bs) 0 (used_len_place (the_ring n) (base + i)) ≡ word 4 m 0 (used_len_place (the_ring n) (base + i)) = off_rings 4 m p bs (used_len_place (the_ring n) (base + i)) off (omega arith) (omega arith) in
-  ap (λ (x : ℕ). (x, word 4 (put m 0 p bs) 0 (used_len_place (the_ring n) (base + i)))) id ∙ ap (λ (x : ℕ). (word 4 m 0 (used_id_place (the_ring n) (base + i)), x)) len ∙ r.used_at i from upto;
+      let small = entry_small n (base + i) size in
+      let id : word 4 (put m 0 p bs) 0 (used_id_place (the_ring n) (base + i)) ≡ word 4 m 0 (used_id_place (the_ring n) (base + i)) = off_rings 4 m p bs (used_id_place (the_ring n) (base + i)) off (omega arith) (omega arith) in
+      let len : word 4 (put m 0 p bs) 0 (used_len_place (the_ring n) (base + i)) ≡ word 4 m 0 (used_len_place (the_ring n) (base + i)) = off_rings 4 m p bs (used_len_place (the_ring n) (base + i)) off (omega arith) (omega arith) in
+      ap (λ (x : ℕ). (x, word 4 (put m 0 p bs) 0 (used_len_place (the_ring n) (base + i)))) id ∙ ap (λ (x : ℕ). (word 4 m 0 (used_id_place (the_ring n) (base + i)), x)) len ∙ r.used_at i from upto;
 }
 
 pub built_elsewhere : (n base : ℕ) (past : List Entry) (heads : List ℕ) (m : Bytes) (p : ℕ) (bs batch : List ℕ) (phase : Phase) → IsSize n → OffRings p bs → Built n base past heads m batch phase → Built n base past heads (put m 0 p bs) batch phase
@@ -55,9 +55,9 @@ built_elsewhere n base past heads m p bs batch (phases.Start done) size off b = 
 built_elsewhere n base past heads m p bs batch (phases.Fetch done) size off b = tt
 built_elsewhere n base past heads m p bs batch (phases.Publish done) size off b = record {
   ids = λ e l d. let small = entry_small n (base + length (published past 0) + e) size in
-  off_rings 4 m p bs (used_id_place (the_ring n) (base + length (published past 0) + e)) off (omega arith) (omega arith) ∙ b.ids e l d;
+      off_rings 4 m p bs (used_id_place (the_ring n) (base + length (published past 0) + e)) off (omega arith) (omega arith) ∙ b.ids e l d;
   lens = λ e l d. let small = entry_small n (base + length (published past 0) + e) size in
-  off_rings 4 m p bs (used_len_place (the_ring n) (base + length (published past 0) + e)) off (omega arith) (omega arith) ∙ b.lens e l d;
+      off_rings 4 m p bs (used_len_place (the_ring n) (base + length (published past 0) + e)) off (omega arith) (omega arith) ∙ b.lens e l d;
 }
 
 -- outside the buffer of a number
@@ -111,15 +111,15 @@ ringed_entry n cap base past heads m p head size known room at fits r =
         avail_idx_is = keeps 2 m p bs (avail_idx_place (the_ring n)) (inl (omega arith)) ∙ r.avail_idx_is;
         used_idx_is = keeps 2 m p bs (1048576 * 0 + 8192 + 2) (inr (omega arith)) ∙ r.used_idx_is;
         avail_at = λ i from upto.
-        let other : (base + i) % 65536 % n ≢ (base + length heads) % 65536 % n = entries_apart n (base + i) (base + length heads) size.some size.laps (omega arith) (omega arith) in
-        keeps 2 m p bs (avail_entry_place (the_ring n) (base + i)) (elim (cases_lt ((base + i) % 65536 % n) ((base + length heads) % 65536 % n)) [
-          | inl less ↦ inl (omega arith)
-          | inr more ↦ inr (let above : (base + length heads) % 65536 % n < (base + i) % 65536 % n = omega arith in omega arith)
-        ]) ∙ r.avail_at i from upto;
+            let other : (base + i) % 65536 % n ≢ (base + length heads) % 65536 % n = entries_apart n (base + i) (base + length heads) size.some size.laps (omega arith) (omega arith) in
+            keeps 2 m p bs (avail_entry_place (the_ring n) (base + i)) (elim (cases_lt ((base + i) % 65536 % n) ((base + length heads) % 65536 % n)) [
+              | inl less ↦ inl (omega arith)
+              | inr more ↦ inr (let above : (base + length heads) % 65536 % n < (base + i) % 65536 % n = omega arith in omega arith)
+            ]) ∙ r.avail_at i from upto;
         used_at = λ i from upto.
-        let id : word 4 (put m 0 p bs) 0 (used_id_place (the_ring n) (base + i)) ≡ word 4 m 0 (used_id_place (the_ring n) (base + i)) = keeps 4 m p bs (used_id_place (the_ring n) (base + i)) (inr (omega arith)) in
-        let len : word 4 (put m 0 p bs) 0 (used_len_place (the_ring n) (base + i)) ≡ word 4 m 0 (used_len_place (the_ring n) (base + i)) = keeps 4 m p bs (used_len_place (the_ring n) (base + i)) (inr (omega arith)) in
-        ap (λ (x : ℕ). (x, word 4 (put m 0 p bs) 0 (used_len_place (the_ring n) (base + i)))) id ∙ ap (λ (x : ℕ). (word 4 m 0 (used_id_place (the_ring n) (base + i)), x)) len ∙ r.used_at i from upto;
+            let id : word 4 (put m 0 p bs) 0 (used_id_place (the_ring n) (base + i)) ≡ word 4 m 0 (used_id_place (the_ring n) (base + i)) = keeps 4 m p bs (used_id_place (the_ring n) (base + i)) (inr (omega arith)) in
+            let len : word 4 (put m 0 p bs) 0 (used_len_place (the_ring n) (base + i)) ≡ word 4 m 0 (used_len_place (the_ring n) (base + i)) = keeps 4 m p bs (used_len_place (the_ring n) (base + i)) (inr (omega arith)) in
+            ap (λ (x : ℕ). (x, word 4 (put m 0 p bs) 0 (used_len_place (the_ring n) (base + i)))) id ∙ ap (λ (x : ℕ). (word 4 m 0 (used_id_place (the_ring n) (base + i)), x)) len ∙ r.used_at i from upto;
       },
       ap (λ (q : ℕ). word 2 (put m 0 p bs) 0 q) (sym at) ∙ word-put_same 2 m 0 p head (omega arith),
     )

@@ -93,13 +93,18 @@ distinct_parts (x ∷ xs) ys d =
     let head : is_among (xs ++ ys) x ≡ false = grind (arith, nat_tests) in
     let rest = distinct_parts xs ys tail in
     let joined : is_among (xs ++ ys) x ≡ (is_among xs x || is_among ys x) = is_among_append xs ys x in
-    let first : are_distinct xs ≡ true = rest.0 in
-    (grind (arith, nat_tests), (rest.1.0, λ k h.
-      let other : is_among xs k ≡ false = rest.1.1 k h in
-      elim (cases_eq x k) [
-        | inl same ↦ let at_k : is_among ys x ≡ is_among ys k = ap (is_among ys) same in grind (arith, nat_tests)
-        | inr apart ↦ grind (arith, nat_tests)
-      ]))
+    let first : are_distinct xs ≡ true = rest.0 in (
+      grind (arith, nat_tests),
+      (
+        rest.1.0,
+        λ k h.
+            let other : is_among xs k ≡ false = rest.1.1 k h in
+            elim (cases_eq x k) [
+              | inl same ↦ let at_k : is_among ys x ≡ is_among ys k = ap (is_among ys) same in grind (arith, nat_tests)
+              | inr apart ↦ grind (arith, nat_tests)
+            ],
+      ),
+    )
 
 pub distinct_join : (xs ys : List ℕ) → are_distinct xs ≡ true → are_distinct ys ≡ true → ((k : ℕ) → is_among ys k ≡ true → is_among xs k ≡ false) → are_distinct (xs ++ ys) ≡ true
 distinct_join [] ys dx dy apart = dy
@@ -198,8 +203,8 @@ length_map f (x ∷ xs) = omega (arith, length_map f xs)
 pub few_places : (f : ℕ → ℕ) (taken : List ℕ) (a n : ℕ) → ((j k : ℕ) → j < k → k < a → is_among taken j ≡ false → is_among taken k ≡ false → f j ≢ f k) → ((k : ℕ) → k < a → is_among taken k ≡ false → f k < n) → a ≤ n + length taken
 few_places f taken a n inj below =
     let few : length (map f (missing_below taken a)) ≤ n = few_below (map f (missing_below taken a)) n (map_distinct f taken a inj) (λ y h.
-      let r = among_map f (missing_below taken a) y h in
-      let low : (r.0 < a) × (is_among taken r.0 ≡ false) = missing-among taken a r.0 r.1 in
-      let fits : f r.0 < n = below r.0 low.0 low.1 in
-      omega (arith, fits, r.2)) in
+    let r = among_map f (missing_below taken a) y h in
+    let low : (r.0 < a) × (is_among taken r.0 ≡ false) = missing-among taken a r.0 r.1 in
+    let fits : f r.0 < n = below r.0 low.0 low.1 in
+    omega (arith, fits, r.2)) in
     omega (arith, few, length_map f (missing_below taken a), missing_count taken a)

@@ -41,28 +41,28 @@ offer_room n cap base past heads v w known driven waits =
     let many : length taken ≡ c = length-take-le c (published past 0) known.shown in
     let f : ℕ → ℕ = slice_index (heads ++ w.head ∷ []) in
     let all : length heads + 1 ≤ n + length taken = few_places f taken (length heads + 1) n (λ j k less upto out_j out_k same.
-      let j_low : j < length heads = omega arith in
-      let at_j : f j ≡ slice_index heads j = same_head heads w.head j j_low in
-      let is_j : IsOut past heads j = record { below = j_low; kept = out_j } in
-      elim (cases_lt k (length heads)) [
-        | inl low ↦
-            let at_k : f k ≡ slice_index heads k = same_head heads w.head k low in
-            let one : j ≡ k = driven.apart j k is_j (record { below = low; kept = out_k }) (sym at_j ∙ same ∙ at_k) in
-            omega arith
-        | inr high ↦
-            let last : k ≡ length heads = omega arith in
-            let at_k : f k ≡ w.head = ap f last ∙ new_head heads w.head in
-            waits.apart j is_j (sym at_j ∙ same ∙ at_k)
-      ]) (λ k upto out_k. elim (cases_lt k (length heads)) [
-        | inl low ↦
-            let at_k : f k ≡ slice_index heads k = same_head heads w.head k low in
-            let small : slice_index heads k < n = driven.below k (record { below = low; kept = out_k }) in
-            omega (arith, at_k, small)
-        | inr high ↦
-            let last : k ≡ length heads = omega arith in
-            let at_k : f k ≡ w.head = ap f last ∙ new_head heads w.head in
-            omega (arith, at_k, waits.below)
-      ]) in
+    let j_low : j < length heads = omega arith in
+    let at_j : f j ≡ slice_index heads j = same_head heads w.head j j_low in
+    let is_j : IsOut past heads j = record { below = j_low; kept = out_j } in
+    elim (cases_lt k (length heads)) [
+      | inl low ↦
+          let at_k : f k ≡ slice_index heads k = same_head heads w.head k low in
+          let one : j ≡ k = driven.apart j k is_j (record { below = low; kept = out_k }) (sym at_j ∙ same ∙ at_k) in
+          omega arith
+      | inr high ↦
+          let last : k ≡ length heads = omega arith in
+          let at_k : f k ≡ w.head = ap f last ∙ new_head heads w.head in
+          waits.apart j is_j (sym at_j ∙ same ∙ at_k)
+    ]) (λ k upto out_k. elim (cases_lt k (length heads)) [
+      | inl low ↦
+          let at_k : f k ≡ slice_index heads k = same_head heads w.head k low in
+          let small : slice_index heads k < n = driven.below k (record { below = low; kept = out_k }) in
+          omega (arith, at_k, small)
+      | inr high ↦
+          let last : k ≡ length heads = omega arith in
+          let at_k : f k ≡ w.head = ap f last ∙ new_head heads w.head in
+          omega (arith, at_k, waits.below)
+    ]) in
     omega (arith, all, many)
 
 pub offer_known : (n cap : ℕ) (past : List Entry) (heads : List ℕ) (r : Asked) (h : ℕ) → Known n cap past heads → IsSimple cap (Some r) → length heads < n + collected past 0 → Known n cap (entries.Offer 0 r ∷ past) (heads ++ h ∷ [])
@@ -100,19 +100,19 @@ offer_ringed n cap base past heads m r h index size known at stands ringed =
       avail_idx_is = word-put_same 2 m 0 p x (omega arith) ∙ omega (arith, longer);
       used_idx_is = keeps 2 m p bs (1048576 * 0 + 8192 + 2) (inr (omega arith)) ∙ ringed.used_idx_is;
       avail_at = λ i from upto.
-      let same : word 2 (put m 0 p bs) 0 (avail_entry_place (the_ring n) (base + i)) ≡ word 2 m 0 (avail_entry_place (the_ring n) (base + i)) = keeps 2 m p bs (avail_entry_place (the_ring n) (base + i)) (inr (omega arith)) in
-      elim (cases_lt i (length heads)) [
-        | inl low ↦ same ∙ ringed.avail_at i from low ∙ sym (same_head heads h i low)
-        | inr high ↦
-            let last : i ≡ length heads = omega (arith, longer) in
-            same ∙ ap (λ (j : ℕ). head_at (the_ring n) m (base + j)) last ∙ stands ∙ sym (ap (slice_index (heads ++ h ∷ [])) last ∙ new_head heads h)
-      ];
+          let same : word 2 (put m 0 p bs) 0 (avail_entry_place (the_ring n) (base + i)) ≡ word 2 m 0 (avail_entry_place (the_ring n) (base + i)) = keeps 2 m p bs (avail_entry_place (the_ring n) (base + i)) (inr (omega arith)) in
+          elim (cases_lt i (length heads)) [
+            | inl low ↦ same ∙ ringed.avail_at i from low ∙ sym (same_head heads h i low)
+            | inr high ↦
+                let last : i ≡ length heads = omega (arith, longer) in
+                same ∙ ap (λ (j : ℕ). head_at (the_ring n) m (base + j)) last ∙ stands ∙ sym (ap (slice_index (heads ++ h ∷ [])) last ∙ new_head heads h)
+          ];
       used_at = λ i from upto.
-      let low : slice_index (published past 0) i < length heads = omega (arith, known.below (slice_index (published past 0) i) (among_at (published past 0) i upto), known.offered) in
-      let id : word 4 (put m 0 p bs) 0 (used_id_place (the_ring n) (base + i)) ≡ word 4 m 0 (used_id_place (the_ring n) (base + i)) = keeps 4 m p bs (used_id_place (the_ring n) (base + i)) (inr (omega arith)) in
-      let len : word 4 (put m 0 p bs) 0 (used_len_place (the_ring n) (base + i)) ≡ word 4 m 0 (used_len_place (the_ring n) (base + i)) = keeps 4 m p bs (used_len_place (the_ring n) (base + i)) (inr (omega arith)) in
-      ap (λ (y : ℕ). (y, word 4 (put m 0 p bs) 0 (used_len_place (the_ring n) (base + i)))) id ∙ ap (λ (y : ℕ). (word 4 m 0 (used_id_place (the_ring n) (base + i)), y)) len
-      ∙ ringed.used_at i from upto ∙ sym (offer_spot n cap past heads r h (slice_index (published past 0) i) known low);
+          let low : slice_index (published past 0) i < length heads = omega (arith, known.below (slice_index (published past 0) i) (among_at (published past 0) i upto), known.offered) in
+          let id : word 4 (put m 0 p bs) 0 (used_id_place (the_ring n) (base + i)) ≡ word 4 m 0 (used_id_place (the_ring n) (base + i)) = keeps 4 m p bs (used_id_place (the_ring n) (base + i)) (inr (omega arith)) in
+          let len : word 4 (put m 0 p bs) 0 (used_len_place (the_ring n) (base + i)) ≡ word 4 m 0 (used_len_place (the_ring n) (base + i)) = keeps 4 m p bs (used_len_place (the_ring n) (base + i)) (inr (omega arith)) in
+          ap (λ (y : ℕ). (y, word 4 (put m 0 p bs) 0 (used_len_place (the_ring n) (base + i)))) id ∙ ap (λ (y : ℕ). (word 4 m 0 (used_id_place (the_ring n) (base + i)), y)) len
+          ∙ ringed.used_at i from upto ∙ sym (offer_spot n cap past heads r h (slice_index (published past 0) i) known low);
     }
 
 -- the head that the offer shows is the one that was stored
@@ -166,11 +166,11 @@ offer_worked n cap past heads r phase batch completed made known worked = record
     ];
   };
   full = λ k held.
-  let low : k < offers past 0 = omega (arith, (worked.opens k held).taken, known.offers_are, known.offered) in
-  subst (λ (o : Option Asked). IsFull (made k) o) (sym (same_asked past r k low)) (worked.full k held);
+      let low : k < offers past 0 = omega (arith, (worked.opens k held).taken, known.offers_are, known.offered) in
+      subst (λ (o : Option Asked). IsFull (made k) o) (sym (same_asked past r k low)) (worked.full k held);
   pending = λ k is_open out.
-  let low : k < offers past 0 = omega (arith, is_open.taken, known.offers_are, known.offered) in
-  subst (λ (o : Option Asked). IsPending (made k) o) (sym (same_asked past r k low)) (worked.pending k (record { taken = is_open.taken; unpublished = is_open.unpublished }) out);
+      let low : k < offers past 0 = omega (arith, is_open.taken, known.offers_are, known.offered) in
+      subst (λ (o : Option Asked). IsPending (made k) o) (sym (same_asked past r k low)) (worked.pending k (record { taken = is_open.taken; unpublished = is_open.unpublished }) out);
   quiet = worked.quiet;
   phase_is = worked.phase_is;
 }
@@ -179,13 +179,13 @@ pub offer_stored : (n cap : ℕ) (past : List Entry) (heads : List ℕ) (r : Ask
     → Stored past heads m batch completed made → Stored (entries.Offer 0 r ∷ past) (heads ++ h ∷ []) m batch completed made
 offer_stored n cap past heads r h m phase batch completed made known worked stored = record {
   sectors = λ k is_open far read.
-  let low : k < length heads = omega (arith, is_open.taken, known.offered) in
-  let low_too : k < offers past 0 = omega (arith, low, known.offers_are) in
-  let read_too : IsRead (asked past 0 k) = subst (λ (o : Option Asked). IsRead o) (same_asked past r k low_too) read in
-  ap (λ (x : ℕ). bytes_from 512 m 0 (1048576 * 0 + (65536 + 8192 * x) + 4096)) (same_head heads h k low) ∙ stored.sectors k (record { taken = is_open.taken; unpublished = is_open.unpublished }) far read_too;
+      let low : k < length heads = omega (arith, is_open.taken, known.offered) in
+      let low_too : k < offers past 0 = omega (arith, low, known.offers_are) in
+      let read_too : IsRead (asked past 0 k) = subst (λ (o : Option Asked). IsRead o) (same_asked past r k low_too) read in
+      ap (λ (x : ℕ). bytes_from 512 m 0 (1048576 * 0 + (65536 + 8192 * x) + 4096)) (same_head heads h k low) ∙ stored.sectors k (record { taken = is_open.taken; unpublished = is_open.unpublished }) far read_too;
   status = λ k held.
-  let low : k < length heads = omega (arith, (worked.opens k held).taken, known.offered) in
-  ap (λ (x : ℕ). m 0 (1048576 * 0 + (65536 + 8192 * x) + 16)) (same_head heads h k low) ∙ stored.status k held;
+      let low : k < length heads = omega (arith, (worked.opens k held).taken, known.offered) in
+      ap (λ (x : ℕ). m 0 (1048576 * 0 + (65536 + 8192 * x) + 16)) (same_head heads h k low) ∙ stored.status k held;
 }
 
 pub offer_built : (n cap base : ℕ) (past : List Entry) (heads : List ℕ) (r : Asked) (h : ℕ) (m : Bytes) (phase : Phase) (batch completed : List ℕ) (made : ℕ → ℕ) → Known n cap past heads

@@ -52,8 +52,17 @@ start_worked past list batch completed made phase stopped w =
 start_holds : (h : Header1) (s : Scene) (l : Lane) (list : List ℕ) → started s.past 0 ≡ false → Holds h s l → Holds h (record s { past = entries.Start 0 list ∷ s.past }) l
 start_holds h s l list stopped x = record {
   known = record {
-    offers_are = x.known.offers_are; offered = x.known.offered; distinct = x.known.distinct; below = x.known.below; shown = x.known.shown; fewer = x.known.fewer; room = x.known.room;
-    good = x.known.good; simple = x.known.simple; unfaulted = λ k. refl; values = x.known.values;
+    offers_are = x.known.offers_are;
+    offered = x.known.offered;
+    distinct = x.known.distinct;
+    below = x.known.below;
+    shown = x.known.shown;
+    fewer = x.known.fewer;
+    room = x.known.room;
+    good = x.known.good;
+    simple = x.known.simple;
+    unfaulted = λ k. refl;
+    values = x.known.values;
   };
   ringed = record { avail_idx_is = x.ringed.avail_idx_is; used_idx_is = x.ringed.used_idx_is; avail_at = x.ringed.avail_at; used_at = x.ringed.used_at };
   driven = driven_same h.size h.capacity h.base s.past (entries.Start 0 list ∷ s.past) (s.heads 0) l.driver (λ j o. record { below = o.below; kept = o.kept }) x.driven;
@@ -108,8 +117,17 @@ accept_worked past k batch completed made phase w = record {
 accept_holds : (h : Header1) (s : Scene) (l : Lane) (k : ℕ) → accepted s.past 0 < length (s.heads 0) → Holds h s l → Holds h (record s { past = entries.Accept 0 k ∷ s.past }) l
 accept_holds h s l k more x = record {
   known = record {
-    offers_are = x.known.offers_are; offered = omega arith; distinct = x.known.distinct; below = λ j held. omega (arith, x.known.below j held); shown = x.known.shown; fewer = omega (arith, x.known.fewer); room = x.known.room;
-    good = x.known.good; simple = x.known.simple; unfaulted = x.known.unfaulted; values = x.known.values;
+    offers_are = x.known.offers_are;
+    offered = omega arith;
+    distinct = x.known.distinct;
+    below = λ j held. omega (arith, x.known.below j held);
+    shown = x.known.shown;
+    fewer = omega (arith, x.known.fewer);
+    room = x.known.room;
+    good = x.known.good;
+    simple = x.known.simple;
+    unfaulted = x.known.unfaulted;
+    values = x.known.values;
   };
   ringed = record { avail_idx_is = x.ringed.avail_idx_is; used_idx_is = x.ringed.used_idx_is; avail_at = λ i from upto. x.ringed.avail_at i (omega arith) upto; used_at = x.ringed.used_at };
   driven = driven_same h.size h.capacity h.base s.past (entries.Accept 0 k ∷ s.past) (s.heads 0) l.driver (λ j o. record { below = o.below; kept = o.kept }) x.driven;

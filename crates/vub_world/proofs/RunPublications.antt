@@ -172,19 +172,19 @@ answer_right h s l done m k x st held =
     let status : m 0 (status_place (buffer (s.heads 0) k)) ≡ 0 = st.status k among in
     elim (simple_cases h.capacity (asked s.past 0 k) (batch_simple h s l done k x held)) [
       | inl r ↦ record {
-          request = asks.Read r.0 1;
-          offered = r.2;
-          known = omega arith;
-          success = λ is_zero. record { served = read_served h r.0 r.1; unfaulted = x.holds.known.unfaulted k; done = read_answer h s.past (s.heads 0) m l.batch l.completed l.made (phases.Publish done) k r.0 x.holds.worked st among r.2 };
-          failure = λ is_one. absurd (omega arith);
-          unsupported = λ is_two. absurd (omega arith);
-        }
+        request = asks.Read r.0 1;
+        offered = r.2;
+        known = omega arith;
+        success = λ is_zero. record { served = read_served h r.0 r.1; unfaulted = x.holds.known.unfaulted k; done = read_answer h s.past (s.heads 0) m l.batch l.completed l.made (phases.Publish done) k r.0 x.holds.worked st among r.2 };
+        failure = λ is_one. absurd (omega arith);
+        unsupported = λ is_two. absurd (omega arith);
+      }
       | inr r ↦ record {
-          request = asks.Write r.0 r.1;
-          offered = r.4;
-          known = omega arith;
-          success = λ is_zero. record { served = write_served h r.0 r.1 x.back r.2 r.3; unfaulted = x.holds.known.unfaulted k; done = write_answer h s.past (s.heads 0) m l.batch l.completed l.made (phases.Publish done) k r.0 r.1 x.back x.holds.worked st among r.4 r.3 };
-          failure = λ is_one. absurd (omega arith);
-          unsupported = λ is_two. absurd (omega arith);
-        }
+        request = asks.Write r.0 r.1;
+        offered = r.4;
+        known = omega arith;
+        success = λ is_zero. record { served = write_served h r.0 r.1 x.back r.2 r.3; unfaulted = x.holds.known.unfaulted k; done = write_answer h s.past (s.heads 0) m l.batch l.completed l.made (phases.Publish done) k r.0 r.1 x.back x.holds.worked st among r.4 r.3 };
+        failure = λ is_one. absurd (omega arith);
+        unsupported = λ is_two. absurd (omega arith);
+      }
     ]

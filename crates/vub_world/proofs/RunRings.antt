@@ -36,8 +36,8 @@ heads_are r m (suc k) d (x ∷ xs) long each =
     let place : d + 0 ≡ d = omega arith in
     let first : head_at r m d ≡ x = ap (head_at r m) (sym place) ∙ each 0 (omega arith) in
     let rest : heads_from r m k (d + 1) ≡ xs = heads_are r m k (d + 1) xs (omega arith) (λ i l.
-      let next : d + 1 + i ≡ d + suc i = omega arith in
-      ap (head_at r m) next ∙ each (suc i) (omega arith)) in
+    let next : d + 1 + i ≡ d + suc i = omega arith in
+    ap (head_at r m) next ∙ each (suc i) (omega arith)) in
     cc
 
 pub elements_are : (r : Ring) (m : Bytes) (k d : ℕ) (xs : List (ℕ × ℕ)) → length xs ≡ k → ((i : ℕ) → i < k → element_at r m (d + i) ≡ get_or xs i (0, 0)) → elements_from r m k d ≡ xs
@@ -48,6 +48,6 @@ elements_are r m (suc k) d (x ∷ xs) long each =
     let place : d + 0 ≡ d = omega arith in
     let first : element_at r m d ≡ x = ap (element_at r m) (sym place) ∙ each 0 (omega arith) in
     let rest : elements_from r m k (d + 1) ≡ xs = elements_are r m k (d + 1) xs (omega arith) (λ i l.
-      let next : d + 1 + i ≡ d + suc i = omega arith in
-      ap (element_at r m) next ∙ each (suc i) (omega arith)) in
+    let next : d + 1 + i ≡ d + suc i = omega arith in
+    ap (element_at r m) next ∙ each (suc i) (omega arith)) in
     cc

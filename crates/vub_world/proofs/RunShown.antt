@@ -133,8 +133,8 @@ shown_ringed h x s l done u whole is =
       used_idx_is = word-put_same 2 s.memory 0 p x (omega arith) ∙ is ∙ omega (arith, many);
       avail_at = λ i from upto. let small = entry_small h.size (h.base + i) u.good.size in keeps 2 s.memory p bs (avail_entry_place (the_ring h.size) (h.base + i)) (inl (omega arith)) ∙ r.avail_at i from upto;
       used_at = λ i from upto.
-      let named : slice_index (published (shown_past h x s l) 0) i ≡ slice_index (published s.past 0 ++ l.batch) i = ap (λ (ks : List ℕ). slice_index ks i) ps in
-      element_stays h x s i ∙ shown_element h s l done i u whole from (omega (arith, many)) ∙ sym (ap (spot (s.heads 0) s.past) named);
+          let named : slice_index (published (shown_past h x s l) 0) i ≡ slice_index (published s.past 0 ++ l.batch) i = ap (λ (ks : List ℕ). slice_index ks i) ps in
+          element_stays h x s i ∙ shown_element h s l done i u whole from (omega (arith, many)) ∙ sym (ap (spot (s.heads 0) s.past) named);
     }
 
 shown_worked : (h : Header1) (x : ℕ) (s : Scene) (l : Lane) (done : ℕ) → IsUnderWay h s l done → Worked (shown_past h x s l) phases.Rest [] l.completed l.made
@@ -149,21 +149,21 @@ shown_worked h x s l done u =
       opens = λ k held. record {
         taken = (w.opens k (same k held)).taken;
         unpublished =
-        let old : is_among (published s.past 0) k ≡ false = (w.opens k (same k held)).unpublished in
-        let new : is_among l.batch k ≡ false = elim (cases_Bool (is_among l.batch k)) [
-          | inl there ↦ absurd (let out : is_among l.completed k ≡ false = parts.1.1 k there in let fails : true ≡ false = sym (bare k held) ∙ out in cc)
-          | inr out ↦ out
-        ] in
-        ap (λ (ks : List ℕ). is_among ks k) ps ∙ is_among_append (published s.past 0) l.batch k ∙ grind (arith, nat_tests);
+            let old : is_among (published s.past 0) k ≡ false = (w.opens k (same k held)).unpublished in
+            let new : is_among l.batch k ≡ false = elim (cases_Bool (is_among l.batch k)) [
+              | inl there ↦ absurd (let out : is_among l.completed k ≡ false = parts.1.1 k there in let fails : true ≡ false = sym (bare k held) ∙ out in cc)
+              | inr out ↦ out
+            ] in
+            ap (λ (ks : List ℕ). is_among ks k) ps ∙ is_among_append (published s.past 0) l.batch k ∙ grind (arith, nat_tests);
       };
       untouched = w.untouched;
       progress = w.progress;
       full = λ k held. w.full k (same k held);
       pending = λ k is_open out.
-      let whole : is_among (published s.past 0 ++ l.batch) k ≡ false = ap (λ (ks : List ℕ). is_among ks k) (sym ps) ∙ is_open.unpublished in
-      let joined : is_among (published s.past 0 ++ l.batch) k ≡ (is_among (published s.past 0) k || is_among l.batch k) = is_among_append (published s.past 0) l.batch k in
-      let left : is_among l.completed k ≡ false = ap (λ (ks : List ℕ). is_among ks k) (sym (append-nil l.completed)) ∙ out in
-      w.pending k (record { taken = is_open.taken; unpublished = grind (arith, nat_tests) }) (is_among_append l.completed l.batch k ∙ grind (arith, nat_tests));
+          let whole : is_among (published s.past 0 ++ l.batch) k ≡ false = ap (λ (ks : List ℕ). is_among ks k) (sym ps) ∙ is_open.unpublished in
+          let joined : is_among (published s.past 0 ++ l.batch) k ≡ (is_among (published s.past 0) k || is_among l.batch k) = is_among_append (published s.past 0) l.batch k in
+          let left : is_among l.completed k ≡ false = ap (λ (ks : List ℕ). is_among ks k) (sym (append-nil l.completed)) ∙ out in
+          w.pending k (record { taken = is_open.taken; unpublished = grind (arith, nat_tests) }) (is_among_append l.completed l.batch k ∙ grind (arith, nat_tests));
       quiet = λ stopped. absurd (let fails : true ≡ false = sym u.started ∙ stopped in cc);
       phase_is = refl;
     }
@@ -173,10 +173,10 @@ still_open : (h : Header1) (x : ℕ) (s : Scene) (l : Lane) (k : ℕ) → IsOpen
 still_open h x s l k is_open = record {
   taken = is_open.taken;
   unpublished =
-  let ps : published (shown_past h x s l) 0 ≡ published s.past 0 ++ l.batch = shown_published h x s l in
-  let whole : is_among (published s.past 0 ++ l.batch) k ≡ false = ap (λ (ks : List ℕ). is_among ks k) (sym ps) ∙ is_open.unpublished in
-  let joined : is_among (published s.past 0 ++ l.batch) k ≡ (is_among (published s.past 0) k || is_among l.batch k) = is_among_append (published s.past 0) l.batch k in
-  grind (arith, nat_tests);
+      let ps : published (shown_past h x s l) 0 ≡ published s.past 0 ++ l.batch = shown_published h x s l in
+      let whole : is_among (published s.past 0 ++ l.batch) k ≡ false = ap (λ (ks : List ℕ). is_among ks k) (sym ps) ∙ is_open.unpublished in
+      let joined : is_among (published s.past 0 ++ l.batch) k ≡ (is_among (published s.past 0) k || is_among l.batch k) = is_among_append (published s.past 0) l.batch k in
+      grind (arith, nat_tests);
 }
 
 shown_holds : (h : Header1) (x : ℕ) (s : Scene) (l : Lane) (done : ℕ) → IsUnderWay h s l done → done ≡ 2 * length l.batch → x ≡ (h.base + length (published s.past 0) + length l.batch) % 65536

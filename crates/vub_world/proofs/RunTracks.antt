@@ -85,18 +85,18 @@ tracks h s size known ringed =
     let many : length (map (spot (s.heads 0) s.past) (drop c ps)) ≡ ahead (used_idx (the_ring h.size) s.memory) (h.base + c) = omega (arith, length_map (spot (s.heads 0) s.past) (drop c ps), length-drop c ps, seen_far) in
     let sees : seen_elements (the_ring h.size) s.memory (h.base + c) ≡ map (spot (s.heads 0) s.past) (drop c ps) =
     elements_are (the_ring h.size) s.memory (ahead (used_idx (the_ring h.size) s.memory) (h.base + c)) (h.base + c) (map (spot (s.heads 0) s.past) (drop c ps)) many (λ i l.
-      let place : h.base + c + i ≡ h.base + (c + i) = omega arith in
-      let within : c + i < length ps = omega arith in
-      let inside : i < length (drop c ps) = omega (arith, length-drop c ps) in
-      let named : slice_index (drop c ps) i ≡ slice_index ps (c + i) = get_or-drop c ps i 0 in
-      subst (λ (p : ℕ). element_at (the_ring h.size) s.memory p ≡ spot (s.heads 0) s.past (slice_index ps (c + i))) (sym place) (ringed.used_at (c + i) (omega arith) within)
-      ∙ ap (spot (s.heads 0) s.past) (sym named) ∙ sym (get_map (spot (s.heads 0) s.past) (drop c ps) i (0, 0) inside)) in
+    let place : h.base + c + i ≡ h.base + (c + i) = omega arith in
+    let within : c + i < length ps = omega arith in
+    let inside : i < length (drop c ps) = omega (arith, length-drop c ps) in
+    let named : slice_index (drop c ps) i ≡ slice_index ps (c + i) = get_or-drop c ps i 0 in
+    subst (λ (p : ℕ). element_at (the_ring h.size) s.memory p ≡ spot (s.heads 0) s.past (slice_index ps (c + i))) (sym place) (ringed.used_at (c + i) (omega arith) within)
+    ∙ ap (spot (s.heads 0) s.past) (sym named) ∙ sym (get_map (spot (s.heads 0) s.past) (drop c ps) i (0, 0) inside)) in
     record {
       sees = sees ∙ sym right;
       waits = heads_are (the_ring h.size) s.memory (ahead (avail_idx (the_ring h.size) s.memory) (h.base + a)) (h.base + a) (drop a (s.heads 0)) (omega (arith, length-drop a (s.heads 0), waits_far)) (λ i l.
-        let place : h.base + a + i ≡ h.base + (a + i) = omega arith in
-        let within : a + i < length (s.heads 0) = omega arith in
-        ap (head_at (the_ring h.size) s.memory) place ∙ ringed.avail_at (a + i) (omega arith) within ∙ sym (get_or-drop a (s.heads 0) i 0));
+          let place : h.base + a + i ≡ h.base + (a + i) = omega arith in
+          let within : a + i < length (s.heads 0) = omega arith in
+          ap (head_at (the_ring h.size) s.memory) place ∙ ringed.avail_at (a + i) (omega arith) within ∙ sym (get_or-drop a (s.heads 0) i 0));
     }
 
 pub every_tracks : (h : Header1) (s : Scene) → h.queues ≡ 1 → Tracks h 0 s → EveryTracks h s

@@ -105,10 +105,10 @@ work_due h m place plain good ready = go (slice_get (unfinished 0 m) place) refl
   where
     go : (o : Option ℕ) → slice_get (unfinished 0 m) place ≡ o → Fine h m.scene (m.lanes 0) (work_turn h 0 m.scene (m.lanes 0) o)
     go None is = absurd (
-      let inside : place < length (unfinished 0 m) = grind (arith, nat_tests) in
-      let there : slice_get (unfinished 0 m) place ≡ Some (slice_index (unfinished 0 m) place) = slice_get-get_or (unfinished 0 m) place 0 inside in
-      let fails : None ≡ Some (slice_index (unfinished 0 m) place) = sym is ∙ there in
-      cc)
+        let inside : place < length (unfinished 0 m) = grind (arith, nat_tests) in
+        let there : slice_get (unfinished 0 m) place ≡ Some (slice_index (unfinished 0 m) place) = slice_get-get_or (unfinished 0 m) place 0 inside in
+        let fails : None ≡ Some (slice_index (unfinished 0 m) place) = sym is ∙ there in
+        cc)
     go (Some k) is =
         let l : Lane = m.lanes 0 in
         let kept = among_filter (λ j. not (is_among (l.completed ++ l.batch) j)) (open_numbers m.scene.past 0) k (among_get (unfinished 0 m) place k is) in

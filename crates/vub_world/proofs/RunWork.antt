@@ -140,7 +140,17 @@ one_more_falls h s l k x small = omega (arith, step_falls (published s.past 0) (
 
 look_known : (n cap : ℕ) (past : List Entry) (heads : List ℕ) (k s : ℕ) (v : List ℕ) → Known n cap past heads → Known n cap (entries.Look 0 k s v ∷ past) heads
 look_known n cap past heads k s v a = record {
-  offers_are = a.offers_are; offered = a.offered; distinct = a.distinct; below = a.below; shown = a.shown; fewer = a.fewer; room = a.room; good = a.good; simple = a.simple; unfaulted = a.unfaulted; values = a.values;
+  offers_are = a.offers_are;
+  offered = a.offered;
+  distinct = a.distinct;
+  below = a.below;
+  shown = a.shown;
+  fewer = a.fewer;
+  room = a.room;
+  good = a.good;
+  simple = a.simple;
+  unfaulted = a.unfaulted;
+  values = a.values;
 }
 
 look_worked : (past : List Entry) (phase : Phase) (batch completed : List ℕ) (made : ℕ → ℕ) (k s sector : ℕ) (v : List ℕ) → started past 0 ≡ true → IsOpen past 0 k → is_among (completed ++ batch) k ≡ false → made k ≡ 0 → asked past 0 k ≡ Some (asks.Read sector 1) → length v ≡ 512
@@ -227,7 +237,16 @@ look_fine h s l k sector x none low is =
 
 act_known : (n cap : ℕ) (past : List Entry) (heads : List ℕ) (k s : ℕ) (v : List ℕ) → length v ≡ 512 → Known n cap past heads → Known n cap (entries.Act 0 k s v ∷ past) heads
 act_known n cap past heads k s v long a = record {
-  offers_are = a.offers_are; offered = a.offered; distinct = a.distinct; below = a.below; shown = a.shown; fewer = a.fewer; room = a.room; good = a.good; simple = a.simple; unfaulted = a.unfaulted;
+  offers_are = a.offers_are;
+  offered = a.offered;
+  distinct = a.distinct;
+  below = a.below;
+  shown = a.shown;
+  fewer = a.fewer;
+  room = a.room;
+  good = a.good;
+  simple = a.simple;
+  unfaulted = a.unfaulted;
   values = λ t. let old : length (value past t) ≡ 512 = a.values t in elim (cases_eq s t) [
     | inl same ↦ ap length (let now : value (entries.Act 0 k s v ∷ past) t ≡ v = grind (arith, nat_tests) in now) ∙ long
     | inr apart ↦ ap length (let now : value (entries.Act 0 k s v ∷ past) t ≡ value past t = grind (arith, nat_tests) in now) ∙ old
@@ -374,7 +393,7 @@ put_holds h s l k sector p bs x one is at what long = record {
           sectors_elsewhere (s.heads 0) j s.memory p bs (off_other h s l k j p bs x is_open apart (omega arith) (omega arith)) ∙ x.holds.stored.sectors j is_open (subst (λ (c : ℕ). 2 ≤ c) now far) read
     ];
     status = λ j held.
-    status_elsewhere (s.heads 0) j s.memory p bs (off_other h s l k j p bs x (x.holds.worked.opens j held) (among_apart (l.completed ++ l.batch) j k held x.left) (omega arith) (omega arith)) ∙ x.holds.stored.status j held;
+        status_elsewhere (s.heads 0) j s.memory p bs (off_other h s l k j p bs x (x.holds.worked.opens j held) (among_apart (l.completed ++ l.batch) j k held x.left) (omega arith) (omega arith)) ∙ x.holds.stored.status j held;
   };
   built = built_elsewhere h.size h.base s.past (s.heads 0) s.memory p bs l.batch l.phase x.good.size (inr (omega arith)) x.holds.built;
 }
@@ -427,11 +446,11 @@ distinct_more xs ys k d out =
     let out_xs : is_among xs k ≡ false = grind (arith, nat_tests) in
     let out_ys : is_among ys k ≡ false = grind (arith, nat_tests) in
     distinct_join (xs ++ k ∷ []) ys (distinct_push xs k parts.0 out_xs) parts.1.0 (λ j held.
-      let other : is_among xs j ≡ false = parts.1.1 j held in
-      let differs : j ≢ k = among_apart ys j k held out_ys in
-      let turned : k ≢ j = λ e. differs (sym e) in
-      let inner : is_among (xs ++ k ∷ []) j ≡ (is_among xs j || is_among (k ∷ []) j) = is_among_append xs (k ∷ []) j in
-      grind (arith, nat_tests))
+    let other : is_among xs j ≡ false = parts.1.1 j held in
+    let differs : j ≢ k = among_apart ys j k held out_ys in
+    let turned : k ≢ j = λ e. differs (sym e) in
+    let inner : is_among (xs ++ k ∷ []) j ≡ (is_among xs j || is_among (k ∷ []) j) = is_among_append xs (k ∷ []) j in
+    grind (arith, nat_tests))
 
 status_worked : (past : List Entry) (phase : Phase) (batch completed : List ℕ) (made : ℕ → ℕ) (k : ℕ) → started past 0 ≡ true → IsOpen past 0 k → is_among (completed ++ batch) k ≡ false → 0 < made k → IsFull (made k) (asked past 0 k)
     → Worked past phase batch completed made → Worked past phase batch (completed ++ k ∷ []) (with_at made k (made k + 1))
@@ -449,8 +468,8 @@ status_worked past phase batch completed made k run is_open left some whole w = 
     | inr old ↦ subst (λ (c : ℕ). IsFull c (asked past 0 j)) (sym (at_other made k (made k + 1) j (among_apart (completed ++ batch) j k old left))) (w.full j old)
   ];
   pending = λ j is_open_j out.
-  let parts = not_more completed batch k j out in
-  subst (λ (c : ℕ). IsPending c (asked past 0 j)) (sym (at_other made k (made k + 1) j parts.0)) (w.pending j is_open_j parts.1);
+      let parts = not_more completed batch k j out in
+      subst (λ (c : ℕ). IsPending c (asked past 0 j)) (sym (at_other made k (made k + 1) j parts.0)) (w.pending j is_open_j parts.1);
   quiet = λ stopped. absurd (let fails : true ≡ false = sym run ∙ stopped in cc);
   phase_is = w.phase_is;
 }

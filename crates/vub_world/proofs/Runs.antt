@@ -113,9 +113,10 @@ run_from h m (e ∷ es) (r ∷ rs) plain good fits run =
     let next : Moment = run.1.0 in
     let right : Right h m r.items next = event_right h m e r.items next plain good fits.0 run.1.1 in
     let rest = run_from h next es rs plain right.good fits.1 run.1.2 in
-    let past : next.scene.past ≡ after m.scene.past (entries_of r.items) = ap (λ (s : Scene). s.past) right.scene ∙ past_after h.size r.items m.scene in
-    (legal-append h.capacity h.mode m.scene.past (entries_of r.items) (history_of rs) right.legal (subst (λ (p : List Entry). LegalFrom h.capacity h.mode p (history_of rs)) past rest.0),
-      (right.each, subst (λ (s : Scene). TracksFrom h s rs) right.scene rest.1))
+    let past : next.scene.past ≡ after m.scene.past (entries_of r.items) = ap (λ (s : Scene). s.past) right.scene ∙ past_after h.size r.items m.scene in (
+      legal-append h.capacity h.mode m.scene.past (entries_of r.items) (history_of rs) right.legal (subst (λ (p : List Entry). LegalFrom h.capacity h.mode p (history_of rs)) past rest.0),
+      (right.each, subst (λ (s : Scene). TracksFrom h s rs) right.scene rest.1),
+    )
 
 -- every run of a schedule of the grammar is a legal history of its disk, and memory and history agree after each item,
 -- a store and the entry that it makes taken together

@@ -12,19 +12,12 @@ use Rattle.vub_world.specs.declared.report.items.Item.{Item}
 use Rattle.vub_world.specs.declared.report.items.Record.{Record}
 use Rattle.vub_world.specs.Memory.{Scene}
 use Rattle.vub_world.specs.Moments.{Moment, opening}
-use Rattle.vub_world.specs.Run.{Plays, RunFrom}
+use Rattle.vub_world.specs.Run.{Plays, RunFrom, RunTo, Stands}
 use Rattle.vub_world.specs.Tracking.{TracksFrom, entries_of, history_of}
 use Rattle.vub_world.proofs.RunTurns.{IsPlain, Good}
 use Rattle.vub_world.proofs.RunEvents.{Right, event_right, past_after}
 use Rattle.vub_world.proofs.Runs.{opening_good, plain_header, run_from}
 use Rattle.vub_world.proofs.RunDrains.{drained}
-
--- the records are a run of these events from one moment to another
-abbrev pub RunTo : Header1 → Moment → List Event → List Record → Moment → Type 0
-RunTo h m [] [] n = n ≡ m
-RunTo h m [] (r ∷ rs) n = ⊥
-RunTo h m (e ∷ es) [] n = ⊥
-RunTo h m (e ∷ es) (r ∷ rs) n = (r.event ≡ e) × ((next : Moment) × Plays h m e r.items next × RunTo h next es rs n)
 
 pub run_of : (h : Header1) (m : Moment) (es : List Event) (rs : List Record) (n : Moment) → RunTo h m es rs n → RunFrom h m es rs
 run_of h m [] [] n run = tt
@@ -62,12 +55,6 @@ run_past h m (e ∷ es) (r ∷ rs) n plain good fits run =
     let rest : n.scene.past ≡ after run.1.0.scene.past (history_of rs) = run_past h run.1.0 es rs n plain right.good fits.1 run.1.2 in
     let past : run.1.0.scene.past ≡ after m.scene.past (entries_of r.items) = ap (λ (s : Scene). s.past) right.scene ∙ past_after h.size r.items m.scene in
     rest ∙ ap (λ (p : List Entry). after p (history_of rs)) past ∙ sym (after-append m.scene.past (entries_of r.items) (history_of rs))
-
--- a run from the opening, with all that holds at its end
-pub record Stands (h : Header1) (es : List Event) (rs : List Record) (n : Moment) : Type 0 where
-  pub header : IsHeader h
-  pub events : AllByRecursion (IsEvent h) es
-  pub run : RunTo h (opening h) es rs n
 
 pub stands_none : (h : Header1) → IsHeader h → Stands h [] [] (opening h)
 stands_none h is = record { header = is; events = tt; run = refl }

@@ -1,6 +1,5 @@
 -- The chain of a request in the descriptor table, and what it means (VIRTIO 1.2, 2.7.5 and 5.2.6).
-use Rattle.std.specs.Prelude.{◌≡◌, ◌<◌, ◌≤◌, ℕ, zero, suc, ◌+◌, ◌*◌, ◌/◌, ◌%◌, Bool, true, false, List, [], ◌∷◌, length, unwrap_or, Option, Some, None, option_map, Result, Ok, Err, ⊤, flat_map}
-use Rattle.vub_base.specs.declared.store.Space.{Space}
+use Rattle.std.specs.Prelude.{◌≡◌, ◌<◌, ◌≤◌, ℕ, ◌+◌, ◌*◌, Bool, true, false, List, [], length, unwrap_or, Option, Some, None, option_map, Result, Ok, Err, ⊤, flat_map}
 use Rattle.vub_shared.specs.Bytes.{Bytes, word, bytes_from}
 use Rattle.vub_driver.specs.Layout.{status_place, parts_place, sectors_place}
 use Rattle.vub_driver.specs.Requests.{Piece, readable_piece, writable_piece, write_flag, part_bytes}
@@ -114,3 +113,8 @@ abbrev pub Reads : {T : Type 0} → Result T Unread → T → Type 0
 Reads (Ok x) y = x ≡ y
 Reads (Err unread.Failed) y = ⊤
 Reads (Err (unread.Broken fault)) y = ⊥
+
+-- whether the memory failed in a read
+abbrev pub read_outcome : {T : Type 0} → Result T Unread → Result (Unit {0}) (Unit {0})
+read_outcome (Err unread.Failed) = Err tt
+read_outcome r = Ok tt

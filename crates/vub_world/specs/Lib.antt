@@ -9,6 +9,8 @@ pub mod Machine
 pub mod Memory
 pub mod Moments
 pub mod Queue
+pub mod QueueParts
+pub mod QueueState
 pub mod RecordText
 pub mod Run
 pub mod Split

@@ -16,6 +16,8 @@ use Rattle.vub_device.specs.declared.entry.Asked.{Asked}
 use Rattle.vub_device.specs.declared.entry.Asked.TheVariants as requests
 use Rattle.vub_device.specs.declared.entry.Entry.TheVariants as entries
 use Rattle.vub_device.specs.Past.{accepted, published, collected}
+use Rattle.std.specs.List.{AllByRecursion}
+use Rattle.vub_schedule.specs.Spelling.{IsHeader, IsEvent}
 use Rattle.vub_schedule.specs.declared.types.Event.{Event}
 use Rattle.vub_schedule.specs.declared.types.Event.TheVariants as events
 use Rattle.vub_schedule.specs.declared.types.Schedule.{Schedule}
@@ -161,3 +163,16 @@ RunFrom h m (e ∷ es) (r ∷ rs) = (r.event ≡ e) × ((next : Moment) × Plays
 -- the records are a run of the schedule
 abbrev pub Run : Schedule → List Record → Type 0
 Run s records = RunFrom s.header (opening s.header) s.events records
+
+-- the records are a run of these events from one moment to another
+abbrev pub RunTo : Header1 → Moment → List Event → List Record → Moment → Type 0
+RunTo h m [] [] n = n ≡ m
+RunTo h m [] (r ∷ rs) n = ⊥
+RunTo h m (e ∷ es) [] n = ⊥
+RunTo h m (e ∷ es) (r ∷ rs) n = (r.event ≡ e) × ((next : Moment) × Plays h m e r.items next × RunTo h next es rs n)
+
+-- the events are of the grammar, and the records are a run of them from the opening to that moment
+pub record Stands (h : Header1) (es : List Event) (rs : List Record) (n : Moment) : Type 0 where
+  pub header : IsHeader h
+  pub events : AllByRecursion (IsEvent h) es
+  pub run : RunTo h (opening h) es rs n

@@ -1,5 +1,5 @@
 -- A request at work: which step its task makes next, and what that step leaves (VIRTIO 1.2, 5.2.6).
-use Rattle.std.specs.Prelude.{◌≡◌, ◌<◌, ℕ, ◌+◌, ◌*◌, ◌/◌, ◌%◌, Bool, false, not, ◌==◌, ◌&&◌, if◌then◌else◌, min, List, [], ◌∷◌, length, slice_get, Option, Some, None, ⊤}
+use Rattle.std.specs.Prelude.{◌≡◌, ◌<◌, ℕ, ◌+◌, ◌*◌, ◌/◌, ◌%◌, Bool, false, not, ◌==◌, ◌&&◌, if◌then◌else◌, min, List, [], ◌∷◌, length, slice_get, Option, Some, None, Result, Ok, Err, ⊤}
 use Rattle.vub_base.specs.declared.header.Header1.{Header1}
 use Rattle.vub_base.specs.declared.header.CacheMode.TheVariants.{Back}
 use Rattle.vub_base.specs.declared.store.Tag.TheVariants.{T2}
@@ -15,7 +15,6 @@ use Rattle.vub_world.specs.GuestChain.{Links}
 use Rattle.vub_world.specs.Tasks.{TaskStep, Look, Put, Act, Sync, Status, task_steps, status_of, used_len}
 use Rattle.vub_world.specs.ChainState.{MeansRequest, sector_of, data_start, data_len, span_at}
 use Rattle.vub_world.specs.declared.split.SplitRing.{SplitRing}
-use Rattle.vub_world.specs.declared.chain.Span.{Span}
 use Rattle.vub_world.specs.declared.chain.Sectors.{Sectors}
 use Rattle.vub_world.specs.declared.chain.Parts.{Parts}
 use Rattle.vub_world.specs.declared.task.Answer.{Answer}
@@ -66,6 +65,12 @@ IsBasic (asked.Write s bytes) = length bytes % 512 ≡ 0
 IsBasic asked.Flush = ⊤
 IsBasic request = ⊥
 
+-- such a request on a disk of so many sectors that is written back at flushes
+pub record IsServed (h : Header1) (sectors : ℕ) (request : Asked) : Type 0 where
+  pub basic : IsBasic request
+  pub capacity : h.capacity ≡ sectors
+  pub cached : h.mode ≡ Back
+
 -- ---- the parts of a request, as it is begun
 
 -- whether the device may write bytes of them
@@ -107,6 +112,15 @@ IfMade (Some answers.Faulted) P = ⊤
 IfMade (Some answers.Failed) P = ⊤
 IfMade (Some step) P = P step
 
+-- whether the memory failed in a step, and whether the disk did
+abbrev pub memory_outcome : Option made.TaskStep → Result (Unit {0}) (Unit {0})
+memory_outcome (Some answers.Failed) = Err tt
+memory_outcome o = Ok tt
+
+abbrev pub disk_outcome : Option made.TaskStep → Result (Unit {0}) (Unit {0})
+disk_outcome (Some answers.Faulted) = Err tt
+disk_outcome o = Ok tt
+
 -- how a step is answered
 abbrev pub answer_to : Header1 → Asked → TaskStep → made.TaskStep
 answer_to h request (Look place) = answers.Looked (sector_of request + place)
@@ -133,3 +147,42 @@ with_effect (Some x) v = with_value x.sector x.value v
 abbrev pub values_after : Asked → TaskStep → Values → Values
 values_after request (Act place) v = with_effect (effect_at request place) v
 values_after request step v = v
+
+-- ---- one step of a request
+
+-- a step that is made of a request, which so many were made of
+pub record Making : Type 0 where
+  pub header : Header1
+  pub links : Links
+  pub buffer : ℕ
+  pub request : Asked
+  pub made : ℕ
+  pub step : TaskStep
+
+-- memory m means its request, the disk serves it, and the step is next in the step table
+pub record IsNext (sectors : ℕ) (sizes : ℕ → ℕ) (r : SplitRing) (m : Bytes) (n : Making) : Type 0 where
+  pub means : MeansRequest sizes r m n.links n.buffer n.request
+  pub served : IsServed n.header sectors n.request
+  pub next : slice_get (task_steps n.header n.request) n.made ≡ Some n.step
+
+-- a task that makes it, and the task after it
+abbrev pub IsReady : SplitRing → Making → Task → Type 0
+IsReady r n task = (n.links.head ≡ task.head) × IsTaskAt n.header r n.buffer n.request n.made task
+
+abbrev pub HasMade : SplitRing → Making → Task → Type 0
+HasMade r n task = IsTaskAt n.header r n.buffer n.request (n.made + 1) task
+
+-- what makes it, where the request was begun
+abbrev pub work_of : SplitRing → Making → Work
+work_of r n = work_for n.header r n.buffer n.request n.step
+
+abbrev pub answer_in : Making → made.TaskStep
+answer_in n = answer_to n.header n.request n.step
+
+-- the told memory after it
+abbrev pub memory_after : SplitRing → Making → List ℕ → Bytes → Bytes
+memory_after r n sector m = after_maybe (store_of n.header r n.buffer n.request sector n.step) m
+
+-- a look leaves the value of its sector
+abbrev pub LooksAt : Making → Values → List ℕ → Type 0
+LooksAt n v sector = (place : ℕ) → n.step ≡ Look place → sector ≡ v (sector_of n.request + place)

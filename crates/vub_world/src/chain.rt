@@ -2,11 +2,13 @@
 ghost use Rattle.std.specs.Prelude.{◌≡◌, ◌<◌, ◌≤◌, ◌+◌, ◌*◌, ℕ, true, IfOk, Ok, Option, Some, None, option_map};
 ghost use Rattle.vub_base.specs.Causes.{HasCause};
 ghost use Rattle.vub_base.specs.Told.{WhereTold};
+ghost use Rattle.vub_base.specs.declared.ring_fault.RingFault.TheVariants as faults;
+ghost use Rattle.vub_world.specs.declared.chain.Unread.TheVariants as unread;
 ghost use Rattle.vub_world.specs.Split.{RingLies};
 ghost use Rattle.vub_driver.specs.Requests.{Piece};
 ghost use Rattle.vub_device.specs.declared.entry.Asked.{Asked};
 ghost use Rattle.vub_world.specs.GuestChain.{Links};
-ghost use Rattle.vub_world.specs.ChainState.{MeansRequest, Reads, desc_in, desc_of, parts_of, span_at};
+ghost use Rattle.vub_world.specs.ChainState.{MeansRequest, Reads, desc_in, desc_of, parts_of, read_outcome, span_at};
 
 use crate::split::SplitRing;
 use vub_base::{ChainFault, Failed, RingFault, Space, get_u16, get_u32, get_u64};
@@ -94,6 +96,7 @@ fn next_of<M: Shared>(ring: &SplitRing, mem: &mut M, desc: &Desc) -> Result<Opti
     ensures told { M.told mem.new ≡ M.told mem.old }
     ensures trail { M.trail mem.new ≡ M.trail mem.old }
     ensures sizes { (s : ℕ) → M.sizes mem.new s ≡ M.sizes mem.old s }
+    ensures cause { HasCause (M.faults mem.old) (M.faults mem.new) (read_outcome result) }
 {
     if desc.flags & NEXT == 0 {
         return Ok(None);
@@ -107,13 +110,16 @@ fn next_of<M: Shared>(ring: &SplitRing, mem: &mut M, desc: &Desc) -> Result<Opti
     }
 }
 
-fn broken(fault: ChainFault) -> Unread {
+fn broken(fault: ChainFault) -> Unread
+    ensures { result ≡ unread.Broken (faults.Chain fault) }
+{
     Unread::Broken(RingFault::Chain(fault))
 }
 
 /// The buffer of a descriptor, which lies in the space of the table.
 fn span_of<M: Shared>(ring: &SplitRing, mem: &M, desc: &Desc) -> Result<Span, Unread>
-    ensures { desc.now.addr + desc.now.len ≤ M.sizes mem.now ring.now.desc.0.number → result ≡ Ok (span_at ring.now desc.now.addr desc.now.len) }
+    ensures cause { read_outcome result ≡ Ok tt }
+    ensures span { desc.now.addr + desc.now.len ≤ M.sizes mem.now ring.now.desc.0.number → result ≡ Ok (span_at ring.now desc.now.addr desc.now.len) }
 {
     let span = Span {
         space: ring.desc.0,
@@ -139,6 +145,7 @@ fn tail_of<M: Shared>(
     ensures told { M.told mem.new ≡ M.told mem.old }
     ensures trail { M.trail mem.new ≡ M.trail mem.old }
     ensures sizes { (s : ℕ) → M.sizes mem.new s ≡ M.sizes mem.old s }
+    ensures cause { HasCause (M.faults mem.old) (M.faults mem.new) (read_outcome result) }
 {
     let Some(second) = next_of(ring, mem, first)? else {
         return Err(Unread::Broken(RingFault::NoStatus(head)));
@@ -158,6 +165,7 @@ pub fn read_chain<M: Shared>(ring: &SplitRing, mem: &mut M, head: u16) -> Result
     ensures told { M.told mem.new ≡ M.told mem.old }
     ensures trail { M.trail mem.new ≡ M.trail mem.old }
     ensures sizes { (s : ℕ) → M.sizes mem.new s ≡ M.sizes mem.old s }
+    ensures cause { HasCause (M.faults mem.old) (M.faults mem.new) (read_outcome result) }
 {
     let first = match descriptor_at(ring, mem, head) {
         Ok(first) => first,

@@ -1,10 +1,15 @@
 //! Laws of all runs.
-ghost use Rattle.std.specs.Prelude.{List};
+ghost use Rattle.std.specs.Prelude.{◌≡◌, ℕ, true, List, []};
+ghost use Rattle.vub_base.specs.declared.header.Header1.{Header1};
 ghost use Rattle.vub_device.specs.Legal.{Legal};
+ghost use Rattle.vub_device.specs.Past.{accepted, offers, open_numbers};
+ghost use Rattle.vub_schedule.specs.declared.types.Event.{Event};
 ghost use Rattle.vub_schedule.specs.declared.types.Schedule.{Schedule};
 ghost use Rattle.vub_schedule.specs.Spelling.{IsSchedule};
+ghost use Rattle.vub_world.specs.declared.report.items.Item.{Item};
 ghost use Rattle.vub_world.specs.declared.report.items.Record.{Record};
-ghost use Rattle.vub_world.specs.Run.{Run};
+ghost use Rattle.vub_world.specs.Moments.{Moment};
+ghost use Rattle.vub_world.specs.Run.{Run, Stands, Plays};
 ghost use Rattle.vub_world.specs.Tracking.{TracksAlways, history_of};
 
 /// The history of every run of a schedule is legal: the device answers each request at most once,
@@ -13,4 +18,17 @@ ghost use Rattle.vub_world.specs.Tracking.{TracksAlways, history_of};
 pub fn every_run_is_legal()
     ensures legal { (s : Schedule) (records : List Record) → IsSchedule s → Run s records → Legal s.header.capacity s.header.mode (history_of records) }
     ensures tracked { (s : Schedule) (records : List Record) → IsSchedule s → Run s records → TracksAlways s.header records }
+{}
+
+/// Every schedule of the grammar has a run, so that the law above says something of each.
+pub fn every_schedule_runs()
+    ensures { (s : Schedule) → IsSchedule s → (records : List Record) × Run s records }
+{}
+
+/// After a drain of an attached queue no request is open, and every offer is accepted.
+pub fn every_drain_ends()
+    ensures published { (h : Header1) (es : List Event) (rs : List Record) (m next : Moment) (items : List Item) → Stands h es rs m → (m.lanes 0).attached ≡ true
+        → Plays h m (Event.Drain 0) items next → open_numbers next.scene.past 0 ≡ [] }
+    ensures accepted { (h : Header1) (es : List Event) (rs : List Record) (m next : Moment) (items : List Item) → Stands h es rs m → (m.lanes 0).attached ≡ true
+        → Plays h m (Event.Drain 0) items next → accepted next.scene.past 0 ≡ offers next.scene.past 0 }
 {}

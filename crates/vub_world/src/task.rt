@@ -2,13 +2,14 @@
 //! (VIRTIO 1.2, 5.2.6).
 ghost use Rattle.std.specs.Prelude.{◌≡◌, ◌<◌, ◌≤◌, ◌+◌, ◌*◌, ◌/◌, ◌%◌, ◌^◌, ℕ, true, false, Option, Some, None, Ok, Err, option_map};
 ghost use Rattle.byteorder.specs.Endian.{little_bytes};
+ghost use Rattle.vub_base.specs.Causes.{HasCause};
 ghost use Rattle.vub_base.specs.Told.{WhereTold};
 ghost use Rattle.vub_base.specs.declared.store.Tag.TheVariants.{T2};
 ghost use Rattle.vub_shared.specs.Bytes.{bytes_from};
 ghost use Rattle.vub_shared.specs.Stores.{one_store, after_store};
 ghost use Rattle.vub_disk.specs.Values.{with_value};
 ghost use Rattle.vub_world.specs.Split.{RingLies};
-ghost use Rattle.vub_world.specs.TaskState.{IfMade, plain_len_of, plain_answer_of, whole_transfer};
+ghost use Rattle.vub_world.specs.TaskState.{IfMade, memory_outcome, disk_outcome, plain_len_of, plain_answer_of, whole_transfer};
 ghost use Rattle.vub_world.specs.declared.chain.Sectors.{Sectors};
 ghost use Rattle.vub_world.specs.declared.task.TaskStep.TheVariants as answers;
 ghost use Rattle.vub_world.specs.declared.task.Work.TheVariants as work;
@@ -203,10 +204,20 @@ fn failed(answer: Answer) -> Answer {
 }
 
 impl Task {
+    ghost use Rattle.std.specs.Prelude.{slice_get};
+    ghost use Rattle.vub_base.specs.declared.header.Header1.{Header1};
+    ghost use Rattle.vub_device.specs.declared.entry.Asked.{Asked};
+    ghost use Rattle.vub_world.specs.GuestChain.{Links};
+    ghost use Rattle.vub_world.specs.Tasks as Tasks;
+    ghost use Rattle.vub_world.specs.Tasks.{task_steps};
+    ghost use Rattle.vub_world.specs.ChainState.{MeansRequest, Reads, read_outcome};
+    ghost use Rattle.vub_world.specs.TaskState.{Making, IsNext, IsServed, IsReady, IsTaskAt, HasMade, LooksAt, answer_in, memory_after, values_after, work_for, work_of};
+    ghost use Rattle.vub_world.specs.declared.split.SplitRing.{SplitRing};
+
     /// A request that was accepted under this head.
     pub fn new(head: u16) -> Task
         ensures head { result.head ≡ head }
-        ensures fresh { result.work ≡ work.Begin }
+        ensures fresh { (h : Header1) (r : SplitRing) (buffer : ℕ) (request : Asked) → IsTaskAt h r buffer request 0 result }
     {
         Task {
             head,
@@ -224,9 +235,11 @@ impl Task {
     fn begin<M: Shared>(&self, ring: &SplitRing, mem: &mut M, capacity: u64) -> Result<Work, Unread>
         requires lies { RingLies (M.sizes mem.old) ring.now }
         requires fits { self.now.head < ring.now.size }
+        ensures begins { (h : Header1) (l : Links) (buffer : ℕ) (request : Asked) (step : Tasks.TaskStep) → WhereTold (M.told mem.old) (λ m. MeansRequest (M.sizes mem.old) ring.now m l buffer request → l.head ≡ self.now.head → IsServed h capacity request → slice_get (task_steps h request) 0 ≡ Some step → Reads result (work_for h ring.now buffer request step)) }
         ensures told { M.told mem.new ≡ M.told mem.old }
         ensures trail { M.trail mem.new ≡ M.trail mem.old }
         ensures sizes { (s : ℕ) → M.sizes mem.new s ≡ M.sizes mem.old s }
+        ensures cause { HasCause (M.faults mem.old) (M.faults mem.new) (read_outcome result) }
     {
         let parts = read_chain(ring, mem, self.head)?;
         let header = parts.header;
@@ -254,6 +267,8 @@ impl Task {
         ensures head { self.new.head ≡ self.old.head }
         ensures values { D.values disk.new ≡ D.values disk.old }
         ensures capacity { D.capacity disk.new ≡ D.capacity disk.old }
+        ensures disk_cause { HasCause (D.faults disk.old) (D.faults disk.new) (disk_outcome result) }
+        ensures no_memory { memory_outcome result ≡ Ok tt }
     {
         let number = transfer.sector.checked_add(transfer.done)?;
         if number >= disk.capacity() {
@@ -279,6 +294,8 @@ impl Task {
         ensures last { transfer.span.place + (512 * transfer.done + 512) ≤ M.sizes mem.old transfer.span.space.number → transfer.count ≤ transfer.done + 1 → IfMade result (λ step. self.new.work ≡ work.Reply transfer.answer) }
         ensures head { self.new.head ≡ self.old.head }
         ensures sizes { (s : ℕ) → M.sizes mem.new s ≡ M.sizes mem.old s }
+        ensures memory_cause { HasCause (M.faults mem.old) (M.faults mem.new) (memory_outcome result) }
+        ensures no_disk { disk_outcome result ≡ Ok tt }
     {
         let span = sector_span(&transfer)?;
         if span.len != 512 || !lies_in(mem, &span) {
@@ -310,6 +327,8 @@ impl Task {
         ensures told { M.told mem.new ≡ M.told mem.old }
         ensures sizes { (s : ℕ) → M.sizes mem.new s ≡ M.sizes mem.old s }
         ensures capacity { D.capacity disk.new ≡ D.capacity disk.old }
+        ensures memory_cause { HasCause (M.faults mem.old) (M.faults mem.new) (memory_outcome result) }
+        ensures disk_cause { HasCause (D.faults disk.old) (D.faults disk.new) (disk_outcome result) }
     {
         let span = sector_span(&transfer)?;
         let number = transfer.sector.checked_add(transfer.done)?;
@@ -337,6 +356,8 @@ impl Task {
         ensures values { D.values disk.new ≡ D.values disk.old }
         ensures head { self.new.head ≡ self.old.head }
         ensures capacity { D.capacity disk.new ≡ D.capacity disk.old }
+        ensures disk_cause { HasCause (D.faults disk.old) (D.faults disk.new) (disk_outcome (Some result)) }
+        ensures no_memory { memory_outcome (Some result) ≡ Ok tt }
     {
         if disk.flush().is_err() {
             self.work = Work::Reply(failed(answer));
@@ -350,6 +371,8 @@ impl Task {
         ensures answer { answer.span.len ≡ 1 → answer.span.place + 1 ≤ M.sizes mem.old answer.span.space.number → IfMade result (λ step. step ≡ answers.Done answer.status answer.len) }
         ensures stored { answer.span.len ≡ 1 → answer.span.place + 1 ≤ M.sizes mem.old answer.span.space.number → IfMade result (λ step. M.told mem.new ≡ option_map (after_store (one_store answer.span.space.number answer.span.place (little_bytes 1 answer.status))) (M.told mem.old)) }
         ensures sizes { (s : ℕ) → M.sizes mem.new s ≡ M.sizes mem.old s }
+        ensures memory_cause { HasCause (M.faults mem.old) (M.faults mem.new) (memory_outcome result) }
+        ensures no_disk { disk_outcome result ≡ Ok tt }
     {
         if answer.span.len == 0 || !lies_in(mem, &answer.span) {
             return None;
@@ -364,8 +387,32 @@ impl Task {
         })
     }
 
+    /// What is to be done next, which the chain and the header say at first.
+    fn prepare<M: Shared>(
+        &self,
+        ring: &SplitRing,
+        mem: &mut M,
+        capacity: u64,
+    ) -> Result<Work, Unread>
+        requires lies { RingLies (M.sizes mem.old) ring.now }
+        requires fits { self.now.head < ring.now.size }
+        ensures ready { (n : Making) → WhereTold (M.told mem.old) (λ m. IsNext capacity (M.sizes mem.old) ring.now m n → IsReady ring.now n self.now → Reads result (work_of ring.now n)) }
+        ensures told { M.told mem.new ≡ M.told mem.old }
+        ensures trail { M.trail mem.new ≡ M.trail mem.old }
+        ensures sizes { (s : ℕ) → M.sizes mem.new s ≡ M.sizes mem.old s }
+        ensures cause { HasCause (M.faults mem.old) (M.faults mem.new) (read_outcome result) }
+    {
+        match self.work {
+            Work::Begin => self.begin(ring, mem, capacity),
+            work => Ok(work),
+        }
+    }
+
     /// Makes the next step: a disk call or a store. The first one reads the chain and the header
     /// before. A sector on its way stands in `sector` between a look and its store.
+    ///
+    /// Where the memory is told and means the task's request, and neither it nor the disk fails,
+    /// this is the next step of the step table.
     pub fn step<M: Shared, D: Disk>(
         &mut self,
         ring: &SplitRing,
@@ -376,17 +423,24 @@ impl Task {
         requires lies { RingLies (M.sizes mem.old) ring.now }
         requires fits { self.old.head < ring.now.size }
         ensures head { self.new.head ≡ self.old.head }
+        ensures answer { (n : Making) → WhereTold (M.told mem.old) (λ m. IsNext (D.capacity disk.old) (M.sizes mem.old) ring.now m n → IsReady ring.now n self.old → IfMade (Some result) (λ step. step ≡ answer_in n)) }
+        ensures stored { (n : Making) → WhereTold (M.told mem.old) (λ m. IsNext (D.capacity disk.old) (M.sizes mem.old) ring.now m n → IsReady ring.now n self.old → IfMade (Some result) (λ step. M.told mem.new ≡ Some (memory_after ring.now n sector.old m))) }
+        ensures looked { (n : Making) → WhereTold (M.told mem.old) (λ m. IsNext (D.capacity disk.old) (M.sizes mem.old) ring.now m n → IsReady ring.now n self.old → IfMade (Some result) (λ step. WhereTold (D.values disk.old) (λ v. LooksAt n v sector.new))) }
+        ensures written { (n : Making) → WhereTold (M.told mem.old) (λ m. IsNext (D.capacity disk.old) (M.sizes mem.old) ring.now m n → IsReady ring.now n self.old → IfMade (Some result) (λ step. D.values disk.new ≡ option_map (values_after n.request n.step) (D.values disk.old))) }
+        ensures goes_on { (n : Making) → WhereTold (M.told mem.old) (λ m. IsNext (D.capacity disk.old) (M.sizes mem.old) ring.now m n → IsReady ring.now n self.old → IfMade (Some result) (λ step. HasMade ring.now n self.new)) }
         ensures sizes { (s : ℕ) → M.sizes mem.new s ≡ M.sizes mem.old s }
         ensures capacity { D.capacity disk.new ≡ D.capacity disk.old }
+        ensures memory_cause { HasCause (M.faults mem.old) (M.faults mem.new) (memory_outcome (Some result)) }
+        ensures disk_cause { HasCause (D.faults disk.old) (D.faults disk.new) (disk_outcome (Some result)) }
     {
-        if let Work::Begin = self.work {
-            match self.begin(ring, mem, disk.capacity()) {
-                Ok(work) => self.work = work,
-                Err(Unread::Failed) => return TaskStep::Failed,
-                Err(Unread::Broken(fault)) => return TaskStep::Broken(fault),
+        match self.prepare(ring, mem, disk.capacity()) {
+            Ok(work) => {
+                self.work = work;
+                self.go_on(mem, disk, sector)
             }
+            Err(Unread::Failed) => TaskStep::Failed,
+            Err(Unread::Broken(fault)) => TaskStep::Broken(fault),
         }
-        self.go_on(mem, disk, sector)
     }
 
     fn go_on<M: Shared, D: Disk>(
@@ -396,20 +450,48 @@ impl Task {
         sector: &mut [u8; 512],
     ) -> TaskStep
         ensures head { self.new.head ≡ self.old.head }
+        ensures answer { (r : SplitRing) (n : Making) → WhereTold (M.told mem.old) (λ m. IsNext (D.capacity disk.old) (M.sizes mem.old) r m n → self.old.work ≡ work_of r n → IfMade (Some result) (λ step. step ≡ answer_in n)) }
+        ensures stored { (r : SplitRing) (n : Making) → WhereTold (M.told mem.old) (λ m. IsNext (D.capacity disk.old) (M.sizes mem.old) r m n → self.old.work ≡ work_of r n → IfMade (Some result) (λ step. M.told mem.new ≡ Some (memory_after r n sector.old m))) }
+        ensures looked { (r : SplitRing) (n : Making) → WhereTold (M.told mem.old) (λ m. IsNext (D.capacity disk.old) (M.sizes mem.old) r m n → self.old.work ≡ work_of r n → IfMade (Some result) (λ step. WhereTold (D.values disk.old) (λ v. LooksAt n v sector.new))) }
+        ensures written { (r : SplitRing) (n : Making) → WhereTold (M.told mem.old) (λ m. IsNext (D.capacity disk.old) (M.sizes mem.old) r m n → self.old.work ≡ work_of r n → IfMade (Some result) (λ step. D.values disk.new ≡ option_map (values_after n.request n.step) (D.values disk.old))) }
+        ensures goes_on { (r : SplitRing) (n : Making) → WhereTold (M.told mem.old) (λ m. IsNext (D.capacity disk.old) (M.sizes mem.old) r m n → self.old.work ≡ work_of r n → IfMade (Some result) (λ step. HasMade r n self.new)) }
         ensures sizes { (s : ℕ) → M.sizes mem.new s ≡ M.sizes mem.old s }
         ensures capacity { D.capacity disk.new ≡ D.capacity disk.old }
+        ensures memory_cause { HasCause (M.faults mem.old) (M.faults mem.new) (memory_outcome (Some result)) }
+        ensures disk_cause { HasCause (D.faults disk.old) (D.faults disk.new) (disk_outcome (Some result)) }
     {
-        let made = match self.work {
+        match self.attempt(mem, disk, sector) {
+            Some(step) => step,
+            None => TaskStep::Broken(RingFault::Chain(ChainFault::Unmapped(0))),
+        }
+    }
+
+    /// Makes the next step of a request that was begun; `None` where its parts don't lie where they
+    /// should.
+    fn attempt<M: Shared, D: Disk>(
+        &mut self,
+        mem: &mut M,
+        disk: &mut D,
+        sector: &mut [u8; 512],
+    ) -> Option<TaskStep>
+        ensures head { self.new.head ≡ self.old.head }
+        ensures answer { (r : SplitRing) (n : Making) → WhereTold (M.told mem.old) (λ m. IsNext (D.capacity disk.old) (M.sizes mem.old) r m n → self.old.work ≡ work_of r n → IfMade result (λ step. step ≡ answer_in n)) }
+        ensures stored { (r : SplitRing) (n : Making) → WhereTold (M.told mem.old) (λ m. IsNext (D.capacity disk.old) (M.sizes mem.old) r m n → self.old.work ≡ work_of r n → IfMade result (λ step. M.told mem.new ≡ Some (memory_after r n sector.old m))) }
+        ensures looked { (r : SplitRing) (n : Making) → WhereTold (M.told mem.old) (λ m. IsNext (D.capacity disk.old) (M.sizes mem.old) r m n → self.old.work ≡ work_of r n → IfMade result (λ step. WhereTold (D.values disk.old) (λ v. LooksAt n v sector.new))) }
+        ensures written { (r : SplitRing) (n : Making) → WhereTold (M.told mem.old) (λ m. IsNext (D.capacity disk.old) (M.sizes mem.old) r m n → self.old.work ≡ work_of r n → IfMade result (λ step. D.values disk.new ≡ option_map (values_after n.request n.step) (D.values disk.old))) }
+        ensures goes_on { (r : SplitRing) (n : Making) → WhereTold (M.told mem.old) (λ m. IsNext (D.capacity disk.old) (M.sizes mem.old) r m n → self.old.work ≡ work_of r n → IfMade result (λ step. HasMade r n self.new)) }
+        ensures sizes { (s : ℕ) → M.sizes mem.new s ≡ M.sizes mem.old s }
+        ensures capacity { D.capacity disk.new ≡ D.capacity disk.old }
+        ensures memory_cause { HasCause (M.faults mem.old) (M.faults mem.new) (memory_outcome result) }
+        ensures disk_cause { HasCause (D.faults disk.old) (D.faults disk.new) (disk_outcome result) }
+    {
+        match self.work {
             Work::Begin => None,
             Work::Look(transfer) => self.look(transfer, disk, sector),
             Work::Store(transfer) => self.store(transfer, mem, sector),
             Work::Act(transfer) => self.act(transfer, mem, disk, sector),
             Work::Sync(answer) => Some(self.sync(answer, disk)),
             Work::Reply(answer) => self.reply(answer, mem),
-        };
-        match made {
-            Some(step) => step,
-            None => TaskStep::Broken(RingFault::Chain(ChainFault::Unmapped(0))),
         }
     }
 }

@@ -1,5 +1,82 @@
+use Rattle.std.proofs.Common.{ℕ, ◌≡◌, false, List, sym, ◌∙◌, subst}
+use Rattle.std.specs.Prelude.{Option}
+use Rattle.vub_shared.specs.Bytes.{Bytes}
+use Rattle.vub_shared.specs.Stores.{Store}
+use Rattle.vub_ring.specs.Readiness.{is_ready, any_turn, work_or_publish}
+use Rattle.vub_ring.specs.declared.readiness.Turn.{Turn}
+use Rattle.vub_ring.specs.declared.readiness.Turn.TheVariants as turns
+use Rattle.vub_world.specs.declared.queue.Stepped.{Stepped}
+use Rattle.vub_world.specs.declared.queue.Stepped.TheVariants as says
+use Rattle.vub_world.specs.QueueState.{QueueState, state_of, standing_at, waiting, Fetches, Does, DoesStore, DoesTrail, DoesFault}
 use Rattle.vub_world.proofs.SplitLemmas.{lies_still}
+use Rattle.vub_world.proofs.QueueLemmas.{idle_is, any_is, fault_later}
 use Rattle.vub_world.proofs.queue.Queue.fetch_or_go_on.Goals as goal
 
 pub go_on-requires : goal.go_on-requires
-go_on-requires g c = lies_still _ _ _ _ c.fetch.ensures.ring c.fetch.ensures.sizes c.requires
+go_on-requires g c = record { lies = lies_still _ _ _ _ c.fetch-stepped.ensures.ring c.fetch-stepped.ensures.sizes c.requires.lies }
+
+pub returns-clause-does : goal.returns-clause-does
+returns-clause-does g c m told =
+    let s : QueueState = state_of c.args.self.now in
+    let t : QueueState = state_of c.fetch-stepped.new.self in
+    let new : QueueState = state_of c.go_on.new.self in
+    let before : Option Bytes = g.M.Shared.told c.args.mem.now in
+    let idle : c.fetch-stepped.result ≡ says.Idle = idle_is c.fetch-stepped.result (sym c.is_idle.ensures ∙ c.if-not-is_idle.false) in
+    let fetched : Fetches before says.Idle s t = subst (λ (x : Stepped). Fetches before x s t) idle c.fetch-stepped.ensures.fetches in
+    let unready : is_ready (standing_at s (waiting s m)) turns.Fetch ≡ false = fetched.1 m told in
+    let next : any_turn s.ring.size (standing_at s (waiting s m)) ≡ work_or_publish s.ring.size (standing_at s (waiting s m)) = any_is s.ring.size (standing_at s (waiting s m)) c.requires.started c.requires.rests unready in
+    let went : Does (work_or_publish t.ring.size (standing_at t (waiting s m))) before c.go_on.result t new =
+    subst (λ (o : Option Bytes). Does (work_or_publish t.ring.size (standing_at t (waiting s m))) o c.go_on.result t new) c.fetch-stepped.ensures.told (c.go_on.ensures.does (waiting s m)) in
+    let same : Does (work_or_publish s.ring.size (standing_at s (waiting s m))) before c.go_on.result s new =
+    subst (λ (u : QueueState). Does (work_or_publish u.ring.size (standing_at u (waiting s m))) before c.go_on.result u new) fetched.0 went in
+    subst (λ (turn : Turn). Does turn before c.go_on.result s new) (sym next) same
+
+pub returns-clause-stores : goal.returns-clause-stores
+returns-clause-stores g c m told =
+    let s : QueueState = state_of c.args.self.now in
+    let t : QueueState = state_of c.fetch-stepped.new.self in
+    let w : ℕ = waiting s m in
+    let before : Option Bytes = g.M.Shared.told c.args.mem.now in
+    let idle : c.fetch-stepped.result ≡ says.Idle = idle_is c.fetch-stepped.result (sym c.is_idle.ensures ∙ c.if-not-is_idle.false) in
+    let fetched : Fetches before says.Idle s t = subst (λ (x : Stepped). Fetches before x s t) idle c.fetch-stepped.ensures.fetches in
+    let next : any_turn s.ring.size (standing_at s w) ≡ work_or_publish s.ring.size (standing_at s w) = any_is s.ring.size (standing_at s w) c.requires.started c.requires.rests (fetched.1 m told) in
+    let now : Option Bytes = g.M.Shared.told c.go_on.new.mem in
+    let went : DoesStore (work_or_publish t.ring.size (standing_at t w)) (g.M.Shared.told c.args.mem.now) now c.go_on.result t =
+    subst (λ (o : Option Bytes). DoesStore (work_or_publish t.ring.size (standing_at t w)) o now c.go_on.result t) c.fetch-stepped.ensures.told (c.go_on.ensures.stores w) in
+    let same : DoesStore (work_or_publish s.ring.size (standing_at s w)) (g.M.Shared.told c.args.mem.now) now c.go_on.result s =
+    subst (λ (u : QueueState). DoesStore (work_or_publish u.ring.size (standing_at u w)) (g.M.Shared.told c.args.mem.now) now c.go_on.result u) fetched.0 went in
+    subst (λ (turn : Turn). DoesStore turn (g.M.Shared.told c.args.mem.now) now c.go_on.result s) (sym next) same
+
+pub returns-clause-trails : goal.returns-clause-trails
+returns-clause-trails g c m told =
+    let s : QueueState = state_of c.args.self.now in
+    let t : QueueState = state_of c.fetch-stepped.new.self in
+    let w : ℕ = waiting s m in
+    let before : Option Bytes = g.M.Shared.told c.args.mem.now in
+    let idle : c.fetch-stepped.result ≡ says.Idle = idle_is c.fetch-stepped.result (sym c.is_idle.ensures ∙ c.if-not-is_idle.false) in
+    let fetched : Fetches before says.Idle s t = subst (λ (x : Stepped). Fetches before x s t) idle c.fetch-stepped.ensures.fetches in
+    let next : any_turn s.ring.size (standing_at s w) ≡ work_or_publish s.ring.size (standing_at s w) = any_is s.ring.size (standing_at s w) c.requires.started c.requires.rests (fetched.1 m told) in
+    let now : Option (List Store) = g.M.Shared.trail c.go_on.new.mem in
+    let went : DoesTrail (work_or_publish t.ring.size (standing_at t w)) (g.M.Shared.trail c.args.mem.now) now c.go_on.result t =
+    subst (λ (o : Option (List Store)). DoesTrail (work_or_publish t.ring.size (standing_at t w)) o now c.go_on.result t) c.fetch-stepped.ensures.trail (c.go_on.ensures.trails w) in
+    let same : DoesTrail (work_or_publish s.ring.size (standing_at s w)) (g.M.Shared.trail c.args.mem.now) now c.go_on.result s =
+    subst (λ (u : QueueState). DoesTrail (work_or_publish u.ring.size (standing_at u w)) (g.M.Shared.trail c.args.mem.now) now c.go_on.result u) fetched.0 went in
+    subst (λ (turn : Turn). DoesTrail turn (g.M.Shared.trail c.args.mem.now) now c.go_on.result s) (sym next) same
+
+pub returns-clause-cause : goal.returns-clause-cause
+returns-clause-cause g c m told =
+    let s : QueueState = state_of c.args.self.now in
+    let t : QueueState = state_of c.fetch-stepped.new.self in
+    let w : ℕ = waiting s m in
+    let before : Option Bytes = g.M.Shared.told c.args.mem.now in
+    let idle : c.fetch-stepped.result ≡ says.Idle = idle_is c.fetch-stepped.result (sym c.is_idle.ensures ∙ c.if-not-is_idle.false) in
+    let fetched : Fetches before says.Idle s t = subst (λ (x : Stepped). Fetches before x s t) idle c.fetch-stepped.ensures.fetches in
+    let next : any_turn s.ring.size (standing_at s w) ≡ work_or_publish s.ring.size (standing_at s w) = any_is s.ring.size (standing_at s w) c.requires.started c.requires.rests (fetched.1 m told) in
+    let first : ℕ = g.M.Shared.faults c.args.mem.now in
+    let mid : ℕ = g.M.Shared.faults c.fetch-stepped.new.mem in
+    let now : ℕ = g.M.Shared.faults c.go_on.new.mem in
+    let went : DoesFault (work_or_publish t.ring.size (standing_at t w)) first now c.go_on.result =
+    fault_later (work_or_publish t.ring.size (standing_at t w)) first mid now c.go_on.result c.fetch-stepped.ensures.cause.later (c.go_on.ensures.cause w) in
+    let same : DoesFault (work_or_publish s.ring.size (standing_at s w)) first now c.go_on.result =
+    subst (λ (u : QueueState). DoesFault (work_or_publish u.ring.size (standing_at u w)) first now c.go_on.result) fetched.0 went in
+    subst (λ (turn : Turn). DoesFault turn first now c.go_on.result) (sym next) same

@@ -1,4 +1,4 @@
-use Rattle.std.proofs.Common.{◌≡◌, ◌<◌, ◌+◌, ◌*◌, ◌^◌, ℕ, length, arith, rules, sym, ◌∙◌}
+use Rattle.std.proofs.Common.{◌≡◌, ◌<◌, ◌+◌, ◌*◌, ◌^◌, length, arith, rules, sym, ◌∙◌}
 use Rattle.vub_world.proofs.TaskLemmas.{act_written}
 use Rattle.vub_world.proofs.task.Task.act.Goals as goal
 

@@ -1,0 +1,279 @@
+-- The state of the device's side of one queue, and what its own steps make of it.
+use Rattle.std.specs.Prelude.{◌≡◌, ◌<◌, ◌≤◌, ℕ, ◌+◌, ◌%◌, Bool, true, false, not, if◌then◌else◌, List, [], ◌∷◌, ◌++◌, length, map, take, drop, set, replicate, remove, Option, Some, None, Result, Ok, Err, ⊤}
+use Rattle.vub_base.specs.declared.ring_fault.RingFault.{RingFault}
+use Rattle.vub_base.specs.declared.ring_fault.RingFault.TheVariants as faults
+use Rattle.vub_base.specs.declared.store.Tag.TheVariants.{SP5}
+use Rattle.vub_base.specs.Told.{WhereTold}
+use Rattle.vub_base.specs.Causes.{HasCause}
+use Rattle.vub_shared.specs.Bytes.{Bytes}
+use Rattle.vub_shared.specs.Stores.{Store, Stores, Trails}
+use Rattle.vub_ring.specs.declared.steps.Phase.{Phase}
+use Rattle.vub_ring.specs.declared.steps.Phase.TheVariants as phases
+use Rattle.vub_ring.specs.declared.steps.Step.{Step}
+use Rattle.vub_ring.specs.declared.readiness.Standing.{Standing}
+use Rattle.vub_ring.specs.declared.readiness.Turn.{Turn}
+use Rattle.vub_ring.specs.declared.readiness.Turn.TheVariants.{Start, Fetch, Work, Publish}
+use Rattle.vub_ring.specs.Ring.{Ring, ahead}
+use Rattle.vub_ring.specs.Rows.{Row, row_of}
+use Rattle.vub_ring.specs.Steps.{next_step, after_step}
+use Rattle.vub_ring.specs.Readiness.{is_ready, is_publication, any_turn}
+use Rattle.vub_world.specs.declared.split.SplitRing.{SplitRing}
+use Rattle.vub_world.specs.Split.{avail_idx_word, head_word}
+use Rattle.vub_world.specs.declared.task.Task.{Task}
+use Rattle.vub_world.specs.QueueParts.{element, is_taken, without_heads}
+use Rattle.vub_world.specs.declared.queue.Stop.{Stop}
+use Rattle.vub_world.specs.declared.queue.Stop.TheVariants as stops
+use Rattle.vub_world.specs.declared.queue.Stepped.{Stepped}
+use Rattle.vub_world.specs.declared.queue.Stepped.TheVariants as says
+use Rattle.vub_world.specs.declared.queue.Turn as asked
+use Rattle.vub_world.specs.declared.queue.Turn.TheVariants as asks
+use Rattle.vub_world.specs.declared.queue.Queue.{Queue}
+
+pub record QueueState : Type 0 where
+  pub ring : SplitRing
+  pub started : Bool
+  pub stopped : Option Stop
+  -- the index of the avail entry that is fetched next
+  pub avail : ℕ
+  -- used.idx as it stands in the ring
+  pub used : ℕ
+  -- the heads of the requests that aren't completed, in the order in which they were accepted
+  pub unfinished : List ℕ
+  -- head and used length of those that are completed and in no batch, in the order in which they were completed
+  pub completed : List (ℕ × ℕ)
+  -- and of those that are being published
+  pub batch : List (ℕ × ℕ)
+  pub phase : Phase
+  -- whether each head is accepted and not published
+  pub taken : List Bool
+
+abbrev pub head_of : Task → ℕ
+head_of t = t.head
+
+abbrev pub state_of : Queue → QueueState
+state_of q = record {
+  ring = q.ring;
+  started = q.started;
+  stopped = q.stopped;
+  avail = q.avail;
+  used = q.used;
+  unfinished = map head_of q.unfinished.items;
+  completed = map element (drop q.batch q.completed.items);
+  batch = map element (take q.batch q.completed.items);
+  phase = q.phase;
+  taken = q.taken.items;
+}
+
+-- a queue that isn't started, whose rings begin at this index
+abbrev pub new_state : SplitRing → ℕ → QueueState
+new_state ring base = record {
+  ring = ring;
+  started = false;
+  stopped = None;
+  avail = base;
+  used = base;
+  unfinished = [];
+  completed = [];
+  batch = [];
+  phase = phases.Rest;
+  taken = replicate ring.size false;
+}
+
+-- how many requests wait in the avail ring
+abbrev pub waiting : QueueState → Bytes → ℕ
+waiting s m = ahead (avail_idx_word s.ring m) s.avail
+
+-- what its readiness depends on, where so many requests wait
+abbrev pub standing_at : QueueState → ℕ → Standing
+standing_at s waiting = record { started = s.started; phase = s.phase; waiting = waiting; unfinished = length s.unfinished; completed = length s.completed }
+
+-- ---- the start
+
+abbrev pub started_from : QueueState → Stepped
+started_from s = if s.started then says.Idle else says.Started
+
+-- ---- a fetch
+
+-- some requests wait, and no more than the ring has places
+pub record SomeWait (s : QueueState) (m : Bytes) : Type 0 where
+  pub some : 1 ≤ waiting s m
+  pub few : waiting s m ≤ s.ring.size
+
+-- the avail ring breaks this rule
+abbrev pub BreaksBy : QueueState → Bytes → RingFault → Type 0
+BreaksBy s m (faults.Jump ahead) = (ahead ≡ waiting s m) × (s.ring.size < ahead)
+BreaksBy s m (faults.BadHead head) = SomeWait s m × (head ≡ head_word s.ring m s.avail) × (s.ring.size ≤ head)
+BreaksBy s m (faults.Twice head) = SomeWait s m × (head ≡ head_word s.ring m s.avail) × (head < s.ring.size) × (is_taken s.taken head ≡ true)
+BreaksBy s m fault = ⊥
+
+-- something waits, and the avail ring breaks a rule
+abbrev pub Breaks : QueueState → Bytes → RingFault → Type 0
+Breaks s m fault = (1 ≤ waiting s m) × BreaksBy s m fault
+
+-- what stands at the avail index: no head, a head that is free, or a break of a rule
+abbrev pub Finds : QueueState → Bytes → Result (Option ℕ) Stop → Type 0
+Finds s m (Ok None) = waiting s m ≡ 0
+Finds s m (Ok (Some head)) = SomeWait s m × (head ≡ head_word s.ring m s.avail) × (head < s.ring.size) × (is_taken s.taken head ≡ false)
+Finds s m (Err (stops.Broken fault)) = Breaks s m fault
+Finds s m (Err stops.Shared) = ⊤
+
+-- a head that is found lies in the table and is free
+abbrev pub IsFree : QueueState → Result (Option ℕ) Stop → Type 0
+IsFree s (Ok (Some head)) = (head < s.ring.size) × (is_taken s.taken head ≡ false)
+IsFree s x = ⊤
+
+abbrev pub found_outcome : Result (Option ℕ) Stop → Result (Unit {0}) (Unit {0})
+found_outcome (Err stops.Shared) = Err tt
+found_outcome x = Ok tt
+
+-- the request of a head is accepted
+abbrev pub accepted : ℕ → QueueState → QueueState
+accepted head s = record s { unfinished = s.unfinished ++ head ∷ []; avail = (s.avail + 1) % 65536; taken = set s.taken head true }
+
+-- it isn't started, or publishes: no fetch is ready
+abbrev pub may_fetch : QueueState → Bool
+may_fetch s = if s.started then not (is_publication s.phase) else false
+
+-- what a fetch says, and the queue before and after it
+abbrev pub Fetches : Option Bytes → Stepped → QueueState → QueueState → Type 0
+Fetches told says.Idle s t = (t ≡ s) × WhereTold told (λ m. is_ready (standing_at s (waiting s m)) Fetch ≡ false)
+Fetches told (says.Accepted head) s t = (t ≡ accepted head s) × (may_fetch s ≡ true) × WhereTold told (λ m. Finds s m (Ok (Some head)))
+Fetches told (says.Broken fault) s t = (t ≡ s) × (may_fetch s ≡ true) × WhereTold told (λ m. Breaks s m fault)
+Fetches told says.SharedFault s t = (t ≡ s) × (may_fetch s ≡ true)
+Fetches told x s t = ⊥
+
+-- ---- a publication
+
+-- the ring as it lies in the space of its used part
+abbrev pub used_side : SplitRing → Ring
+used_side r = record { space = r.used.0.number; desc = r.desc.1; avail = r.avail.1; used = r.used.1; size = r.size }
+
+-- a batch of the first completed requests, at most so many
+abbrev pub begun : ℕ → QueueState → QueueState
+begun most s = record s { batch = take most s.completed; completed = drop most s.completed; phase = phases.Publish 0 }
+
+-- the publication that a turn goes on with
+abbrev pub under_way : ℕ → QueueState → QueueState
+under_way most s = if is_publication s.phase then s else begun most s
+
+abbrev pub row_at : QueueState → Option Step → Option Row
+row_at s None = None
+row_at s (Some step) = row_of (used_side s.ring) s.used s.batch step
+
+-- the row of the next step of the publication
+abbrev pub next_row : QueueState → Option Row
+next_row s = row_at s (next_step (length s.batch) s.phase)
+
+-- after the last step the batch is shown, and its heads are free
+abbrev pub with_phase : Phase → QueueState → QueueState
+with_phase phases.Rest s = record s { phase = phases.Rest; used = (s.used + length s.batch) % 65536; batch = []; taken = without_heads s.batch s.taken }
+with_phase p s = record s { phase = p }
+
+-- the queue after the next step of its publication
+abbrev pub moved : QueueState → QueueState
+moved s = with_phase (after_step (length s.batch) s.phase) s
+
+-- what a step with this row says, and the queue before and after it
+abbrev pub Moves : Stepped → Option Row → QueueState → QueueState → Type 0
+Moves (says.Stored tag) (Some x) s t = (tag ≡ x.tag) × (t ≡ moved s) × (is_publication t.phase ≡ true)
+Moves says.Published (Some x) s t = (SP5 ≡ x.tag) × (t ≡ moved s) × (t.phase ≡ phases.Rest)
+Moves says.SharedFault (Some x) s t = t ≡ s
+Moves x y s t = ⊥
+
+abbrev pub outcome : Stepped → Result (Unit {0}) (Unit {0})
+outcome says.SharedFault = Err tt
+outcome x = Ok tt
+
+-- the told bytes, and the told list of stores, before and after a step with this row
+abbrev pub StoresRow : Option Bytes → Option Bytes → Stepped → Option Row → Type 0
+StoresRow before after x None = after ≡ before
+StoresRow before after x (Some y) = Stores before after (outcome x) y.store
+
+abbrev pub TrailsRow : Option (List Store) → Option (List Store) → Stepped → Option Row → Type 0
+TrailsRow before after x None = after ≡ before
+TrailsRow before after x (Some y) = Trails before after (outcome x) y.store
+
+-- whether a publication of at most so many makes a step
+abbrev pub publishes : ℕ → QueueState → Bool
+publishes most s = is_ready (standing_at s 0) (Publish most)
+
+abbrev pub row_if : Bool → QueueState → Option Row
+row_if ready s = if ready then next_row s else None
+
+-- the row of a publication's step; none where none is ready
+abbrev pub publish_row : ℕ → QueueState → Option Row
+publish_row most s = row_if (publishes most s) (under_way most s)
+
+-- a publication: nothing where none is ready
+abbrev pub Publishes : Bool → Stepped → QueueState → QueueState → QueueState → Type 0
+Publishes false x s u t = (x ≡ says.Idle) × (t ≡ s)
+Publishes true x s u t = Moves x (next_row u) u t
+
+-- ---- work
+
+-- a step of the request in this place changes nothing here, but the one that stores its status moves it to the completed
+-- ones with its used length
+abbrev pub Works : ℕ → Stepped → QueueState → QueueState → Type 0
+Works place (says.Completed head) s t = (len : ℕ) × (t ≡ record s { unfinished = remove s.unfinished place; completed = s.completed ++ (head, len) ∷ [] })
+Works place x s t = t ≡ s
+
+-- ---- turns
+
+abbrev pub is_idle : Stepped → Bool
+is_idle says.Idle = true
+is_idle x = false
+
+abbrev pub is_fault : Stepped → Bool
+is_fault says.SharedFault = true
+is_fault x = false
+
+-- where a test fails
+abbrev pub Unless : Bool → Type 0 → Type 0
+Unless true P = ⊤
+Unless false P = P
+
+-- what a turn of the step table does of the queue
+abbrev pub DoesOf : Turn → Option Bytes → Stepped → QueueState → QueueState → Type 0
+DoesOf Start told x s t = (x ≡ started_from s) × (t ≡ record s { started = true })
+DoesOf Fetch told x s t = Fetches told x s t
+DoesOf (Work place) told x s t = Works place x s t
+DoesOf (Publish most) told x s t = Publishes (publishes most s) x s (under_way most s) t
+
+-- the same, unless the shared memory failed, which stops the queue
+abbrev pub Does : Turn → Option Bytes → Stepped → QueueState → QueueState → Type 0
+Does turn told x s t = Unless (is_fault x) (DoesOf turn told x s t)
+
+-- the told bytes before and after it: only a publication stores, beside work on a request
+abbrev pub DoesStore : Turn → Option Bytes → Option Bytes → Stepped → QueueState → Type 0
+DoesStore (Work place) before after x s = ⊤
+DoesStore (Publish most) before after x s = StoresRow before after x (publish_row most s)
+DoesStore turn before after x s = after ≡ before
+
+-- the told list of stores before and after it
+abbrev pub DoesTrail : Turn → Option (List Store) → Option (List Store) → Stepped → QueueState → Type 0
+DoesTrail (Work place) before after x s = ⊤
+DoesTrail (Publish most) before after x s = TrailsRow before after x (publish_row most s)
+DoesTrail turn before after x s = after ≡ before
+
+-- the count of faults before and after it
+abbrev pub DoesFault : Turn → ℕ → ℕ → Stepped → Type 0
+DoesFault (Work place) before after x = ⊤
+DoesFault turn before after x = HasCause before after (outcome x)
+
+-- the turn of the step table that this one is at a standing
+abbrev pub turn_at : ℕ → Standing → asked.Turn → Turn
+turn_at size standing asks.Start = Start
+turn_at size standing asks.Fetch = Fetch
+turn_at size standing (asks.Work place) = Work place
+turn_at size standing (asks.Publish most) = Publish most
+turn_at size standing asks.Any = any_turn size standing
+
+-- a fault of the ring or of the shared memory stops the queue
+abbrev pub halted : Stepped → QueueState → QueueState
+halted (says.Broken fault) s = record s { stopped = Some (stops.Broken fault) }
+halted says.SharedFault s = record s { stopped = Some stops.Shared }
+halted x s = s
+
+-- what a turn does of a queue that isn't stopped
+abbrev pub Turns : Turn → Option Bytes → Stepped → QueueState → QueueState → Type 0
+Turns turn told x s t = (u : QueueState) × (t ≡ halted x u) × Does turn told x s u
