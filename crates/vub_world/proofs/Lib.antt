@@ -35,4 +35,6 @@ pub mod RunChainsStores
 pub mod RunChainsTurns
 pub mod RunChainsOffers
 pub mod RunChainsGuests
+pub mod RunChainsEvents
+pub mod RunChainsMeaning
 pub mod TaskLemmas

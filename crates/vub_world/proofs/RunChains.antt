@@ -1,18 +1,14 @@
 -- The chain of a request in memory: what stores leave of it, and how the driver's stores make it.
-use Rattle.std.proofs.Common.{◌≡◌, ◌≢◌, ◌≤◌, ◌<◌, ◌⊎◌, ℕ, zero, suc, ◌+◌, ◌*◌, ◌%◌, ◌^◌, true, false, List, [], ◌∷◌, ◌++◌, length, refl, ap, sym, ◌∙◌, subst, inl, inr, arith}
-use Rattle.std.specs.Prelude.{Option, Some, None, unwrap_or}
-use Rattle.std.specs.List.{AllByRecursion}
+use Rattle.std.proofs.Common.{◌≡◌, ◌≤◌, ◌<◌, ◌⊎◌, ℕ, zero, suc, ◌+◌, ◌*◌, ◌^◌, List, [], ◌∷◌, ◌++◌, length, refl, ap, sym, ◌∙◌, inl, inr, arith}
+use Rattle.std.specs.Prelude.{Some, None}
 use Rattle.byteorder.specs.Endian.{little_from, little_bytes}
 use Rattle.byteorder.specs.Numbers.{little_from-cons, little_number-reads_back}
-use Rattle.std.proofs.lemmas.Bool.{cases_lt}
 use Rattle.std.proofs.lemmas.List.{append-nil, append_assoc, length-append}
 use Rattle.vub_shared.specs.Bytes.{Bytes, put, word, bytes_from}
-use Rattle.vub_shared.specs.Stores.{Store, one_store}
-use Rattle.vub_shared.proofs.BytesLemmas.{word-put_inside, bytes_from-put_other, bytes_from-put_same}
-use Rattle.vub_driver.specs.Layout.{area_place, buffer_place, status_place, sectors_place}
+use Rattle.vub_shared.proofs.BytesLemmas.{word-put_inside, bytes_from-put_other}
+use Rattle.vub_driver.specs.Layout.{area_place, buffer_place, status_place}
 use Rattle.vub_driver.specs.Requests.{Piece, readable_piece, writable_piece, write_flag, descriptor_bytes}
 use Rattle.vub_device.specs.declared.entry.Asked.{Asked}
-use Rattle.vub_device.specs.declared.entry.Asked.TheVariants as asks
 use Rattle.vub_world.specs.declared.chain.Desc.{Desc}
 use Rattle.vub_world.specs.ChainState.{type_of, sector_of, handed_bytes, data_start, data_of, desc_of}
 use Rattle.vub_world.proofs.RunFrames.{keeps, length_little}

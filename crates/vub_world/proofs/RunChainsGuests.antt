@@ -12,18 +12,18 @@ use Rattle.vub_shared.specs.Bytes.{Bytes, put, word}
 use Rattle.vub_shared.specs.Stores.{Store, one_store}
 use Rattle.vub_shared.proofs.BytesLemmas.{word-put_same}
 use Rattle.vub_ring.specs.Ring.{avail_idx, avail_entry_place, avail_idx_place, last_head}
-use Rattle.vub_driver.specs.Layout.{status_place, sectors_place, area_place}
+use Rattle.vub_driver.specs.Layout.{status_place, sectors_place}
 use Rattle.vub_driver.specs.Drivers.{Driver, Waiting}
-use Rattle.vub_driver.specs.Requests.{Piece, readable_piece, writable_piece, header_bytes, written_bytes, descriptor_bytes, request_type, first_sector}
+use Rattle.vub_driver.specs.Requests.{Piece, readable_piece, writable_piece, written_bytes, descriptor_bytes}
 use Rattle.vub_driver.specs.Stores.{store_of_some, offer_stores, request_stores}
 use Rattle.vub_device.specs.declared.entry.Asked.{Asked}
 use Rattle.vub_device.specs.declared.entry.Entry.{Entry}
 use Rattle.vub_device.specs.declared.entry.Entry.TheVariants as entries
-use Rattle.vub_device.specs.Past.{asked, offers}
+use Rattle.vub_device.specs.Past.{asked}
 use Rattle.vub_world.specs.declared.report.items.Item.TheVariants as items
 use Rattle.vub_world.specs.Memory.{Scene, with_at, after_item, after_items}
 use Rattle.vub_world.specs.Run.{request_of, guest_items}
-use Rattle.vub_world.specs.ChainState.{data_start, handed_bytes, data_of}
+use Rattle.vub_world.specs.ChainState.{data_of}
 use Rattle.vub_world.proofs.RunGood.{the_ring, IsSize, IsSimple, IsOut, IsPlan, IsWaiting, Known, Driven}
 use Rattle.vub_world.proofs.RunFrames.{keeps, length_little, entry_small}
 use Rattle.vub_world.proofs.RunGuests.{IsGood}

@@ -1,42 +1,27 @@
 -- An offer adds the chain of its request; asks and collections leave the others.
-use Rattle.std.proofs.Common.{◌≡◌, ◌≢◌, ◌≤◌, ◌<◌, ◌⊎◌, ℕ, zero, suc, ◌+◌, ◌*◌, ◌%◌, Bool, true, false, cond, List, [], ◌∷◌, ◌++◌, length, take, drop, refl, ap, sym, ◌∙◌, subst, inl, inr, arith}
+use Rattle.std.proofs.Common.{◌≡◌, ◌≢◌, ◌≤◌, ◌<◌, ℕ, zero, suc, ◌+◌, Bool, true, false, cond, List, [], ◌∷◌, ◌++◌, length, take, refl, ap, sym, ◌∙◌, subst, inl, inr, arith}
 use Rattle.std.specs.Prelude.{Option, Some, None, ⊤, slice_index, is_none, ◌||◌, ◌==◌}
-use Rattle.std.specs.List.{AllByRecursion}
-use Rattle.byteorder.specs.Endian.{little_bytes}
-use Rattle.std.proofs.lemmas.Bool.{cases_lt, cases_eq}
+use Rattle.std.proofs.lemmas.Bool.{cases_eq}
 use Rattle.std.proofs.lemmas.Bool.Decides.{nat_tests}
-use Rattle.std.proofs.lemmas.List.{length-take-le, length_push, take_more, length-append}
+use Rattle.std.proofs.lemmas.List.{length-take-le, take_more}
 use Rattle.vub_base.specs.declared.header.Header1.{Header1}
 use Rattle.vub_base.specs.declared.request.Ask.{Ask}
 use Rattle.vub_base.specs.declared.request.Ask.TheVariants as wants
 use Rattle.vub_base.specs.declared.request.Shape.TheVariants.{Direct}
-use Rattle.vub_shared.specs.Bytes.{Bytes, put, word}
-use Rattle.vub_shared.specs.Stores.{Store, one_store}
-use Rattle.vub_shared.proofs.BytesLemmas.{word-put_same}
-use Rattle.vub_ring.specs.Ring.{avail_idx, avail_entry_place, avail_idx_place, last_head}
-use Rattle.vub_driver.specs.Layout.{status_place, sectors_place, area_place}
+use Rattle.vub_shared.specs.Bytes.{Bytes}
 use Rattle.vub_driver.specs.Drivers.{Driver, Waiting, free_from, free_descriptors, can_take, chosen, first_or_zero, owned_by, waits_on, after_ask, is_that, without_owner}
-use Rattle.vub_driver.specs.Requests.{Piece, readable_piece, writable_piece, header_bytes, written_bytes, descriptor_bytes, descriptors_needed, request_type, first_sector}
-use Rattle.vub_driver.specs.Stores.{store_of_some, offer_stores, request_stores}
+use Rattle.vub_driver.specs.Requests.{descriptors_needed}
 use Rattle.vub_device.specs.declared.entry.Asked.{Asked}
-use Rattle.vub_device.specs.declared.entry.Entry.{Entry}
 use Rattle.vub_device.specs.declared.entry.Entry.TheVariants as entries
 use Rattle.vub_device.specs.Past.{asked, published, collected, is_among}
 use Rattle.vub_device.proofs.Numbers.{is_among_append}
-use Rattle.vub_world.specs.declared.report.items.Item.TheVariants as items
-use Rattle.vub_world.specs.Memory.{Scene, with_at, after_item, after_items}
+use Rattle.vub_world.specs.Memory.{Scene}
 use Rattle.vub_world.specs.Moments.{Lane}
-use Rattle.vub_world.specs.Run.{request_of, guest_items}
-use Rattle.vub_world.specs.ChainState.{data_start, handed_bytes}
+use Rattle.vub_world.specs.Run.{request_of}
 use Rattle.vub_world.proofs.RunNumbers.{among_at}
-use Rattle.vub_world.proofs.RunGood.{the_ring, IsSize, IsSimple, IsOut, IsPlan, IsWaiting, WaitsWell, Known, Driven, Holds}
-use Rattle.vub_world.proofs.RunFrames.{keeps, length_little, entry_small}
-use Rattle.vub_world.proofs.RunGuests.{IsGood, stored_at}
-use Rattle.vub_world.proofs.RunOffers.{same_head, new_head, same_asked, new_asked}
+use Rattle.vub_world.proofs.RunGood.{the_ring, IsSimple, IsOut, IsWaiting, WaitsWell, Driven}
 use Rattle.vub_world.proofs.RunCollects.{IsTaken, next_number, none_before}
-use Rattle.vub_world.proofs.RunChains.{table_place, buffer_at, HasChain, IsOff, Spares, chain_kept, desc_long}
-use Rattle.vub_world.proofs.RunChainsStores.{put_all, handed_fits, stores_make}
-use Rattle.vub_world.proofs.RunChainsTurns.{IsLinked, IsPrepared, PreparedWell, Chained, ring_spares, buffer_spares}
+use Rattle.vub_world.proofs.RunChainsTurns.{IsLinked, IsPrepared, PreparedWell, Chained}
 
 -- ---- the descriptors that an ask takes
 

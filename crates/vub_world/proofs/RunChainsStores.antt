@@ -1,27 +1,26 @@
 -- The driver's stores of a request make its chain, and leave those of other requests.
-use Rattle.std.proofs.Common.{◌≡◌, ◌≢◌, ◌≤◌, ◌<◌, ◌⊎◌, ℕ, zero, suc, ◌+◌, ◌*◌, ◌%◌, ◌^◌, true, false, List, [], ◌∷◌, ◌++◌, length, refl, ap, sym, ◌∙◌, subst, inl, inr, arith}
-use Rattle.std.specs.Prelude.{Option, Some, None}
+use Rattle.std.proofs.Common.{◌≡◌, ◌≢◌, ◌≤◌, ◌<◌, ℕ, ◌+◌, ◌%◌, ◌^◌, List, [], ◌∷◌, ◌++◌, length, refl, ap, sym, ◌∙◌, subst, inl, inr, arith}
+use Rattle.std.specs.Prelude.{Some, None}
 use Rattle.std.specs.List.{AllByRecursion}
 use Rattle.byteorder.specs.Endian.{little_bytes}
 use Rattle.std.proofs.lemmas.Bool.{cases_lt}
 use Rattle.std.proofs.lemmas.List.{append-nil, append_assoc, length-append}
 use Rattle.vub_base.specs.declared.request.Ask.{Ask}
 use Rattle.vub_base.specs.declared.request.Ask.TheVariants as wants
-use Rattle.vub_shared.specs.Bytes.{Bytes, put, word, bytes_from}
+use Rattle.vub_shared.specs.Bytes.{Bytes, put, word}
 use Rattle.vub_shared.specs.Stores.{Store, one_store}
 use Rattle.vub_shared.proofs.BytesLemmas.{bytes_from-put_same}
-use Rattle.vub_ring.specs.Ring.{avail_entry_place, avail_idx_place}
-use Rattle.vub_driver.specs.Layout.{area_place, buffer_place, status_place, sectors_place}
-use Rattle.vub_driver.specs.Requests.{Piece, readable_piece, writable_piece, header_bytes, written_bytes, request_type, first_sector, descriptor_bytes}
+use Rattle.vub_driver.specs.Layout.{status_place, sectors_place}
+use Rattle.vub_driver.specs.Requests.{Piece, readable_piece, writable_piece, header_bytes, written_bytes, descriptor_bytes}
 use Rattle.vub_driver.specs.Stores.{store_of_some, offer_stores, request_stores}
 use Rattle.vub_device.specs.declared.entry.Asked.{Asked}
 use Rattle.vub_device.specs.declared.entry.Asked.TheVariants as asks
 use Rattle.vub_world.specs.declared.chain.Desc.{Desc}
 use Rattle.vub_world.specs.Run.{request_of}
-use Rattle.vub_world.specs.ChainState.{type_of, sector_of, handed_bytes, data_start, data_len, data_of, desc_of}
+use Rattle.vub_world.specs.ChainState.{handed_bytes, data_start, data_len, data_of, desc_of}
 use Rattle.vub_world.proofs.RunGood.{the_ring, IsSize, IsSimple}
 use Rattle.vub_world.proofs.RunFrames.{keeps, length_little, entry_small}
-use Rattle.vub_world.proofs.RunChains.{table_place, buffer_at, HasDesc, HasFront, HasChain, IsOff, Spares, desc_kept, front_kept, chain_kept, word_made, desc_long, desc_made}
+use Rattle.vub_world.proofs.RunChains.{table_place, buffer_at, HasDesc, HasFront, HasChain, IsOff, desc_kept, front_kept, word_made, desc_long, desc_made}
 
 -- memory after stores into guest memory
 abbrev pub put_all : List Store → Bytes → Bytes

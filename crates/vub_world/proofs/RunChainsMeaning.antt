@@ -1,0 +1,131 @@
+-- What memory means along every run: each request that is offered and not published, at its head.
+use Rattle.std.proofs.Common.{◌≡◌, ◌≤◌, ◌<◌, ℕ, ◌+◌, not, false, List, ◌++◌, length, refl, ap, sym, ◌∙◌, subst, arith}
+use Rattle.std.specs.Prelude.{Option, Some, None, slice_index, slice_get}
+use Rattle.vub_base.specs.declared.header.Header1.{Header1}
+use Rattle.vub_shared.specs.Bytes.{Bytes, word, bytes_from}
+use Rattle.vub_ring.specs.declared.readiness.Turn.{Turn}
+use Rattle.vub_driver.specs.Layout.{area_place, buffer_place, status_place}
+use Rattle.vub_driver.specs.Requests.{readable_piece, writable_piece}
+use Rattle.vub_device.specs.declared.entry.Asked.{Asked}
+use Rattle.vub_device.specs.declared.entry.Asked.TheVariants as asks
+use Rattle.vub_device.specs.Past.{asked, accepted, published, collected, is_among, open_numbers}
+use Rattle.vub_schedule.specs.declared.types.Event.{Event}
+use Rattle.vub_world.specs.declared.report.items.Record.{Record}
+use Rattle.vub_world.specs.declared.split.SplitRing.{SplitRing}
+use Rattle.vub_world.specs.declared.chain.Desc.{Desc}
+use Rattle.vub_world.specs.GuestChain.{Links}
+use Rattle.vub_world.specs.ChainState.{MeansRequest, desc_in, desc_place, desc_of, data_of, data_start, body_desc, handed_bytes}
+use Rattle.vub_world.specs.Moments.{Moment, unfinished}
+use Rattle.vub_world.specs.Run.{turns}
+use Rattle.vub_world.proofs.RunNumbers.{not_among-take, among_get, among_filter, missing-among}
+use Rattle.vub_world.proofs.RunFrames.{open_out}
+use Rattle.vub_world.proofs.RunGood.{IsSize, IsSimple, IsOut}
+use Rattle.vub_world.proofs.Runs.{plain_header}
+use Rattle.vub_world.proofs.RunTurns.{IsPlain, Good}
+use Rattle.vub_world.proofs.RunsTo.{Stands, stands_good}
+use Rattle.vub_world.proofs.RunChains.{table_place, buffer_at, HasDesc}
+use Rattle.vub_world.proofs.RunChainsStores.{handed_fits}
+use Rattle.vub_world.proofs.RunChainsTurns.{IsLinked}
+use Rattle.vub_world.proofs.RunChainsEvents.{ChainedAt, stands_chained, stands_turns}
+
+-- the ring of queue 0 in guest memory
+pub record IsFirstRing (sizes : ℕ → ℕ) (r : SplitRing) (n : ℕ) : Type 0 where
+  pub space : r.desc.0.number ≡ 0
+  pub table : r.desc.1 ≡ 0
+  pub size : r.size ≡ n
+  pub room : 1048576 ≤ sizes 0
+
+-- memory means a request at that head, by some chain
+pub record Meant (sizes : ℕ → ℕ) (r : SplitRing) (m : Bytes) (head : ℕ) (o : Option Asked) : Type 0 where
+  pub links : Links
+  pub at_head : links.head ≡ head
+  pub request : Asked
+  pub is : o ≡ Some request
+  pub means : MeansRequest sizes r m links (buffer_place (area_place 0) head) request
+
+abbrev make : ℕ → ℕ → ℕ → ℕ → Desc
+make a l f n = record { addr = a; len = l; flags = f; next = n }
+
+desc_found : (r : SplitRing) (m : Bytes) (d : ℕ) (x : Desc) → r.desc.0.number ≡ 0 → r.desc.1 ≡ 0 → HasDesc m d x → desc_in r m d ≡ make x.addr x.len x.flags x.next
+desc_found r m d x space table h =
+    let s : ℕ = r.desc.0.number in
+    let p : ℕ = desc_place r d in
+    let place : p ≡ table_place d = omega (arith, table) in
+    let a : word 8 m s p ≡ x.addr = ap (λ (t : ℕ). word 8 m t p) space ∙ ap (word 8 m 0) place ∙ h.addr in
+    let l : word 4 m s (p + 8) ≡ x.len = ap (λ (t : ℕ). word 4 m t (p + 8)) space ∙ ap (λ (q : ℕ). word 4 m 0 (q + 8)) place ∙ h.len in
+    let f : word 2 m s (p + 12) ≡ x.flags = ap (λ (t : ℕ). word 2 m t (p + 12)) space ∙ ap (λ (q : ℕ). word 2 m 0 (q + 12)) place ∙ h.flags in
+    let n : word 2 m s (p + 14) ≡ x.next = ap (λ (t : ℕ). word 2 m t (p + 14)) space ∙ ap (λ (q : ℕ). word 2 m 0 (q + 14)) place ∙ h.next in
+    ap (λ (y : ℕ). make y (word 4 m s (p + 8)) (word 2 m s (p + 12)) (word 2 m s (p + 14))) a
+    ∙ ap (λ (y : ℕ). make x.addr y (word 2 m s (p + 12)) (word 2 m s (p + 14))) l
+    ∙ ap (λ (y : ℕ). make x.addr x.len y (word 2 m s (p + 14))) f
+    ∙ ap (λ (y : ℕ). make x.addr x.len x.flags y) n
+
+body_some : (cap buffer next : ℕ) (r : Asked) → IsSimple cap (Some r) → body_desc buffer next r ≡ Some (desc_of (data_of buffer r) (Some next))
+body_some cap buffer next (asks.Read s c) simple = refl
+body_some cap buffer next (asks.Write s bytes) simple = refl
+body_some cap buffer next asks.Flush simple = absurd simple
+body_some cap buffer next asks.Id simple = absurd simple
+body_some cap buffer next (asks.Discard parts) simple = absurd simple
+body_some cap buffer next (asks.Zero parts) simple = absurd simple
+
+pub linked_means : (sizes : ℕ → ℕ) (r : SplitRing) (n cap : ℕ) (owner : ℕ → Option ℕ) (m : Bytes) (head : ℕ) (o : Option Asked) → IsFirstRing sizes r n → IsSize n → head < n → IsSimple cap o → IsLinked n owner m head o → Meant sizes r m head o
+linked_means sizes r n cap owner m head o ring size low simple l =
+    let b : ℕ = buffer_at head in
+    let q : Asked = l.request in
+    let is_simple : IsSimple cap (Some q) = subst (λ (x : Option Asked). IsSimple cap x) l.is simple in
+    let at = handed_fits cap b q is_simple in
+    let small : n ≤ 64 = size.small in
+    let fb : l.body < n = l.body_fits in
+    let fs : l.status < n = l.status_fits in
+    let many : sizes r.desc.0.number ≡ sizes 0 = ap sizes ring.space in
+    let space : r.desc.0.number ≡ 0 = ring.space in
+    let body : desc_in r m l.body ≡ desc_of (data_of b q) (Some l.status) = desc_found r m l.body (desc_of (data_of b q) (Some l.status)) ring.space ring.table l.stands.middle in
+    record {
+      links = record { head = head; body = Some l.body; status = l.status };
+      at_head = refl;
+      request = q;
+      is = l.is;
+      means = record {
+        first = desc_found r m head (desc_of (readable_piece b 16) (Some l.body)) ring.space ring.table l.stands.first;
+        body = ap (λ (x : Desc). Some x) body ∙ sym (body_some cap b l.status q is_simple);
+        last = desc_found r m l.status (desc_of (writable_piece (status_place b) 1) None) ring.space ring.table l.stands.last;
+        second_fits = omega (arith, ring.size, fb);
+        status_fits = omega (arith, ring.size, fs);
+        kind = ap (λ (t : ℕ). word 4 m t b) space ∙ l.stands.front.kind;
+        sector = ap (λ (t : ℕ). word 8 m t (b + 8)) space ∙ l.stands.front.sector;
+        handed = ap (λ (t : ℕ). bytes_from (length (handed_bytes q)) m t (data_start b q)) space ∙ l.stands.front.handed;
+        room = omega (arith, many, ring.room, at.1.1);
+      };
+    }
+
+-- at a moment: each request that is offered and not collected
+pub moment_means : (h : Header1) (m : Moment) (sizes : ℕ → ℕ) (r : SplitRing) (k : ℕ) → IsPlain h → Good h m → ChainedAt h m → IsFirstRing sizes r h.size → IsOut m.scene.past (m.scene.heads 0) k
+    → Meant sizes r m.scene.memory (slice_index (m.scene.heads 0) k) (asked m.scene.past 0 k)
+moment_means h m sizes r k plain good c ring out =
+    linked_means sizes r h.size h.capacity (m.lanes 0).driver.owner m.scene.memory (slice_index (m.scene.heads 0) k) (asked m.scene.past 0 k) ring plain.good.size (good.holds.driven.below k out) (good.holds.known.simple k out.below) (c.linked k out)
+
+-- a request that isn't published isn't collected
+pub unpublished_out : (h : Header1) (m : Moment) (k : ℕ) → k < length (m.scene.heads 0) → is_among (published m.scene.past 0) k ≡ false → IsOut m.scene.past (m.scene.heads 0) k
+unpublished_out h m k low new = record { below = low; kept = not_among-take (published m.scene.past 0) (collected m.scene.past 0) k new }
+
+-- where a run leads, memory means each request that is offered and not published
+pub stands_means : (h : Header1) (es : List Event) (rs : List Record) (n : Moment) (sizes : ℕ → ℕ) (r : SplitRing) (k : ℕ) → Stands h es rs n → IsFirstRing sizes r h.size → k < length (n.scene.heads 0) → is_among (published n.scene.past 0) k ≡ false
+    → Meant sizes r n.scene.memory (slice_index (n.scene.heads 0) k) (asked n.scene.past 0 k)
+stands_means h es rs n sizes r k s ring low new =
+    moment_means h n sizes r k (plain_header h s.header) (stands_good h es rs n s) (stands_chained h es rs n s) ring (unpublished_out h n k low new)
+
+-- also after any number of turns from there on
+pub turns_mean : (h : Header1) (es : List Event) (rs : List Record) (n : Moment) (count : ℕ) (choose : Moment → Turn) (sizes : ℕ → ℕ) (r : SplitRing) (k : ℕ) → Stands h es rs n → IsFirstRing sizes r h.size
+    → k < length ((turns count choose h 0 n).next.scene.heads 0) → is_among (published (turns count choose h 0 n).next.scene.past 0) k ≡ false
+    → Meant sizes r (turns count choose h 0 n).next.scene.memory (slice_index ((turns count choose h 0 n).next.scene.heads 0) k) (asked (turns count choose h 0 n).next.scene.past 0 k)
+turns_mean h es rs n count choose sizes r k s ring low new =
+    let both = stands_turns h es rs n count choose s in
+    moment_means h (turns count choose h 0 n).next sizes r k (plain_header h s.header) both.0 both.1 ring (unpublished_out h (turns count choose h 0 n).next k low new)
+
+-- the request of which a turn makes the next step
+pub work_means : (h : Header1) (m : Moment) (sizes : ℕ → ℕ) (r : SplitRing) (place k : ℕ) → IsPlain h → Good h m → ChainedAt h m → IsFirstRing sizes r h.size → slice_get (unfinished 0 m) place ≡ Some k
+    → Meant sizes r m.scene.memory (slice_index (m.scene.heads 0) k) (asked m.scene.past 0 k)
+work_means h m sizes r place k plain good c ring is =
+    let kept = among_filter (λ j. not (is_among ((m.lanes 0).completed ++ (m.lanes 0).batch) j)) (open_numbers m.scene.past 0) k (among_get (unfinished 0 m) place k is) in
+    let opened = missing-among (published m.scene.past 0) (accepted m.scene.past 0) k kept.0 in
+    moment_means h m sizes r k plain good c ring (open_out h.size h.capacity m.scene.past (m.scene.heads 0) k good.holds.known (record { taken = opened.0; unpublished = opened.1 }))
