@@ -29,7 +29,8 @@ use Rattle.vub_world.proofs.RunCollects.{IsTaken, next_number, after_taken, firs
 use Rattle.vub_world.proofs.RunTurns.{IsPlain, Good}
 use Rattle.vub_world.proofs.RunEvents.{Right, turn_right, event_right}
 use Rattle.vub_world.proofs.Runs.{opening_good, plain_header}
-use Rattle.vub_world.proofs.RunsTo.{RunTo, Stands, stands_good}
+use Rattle.vub_world.proofs.RunsTo.{stands_good}
+use Rattle.vub_world.specs.Run.{RunTo, Stands}
 use Rattle.vub_world.proofs.RunChainsTurns.{IsPrepared, PreparedWell, Chained, gentle_chained, turn_gentle, turn_driver}
 use Rattle.vub_world.proofs.RunChainsOffers.{ask_chained, collect_chained}
 use Rattle.vub_world.proofs.RunChainsGuests.{guest_chained}

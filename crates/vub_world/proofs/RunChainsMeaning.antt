@@ -22,7 +22,8 @@ use Rattle.vub_world.proofs.RunFrames.{open_out}
 use Rattle.vub_world.proofs.RunGood.{IsSize, IsSimple, IsOut}
 use Rattle.vub_world.proofs.Runs.{plain_header}
 use Rattle.vub_world.proofs.RunTurns.{IsPlain, Good}
-use Rattle.vub_world.proofs.RunsTo.{Stands, stands_good}
+use Rattle.vub_world.proofs.RunsTo.{stands_good}
+use Rattle.vub_world.specs.Run.{Stands}
 use Rattle.vub_world.proofs.RunChains.{table_place, buffer_at, HasDesc}
 use Rattle.vub_world.proofs.RunChainsStores.{handed_fits}
 use Rattle.vub_world.proofs.RunChainsTurns.{IsLinked}
