@@ -4,7 +4,7 @@ use Rattle.std.specs.Prelude.{Option, Some, None, slice_index, slice_get}
 use Rattle.vub_base.specs.declared.header.Header1.{Header1}
 use Rattle.vub_shared.specs.Bytes.{Bytes, word, bytes_from}
 use Rattle.vub_ring.specs.declared.readiness.Turn.{Turn}
-use Rattle.vub_driver.specs.Layout.{area_place, buffer_place, status_place}
+use Rattle.vub_driver.specs.Layout.{status_place}
 use Rattle.vub_driver.specs.Requests.{readable_piece, writable_piece}
 use Rattle.vub_device.specs.declared.entry.Asked.{Asked}
 use Rattle.vub_device.specs.declared.entry.Asked.TheVariants as asks
@@ -13,8 +13,7 @@ use Rattle.vub_schedule.specs.declared.types.Event.{Event}
 use Rattle.vub_world.specs.declared.report.items.Record.{Record}
 use Rattle.vub_world.specs.declared.split.SplitRing.{SplitRing}
 use Rattle.vub_world.specs.declared.chain.Desc.{Desc}
-use Rattle.vub_world.specs.GuestChain.{Links}
-use Rattle.vub_world.specs.ChainState.{MeansRequest, desc_in, desc_place, desc_of, data_of, data_start, body_desc, handed_bytes}
+use Rattle.vub_world.specs.ChainState.{IsFirstRing, Meant, desc_in, desc_place, desc_of, data_of, data_start, body_desc, handed_bytes}
 use Rattle.vub_world.specs.Moments.{Moment, unfinished}
 use Rattle.vub_world.specs.Run.{turns}
 use Rattle.vub_world.proofs.RunNumbers.{not_among-take, among_get, among_filter, missing-among}
@@ -28,21 +27,6 @@ use Rattle.vub_world.proofs.RunChains.{table_place, buffer_at, HasDesc}
 use Rattle.vub_world.proofs.RunChainsStores.{handed_fits}
 use Rattle.vub_world.proofs.RunChainsTurns.{IsLinked}
 use Rattle.vub_world.proofs.RunChainsEvents.{ChainedAt, stands_chained, stands_turns}
-
--- the ring of queue 0 in guest memory
-pub record IsFirstRing (sizes : ℕ → ℕ) (r : SplitRing) (n : ℕ) : Type 0 where
-  pub space : r.desc.0.number ≡ 0
-  pub table : r.desc.1 ≡ 0
-  pub size : r.size ≡ n
-  pub room : 1048576 ≤ sizes 0
-
--- memory means a request at that head, by some chain
-pub record Meant (sizes : ℕ → ℕ) (r : SplitRing) (m : Bytes) (head : ℕ) (o : Option Asked) : Type 0 where
-  pub links : Links
-  pub at_head : links.head ≡ head
-  pub request : Asked
-  pub is : o ≡ Some request
-  pub means : MeansRequest sizes r m links (buffer_place (area_place 0) head) request
 
 abbrev make : ℕ → ℕ → ℕ → ℕ → Desc
 make a l f n = record { addr = a; len = l; flags = f; next = n }

@@ -1,7 +1,7 @@
 -- The chain of a request in the descriptor table, and what it means (VIRTIO 1.2, 2.7.5 and 5.2.6).
 use Rattle.std.specs.Prelude.{◌≡◌, ◌<◌, ◌≤◌, ℕ, ◌+◌, ◌*◌, Bool, true, false, List, [], length, unwrap_or, Option, Some, None, option_map, Result, Ok, Err, ⊤, flat_map}
 use Rattle.vub_shared.specs.Bytes.{Bytes, word, bytes_from}
-use Rattle.vub_driver.specs.Layout.{status_place, parts_place, sectors_place}
+use Rattle.vub_driver.specs.Layout.{area_place, buffer_place, status_place, parts_place, sectors_place}
 use Rattle.vub_driver.specs.Requests.{Piece, readable_piece, writable_piece, write_flag, part_bytes}
 use Rattle.vub_device.specs.declared.entry.Asked.{Asked}
 use Rattle.vub_device.specs.declared.entry.Asked.TheVariants.{Read, Write, Flush, Id, Discard, Zero}
@@ -94,6 +94,21 @@ pub record MeansRequest (sizes : ℕ → ℕ) (r : SplitRing) (m : Bytes) (l : L
   pub sector : word 8 m r.desc.0.number (buffer + 8) ≡ sector_of request
   pub handed : bytes_from (length (handed_bytes request)) m r.desc.0.number (data_start buffer request) ≡ handed_bytes request
   pub room : buffer + (4096 + data_len request) ≤ sizes r.desc.0.number
+
+-- the ring of queue 0 in guest memory
+pub record IsFirstRing (sizes : ℕ → ℕ) (r : SplitRing) (n : ℕ) : Type 0 where
+  pub space : r.desc.0.number ≡ 0
+  pub table : r.desc.1 ≡ 0
+  pub size : r.size ≡ n
+  pub room : 1048576 ≤ sizes 0
+
+-- memory means a request under that head, by some chain in the first queue
+pub record Meant (sizes : ℕ → ℕ) (r : SplitRing) (m : Bytes) (head : ℕ) (o : Option Asked) : Type 0 where
+  pub links : Links
+  pub at_head : links.head ≡ head
+  pub request : Asked
+  pub is : o ≡ Some request
+  pub means : MeansRequest sizes r m links (buffer_place (area_place 0) head) request
 
 -- ---- what the device finds
 
