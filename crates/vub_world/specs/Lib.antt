@@ -9,6 +9,7 @@ pub mod Machine
 pub mod Memory
 pub mod Moments
 pub mod Queue
+pub mod QueueAt
 pub mod QueueParts
 pub mod QueueState
 pub mod RecordText

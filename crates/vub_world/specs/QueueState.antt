@@ -1,12 +1,13 @@
 -- The state of the device's side of one queue, and what its own steps make of it.
-use Rattle.std.specs.Prelude.{◌≡◌, ◌<◌, ◌≤◌, ℕ, ◌+◌, ◌%◌, Bool, true, false, not, if◌then◌else◌, List, [], ◌∷◌, ◌++◌, length, map, take, drop, set, replicate, remove, Option, Some, None, Result, Ok, Err, ⊤}
+use Rattle.std.specs.Prelude.{◌≡◌, ◌⊎◌, ◌<◌, ◌≤◌, ℕ, ◌+◌, ◌%◌, Bool, true, false, not, if◌then◌else◌, List, [], ◌∷◌, ◌++◌, length, map, take, drop, set, replicate, remove, slice_get, get_or, Option, Some, None, option_map, Result, Ok, Err, ⊤}
 use Rattle.vub_base.specs.declared.ring_fault.RingFault.{RingFault}
 use Rattle.vub_base.specs.declared.ring_fault.RingFault.TheVariants as faults
 use Rattle.vub_base.specs.declared.store.Tag.TheVariants.{SP5}
 use Rattle.vub_base.specs.Told.{WhereTold}
 use Rattle.vub_base.specs.Causes.{HasCause}
 use Rattle.vub_shared.specs.Bytes.{Bytes}
-use Rattle.vub_shared.specs.Stores.{Store, Stores, Trails}
+use Rattle.vub_shared.specs.Stores.{Store, Stores, Trails, after_in_trail}
+use Rattle.vub_disk.specs.Values.{Values}
 use Rattle.vub_ring.specs.declared.steps.Phase.{Phase}
 use Rattle.vub_ring.specs.declared.steps.Phase.TheVariants as phases
 use Rattle.vub_ring.specs.declared.steps.Step.{Step}
@@ -20,6 +21,12 @@ use Rattle.vub_ring.specs.Readiness.{is_ready, is_publication, any_turn}
 use Rattle.vub_world.specs.declared.split.SplitRing.{SplitRing}
 use Rattle.vub_world.specs.Split.{avail_idx_word, head_word}
 use Rattle.vub_world.specs.declared.task.Task.{Task}
+use Rattle.vub_world.specs.declared.task.Work.TheVariants as work
+use Rattle.vub_world.specs.declared.task.TaskStep as made
+use Rattle.vub_world.specs.declared.task.TaskStep.TheVariants as answers
+use Rattle.vub_world.specs.Tasks as Tasks
+use Rattle.vub_world.specs.Tasks.{Status, status_of, used_len}
+use Rattle.vub_world.specs.TaskState.{Making, IsNext, IsReady, HasMade, LooksAt, store_of}
 use Rattle.vub_world.specs.QueueParts.{element, is_taken, without_heads}
 use Rattle.vub_world.specs.declared.queue.Stop.{Stop}
 use Rattle.vub_world.specs.declared.queue.Stop.TheVariants as stops
@@ -37,8 +44,8 @@ pub record QueueState : Type 0 where
   pub avail : ℕ
   -- used.idx as it stands in the ring
   pub used : ℕ
-  -- the heads of the requests that aren't completed, in the order in which they were accepted
-  pub unfinished : List ℕ
+  -- the requests that aren't completed, in the order in which they were accepted
+  pub unfinished : List Task
   -- head and used length of those that are completed and in no batch, in the order in which they were completed
   pub completed : List (ℕ × ℕ)
   -- and of those that are being published
@@ -46,9 +53,8 @@ pub record QueueState : Type 0 where
   pub phase : Phase
   -- whether each head is accepted and not published
   pub taken : List Bool
-
-abbrev pub head_of : Task → ℕ
-head_of t = t.head
+  -- the sector on its way for each head
+  pub sectors : List (List ℕ)
 
 abbrev pub state_of : Queue → QueueState
 state_of q = record {
@@ -57,16 +63,17 @@ state_of q = record {
   stopped = q.stopped;
   avail = q.avail;
   used = q.used;
-  unfinished = map head_of q.unfinished.items;
+  unfinished = q.unfinished.items;
   completed = map element (drop q.batch q.completed.items);
   batch = map element (take q.batch q.completed.items);
   phase = q.phase;
   taken = q.taken.items;
+  sectors = q.sectors.items;
 }
 
--- a queue that isn't started, whose rings begin at this index
-abbrev pub new_state : SplitRing → ℕ → QueueState
-new_state ring base = record {
+-- a queue that isn't started, whose rings begin at this index; nothing is said of its sectors
+abbrev pub new_state : SplitRing → ℕ → List (List ℕ) → QueueState
+new_state ring base sectors = record {
   ring = ring;
   started = false;
   stopped = None;
@@ -77,7 +84,13 @@ new_state ring base = record {
   batch = [];
   phase = phases.Rest;
   taken = replicate ring.size false;
+  sectors = sectors;
 }
+
+pub record IsNew (ring : SplitRing) (base : ℕ) (s : QueueState) : Type 0 where
+  pub sectors : List (List ℕ)
+  pub is : s ≡ new_state ring base sectors
+  pub buffers : length sectors ≡ ring.size
 
 -- how many requests wait in the avail ring
 abbrev pub waiting : QueueState → Bytes → ℕ
@@ -126,9 +139,13 @@ abbrev pub found_outcome : Result (Option ℕ) Stop → Result (Unit {0}) (Unit 
 found_outcome (Err stops.Shared) = Err tt
 found_outcome x = Ok tt
 
+-- a request of which no step was made
+abbrev pub fresh_task : ℕ → Task
+fresh_task head = record { head = head; work = work.Begin }
+
 -- the request of a head is accepted
 abbrev pub accepted : ℕ → QueueState → QueueState
-accepted head s = record s { unfinished = s.unfinished ++ head ∷ []; avail = (s.avail + 1) % 65536; taken = set s.taken head true }
+accepted head s = record s { unfinished = s.unfinished ++ fresh_task head ∷ []; avail = (s.avail + 1) % 65536; taken = set s.taken head true }
 
 -- it isn't started, or publishes: no fetch is ready
 abbrev pub may_fetch : QueueState → Bool
@@ -211,11 +228,72 @@ Publishes true x s u t = Moves x (next_row u) u t
 
 -- ---- work
 
--- a step of the request in this place changes nothing here, but the one that stores its status moves it to the completed
--- ones with its used length
+-- the queue after a step of the request in this place, whose task and sector are these now
+abbrev pub worked : ℕ → Task → List ℕ → QueueState → QueueState
+worked place task sector s = record s { unfinished = set s.unfinished place task; sectors = set s.sectors task.head sector }
+
+-- the queue after the request in this place was completed with this used length
+abbrev pub done_at : ℕ → ℕ → ℕ → List ℕ → QueueState → QueueState
+done_at place head len sector s = record s { unfinished = remove s.unfinished place; completed = s.completed ++ (head, len) ∷ []; sectors = set s.sectors head sector }
+
+-- a step of the request in this place changes nothing here but its task and its sector, and the one that stores its
+-- status moves it to the completed ones
 abbrev pub Works : ℕ → Stepped → QueueState → QueueState → Type 0
-Works place (says.Completed head) s t = (len : ℕ) × (t ≡ record s { unfinished = remove s.unfinished place; completed = s.completed ++ (head, len) ∷ [] })
-Works place x s t = t ≡ s
+Works place (says.Completed head) s t = (len : ℕ) × (sector : List ℕ) × (t ≡ done_at place head len sector s)
+Works place x s t = (t ≡ s) ⊎ ((task : Task) × (sector : List ℕ) × (t ≡ worked place task sector s))
+
+-- the task in this place of a queue makes this step next, where memory is m and the disk has so many sectors
+pub record IsDue (capacity : ℕ) (sizes : ℕ → ℕ) (s : QueueState) (m : Bytes) (place : ℕ) (task : Task) (n : Making) : Type 0 where
+  pub started : s.started ≡ true
+  pub at : slice_get s.unfinished place ≡ Some task
+  pub fits : task.head < s.ring.size
+  pub next : IsNext capacity sizes s.ring m n
+  pub ready : IsReady s.ring n task
+
+-- what a turn says of a step of the request of a head
+abbrev pub said : ℕ → made.TaskStep → Stepped
+said head (answers.Stored tag) = says.Stored tag
+said head (answers.Looked sector) = says.Looked head sector
+said head (answers.Acted sector) = says.Acted head sector
+said head answers.Synced = says.Synced head
+said head answers.Faulted = says.Faulted head
+said head (answers.Done status len) = says.Completed head
+said head (answers.Broken fault) = says.Broken fault
+said head answers.Failed = says.SharedFault
+
+-- the sector on its way for a head
+abbrev pub sector_at : QueueState → ℕ → List ℕ
+sector_at s head = get_or s.sectors head []
+
+-- the status completes the request, and another step goes on
+abbrev pub Advances : ℕ → Task → Making → List ℕ → Tasks.TaskStep → QueueState → QueueState → Type 0
+Advances place task n sector Status s t = t ≡ done_at place task.head (used_len (status_of n.header n.request) n.request) sector s
+Advances place task n sector step s t = (next : Task) × (next.head ≡ task.head) × HasMade s.ring n next × (t ≡ worked place next sector s)
+
+-- what the step leaves of the queue, where the disk's values are v: a look leaves the sector's value
+pub record HasWorked (v : Option Values) (place : ℕ) (task : Task) (n : Making) (s t : QueueState) : Type 0 where
+  pub sector : List ℕ
+  pub looks : WhereTold v (λ u. LooksAt n u sector)
+  pub state : Advances place task n sector n.step s t
+
+-- a fact about what a turn made, where neither memory nor disk failed in it
+abbrev pub IfStepped : Stepped → Type 0 → Type 0
+IfStepped says.SharedFault P = ⊤
+IfStepped (says.Faulted head) P = ⊤
+IfStepped x P = P
+
+-- the told list of stores after a step that makes this store, or none
+abbrev pub with_maybe : Option Store → List Store → List Store
+with_maybe None trail = trail
+with_maybe (Some st) trail = after_in_trail st trail
+
+-- the store of the step that is due, if it makes one
+abbrev pub due_store : QueueState → Task → Making → Option Store
+due_store s task n = store_of n.header s.ring n.buffer n.request (sector_at s task.head) n.step
+
+-- the told list of stores gained one at most
+abbrev pub GainsOne : Option (List Store) → Option (List Store) → Type 0
+GainsOne before after = (after ≡ before) ⊎ ((st : Store) × (after ≡ option_map (after_in_trail st) before))
 
 -- ---- turns
 
@@ -251,14 +329,23 @@ DoesStore turn before after x s = after ≡ before
 
 -- the told list of stores before and after it
 abbrev pub DoesTrail : Turn → Option (List Store) → Option (List Store) → Stepped → QueueState → Type 0
-DoesTrail (Work place) before after x s = ⊤
+DoesTrail (Work place) before after x s = GainsOne before after
 DoesTrail (Publish most) before after x s = TrailsRow before after x (publish_row most s)
 DoesTrail turn before after x s = after ≡ before
 
--- the count of faults before and after it
+-- the count of the memory's faults before and after it
 abbrev pub DoesFault : Turn → ℕ → ℕ → Stepped → Type 0
-DoesFault (Work place) before after x = ⊤
 DoesFault turn before after x = HasCause before after (outcome x)
+
+-- the told values of the disk before and after it: only work on a request changes them
+abbrev pub DoesDisk : Turn → Option Values → Option Values → Type 0
+DoesDisk (Work place) before after = ⊤
+DoesDisk turn before after = after ≡ before
+
+-- whether the disk failed in a turn
+abbrev pub disk_outcome : Stepped → Result (Unit {0}) (Unit {0})
+disk_outcome (says.Faulted head) = Err tt
+disk_outcome x = Ok tt
 
 -- the turn of the step table that this one is at a standing
 abbrev pub turn_at : ℕ → Standing → asked.Turn → Turn
