@@ -5,7 +5,10 @@ pub mod GuestRequest
 pub mod GuestState
 pub mod GuestStores
 pub mod Lives
+pub mod Logs
 pub mod Machine
+pub mod MachineAt
+pub mod MachineSteps
 pub mod Memory
 pub mod Moments
 pub mod Queue
@@ -13,6 +16,7 @@ pub mod QueueAt
 pub mod QueueParts
 pub mod QueueState
 pub mod RecordText
+pub mod Rooms
 pub mod Run
 pub mod Split
 pub mod Tasks

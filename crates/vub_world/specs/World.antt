@@ -10,6 +10,7 @@ use Rattle.vub_world.specs.declared.machine.Machine.{Machine}
 use Rattle.vub_world.specs.declared.report.items.Record.{Record}
 use Rattle.vub_world.specs.declared.world.World.{World}
 use Rattle.vub_world.specs.contracts.world.World.{the_row}
+use Rattle.vub_world.specs.MachineAt.{StandsOn}
 
 -- the first line of its schedule
 abbrev pub header_in : Machine → Header1
@@ -18,7 +19,9 @@ header_in w = w.header
 abbrev pub disk_in : Machine → MemDisk
 disk_in w = w.disk
 
--- the record that an event lends is that event's, and the world goes on under its header
+-- An event lends its record. The world goes on under its header, and stands for the events that it stood for and this
+-- one, with their records; for want of memory all is as it was.
 abbrev pub LendsRecord : MutBor World → Event → Result (Bor Record) Memory → Fml
 LendsRecord w event result =
-    follows_so the_row the_row w.ghost_name none (λ _ _. ⊤) (λ now. (header_in now ≡ header_in w.now) × MatchResult result (λ r. r.now.event ≡ event) (λ _. ⊤))
+    follows_so the_row the_row w.ghost_name none (λ _ _. ⊤)
+    (λ now. (header_in now ≡ header_in w.now) × MatchResult result (λ r. (r.now.event ≡ event) × StandsOn w.now now event r.now) (λ _. now ≡ w.now))

@@ -3,6 +3,7 @@
 #![tactic(auto)]
 
 mod chain;
+mod drain;
 mod guest;
 pub mod laws;
 mod layout;
@@ -10,6 +11,7 @@ mod log;
 mod machine;
 mod queue;
 pub mod report;
+mod room;
 mod split;
 mod task;
 #[cfg(test)]

@@ -1,5 +1,7 @@
 //! What the records tell of one queue's requests.
-ghost use Rattle.std.specs.Prelude.{◌≡◌, IfOk};
+ghost use Rattle.std.specs.Prelude.{◌≡◌, ◌-◌, ◌^◌, ◌↔◌, ℕ, IsTrue, IfOk};
+ghost use Rattle.vub_base.specs.MemForms.{next_count};
+ghost use Rattle.vub_world.specs.Logs.{reads_in};
 
 use std::alloc::Global;
 use vub_base::{Ask, Memory};
@@ -22,50 +24,83 @@ pub struct Log {
     outstanding: Vec<Outstanding>,
 }
 
+/// No request.
+const NONE: Outstanding = Outstanding {
+    number: 0,
+    reads: 0,
+};
+
+fn reads(ask: &Ask) -> u16
+    ensures { result ≡ reads_in ask.now }
+{
+    match ask {
+        Ask::Read { count, .. } => *count,
+        _ => 0,
+    }
+}
+
 impl Log {
+    ghost use Rattle.vub_world.specs.Logs.{offered_in, collected_in, size_in, slot_in, Offers};
+
     /// The log of a queue of so many places, with no request.
-    pub fn new(alloc: Global, size: u16) -> Result<Log, Memory> {
-        let none = Outstanding {
-            number: 0,
-            reads: 0,
-        };
+    pub fn new(alloc: Global, size: u16) -> Result<Log, Memory>
+        ensures offered { IfOk result (λ l. offered_in l ≡ 0) }
+        ensures collected { IfOk result (λ l. collected_in l ≡ 0) }
+        ensures size { IfOk result (λ l. size_in l ≡ size) }
+    {
         Ok(Log {
             offered: 0,
             collected: 0,
-            outstanding: vec![in alloc; none; usize::from(size)].map_err(|_| Memory)?,
+            outstanding: vec![in alloc; NONE; usize::from(size)].map_err(|_| Memory)?,
         })
     }
 
+    /// Whether no number is left for a further request.
+    pub fn is_full(&self) -> bool
+        ensures { IsTrue result ↔ (offered_in self.now ≡ 2 ^ 64 - 1) }
+    {
+        self.offered == u64::MAX
+    }
+
     /// Notes that the request was offered under a head.
-    pub fn offer(&mut self, head: u16, ask: &Ask) {
-        let reads = match ask {
-            Ask::Read { count, .. } => *count,
-            _ => 0,
+    pub fn offer(&mut self, head: u16, ask: &Ask)
+        ensures { Offers self.old self.new head ask.now }
+    {
+        let slot = Outstanding {
+            number: self.offered,
+            reads: reads(ask),
         };
-        if let Some(slot) = self.outstanding.get_mut(usize::from(head)) {
-            *slot = Outstanding {
-                number: self.offered,
-                reads,
-            };
+        let place = usize::from(head);
+        if place < self.outstanding.len() {
+            self.outstanding[place] = slot;
         }
         self.offered = self.offered.saturating_add(1);
     }
 
     /// The request that was offered last under a head.
-    pub fn at(&self, head: u16) -> Outstanding {
+    pub fn at(&self, head: u16) -> Outstanding
+        ensures { result ≡ slot_in self.now head }
+    {
         match self.outstanding.get(usize::from(head)) {
             Some(found) => *found,
-            None => Outstanding {
-                number: 0,
-                reads: 0,
-            },
+            None => NONE,
         }
     }
 
-    /// The number of the next request that is collected.
-    pub fn collect(&mut self) -> u64 {
-        let number = self.collected;
+    /// Notes that a request was collected.
+    pub fn collect(&mut self)
+        ensures collected { collected_in self.new ≡ next_count (collected_in self.old) }
+        ensures offered { offered_in self.new ≡ offered_in self.old }
+        ensures size { size_in self.new ≡ size_in self.old }
+        ensures slots { (d : ℕ) → slot_in self.new d ≡ slot_in self.old d }
+    {
         self.collected = self.collected.saturating_add(1);
-        number
+    }
+
+    /// How many requests are offered and not collected.
+    pub fn outstanding(&self) -> u64
+        ensures { result ≡ offered_in self.now - collected_in self.now }
+    {
+        self.offered.saturating_sub(self.collected)
     }
 }

@@ -1,24 +1,27 @@
 //! The parts of a world, and what each event does with them.
-ghost use Rattle.std.specs.Prelude.{◌≡◌, ◌<◌, ℕ, IfOk, OnOk};
-ghost use Rattle.vub_shared.specs.MemSpaces.{sizes_of};
-ghost use Rattle.vub_shared.specs.TrailForms.{inner_of};
-ghost use Rattle.vub_world.specs.Split.{RingLies};
+ghost use Rattle.std.specs.Prelude.{◌≡◌, ◌<◌, ◌≤◌, ◌+◌, ℕ, IfOk, IfSome, OnOk, OnErr, length, true};
+ghost use Rattle.vub_shared.specs.Watched.{bytes_in, stores_in, sizes_in};
+ghost use Rattle.vub_driver.specs.Layout.{ring_of as main_ring};
+ghost use Rattle.vub_ring.specs.Ring.{last_head};
+ghost use Rattle.vub_schedule.specs.Spelling.{IsHeader, IsEvent};
 ghost use Rattle.vub_world.specs.Lives.{RingOfLife, SameRing};
-ghost use Rattle.vub_schedule.specs.Spelling.{IsHeader};
+ghost use Rattle.vub_world.specs.Split.{RingLies};
 
+use crate::drain::next_turn;
 use crate::guest::{Collected, Guest, GuestStep};
-use crate::layout::{AREA, AVAIL, SECTORS, STATUS, area_of, buffer_of, ring_of};
+use crate::layout::{AREA, AVAIL, SECTORS, STATUS, buffer_of, ring_of};
 use crate::log::Log;
-use crate::queue::{Queue, QueueSetup, Stepped, Turn};
+use crate::queue::{Queue, QueueSetup, Stepped};
 use crate::report::{Item, Items, Record};
+use crate::room::Room;
 use crate::split::SplitRing;
 use std::alloc::Global;
-use vub_base::{Area, Ask, Bytes, Header1, Memory, Shape, Space, Tag, get_u16};
+use vub_base::{Area, Ask, Header1, Memory, Shape, Space, Tag};
 use vub_device::{AnswerList, Answered, Asked, Entry, NumberList};
-use vub_disk::Disk;
 use vub_memdisk::MemDisk;
 use vub_schedule::Event;
-use vub_shared::{MemShared, Shared, TrailShared};
+use vub_disk::Disk;
+use vub_shared::{Shared, WatchedShared};
 
 /// A life of the device; its queue is there once it is attached.
 #[derive(Debug, Drop)]
@@ -31,7 +34,7 @@ struct Life {
 pub struct Machine {
     alloc: Global,
     header: Header1,
-    memory: TrailShared<MemShared>,
+    memory: WatchedShared,
     space: Space,
     ring: SplitRing,
     guest: Guest,
@@ -43,101 +46,46 @@ pub struct Machine {
     last: Record,
 }
 
-/// The most bytes that one store has.
-const STORE: usize = 4096;
-
-/// The bytes of the sectors that an ask writes.
-fn written_bytes(alloc: Global, fills: &[u8]) -> Result<Vec<u8>, Memory> {
-    let mut bytes = Vec::with_capacity(alloc, fills.len().saturating_mul(512)).map_err(|_| Memory)?;
-    for fill in fills {
-        bytes.extend_from_slice(&[*fill; 512]).map_err(|_| Memory)?;
-    }
-    Ok(bytes)
-}
-
 /// A request as the history has it.
-fn asked_of(alloc: Global, ask: &Ask) -> Result<Asked, Memory> {
-    Ok(match ask {
-        Ask::Read { sector, count } => Asked::Read {
-            sector: *sector,
-            count: *count,
-        },
+fn asked_of(ask: Ask, room: &mut Room) -> Asked
+    requires fits { AskFits (Some ask) }
+    requires lists { 1 ≤ room.old.lists }
+    ensures asked { result ≡ request_of ask }
+    ensures room { SpendsLists 1 room.old room.new }
+{
+    match ask {
+        Ask::Read { sector, count } => Asked::Read { sector, count },
         Ask::Write { sector, fills } => Asked::Write {
-            sector: *sector,
-            bytes: Bytes::new(written_bytes(alloc, fills)?),
+            sector,
+            bytes: room.filled(&fills),
         },
         Ask::Flush => Asked::Flush,
         Ask::Id => Asked::Id,
-        Ask::Discard(parts) => Asked::Discard(parts.clone().map_err(|_| Memory)?),
-        Ask::Zero(parts) => Asked::Zero(parts.clone().map_err(|_| Memory)?),
-    })
-}
-
-fn note(items: &mut Vec<Item>, item: Item) -> Result<(), Memory> {
-    items.push(item).map_err(|_| Memory)?;
-    Ok(())
-}
-
-/// The 2-byte number at a place; 0 past the end.
-fn word_at(bytes: &[u8], place: u64) -> u16 {
-    match usize::try_from(place) {
-        Ok(place) if place < bytes.len() && bytes.len() - place >= 2 => get_u16(bytes, place),
-        _ => 0,
-    }
-}
-
-/// The bytes from a place on, as many as there are up to `len`.
-fn bytes_at(bytes: &[u8], place: u64, len: usize) -> &[u8] {
-    match usize::try_from(place) {
-        Ok(place) if place <= bytes.len() => {
-            let rest = &bytes[place..];
-            &rest[..len.min(rest.len())]
-        }
-        _ => &[],
-    }
-}
-
-/// One turn of the life's queue, if one is attached.
-fn turn_of<M: Shared, D: Disk>(
-    life: &mut Option<Life>,
-    turn: Turn,
-    mem: &mut M,
-    disk: &mut D,
-) -> Stepped
-    requires { RingOfLife (RingLies (M.sizes mem.old)) life.old }
-    ensures ring { SameRing life.old life.new }
-    ensures sizes { (s : ℕ) → M.sizes mem.new s ≡ M.sizes mem.old s }
-    ensures capacity { D.capacity disk.new ≡ D.capacity disk.old }
-{
-    match life {
-        Some(Life { queue: Some(queue) }) => queue.turn(turn, mem, disk),
-        _ => Stepped::Idle,
+        Ask::Discard(parts) => Asked::Discard(parts),
+        Ask::Zero(parts) => Asked::Zero(parts),
     }
 }
 
 /// Guest memory of one area of zero bytes, and its space.
-fn guest_memory(alloc: Global) -> Result<(TrailShared<MemShared>, Space), Memory>
-    ensures { IfOk result (λ m. sizes_of (inner_of m.0) m.1.number ≡ AREA) }
+fn guest_memory(alloc: Global) -> Result<(WatchedShared, Space), Memory>
+    ensures space { IfOk result (λ m. m.1.number ≡ 0) }
+    ensures size { IfOk result (λ m. sizes_in m.0 0 ≡ AREA) }
+    ensures zero { IfOk result (λ m. (s p : ℕ) → bytes_in m.0 s p ≡ 0) }
 {
-    let mut shared = MemShared::new(alloc, Vec::new(alloc));
-    let space = match shared.create("mem", AREA) {
-        Ok(space) => space,
-        Err(_) => return Err(Memory),
-    };
-    let memory = TrailShared::new(alloc, shared, 1, STORE)?;
-    Ok((memory, space))
+    let mut memory = WatchedShared::new(alloc, AREA)?;
+    match memory.create("mem", AREA) {
+        Ok(space) => Ok((memory, space)),
+        Err(_) => Err(Memory),
+    }
 }
 
 impl Machine {
-    ghost use Rattle.vub_memdisk.specs.MemDisks.{values_of};
-    ghost use Rattle.std.specs.Borrow.{sem};
-    ghost use Rattle.vub_world.specs.Machine.{IsSound, LendsSound};
-
     /// A world in which nothing has happened.
     pub fn new(alloc: Global, header: &Header1) -> Result<Machine, Memory>
         requires { IsHeader header.now }
         ensures header { IfOk result (λ m. m.header ≡ header.now) }
         ensures sound { IfOk result IsSound }
+        ensures stands { IfOk result (λ m. MachineAt m (opening header.now)) }
     {
         let (memory, space) = guest_memory(alloc)?;
         Ok(Machine {
@@ -174,177 +122,235 @@ impl Machine {
         self.disk.sector(sector)
     }
 
-    /// The bytes of guest memory.
-    fn image(&self) -> &[u8] {
-        self.memory.inner().image(self.space)
+    /// That an event wasn't ready.
+    fn idle(&self) -> Result<Items, Memory>
+        ensures { IfOk result (λ is. is ≡ items.Idle ∷ []) }
+    {
+        let mut room = Room::new(self.alloc, 1, 0, 0, 0)?;
+        room.note(Item::Idle);
+        Ok(room.into_items())
     }
 
-    fn idle(&self) -> Result<Vec<Item>, Memory> {
-        let mut items = Vec::new(self.alloc);
-        note(&mut items, Item::Idle)?;
-        Ok(items)
+    /// Nothing: no item.
+    fn nothing(&self) -> Items
+        ensures { result ≡ [] }
+    {
+        Items::new(Vec::new(self.alloc))
     }
 
-    /// Notes the last store.
-    fn note_store(&self, tag: Tag, items: &mut Vec<Item>) -> Result<(), Memory> {
-        let Some(last) = self.memory.stores().checked_sub(1) else {
-            return Ok(());
-        };
-        let (space, place, bytes) = self.memory.store_at(last);
-        let area = if space == self.space {
-            Area::M
-        } else {
-            Area::I
-        };
-        let bytes = Bytes::new(Vec::from_slice(self.alloc, bytes).map_err(|_| Memory)?);
-        note(
-            items,
-            Item::Store {
+    /// Notes the store that was made last.
+    fn note_store(&self, tag: Tag, room: &mut Room)
+        requires one { OneSmall (stores_in self.now.memory) }
+        requires space { self.now.space.number ≡ 0 }
+        requires items { 1 ≤ room.old.item_room }
+        requires lists { 1 ≤ room.old.lists }
+        ensures items { room.new.items ≡ room.old.items ++ stored_items tag (stores_in self.now.memory) }
+        ensures spent { Spends 1 1 room.old room.new }
+    {
+        if let Some((space, place, bytes)) = self.memory.last_store() {
+            let area = if space == self.space {
+                Area::M
+            } else {
+                Area::I
+            };
+            let bytes = room.copy(bytes);
+            room.note(Item::Store {
                 tag,
                 area,
                 place,
                 bytes,
-            },
-        )
+            });
+        }
     }
 
     /// The head in the avail ring just before avail.idx.
-    fn last_head(&self) -> u16 {
-        let index = word_at(self.image(), AVAIL + 2).wrapping_sub(1);
-        let entry = match index.checked_rem(self.header.size) {
-            Some(entry) => u64::from(entry),
-            None => 0,
-        };
-        word_at(self.image(), AVAIL + 4 + 2 * entry)
+    fn last_head(&self) -> u16
+        requires { IsSound self.now }
+        ensures { result ≡ head_shown self.now }
+    {
+        let index = self.memory.word16(self.space, AVAIL + 2).wrapping_sub(1);
+        let entry = u64::from(index % self.header.size);
+        self.memory.word16(self.space, AVAIL + (4 + 2 * entry))
     }
 
     /// Notes that the waiting request is offered.
-    fn note_offer(&mut self, items: &mut Vec<Item>) -> Result<(), Memory>
-        requires { IsSound self.old }
-        ensures header { self.new.header ≡ self.old.header }
+    fn note_offer(&mut self, room: &mut Room)
+        requires sound { IsSound self.old }
+        requires fits { AskFits self.old.asked }
+        requires items { 1 ≤ room.old.item_room }
+        requires lists { 1 ≤ room.old.lists }
+        ensures frame { self.new ≡ record self.old { asked = None; log = self.new.log } }
         ensures sound { IsSound self.new }
+        ensures log { (ask : Ask) → self.old.asked ≡ Some ask → Offers self.old.log self.new.log (head_shown self.old) ask }
+        ensures items { (ask : Ask) → self.old.asked ≡ Some ask → room.new.items ≡ room.old.items ++ items.Made (entries.Offer 0 (request_of ask)) ∷ [] }
     {
         let Some(ask) = self.asked.take() else {
-            return Ok(());
+            return;
         };
-        let asked = asked_of(self.alloc, &ask)?;
         let head = self.last_head();
         self.log.offer(head, &ask);
-        note(items, Item::Made(Entry::Offer(0, asked)))
+        let asked = asked_of(ask, room);
+        room.note(Item::Made(Entry::Offer(0, asked)));
     }
 
     /// One step of the driver.
-    fn step_guest(&mut self) -> Result<GuestStep, Memory>
-        requires { IsSound self.old }
-        ensures header { self.new.header ≡ self.old.header }
+    fn step_guest(&mut self) -> GuestStep
+        requires sound { IsSound self.old }
+        ensures frame { self.new ≡ record self.old { memory = self.new.memory; guest = self.new.guest } }
         ensures sound { IsSound self.new }
+        ensures never { result ≡ answers.Failed → ⊥ }
+        ensures position { seen_in self.new.guest ≡ seen_in self.old.guest }
+        ensures driver { Steps result (driver_in self.old.guest) (driver_in self.new.guest) }
+        ensures memory { bytes_in self.new.memory ≡ after_maybe (next_store (driver_in self.old.guest).waiting) (bytes_in self.old.memory) }
+        ensures stores { stores_in self.new.memory ≡ with_maybe (next_store (driver_in self.old.guest).waiting) [] }
     {
-        self.memory.restart(1, STORE)?;
-        Ok(self.guest.step(&mut self.memory))
+        self.memory.restart();
+        self.guest.step(&mut self.memory)
     }
 
-    /// One store of the driver with its items; false where none was made.
-    fn guest_store(&mut self, items: &mut Vec<Item>) -> Result<bool, Memory>
-        requires { IsSound self.old }
-        ensures header { self.new.header ≡ self.old.header }
+    /// One store of the driver with its items; false where the driver has none to make after it.
+    fn guest_store(&mut self, room: &mut Room) -> bool
+        requires sound { IsSound self.old }
+        requires fits { FrontFits self.old }
+        requires items { 2 ≤ room.old.item_room }
+        requires lists { 2 ≤ room.old.lists }
+        ensures frame { self.new ≡ record self.old { memory = self.new.memory; guest = self.new.guest; asked = self.new.asked; log = self.new.log } }
         ensures sound { IsSound self.new }
+        ensures fits { FrontFits self.new }
+        ensures position { seen_in self.new.guest ≡ seen_in self.old.guest }
+        ensures spent { result ≡ true → Spends 1 1 room.old room.new }
+        ensures goes { (m : Moment) → FrontAt self.old m → GuestSteps (m.lanes 0).driver.waiting self.old self.new m room.old.items room.new.items result }
     {
-        match self.step_guest()? {
-            GuestStep::Idle | GuestStep::Failed => Ok(false),
+        match self.step_guest() {
+            GuestStep::Idle | GuestStep::Failed => false,
             GuestStep::Stored => {
-                self.note_store(Tag::G, items)?;
-                Ok(true)
+                self.note_store(Tag::G, room);
+                true
             }
             GuestStep::Offered => {
-                self.note_store(Tag::G, items)?;
-                self.note_offer(items)?;
-                Ok(true)
+                self.note_store(Tag::G, room);
+                self.note_offer(room);
+                false
             }
         }
     }
 
     /// At most so many stores of the driver.
-    fn guest_stores(&mut self, stores: u16, items: &mut Vec<Item>) -> Result<(), Memory>
-        requires { IsSound self.old }
-        ensures header { self.new.header ≡ self.old.header }
+    fn guest_stores(&mut self, stores: u16, room: &mut Room)
+        requires sound { IsSound self.old }
+        requires fits { FrontFits self.old }
+        requires items { stores + 1 ≤ room.old.item_room }
+        requires lists { stores + 1 ≤ room.old.lists }
+        ensures frame { self.new ≡ record self.old { memory = self.new.memory; guest = self.new.guest; asked = self.new.asked; log = self.new.log } }
         ensures sound { IsSound self.new }
+        ensures position { seen_in self.new.guest ≡ seen_in self.old.guest }
+        ensures goes { (m : Moment) (x : Waiting) → FrontAt self.old m → (m.lanes 0).driver.waiting ≡ Some x → GuestGoes stores x self.old self.new m room.old.items room.new.items }
     {
         for done in 0..stores {
-            if !self.guest_store(items)? {
-                return Ok(());
+            if !self.guest_store(room) {
+                return;
             }
         }
-        Ok(())
     }
 
-    /// The items, or that the event was idle where there are none.
-    fn items_or_idle(&self, items: Vec<Item>) -> Result<Vec<Item>, Memory> {
-        if items.is_empty() {
-            self.idle()
-        } else {
-            Ok(items)
-        }
-    }
-
-    fn guest(&mut self, stores: u16) -> Result<Vec<Item>, Memory>
-        requires { IsSound self.old }
+    fn guest(&mut self, stores: u16) -> Result<Items, Memory>
+        requires sound { IsSound self.old }
+        requires stands { IsStanding self.old }
         ensures header { self.new.header ≡ self.old.header }
         ensures sound { IsSound self.new }
+        ensures kept { OnErr result (self.new ≡ self.old) }
+        ensures performs { IfOk result (λ is. stores ≡ 16 → Performs self.old self.new (events.Guest 0 stores) is) }
     {
-        let mut items = Vec::new(self.alloc);
-        self.guest_stores(stores, &mut items)?;
-        self.items_or_idle(items)
+        if self.asked.is_none() {
+            return self.idle();
+        }
+        if self.log.is_full() {
+            return Err(Memory);
+        }
+        let most = usize::from(stores) + 1;
+        let mut room = Room::new(self.alloc, most, most, 0, 0)?;
+        self.guest_stores(stores, &mut room);
+        Ok(room.into_items())
     }
 
-    fn ask(&mut self, shape: Shape, ask: &Ask) -> Result<Vec<Item>, Memory>
-        requires { IsSound self.old }
+    fn ask(&mut self, shape: Shape, ask: &Ask) -> Result<Items, Memory>
+        requires sound { IsSound self.old }
+        requires stands { IsStanding self.old }
         ensures header { self.new.header ≡ self.old.header }
         ensures sound { IsSound self.new }
+        ensures kept { OnErr result (self.new ≡ self.old) }
+        ensures performs { IfOk result (λ is. IsEvent self.old.header (events.Ask 0 shape ask.now) → Performs self.old self.new (events.Ask 0 shape ask.now) is) }
     {
         if !self.guest.queue_request(shape, ask) {
             return self.idle();
         }
         self.asked = Some(ask.copied());
-        Ok(Vec::new(self.alloc))
+        Ok(self.nothing())
     }
 
-    fn collect(&mut self) -> Result<Vec<Item>, Memory>
-        requires { IsSound self.old }
+    /// What the driver takes from the used ring.
+    fn take_element(&mut self) -> Collected
+        requires sound { IsSound self.old }
+        ensures frame { self.new ≡ record self.old { memory = self.new.memory; guest = self.new.guest } }
+        ensures sound { IsSound self.new }
+        ensures never { result ≡ takes.Failed → ⊥ }
+        ensures memory { bytes_in self.new.memory ≡ bytes_in self.old.memory }
+        ensures shown { Shows result (main_ring 0 self.old.header.size) (bytes_in self.old.memory) (seen_in self.old.guest) }
+        ensures driver { Collects result (driver_in self.old.guest) (driver_in self.new.guest) (seen_in self.old.guest) (seen_in self.new.guest) }
+    {
+        self.memory.restart();
+        self.guest.collect(&mut self.memory)
+    }
+
+    fn collect(&mut self) -> Result<Items, Memory>
+        requires sound { IsSound self.old }
+        requires stands { IsStanding self.old }
         ensures header { self.new.header ≡ self.old.header }
         ensures sound { IsSound self.new }
+        ensures kept { OnErr result (self.new ≡ self.old) }
+        ensures performs { IfOk result (λ is. Performs self.old self.new (events.Collect 0) is) }
     {
-        match self.guest.collect(&mut self.memory) {
-            Collected::Nothing | Collected::Failed => self.idle(),
-            Collected::Head(_) => {
-                let mut items = Vec::new(self.alloc);
-                let number = self.log.collect();
-                note(&mut items, Item::Made(Entry::Collect(0, number)))?;
-                Ok(items)
+        let mut room = Room::new(self.alloc, 1, 0, 0, 0)?;
+        match self.take_element() {
+            Collected::Nothing | Collected::Failed => room.note(Item::Idle),
+            Collected::Head(head) => {
+                let number = self.log.at(head).number;
+                self.log.collect();
+                room.note(Item::Made(Entry::Collect(0, number)));
             }
         }
+        Ok(room.into_items())
     }
 
-    fn boot(&mut self) -> Result<Vec<Item>, Memory>
-        requires { IsSound self.old }
+    fn boot(&mut self) -> Result<Items, Memory>
+        requires sound { IsSound self.old }
+        requires stands { IsStanding self.old }
         ensures header { self.new.header ≡ self.old.header }
         ensures sound { IsSound self.new }
+        ensures kept { OnErr result (self.new ≡ self.old) }
+        ensures performs { IfOk result (λ is. Performs self.old self.new events.Boot is) }
     {
         if self.life.is_some() {
             return self.idle();
         }
         self.life = Some(Life { queue: None });
-        Ok(Vec::new(self.alloc))
+        Ok(self.nothing())
     }
 
     /// Whether there is a life whose queue isn't attached yet.
-    fn is_joining(&self) -> bool {
+    fn is_joining(&self) -> bool
+        ensures { result ≡ is_joining self.now.life }
+    {
         matches!(&self.life, Some(Life { queue: None }))
     }
 
-    fn join(&mut self) -> Result<Vec<Item>, Memory>
-        requires { IsSound self.old }
+    fn join(&mut self) -> Result<Items, Memory>
+        requires sound { IsSound self.old }
+        requires stands { IsStanding self.old }
         ensures header { self.new.header ≡ self.old.header }
         ensures sound { IsSound self.new }
+        ensures kept { OnErr result (self.new ≡ self.old) }
+        ensures performs { IfOk result (λ is. Performs self.old self.new events.Join is) }
     {
         if !self.is_joining() {
             return self.idle();
@@ -356,58 +362,89 @@ impl Machine {
         };
         let queue = Queue::new(self.alloc, &setup)?;
         self.life = Some(Life { queue: Some(queue) });
-        Ok(Vec::new(self.alloc))
+        Ok(self.nothing())
     }
 
     /// The answer of a request whose status stands in its buffer.
-    fn answer(&self, head: u16) -> Result<Answered, Memory> {
+    fn answer(&self, head: u16, room: &mut Room) -> Answered
+        requires sound { IsSound self.now }
+        requires fits { head < 64 }
+        requires few { (slot_in self.now.log head).reads ≤ 1 }
+        requires lists { 1 ≤ room.old.lists }
+        ensures answer { result ≡ answer_for (slot_in self.now.log head) (bytes_in self.now.memory) head }
+        ensures room { SpendsLists 1 room.old room.new }
+    {
         let buffer = buffer_of(0, head);
         let outstanding = self.log.at(head);
-        let status = match bytes_at(self.image(), buffer + STATUS, 1) {
-            [status] => *status,
-            _ => 0,
-        };
+        let status = self.memory.byte(self.space, buffer + STATUS);
         let read = if status == 0 {
             512 * usize::from(outstanding.reads)
         } else {
             0
         };
-        let bytes = bytes_at(self.image(), buffer + SECTORS, read);
-        Ok(Answered {
+        let bytes = self.memory.bytes(self.space, buffer + SECTORS, read);
+        Answered {
             number: outstanding.number,
             status,
-            bytes: Bytes::new(Vec::from_slice(self.alloc, bytes).map_err(|_| Memory)?),
-        })
+            bytes: room.copy(bytes),
+        }
+    }
+
+    /// The answers of a batch.
+    fn batch_answers(&self, queue: &Queue, room: &mut Room) -> Vec<Answered>
+        requires sound { IsSound self.now }
+        requires fits { BatchFits self.now.log (state_of queue.now).batch }
+        requires room { HasTurnRoom (length (state_of queue.now).batch) room.old }
+        ensures answers { result.items ≡ answers_for self.now.log (bytes_in self.now.memory) (state_of queue.now).batch }
+        ensures room { SpendsAnswers (length (state_of queue.now).batch) room.old room.new }
+    {
+        let mut answers = room.answers();
+        for element in 0..queue.batch_len() {
+            if let Some(head) = queue.batch_head(element) {
+                let answer = self.answer(head, room);
+                answers.push_reserved(answer);
+            }
+        }
+        answers
     }
 
     /// The answers of the batch that the next store shows; none if it shows none.
-    fn answers(&self) -> Result<Vec<Answered>, Memory> {
-        let mut answers = Vec::new(self.alloc);
-        let Some(Life { queue: Some(queue) }) = &self.life else {
-            return Ok(answers);
-        };
-        if !queue.shows_next() {
-            return Ok(answers);
-        }
-        for element in 0..queue.batch_len() {
-            if let Some(head) = queue.batch_head(element) {
-                answers.push(self.answer(head)?).map_err(|_| Memory)?;
-            }
-        }
-        Ok(answers)
-    }
-
-    /// One turn of the device.
-    fn turn(&mut self, turn: Turn) -> Result<Stepped, Memory>
-        requires { IsSound self.old }
-        ensures header { self.new.header ≡ self.old.header }
-        ensures sound { IsSound self.new }
+    fn answers(&self, room: &mut Room) -> Vec<Answered>
+        requires sound { IsSound self.now }
+        requires fits { BatchFits self.now.log (batch_in self.now.life) }
+        requires room { HasTurnRoom (length (batch_in self.now.life)) room.old }
+        ensures answers { result.items ≡ answers_shown self.now.log (bytes_in self.now.memory) self.now.life }
+        ensures room { SpendsUpTo (shown_in self.now.life) room.old room.new }
     {
-        self.memory.restart(1, STORE)?;
-        Ok(turn_of(&mut self.life, turn, &mut self.memory, &mut self.disk))
+        match &self.life {
+            Some(Life { queue: Some(queue) }) if queue.shows_next() => {
+                self.batch_answers(queue, room)
+            }
+            _ => Vec::new(self.alloc),
+        }
     }
 
-    fn value_of(&self, sector: u64) -> [u8; 512] {
+    /// The next turn of a drain in which so many requests were accepted.
+    fn turn(&mut self, accepted: u16) -> Stepped
+        requires sound { IsSound self.old }
+        requires stands { (m : Moment) × IsReached self.old.header m × MachineAt self.old m }
+        ensures frame { self.new ≡ record self.old { memory = self.new.memory; life = self.new.life; disk = self.new.disk } }
+        ensures sound { IsSound self.new }
+        ensures turns { (m : Moment) → IsReached self.old.header m → MachineAt self.old m → TurnGoes (next_turn self.old.header accepted m) self.old self.new m result }
+    {
+        self.memory.restart();
+        match &mut self.life {
+            Some(Life { queue: Some(queue) }) => {
+                next_turn(queue, accepted, &mut self.memory, &mut self.disk)
+            }
+            _ => Stepped::Idle,
+        }
+    }
+
+    /// The value of a sector, or zeros past the last one.
+    fn value_of(&self, sector: u64) -> [u8; 512]
+        ensures { sector < capacity_of self.now.disk → result ≡ values_of self.now.disk sector }
+    {
         if sector < self.disk.capacity() {
             *self.disk.sector(sector)
         } else {
@@ -415,109 +452,119 @@ impl Machine {
         }
     }
 
-    fn note_entry(&self, entry: Entry, items: &mut Vec<Item>) -> Result<(), Memory> {
-        note(items, Item::Made(entry))
-    }
-
-    /// Notes the items of a turn. The answers are those of a batch that it showed.
-    fn note_turn(
-        &self,
-        stepped: Stepped,
-        answers: Vec<Answered>,
-        items: &mut Vec<Item>,
-    ) -> Result<(), Memory> {
+    /// The entry of a turn that stores nothing.
+    fn entry_of(&self, stepped: Stepped) -> Option<Entry>
+        ensures { SectorFits (capacity_of self.now.disk) stepped → IsEntry self.now.log (values_of self.now.disk) stepped result }
+    {
         match stepped {
-            Stepped::Idle | Stepped::SharedFault | Stepped::Broken(_) => Ok(()),
-            Stepped::Stored(tag) => self.note_store(tag, items),
-            Stepped::Completed(_) => self.note_store(Tag::T5, items),
-            Stepped::Accepted(head) => {
-                self.note_entry(Entry::Accept(0, self.log.at(head).number), items)
-            }
+            Stepped::Started => Some(Entry::Start(0, NumberList::new(Vec::new(self.alloc)))),
+            Stepped::Accepted(head) => Some(Entry::Accept(0, self.log.at(head).number)),
             Stepped::Looked(head, sector) => {
                 let value = self.value_of(sector);
-                self.note_entry(
-                    Entry::Look(0, self.log.at(head).number, sector, value),
-                    items,
-                )
+                Some(Entry::Look(0, self.log.at(head).number, sector, value))
             }
             Stepped::Acted(head, sector) => {
                 let value = self.value_of(sector);
-                self.note_entry(
-                    Entry::Act(0, self.log.at(head).number, sector, value),
-                    items,
-                )
+                Some(Entry::Act(0, self.log.at(head).number, sector, value))
             }
-            Stepped::Synced(head) => {
-                self.note_entry(Entry::Sync(0, self.log.at(head).number), items)
-            }
-            Stepped::Faulted(head) => {
-                self.note_entry(Entry::Fault(0, self.log.at(head).number), items)
-            }
-            Stepped::Started => {
-                let open = NumberList::new(Vec::new(self.alloc));
-                self.note_entry(Entry::Start(0, open), items)
-            }
-            Stepped::Published => {
-                self.note_store(Tag::SP5, items)?;
-                self.note_entry(Entry::Publish(0, AnswerList::new(answers)), items)
-            }
+            Stepped::Synced(head) => Some(Entry::Sync(0, self.log.at(head).number)),
+            Stepped::Faulted(head) => Some(Entry::Fault(0, self.log.at(head).number)),
+            _ => None,
         }
     }
 
-    /// The next turn of a drain in which so many requests were accepted.
-    fn draining(&self, accepted: u16) -> Turn {
-        match &self.life {
-            Some(Life { queue: Some(queue) }) => queue.draining(accepted),
-            _ => Turn::Any,
+    /// Notes the items of a turn. The answers are those of a batch that it showed.
+    fn note_turn(&self, stepped: Stepped, answers: Vec<Answered>, room: &mut Room)
+        requires space { self.now.space.number ≡ 0 }
+        requires stores { StoreFits stepped (stores_in self.now.memory) }
+        requires sector { SectorFits (capacity_of self.now.disk) stepped }
+        requires items { 2 ≤ room.old.item_room }
+        requires lists { 1 ≤ room.old.lists }
+        ensures items { room.new.items ≡ room.old.items ++ noted self.now.log (values_of self.now.disk) (stores_in self.now.memory) answers.items stepped }
+        ensures spent { SpendsTurn room.old room.new }
+    {
+        match stepped {
+            Stepped::Stored(tag) => self.note_store(tag, room),
+            Stepped::Completed(_) => self.note_store(Tag::T5, room),
+            Stepped::Published => {
+                self.note_store(Tag::SP5, room);
+                room.note(Item::Made(Entry::Publish(0, AnswerList::new(answers))));
+            }
+            _ => {
+                if let Some(entry) = self.entry_of(stepped) {
+                    room.note(Item::Made(entry));
+                }
+            }
         }
     }
 
     /// One step of a drain with its items; false where none was made.
-    fn drain_step(&mut self, accepted: &mut u16, items: &mut Vec<Item>) -> Result<bool, Memory>
-        requires { IsSound self.old }
-        ensures header { self.new.header ≡ self.old.header }
+    fn drain_step(&mut self, accepted: &mut u16, room: &mut Room) -> bool
+        requires sound { IsSound self.old }
+        requires stands { (m : Moment) × IsReached self.old.header m × MachineAt self.old m }
+        requires room { HasTurnRoom (length (batch_in self.old.life)) room.old }
+        ensures frame { self.new ≡ record self.old { memory = self.new.memory; life = self.new.life; disk = self.new.disk } }
         ensures sound { IsSound self.new }
+        ensures goes { (m : Moment) → IsReached self.old.header m → MachineAt self.old m → accepted.old < 65535 → DrainSteps result (next_turn self.old.header accepted.old m) self.old self.new m room.old.items room.new.items accepted.old accepted.new }
+        ensures spent { SpendsStep (shown_in self.old.life) room.old room.new }
+        ensures idle { result ≡ false → room.new.item_room ≡ room.old.item_room }
     {
-        let answers = self.answers()?;
-        let stepped = self.turn(self.draining(*accepted))?;
-        match stepped {
-            Stepped::Idle | Stepped::SharedFault | Stepped::Broken(_) => return Ok(false),
-            Stepped::Accepted(_) => *accepted = accepted.saturating_add(1),
-            _ => {}
+        let answers = self.answers(room);
+        let stepped = self.turn(*accepted);
+        if stepped == Stepped::Idle {
+            return false;
         }
-        self.note_turn(stepped, answers, items)?;
-        Ok(true)
+        if matches!(stepped, Stepped::Accepted(_)) {
+            *accepted = accepted.saturating_add(1);
+        }
+        self.note_turn(stepped, answers, room);
+        true
     }
 
-    /// Steps until none is ready. The loop's bound is one that no run reaches.
-    fn drain_steps(&mut self, items: &mut Vec<Item>) -> Result<(), Memory>
-        requires { IsSound self.old }
-        ensures header { self.new.header ≡ self.old.header }
+    /// Steps until none is ready; false where none was. The loop's bound is one that no run
+    /// reaches.
+    fn drain_steps(&mut self, room: &mut Room) -> bool
+        requires sound { IsSound self.old }
+        requires room { HasDrainRoom (offered_in self.old.log - collected_in self.old.log) room.old }
+        requires stands { IsStanding self.old }
+        ensures frame { self.new ≡ record self.old { memory = self.new.memory; life = self.new.life; disk = self.new.disk } }
         ensures sound { IsSound self.new }
+        ensures drains { (es : List Event) (rs : List Record) (m : Moment) → Stands self.old.header es rs m → MachineAt self.old m → DrainGoes result self.old self.new m room.old.items room.new.items }
+        ensures idle { result ≡ false → room.new.item_room ≡ room.old.item_room }
     {
         let mut accepted: u16 = 0;
         for done in 0..u64::MAX {
-            if !self.drain_step(&mut accepted, items)? {
-                return Ok(());
+            if !self.drain_step(&mut accepted, room) {
+                return done > 0;
             }
         }
-        Ok(())
+        true
     }
 
-    fn drain(&mut self) -> Result<Vec<Item>, Memory>
-        requires { IsSound self.old }
+    fn drain(&mut self) -> Result<Items, Memory>
+        requires sound { IsSound self.old }
+        requires stands { IsStanding self.old }
         ensures header { self.new.header ≡ self.old.header }
         ensures sound { IsSound self.new }
+        ensures kept { OnErr result (self.new ≡ self.old) }
+        ensures performs { IfOk result (λ is. Performs self.old self.new (events.Drain 0) is) }
     {
-        let mut items = Vec::new(self.alloc);
-        self.drain_steps(&mut items)?;
-        self.items_or_idle(items)
+        let undone = self.log.outstanding().min(64) as usize;
+        let mut room = Room::new(self.alloc, 14 * undone + 6, 8 * undone + 3, undone + 1, undone)?;
+        if !self.drain_steps(&mut room) {
+            room.note(Item::Idle);
+        }
+        Ok(room.into_items())
     }
 
-    fn items_of(&mut self, event: &Event) -> Result<Vec<Item>, Memory>
-        requires { IsSound self.old }
+    fn items_of(&mut self, event: &Event) -> Result<Items, Memory>
+        requires fits { IsEvent self.old.header event.now }
+        requires sound { IsSound self.old }
+        requires stands { IsStanding self.old }
         ensures header { self.new.header ≡ self.old.header }
         ensures sound { IsSound self.new }
+        ensures kept { OnErr result (self.new ≡ self.old) }
+        ensures performs { IfOk result (λ is. Performs self.old self.new event.now is) }
     {
         match event {
             Event::Ask(_, shape, ask) => self.ask(*shape, ask),
@@ -531,23 +578,27 @@ impl Machine {
 
     /// Plays an event, and keeps its record.
     pub fn perform(&mut self, event: &Event) -> Result<(), Memory>
-        requires { IsSound self.old }
+        requires fits { IsEvent self.old.header event.now }
+        requires sound { IsSound self.old }
+        requires stands { IsStanding self.old }
         ensures header { self.new.header ≡ self.old.header }
         ensures sound { IsSound self.new }
+        ensures stands { IsStanding self.new }
+        ensures kept { OnErr result (self.new ≡ self.old) }
         ensures event { OnOk result (self.new.last.event ≡ event.now) }
+        ensures performs { OnOk result (Performs self.old self.new event.now self.new.last.items) }
     {
         let made = event.copy()?;
         let items = self.items_of(event)?;
-        self.last = Record {
-            event: made,
-            items: Items::new(items),
-        };
+        self.last = Record { event: made, items };
         Ok(())
     }
 
     /// Plays an event, and lends its record.
     pub fn event(&mut self, event: &Event) -> Result<&Record, Memory>
-        requires { IsSound self.old }
+        requires fits { IsEvent self.old.header event.now }
+        requires sound { IsSound self.old }
+        requires stands { IsStanding self.old }
         ensures* after { sem 𝓛 (LendsSound self.entry event.now result) }
     {
         self.perform(event)?;

@@ -1,4 +1,4 @@
-ghost use Rattle.std.specs.Prelude.{◌≡◌, ◌<◌, IfOk};
+ghost use Rattle.std.specs.Prelude.{◌≡◌, ◌<◌, [], IfOk};
 ghost use Rattle.vub_schedule.specs.Spelling.{IsHeader, IsEvent};
 
 use crate::machine::Machine;
@@ -8,38 +8,44 @@ use std::marker::Model;
 use vub_base::{Header1, Memory};
 use vub_schedule::Event;
 
-/// A guest with its driver, the device and its disk, between two events of a schedule.
+/// A guest with its driver, the device and its disk, between two events of a schedule. It stands
+/// for the events that it played, with their records.
 #[derive(Drop)]
 pub struct World {
     machine: Machine,
 }
 
 impl Model for World {
+    ghost use Rattle.std.specs.Prelude.{◌×◌};
     ghost use Rattle.vub_world.specs.declared.machine.Machine.{Machine};
     ghost use Rattle.vub_world.specs.Machine.{IsSound};
+    ghost use Rattle.vub_world.specs.MachineAt.{IsStanding};
 
     ghost Value = { Machine };
 
     ghost view = { λ w. w.machine };
 
-    ghost invariant = { λ w. IsSound w.machine };
+    ghost invariant = { λ w. IsSound w.machine × IsStanding w.machine };
 }
 
 impl World {
     ghost use Rattle.std.specs.Borrow.{sem};
     ghost use Rattle.vub_memdisk.specs.MemDisks.{values_of};
+    ghost use Rattle.vub_world.specs.MachineAt.{StandsFor};
     ghost use Rattle.vub_world.specs.World.{header_in, disk_in, LendsRecord};
 
-    /// A world in which nothing has happened: guest memory and disk are zero.
+    /// A world in which nothing has happened: the driver's memory and the disk are zero.
     pub fn new(alloc: Global, header: &Header1) -> Result<World, Memory>
         requires { IsHeader header.now }
-        ensures { IfOk result (λ w. header_in w ≡ header.now) }
+        ensures header { IfOk result (λ w. header_in w ≡ header.now) }
+        ensures stands { IfOk result (λ w. StandsFor w [] []) }
     {
         let machine = Machine::new(alloc, header)?;
         Ok(World { machine })
     }
 
-    /// Plays an event, and lends its record.
+    /// Plays an event, and lends its record. All memory that the event can need is reserved before
+    /// its first change: refused, it changes nothing.
     pub fn event(&mut self, event: &Event) -> Result<&Record, Memory>
         requires { IsEvent (header_in self.old) event.now }
         ensures* after { sem 𝓛 (LendsRecord self.entry event.now result) }

@@ -1,0 +1,40 @@
+-- What a log tells of a queue's requests.
+use Rattle.std.specs.Prelude.{◌≡◌, ◌<◌, ℕ, ◌+◌, ◌-◌, ◌^◌, ◌==◌, ◌&&◌, nat_lt, if◌then◌else◌, length, get_or}
+use Rattle.vub_base.specs.MemForms.{next_count}
+use Rattle.vub_base.specs.declared.request.Ask.{Ask}
+use Rattle.vub_base.specs.declared.request.Ask.TheVariants as asks
+use Rattle.vub_world.specs.declared.log.Log.{Log}
+use Rattle.vub_world.specs.declared.log.Outstanding.{Outstanding}
+
+-- how many requests were offered, and how many collected
+abbrev pub offered_in : Log → ℕ
+offered_in l = l.offered
+
+abbrev pub collected_in : Log → ℕ
+collected_in l = l.collected
+
+-- for how many heads it has a slot
+abbrev pub size_in : Log → ℕ
+size_in l = length l.outstanding.items
+
+abbrev pub no_request : Outstanding
+no_request = record { number = 0; reads = 0 }
+
+-- what it has under a head
+abbrev pub slot_in : Log → ℕ → Outstanding
+slot_in l head = get_or l.outstanding.items head no_request
+
+-- how many sectors a request reads
+abbrev pub reads_in : Ask → ℕ
+reads_in (asks.Read s n) = n
+reads_in a = 0
+
+abbrev pub new_slot : Log → Ask → Outstanding
+new_slot l a = record { number = offered_in l; reads = reads_in a }
+
+-- a request is noted under a head, if the log has a slot for it
+pub record Offers (before now : Log) (head : ℕ) (a : Ask) : Type 0 where
+  pub offered : offered_in now ≡ next_count (offered_in before)
+  pub collected : collected_in now ≡ collected_in before
+  pub size : size_in now ≡ size_in before
+  pub slots : (d : ℕ) → slot_in now d ≡ (if (d == head) && nat_lt d (size_in before) then new_slot before a else slot_in before d)

@@ -1,0 +1,99 @@
+-- The machine stands at a moment of a run.
+use Rattle.std.specs.Prelude.{◌≡◌, ◌<◌, ℕ, ◌+◌, ◌%◌, true, false, List, [], ◌∷◌, ◌++◌, length, take, slice_index, Option, Some, None}
+use Rattle.vub_base.specs.declared.header.Header1.{Header1}
+use Rattle.vub_base.specs.declared.request.Ask.{Ask}
+use Rattle.vub_shared.specs.Watched.{bytes_in}
+use Rattle.vub_ring.specs.declared.readiness.Turn.{Turn}
+use Rattle.vub_driver.specs.Drivers.{Waiting}
+use Rattle.vub_device.specs.Legal.{Legal}
+use Rattle.vub_device.specs.declared.entry.Asked.{Asked}
+use Rattle.vub_device.specs.declared.entry.Asked.TheVariants as requests
+use Rattle.vub_device.specs.declared.entry.Entry.{Entry}
+use Rattle.vub_device.specs.Past.{asked, published, collected, is_among, started}
+use Rattle.vub_memdisk.specs.MemDisks.{values_of}
+use Rattle.vub_schedule.specs.declared.types.Event.{Event}
+use Rattle.vub_world.specs.declared.report.items.Item.{Item}
+use Rattle.vub_world.specs.declared.report.items.Record.{Record}
+use Rattle.vub_world.specs.declared.split.SplitRing.{SplitRing}
+use Rattle.vub_world.specs.declared.log.Log.{Log}
+use Rattle.vub_world.specs.declared.queue.Queue.{Queue}
+use Rattle.vub_world.specs.declared.machine.Life.{Life}
+use Rattle.vub_world.specs.declared.machine.Machine.{Machine}
+use Rattle.vub_world.specs.Logs.{offered_in, collected_in, size_in, slot_in}
+use Rattle.vub_world.specs.GuestState.{driver_in, seen_in}
+use Rattle.vub_world.specs.QueueState.{state_of}
+use Rattle.vub_world.specs.QueueAt.{QueueStands, DiskAt}
+use Rattle.vub_world.specs.Moments.{Moment}
+use Rattle.vub_world.specs.Run.{Stands, Plays, turns}
+use Rattle.vub_world.specs.Tracking.{TracksAlways, history_of}
+
+-- the request that waits to be offered is the one that is kept
+abbrev pub AskAt : Option Waiting → Option Ask → Type 0
+AskAt None asked = asked ≡ None
+AskAt (Some w) asked = asked ≡ Some w.ask
+
+-- memory and driver, at a moment
+pub record FrontAt (w : Machine) (m : Moment) : Type 0 where
+  pub memory : bytes_in w.memory ≡ m.scene.memory
+  pub driver : driver_in w.guest ≡ (m.lanes 0).driver
+  pub asks : AskAt (m.lanes 0).driver.waiting w.asked
+
+-- a queue that isn't attached wasn't started
+abbrev pub AttachedAt : Header1 → SplitRing → Moment → Option Queue → Type 0
+AttachedAt h r m None = (m.joined ≡ false) × ((m.lanes 0).attached ≡ false) × (started m.scene.past 0 ≡ false)
+AttachedAt h r m (Some q) = (m.joined ≡ true) × ((m.lanes 0).attached ≡ true) × QueueStands h r m (state_of q)
+
+abbrev pub LifeAt : Header1 → SplitRing → Moment → Option Life → Type 0
+LifeAt h r m None = m.lives ≡ false
+LifeAt h r m (Some l) = (m.lives ≡ true) × AttachedAt h r m l.queue
+
+abbrev pub reads_of : Option Asked → ℕ
+reads_of (Some (requests.Read s n)) = n
+reads_of r = 0
+
+-- the numbers of a queue's requests: under the head of each that is offered and not collected stand its number and how
+-- many sectors it reads
+pub record LogAt (size : ℕ) (past : List Entry) (heads : List ℕ) (log : Log) : Type 0 where
+  pub offered : offered_in log ≡ length heads
+  pub collected : collected_in log ≡ collected past 0
+  pub places : size_in log ≡ size
+  pub slots : (k : ℕ) → k < length heads → is_among (take (collected past 0) (published past 0)) k ≡ false → slot_in log (slice_index heads k) ≡ record { number = k; reads = reads_of (asked past 0 k) }
+
+pub record MachineAt (w : Machine) (m : Moment) : Type 0 where
+  pub front : FrontAt w m
+  pub position : seen_in w.guest ≡ (w.header.base + collected m.scene.past 0) % 65536
+  pub life : LifeAt w.header w.ring m w.life
+  pub disk : DiskAt w.header.capacity m.scene.past (values_of w.disk)
+  pub log : LogAt w.header.size m.scene.past (m.scene.heads 0) w.log
+
+-- the machine stands for these events and their records
+abbrev pub StandsFor : Machine → List Event → List Record → Type 0
+StandsFor w es rs = (m : Moment) × Stands w.header es rs m × MachineAt w m
+
+-- it stands for some events
+abbrev pub IsStanding : Machine → Type 0
+IsStanding w = (es : List Event) × (rs : List Record) × StandsFor w es rs
+
+-- the records are a run of the events under that header; their history is legal, and every queue tracks it after each
+-- item, taken together with the entry that it makes
+pub record IsLegalRun (h : Header1) (es : List Event) (rs : List Record) : Type 0 where
+  pub legal : Legal h.capacity h.mode (history_of rs)
+  pub tracked : TracksAlways h rs
+
+-- for all events and records that a world stood for, it stands for these and one event more with its record
+abbrev pub StandsOn : Machine → Machine → Event → Record → Type 0
+StandsOn w now e r = (es : List Event) (rs : List Record) → StandsFor w es rs → StandsFor now (es ++ e ∷ []) (rs ++ r ∷ []) × IsLegalRun w.header (es ++ e ∷ []) (rs ++ r ∷ [])
+
+-- wherever the machine stood, the event plays with these items, and leads to where it stands now
+abbrev pub Performs : Machine → Machine → Event → List Item → Type 0
+Performs w now e is = (es : List Event) (rs : List Record) (m : Moment) → Stands w.header es rs m → MachineAt w m → (next : Moment) × Plays w.header m e is next × MachineAt now next
+
+-- a moment of a run, also within a drain
+pub record IsReached (h : Header1) (m : Moment) : Type 0 where
+  pub events : List Event
+  pub records : List Record
+  pub from : Moment
+  pub stands : Stands h events records from
+  pub count : ℕ
+  pub choose : Moment → Turn
+  pub is : m ≡ (turns count choose h 0 from).next

@@ -1,0 +1,26 @@
+//! The device's turns in a drain.
+
+use crate::queue::{Queue, Stepped};
+use vub_memdisk::MemDisk;
+use vub_shared::WatchedShared;
+
+/// The next turn of a drain in which so many requests were accepted. Where memory keeps no store
+/// yet, nothing fails in it.
+pub fn next_turn(
+    queue: &mut Queue,
+    accepted: u16,
+    memory: &mut WatchedShared,
+    disk: &mut MemDisk,
+) -> Stepped
+    requires lies { RingLies (sizes_in memory.old) (ring_in queue.old) }
+    requires fresh { stores_in memory.old ≡ [] }
+    ensures ring { ring_in queue.new ≡ ring_in queue.old }
+    ensures sizes { (s : ℕ) → sizes_in memory.new s ≡ sizes_in memory.old s }
+    ensures capacity { capacity_of disk.new ≡ capacity_of disk.old }
+    ensures turns { (h : Header1) (r : SplitRing) (m : Moment) (log : Log) → IsReached h m → capacity_of disk.old ≡ h.capacity → IsMainRing r h.size → 1048576 ≤ sizes_in memory.old 0
+        → DeviceAt h r m (device queue.old memory.old disk.old) → LogAt h.size m.scene.past (m.scene.heads 0) log
+        → DeviceTurns h r m (next_turn h accepted m) log (device queue.old memory.old disk.old) (device queue.new memory.new disk.new) result }
+{
+    let turn = queue.draining(accepted);
+    queue.turn(turn, memory, disk)
+}

@@ -1,0 +1,177 @@
+//! Memory that is reserved for the items of an event before it changes anything.
+ghost use Rattle.std.specs.Prelude.{◌≡◌, ◌<◌, ◌≤◌, ◌+◌, ◌-◌, ◌*◌, ◌++◌, ◌∷◌, [], All, IfOk, OnOk, length, replicate, flat_map, vec_len, vec_capacity};
+
+use crate::report::{Item, Items};
+use std::alloc::Global;
+use std::marker::Model;
+use vub_base::{Bytes, Memory};
+use vub_device::Answered;
+
+/// The bytes that a list has room for: a sector.
+const LIST: usize = 512;
+
+/// Items so far, with room for so many more, for so many lists of bytes of a sector, and for so
+/// many lists of answers.
+#[derive(Drop)]
+pub struct Room {
+    items: Vec<Item>,
+    item_room: usize,
+    // Each empty, with room for a sector.
+    lists: Vec<Vec<u8>>,
+    // Each empty, with room for so many answers.
+    answer_lists: Vec<Vec<Answered>>,
+    answers: usize,
+}
+
+impl Model for Room {
+    ghost use Rattle.std.specs.Prelude.{◌≡◌, ◌≤◌, ◌+◌, [], All, length, vec_len, vec_capacity};
+    ghost use Rattle.vub_world.specs.Rooms.{RoomState};
+
+    ghost Value = { RoomState };
+
+    ghost view = { λ r. record { items = r.items.items; item_room = r.item_room; lists = length r.lists.items; answer_lists = length r.answer_lists.items; answers = r.answers } };
+
+    ghost invariant = { λ r. (vec_len r.items + r.item_room ≤ vec_capacity r.items) × All (λ l. (l.items ≡ []) × (512 ≤ vec_capacity l)) r.lists.items × All (λ l. (l.items ≡ []) × (r.answers ≤ vec_capacity l)) r.answer_lists.items };
+}
+
+/// So many lists of bytes.
+fn byte_lists(alloc: Global, count: usize) -> Result<Vec<Vec<u8>>, Memory>
+    ensures count { IfOk result (λ v. length v.items ≡ count) }
+    ensures room { IfOk result (λ v. All (λ l. (l.items ≡ []) × (512 ≤ vec_capacity l)) v.items) }
+{
+    let mut lists = Vec::with_capacity(alloc, count).map_err(|_| Memory)?;
+    for _made in 0..count {
+        add_list(alloc, &mut lists)?;
+    }
+    Ok(lists)
+}
+
+fn add_list(alloc: Global, lists: &mut Vec<Vec<u8>>) -> Result<(), Memory>
+    requires { All (λ l. (l.items ≡ []) × (512 ≤ vec_capacity l)) lists.old.items }
+    ensures count { OnOk result (length lists.new.items ≡ length lists.old.items + 1) }
+    ensures room { OnOk result (All (λ l. (l.items ≡ []) × (512 ≤ vec_capacity l)) lists.new.items) }
+{
+    let list = Vec::with_capacity(alloc, LIST).map_err(|_| Memory)?;
+    lists.push(list).map_err(|_| Memory)?;
+    Ok(())
+}
+
+/// So many lists of answers, each with room for so many.
+fn answer_lists(alloc: Global, count: usize, answers: usize) -> Result<Vec<Vec<Answered>>, Memory>
+    ensures count { IfOk result (λ v. length v.items ≡ count) }
+    ensures room { IfOk result (λ v. All (λ l. (l.items ≡ []) × (answers ≤ vec_capacity l)) v.items) }
+{
+    let mut lists = Vec::with_capacity(alloc, count).map_err(|_| Memory)?;
+    for _made in 0..count {
+        add_answer_list(alloc, answers, &mut lists)?;
+    }
+    Ok(lists)
+}
+
+fn add_answer_list(
+    alloc: Global,
+    answers: usize,
+    lists: &mut Vec<Vec<Answered>>,
+) -> Result<(), Memory>
+    requires { All (λ l. (l.items ≡ []) × (answers ≤ vec_capacity l)) lists.old.items }
+    ensures count { OnOk result (length lists.new.items ≡ length lists.old.items + 1) }
+    ensures room { OnOk result (All (λ l. (l.items ≡ []) × (answers ≤ vec_capacity l)) lists.new.items) }
+{
+    let list = Vec::with_capacity(alloc, answers).map_err(|_| Memory)?;
+    lists.push(list).map_err(|_| Memory)?;
+    Ok(())
+}
+
+impl Room {
+    /// Room for so many items, lists of bytes, and lists of so many answers.
+    pub fn new(
+        alloc: Global,
+        items: usize,
+        lists: usize,
+        answer_lists: usize,
+        answers: usize,
+    ) -> Result<Room, Memory>
+        ensures { IfOk result (λ r. r ≡ record { items = []; item_room = items; lists = lists; answer_lists = answer_lists; answers = answers }) }
+    {
+        Ok(Room {
+            items: Vec::with_capacity(alloc, items).map_err(|_| Memory)?,
+            item_room: items,
+            lists: byte_lists(alloc, lists)?,
+            answer_lists: self::answer_lists(alloc, answer_lists, answers)?,
+            answers,
+        })
+    }
+
+    /// A list of bytes that has room for a sector.
+    fn list(&mut self) -> Vec<u8>
+        requires { 1 ≤ self.old.lists }
+        ensures empty { result.items ≡ [] }
+        ensures room { 512 ≤ vec_capacity result }
+        ensures spent { self.new ≡ record self.old { lists = self.old.lists - 1 } }
+    {
+        match self.lists.pop() {
+            Some(list) => list,
+            None => unreachable!(),
+        }
+    }
+
+    /// The same bytes, of a sector at most. Takes no memory.
+    pub fn copy(&mut self, bytes: &[u8]) -> Bytes
+        requires some { 1 ≤ self.old.lists }
+        requires few { length bytes.now ≤ 512 }
+        ensures bytes { result ≡ bytes.now }
+        ensures spent { self.new ≡ record self.old { lists = self.old.lists - 1 } }
+    {
+        let mut list = self.list();
+        append(&mut list, bytes);
+        Bytes::new(list)
+    }
+
+    /// A sector of this byte. Takes no memory.
+    pub fn filled(&mut self, fill: u8) -> Bytes
+        requires { 1 ≤ self.old.lists }
+        ensures bytes { result ≡ replicate 512 fill }
+        ensures spent { self.new ≡ record self.old { lists = self.old.lists - 1 } }
+    {
+        self.copy(&[fill; 512])
+    }
+
+    /// A list of answers that is empty.
+    pub fn answers(&mut self) -> Vec<Answered>
+        requires { 1 ≤ self.old.answer_lists }
+        ensures empty { result.items ≡ [] }
+        ensures room { self.old.answers ≤ vec_capacity result }
+        ensures spent { self.new ≡ record self.old { answer_lists = self.old.answer_lists - 1 } }
+    {
+        match self.answer_lists.pop() {
+            Some(list) => list,
+            None => unreachable!(),
+        }
+    }
+
+    /// Notes an item. Takes no memory.
+    pub fn note(&mut self, item: Item)
+        requires { 1 ≤ self.old.item_room }
+        ensures { self.new ≡ record self.old { items = self.old.items ++ item ∷ []; item_room = self.old.item_room - 1 } }
+    {
+        self.items.push_reserved(item);
+        self.item_room -= 1;
+    }
+
+    /// The items, in the order in which they were noted.
+    pub fn into_items(self) -> Items
+        ensures { result ≡ self.items }
+    {
+        Items::new(self.items)
+    }
+}
+
+/// Appends bytes for which there is room.
+fn append(list: &mut Vec<u8>, bytes: &[u8])
+    requires { vec_len list.old + length bytes.now ≤ vec_capacity list.old }
+    ensures { list.new.items ≡ list.old.items ++ bytes.now }
+{
+    if list.extend_from_slice(bytes).is_err() {
+        unreachable!();
+    }
+}
