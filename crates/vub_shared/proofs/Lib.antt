@@ -3,3 +3,4 @@ pub mod ImageLemmas
 pub mod MeaningLemmas
 pub mod SpaceLemmas
 pub mod TrailLemmas
+pub mod WatchedLemmas

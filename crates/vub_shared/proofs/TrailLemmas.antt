@@ -1,5 +1,5 @@
 -- What one store more does to the stores that are kept.
-use Rattle.std.proofs.Common.{◌≡◌, ◌≤◌, ◌<◌, ℕ, zero, suc, ◌+◌, ◌-◌, List, [], ◌∷◌, ◌++◌, length, take, drop, refl, ap, ◌∙◌, arith, length-append, length-drop, Some}
+use Rattle.std.proofs.Common.{◌≡◌, ◌≤◌, ◌<◌, ℕ, zero, suc, ◌+◌, ◌*◌, ◌-◌, List, [], ◌∷◌, ◌++◌, length, take, drop, refl, ap, sym, subst, ◌∙◌, arith, length-append, length-drop, Some}
 use Rattle.std.specs.Prelude.{All, slice_get, slice_index_or, slice_range}
 use Rattle.std.proofs.lemmas.Grind.{common_steps}
 use Rattle.std.proofs.lemmas.List.{take-append-le, drop-append-le}
@@ -13,6 +13,13 @@ store_of bytes k = one_store k.space.number k.place (slice_range bytes k.start k
 pub total-append : (xs : List Store) (st : Store) → total_of (xs ++ st ∷ []) ≡ total_of xs + length st.bytes
 total-append [] st = grind arith
 total-append (x ∷ xs) st = omega (arith, total-append xs st)
+
+-- one store more, none of them longer than a limit
+pub short-push : (xs : List Store) (st : Store) (limit : ℕ) → total_of xs ≤ length xs * limit → length st.bytes ≤ limit → total_of (xs ++ st ∷ []) ≤ length (xs ++ st ∷ []) * limit
+short-push xs st limit short small =
+    let more : (length xs + 1) * limit ≡ length xs * limit + limit = omega arith in
+    let len : length (xs ++ st ∷ []) ≡ length xs + 1 = length-append xs (st ∷ []) in
+    subst (λ (n : ℕ). total_of (xs ++ st ∷ []) ≤ n * limit) (sym len) (omega (arith, more, total-append xs st))
 
 -- a range stays as it is where bytes are added past it
 range-append : (bytes bs : List ℕ) (a b : ℕ) → a ≤ b → b ≤ length bytes → slice_range (bytes ++ bs) a b ≡ slice_range bytes a b

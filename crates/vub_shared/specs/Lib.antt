@@ -7,3 +7,4 @@ pub mod Splices
 pub mod Stores
 pub mod TrailForms
 pub mod Trails
+pub mod Watched

@@ -12,10 +12,12 @@ mod spaces;
 mod tests;
 mod trail;
 mod trail_shared;
+mod watched_shared;
 mod words;
 
 pub use fault::SharedFault;
 pub use mem_shared::MemShared;
 pub use shared::Shared;
 pub use trail_shared::TrailShared;
+pub use watched_shared::WatchedShared;
 pub use words::{load_u8, load_u16, load_u32, load_u64};

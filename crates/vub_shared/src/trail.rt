@@ -57,6 +57,14 @@ impl Trail {
         Ok(())
     }
 
+    // Empties the list.
+    pub fn clear(&mut self)
+        ensures { self.new ≡ record self.old { stores = [] } }
+    {
+        self.kept.clear();
+        self.bytes.clear();
+    }
+
     // The number of stores.
     pub fn len(&self) -> usize
         ensures { result ≡ length self.now.stores }
