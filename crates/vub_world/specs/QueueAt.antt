@@ -41,6 +41,7 @@ pub record QueueAt (h : Header1) (r : SplitRing) (past : List Entry) (heads : Li
   pub tasks : (i k : ℕ) (task : Task) → slice_get (left_of past ready in_batch) i ≡ Some k → slice_get q.unfinished i ≡ Some task → TaskAt h r past heads k (made k) task
   -- between a look and its store, what was read stands at the head
   pub buffers : length q.sectors ≡ r.size
+  pub places : length q.taken ≡ r.size
   pub sectors : (k place : ℕ) (request : Asked) → is_among (left_of past ready in_batch) k ≡ true → asked past 0 k ≡ Some request → slice_get (task_steps h request) (made k) ≡ Some (Put place)
       → get_or q.sectors (slice_index heads k) [] ≡ slice_range (seen past 0 k) (512 * place) (512 * place + 512)
   -- a head that is taken is that of an open request
