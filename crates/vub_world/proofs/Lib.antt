@@ -3,6 +3,8 @@ pub mod ChainLemmas
 pub mod ChainReading
 pub mod GuestLemmas
 pub mod MachineLemmas
+pub mod QueueAtMoves
+pub mod QueueAtTurns
 pub mod QueueLemmas
 pub mod RecordTextLemmas
 pub mod RequestLemmas

@@ -173,7 +173,7 @@ fetch_fine h s l good run more x =
 abbrev pub taking : ℕ → Lane → Lane
 taking most l = record l { phase = phases.Publish 0; batch = take most l.completed; completed = drop most l.completed }
 
-swap_among : (most : ℕ) (xs : List ℕ) (k : ℕ) → is_among (drop most xs ++ take most xs) k ≡ is_among (xs ++ []) k
+pub swap_among : (most : ℕ) (xs : List ℕ) (k : ℕ) → is_among (drop most xs ++ take most xs) k ≡ is_among (xs ++ []) k
 swap_among most xs k =
     let left : is_among (drop most xs ++ take most xs) k ≡ (is_among (drop most xs) k || is_among (take most xs) k) = is_among_append (drop most xs) (take most xs) k in
     let right : is_among (take most xs ++ drop most xs) k ≡ (is_among (take most xs) k || is_among (drop most xs) k) = is_among_append (take most xs) (drop most xs) k in
