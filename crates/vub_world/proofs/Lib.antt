@@ -38,3 +38,4 @@ pub mod RunChainsGuests
 pub mod RunChainsEvents
 pub mod RunChainsMeaning
 pub mod TaskLemmas
+pub mod WorkAt
