@@ -39,3 +39,4 @@ pub mod RunChainsEvents
 pub mod RunChainsMeaning
 pub mod TaskLemmas
 pub mod WorkAt
+pub mod WorkAtItems
