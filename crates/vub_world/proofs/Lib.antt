@@ -40,3 +40,4 @@ pub mod RunChainsMeaning
 pub mod TaskLemmas
 pub mod WorkAt
 pub mod WorkAtItems
+pub mod WorkAtLists
