@@ -40,3 +40,6 @@ pub mod RunChainsGuests
 pub mod RunChainsEvents
 pub mod RunChainsMeaning
 pub mod TaskLemmas
+pub mod WorkAt
+pub mod WorkAtItems
+pub mod WorkAtLists

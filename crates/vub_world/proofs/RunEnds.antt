@@ -34,7 +34,7 @@ turn_falls h t m plain good due =
 
 -- ---- how much there is
 
-missing_distinct : (xs : List ℕ) (a : ℕ) → are_distinct (missing_below xs a) ≡ true
+pub missing_distinct : (xs : List ℕ) (a : ℕ) → are_distinct (missing_below xs a) ≡ true
 missing_distinct xs zero = refl
 missing_distinct xs (suc a) =
     let rest : are_distinct (missing_below xs a) ≡ true = missing_distinct xs a in

@@ -98,14 +98,14 @@ write_steps h s bytes back low long =
     ap (λ (o : Option ℕ). unless_refused o (disk_steps (asks.Write s bytes)) ++ Status ∷ []) (write_served h s bytes back low long)
     ∙ ap (λ (k : ℕ). act_steps 0 k ++ Status ∷ []) one
 
-at_same : (f : ℕ → ℕ) (k x j : ℕ) → j ≡ k → with_at f k x j ≡ x
+pub at_same : (f : ℕ → ℕ) (k x j : ℕ) → j ≡ k → with_at f k x j ≡ x
 at_same f k x j e = grind (arith, nat_tests)
 
-at_other : (f : ℕ → ℕ) (k x j : ℕ) → j ≢ k → with_at f k x j ≡ f j
+pub at_other : (f : ℕ → ℕ) (k x j : ℕ) → j ≢ k → with_at f k x j ≡ f j
 at_other f k x j e = grind (arith, nat_tests)
 
 -- a number that is among some isn't one that isn't
-among_apart : (xs : List ℕ) (j k : ℕ) → is_among xs j ≡ true → is_among xs k ≡ false → j ≢ k
+pub among_apart : (xs : List ℕ) (j k : ℕ) → is_among xs j ≡ true → is_among xs k ≡ false → j ≢ k
 among_apart xs j k held out same = let both : is_among xs j ≡ is_among xs k = ap (is_among xs) same in absurd (cc)
 
 -- ---- turns
@@ -307,7 +307,7 @@ act_holds h s l k sector place v bytes x none is long = record {
   built = built_same h.size h.base s.past (entries.Act 0 k place v ∷ s.past) (s.heads 0) s.memory l.batch l.phase refl (λ j. refl) x.holds.built;
 }
 
-effect_is : (sector : ℕ) (bytes : List ℕ) → length bytes ≡ 512 → effect_at (asks.Write sector bytes) 0 ≡ Some (record { sector = sector + 0; value = slice_range bytes (512 * 0) (512 * 0 + 512) })
+pub effect_is : (sector : ℕ) (bytes : List ℕ) → length bytes ≡ 512 → effect_at (asks.Write sector bytes) 0 ≡ Some (record { sector = sector + 0; value = slice_range bytes (512 * 0) (512 * 0 + 512) })
 effect_is sector bytes long =
     let one : length bytes / 512 ≡ 1 = ap (λ (k : ℕ). k / 512) long in
     ap (λ (k : ℕ). if nat_lt 0 k then Some (record { sector = sector + 0; value = slice_range bytes (512 * 0) (512 * 0 + 512) }) else None) one
@@ -338,7 +338,7 @@ act_fine h s l k sector bytes x none low long is =
 
 -- ---- storing what was read
 
-other_open : (h : Header1) (s : Scene) (l : Lane) (k j : ℕ) → IsLeft h s l k → IsOpen s.past 0 j → j ≢ k → slice_index (s.heads 0) j ≢ slice_index (s.heads 0) k
+pub other_open : (h : Header1) (s : Scene) (l : Lane) (k j : ℕ) → IsLeft h s l k → IsOpen s.past 0 j → j ≢ k → slice_index (s.heads 0) j ≢ slice_index (s.heads 0) k
 other_open h s l k j x is_open apart same =
     apart (x.holds.driven.apart j k (open_out h.size h.capacity s.past (s.heads 0) j x.holds.known is_open) (open_out h.size h.capacity s.past (s.heads 0) k x.holds.known x.is_open) same)
 
@@ -422,7 +422,7 @@ put_fine h s l k sector x one is =
 abbrev finished : ℕ → Lane → Lane
 finished k l = record l { completed = l.completed ++ k ∷ []; made = with_at l.made k (l.made k + 1) }
 
-among_more : (xs ys : List ℕ) (k j : ℕ) → is_among ((xs ++ k ∷ []) ++ ys) j ≡ true → (j ≡ k) ⊎ (is_among (xs ++ ys) j ≡ true)
+pub among_more : (xs ys : List ℕ) (k j : ℕ) → is_among ((xs ++ k ∷ []) ++ ys) j ≡ true → (j ≡ k) ⊎ (is_among (xs ++ ys) j ≡ true)
 among_more xs ys k j held =
     let left : is_among ((xs ++ k ∷ []) ++ ys) j ≡ (is_among (xs ++ k ∷ []) j || is_among ys j) = is_among_append (xs ++ k ∷ []) ys j in
     let inner : is_among (xs ++ k ∷ []) j ≡ (is_among xs j || is_among (k ∷ []) j) = is_among_append xs (k ∷ []) j in
@@ -432,7 +432,7 @@ among_more xs ys k j held =
       | inr apart ↦ inr (let out : k ≢ j = λ e. apart (sym e) in grind (arith, nat_tests))
     ]
 
-not_more : (xs ys : List ℕ) (k j : ℕ) → is_among ((xs ++ k ∷ []) ++ ys) j ≡ false → (j ≢ k) × (is_among (xs ++ ys) j ≡ false)
+pub not_more : (xs ys : List ℕ) (k j : ℕ) → is_among ((xs ++ k ∷ []) ++ ys) j ≡ false → (j ≢ k) × (is_among (xs ++ ys) j ≡ false)
 not_more xs ys k j out =
     let left : is_among ((xs ++ k ∷ []) ++ ys) j ≡ (is_among (xs ++ k ∷ []) j || is_among ys j) = is_among_append (xs ++ k ∷ []) ys j in
     let inner : is_among (xs ++ k ∷ []) j ≡ (is_among xs j || is_among (k ∷ []) j) = is_among_append xs (k ∷ []) j in

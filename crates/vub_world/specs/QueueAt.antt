@@ -5,9 +5,12 @@ use Rattle.vub_ring.specs.declared.steps.Phase.{Phase}
 use Rattle.vub_driver.specs.Layout.{area_place, buffer_place}
 use Rattle.vub_device.specs.declared.entry.Asked.{Asked}
 use Rattle.vub_device.specs.declared.entry.Entry.{Entry}
+use Rattle.vub_disk.specs.Values.{Values}
+use Rattle.vub_device.specs.Crash.{value}
 use Rattle.vub_device.specs.Past.{asked, accepted, published, open_numbers, is_among, IsOpen, started, seen}
 use Rattle.vub_world.specs.Moments.{Moment}
 use Rattle.vub_world.specs.Tasks.{Put, task_steps}
+use Rattle.vub_world.specs.Moments.{Moment}
 use Rattle.vub_world.specs.Turns.{len_of}
 use Rattle.vub_world.specs.QueueParts.{is_taken}
 use Rattle.vub_world.specs.QueueState.{QueueState}
@@ -50,16 +53,20 @@ pub record QueueAt (h : Header1) (r : SplitRing) (past : List Entry) (heads : Li
 
 -- ---- at a moment
 
--- the queue's ring is the first one of guest memory
+-- the queue stands where the first lane of the moment does
+abbrev pub QueueStands : Header1 → SplitRing → Moment → QueueState → Type 0
+QueueStands h r m q = QueueAt h r m.scene.past (m.scene.heads 0) (m.lanes 0).phase (m.lanes 0).batch (m.lanes 0).completed (m.lanes 0).made q
+
+-- a ring of n places that lies in guest memory as the first queue's does
 pub record IsMainRing (r : SplitRing) (n : ℕ) : Type 0 where
   pub desc_space : r.desc.0.number ≡ 0
   pub avail_space : r.avail.0.number ≡ 0
   pub used_space : r.used.0.number ≡ 0
-  pub desc_place : r.desc.1 ≡ 0
-  pub avail_place : r.avail.1 ≡ 4096
-  pub used_place : r.used.1 ≡ 8192
+  pub desc : r.desc.1 ≡ 0
+  pub avail : r.avail.1 ≡ 4096
+  pub used : r.used.1 ≡ 8192
   pub size : r.size ≡ n
 
--- the queue stands where the first lane of the moment does
-abbrev pub QueueStands : Header1 → SplitRing → Moment → QueueState → Type 0
-QueueStands h r m q = QueueAt h r m.scene.past (m.scene.heads 0) (m.lanes 0).phase (m.lanes 0).batch (m.lanes 0).completed (m.lanes 0).made q
+-- the disk's values are those of the history
+abbrev pub DiskAt : ℕ → List Entry → Values → Type 0
+DiskAt cap past v = (s : ℕ) → s < cap → v s ≡ value past s
