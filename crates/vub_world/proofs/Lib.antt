@@ -2,7 +2,6 @@ pub mod ArmLemmas
 pub mod ChainLemmas
 pub mod ChainReading
 pub mod GuestLemmas
-pub mod MachineLemmas
 pub mod QueueAtMoves
 pub mod QueueAtTurns
 pub mod QueueLemmas

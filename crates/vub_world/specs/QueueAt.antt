@@ -8,7 +8,6 @@ use Rattle.vub_device.specs.declared.entry.Entry.{Entry}
 use Rattle.vub_disk.specs.Values.{Values}
 use Rattle.vub_device.specs.Crash.{value}
 use Rattle.vub_device.specs.Past.{asked, accepted, published, open_numbers, is_among, IsOpen, started, seen}
-use Rattle.vub_world.specs.Moments.{Moment}
 use Rattle.vub_world.specs.Tasks.{Put, task_steps}
 use Rattle.vub_world.specs.Moments.{Moment}
 use Rattle.vub_world.specs.Turns.{len_of}

@@ -1,11 +1,10 @@
 //! The parts of a world, and what each event does with them.
-ghost use Rattle.std.specs.Prelude.{◌≡◌, ◌<◌, ◌≤◌, ◌+◌, ℕ, IfOk, IfSome, OnOk, OnErr, length, true};
+ghost use Rattle.std.specs.Prelude.{◌≡◌, ◌<◌, ◌≤◌, ◌+◌, ◌-◌, ◌++◌, ◌∷◌, [], ℕ, List, IfOk, OnOk, OnErr, length, true, false, Some, None};
 ghost use Rattle.vub_shared.specs.Watched.{bytes_in, stores_in, sizes_in};
 ghost use Rattle.vub_driver.specs.Layout.{ring_of as main_ring};
-ghost use Rattle.vub_ring.specs.Ring.{last_head};
 ghost use Rattle.vub_schedule.specs.Spelling.{IsHeader, IsEvent};
-ghost use Rattle.vub_world.specs.Lives.{RingOfLife, SameRing};
-ghost use Rattle.vub_world.specs.Split.{RingLies};
+ghost use Rattle.vub_world.specs.MachineSteps.{AskFits, SpendsLists};
+ghost use Rattle.vub_world.specs.Run.{request_of};
 
 use crate::drain::next_turn;
 use crate::guest::{Collected, Guest, GuestStep};
@@ -57,7 +56,7 @@ fn asked_of(ask: Ask, room: &mut Room) -> Asked
         Ask::Read { sector, count } => Asked::Read { sector, count },
         Ask::Write { sector, fills } => Asked::Write {
             sector,
-            bytes: room.filled(&fills),
+            bytes: room.filled(fills[0]),
         },
         Ask::Flush => Asked::Flush,
         Ask::Id => Asked::Id,
@@ -80,6 +79,26 @@ fn guest_memory(alloc: Global) -> Result<(WatchedShared, Space), Memory>
 }
 
 impl Machine {
+    ghost use Rattle.std.specs.Borrow.{sem};
+    ghost use Rattle.vub_device.specs.declared.entry.Entry.TheVariants as entries;
+    ghost use Rattle.vub_driver.specs.Drivers.{Waiting};
+    ghost use Rattle.vub_memdisk.specs.MemDisks.{values_of, capacity_of};
+    ghost use Rattle.vub_schedule.specs.declared.types.Event.{Event};
+    ghost use Rattle.vub_schedule.specs.declared.types.Event.TheVariants as events;
+    ghost use Rattle.vub_world.specs.declared.guest.GuestStep.TheVariants as answers;
+    ghost use Rattle.vub_world.specs.declared.guest.Collected.TheVariants as takes;
+    ghost use Rattle.vub_world.specs.declared.report.items.Item.TheVariants as items;
+    ghost use Rattle.vub_world.specs.declared.report.items.Record.{Record};
+    ghost use Rattle.vub_world.specs.GuestState.{driver_in, seen_in, next_store, Steps, Shows, Collects};
+    ghost use Rattle.vub_world.specs.Logs.{offered_in, collected_in, slot_in, Offers};
+    ghost use Rattle.vub_world.specs.Machine.{IsSound, LendsSound};
+    ghost use Rattle.vub_world.specs.MachineAt.{FrontAt, MachineAt, IsReached, IsStanding, Performs};
+    ghost use Rattle.vub_world.specs.MachineSteps.{FrontFits, OneSmall, GuestSteps, GuestGoes, TurnGoes, DrainSteps, DrainGoes, HasTurnRoom, HasDrainRoom, BatchFits, StoreFits, SectorFits, IsEntry, Spends, SpendsAnswers, SpendsUpTo, SpendsTurn, SpendsStep, stored_items, head_shown, is_joining, answer_for, answers_for, answers_shown, batch_in, shown_in, noted, next_turn};
+    ghost use Rattle.vub_world.specs.Moments.{Moment, opening};
+    ghost use Rattle.vub_world.specs.QueueState.{state_of, with_maybe};
+    ghost use Rattle.vub_world.specs.Run.{Stands};
+    ghost use Rattle.vub_world.specs.TaskState.{after_maybe};
+
     /// A world in which nothing has happened.
     pub fn new(alloc: Global, header: &Header1) -> Result<Machine, Memory>
         requires { IsHeader header.now }

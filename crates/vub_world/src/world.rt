@@ -16,7 +16,6 @@ pub struct World {
 }
 
 impl Model for World {
-    ghost use Rattle.std.specs.Prelude.{◌×◌};
     ghost use Rattle.vub_world.specs.declared.machine.Machine.{Machine};
     ghost use Rattle.vub_world.specs.Machine.{IsSound};
     ghost use Rattle.vub_world.specs.MachineAt.{IsStanding};
