@@ -41,3 +41,4 @@ pub mod TaskLemmas
 pub mod WorkAt
 pub mod WorkAtItems
 pub mod WorkAtLists
+pub mod WorkAtStands
