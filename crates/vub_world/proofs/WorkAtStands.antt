@@ -279,11 +279,11 @@ look_stands h sizes m r q q' place v w x good a disk made =
     let held : made.sector ≡ read = made.looks v refl 0 x.next ∙ ap (λ (n : ℕ). v (n + 0)) where_sector ∙ disk s (omega (arith, x.low)) in
     let keeps : Keeps past past' w.k = record { runs = refl; accepts = refl; publishes = refl; requests = refl; sees = λ j apart. seen_other past w.k s j read apart } in
     let put : (p : ℕ) → slice_get (task_steps h w.request) (c + 1) ≡ Some (Put p) → made.sector ≡ slice_range (seen past' 0 w.k) (512 * p) (512 * p + 512) = λ p next.
-        let steps : task_steps h w.request ≡ Look 0 ∷ Put 0 ∷ Status ∷ [] = ap (task_steps h) x.is ∙ read_steps h x.sector x.low in
-        let one : c + 1 ≡ 1 = omega (arith, x.first) in
-        let first : p ≡ 0 = put_first p (sym (ap (λ (ys : List TaskStep). slice_get ys (c + 1)) steps ∙ ap (slice_get (Look 0 ∷ Put 0 ∷ Status ∷ [])) one) ∙ next) in
-        let whole : slice_range (seen past' 0 w.k) (512 * 0) (512 * 0 + 512) ≡ seen past' 0 w.k = take_all 512 (seen past' 0 w.k) (omega (arith, long, ap length now)) in
-        held ∙ sym now ∙ sym whole ∙ ap (λ (n : ℕ). slice_range (seen past' 0 w.k) (512 * n) (512 * n + 512)) (sym first) in
+    let steps : task_steps h w.request ≡ Look 0 ∷ Put 0 ∷ Status ∷ [] = ap (task_steps h) x.is ∙ read_steps h x.sector x.low in
+    let one : c + 1 ≡ 1 = omega (arith, x.first) in
+    let first : p ≡ 0 = put_first p (sym (ap (λ (ys : List TaskStep). slice_get ys (c + 1)) steps ∙ ap (slice_get (Look 0 ∷ Put 0 ∷ Status ∷ [])) one) ∙ next) in
+    let whole : slice_range (seen past' 0 w.k) (512 * 0) (512 * 0 + 512) ≡ seen past' 0 w.k = take_all 512 (seen past' 0 w.k) (omega (arith, long, ap length now)) in
+    held ∙ sym now ∙ sym whole ∙ ap (λ (n : ℕ). slice_range (seen past' 0 w.k) (512 * n) (512 * n + 512)) (sym first) in
     let stands : StandsAfter h r m w.k (worked place goes.0 made.sector q) (asks.Read x.sector 1) (Look 0) = goes_on h sizes m r q place w past' goes.0 made.sector good a keeps goes.1 goes.2 put in
     subst (λ (y : TaskStep). StandsAfter h r m w.k q' w.request y) (sym x.next)
     (subst (λ (o : Asked). StandsAfter h r m w.k q' o (Look 0)) (sym x.is)
