@@ -42,3 +42,4 @@ pub mod TaskLemmas
 pub mod WorkAt
 pub mod WorkAtItems
 pub mod WorkAtLists
+pub mod WorkAtStands

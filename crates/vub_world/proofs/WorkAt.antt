@@ -1,11 +1,10 @@
 -- The step that is due of a request at work: which task makes it, and what memory means there.
-use Rattle.std.proofs.Common.{◌≡◌, ◌≤◌, ◌<◌, ◌⊎◌, ℕ, zero, suc, ◌+◌, ◌*◌, ◌%◌, true, false, not, List, [], ◌∷◌, ◌++◌, length, refl, ap, sym, ◌∙◌, subst, inl, inr, arith}
+use Rattle.std.proofs.Common.{◌≡◌, ◌≤◌, ◌<◌, ◌⊎◌, ℕ, zero, suc, true, false, not, List, [], ◌∷◌, ◌++◌, length, refl, ap, sym, ◌∙◌, subst, inl, inr, arith}
 use Rattle.std.specs.Prelude.{Option, Some, None, slice_index, slice_get, get_or}
 use Rattle.std.proofs.lemmas.Bool.Decides.{nat_tests}
 use Rattle.std.proofs.lemmas.Option.{slice_get-get_or}
 use Rattle.vub_base.specs.declared.header.CacheMode.TheVariants.{Back}
 use Rattle.vub_base.specs.declared.header.Header1.{Header1}
-use Rattle.vub_shared.specs.Bytes.{Bytes}
 use Rattle.vub_ring.specs.declared.readiness.Turn.TheVariants as turns
 use Rattle.vub_ring.specs.Readiness.{is_ready}
 use Rattle.vub_driver.specs.Layout.{area_place, buffer_place}
@@ -15,12 +14,12 @@ use Rattle.vub_device.specs.Past.{asked, accepted, published, is_among, open_num
 use Rattle.vub_device.specs.Requests.{refusal}
 use Rattle.vub_world.specs.declared.split.SplitRing.{SplitRing}
 use Rattle.vub_world.specs.declared.task.Task.{Task}
-use Rattle.vub_world.specs.ChainState.{IsFirstRing, Meant, MeansRequest}
+use Rattle.vub_world.specs.ChainState.{IsFirstRing, Meant}
 use Rattle.vub_world.specs.GuestChain.{Links}
 use Rattle.vub_world.specs.Moments.{Lane, Moment, standing, unfinished}
 use Rattle.vub_world.specs.QueueAt.{QueueStands, IsMainRing, TaskAt}
 use Rattle.vub_world.specs.QueueState.{QueueState, IsDue, fresh_task}
-use Rattle.vub_world.specs.TaskState.{Making, IsTaskAt, IsBasic, IsServed, IsNext, IsReady}
+use Rattle.vub_world.specs.TaskState.{Making, IsBasic, IsNext, IsReady}
 use Rattle.vub_world.specs.Tasks.{TaskStep, Look, Put, Act, Status, task_steps}
 use Rattle.vub_world.proofs.RunNumbers.{among_get, among_filter, missing-among}
 use Rattle.vub_world.proofs.RunGood.{IsSimple, IsOut, IsPending}

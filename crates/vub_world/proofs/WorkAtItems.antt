@@ -1,6 +1,6 @@
 -- What a step of work shows, what it leaves of memory, and what it leaves of the disk.
-use Rattle.std.proofs.Common.{◌≡◌, ◌≢◌, ◌≤◌, ◌<◌, ◌⊎◌, ℕ, zero, suc, ◌+◌, ◌*◌, Bool, true, false, List, [], ◌∷◌, ◌++◌, length, refl, ap, sym, ◌∙◌, subst, inl, inr, arith, length-take}
-use Rattle.std.specs.Prelude.{Option, Some, None, ⊤, slice_index, slice_get, slice_range, if◌then◌else◌, ◌==◌}
+use Rattle.std.proofs.Common.{◌≡◌, ◌≢◌, ◌≤◌, ℕ, ◌+◌, ◌*◌, List, [], ◌∷◌, ◌++◌, length, refl, ap, sym, ◌∙◌, subst, inl, inr, arith, length-take}
+use Rattle.std.specs.Prelude.{Option, Some, None, ⊤, slice_range}
 use Rattle.std.specs.List.{AllByRecursion}
 use Rattle.std.proofs.lemmas.Bool.Decides.{nat_tests}
 use Rattle.std.proofs.lemmas.Bool.{cases_eq}
@@ -23,7 +23,7 @@ use Rattle.vub_device.specs.declared.entry.Asked.TheVariants as asks
 use Rattle.vub_device.specs.declared.entry.Entry.TheVariants as entries
 use Rattle.vub_device.specs.declared.entry.SectorValue.{SectorValue}
 use Rattle.vub_device.specs.Crash.{value}
-use Rattle.vub_device.specs.Past.{asked, seen}
+use Rattle.vub_device.specs.Past.{seen}
 use Rattle.vub_device.specs.Requests.{effect_at}
 use Rattle.vub_world.specs.declared.queue.Stepped.{Stepped}
 use Rattle.vub_world.specs.declared.queue.Stepped.TheVariants as says
@@ -31,7 +31,6 @@ use Rattle.vub_world.specs.declared.report.items.Item.{Item}
 use Rattle.vub_world.specs.declared.report.items.Item.TheVariants as items
 use Rattle.vub_world.specs.declared.split.SplitRing.{SplitRing}
 use Rattle.vub_world.specs.declared.task.Task.{Task}
-use Rattle.vub_world.specs.ChainState.{sector_of}
 use Rattle.vub_world.specs.GuestChain.{Links}
 use Rattle.vub_world.specs.Memory.{Scene, after_item, after_items}
 use Rattle.vub_world.specs.Moments.{Lane, Moment, unfinished, buffer_of}
@@ -40,13 +39,13 @@ use Rattle.vub_world.specs.QueueState.{QueueState, said, sector_at, due_store}
 use Rattle.vub_world.specs.Run.{one_turn}
 use Rattle.vub_world.specs.TaskState.{Making, answer_in, memory_after, values_after, with_effect}
 use Rattle.vub_world.specs.Tasks.{TaskStep, Look, Put, Act, Status, task_items, act_items, status_of}
-use Rattle.vub_world.specs.Turns.{Turned, turned, work_turn, request_turn, task_turn, after_task_step, phase_turn, phase_goes_on, under_way, step_items, step_stores, row_items, entry_items}
+use Rattle.vub_world.specs.Turns.{Turned, turned, work_turn, request_turn, task_turn, phase_turn, under_way, step_stores, row_items, entry_items}
 use Rattle.vub_world.proofs.RunNumbers.{among_get}
 use Rattle.vub_world.proofs.RunGood.{IsSimple, IsOut}
 use Rattle.vub_world.proofs.RunFrames.{open_out}
 use Rattle.vub_world.proofs.RunWork.{effect_is}
 use Rattle.vub_world.proofs.RunTurns.{IsPlain, Good}
-use Rattle.vub_world.proofs.WorkAt.{WorkReady, making, making_of, Kind, kind_of, IsLook, IsPut, IsAct}
+use Rattle.vub_world.proofs.WorkAt.{WorkReady, making, making_of, Kind, kind_of}
 
 -- ---- items
 

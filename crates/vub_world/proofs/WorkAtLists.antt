@@ -1,6 +1,6 @@
 -- Lists of numbers and of tasks from which one is taken, or in which one is changed.
-use Rattle.std.proofs.Common.{◌≡◌, ◌≢◌, ◌≤◌, ◌<◌, ℕ, zero, suc, ◌+◌, Bool, true, false, not, List, [], ◌∷◌, ◌++◌, length, take, drop, set, refl, ap, sym, ◌∙◌, inl, inr, arith}
-use Rattle.std.specs.Prelude.{◌||◌, ◌==◌, slice_get, Some, None, filter, remove}
+use Rattle.std.proofs.Common.{◌≡◌, ◌≢◌, ◌≤◌, ◌<◌, ℕ, zero, suc, Bool, true, false, not, List, [], ◌∷◌, ◌++◌, length, set, refl, ap, sym, ◌∙◌, inl, inr, arith}
+use Rattle.std.specs.Prelude.{◌||◌, ◌==◌, slice_get, Some, filter, remove}
 use Rattle.std.proofs.lemmas.Bool.Decides.{nat_tests}
 use Rattle.std.proofs.lemmas.Bool.{cases_eq, cases_Bool}
 use Rattle.vub_device.specs.Past.{is_among}
@@ -122,3 +122,16 @@ pub one_less : (xs ys zs : List ℕ) (i k : ℕ) → are_distinct zs ≡ true �
 one_less xs ys zs i k d at =
     twice (is_among (xs ++ ys)) k (is_among ((xs ++ k ∷ []) ++ ys)) zs (λ j. among_both xs ys k j)
     ∙ without_one (filter (λ j. not (is_among (xs ++ ys) j)) zs) i k (filter_distinct (λ j. not (is_among (xs ++ ys) j)) zs d) at
+
+-- a member that passes is kept
+pub among_kept : (test : ℕ → Bool) (xs : List ℕ) (k : ℕ) → is_among xs k ≡ true → test k ≡ true → is_among (filter test xs) k ≡ true
+among_kept test [] k held holds = held
+among_kept test (x ∷ xs) k held holds = elim (cases_eq x k) [
+  | inl same ↦ let here : test x ≡ true = ap test same ∙ holds in grind (arith, nat_tests)
+  | inr apart ↦
+      let rest : is_among (filter test xs) k ≡ true = among_kept test xs k (grind (arith, nat_tests)) holds in
+      elim (cases_Bool (test x)) [
+        | inl here ↦ grind (arith, nat_tests)
+        | inr out ↦ grind (arith, nat_tests)
+      ]
+]
