@@ -54,8 +54,8 @@ reads_of r = 0
 -- the numbers of a queue's requests: under the head of each that is offered and not collected stand its number and how
 -- many sectors it reads
 pub record LogAt (size : ℕ) (past : List Entry) (heads : List ℕ) (log : Log) : Type 0 where
-  pub offered : offered_in log ≡ length heads
-  pub collected : collected_in log ≡ collected past 0
+  pub offers_are : offered_in log ≡ length heads
+  pub collects_are : collected_in log ≡ collected past 0
   pub places : size_in log ≡ size
   pub slots : (k : ℕ) → k < length heads → is_among (take (collected past 0) (published past 0)) k ≡ false → slot_in log (slice_index heads k) ≡ record { number = k; reads = reads_of (asked past 0 k) }
 
