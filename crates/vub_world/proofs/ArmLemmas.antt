@@ -5,6 +5,7 @@ use Rattle.vub_base.specs.declared.header.Header1.{Header1}
 use Rattle.vub_base.specs.declared.header.CacheMode.{CacheMode}
 use Rattle.vub_base.specs.declared.header.CacheMode.TheVariants.{Back}
 use Rattle.vub_shared.specs.Bytes.{Bytes, bytes_from}
+use Rattle.vub_shared.specs.Stores.{Store}
 use Rattle.vub_shared.proofs.BytesLemmas.{byte_of}
 use Rattle.vub_disk.specs.Values.{Values, with_value}
 use Rattle.vub_device.specs.declared.entry.Asked.{Asked}
@@ -13,7 +14,7 @@ use Rattle.vub_device.specs.declared.entry.SectorValue.{SectorValue}
 use Rattle.vub_device.specs.Requests.{refusal, effect_at}
 use Rattle.vub_world.specs.Tasks.{TaskStep, Look, Put, Act, Sync, Status, task_steps, status_of}
 use Rattle.vub_world.specs.ChainState.{sector_of, data_start, data_len, handed_bytes}
-use Rattle.vub_world.specs.TaskState.{IfMade, Making, IsNext, IsBasic, IsTaskAt, answer_of, transfer_at, work_for, with_effect}
+use Rattle.vub_world.specs.TaskState.{IfMade, Making, IsNext, IsBasic, IsTaskAt, answer_of, transfer_at, work_for, with_effect, with_maybe}
 use Rattle.vub_world.proofs.ChainReading.{means_still}
 use Rattle.vub_world.specs.declared.split.SplitRing.{SplitRing}
 use Rattle.vub_world.specs.declared.task.Answer.{Answer}
@@ -131,6 +132,10 @@ ends h r buffer request made task next = record {
 pub same_values : (o : Option Values) → option_map (λ (v : Values). v) o ≡ o
 same_values None = refl
 same_values (Some v) = refl
+
+pub same_trail : (o : Option (List Store)) → option_map (with_maybe None) o ≡ o
+same_trail None = refl
+same_trail (Some trail) = refl
 
 pub status_byte : (h : Header1) (request : Asked) → IsBasic request → h.mode ≡ Back → little_bytes 1 (status_of h request) ≡ status_of h request ∷ []
 status_byte h (Read s n) basic cached =

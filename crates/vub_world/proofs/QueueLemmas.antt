@@ -1,5 +1,5 @@
 -- What the steps of a queue keep.
-use Rattle.std.proofs.Common.{◌≡◌, ◌<◌, ◌≤◌, ℕ, zero, suc, ◌+◌, ◌*◌, ◌%◌, Bool, true, false, List, [], ◌∷◌, ◌++◌, length, get_or, map, take, drop, min, refl, ap, sym, ◌∙◌, subst, arith}
+use Rattle.std.proofs.Common.{◌≡◌, ◌<◌, ◌≤◌, ℕ, zero, suc, ◌+◌, ◌*◌, ◌%◌, Bool, true, false, List, [], ◌∷◌, ◌++◌, length, get_or, map, take, drop, min, inr, refl, ap, sym, ◌∙◌, subst, arith}
 use native.Mathlib.Numerals.{unary_clauses}
 use Rattle.std.proofs.lemmas.Bool.Decides.{nat_tests}
 use Rattle.std.proofs.lemmas.List.{take-map, drop-map, take_min, length-map, length-take-le, length-set, set_past, drop-append-le, take-append-le, map-append}
@@ -8,7 +8,7 @@ use Rattle.std.specs.Prelude.{remove, ◌==◌, ◌&&◌, ◌||◌, not, if◌th
 use Rattle.byteorder.specs.Endian.{little_bytes}
 use Rattle.vub_base.specs.declared.store.Tag.TheVariants.{SP1, SP2, SP5}
 use Rattle.vub_base.specs.Causes.{Rose, HasCause}
-use Rattle.vub_ring.specs.declared.readiness.Turn.{Turn}
+use Rattle.vub_base.specs.Told.{WhereTold}
 use Rattle.vub_shared.specs.Bytes.{Bytes}
 use Rattle.vub_shared.specs.Stores.{Store, Stores, Trails}
 use Rattle.vub_ring.specs.declared.steps.Phase.{Phase}
@@ -22,12 +22,18 @@ use Rattle.vub_ring.specs.Readiness.{is_publication, is_fetch, is_ready, any_tur
 use Rattle.vub_ring.specs.declared.readiness.Standing.{Standing}
 use Rattle.vub_ring.specs.declared.readiness.Turn.TheVariants as turns
 use Rattle.vub_world.specs.declared.task.Task.{Task}
+use Rattle.vub_world.specs.declared.task.TaskStep as made
+use Rattle.vub_world.specs.declared.task.TaskStep.TheVariants as answers
 use Rattle.vub_ring.proofs.StepLemmas.{length_publish}
 use Rattle.vub_world.specs.declared.queue.Completed.{Completed}
 use Rattle.vub_world.specs.declared.queue.Stepped.{Stepped}
 use Rattle.vub_world.specs.declared.queue.Stepped.TheVariants as says
 use Rattle.vub_world.specs.QueueParts.{element, is_taken, taken_count, without_heads, phase_fits}
-use Rattle.vub_world.specs.QueueState.{QueueState, used_side, row_at, next_row, Moves, StoresRow, TrailsRow, outcome, publishes, Unless, DoesFault, is_idle, head_of, standing_at}
+use Rattle.vub_world.specs.QueueState.{QueueState, used_side, row_at, next_row, Moves, StoresRow, TrailsRow, outcome, publishes, Unless, is_idle, standing_at, worked, done_at, Works, StepsAt, StepsOut, WorksOut, IfStepped, Advances, concluded, said, sector_at}
+use Rattle.vub_world.specs.TaskState.{Making, IfMade, HasMade, LooksAt, answer_in, answer_to, memory_after, values_after, store_in, with_maybe}
+use Rattle.vub_world.specs.Tasks as Tasks
+use Rattle.vub_world.specs.Tasks.{status_of, used_len}
+use Rattle.vub_disk.specs.Values.{Values}
 
 pub set_beyond : (xs : List Bool) (i : ℕ) (y : Bool) → length xs ≤ i → set xs i y ≡ xs
 set_beyond xs i y past = set_past xs i y past
@@ -270,11 +276,11 @@ unless true P p = tt
 unless false P p = p
 
 -- no request is at work, or some is
-pub none_at_work : (tasks : List Task) (n : ℕ) → n ≡ length tasks → (n == 0) ≡ true → nat_lt 0 (length (map head_of tasks)) ≡ false
-none_at_work tasks n is none = grind (arith, nat_tests, length-map tasks head_of)
+pub none_at_work : (tasks : List Task) (n : ℕ) → n ≡ length tasks → (n == 0) ≡ true → nat_lt 0 (length tasks) ≡ false
+none_at_work tasks n is none = grind (arith, nat_tests)
 
-pub some_at_work : (tasks : List Task) (n : ℕ) → n ≡ length tasks → (n == 0) ≡ false → nat_lt 0 (length (map head_of tasks)) ≡ true
-some_at_work tasks n is some = grind (arith, nat_tests, length-map tasks head_of)
+pub some_at_work : (tasks : List Task) (n : ℕ) → n ≡ length tasks → (n == 0) ≡ false → nat_lt 0 (length tasks) ≡ true
+some_at_work tasks n is some = grind (arith, nat_tests)
 
 or_true : (b : Bool) → (b || true) ≡ true
 or_true true = refl
@@ -306,11 +312,12 @@ any_is size s started rests unready = rw (unready, started, rests) refl
 
 -- ---- work
 
-pub heads_without : (xs : List Task) (i : ℕ) → map head_of (remove xs i) ≡ remove (map head_of xs) i
-heads_without [] zero = refl
-heads_without [] (suc i) = refl
-heads_without (x ∷ xs) zero = refl
-heads_without (x ∷ xs) (suc i) = ap (λ hs. head_of x ∷ hs) (heads_without xs i)
+-- a task of a place was changed before it is removed
+pub remove_set : (xs : List Task) (i : ℕ) (x : Task) → remove (set xs i x) i ≡ remove xs i
+remove_set [] zero x = refl
+remove_set [] (suc i) x = refl
+remove_set (y ∷ ys) zero x = refl
+remove_set (y ∷ ys) (suc i) x = ap (λ zs. y ∷ zs) (remove_set ys i x)
 
 pub completed_more : (n : ℕ) (xs : List Completed) (x : Completed) → n ≤ length xs → map element (drop n (xs ++ x ∷ [])) ≡ map element (drop n xs) ++ element x ∷ []
 completed_more n xs x few = ap (map element) (drop-append-le n xs (x ∷ []) few) ∙ map-append element (drop n xs) (x ∷ [])
@@ -318,18 +325,133 @@ completed_more n xs x few = ap (map element) (drop-append-le n xs (x ∷ []) few
 pub batch_still : (n : ℕ) (xs : List Completed) (x : Completed) → n ≤ length xs → map element (take n (xs ++ x ∷ [])) ≡ map element (take n xs)
 batch_still n xs x few = ap (map element) (take-append-le n xs (x ∷ []) few)
 
+-- the status of a task that was changed completes it
+pub ends_at : (place head len : ℕ) (task : Task) (sector : List ℕ) (s u : QueueState) → task.head ≡ head → u ≡ worked place task sector s → (status : ℕ) → concluded place head (answers.Done status len) u ≡ done_at place head len sector s
+ends_at place head len task sector s u same is status =
+    ap (concluded place head (answers.Done status len)) is
+    ∙ ap (λ (ts : List Task). record (done_at place task.head len sector s) { unfinished = ts; completed = s.completed ++ (head, len) ∷ [] }) (remove_set s.unfinished place task)
+    ∙ ap (λ (k : ℕ). record (done_at place k len sector s) { completed = s.completed ++ (head, len) ∷ [] }) same
+
+-- the step of a request and its end, where nothing is said of the step
+pub works_if : (place head : ℕ) (step : made.TaskStep) (s u t : QueueState) → StepsAt place (Some (head, step)) s u → t ≡ concluded place head step u → Works place (said head step) s t
+works_if place head (answers.Stored tag) s u t h is = inr (h.0, h.1, is ∙ h.3)
+works_if place head (answers.Looked sector) s u t h is = inr (h.0, h.1, is ∙ h.3)
+works_if place head (answers.Acted sector) s u t h is = inr (h.0, h.1, is ∙ h.3)
+works_if place head answers.Synced s u t h is = inr (h.0, h.1, is ∙ h.3)
+works_if place head answers.Faulted s u t h is = inr (h.0, h.1, is ∙ h.3)
+works_if place head (answers.Broken fault) s u t h is = inr (h.0, h.1, is ∙ h.3)
+works_if place head answers.Failed s u t h is = inr (h.0, h.1, is ∙ h.3)
+works_if place head (answers.Done status len) s u t h is = (len, h.1, is ∙ ends_at place head len h.0 h.1 s u h.2 h.3 status)
+
+-- a fact about what a task made is one about what the turn made
+pub stepped_if : (P : made.TaskStep → Type 0) (Q : Type 0) (head : ℕ) (step : made.TaskStep) → (P step → Q) → IfMade (Some step) P → IfStepped (said head step) Q
+stepped_if P Q head (answers.Stored tag) f h = f h
+stepped_if P Q head (answers.Looked sector) f h = f h
+stepped_if P Q head (answers.Acted sector) f h = f h
+stepped_if P Q head answers.Synced f h = f h
+stepped_if P Q head answers.Faulted f h = h
+stepped_if P Q head (answers.Broken fault) f h = f h
+stepped_if P Q head answers.Failed f h = h
+stepped_if P Q head (answers.Done status len) f h = f h
+
+made_both : (P Q : made.TaskStep → Type 0) (o : Option made.TaskStep) → IfMade o P → IfMade o Q → IfMade o (λ s. P s × Q s)
+made_both P Q None p q = p
+made_both P Q (Some (answers.Stored tag)) p q = (p, q)
+made_both P Q (Some (answers.Looked s)) p q = (p, q)
+made_both P Q (Some (answers.Acted s)) p q = (p, q)
+made_both P Q (Some answers.Synced) p q = (p, q)
+made_both P Q (Some answers.Faulted) p q = tt
+made_both P Q (Some (answers.Done status len)) p q = (p, q)
+made_both P Q (Some (answers.Broken fault)) p q = (p, q)
+made_both P Q (Some answers.Failed) p q = tt
+
+made_three : (P Q R : made.TaskStep → Type 0) (o : Option made.TaskStep) → IfMade o P → IfMade o Q → IfMade o R → IfMade o (λ s. P s × Q s × R s)
+made_three P Q R None p q r = p
+made_three P Q R (Some (answers.Stored tag)) p q r = (p, q, r)
+made_three P Q R (Some (answers.Looked s)) p q r = (p, q, r)
+made_three P Q R (Some (answers.Acted s)) p q r = (p, q, r)
+made_three P Q R (Some answers.Synced) p q r = (p, q, r)
+made_three P Q R (Some answers.Faulted) p q r = tt
+made_three P Q R (Some (answers.Done status len)) p q r = (p, q, r)
+made_three P Q R (Some (answers.Broken fault)) p q r = (p, q, r)
+made_three P Q R (Some answers.Failed) p q r = tt
+
+made_then : (P : made.TaskStep → Type 0) (R : Type 0) (step : made.TaskStep) → (P step → R) → IfMade (Some step) P → IfMade (Some step) (λ x. R)
+made_then P R (answers.Stored tag) f h = f h
+made_then P R (answers.Looked s) f h = f h
+made_then P R (answers.Acted s) f h = f h
+made_then P R answers.Synced f h = f h
+made_then P R answers.Faulted f h = h
+made_then P R (answers.Done status len) f h = f h
+made_then P R (answers.Broken fault) f h = f h
+made_then P R answers.Failed f h = h
+
+some_pair : (p q : ℕ × made.TaskStep) → Some p ≡ Some q → p ≡ q
+some_pair p q h = cc h
+
+-- the step of a task, in its queue
+pub steps_out : (place head : ℕ) (task next : Task) (n : Making) (m : Bytes) (told : Option Bytes) (trail trail_after : Option (List Store)) (v v_after : Option Values) (step : made.TaskStep) (sector after : List ℕ) (s t : QueueState)
+    → head ≡ task.head → next.head ≡ task.head → sector ≡ sector_at s task.head → t ≡ worked place next after s
+    → IfMade (Some step) (λ x. x ≡ answer_in n) → IfMade (Some step) (λ x. HasMade s.ring n next) → IfMade (Some step) (λ x. WhereTold v (λ u. LooksAt n u after))
+    → IfMade (Some step) (λ x. told ≡ Some (memory_after s.ring n sector m)) → IfMade (Some step) (λ x. trail_after ≡ option_map (with_maybe (store_in s.ring n sector)) trail) → IfMade (Some step) (λ x. v_after ≡ option_map (values_after n.request n.step) v)
+    → IfMade (Some step) (λ x. StepsOut place task n m told trail trail_after v v_after (Some (head, step)) s t)
+steps_out place head task next n m told trail trail_after v v_after step sector after s t same still is state answer goes_on looks stores trails values =
+    let A : made.TaskStep → Type 0 = λ x. x ≡ answer_in n in
+    let B : made.TaskStep → Type 0 = λ x. HasMade s.ring n next in
+    let C : made.TaskStep → Type 0 = λ x. WhereTold v (λ u. LooksAt n u after) in
+    let D : made.TaskStep → Type 0 = λ x. told ≡ Some (memory_after s.ring n sector m) in
+    let E : made.TaskStep → Type 0 = λ x. trail_after ≡ option_map (with_maybe (store_in s.ring n sector)) trail in
+    let F : made.TaskStep → Type 0 = λ x. v_after ≡ option_map (values_after n.request n.step) v in
+    let G : made.TaskStep → Type 0 = λ x. A x × B x × C x in
+    let H : made.TaskStep → Type 0 = λ x. D x × E x × F x in
+    let g : IfMade (Some step) G = made_three A B C (Some step) answer goes_on looks in
+    let h : IfMade (Some step) H = made_three D E F (Some step) stores trails values in
+    made_then (λ x. G x × H x) (StepsOut place task n m told trail trail_after v v_after (Some (head, step)) s t) step
+    (λ all. record {
+      says = ap (λ (k : ℕ). Some (k, step)) same ∙ ap (λ (a : made.TaskStep). Some (task.head, a)) all.0.0;
+      next = next;
+      sector = after;
+      head = still;
+      goes_on = all.0.1;
+      looks = all.0.2;
+      state = state;
+      stores = all.1.0 ∙ ap (λ (xs : List ℕ). Some (memory_after s.ring n xs m)) is;
+      trails = all.1.1 ∙ ap (λ (xs : List ℕ). option_map (with_maybe (store_in s.ring n xs)) trail) is;
+      values = all.1.2;
+    }) (made_both G H (Some step) g h)
+
+-- the queue after the step that is due and its end
+advances : (place : ℕ) (task next : Task) (n : Making) (sector : List ℕ) (step : Tasks.TaskStep) (s u t : QueueState) → next.head ≡ task.head → HasMade s.ring n next → u ≡ worked place next sector s
+    → t ≡ concluded place task.head (answer_to n.header n.request step) u → Advances place task n sector step s t
+advances place task next n sector (Tasks.Look q) s u t same made steps ends = (next, same, made, ends ∙ steps)
+advances place task next n sector (Tasks.Put q) s u t same made steps ends = (next, same, made, ends ∙ steps)
+advances place task next n sector (Tasks.Act q) s u t same made steps ends = (next, same, made, ends ∙ steps)
+advances place task next n sector Tasks.Sync s u t same made steps ends = (next, same, made, ends ∙ steps)
+advances place task next n sector Tasks.Status s u t same made steps ends = ends ∙ ends_at place task.head (used_len (status_of n.header n.request) n.request) next sector s u same steps (status_of n.header n.request)
+
+pub works_out : (place : ℕ) (task : Task) (n : Making) (m : Bytes) (told : Option Bytes) (trail trail_after : Option (List Store)) (v v_after : Option Values) (o : Option (ℕ × made.TaskStep)) (head : ℕ) (step : made.TaskStep) (x : Stepped) (s u t : QueueState)
+    → o ≡ Some (head, step) → x ≡ said head step → t ≡ concluded place head step u → StepsOut place task n m told trail trail_after v v_after o s u → WorksOut place task n m told trail trail_after v v_after x s t
+works_out place task n m told trail trail_after v v_after o head step x s u t is saying ends out =
+    let pair : (head, step) ≡ (task.head, answer_in n) = some_pair _ _ (sym is ∙ out.says) in
+    let heads : head ≡ task.head = ap (λ (y : ℕ × made.TaskStep). y.0) pair in
+    let steps : step ≡ answer_in n = ap (λ (y : ℕ × made.TaskStep). y.1) pair in
+    record {
+      says = saying ∙ ap (λ (k : ℕ). said k step) heads ∙ ap (said task.head) steps;
+      leaves = record {
+        sector = out.sector;
+        looks = out.looks;
+        state = advances place task out.next n out.sector n.step s u t out.head out.goes_on out.state (ends ∙ ap (λ (k : ℕ). concluded place k step u) heads ∙ ap (λ (a : made.TaskStep). concluded place task.head a u) steps);
+      };
+      stores = out.stores;
+      trails = out.trails;
+      values = out.values;
+    }
+
 -- ---- causes
 
 rose_later : (before mid now : ℕ) → before ≤ mid → Rose mid now → Rose before now
 rose_later before mid now later rose = omega (arith, later, rose)
 
-cause_later : (before mid now : ℕ) (r : Result (Unit {0}) (Unit {0})) → before ≤ mid → HasCause mid now r → HasCause before now r
+pub cause_later : (before mid now : ℕ) (r : Result (Unit {0}) (Unit {0})) → before ≤ mid → HasCause mid now r → HasCause before now r
 cause_later before mid now (Ok x) later h = record { later = omega (arith, later, h.later); failed = h.failed }
 cause_later before mid now (Err e) later h = record { later = omega (arith, later, h.later); failed = rose_later before mid now later h.failed }
-
--- a turn after something that made no fault
-pub fault_later : (turn : Turn) (before mid now : ℕ) (x : Stepped) → before ≤ mid → DoesFault turn mid now x → DoesFault turn before now x
-fault_later turns.Start before mid now x later h = cause_later before mid now (outcome x) later h
-fault_later turns.Fetch before mid now x later h = cause_later before mid now (outcome x) later h
-fault_later (turns.Work place) before mid now x later h = tt
-fault_later (turns.Publish most) before mid now x later h = cause_later before mid now (outcome x) later h

@@ -4,9 +4,8 @@ use Rattle.vub_base.specs.declared.ring_fault.RingFault.{RingFault}
 use Rattle.vub_base.specs.declared.ring_fault.RingFault.TheVariants as faults
 use Rattle.vub_base.specs.declared.store.Tag.TheVariants.{SP5}
 use Rattle.vub_base.specs.Told.{WhereTold}
-use Rattle.vub_base.specs.Causes.{HasCause}
 use Rattle.vub_shared.specs.Bytes.{Bytes}
-use Rattle.vub_shared.specs.Stores.{Store, Stores, Trails, after_in_trail}
+use Rattle.vub_shared.specs.Stores.{Store, Stores, Trails}
 use Rattle.vub_disk.specs.Values.{Values}
 use Rattle.vub_ring.specs.declared.steps.Phase.{Phase}
 use Rattle.vub_ring.specs.declared.steps.Phase.TheVariants as phases
@@ -21,12 +20,11 @@ use Rattle.vub_ring.specs.Readiness.{is_ready, is_publication, any_turn}
 use Rattle.vub_world.specs.declared.split.SplitRing.{SplitRing}
 use Rattle.vub_world.specs.Split.{avail_idx_word, head_word}
 use Rattle.vub_world.specs.declared.task.Task.{Task}
-use Rattle.vub_world.specs.declared.task.Work.TheVariants as work
 use Rattle.vub_world.specs.declared.task.TaskStep as made
 use Rattle.vub_world.specs.declared.task.TaskStep.TheVariants as answers
 use Rattle.vub_world.specs.Tasks as Tasks
 use Rattle.vub_world.specs.Tasks.{Status, status_of, used_len}
-use Rattle.vub_world.specs.TaskState.{Making, IsNext, IsReady, HasMade, LooksAt, store_of}
+use Rattle.vub_world.specs.TaskState.{Making, IsNext, IsReady, HasMade, LooksAt, GainsOne, fresh_task, answer_in, memory_after, values_after, store_in, with_maybe}
 use Rattle.vub_world.specs.QueueParts.{element, is_taken, without_heads}
 use Rattle.vub_world.specs.declared.queue.Stop.{Stop}
 use Rattle.vub_world.specs.declared.queue.Stop.TheVariants as stops
@@ -139,10 +137,6 @@ abbrev pub found_outcome : Result (Option ℕ) Stop → Result (Unit {0}) (Unit 
 found_outcome (Err stops.Shared) = Err tt
 found_outcome x = Ok tt
 
--- a request of which no step was made
-abbrev pub fresh_task : ℕ → Task
-fresh_task head = record { head = head; work = work.Begin }
-
 -- the request of a head is accepted
 abbrev pub accepted : ℕ → QueueState → QueueState
 accepted head s = record s { unfinished = s.unfinished ++ fresh_task head ∷ []; avail = (s.avail + 1) % 65536; taken = set s.taken head true }
@@ -242,6 +236,20 @@ abbrev pub Works : ℕ → Stepped → QueueState → QueueState → Type 0
 Works place (says.Completed head) s t = (len : ℕ) × (sector : List ℕ) × (t ≡ done_at place head len sector s)
 Works place x s t = (t ≡ s) ⊎ ((task : Task) × (sector : List ℕ) × (t ≡ worked place task sector s))
 
+-- what a step of the request in this place leaves before its end is noted: its task and its sector are new, and
+-- nothing changes where none is made
+abbrev pub StepsAt : ℕ → Option (ℕ × made.TaskStep) → QueueState → QueueState → Type 0
+StepsAt place None s t = t ≡ s
+StepsAt place (Some x) s t = (task : Task) × (sector : List ℕ) × (task.head ≡ x.0) × (t ≡ worked place task sector s)
+
+abbrev pub step_in : Option (ℕ × made.TaskStep) → Option made.TaskStep
+step_in o = option_map (λ x. x.1) o
+
+-- the status of the request of a head in this place moves it to the completed ones
+abbrev pub concluded : ℕ → ℕ → made.TaskStep → QueueState → QueueState
+concluded place head (answers.Done status len) s = record s { unfinished = remove s.unfinished place; completed = s.completed ++ (head, len) ∷ [] }
+concluded place head step s = s
+
 -- the task in this place of a queue makes this step next, where memory is m and the disk has so many sectors
 pub record IsDue (capacity : ℕ) (sizes : ℕ → ℕ) (s : QueueState) (m : Bytes) (place : ℕ) (task : Task) (n : Making) : Type 0 where
   pub started : s.started ≡ true
@@ -282,18 +290,31 @@ IfStepped says.SharedFault P = ⊤
 IfStepped (says.Faulted head) P = ⊤
 IfStepped x P = P
 
--- the told list of stores after a step that makes this store, or none
-abbrev pub with_maybe : Option Store → List Store → List Store
-with_maybe None trail = trail
-with_maybe (Some st) trail = after_in_trail st trail
-
 -- the store of the step that is due, if it makes one
 abbrev pub due_store : QueueState → Task → Making → Option Store
-due_store s task n = store_of n.header s.ring n.buffer n.request (sector_at s task.head) n.step
+due_store s task n = store_in s.ring n (sector_at s task.head)
 
--- the told list of stores gained one at most
-abbrev pub GainsOne : Option (List Store) → Option (List Store) → Type 0
-GainsOne before after = (after ≡ before) ⊎ ((st : Store) × (after ≡ option_map (after_in_trail st) before))
+-- what the step that is due makes before its end is noted, where neither memory nor disk fails
+pub record StepsOut (place : ℕ) (task : Task) (n : Making) (m : Bytes) (told : Option Bytes) (trail trail_after : Option (List Store)) (v v_after : Option Values) (x : Option (ℕ × made.TaskStep)) (s t : QueueState) : Type 0 where
+  pub says : x ≡ Some (task.head, answer_in n)
+  pub next : Task
+  pub sector : List ℕ
+  pub head : next.head ≡ task.head
+  pub goes_on : HasMade s.ring n next
+  pub looks : WhereTold v (λ u. LooksAt n u sector)
+  pub state : t ≡ worked place next sector s
+  pub stores : told ≡ Some (memory_after s.ring n (sector_at s task.head) m)
+  pub trails : trail_after ≡ option_map (with_maybe (due_store s task n)) trail
+  pub values : v_after ≡ option_map (values_after n.request n.step) v
+
+-- what the step that is due makes, where neither memory nor disk fails: of the told bytes, which were m, of the told list
+-- of stores and of the disk's told values, before and after it, and of the queue
+pub record WorksOut (place : ℕ) (task : Task) (n : Making) (m : Bytes) (told : Option Bytes) (trail trail_after : Option (List Store)) (v v_after : Option Values) (x : Stepped) (s t : QueueState) : Type 0 where
+  pub says : x ≡ said task.head (answer_in n)
+  pub leaves : HasWorked v place task n s t
+  pub stores : told ≡ Some (memory_after s.ring n (sector_at s task.head) m)
+  pub trails : trail_after ≡ option_map (with_maybe (due_store s task n)) trail
+  pub values : v_after ≡ option_map (values_after n.request n.step) v
 
 -- ---- turns
 
@@ -332,10 +353,6 @@ abbrev pub DoesTrail : Turn → Option (List Store) → Option (List Store) → 
 DoesTrail (Work place) before after x s = GainsOne before after
 DoesTrail (Publish most) before after x s = TrailsRow before after x (publish_row most s)
 DoesTrail turn before after x s = after ≡ before
-
--- the count of the memory's faults before and after it
-abbrev pub DoesFault : Turn → ℕ → ℕ → Stepped → Type 0
-DoesFault turn before after x = HasCause before after (outcome x)
 
 -- the told values of the disk before and after it: only work on a request changes them
 abbrev pub DoesDisk : Turn → Option Values → Option Values → Type 0

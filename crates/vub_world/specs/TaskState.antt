@@ -1,10 +1,10 @@
 -- A request at work: which step its task makes next, and what that step leaves (VIRTIO 1.2, 5.2.6).
-use Rattle.std.specs.Prelude.{◌≡◌, ◌<◌, ℕ, ◌+◌, ◌*◌, ◌/◌, ◌%◌, Bool, false, not, ◌==◌, ◌&&◌, if◌then◌else◌, min, List, [], ◌∷◌, length, slice_get, Option, Some, None, Result, Ok, Err, ⊤}
+use Rattle.std.specs.Prelude.{◌≡◌, ◌⊎◌, ◌<◌, ℕ, ◌+◌, ◌*◌, ◌/◌, ◌%◌, Bool, false, not, ◌==◌, ◌&&◌, if◌then◌else◌, min, List, [], ◌∷◌, length, slice_get, Option, Some, None, option_map, Result, Ok, Err, ⊤}
 use Rattle.vub_base.specs.declared.header.Header1.{Header1}
 use Rattle.vub_base.specs.declared.header.CacheMode.TheVariants.{Back}
 use Rattle.vub_base.specs.declared.store.Tag.TheVariants.{T2}
 use Rattle.vub_shared.specs.Bytes.{Bytes}
-use Rattle.vub_shared.specs.Stores.{Store, one_store, after_store}
+use Rattle.vub_shared.specs.Stores.{Store, one_store, after_store, after_in_trail}
 use Rattle.vub_disk.specs.Values.{Values, with_value}
 use Rattle.vub_driver.specs.Layout.{status_place}
 use Rattle.vub_device.specs.declared.entry.Asked.{Asked}
@@ -52,6 +52,10 @@ work_for h r buffer request (Put place) = work.Store (transfer_at h r buffer req
 work_for h r buffer request (Act place) = work.Act (transfer_at h r buffer request place)
 work_for h r buffer request Sync = work.Sync (answer_of h r buffer request)
 work_for h r buffer request Status = work.Reply (answer_of h r buffer request)
+
+-- a request of which no step was made
+abbrev pub fresh_task : ℕ → Task
+fresh_task head = record { head = head; work = work.Begin }
 
 -- the task of a request stands for so many steps made of it
 pub record IsTaskAt (h : Header1) (r : SplitRing) (buffer : ℕ) (request : Asked) (made : ℕ) (task : Task) : Type 0 where
@@ -139,6 +143,15 @@ abbrev pub after_maybe : Option Store → Bytes → Bytes
 after_maybe None m = m
 after_maybe (Some st) m = after_store st m
 
+-- the told list of stores after a step that makes this store, or none
+abbrev pub with_maybe : Option Store → List Store → List Store
+with_maybe None trail = trail
+with_maybe (Some st) trail = after_in_trail st trail
+
+-- the told list of stores gained one at most
+abbrev pub GainsOne : Option (List Store) → Option (List Store) → Type 0
+GainsOne before after = (after ≡ before) ⊎ ((st : Store) × (after ≡ option_map (after_in_trail st) before))
+
 abbrev pub with_effect : Option SectorValue → Values → Values
 with_effect None v = v
 with_effect (Some x) v = with_value x.sector x.value v
@@ -179,9 +192,13 @@ work_of r n = work_for n.header r n.buffer n.request n.step
 abbrev pub answer_in : Making → made.TaskStep
 answer_in n = answer_to n.header n.request n.step
 
+-- the store that it makes, if it makes one
+abbrev pub store_in : SplitRing → Making → List ℕ → Option Store
+store_in r n sector = store_of n.header r n.buffer n.request sector n.step
+
 -- the told memory after it
 abbrev pub memory_after : SplitRing → Making → List ℕ → Bytes → Bytes
-memory_after r n sector m = after_maybe (store_of n.header r n.buffer n.request sector n.step) m
+memory_after r n sector m = after_maybe (store_in r n sector) m
 
 -- a look leaves the value of its sector
 abbrev pub LooksAt : Making → Values → List ℕ → Type 0

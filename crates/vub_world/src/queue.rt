@@ -151,6 +151,9 @@ impl Stepped {
 impl Queue {
     ghost use Rattle.vub_base.specs.Causes.{HasCause};
     ghost use Rattle.vub_base.specs.Told.{WhereTold};
+    ghost use Rattle.vub_world.specs.declared.task.Task.{Task};
+    ghost use Rattle.vub_world.specs.TaskState as TaskState;
+    ghost use Rattle.vub_world.specs.TaskState.{Making, IfMade, GainsOne, memory_outcome};
     ghost use Rattle.vub_ring.specs.Readiness.{is_publication, is_ready, any_turn, work_or_publish, drain_turn};
     ghost use Rattle.vub_ring.specs.declared.readiness.Turn.TheVariants.{Fetch};
     ghost use Rattle.std.specs.Prelude.{not, ◌==◌, is_some, remove, ◌++◌, ◌∷◌, []};
@@ -159,13 +162,13 @@ impl Queue {
     ghost use Rattle.vub_ring.specs.declared.steps.Phase.TheVariants.{Rest};
     ghost use Rattle.vub_ring.specs.declared.steps.Step.TheVariants.{Id, Len, Index};
     ghost use Rattle.vub_world.specs.Queue.{ring_in};
-    ghost use Rattle.vub_world.specs.QueueState.{state_of, new_state, started_from, standing_at, waiting, IsFree, Finds, Fetches, accepted, may_fetch, begun, under_way, next_row, moved, with_phase, Moves, outcome, found_outcome, StoresRow, TrailsRow, publishes, publish_row, Publishes, is_idle, is_fault, Unless, Works, Does, DoesStore, DoesTrail, DoesFault, turn_at, halted, Turns};
+    ghost use Rattle.vub_world.specs.QueueState.{state_of, IsNew, started_from, said, concluded, StepsAt, step_in, IsDue, IfStepped, StepsOut, WorksOut, disk_outcome, standing_at, waiting, IsFree, Finds, Fetches, accepted, may_fetch, begun, under_way, next_row, moved, with_phase, Moves, outcome, found_outcome, StoresRow, TrailsRow, publishes, publish_row, Publishes, is_idle, is_fault, Unless, Works, Does, DoesStore, DoesTrail, turn_at, halted, Turns};
 
     /// A queue that isn't started. All memory that it needs is reserved here.
     pub fn new(alloc: Global, setup: &QueueSetup) -> Result<Queue, Memory>
         requires { setup.now.ring.size ≤ 1024 }
         ensures ring { IfOk result (λ q. ring_in q ≡ setup.now.ring) }
-        ensures state { IfOk result (λ q. state_of q ≡ new_state setup.now.ring setup.now.base) }
+        ensures state { IfOk result (λ q. IsNew setup.now.ring setup.now.base (state_of q)) }
     {
         let size = usize::from(setup.ring.size);
         Ok(Queue {
@@ -357,7 +360,11 @@ impl Queue {
     ) -> Option<(u16, TaskStep)>
         requires { RingLies (M.sizes mem.old) (ring_in self.old) }
         ensures ring { ring_in self.new ≡ ring_in self.old }
-        ensures state { state_of self.new ≡ state_of self.old }
+        ensures steps { StepsAt place result (state_of self.old) (state_of self.new) }
+        ensures made { (task : Task) (n : Making) → WhereTold (M.told mem.old) (λ m. IsDue (D.capacity disk.old) (M.sizes mem.old) (state_of self.old) m place task n → IfMade (step_in result) (λ step. StepsOut place task n m (M.told mem.new) (M.trail mem.old) (M.trail mem.new) (D.values disk.old) (D.values disk.new) result (state_of self.old) (state_of self.new))) }
+        ensures trail { GainsOne (M.trail mem.old) (M.trail mem.new) }
+        ensures cause { HasCause (M.faults mem.old) (M.faults mem.new) (memory_outcome (step_in result)) }
+        ensures disk_cause { HasCause (D.faults disk.old) (D.faults disk.new) (TaskState.disk_outcome (step_in result)) }
         ensures sizes { (s : ℕ) → M.sizes mem.new s ≡ M.sizes mem.old s }
         ensures capacity { D.capacity disk.new ≡ D.capacity disk.old }
     {
@@ -370,20 +377,13 @@ impl Queue {
         Some((head, task.step(&self.ring, mem, disk, sector)))
     }
 
-    fn work<M: Shared, D: Disk>(&mut self, place: u16, mem: &mut M, disk: &mut D) -> Stepped
-        requires { RingLies (M.sizes mem.old) (ring_in self.old) }
+    /// Notes the end of a request whose status was stored, and says what its step was.
+    fn conclude(&mut self, place: usize, head: u16, step: TaskStep) -> Stepped
+        requires { place < vec_len self.old.unfinished }
         ensures ring { ring_in self.new ≡ ring_in self.old }
-        ensures works { Works place result (state_of self.old) (state_of self.new) }
-        ensures sizes { (s : ℕ) → M.sizes mem.new s ≡ M.sizes mem.old s }
-        ensures capacity { D.capacity disk.new ≡ D.capacity disk.old }
+        ensures says { result ≡ said head step }
+        ensures state { state_of self.new ≡ concluded place head step (state_of self.old) }
     {
-        let place = usize::from(place);
-        if !self.started || place >= self.unfinished.len() {
-            return Stepped::Idle;
-        }
-        let Some((head, step)) = self.step_at(place, mem, disk) else {
-            return Stepped::Idle;
-        };
         match step {
             TaskStep::Stored(tag) => Stepped::Stored(tag),
             TaskStep::Looked(sector) => Stepped::Looked(head, sector),
@@ -393,11 +393,30 @@ impl Queue {
             TaskStep::Broken(fault) => Stepped::Broken(fault),
             TaskStep::Failed => Stepped::SharedFault,
             TaskStep::Done { len, .. } => {
-                if place < self.unfinished.len() {
-                    self.complete(place, head, len);
-                }
+                self.complete(place, head, len);
                 Stepped::Completed(head)
             }
+        }
+    }
+
+    fn work<M: Shared, D: Disk>(&mut self, place: u16, mem: &mut M, disk: &mut D) -> Stepped
+        requires { RingLies (M.sizes mem.old) (ring_in self.old) }
+        ensures ring { ring_in self.new ≡ ring_in self.old }
+        ensures works { Works place result (state_of self.old) (state_of self.new) }
+        ensures made { (task : Task) (n : Making) → WhereTold (M.told mem.old) (λ m. IsDue (D.capacity disk.old) (M.sizes mem.old) (state_of self.old) m place task n → IfStepped result (WorksOut place task n m (M.told mem.new) (M.trail mem.old) (M.trail mem.new) (D.values disk.old) (D.values disk.new) result (state_of self.old) (state_of self.new))) }
+        ensures trail { GainsOne (M.trail mem.old) (M.trail mem.new) }
+        ensures cause { HasCause (M.faults mem.old) (M.faults mem.new) (outcome result) }
+        ensures disk_cause { HasCause (D.faults disk.old) (D.faults disk.new) (disk_outcome result) }
+        ensures sizes { (s : ℕ) → M.sizes mem.new s ≡ M.sizes mem.old s }
+        ensures capacity { D.capacity disk.new ≡ D.capacity disk.old }
+    {
+        let place = usize::from(place);
+        if !self.started || place >= self.unfinished.len() {
+            return Stepped::Idle;
+        }
+        match self.step_at(place, mem, disk) {
+            Some((head, step)) => self.conclude(place, head, step),
+            None => Stepped::Idle,
         }
     }
 
@@ -557,7 +576,7 @@ impl Queue {
         ensures does { (waiting : ℕ) → Does (work_or_publish self.old.ring.size (standing_at (state_of self.old) waiting)) (M.told mem.old) result (state_of self.old) (state_of self.new) }
         ensures stores { (waiting : ℕ) → DoesStore (work_or_publish self.old.ring.size (standing_at (state_of self.old) waiting)) (M.told mem.old) (M.told mem.new) result (state_of self.old) }
         ensures trails { (waiting : ℕ) → DoesTrail (work_or_publish self.old.ring.size (standing_at (state_of self.old) waiting)) (M.trail mem.old) (M.trail mem.new) result (state_of self.old) }
-        ensures cause { (waiting : ℕ) → DoesFault (work_or_publish self.old.ring.size (standing_at (state_of self.old) waiting)) (M.faults mem.old) (M.faults mem.new) result }
+        ensures cause { HasCause (M.faults mem.old) (M.faults mem.new) (outcome result) }
         ensures sizes { (s : ℕ) → M.sizes mem.new s ≡ M.sizes mem.old s }
         ensures capacity { D.capacity disk.new ≡ D.capacity disk.old }
     {
@@ -577,7 +596,7 @@ impl Queue {
         ensures does { WhereTold (M.told mem.old) (λ m. Does (any_turn self.old.ring.size (standing_at (state_of self.old) (waiting (state_of self.old) m))) (M.told mem.old) result (state_of self.old) (state_of self.new)) }
         ensures stores { WhereTold (M.told mem.old) (λ m. DoesStore (any_turn self.old.ring.size (standing_at (state_of self.old) (waiting (state_of self.old) m))) (M.told mem.old) (M.told mem.new) result (state_of self.old)) }
         ensures trails { WhereTold (M.told mem.old) (λ m. DoesTrail (any_turn self.old.ring.size (standing_at (state_of self.old) (waiting (state_of self.old) m))) (M.trail mem.old) (M.trail mem.new) result (state_of self.old)) }
-        ensures cause { WhereTold (M.told mem.old) (λ m. DoesFault (any_turn self.old.ring.size (standing_at (state_of self.old) (waiting (state_of self.old) m))) (M.faults mem.old) (M.faults mem.new) result) }
+        ensures cause { HasCause (M.faults mem.old) (M.faults mem.new) (outcome result) }
         ensures sizes { (s : ℕ) → M.sizes mem.new s ≡ M.sizes mem.old s }
         ensures capacity { D.capacity disk.new ≡ D.capacity disk.old }
     {
@@ -594,7 +613,7 @@ impl Queue {
         ensures does { WhereTold (M.told mem.old) (λ m. Does (any_turn self.old.ring.size (standing_at (state_of self.old) (waiting (state_of self.old) m))) (M.told mem.old) result (state_of self.old) (state_of self.new)) }
         ensures stores { WhereTold (M.told mem.old) (λ m. DoesStore (any_turn self.old.ring.size (standing_at (state_of self.old) (waiting (state_of self.old) m))) (M.told mem.old) (M.told mem.new) result (state_of self.old)) }
         ensures trails { WhereTold (M.told mem.old) (λ m. DoesTrail (any_turn self.old.ring.size (standing_at (state_of self.old) (waiting (state_of self.old) m))) (M.trail mem.old) (M.trail mem.new) result (state_of self.old)) }
-        ensures cause { WhereTold (M.told mem.old) (λ m. DoesFault (any_turn self.old.ring.size (standing_at (state_of self.old) (waiting (state_of self.old) m))) (M.faults mem.old) (M.faults mem.new) result) }
+        ensures cause { HasCause (M.faults mem.old) (M.faults mem.new) (outcome result) }
         ensures sizes { (s : ℕ) → M.sizes mem.new s ≡ M.sizes mem.old s }
         ensures capacity { D.capacity disk.new ≡ D.capacity disk.old }
     {
@@ -613,7 +632,7 @@ impl Queue {
         ensures does { WhereTold (M.told mem.old) (λ m. Does (turn_at self.old.ring.size (standing_at (state_of self.old) (waiting (state_of self.old) m)) turn) (M.told mem.old) result (state_of self.old) (state_of self.new)) }
         ensures stores { WhereTold (M.told mem.old) (λ m. DoesStore (turn_at self.old.ring.size (standing_at (state_of self.old) (waiting (state_of self.old) m)) turn) (M.told mem.old) (M.told mem.new) result (state_of self.old)) }
         ensures trails { WhereTold (M.told mem.old) (λ m. DoesTrail (turn_at self.old.ring.size (standing_at (state_of self.old) (waiting (state_of self.old) m)) turn) (M.trail mem.old) (M.trail mem.new) result (state_of self.old)) }
-        ensures cause { WhereTold (M.told mem.old) (λ m. DoesFault (turn_at self.old.ring.size (standing_at (state_of self.old) (waiting (state_of self.old) m)) turn) (M.faults mem.old) (M.faults mem.new) result) }
+        ensures cause { HasCause (M.faults mem.old) (M.faults mem.new) (outcome result) }
         ensures sizes { (s : ℕ) → M.sizes mem.new s ≡ M.sizes mem.old s }
         ensures capacity { D.capacity disk.new ≡ D.capacity disk.old }
     {
@@ -648,7 +667,7 @@ impl Queue {
         ensures does { is_some (state_of self.old).stopped ≡ false → WhereTold (M.told mem.old) (λ m. Turns (turn_at (ring_in self.old).size (standing_at (state_of self.old) (waiting (state_of self.old) m)) turn) (M.told mem.old) result (state_of self.old) (state_of self.new)) }
         ensures stores { is_some (state_of self.old).stopped ≡ false → WhereTold (M.told mem.old) (λ m. DoesStore (turn_at (ring_in self.old).size (standing_at (state_of self.old) (waiting (state_of self.old) m)) turn) (M.told mem.old) (M.told mem.new) result (state_of self.old)) }
         ensures trails { is_some (state_of self.old).stopped ≡ false → WhereTold (M.told mem.old) (λ m. DoesTrail (turn_at (ring_in self.old).size (standing_at (state_of self.old) (waiting (state_of self.old) m)) turn) (M.trail mem.old) (M.trail mem.new) result (state_of self.old)) }
-        ensures cause { is_some (state_of self.old).stopped ≡ false → WhereTold (M.told mem.old) (λ m. DoesFault (turn_at (ring_in self.old).size (standing_at (state_of self.old) (waiting (state_of self.old) m)) turn) (M.faults mem.old) (M.faults mem.new) result) }
+        ensures cause { HasCause (M.faults mem.old) (M.faults mem.new) (outcome result) }
         ensures sizes { (s : ℕ) → M.sizes mem.new s ≡ M.sizes mem.old s }
         ensures capacity { D.capacity disk.new ≡ D.capacity disk.old }
     {

@@ -6,10 +6,10 @@ ghost use Rattle.vub_base.specs.Causes.{HasCause};
 ghost use Rattle.vub_base.specs.Told.{WhereTold};
 ghost use Rattle.vub_base.specs.declared.store.Tag.TheVariants.{T2};
 ghost use Rattle.vub_shared.specs.Bytes.{bytes_from};
-ghost use Rattle.vub_shared.specs.Stores.{one_store, after_store};
+ghost use Rattle.vub_shared.specs.Stores.{one_store, after_store, after_in_trail};
 ghost use Rattle.vub_disk.specs.Values.{with_value};
 ghost use Rattle.vub_world.specs.Split.{RingLies};
-ghost use Rattle.vub_world.specs.TaskState.{IfMade, memory_outcome, disk_outcome, plain_len_of, plain_answer_of, whole_transfer};
+ghost use Rattle.vub_world.specs.TaskState.{IfMade, GainsOne, fresh_task, memory_outcome, disk_outcome, plain_len_of, plain_answer_of, whole_transfer};
 ghost use Rattle.vub_world.specs.declared.chain.Sectors.{Sectors};
 ghost use Rattle.vub_world.specs.declared.task.TaskStep.TheVariants as answers;
 ghost use Rattle.vub_world.specs.declared.task.Work.TheVariants as work;
@@ -211,12 +211,12 @@ impl Task {
     ghost use Rattle.vub_world.specs.Tasks as Tasks;
     ghost use Rattle.vub_world.specs.Tasks.{task_steps};
     ghost use Rattle.vub_world.specs.ChainState.{MeansRequest, Reads, read_outcome};
-    ghost use Rattle.vub_world.specs.TaskState.{Making, IsNext, IsServed, IsReady, IsTaskAt, HasMade, LooksAt, answer_in, memory_after, values_after, work_for, work_of};
+    ghost use Rattle.vub_world.specs.TaskState.{Making, IsNext, IsServed, IsReady, IsTaskAt, HasMade, LooksAt, answer_in, store_in, memory_after, with_maybe, values_after, work_for, work_of};
     ghost use Rattle.vub_world.specs.declared.split.SplitRing.{SplitRing};
 
     /// A request that was accepted under this head.
     pub fn new(head: u16) -> Task
-        ensures head { result.head ≡ head }
+        ensures is { result ≡ fresh_task head }
         ensures fresh { (h : Header1) (r : SplitRing) (buffer : ℕ) (request : Asked) → IsTaskAt h r buffer request 0 result }
     {
         Task {
@@ -290,6 +290,8 @@ impl Task {
     ) -> Option<TaskStep>
         ensures answer { transfer.span.place + (512 * transfer.done + 512) ≤ M.sizes mem.old transfer.span.space.number → IfMade result (λ step. step ≡ answers.Stored T2) }
         ensures stored { transfer.span.place + (512 * transfer.done + 512) ≤ M.sizes mem.old transfer.span.space.number → IfMade result (λ step. M.told mem.new ≡ option_map (after_store (one_store transfer.span.space.number (transfer.span.place + 512 * transfer.done) sector.now)) (M.told mem.old)) }
+        ensures trailed { transfer.span.place + (512 * transfer.done + 512) ≤ M.sizes mem.old transfer.span.space.number → IfMade result (λ step. M.trail mem.new ≡ option_map (after_in_trail (one_store transfer.span.space.number (transfer.span.place + 512 * transfer.done) sector.now)) (M.trail mem.old)) }
+        ensures trail { GainsOne (M.trail mem.old) (M.trail mem.new) }
         ensures more { transfer.span.place + (512 * transfer.done + 512) ≤ M.sizes mem.old transfer.span.space.number → transfer.done + 1 < transfer.count → IfMade result (λ step. self.new.work ≡ work.Look (record transfer { done = transfer.done + 1 })) }
         ensures last { transfer.span.place + (512 * transfer.done + 512) ≤ M.sizes mem.old transfer.span.space.number → transfer.count ≤ transfer.done + 1 → IfMade result (λ step. self.new.work ≡ work.Reply transfer.answer) }
         ensures head { self.new.head ≡ self.old.head }
@@ -325,6 +327,7 @@ impl Task {
         ensures last { transfer.span.place + (512 * transfer.done + 512) ≤ M.sizes mem.old transfer.span.space.number → transfer.sector + transfer.done < D.capacity disk.old → transfer.count ≤ transfer.done + 1 → IfMade result (λ step. self.new.work ≡ work.Reply transfer.answer) }
         ensures head { self.new.head ≡ self.old.head }
         ensures told { M.told mem.new ≡ M.told mem.old }
+        ensures trail { M.trail mem.new ≡ M.trail mem.old }
         ensures sizes { (s : ℕ) → M.sizes mem.new s ≡ M.sizes mem.old s }
         ensures capacity { D.capacity disk.new ≡ D.capacity disk.old }
         ensures memory_cause { HasCause (M.faults mem.old) (M.faults mem.new) (memory_outcome result) }
@@ -370,6 +373,8 @@ impl Task {
     fn reply<M: Shared>(&self, answer: Answer, mem: &mut M) -> Option<TaskStep>
         ensures answer { answer.span.len ≡ 1 → answer.span.place + 1 ≤ M.sizes mem.old answer.span.space.number → IfMade result (λ step. step ≡ answers.Done answer.status answer.len) }
         ensures stored { answer.span.len ≡ 1 → answer.span.place + 1 ≤ M.sizes mem.old answer.span.space.number → IfMade result (λ step. M.told mem.new ≡ option_map (after_store (one_store answer.span.space.number answer.span.place (little_bytes 1 answer.status))) (M.told mem.old)) }
+        ensures trailed { answer.span.len ≡ 1 → answer.span.place + 1 ≤ M.sizes mem.old answer.span.space.number → IfMade result (λ step. M.trail mem.new ≡ option_map (after_in_trail (one_store answer.span.space.number answer.span.place (little_bytes 1 answer.status))) (M.trail mem.old)) }
+        ensures trail { GainsOne (M.trail mem.old) (M.trail mem.new) }
         ensures sizes { (s : ℕ) → M.sizes mem.new s ≡ M.sizes mem.old s }
         ensures memory_cause { HasCause (M.faults mem.old) (M.faults mem.new) (memory_outcome result) }
         ensures no_disk { disk_outcome result ≡ Ok tt }
@@ -425,6 +430,8 @@ impl Task {
         ensures head { self.new.head ≡ self.old.head }
         ensures answer { (n : Making) → WhereTold (M.told mem.old) (λ m. IsNext (D.capacity disk.old) (M.sizes mem.old) ring.now m n → IsReady ring.now n self.old → IfMade (Some result) (λ step. step ≡ answer_in n)) }
         ensures stored { (n : Making) → WhereTold (M.told mem.old) (λ m. IsNext (D.capacity disk.old) (M.sizes mem.old) ring.now m n → IsReady ring.now n self.old → IfMade (Some result) (λ step. M.told mem.new ≡ Some (memory_after ring.now n sector.old m))) }
+        ensures trails { (n : Making) → WhereTold (M.told mem.old) (λ m. IsNext (D.capacity disk.old) (M.sizes mem.old) ring.now m n → IsReady ring.now n self.old → IfMade (Some result) (λ step. M.trail mem.new ≡ option_map (with_maybe (store_in ring.now n sector.old)) (M.trail mem.old))) }
+        ensures trail { GainsOne (M.trail mem.old) (M.trail mem.new) }
         ensures looked { (n : Making) → WhereTold (M.told mem.old) (λ m. IsNext (D.capacity disk.old) (M.sizes mem.old) ring.now m n → IsReady ring.now n self.old → IfMade (Some result) (λ step. WhereTold (D.values disk.old) (λ v. LooksAt n v sector.new))) }
         ensures written { (n : Making) → WhereTold (M.told mem.old) (λ m. IsNext (D.capacity disk.old) (M.sizes mem.old) ring.now m n → IsReady ring.now n self.old → IfMade (Some result) (λ step. D.values disk.new ≡ option_map (values_after n.request n.step) (D.values disk.old))) }
         ensures goes_on { (n : Making) → WhereTold (M.told mem.old) (λ m. IsNext (D.capacity disk.old) (M.sizes mem.old) ring.now m n → IsReady ring.now n self.old → IfMade (Some result) (λ step. HasMade ring.now n self.new)) }
@@ -452,6 +459,8 @@ impl Task {
         ensures head { self.new.head ≡ self.old.head }
         ensures answer { (r : SplitRing) (n : Making) → WhereTold (M.told mem.old) (λ m. IsNext (D.capacity disk.old) (M.sizes mem.old) r m n → self.old.work ≡ work_of r n → IfMade (Some result) (λ step. step ≡ answer_in n)) }
         ensures stored { (r : SplitRing) (n : Making) → WhereTold (M.told mem.old) (λ m. IsNext (D.capacity disk.old) (M.sizes mem.old) r m n → self.old.work ≡ work_of r n → IfMade (Some result) (λ step. M.told mem.new ≡ Some (memory_after r n sector.old m))) }
+        ensures trails { (r : SplitRing) (n : Making) → WhereTold (M.told mem.old) (λ m. IsNext (D.capacity disk.old) (M.sizes mem.old) r m n → self.old.work ≡ work_of r n → IfMade (Some result) (λ step. M.trail mem.new ≡ option_map (with_maybe (store_in r n sector.old)) (M.trail mem.old))) }
+        ensures trail { GainsOne (M.trail mem.old) (M.trail mem.new) }
         ensures looked { (r : SplitRing) (n : Making) → WhereTold (M.told mem.old) (λ m. IsNext (D.capacity disk.old) (M.sizes mem.old) r m n → self.old.work ≡ work_of r n → IfMade (Some result) (λ step. WhereTold (D.values disk.old) (λ v. LooksAt n v sector.new))) }
         ensures written { (r : SplitRing) (n : Making) → WhereTold (M.told mem.old) (λ m. IsNext (D.capacity disk.old) (M.sizes mem.old) r m n → self.old.work ≡ work_of r n → IfMade (Some result) (λ step. D.values disk.new ≡ option_map (values_after n.request n.step) (D.values disk.old))) }
         ensures goes_on { (r : SplitRing) (n : Making) → WhereTold (M.told mem.old) (λ m. IsNext (D.capacity disk.old) (M.sizes mem.old) r m n → self.old.work ≡ work_of r n → IfMade (Some result) (λ step. HasMade r n self.new)) }
@@ -477,6 +486,8 @@ impl Task {
         ensures head { self.new.head ≡ self.old.head }
         ensures answer { (r : SplitRing) (n : Making) → WhereTold (M.told mem.old) (λ m. IsNext (D.capacity disk.old) (M.sizes mem.old) r m n → self.old.work ≡ work_of r n → IfMade result (λ step. step ≡ answer_in n)) }
         ensures stored { (r : SplitRing) (n : Making) → WhereTold (M.told mem.old) (λ m. IsNext (D.capacity disk.old) (M.sizes mem.old) r m n → self.old.work ≡ work_of r n → IfMade result (λ step. M.told mem.new ≡ Some (memory_after r n sector.old m))) }
+        ensures trails { (r : SplitRing) (n : Making) → WhereTold (M.told mem.old) (λ m. IsNext (D.capacity disk.old) (M.sizes mem.old) r m n → self.old.work ≡ work_of r n → IfMade result (λ step. M.trail mem.new ≡ option_map (with_maybe (store_in r n sector.old)) (M.trail mem.old))) }
+        ensures trail { GainsOne (M.trail mem.old) (M.trail mem.new) }
         ensures looked { (r : SplitRing) (n : Making) → WhereTold (M.told mem.old) (λ m. IsNext (D.capacity disk.old) (M.sizes mem.old) r m n → self.old.work ≡ work_of r n → IfMade result (λ step. WhereTold (D.values disk.old) (λ v. LooksAt n v sector.new))) }
         ensures written { (r : SplitRing) (n : Making) → WhereTold (M.told mem.old) (λ m. IsNext (D.capacity disk.old) (M.sizes mem.old) r m n → self.old.work ≡ work_of r n → IfMade result (λ step. D.values disk.new ≡ option_map (values_after n.request n.step) (D.values disk.old))) }
         ensures goes_on { (r : SplitRing) (n : Making) → WhereTold (M.told mem.old) (λ m. IsNext (D.capacity disk.old) (M.sizes mem.old) r m n → self.old.work ≡ work_of r n → IfMade result (λ step. HasMade r n self.new)) }

@@ -1,9 +1,10 @@
 use Rattle.std.proofs.Common.{◌≡◌, ◌≤◌, ℕ, List, [], ◌∷◌, ◌++◌, length, map, take, drop, ap, ◌∙◌, arith}
 use Rattle.std.specs.Prelude.{remove}
 use Rattle.vub_world.specs.declared.queue.Completed.{Completed}
+use Rattle.vub_world.specs.declared.task.Task.{Task}
 use Rattle.vub_world.specs.QueueParts.{element}
-use Rattle.vub_world.specs.QueueState.{QueueState, state_of, head_of}
-use Rattle.vub_world.proofs.QueueLemmas.{count_fits, heads_without, completed_more, batch_still}
+use Rattle.vub_world.specs.QueueState.{QueueState, state_of}
+use Rattle.vub_world.proofs.QueueLemmas.{count_fits, completed_more, batch_still}
 use Rattle.vub_world.proofs.queue.Queue.complete.Goals as goal
 
 pub push_reserved-requires : goal.push_reserved-requires
@@ -17,12 +18,11 @@ returns-clause-state c =
     let xs : List Completed = q.completed.items in
     let x : Completed = record { head = c.args.head; len = c.args.len } in
     let few : q.batch ≤ length xs = omega (arith, q.batched) in
-    let heads : map head_of c.remove.new.self.items ≡ remove (map head_of q.unfinished.items) c.args.place = ap (map head_of) c.remove.ensures.items ∙ heads_without q.unfinished.items c.args.place in
     let more : map element (drop q.batch c.push_reserved.new.self.items) ≡ map element (drop q.batch xs) ++ element x ∷ [] =
     ap (λ (ys : List Completed). map element (drop q.batch ys)) c.push_reserved.ensures.items ∙ completed_more q.batch xs x few in
     let still : map element (take q.batch c.push_reserved.new.self.items) ≡ map element (take q.batch xs) =
     ap (λ (ys : List Completed). map element (take q.batch ys)) c.push_reserved.ensures.items ∙ batch_still q.batch xs x few in
-    let with_lists : List ℕ → List (ℕ × ℕ) → List (ℕ × ℕ) → QueueState = λ hs ms bs. record (state_of q) { unfinished = hs; completed = ms; batch = bs } in
-    ap (λ (hs : List ℕ). with_lists hs (map element (drop q.batch c.push_reserved.new.self.items)) (map element (take q.batch c.push_reserved.new.self.items))) heads
-    ∙ ap (λ (ms : List (ℕ × ℕ)). with_lists (remove (map head_of q.unfinished.items) c.args.place) ms (map element (take q.batch c.push_reserved.new.self.items))) more
-    ∙ ap (λ (bs : List (ℕ × ℕ)). with_lists (remove (map head_of q.unfinished.items) c.args.place) (map element (drop q.batch xs) ++ element x ∷ []) bs) still
+    let with_lists : List Task → List (ℕ × ℕ) → List (ℕ × ℕ) → QueueState = λ ts ms bs. record (state_of q) { unfinished = ts; completed = ms; batch = bs } in
+    ap (λ (ts : List Task). with_lists ts (map element (drop q.batch c.push_reserved.new.self.items)) (map element (take q.batch c.push_reserved.new.self.items))) c.remove.ensures.items
+    ∙ ap (λ (ms : List (ℕ × ℕ)). with_lists (remove q.unfinished.items c.args.place) ms (map element (take q.batch c.push_reserved.new.self.items))) more
+    ∙ ap (λ (bs : List (ℕ × ℕ)). with_lists (remove q.unfinished.items c.args.place) (map element (drop q.batch xs) ++ element x ∷ []) bs) still

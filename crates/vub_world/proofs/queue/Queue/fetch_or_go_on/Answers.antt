@@ -7,9 +7,9 @@ use Rattle.vub_ring.specs.declared.readiness.Turn.{Turn}
 use Rattle.vub_ring.specs.declared.readiness.Turn.TheVariants as turns
 use Rattle.vub_world.specs.declared.queue.Stepped.{Stepped}
 use Rattle.vub_world.specs.declared.queue.Stepped.TheVariants as says
-use Rattle.vub_world.specs.QueueState.{QueueState, state_of, standing_at, waiting, Fetches, Does, DoesStore, DoesTrail, DoesFault}
+use Rattle.vub_world.specs.QueueState.{QueueState, state_of, standing_at, waiting, Fetches, Does, DoesStore, DoesTrail}
 use Rattle.vub_world.proofs.SplitLemmas.{lies_still}
-use Rattle.vub_world.proofs.QueueLemmas.{idle_is, any_is, fault_later}
+use Rattle.vub_world.proofs.QueueLemmas.{idle_is, any_is, cause_later}
 use Rattle.vub_world.proofs.queue.Queue.fetch_or_go_on.Goals as goal
 
 pub go_on-requires : goal.go_on-requires
@@ -64,19 +64,4 @@ returns-clause-trails g c m told =
     subst (λ (turn : Turn). DoesTrail turn (g.M.Shared.trail c.args.mem.now) now c.go_on.result s) (sym next) same
 
 pub returns-clause-cause : goal.returns-clause-cause
-returns-clause-cause g c m told =
-    let s : QueueState = state_of c.args.self.now in
-    let t : QueueState = state_of c.fetch-stepped.new.self in
-    let w : ℕ = waiting s m in
-    let before : Option Bytes = g.M.Shared.told c.args.mem.now in
-    let idle : c.fetch-stepped.result ≡ says.Idle = idle_is c.fetch-stepped.result (sym c.is_idle.ensures ∙ c.if-not-is_idle.false) in
-    let fetched : Fetches before says.Idle s t = subst (λ (x : Stepped). Fetches before x s t) idle c.fetch-stepped.ensures.fetches in
-    let next : any_turn s.ring.size (standing_at s w) ≡ work_or_publish s.ring.size (standing_at s w) = any_is s.ring.size (standing_at s w) c.requires.started c.requires.rests (fetched.1 m told) in
-    let first : ℕ = g.M.Shared.faults c.args.mem.now in
-    let mid : ℕ = g.M.Shared.faults c.fetch-stepped.new.mem in
-    let now : ℕ = g.M.Shared.faults c.go_on.new.mem in
-    let went : DoesFault (work_or_publish t.ring.size (standing_at t w)) first now c.go_on.result =
-    fault_later (work_or_publish t.ring.size (standing_at t w)) first mid now c.go_on.result c.fetch-stepped.ensures.cause.later (c.go_on.ensures.cause w) in
-    let same : DoesFault (work_or_publish s.ring.size (standing_at s w)) first now c.go_on.result =
-    subst (λ (u : QueueState). DoesFault (work_or_publish u.ring.size (standing_at u w)) first now c.go_on.result) fetched.0 went in
-    subst (λ (turn : Turn). DoesFault turn first now c.go_on.result) (sym next) same
+returns-clause-cause g c = cause_later _ _ _ _ c.fetch-stepped.ensures.cause.later c.go_on.ensures.cause

@@ -2,7 +2,7 @@ use Rattle.std.proofs.Common.{◌≡◌, ◌≤◌, ◌<◌, ◌+◌, ◌*◌, �
 use Rattle.std.specs.Prelude.{Option, Some, option_map, slice_get}
 use Rattle.vub_base.specs.declared.store.Tag.TheVariants.{T2}
 use Rattle.vub_world.specs.Tasks.{TaskStep, Look, Put, Act, Status, task_steps, status_of}
-use Rattle.vub_world.specs.TaskState.{IfMade, answer_to, store_of, after_maybe, values_after, IsTaskAt}
+use Rattle.vub_world.specs.TaskState.{IfMade, answer_to, store_of, after_maybe, with_maybe, values_after, IsTaskAt}
 use Rattle.vub_world.specs.declared.task.Answer.{Answer}
 use Rattle.vub_world.specs.declared.task.Transfer.{Transfer}
 use Rattle.vub_world.specs.declared.task.TaskStep.TheVariants as answers
@@ -11,13 +11,13 @@ use Rattle.std.proofs.lemmas.Bool.{cases_lt}
 use Rattle.byteorder.specs.Endian.{little_bytes}
 use Rattle.vub_base.specs.Told.{WhereTold}
 use Rattle.vub_shared.specs.Bytes.{bytes_from}
-use Rattle.vub_shared.specs.Stores.{one_store, after_store}
+use Rattle.vub_shared.specs.Stores.{one_store, after_store, after_in_trail}
 use Rattle.vub_disk.specs.Values.{with_value}
 use Rattle.vub_driver.specs.Layout.{status_place}
 use Rattle.vub_world.specs.ChainState.{sector_of, data_start, data_len}
 use Rattle.vub_world.specs.declared.task.Work.TheVariants as work
 use Rattle.vub_world.proofs.StepLemmas.{OfRequest, step_of}
-use Rattle.vub_world.proofs.ArmLemmas.{look_arm, store_arm, act_arm, sync_arm, reply_arm, made_map, room_of, goes_on, ends, same_values, status_byte, acted}
+use Rattle.vub_world.proofs.ArmLemmas.{look_arm, store_arm, act_arm, sync_arm, reply_arm, made_map, room_of, goes_on, ends, same_values, same_trail, status_byte, acted}
 use Rattle.vub_world.proofs.task.Task.attempt.Goals as goal
 
 pub returns-in-Look-clause-answer : goal.returns-in-Look-clause-answer
@@ -309,3 +309,63 @@ returns-in-Reply-clause-goes_on g c r n m told is works =
     reply_arm h r n.buffer n.request n.step c.in-Reply.answer (sym c.in-Reply.is ∙ works)
     (λ (s : TaskStep) (a : Answer). OfRequest h.capacity n.request after s → (a.span.len ≡ 1 → a.span.place + 1 ≤ sizes a.span.space.number → IfMade c.reply.result (λ x. x ≡ answers.Done a.status a.len)) → IfMade c.reply.result (λ x. IsTaskAt h r n.buffer n.request (n.made + 1) c.args.self.now))
     (λ of e. made_map _ _ c.reply.result (λ x made. ends h r n.buffer n.request n.made c.args.self.now of) (e refl (omega (arith, is.means.room)))) known c.reply.ensures.answer
+
+pub returns-in-Look-clause-trails : goal.returns-in-Look-clause-trails
+returns-in-Look-clause-trails g c r n m told is works =
+    let h = n.header in
+    let after : Option TaskStep = slice_get (task_steps h n.request) (suc n.made) in
+    let sizes = g.M.Shared.sizes c.args.mem.now in
+    let sectors = g.D.Disk.capacity c.args.disk.now in
+    let vals = g.D.Disk.values c.args.disk.now in
+    let known : OfRequest h.capacity n.request after n.step = step_of h n.request n.made n.step is.served.basic is.served.cached is.next in
+    look_arm h r n.buffer n.request n.step c.in-Look.transfer (sym c.in-Look.is ∙ works)
+    (λ (s : TaskStep) (t : Transfer). OfRequest h.capacity n.request after s → (t.sector + t.done < sectors → IfMade c.look.result (λ x. x ≡ answers.Looked (t.sector + t.done))) → IfMade c.look.result (λ x. g.M.Shared.trail c.args.mem.now ≡ option_map (with_maybe (store_of h r n.buffer n.request c.args.sector.now s)) (g.M.Shared.trail c.args.mem.now)))
+    (λ q of e0. made_map _ _ c.look.result (λ x made. sym (same_trail (g.M.Shared.trail c.args.mem.now))) (e0 (omega (arith, of.0.within, of.1, is.served.capacity)))) known c.look.ensures.answer
+
+pub returns-in-Store-clause-trails : goal.returns-in-Store-clause-trails
+returns-in-Store-clause-trails g c r n m told is works =
+    let h = n.header in
+    let after : Option TaskStep = slice_get (task_steps h n.request) (suc n.made) in
+    let sizes = g.M.Shared.sizes c.args.mem.now in
+    let sectors = g.D.Disk.capacity c.args.disk.now in
+    let vals = g.D.Disk.values c.args.disk.now in
+    let known : OfRequest h.capacity n.request after n.step = step_of h n.request n.made n.step is.served.basic is.served.cached is.next in
+    store_arm h r n.buffer n.request n.step c.in-Store.transfer (sym c.in-Store.is ∙ works)
+    (λ (s : TaskStep) (t : Transfer). OfRequest h.capacity n.request after s → (t.span.place + (512 * t.done + 512) ≤ sizes t.span.space.number → IfMade c.store.result (λ x. g.M.Shared.trail c.store.new.mem ≡ option_map (after_in_trail (one_store t.span.space.number (t.span.place + 512 * t.done) c.args.sector.now)) (g.M.Shared.trail c.args.mem.now))) → IfMade c.store.result (λ x. g.M.Shared.trail c.store.new.mem ≡ option_map (with_maybe (store_of h r n.buffer n.request c.args.sector.now s)) (g.M.Shared.trail c.args.mem.now)))
+    (λ q of e0. made_map _ _ c.store.result (λ x made. made) (e0 (room_of n.buffer (sizes r.desc.0.number) q n.request is.means.room of.within))) known c.store.ensures.trailed
+
+pub returns-in-Act-clause-trails : goal.returns-in-Act-clause-trails
+returns-in-Act-clause-trails g c r n m told is works =
+    let h = n.header in
+    let after : Option TaskStep = slice_get (task_steps h n.request) (suc n.made) in
+    let sizes = g.M.Shared.sizes c.args.mem.now in
+    let sectors = g.D.Disk.capacity c.args.disk.now in
+    let vals = g.D.Disk.values c.args.disk.now in
+    let known : OfRequest h.capacity n.request after n.step = step_of h n.request n.made n.step is.served.basic is.served.cached is.next in
+    act_arm h r n.buffer n.request n.step c.in-Act.transfer (sym c.in-Act.is ∙ works)
+    (λ (s : TaskStep) (t : Transfer). OfRequest h.capacity n.request after s → (t.span.place + (512 * t.done + 512) ≤ sizes t.span.space.number → t.sector + t.done < sectors → IfMade c.act.result (λ x. x ≡ answers.Acted (t.sector + t.done))) → IfMade c.act.result (λ x. g.M.Shared.trail c.act.new.mem ≡ option_map (with_maybe (store_of h r n.buffer n.request c.args.sector.now s)) (g.M.Shared.trail c.args.mem.now)))
+    (λ q of e0. made_map _ _ c.act.result (λ x made. c.act.ensures.trail ∙ sym (same_trail (g.M.Shared.trail c.args.mem.now))) (e0 (room_of n.buffer (sizes r.desc.0.number) q n.request is.means.room of.0.within) (omega (arith, of.0.within, of.1, is.served.capacity)))) known c.act.ensures.answer
+
+pub returns-in-Sync-clause-trails : goal.returns-in-Sync-clause-trails
+returns-in-Sync-clause-trails g c r n m told is works =
+    let h = n.header in
+    let after : Option TaskStep = slice_get (task_steps h n.request) (suc n.made) in
+    let sizes = g.M.Shared.sizes c.args.mem.now in
+    let sectors = g.D.Disk.capacity c.args.disk.now in
+    let vals = g.D.Disk.values c.args.disk.now in
+    let known : OfRequest h.capacity n.request after n.step = step_of h n.request n.made n.step is.served.basic is.served.cached is.next in
+    sync_arm h r n.buffer n.request n.step c.in-Sync.answer (sym c.in-Sync.is ∙ works)
+    (λ (s : TaskStep) (a : Answer). OfRequest h.capacity n.request after s → (IfMade (Some c.sync.result) (λ x. x ≡ answers.Synced)) → IfMade (Some c.sync.result) (λ x. g.M.Shared.trail c.args.mem.now ≡ option_map (with_maybe (store_of h r n.buffer n.request c.args.sector.now s)) (g.M.Shared.trail c.args.mem.now)))
+    (λ of e. made_map _ _ (Some c.sync.result) (λ x made. sym (same_trail (g.M.Shared.trail c.args.mem.now))) e) known c.sync.ensures.answer
+
+pub returns-in-Reply-clause-trails : goal.returns-in-Reply-clause-trails
+returns-in-Reply-clause-trails g c r n m told is works =
+    let h = n.header in
+    let after : Option TaskStep = slice_get (task_steps h n.request) (suc n.made) in
+    let sizes = g.M.Shared.sizes c.args.mem.now in
+    let sectors = g.D.Disk.capacity c.args.disk.now in
+    let vals = g.D.Disk.values c.args.disk.now in
+    let known : OfRequest h.capacity n.request after n.step = step_of h n.request n.made n.step is.served.basic is.served.cached is.next in
+    reply_arm h r n.buffer n.request n.step c.in-Reply.answer (sym c.in-Reply.is ∙ works)
+    (λ (s : TaskStep) (a : Answer). OfRequest h.capacity n.request after s → (a.span.len ≡ 1 → a.span.place + 1 ≤ sizes a.span.space.number → IfMade c.reply.result (λ x. g.M.Shared.trail c.reply.new.mem ≡ option_map (after_in_trail (one_store a.span.space.number a.span.place (little_bytes 1 a.status))) (g.M.Shared.trail c.args.mem.now))) → IfMade c.reply.result (λ x. g.M.Shared.trail c.reply.new.mem ≡ option_map (with_maybe (store_of h r n.buffer n.request c.args.sector.now s)) (g.M.Shared.trail c.args.mem.now)))
+    (λ of e. made_map _ _ c.reply.result (λ x made. made ∙ ap (λ (bs : List ℕ). option_map (after_in_trail (one_store r.desc.0.number (status_place n.buffer) bs)) (g.M.Shared.trail c.args.mem.now)) (status_byte h n.request is.served.basic is.served.cached)) (e refl (omega (arith, is.means.room)))) known c.reply.ensures.trailed

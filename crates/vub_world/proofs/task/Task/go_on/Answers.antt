@@ -29,3 +29,9 @@ returns-in-Some-clause-goes_on g c r n m told is works = c.in-Some.ensures.goes_
 
 pub returns-in-None-clause-goes_on : goal.returns-in-None-clause-goes_on
 returns-in-None-clause-goes_on g c r n m told is works = absurd (c.in-None.ensures.goes_on r n m told is works)
+
+pub returns-in-Some-clause-trails : goal.returns-in-Some-clause-trails
+returns-in-Some-clause-trails g c r n m told is works = c.in-Some.ensures.trails r n m told is works
+
+pub returns-in-None-clause-trails : goal.returns-in-None-clause-trails
+returns-in-None-clause-trails g c r n m told is works = absurd (c.in-None.ensures.trails r n m told is works)

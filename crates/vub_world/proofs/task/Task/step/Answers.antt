@@ -1,6 +1,8 @@
-use Rattle.std.proofs.Common.{◌∙◌, sym}
+use Rattle.std.proofs.Common.{◌≡◌, ◌∙◌, sym, ap}
+use Rattle.std.specs.Prelude.{Some, option_map}
 use Rattle.vub_world.proofs.ChainReading.{reads_broken}
-use Rattle.vub_world.proofs.ArmLemmas.{next_still, next_with}
+use Rattle.vub_world.proofs.ArmLemmas.{made_map, next_still, next_with}
+use Rattle.vub_world.specs.TaskState.{IfMade, store_in, with_maybe}
 use Rattle.vub_world.proofs.task.Task.step.Goals as goal
 
 pub returns-in-Ok-clause-answer : goal.returns-in-Ok-clause-answer
@@ -60,5 +62,20 @@ returns-in-Ok-clause-goes_on g c n m told is ready =
 
 pub returns-in-Err-Broken-clause-goes_on : goal.returns-in-Err-Broken-clause-goes_on
 returns-in-Err-Broken-clause-goes_on g c n m told is ready =
+    let here = next_with _ _ c.args.ring.now m n c.capacity.result (sym c.capacity.ensures) is in
+    absurd (reads_broken c.in-Err-Broken.field-0 c.in-Err-Broken.fault _ c.in-Err-Broken.field-0-is (c.in-Err-Broken.ensures.ready n m told here ready))
+
+pub returns-in-Ok-clause-trails : goal.returns-in-Ok-clause-trails
+returns-in-Ok-clause-trails g c n m told is ready =
+    let r = c.args.ring.now in
+    let here = next_with _ _ r m n c.capacity.result (sym c.capacity.ensures) is in
+    let works = c.in-Ok.ensures.ready n m told here ready in
+    let now = g.M.Shared.trail c.go_on.new.mem in
+    let made : IfMade (Some c.go_on.result) (λ x. now ≡ option_map (with_maybe (store_in r n c.args.sector.now)) (g.M.Shared.trail c.prepare.new.mem)) =
+    c.go_on.ensures.trails r n m (c.prepare.ensures.told ∙ told) (next_still _ _ _ r m n c.prepare.ensures.sizes is) works in
+    made_map _ _ (Some c.go_on.result) (λ x same. same ∙ ap (option_map (with_maybe (store_in r n c.args.sector.now))) c.prepare.ensures.trail) made
+
+pub returns-in-Err-Broken-clause-trails : goal.returns-in-Err-Broken-clause-trails
+returns-in-Err-Broken-clause-trails g c n m told is ready =
     let here = next_with _ _ c.args.ring.now m n c.capacity.result (sym c.capacity.ensures) is in
     absurd (reads_broken c.in-Err-Broken.field-0 c.in-Err-Broken.fault _ c.in-Err-Broken.field-0-is (c.in-Err-Broken.ensures.ready n m told here ready))
