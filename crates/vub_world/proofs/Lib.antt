@@ -4,6 +4,7 @@ pub mod ChainReading
 pub mod GuestLemmas
 pub mod MachineLemmas
 pub mod QueueAtMoves
+pub mod QueueAtRows
 pub mod QueueAtTurns
 pub mod QueueLemmas
 pub mod RecordTextLemmas
