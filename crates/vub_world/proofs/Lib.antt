@@ -3,6 +3,7 @@ pub mod ChainLemmas
 pub mod ChainReading
 pub mod GuestLemmas
 pub mod QueueAtMoves
+pub mod QueueAtRows
 pub mod QueueAtTurns
 pub mod QueueLemmas
 pub mod RecordTextLemmas

@@ -135,7 +135,7 @@ first_step None request place e = first_disk request place e
 first_step (Some status) request place e = let fails : Some Status ≡ Some (Put place) = e in cc
 
 -- the new request isn't published, and is left
-new_unpublished : (n cap : ℕ) (past : List Entry) (heads : List ℕ) → Known n cap past heads → is_among (published past 0) (accepted past 0) ≡ false
+pub new_unpublished : (n cap : ℕ) (past : List Entry) (heads : List ℕ) → Known n cap past heads → is_among (published past 0) (accepted past 0) ≡ false
 new_unpublished n cap past heads known = elim (cases_Bool (is_among (published past 0) (accepted past 0))) [
   | inl there ↦ absurd (let low : accepted past 0 < accepted past 0 = known.below (accepted past 0) there in omega arith)
   | inr out ↦ out

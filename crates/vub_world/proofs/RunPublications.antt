@@ -45,7 +45,7 @@ pub record IsUnderWay (h : Header1) (s : Scene) (l : Lane) (done : ℕ) : Type 0
   pub started : started s.past 0 ≡ true
   pub holds : Holds h s (publishing done l)
 
-more_left : (m done : ℕ) → done + 1 < 2 * m + 1 → nat_lt (done + 1) (length (publish_steps m)) ≡ true
+pub more_left : (m done : ℕ) → done + 1 < 2 * m + 1 → nat_lt (done + 1) (length (publish_steps m)) ≡ true
 more_left m done l = let many : length (publish_steps m) ≡ 2 * m + 1 = steps_many 0 m in grind (arith, nat_tests)
 
 pub none_left : (m done : ℕ) → done ≡ 2 * m → nat_lt (done + 1) (length (publish_steps m)) ≡ false
