@@ -95,9 +95,9 @@ impl Machine {
     ghost use Rattle.vub_world.specs.MachineAt.{FrontAt, MachineAt, IsReached, IsStanding, Performs};
     ghost use Rattle.vub_world.specs.MachineSteps.{FrontFits, OneSmall, GuestSteps, GuestGoes, TurnGoes, DrainSteps, DrainGoes, HasTurnRoom, HasDrainRoom, BatchFits, StoreFits, SectorFits, IsEntry, Spends, SpendsAnswers, SpendsUpTo, SpendsTurn, SpendsStep, stored_items, head_shown, is_joining, answer_for, answers_for, answers_shown, batch_in, shown_in, noted, next_turn};
     ghost use Rattle.vub_world.specs.Moments.{Moment, opening};
-    ghost use Rattle.vub_world.specs.QueueState.{state_of, with_maybe};
+    ghost use Rattle.vub_world.specs.QueueState.{state_of};
     ghost use Rattle.vub_world.specs.Run.{Stands};
-    ghost use Rattle.vub_world.specs.TaskState.{after_maybe};
+    ghost use Rattle.vub_world.specs.TaskState.{after_maybe, with_maybe};
 
     /// A world in which nothing has happened.
     pub fn new(alloc: Global, header: &Header1) -> Result<Machine, Memory>
