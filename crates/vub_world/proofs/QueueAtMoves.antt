@@ -1,11 +1,11 @@
 -- What the moves of a run leave of where the queue stands.
-use Rattle.std.proofs.Common.{◌≡◌, ◌≢◌, ◌≤◌, ◌<◌, ◌⊎◌, ℕ, zero, suc, ◌+◌, ◌*◌, ◌/◌, ◌%◌, Bool, true, false, not, List, [], ◌∷◌, ◌++◌, length, take, drop, map, set, get_or, refl, ap, sym, ◌∙◌, subst, inl, inr, arith}
-use Rattle.std.specs.Prelude.{Option, Some, None, slice_get, slice_index, slice_range, filter, ◌||◌}
+use Rattle.std.proofs.Common.{◌≡◌, ◌≢◌, ◌≤◌, ◌<◌, ◌⊎◌, ℕ, zero, suc, ◌+◌, ◌/◌, Bool, true, false, not, List, [], ◌∷◌, ◌++◌, length, take, drop, map, set, get_or, refl, ap, sym, ◌∙◌, subst, inl, inr, arith}
+use Rattle.std.specs.Prelude.{Option, Some, None, slice_get, slice_index, filter, ◌||◌}
 use Rattle.std.proofs.lemmas.Bool.Decides.{nat_tests}
-use Rattle.std.proofs.lemmas.Bool.{cases_Bool, cases_eq, cases_lt, or_left, or_right}
-use Rattle.std.proofs.lemmas.List.{length_push, length-append, length-map, length-set, take-map, append-nil, get_or-set_same, get_or-set_other, get_or_append_left, get_or_push}
+use Rattle.std.proofs.lemmas.Bool.{cases_Bool, cases_eq, or_left, or_right}
+use Rattle.std.proofs.lemmas.List.{length_push, length-append, length-map, length-set, length-replicate, get_or-replicate, take-map, append-nil, get_or-set_same, get_or-set_other}
 use Rattle.std.proofs.lemmas.List.Elements.{filter-append}
-use Rattle.std.proofs.lemmas.Option.{slice_get_within, slice_get-get_or, get_or_from_slice_get}
+use Rattle.std.proofs.lemmas.Option.{slice_get_within}
 use Rattle.vub_base.specs.declared.header.Header1.{Header1}
 use Rattle.vub_ring.specs.declared.steps.Phase.{Phase}
 use Rattle.vub_ring.specs.declared.steps.Phase.TheVariants as phases
@@ -17,10 +17,10 @@ use Rattle.vub_device.specs.declared.entry.Asked.{Asked}
 use Rattle.vub_device.specs.declared.entry.Asked.TheVariants as asks
 use Rattle.vub_device.specs.declared.entry.Entry.{Entry}
 use Rattle.vub_device.specs.declared.entry.Entry.TheVariants as entries
-use Rattle.vub_device.specs.Past.{offers, asked, accepted, published, numbers, missing_below, open_numbers, is_among, IsOpen, started, seen}
+use Rattle.vub_device.specs.Past.{asked, accepted, published, numbers, missing_below, open_numbers, is_among, IsOpen, started}
 use Rattle.vub_device.specs.Requests.{refusal}
 use Rattle.vub_device.proofs.Numbers.{is_among_append}
-use Rattle.vub_world.specs.Tasks.{TaskStep, Look, Put, Act, Sync, Status, look_steps, act_steps, disk_steps, unless_refused, task_steps}
+use Rattle.vub_world.specs.Tasks.{Look, Put, Act, Sync, Status, look_steps, act_steps, disk_steps, unless_refused, task_steps}
 use Rattle.vub_world.specs.TaskState.{IsTaskAt}
 use Rattle.vub_world.specs.Turns.{len_of}
 use Rattle.vub_world.specs.QueueParts.{is_taken, without_heads}
@@ -83,10 +83,38 @@ left_is past completed batch k held =
     let test : not (is_among (completed ++ batch) k) ≡ true = kept.1 in
     record { is_open = record { taken = opened.0; unpublished = opened.1 }; out = grind (arith, nat_tests) }
 
--- ---- a start
+-- ---- a queue that isn't started
 
-none_left_at_start : (past : List Entry) (completed batch : List ℕ) → accepted past 0 ≡ 0 → left_of past completed batch ≡ []
-none_left_at_start past completed batch none = ap (λ (n : ℕ). filter (λ k. not (is_among (completed ++ batch) k)) (missing_below (published past 0) n)) none
+none_left : (past : List Entry) (completed batch : List ℕ) → accepted past 0 ≡ 0 → left_of past completed batch ≡ []
+none_left past completed batch none = ap (λ (n : ℕ). filter (λ k. not (is_among (completed ++ batch) k)) (missing_below (published past 0) n)) none
+
+none_among : (past : List Entry) (completed batch : List ℕ) (k : ℕ) → accepted past 0 ≡ 0 → is_among (left_of past completed batch) k ≡ true → ⊥
+none_among past completed batch k none held =
+    let nothing : is_among [] k ≡ true = subst (λ (ks : List ℕ). is_among ks k ≡ true) (none_left past completed batch none) held in
+    let fails : false ≡ true = nothing in
+    cc
+
+-- a new queue stands where no request was accepted
+pub at_new : (h : Header1) (r : SplitRing) (past : List Entry) (heads : List ℕ) (made : ℕ → ℕ) (q : QueueState) → h.base < 65536 → length (published past 0) ≤ accepted past 0 → accepted past 0 ≡ 0 → started past 0 ≡ false
+    → states.IsNew r h.base q → QueueAt h r past heads phases.Rest [] [] made q
+at_new h r past heads made q small fewer none stopped new = subst (λ (t : QueueState). QueueAt h r past heads phases.Rest [] [] made t) (sym new.is) (record {
+  ring = refl;
+  runs = refl;
+  started = sym stopped;
+  avail = omega (arith, small, none);
+  used = omega (arith, small, none, fewer);
+  phase = refl;
+  batch = refl;
+  completed = refl;
+  count = ap (λ (ks : List ℕ). length ks) (sym (none_left past [] [] none));
+  tasks = λ i k task there is. absurd (none_among past [] [] k none (among_get (left_of past [] []) i k there));
+  buffers = new.buffers;
+  places = length-replicate r.size false;
+  sectors = λ k place request held asks_it next. absurd (none_among past [] [] k none held);
+  taken = λ d low held. absurd (let fails : true ≡ false = sym held ∙ get_or-replicate r.size d false true low in cc);
+})
+
+-- ---- a start
 
 pub at_start : (h : Header1) (r : SplitRing) (past : List Entry) (heads : List ℕ) (made : ℕ → ℕ) (q : QueueState) → accepted past 0 ≡ 0
     → QueueAt h r past heads phases.Rest [] [] made q → QueueAt h r (entries.Start 0 (open_numbers past 0) ∷ past) heads phases.Rest [] [] made (record q { started = true })
@@ -103,9 +131,7 @@ at_start h r past heads made q none x = record {
   tasks = λ i k task there is. record { head = (x.tasks i k task there is).head; stands = λ request asks_it. (x.tasks i k task there is).stands request asks_it };
   buffers = x.buffers;
   places = x.places;
-  sectors = λ k place request held asks_it next. absurd (
-      let nothing : is_among [] k ≡ true = subst (λ (ks : List ℕ). is_among ks k ≡ true) (none_left_at_start past [] [] none) held in
-      let fails : false ≡ true = nothing in cc);
+  sectors = λ k place request held asks_it next. absurd (none_among past [] [] k none held);
   taken = λ d low held.
       let t = x.taken d low held in
       (t.0, record { taken = t.1.taken; unpublished = t.1.unpublished }, t.2);

@@ -1,9 +1,9 @@
 -- What a step of the queue's publication says, stores and leaves in a run.
-use Rattle.std.proofs.Common.{◌≡◌, ◌≢◌, ◌<◌, ◌⊎◌, ℕ, ◌+◌, ◌*◌, ◌%◌, Bool, true, false, List, [], ◌∷◌, ◌++◌, length, map, take, drop, cond, refl, ap, sym, ◌∙◌, subst, inl, inr, arith}
-use Rattle.std.specs.Prelude.{Option, Some, None, slice_index, slice_get, option_map, nat_lt, if◌then◌else◌}
+use Rattle.std.proofs.Common.{◌≡◌, ◌≢◌, ◌<◌, ◌⊎◌, ℕ, zero, suc, ◌+◌, ◌*◌, ◌%◌, Bool, true, false, List, [], ◌∷◌, ◌++◌, length, map, take, drop, cond, refl, ap, sym, ◌∙◌, subst, inl, inr, arith}
+use Rattle.std.specs.Prelude.{Option, Some, None, slice_index, slice_get, option_map, nat_lt}
 use Rattle.byteorder.specs.Endian.{little_bytes}
 use Rattle.std.proofs.lemmas.Bool.Decides.{nat_tests}
-use Rattle.std.proofs.lemmas.List.{length-map}
+use Rattle.std.proofs.lemmas.List.{length-map, length-take}
 use Rattle.vub_base.specs.declared.header.Header1.{Header1}
 use Rattle.vub_base.specs.declared.store.Tag.TheVariants.{SP1, SP2, SP5}
 use Rattle.vub_base.specs.declared.store.Area.TheVariants.{M}
@@ -16,7 +16,7 @@ use Rattle.vub_ring.specs.declared.readiness.Turn.TheVariants as turns
 use Rattle.vub_ring.specs.Ring.{Ring, used_idx, used_idx_place, used_id_place, used_len_place}
 use Rattle.vub_ring.specs.Readiness.{is_ready, is_publication}
 use Rattle.vub_ring.specs.Rows.{Row, row, row_of}
-use Rattle.vub_ring.specs.Steps.{next_step, after_step, publish_steps}
+use Rattle.vub_ring.specs.Steps.{start_steps, fetch_steps, next_step, after_step, publish_steps}
 use Rattle.vub_device.specs.declared.entry.Answered.{Answered}
 use Rattle.vub_device.specs.declared.entry.Entry.TheVariants as entries
 use Rattle.vub_device.specs.Past.{started}
@@ -28,7 +28,7 @@ use Rattle.vub_world.specs.declared.split.SplitRing.{SplitRing}
 use Rattle.vub_world.specs.Memory.{Scene, after_items}
 use Rattle.vub_world.specs.Moments.{Lane, Moment, standing}
 use Rattle.vub_world.specs.Run.{one_turn}
-use Rattle.vub_world.specs.Turns.{Turned, turned, under_way, phase_turn, phase_goes_on, element_of, answer_at, row_items, with_phase}
+use Rattle.vub_world.specs.Turns.{Turned, turned, is_rest, begun, under_way, phase_turn, phase_goes_on, element_of, answer_at, row_items, with_phase}
 use Rattle.vub_world.specs.QueueState as states
 use Rattle.vub_world.specs.QueueState.{QueueState, used_side, row_at, next_row, moved, Moves, publishes, publish_row, Publishes, Turns, is_fault}
 use Rattle.vub_world.specs.QueueAt.{spot_of, QueueAt, IsMainRing, QueueStands}
@@ -237,6 +237,7 @@ step_stands h r s l done x u u' g does =
   where
     P : Option Step → Type 0
     P o = (y : Row) × MadeRow h r s l.batch x u u' (phase_turn h 0 s (publishing done l) o) y
+
     go : (o : Option Step) → StepAt 0 (length l.batch) done o → next_step (length u.batch) u.phase ≡ o → P o
     go o (AtId e inside at is) next =
         let same : o ≡ Some (steps.Id e) = is ∙ ap (λ (k : ℕ). Some (steps.Id k)) (let bare : 0 + e ≡ e = omega arith in bare) in
@@ -248,7 +249,7 @@ step_stands h r s l done x u u' g does =
 
 -- ---- a publication that is ready
 
--- what a publication's turn says, makes and leaves; `batch` is the batch that it goes on with
+-- what a publication's turn says, makes and leaves
 pub record HasPublished (h : Header1) (r : SplitRing) (m : Moment) (most : ℕ) (x : Stepped) (q q' : QueueState) (y : Row) : Type 0 where
   pub row : publish_row most q ≡ Some y
   pub space : y.store.space ≡ 0
@@ -338,10 +339,100 @@ row_stands h r m most told x q q' plain good main z ready fine made =
     let is : WhatIsMade h r m.scene most x u q' l = elim (phase_cases l.batch l.phase good.holds.worked.phase_is) [
       | inl rest ↦ begin_stands h r m most x q q' plain good main z ready rest.0 rest.1 step
       | inr shows ↦ on_stands h r m most shows.0 x q q' plain good main z ready shows.1 step
-    ] in
-    (is.0, record {
-      row = ap (λ (b : Bool). states.row_if b u) now ∙ is.1.row;
-      space = is.1.space;
-      which = is.1.which;
-      stands = stands_after h r m (turns.Publish most) q' is.1.stands;
-    })
+    ] in (
+      is.0,
+      record {
+        row = ap (λ (b : Bool). states.row_if b u) now ∙ is.1.row;
+        space = is.1.space;
+        which = is.1.which;
+        stands = stands_after h r m (turns.Publish most) q' is.1.stands;
+      },
+    )
+
+-- ---- which step it is, as the queue tells before the turn
+
+-- the begin of a publication isn't its end
+first_is : (n : ℕ) → 0 < n → next_step n (phases.Publish 0) ≡ Some (steps.Id 0)
+first_is n some = elim (step_at 0 n 0 (omega arith)) [
+  | AtId e inside at is ↦ is ∙ ap (λ (k : ℕ). Some (steps.Id k)) (let none : 0 + e ≡ 0 = omega arith in none)
+  | AtLen e inside at is ↦ absurd (omega arith)
+  | AtIndex at is ↦ absurd (omega arith)
+]
+
+abbrev pub ShowsNext : QueueState → Type 0
+ShowsNext q = next_step (length q.batch) q.phase ≡ Some steps.Index
+
+-- a queue whose next step shows its batch goes on
+shows_goes : (p : Phase) (n : ℕ) → next_step n p ≡ Some steps.Index → is_publication p ≡ true
+shows_goes phases.Rest n next = absurd (let fails : None ≡ Some steps.Index = next in cc)
+shows_goes (phases.Start done) n next = absurd (no_start done next)
+  where
+    no_start : (d : ℕ) → slice_get start_steps d ≡ Some steps.Index → ⊥
+    no_start zero e = let fails : Some steps.Start ≡ Some steps.Index = e in cc
+    no_start (suc d) e = let fails : None ≡ Some steps.Index = e in cc
+shows_goes (phases.Fetch done) n next = absurd (no_fetch done next)
+  where
+    no_fetch : (d : ℕ) → slice_get fetch_steps d ≡ Some steps.Index → ⊥
+    no_fetch zero e = let fails : Some steps.Accept ≡ Some steps.Index = e in cc
+    no_fetch (suc d) e = let fails : None ≡ Some steps.Index = e in cc
+shows_goes (phases.Publish done) n next = refl
+
+pub goes_under_way : (q : QueueState) (most : ℕ) → is_publication q.phase ≡ true → states.under_way most q ≡ q
+goes_under_way q most goes = ap (λ (b : Bool). cond {A = QueueState} b q (states.begun most q)) goes
+
+lane_goes : (l : Lane) (most : ℕ) → is_publication l.phase ≡ true → under_way (turns.Publish most) l ≡ l
+lane_goes l most goes = ap (λ (b : Bool). cond {A = Lane} b (begun (turns.Publish most) l) l) (not_rest l.phase goes)
+  where
+    not_rest : (p : Phase) → is_publication p ≡ true → is_rest p ≡ false
+    not_rest phases.Rest e = absurd (let fails : false ≡ true = e in cc)
+    not_rest (phases.Start done) e = refl
+    not_rest (phases.Fetch done) e = refl
+    not_rest (phases.Publish done) e = refl
+
+-- the store of used.idx, where it was next before the turn: it shows the lane's batch
+pub record HasShown (h : Header1) (m : Moment) (most : ℕ) (x : Stepped) (y : Row) : Type 0 where
+  pub tag : y.tag ≡ SP5
+  pub said : x ≡ says.Published
+  pub items : (turned h 0 (turns.Publish most) m).items ≡ items.Store SP5 M y.store.place y.store.bytes ∷ items.Made (entries.Publish 0 (map (answer_at 0 (after_row h y m.scene)) (m.lanes 0).batch)) ∷ []
+
+pub shown_stands : (h : Header1) (r : SplitRing) (m : Moment) (most : ℕ) (x : Stepped) (q q' : QueueState) (y : Row) → QueueStands h r m q → HasPublished h r m most x q q' y → ShowsNext q → HasShown h m most x y
+shown_stands h r m most x q q' y z has next =
+    let goes : is_publication q.phase ≡ true = shows_goes q.phase (length q.batch) next in
+    let same : states.under_way most q ≡ q = goes_under_way q most goes in
+    let lane : under_way (turns.Publish most) (m.lanes 0) ≡ m.lanes 0 = lane_goes (m.lanes 0) most (ap is_publication (sym z.phase) ∙ goes) in
+    let next_too : ShowsNext (states.under_way most q) = subst (λ (t : QueueState). ShowsNext t) (sym same) next in
+    elim has.which [
+      | inl part ↦ elim part.next [
+        | inl id ↦ absurd (let fails : Some (steps.Id part.element) ≡ Some steps.Index = sym id ∙ next_too in cc)
+        | inr len ↦ absurd (let fails : Some (steps.Len part.element) ≡ Some steps.Index = sym len ∙ next_too in cc)
+      ]
+      | inr last ↦ record {
+        tag = last.tag;
+        said = last.said;
+        items = last.items ∙ ap (λ (l : Lane). items.Store SP5 M y.store.place y.store.bytes ∷ items.Made (entries.Publish 0 (map (answer_at 0 (after_row h y m.scene)) l.batch)) ∷ []) lane;
+      }
+    ]
+
+-- any other store makes no entry
+pub stored_stands : (h : Header1) (r : SplitRing) (m : Moment) (most : ℕ) (x : Stepped) (q q' : QueueState) (y : Row) → Good h m → QueueStands h r m q → is_ready (standing h 0 m) (turns.Publish most) ≡ true → HasPublished h r m most x q q' y
+    → (ShowsNext q → ⊥) → MadeElement (states.under_way most q) x (turned h 0 (turns.Publish most) m).items y
+stored_stands h r m most x q q' y good z ready has other =
+    let l : Lane = m.lanes 0 in
+    elim has.which [
+      | inl part ↦ part
+      | inr last ↦ absurd (elim (phase_cases l.batch l.phase good.holds.worked.phase_is) [
+        | inl rest ↦
+            let quiet : is_publication l.phase ≡ false = ap is_publication rest.0 in
+            let some : 0 < most = grind (arith, nat_tests) in
+            let any : 0 < length l.completed = grind (arith, nat_tests) in
+            let begins : states.under_way most q ≡ states.begun most q = ap (λ (b : Bool). cond {A = QueueState} b q (states.begun most q)) (ap is_publication (z.phase ∙ rest.0)) in
+            let many : length q.completed ≡ length l.completed = ap (λ (ks : List (ℕ × ℕ)). length ks) z.completed ∙ length-map l.completed (spot_of h m.scene.past (m.scene.heads 0)) in
+            let next : ShowsNext (states.begun most q) = subst (λ (t : QueueState). ShowsNext t) begins last.next in
+            let first : next_step (length (take most q.completed)) (phases.Publish 0) ≡ Some (steps.Id 0) = first_is (length (take most q.completed)) (omega (arith, length-take most q.completed, many, some, any)) in
+            let fails : Some (steps.Id 0) ≡ Some steps.Index = sym first ∙ next in
+            cc
+        | inr shows ↦
+            let same : states.under_way most q ≡ q = goes_under_way q most (ap is_publication (z.phase ∙ shows.1)) in
+            other (subst (λ (t : QueueState). ShowsNext t) same last.next)
+      ])
+    ]

@@ -1,6 +1,6 @@
 -- Which turns of the queue are due at a moment of a run, and what a start and a fetch leave.
-use Rattle.std.proofs.Common.{◌≡◌, ◌≢◌, ◌≤◌, ◌<◌, ◌⊎◌, ℕ, ◌+◌, ◌*◌, ◌%◌, Bool, true, false, not, List, [], ◌∷◌, ◌++◌, length, cond, refl, ap, sym, ◌∙◌, subst, inl, inr, arith}
-use Rattle.std.specs.Prelude.{Option, Some, None, slice_index, nat_lt, ⊤}
+use Rattle.std.proofs.Common.{◌≡◌, ◌≤◌, ◌<◌, ℕ, ◌+◌, ◌*◌, ◌%◌, Bool, true, false, List, [], ◌∷◌, length, cond, refl, ap, sym, ◌∙◌, subst, inl, inr, arith}
+use Rattle.std.specs.Prelude.{Option, Some, slice_index, nat_lt, ⊤}
 use Rattle.std.proofs.lemmas.Bool.Decides.{nat_tests}
 use Rattle.std.proofs.lemmas.List.{length-map}
 use Rattle.vub_base.specs.declared.header.Header1.{Header1}
@@ -13,11 +13,10 @@ use Rattle.vub_ring.specs.declared.readiness.Standing.{Standing}
 use Rattle.vub_ring.specs.declared.readiness.Turn.{Turn}
 use Rattle.vub_ring.specs.declared.readiness.Turn.TheVariants as turns
 use Rattle.vub_ring.specs.Ring.{ahead, avail_idx}
-use Rattle.vub_ring.specs.Readiness.{is_ready, is_fetch, is_publication}
-use Rattle.vub_driver.specs.Layout.{ring_of}
+use Rattle.vub_ring.specs.Readiness.{is_ready, is_publication}
 use Rattle.vub_device.specs.declared.entry.Entry.{Entry}
 use Rattle.vub_device.specs.declared.entry.Entry.TheVariants as entries
-use Rattle.vub_device.specs.Past.{accepted, published, collected, missing_below, open_numbers, IsOpen, started}
+use Rattle.vub_device.specs.Past.{accepted, published, collected, missing_below, open_numbers, started}
 use Rattle.vub_world.specs.declared.report.items.Item.TheVariants as items
 use Rattle.vub_world.specs.declared.queue.Stepped.{Stepped}
 use Rattle.vub_world.specs.declared.queue.Stepped.TheVariants as says
@@ -27,9 +26,8 @@ use Rattle.vub_world.specs.Moments.{Lane, Moment, standing}
 use Rattle.vub_world.specs.Run.{one_turn}
 use Rattle.vub_world.specs.Turns.{Turned, turned, under_way, phase_goes_on}
 use Rattle.vub_world.specs.Split.{avail_idx_word, head_word}
-use Rattle.vub_world.specs.QueueParts.{is_taken}
 use Rattle.vub_world.specs.QueueState as states
-use Rattle.vub_world.specs.QueueState.{QueueState, standing_at, started_from, Fetches, Breaks, BreaksBy, Publishes, publishes, DoesOf, Unless, Turns, is_fault}
+use Rattle.vub_world.specs.QueueState.{QueueState, standing_at, Fetches, Breaks, BreaksBy, Publishes, publishes, DoesOf, Unless, Turns, is_fault}
 use Rattle.vub_world.specs.QueueAt.{spot_of, QueueAt, IsMainRing, QueueStands}
 use Rattle.vub_world.proofs.RunNumbers.{not_among-take}
 use Rattle.vub_world.proofs.RunGood.{the_ring, IsOut, PhaseIs, Holds}
@@ -152,18 +150,25 @@ keeps_rules h r m q fault plain good main z breaks = go fault breaks.1
   where
     a : ℕ
     a = accepted m.scene.past 0
+
     heads : List ℕ
     heads = m.scene.heads 0
+
     holds : Holds h m.scene (m.lanes 0)
     holds = good.holds
+
     far : states.waiting q m.scene.memory + a ≡ length heads
     far = omega (arith, waiting_is h r m q main z, some_waits h m.scene (m.lanes 0) plain.good holds)
+
     more : a < length heads
     more = omega (arith, far, breaks.0)
+
     sized : q.ring.size ≡ h.size
     sized = ap (λ (x : SplitRing). x.size) z.ring ∙ main.size
+
     out : IsOut m.scene.past heads a
     out = next_out h m.scene (m.lanes 0) holds more
+
     go : (f : RingFault) → BreaksBy q m.scene.memory f → ⊥
     go (faults.Jump ahead) b = omega (arith, b.0, b.1, far, sized, holds.known.room, holds.known.shown, holds.known.fewer)
     go (faults.BadHead head) b = omega (arith, b.1, b.2, sized, head_is h r m q main z holds more, holds.driven.below a out)
@@ -190,6 +195,7 @@ fetch_accepts h r m x q u plain good main z ready fine fetches = go x fine fetch
   where
     a : ℕ
     a = accepted m.scene.past 0
+
     go : (y : Stepped) → is_fault y ≡ false → Fetches (Some m.scene.memory) y q u → (y ≡ says.Accepted (slice_index (m.scene.heads 0) a)) × (u ≡ states.accepted (slice_index (m.scene.heads 0) a) q)
     go says.Idle f does = absurd (
         let unready : is_ready (standing_at q (states.waiting q m.scene.memory)) turns.Fetch ≡ false = does.1 m.scene.memory refl in
