@@ -47,7 +47,7 @@ ring_same : (s s' d d' a a' u u' n n' : ℕ) → s ≡ s' → d ≡ d' → a ≡
 ring_same s s' d d' a a' u u' n n' es ed ea eu en = cc
 
 side_is : (r : SplitRing) (n : ℕ) → IsMainRing r n → used_side r ≡ the_ring n
-side_is r n main = ring_same r.used.0.number 0 r.desc.1 0 r.avail.1 4096 r.used.1 8192 r.size n main.used_space main.desc_place main.avail_place main.used_place main.size
+side_is r n main = ring_same r.used.0.number 0 r.desc.1 0 r.avail.1 4096 r.used.1 8192 r.size n main.used_space main.desc main.avail main.used main.size
 
 -- the row that the step table has for a step
 abbrev table_row : Header1 → Scene → List ℕ → Option Step → Option Row

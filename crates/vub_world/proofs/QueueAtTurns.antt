@@ -43,7 +43,7 @@ standing_same : (a a' : Bool) (p p' : Phase) (w w' u u' c c' : ℕ) → a ≡ a'
 standing_same a a' p p' w w' u u' c c' ea ep ew eu ec = cc
 
 avail_word : (r : SplitRing) (n : ℕ) (m : Bytes) → IsMainRing r n → avail_idx_word r m ≡ avail_idx (the_ring n) m
-avail_word r n m main = ap (λ (s : ℕ). word 2 m s (r.avail.1 + 2)) main.avail_space ∙ ap (λ (p : ℕ). word 2 m 0 (p + 2)) main.avail_place
+avail_word r n m main = ap (λ (s : ℕ). word 2 m s (r.avail.1 + 2)) main.avail_space ∙ ap (λ (p : ℕ). word 2 m 0 (p + 2)) main.avail
 
 -- the queue's own count of what waits is the moment's
 waiting_is : (h : Header1) (r : SplitRing) (m : Moment) (q : QueueState) → IsMainRing r h.size → QueueStands h r m q
@@ -133,7 +133,7 @@ head_is h r m q main z holds more =
     let place : q.avail % r.size ≡ index % h.size = ap (λ (i : ℕ). i % r.size) z.avail ∙ ap (λ (n : ℕ). index % n) main.size in
     ap (λ (x : SplitRing). head_word x mem q.avail) z.ring
     ∙ ap (λ (s : ℕ). word 2 mem s (r.avail.1 + (4 + 2 * (q.avail % r.size)))) main.avail_space
-    ∙ ap (λ (p : ℕ). word 2 mem 0 (p + (4 + 2 * (q.avail % r.size)))) main.avail_place
+    ∙ ap (λ (p : ℕ). word 2 mem 0 (p + (4 + 2 * (q.avail % r.size)))) main.avail
     ∙ ap (λ (e : ℕ). word 2 mem 0 (4096 + (4 + 2 * e))) place
     ∙ holds.ringed.avail_at a (omega arith) more
 
