@@ -3,7 +3,7 @@ use Rattle.std.specs.Prelude.{◌≡◌, ℕ, Bool, if◌then◌else◌, nat_lt,
 use Rattle.vub_shared.specs.Bytes.{Bytes}
 use Rattle.vub_shared.specs.Spaces.{Names}
 use Rattle.vub_shared.specs.Stores.{Store}
-use Rattle.vub_shared.specs.MemSpaces.{bytes_of, sizes_of, handed_of, names_of}
+use Rattle.vub_shared.specs.MemSpaces.{bytes_of, sizes_of, handed_of, names_of, count_of}
 use Rattle.vub_shared.specs.declared.mem_shared.MemShared.{MemShared}
 use Rattle.vub_shared.specs.declared.watched_shared.WatchedShared.{WatchedShared}
 
@@ -23,6 +23,10 @@ handed_in w = handed_of w.memory
 
 abbrev pub names_in : WatchedShared → Names
 names_in w = names_of w.memory
+
+-- how many spaces it has handed out; they are numbered from 0
+abbrev pub count_in : WatchedShared → ℕ
+count_in w = count_of w.memory
 
 -- the most bytes of a space
 abbrev pub limit_in : WatchedShared → ℕ

@@ -29,13 +29,14 @@ impl WatchedShared {
     ghost use Rattle.vub_base.specs.Causes.{HasCause};
     ghost use Rattle.vub_shared.specs.Bytes.{bytes_from, word};
     ghost use Rattle.vub_shared.specs.Stores.{Store, Stores, Trails, one_store};
-    ghost use Rattle.vub_shared.specs.Watched.{memory_in, bytes_in, sizes_in, handed_in, limit_in, stores_in, faults_in, SamePlaces};
+    ghost use Rattle.vub_shared.specs.Watched.{memory_in, bytes_in, sizes_in, handed_in, count_in, limit_in, stores_in, faults_in, SamePlaces};
 
     /// A memory without spaces that keeps no store. A space of it has at most `limit` bytes.
     pub fn new(alloc: Global, limit: u64) -> Result<WatchedShared, Memory>
         requires { limit ≤ 2 ^ 40 }
         ensures zero { IfOk result (λ w. (s p : ℕ) → bytes_in w s p ≡ 0) }
         ensures unhanded { IfOk result (λ w. (s : ℕ) → handed_in w s ≡ false) }
+        ensures count { IfOk result (λ w. count_in w ≡ 0) }
         ensures stores { IfOk result (λ w. stores_in w ≡ []) }
         ensures limit { IfOk result (λ w. limit_in w ≡ limit) }
     {
@@ -118,7 +119,7 @@ impl Shared for WatchedShared {
     ghost use Rattle.vub_shared.specs.Stores.{Stores, Trails, one_store};
     ghost use Rattle.vub_shared.specs.Spaces.{with_name, KeepsHanded, HandsNew, HasReason};
     ghost use Rattle.vub_shared.specs.declared.fault.SharedFault.TheVariants.{NoSuch};
-    ghost use Rattle.vub_shared.specs.Watched.{bytes_in, sizes_in, handed_in, names_in, limit_in, stores_in, faults_in, SamePlaces};
+    ghost use Rattle.vub_shared.specs.Watched.{bytes_in, sizes_in, handed_in, names_in, count_in, limit_in, stores_in, faults_in, SamePlaces};
     ghost use Rattle.vub_shared.specs.MemLaws.{image_fits, size_fits, unhanded_empty};
 
     ghost told = { λ w. Some (bytes_in w) };
@@ -157,6 +158,7 @@ impl Shared for WatchedShared {
         ensures made { IfOk result (λ space. HandsNew (handed_in self.old) (sizes_in self.old) (handed_in self.new) (sizes_in self.new) space.number size) }
         ensures zeroed { IfOk result (λ space. bytes_in self.new ≡ cleared space.number (bytes_in self.old)) }
         ensures named { IfOk result (λ space. names_in self.new ≡ with_name name.now space.number (names_in self.old)) }
+        ensures number { IfOk result (λ space. space.number ≡ count_in self.old) }
         ensures keeps { OnErr result (SamePlaces self.old self.new) }
         ensures keeps_told { OnErr result (bytes_in self.new ≡ bytes_in self.old) }
         ensures stores { stores_in self.new ≡ stores_in self.old }
