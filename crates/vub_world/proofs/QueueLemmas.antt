@@ -29,7 +29,7 @@ use Rattle.vub_world.specs.declared.queue.Completed.{Completed}
 use Rattle.vub_world.specs.declared.queue.Stepped.{Stepped}
 use Rattle.vub_world.specs.declared.queue.Stepped.TheVariants as says
 use Rattle.vub_world.specs.QueueParts.{element, is_taken, taken_count, without_heads, phase_fits}
-use Rattle.vub_world.specs.QueueState.{QueueState, used_side, row_at, next_row, Moves, StoresRow, TrailsRow, outcome, publishes, Unless, is_idle, standing_at, worked, done_at, Works, StepsAt, StepsOut, WorksOut, IfStepped, Advances, concluded, said, sector_at, IsDue, halted}
+use Rattle.vub_world.specs.QueueState.{QueueState, used_side, row_at, next_row, Moves, StoresRow, TrailsRow, outcome, publishes, Unless, is_idle, standing_at, worked, done_at, Works, StepsAt, StepsOut, WorksOut, IfStepped, Advances, concluded, said, sector_at, IsDue, Rests, halted}
 use Rattle.vub_world.specs.TaskState.{Making, IfMade, HasMade, LooksAt, answer_in, answer_to, memory_after, values_after, store_in, with_maybe}
 use Rattle.vub_world.specs.Tasks as Tasks
 use Rattle.vub_world.proofs.ArmLemmas.{next_still}
@@ -474,6 +474,15 @@ pub runs_on : (place : ℕ) (task : Task) (n : Making) (m : Bytes) (told : Optio
 runs_on place task n m told trail trail_after v v_after x s u t is out =
     let still : u ≡ t = sym (is ∙ ap (λ (y : Stepped). halted y u) out.says ∙ unhalted task.head n.header n.request n.step u) in
     subst (λ (w : QueueState). WorksOut place task n m told trail trail_after v v_after x s w) still out
+
+pub rests_on : (told told_after : Option Bytes) (trail trail_after : Option (List Store)) (v v_after : Option Values) (x : Stepped) (s u t : QueueState) → t ≡ halted x u → Rests told told_after trail trail_after v v_after x s u → Rests told told_after trail trail_after v v_after x s t
+rests_on told told_after trail trail_after v v_after x s u t is rests = record {
+  idle = rests.idle;
+  state = is ∙ ap (λ (y : Stepped). halted y u) rests.idle ∙ rests.state;
+  stores = rests.stores;
+  trails = rests.trails;
+  values = rests.values;
+}
 
 pub stepped_map : (P Q : Type 0) (x : Stepped) → (P → Q) → IfStepped x P → IfStepped x Q
 stepped_map P Q says.Idle f h = f h
