@@ -2,6 +2,7 @@ pub mod ArmLemmas
 pub mod ChainLemmas
 pub mod ChainReading
 pub mod GuestLemmas
+pub mod MachineLemmas
 pub mod QueueAtMoves
 pub mod QueueAtRows
 pub mod QueueAtTurns
