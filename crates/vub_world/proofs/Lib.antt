@@ -3,6 +3,7 @@ pub mod ChainLemmas
 pub mod ChainReading
 pub mod GuestLemmas
 pub mod MachineLemmas
+pub mod MachineDrains
 pub mod MachineLives
 pub mod QueueAtMoves
 pub mod QueueAtRows
