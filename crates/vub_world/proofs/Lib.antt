@@ -5,6 +5,7 @@ pub mod GuestLemmas
 pub mod MachineLemmas
 pub mod MachineDrains
 pub mod MachineLives
+pub mod MachineLoops
 pub mod QueueAtMoves
 pub mod QueueAtRows
 pub mod QueueAtTurns
