@@ -6,7 +6,9 @@ pub mod MachineTurns
 pub mod MachineTurnsNext
 pub mod MachineTurnsWork
 pub mod MachineLemmas
+pub mod MachineDrains
 pub mod MachineLives
+pub mod MachineLoops
 pub mod QueueAtMoves
 pub mod QueueAtRows
 pub mod QueueAtTurns
