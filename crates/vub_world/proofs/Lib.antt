@@ -3,6 +3,7 @@ pub mod ChainLemmas
 pub mod ChainReading
 pub mod GuestLemmas
 pub mod MachineTurns
+pub mod MachineTurnsAt
 pub mod MachineTurnsNext
 pub mod MachineTurnsWork
 pub mod MachineLemmas

@@ -65,7 +65,7 @@ phase_goes_stays h s l = phase_stays h s l (next_step (length l.batch) l.phase)
 under_stays : (h : Header1) (t : Turn) (m : Moment) → (phase_goes_on h 0 m.scene (under_way t (m.lanes 0))).lane.attached ≡ (m.lanes 0).attached
 under_stays h t m = phase_goes_stays h m.scene (under_way t (m.lanes 0)) ∙ under_way_stays t (m.lanes 0) (is_rest (m.lanes 0).phase)
 
-turned_stays : (h : Header1) (t : Turn) (m : Moment) → (turned h 0 t m).lane.attached ≡ (m.lanes 0).attached
+pub turned_stays : (h : Header1) (t : Turn) (m : Moment) → (turned h 0 t m).lane.attached ≡ (m.lanes 0).attached
 turned_stays h turns.Start m = under_stays h turns.Start m
 turned_stays h turns.Fetch m = under_stays h turns.Fetch m
 turned_stays h (turns.Publish most) m = under_stays h (turns.Publish most) m

@@ -1,0 +1,144 @@
+-- Where the machine stands after a turn of its device.
+use Rattle.std.proofs.Common.{◌≡◌, ◌≤◌, ◌<◌, ℕ, zero, suc, ◌+◌, ◌%◌, Bool, true, false, List, [], ◌∷◌, ◌++◌, length, refl, ap, sym, ◌∙◌, subst, inl, inr, arith}
+use Rattle.std.specs.Prelude.{◌&&◌, Option, Some, None, take, slice_index, is_some}
+use Rattle.std.proofs.lemmas.Bool.Decides.{nat_tests}
+use Rattle.std.proofs.lemmas.Bool.{cases_Bool}
+use Rattle.std.proofs.lemmas.List.{append-nil}
+use Rattle.vub_base.specs.declared.header.Header1.{Header1}
+use Rattle.vub_base.specs.declared.store.Tag.{Tag}
+use Rattle.vub_base.specs.declared.store.Tag.TheVariants.{SP5, T5}
+use Rattle.vub_shared.specs.Bytes.{Bytes}
+use Rattle.vub_shared.specs.Stores.{Store}
+use Rattle.vub_shared.specs.Watched.{bytes_in, stores_in}
+use Rattle.vub_shared.specs.declared.watched_shared.WatchedShared.{WatchedShared}
+use Rattle.vub_disk.specs.Values.{Values}
+use Rattle.vub_memdisk.specs.MemDisks.{values_of}
+use Rattle.vub_memdisk.specs.declared.mem_disk.MemDisk.{MemDisk}
+use Rattle.vub_ring.specs.declared.readiness.Turn.{Turn}
+use Rattle.vub_ring.specs.Readiness.{is_ready}
+use Rattle.vub_driver.specs.Drivers.{Driver, Waiting}
+use Rattle.vub_device.specs.declared.entry.Answered.{Answered}
+use Rattle.vub_device.specs.declared.entry.Asked.{Asked}
+use Rattle.vub_device.specs.declared.entry.Entry.{Entry}
+use Rattle.vub_device.specs.declared.entry.Entry.TheVariants as entries
+use Rattle.vub_device.specs.Past.{asked, published, collected, numbers, is_among}
+use Rattle.vub_world.specs.declared.log.Log.{Log}
+use Rattle.vub_world.specs.declared.log.Outstanding.{Outstanding}
+use Rattle.vub_world.specs.declared.machine.Life.{Life}
+use Rattle.vub_world.specs.declared.machine.Machine.{Machine}
+use Rattle.vub_world.specs.declared.queue.Queue.{Queue}
+use Rattle.vub_world.specs.declared.queue.Stepped.{Stepped}
+use Rattle.vub_world.specs.declared.queue.Stepped.TheVariants as says
+use Rattle.vub_world.specs.declared.report.items.Item.{Item}
+use Rattle.vub_world.specs.declared.report.items.Item.TheVariants as items
+use Rattle.vub_world.specs.Logs.{offered_in, collected_in, slot_in}
+use Rattle.vub_world.specs.MachineAt.{AskAt, FrontAt, AttachedAt, LifeAt, LogAt, MachineAt, IsReached, reads_of}
+use Rattle.vub_world.specs.MachineSteps.{Device, device, DeviceAt, TurnMade, DeviceTurns, MachineTurns, TurnGoes, noted, stored_items, shown_of, answers_shown, next_turn}
+use Rattle.vub_world.specs.Memory.{Scene, after_items}
+use Rattle.vub_world.specs.Moments.{Lane, Moment, standing}
+use Rattle.vub_world.specs.QueueAt.{QueueStands}
+use Rattle.vub_world.specs.QueueState.{state_of}
+use Rattle.vub_world.specs.Run.{one_turn, is_due}
+use Rattle.vub_world.specs.Turns.{turned}
+use Rattle.vub_world.proofs.RunGood.{Known}
+use Rattle.vub_world.proofs.RunDrains.{turned_stays}
+use Rattle.vub_world.proofs.RunTurns.{Good}
+use Rattle.vub_world.proofs.RunChainsTurns.{turn_driver}
+
+-- ---- what the items of a turn leave of a log
+
+pub record Keeps (s s' : Scene) : Type 0 where
+  pub heads_are : s'.heads 0 ≡ s.heads 0
+  pub collects : collected s'.past 0 ≡ collected s.past 0
+  pub asked_are : (k : ℕ) → asked s'.past 0 k ≡ asked s.past 0 k
+  pub more : List ℕ
+  pub shown : published s'.past 0 ≡ published s.past 0 ++ more
+
+-- nothing is shown
+abbrev Same : Scene → Scene → Type 0
+Same s s' = (s'.heads 0 ≡ s.heads 0) × (collected s'.past 0 ≡ collected s.past 0) × ((k : ℕ) → asked s'.past 0 k ≡ asked s.past 0 k) × (published s'.past 0 ≡ published s.past 0)
+
+same_keeps : (s s' : Scene) → Same s s' → Keeps s s'
+same_keeps s s' x = record { heads_are = x.0; collects = x.1; asked_are = x.2; more = []; shown = x.3 ∙ sym (append-nil (published s.past 0)) }
+
+stores_same : (size : ℕ) (tag : Tag) (stores : List Store) (s : Scene) → Same s (after_items size (stored_items tag stores) s)
+stores_same size tag [] s = (refl, refl, λ k. refl, refl)
+stores_same size tag (st ∷ []) s = (refl, refl, λ k. refl, refl)
+stores_same size tag (st ∷ more ∷ stores) s = (refl, refl, λ k. refl, refl)
+
+shows_keeps : (size : ℕ) (tag : Tag) (stores : List Store) (answers : List Answered) (s : Scene) → Keeps s (after_items size (stored_items tag stores ++ items.Made (entries.Publish 0 answers) ∷ []) s)
+shows_keeps size tag [] answers s = record { heads_are = refl; collects = refl; asked_are = λ k. refl; more = numbers answers; shown = refl }
+shows_keeps size tag (st ∷ []) answers s = record { heads_are = refl; collects = refl; asked_are = λ k. refl; more = numbers answers; shown = refl }
+shows_keeps size tag (st ∷ next ∷ stores) answers s = record { heads_are = refl; collects = refl; asked_are = λ k. refl; more = numbers answers; shown = refl }
+
+noted_keeps : (size : ℕ) (log : Log) (v : Values) (stores : List Store) (answers : List Answered) (x : Stepped) (s : Scene) → Keeps s (after_items size (noted log v stores answers x) s)
+noted_keeps size log v stores answers (says.Stored tag) s = same_keeps s _ (stores_same size tag stores s)
+noted_keeps size log v stores answers (says.Completed head) s = same_keeps s _ (stores_same size T5 stores s)
+noted_keeps size log v stores answers says.Published s = shows_keeps size SP5 stores answers s
+noted_keeps size log v stores answers says.Started s = same_keeps s _ (refl, refl, λ k. refl, refl)
+noted_keeps size log v stores answers (says.Accepted head) s = same_keeps s _ (refl, refl, λ k. refl, refl)
+noted_keeps size log v stores answers (says.Looked head sector) s = same_keeps s _ (refl, refl, λ k. refl, refl)
+noted_keeps size log v stores answers (says.Acted head sector) s = same_keeps s _ (refl, refl, λ k. refl, refl)
+noted_keeps size log v stores answers (says.Synced head) s = same_keeps s _ (refl, refl, λ k. refl, refl)
+noted_keeps size log v stores answers (says.Faulted head) s = same_keeps s _ (refl, refl, λ k. refl, refl)
+noted_keeps size log v stores answers says.Idle s = same_keeps s _ (refl, refl, λ k. refl, refl)
+noted_keeps size log v stores answers says.SharedFault s = same_keeps s _ (refl, refl, λ k. refl, refl)
+noted_keeps size log v stores answers (says.Broken fault) s = same_keeps s _ (refl, refl, λ k. refl, refl)
+
+take_more : (xs ys : List ℕ) (n : ℕ) → n ≤ length xs → take n (xs ++ ys) ≡ take n xs
+take_more [] ys n few = let none : n ≡ 0 = omega (arith, few) in ap (λ (j : ℕ). take j ys) none ∙ sym (ap (λ (j : ℕ). take {A = ℕ} j []) none)
+take_more (x ∷ xs) ys zero few = refl
+take_more (x ∷ xs) ys (suc n) few = ap (λ (l : List ℕ). x ∷ l) (take_more xs ys n (omega (arith, few)))
+
+kept_slots : (size : ℕ) (s s' : Scene) (log : Log) → Keeps s s' → collected s.past 0 ≤ length (published s.past 0) → LogAt size s.past (s.heads 0) log → LogAt size s'.past (s'.heads 0) log
+kept_slots size s s' log k few at = record {
+  offers_are = at.offers_are ∙ sym (ap (λ (l : List ℕ). length l) k.heads_are);
+  collects_are = at.collects_are ∙ sym k.collects;
+  places = at.places;
+  slots = λ n low out.
+      let first : take (collected s'.past 0) (published s'.past 0) ≡ take (collected s.past 0) (published s.past 0) =
+      ap (λ (j : ℕ). take j (published s'.past 0)) k.collects ∙ ap (λ (l : List ℕ). take (collected s.past 0) l) k.shown ∙ take_more (published s.past 0) k.more (collected s.past 0) few in
+      let low_too : n < length (s.heads 0) = subst (λ (l : List ℕ). n < length l) k.heads_are low in
+      let out_too : is_among (take (collected s.past 0) (published s.past 0)) n ≡ false = sym (ap (λ (l : List ℕ). is_among l n) first) ∙ out in
+      ap (λ (l : List ℕ). slot_in log (slice_index l n)) k.heads_are ∙ at.slots n low_too out_too ∙ ap (λ (o : Option Asked). record { number = n; reads = reads_of o }) (sym (k.asked_are n));
+}
+
+-- ---- the machine with other parts of its device
+
+abbrev pub with_queue : Queue → Option Life
+with_queue q = Some (record { queue = Some q })
+
+abbrev pub with_device : Machine → WatchedShared → Queue → MemDisk → Machine
+with_device w memory q disk = record w { memory = memory; life = with_queue q; disk = disk }
+
+-- the machine stood at a moment with this queue
+pub record HasQueue (w : Machine) (m : Moment) (q : Queue) : Type 0 where
+  pub good : Good w.header m
+  pub at : MachineAt w m
+  pub life_is : w.life ≡ with_queue q
+
+life_at : (w : Machine) (m : Moment) (q : Queue) → HasQueue w m q → LifeAt w.header w.ring m (with_queue q)
+life_at w m q has = subst (λ (l : Option Life). LifeAt w.header w.ring m l) has.life_is has.at.life
+
+abbrev after_turn : Machine → Turn → Moment → Moment
+after_turn w t m = (one_turn w.header 0 t m).next
+
+-- after a turn that was made
+made_at : (w : Machine) (m : Moment) (q q' : Queue) (t : Turn) (memory : WatchedShared) (disk : MemDisk) (d : Device) (x : Stepped) → HasQueue w m q → TurnMade w.header w.ring m t w.log d (device q' memory disk) x
+    → MachineAt (with_device w memory q' disk) (after_turn w t m)
+made_at w m q q' t memory disk d x has made =
+    let life = life_at w m q has in
+    let s' : Scene = after_items w.header.size (noted w.log (values_of disk) (stores_in memory) (shown_of w.log d.memory d.queue) x) m.scene in
+    let keeps : Keeps m.scene (after_turn w t m).scene = subst (λ (is : List Item). Keeps m.scene (after_items w.header.size is m.scene)) (sym made.items_are) (noted_keeps w.header.size w.log (values_of disk) (stores_in memory) (shown_of w.log d.memory d.queue) x m.scene) in
+    let driver : (turned w.header 0 t m).lane.driver ≡ (m.lanes 0).driver = turn_driver w.header t m in
+    record {
+      front = record {
+        memory = made.at.memory_is;
+        driver = has.at.front.driver ∙ sym driver;
+        asks = subst (λ (v : Driver). AskAt v.waiting w.asked) (sym driver) has.at.front.asks;
+      };
+      position = has.at.position ∙ ap (λ (n : ℕ). (w.header.base + n) % 65536) (sym keeps.collects);
+      life = (life.0, (life.1.0, turned_stays w.header t m ∙ life.1.1, made.at.stands));
+      disk = made.at.disk;
+      log = kept_slots w.header.size m.scene (after_turn w t m).scene w.log keeps has.good.holds.known.shown has.at.log;
+    }
