@@ -1,6 +1,6 @@
 -- Where the machine stands after a turn of its device.
 use Rattle.std.proofs.Common.{◌≡◌, ◌≤◌, ◌<◌, ℕ, zero, suc, ◌+◌, ◌%◌, Bool, true, false, List, [], ◌∷◌, ◌++◌, length, refl, ap, sym, ◌∙◌, subst, inl, inr, arith}
-use Rattle.std.specs.Prelude.{◌&&◌, Option, Some, None, take, slice_index, is_some}
+use Rattle.std.specs.Prelude.{◌&&◌, Option, Some, None, take, slice_index, is_some, ⊤}
 use Rattle.std.proofs.lemmas.Bool.Decides.{nat_tests}
 use Rattle.std.proofs.lemmas.Bool.{cases_Bool}
 use Rattle.std.proofs.lemmas.List.{append-nil}
@@ -9,7 +9,10 @@ use Rattle.vub_base.specs.declared.store.Tag.{Tag}
 use Rattle.vub_base.specs.declared.store.Tag.TheVariants.{SP5, T5}
 use Rattle.vub_shared.specs.Bytes.{Bytes}
 use Rattle.vub_shared.specs.Stores.{Store}
-use Rattle.vub_shared.specs.Watched.{bytes_in, stores_in}
+use Rattle.vub_shared.specs.Watched as watched
+use Rattle.vub_shared.specs.Watched.{bytes_in, stores_in, memory_in}
+use Rattle.vub_shared.specs.MemSpaces.{bytes_of, sizes_of}
+use Rattle.vub_shared.specs.declared.mem_shared.MemShared.{MemShared}
 use Rattle.vub_shared.specs.declared.watched_shared.WatchedShared.{WatchedShared}
 use Rattle.vub_disk.specs.Values.{Values}
 use Rattle.vub_memdisk.specs.MemDisks.{values_of}
@@ -31,6 +34,11 @@ use Rattle.vub_world.specs.declared.queue.Stepped.{Stepped}
 use Rattle.vub_world.specs.declared.queue.Stepped.TheVariants as says
 use Rattle.vub_world.specs.declared.report.items.Item.{Item}
 use Rattle.vub_world.specs.declared.report.items.Item.TheVariants as items
+use Rattle.vub_world.specs.declared.split.SplitRing.{SplitRing}
+use Rattle.vub_world.specs.Lives.{RingOfLife}
+use Rattle.vub_world.specs.Machine.{IsSound}
+use Rattle.vub_world.specs.Queue.{ring_in}
+use Rattle.vub_world.specs.Split.{RingLies}
 use Rattle.vub_world.specs.Logs.{offered_in, collected_in, slot_in}
 use Rattle.vub_world.specs.MachineAt.{AskAt, FrontAt, AttachedAt, LifeAt, LogAt, MachineAt, IsReached, reads_of}
 use Rattle.vub_world.specs.MachineSteps.{Device, device, DeviceAt, TurnMade, DeviceTurns, MachineTurns, TurnGoes, noted, stored_items, shown_of, answers_shown, next_turn}
@@ -41,6 +49,7 @@ use Rattle.vub_world.specs.QueueState.{state_of}
 use Rattle.vub_world.specs.Run.{one_turn, is_due}
 use Rattle.vub_world.specs.Turns.{turned}
 use Rattle.vub_world.proofs.RunGood.{Known}
+use Rattle.vub_world.proofs.MachineLemmas.{sound_room, sound_ring}
 use Rattle.vub_world.proofs.RunDrains.{turned_stays}
 use Rattle.vub_world.proofs.RunTurns.{Good}
 use Rattle.vub_world.proofs.RunChainsTurns.{turn_driver}
@@ -142,3 +151,88 @@ made_at w m q q' t memory disk d x has made =
       disk = made.at.disk;
       log = kept_slots w.header.size m.scene (after_turn w t m).scene w.log keeps has.good.holds.known.shown has.at.log;
     }
+
+-- after a turn in which nothing was made
+idle_at : (w : Machine) (m : Moment) (q q' : Queue) (memory : WatchedShared) (disk : MemDisk) → HasQueue w m q → DeviceAt w.header w.ring m (device q' memory disk) → MachineAt (with_device w memory q' disk) m
+idle_at w m q q' memory disk has at =
+    let life = life_at w m q has in
+    record {
+      front = record { memory = at.memory_is; driver = has.at.front.driver; asks = has.at.front.asks };
+      position = has.at.position;
+      life = (life.0, (life.1.0, life.1.1, at.stands));
+      disk = at.disk;
+      log = has.at.log;
+    }
+
+-- a turn of the device is one of the machine
+pub turn_goes : (w : Machine) (m : Moment) (q q' : Queue) (t : Turn) (kept memory : WatchedShared) (disk : MemDisk) (x : Stepped) → HasQueue w m q → bytes_in kept ≡ bytes_in w.memory
+    → (DeviceAt w.header w.ring m (device q kept w.disk) → DeviceTurns w.header w.ring m t w.log (device q kept w.disk) (device q' memory disk) x) → TurnGoes t w (with_device w memory q' disk) m x
+turn_goes w m q q' t kept memory disk x has same turns =
+    let life = life_at w m q has in
+    let d : Device = device q kept w.disk in
+    let does = turns (record { stands = life.1.2; memory_is = same ∙ has.at.front.memory; disk = has.at.disk }) in (
+      λ due.
+        let ready : is_ready (standing w.header 0 m) t ≡ true = grind (arith, nat_tests) in
+        let made : TurnMade w.header w.ring m t w.log d (device q' memory disk) x = does.0 ready in
+        let shown : shown_of w.log (bytes_in kept) (state_of q) ≡ answers_shown w.log (bytes_in w.memory) w.life =
+        ap (λ (b : Bytes). shown_of w.log b (state_of q)) same ∙ sym (ap (answers_shown w.log (bytes_in w.memory)) has.life_is) in
+        record {
+          goes = made.goes;
+          at = made_at w m q q' t memory disk d x has made;
+          items_are = made.items_are ∙ ap (λ (as_shown : List Answered). noted w.log (values_of disk) (stores_in memory) as_shown x) shown;
+          store = made.store;
+          sector = made.sector;
+          taken = made.taken;
+        },
+      λ undue.
+        let unready : is_ready (standing w.header 0 m) t ≡ false = ap (λ (b : Bool). b && is_ready (standing w.header 0 m) t) (sym life.1.1) ∙ undue in
+        let idle = does.1 unready in
+        (idle.0, idle_at w m q q' memory disk has idle.1),
+    )
+
+-- where no queue is attached, no turn is due
+undue : (h : Header1) (t : Turn) (m : Moment) → (m.lanes 0).attached ≡ false → is_due h 0 t m ≡ false
+undue h t m none = ap (λ (b : Bool). b && is_ready (standing h 0 m) t) none
+
+abbrev pub has_no_queue : Option Life → Type 0
+has_no_queue None = ⊤
+has_no_queue (Some l) = l.queue ≡ None
+
+pub none_attached : (w : Machine) (m : Moment) → Good w.header m → MachineAt w m → has_no_queue w.life → (m.lanes 0).attached ≡ false
+none_attached w m good at none = go w.life at.life none
+  where
+    with_queue_or : (q : Option Queue) → AttachedAt w.header w.ring m q → q ≡ None → (m.lanes 0).attached ≡ false
+    with_queue_or None at none = at.1
+    with_queue_or (Some q) at none = absurd (let fails : Some q ≡ None = none in cc)
+
+    go : (l : Option Life) → LifeAt w.header w.ring m l → has_no_queue l → (m.lanes 0).attached ≡ false
+    go None at none = (good.asleep at).0
+    go (Some l) at none = with_queue_or l.queue at.1 none
+
+pub turn_none : (w : Machine) (m : Moment) (t : Turn) (kept : WatchedShared) → Good w.header m → MachineAt w m → has_no_queue w.life → bytes_in kept ≡ bytes_in w.memory → TurnGoes t w (record w { memory = kept }) m says.Idle
+turn_none w m t kept good at none same = (
+  λ due. absurd (let fails : true ≡ false = sym due ∙ undue w.header t m (none_attached w m good at none) in cc),
+  λ not_due. (refl, record {
+    front = record { memory = same ∙ at.front.memory; driver = at.front.driver; asks = at.front.asks };
+    position = at.position;
+    life = at.life;
+    disk = at.disk;
+    log = at.log;
+  }),
+)
+
+-- ---- the queue of a sound machine
+
+pub queue_ring : (w : Machine) (q : Queue) → IsSound w → w.life ≡ with_queue q → ring_in q ≡ w.ring
+queue_ring w q sound is = subst (λ (l : Option Life). RingOfLife (λ r. r ≡ w.ring) l) is sound.queue
+
+pub queue_lies_still : (w : Machine) (q : Queue) (kept : WatchedShared) → IsSound w → w.life ≡ with_queue q → memory_in kept ≡ memory_in w.memory → RingLies (watched.sizes_in kept) (ring_in q)
+queue_lies_still w q kept sound is same =
+    let lies : RingLies (sizes_of (memory_in w.memory)) w.ring = sound_ring w sound in
+    subst (λ (r : SplitRing). RingLies (watched.sizes_in kept) r) (sym (queue_ring w q sound is)) (subst (λ (x : MemShared). RingLies (sizes_of x) w.ring) (sym same) lies)
+
+pub kept_room : (w : Machine) (kept : WatchedShared) → IsSound w → memory_in kept ≡ memory_in w.memory → 1048576 ≤ watched.sizes_in kept 0
+kept_room w kept sound same = subst (λ (x : MemShared). 1048576 ≤ sizes_of x 0) (sym same) (sound_room w sound)
+
+pub kept_bytes : (w : Machine) (kept : WatchedShared) → memory_in kept ≡ memory_in w.memory → bytes_in kept ≡ bytes_in w.memory
+kept_bytes w kept same = ap (λ (x : MemShared). bytes_of x) same
