@@ -3,6 +3,7 @@ pub mod ChainLemmas
 pub mod ChainReading
 pub mod GuestLemmas
 pub mod MachineLemmas
+pub mod MachineNotes
 pub mod QueueAtMoves
 pub mod QueueAtRows
 pub mod QueueAtTurns
