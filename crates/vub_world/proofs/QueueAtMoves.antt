@@ -21,7 +21,7 @@ use Rattle.vub_device.specs.Past.{asked, accepted, published, numbers, missing_b
 use Rattle.vub_device.specs.Requests.{refusal}
 use Rattle.vub_device.proofs.Numbers.{is_among_append}
 use Rattle.vub_world.specs.Tasks.{Look, Put, Act, Sync, Status, look_steps, act_steps, disk_steps, unless_refused, task_steps}
-use Rattle.vub_world.specs.TaskState.{IsTaskAt}
+use Rattle.vub_world.specs.TaskState.{fresh_task, IsTaskAt}
 use Rattle.vub_world.specs.Turns.{len_of}
 use Rattle.vub_world.specs.QueueParts.{is_taken, without_heads}
 use Rattle.vub_world.specs.QueueState as states
@@ -202,17 +202,17 @@ at_fetch h r past heads completed made q head known w is x =
       phase = x.phase;
       batch = x.batch;
       completed = x.completed;
-      count = length_push q.unfinished (states.fresh_task head) ∙ ap (λ (n : ℕ). n + 1) x.count ∙ sym (ap (λ (ks : List ℕ). length ks) more ∙ length_push (left_of past completed []) a);
+      count = length_push q.unfinished (fresh_task head) ∙ ap (λ (n : ℕ). n + 1) x.count ∙ sym (ap (λ (ks : List ℕ). length ks) more ∙ length_push (left_of past completed []) a);
       tasks = λ i k task there is_task.
           let there_too : slice_get (left_of past completed [] ++ a ∷ []) i ≡ Some k = subst (λ (ks : List ℕ). slice_get ks i ≡ Some k) more there in
           elim (pushed_place (left_of past completed []) a k i there_too) [
-            | inl old ↦ elim (pushed_place q.unfinished (states.fresh_task head) task i is_task) [
+            | inl old ↦ elim (pushed_place q.unfinished (fresh_task head) task i is_task) [
               | inl old_task ↦ let t = x.tasks i k task old old_task in record { head = t.head; stands = t.stands }
               | inr last ↦ absurd (let low : i < length (left_of past completed []) = slice_get_within (left_of past completed []) i k old in omega (arith, last.0, x.count, low))
             ]
-            | inr last ↦ elim (pushed_place q.unfinished (states.fresh_task head) task i is_task) [
+            | inr last ↦ elim (pushed_place q.unfinished (fresh_task head) task i is_task) [
               | inl old_task ↦ absurd (let low : i < length q.unfinished = slice_get_within q.unfinished i task old_task in omega (arith, last.0, x.count, low))
-              | inr new ↦ subst (λ (t : Task). TaskAt h r past' heads k (made k) t) new.1 (subst (λ (j : ℕ). TaskAt h r past' heads j (made j) (states.fresh_task head)) last.1 (record {
+              | inr new ↦ subst (λ (t : Task). TaskAt h r past' heads k (made k) t) new.1 (subst (λ (j : ℕ). TaskAt h r past' heads j (made j) (fresh_task head)) last.1 (record {
                 head = is;
                 stands = λ request asks_it. record { begins = λ e. refl; goes_on = λ some. absurd (omega arith) };
               }))

@@ -18,8 +18,8 @@ use Rattle.vub_world.specs.ChainState.{IsFirstRing, Meant}
 use Rattle.vub_world.specs.GuestChain.{Links}
 use Rattle.vub_world.specs.Moments.{Lane, Moment, standing, unfinished}
 use Rattle.vub_world.specs.QueueAt.{QueueStands, IsMainRing, TaskAt}
-use Rattle.vub_world.specs.QueueState.{QueueState, IsDue, fresh_task}
-use Rattle.vub_world.specs.TaskState.{Making, IsBasic, IsNext, IsReady}
+use Rattle.vub_world.specs.QueueState.{QueueState, IsDue}
+use Rattle.vub_world.specs.TaskState.{fresh_task, Making, IsBasic, IsNext, IsReady}
 use Rattle.vub_world.specs.Tasks.{TaskStep, Look, Put, Act, Status, task_steps}
 use Rattle.vub_world.proofs.RunNumbers.{among_get, among_filter, missing-among}
 use Rattle.vub_world.proofs.RunGood.{IsSimple, IsOut, IsPending}

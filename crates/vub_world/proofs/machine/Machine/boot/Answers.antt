@@ -1,0 +1,12 @@
+use Rattle.std.proofs.Common.{◌≡◌, List, ap, sym, ◌∙◌}
+use Rattle.vub_world.specs.declared.report.items.Item.{Item}
+use Rattle.vub_world.specs.Run.{played}
+use Rattle.vub_world.proofs.MachineLives.{booted, boot_plays, booted_at, asleep_at}
+use Rattle.vub_world.proofs.RunsTo.{stands_good}
+use Rattle.vub_world.proofs.machine.Machine.boot.Goals as goal
+
+pub returns-clause-performs : goal.returns-clause-performs
+returns-clause-performs c es rs m stands at =
+    let asleep = asleep_at c.args.self.now m at (sym c.is_some.ensures ∙ c.if-is_some.false) in
+    let quiet = ((stands_good c.args.self.now.header es rs m stands).asleep asleep).1 in
+    (booted m, ap (λ (is : List Item). played is (booted m)) c.nothing.ensures ∙ boot_plays m asleep, booted_at c.args.self.now m quiet at)
