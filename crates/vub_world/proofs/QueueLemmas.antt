@@ -29,9 +29,12 @@ use Rattle.vub_world.specs.declared.queue.Completed.{Completed}
 use Rattle.vub_world.specs.declared.queue.Stepped.{Stepped}
 use Rattle.vub_world.specs.declared.queue.Stepped.TheVariants as says
 use Rattle.vub_world.specs.QueueParts.{element, is_taken, taken_count, without_heads, phase_fits}
-use Rattle.vub_world.specs.QueueState.{QueueState, used_side, row_at, next_row, Moves, StoresRow, TrailsRow, outcome, publishes, Unless, is_idle, standing_at, worked, done_at, Works, StepsAt, StepsOut, WorksOut, IfStepped, Advances, concluded, said, sector_at}
+use Rattle.vub_world.specs.QueueState.{QueueState, used_side, row_at, next_row, Moves, StoresRow, TrailsRow, outcome, publishes, Unless, is_idle, standing_at, worked, done_at, Works, StepsAt, StepsOut, WorksOut, IfStepped, Advances, concluded, said, sector_at, IsDue, Rests, halted}
 use Rattle.vub_world.specs.TaskState.{Making, IfMade, HasMade, LooksAt, answer_in, answer_to, memory_after, values_after, store_in, with_maybe}
 use Rattle.vub_world.specs.Tasks as Tasks
+use Rattle.vub_world.proofs.ArmLemmas.{next_still}
+use Rattle.vub_base.specs.declared.header.Header1.{Header1}
+use Rattle.vub_device.specs.declared.entry.Asked.{Asked}
 use Rattle.vub_world.specs.Tasks.{status_of, used_len}
 use Rattle.vub_disk.specs.Values.{Values}
 
@@ -446,6 +449,54 @@ works_out place task n m told trail trail_after v v_after o head step x s u t is
       trails = out.trails;
       values = out.values;
     }
+
+-- the same where no size changes
+pub due_still : (capacity : ℕ) (old new : ℕ → ℕ) (s t : QueueState) (m : Bytes) (place : ℕ) (task : Task) (n : Making) → ((x : ℕ) → new x ≡ old x) → t ≡ s → IsDue capacity old s m place task n → IsDue capacity new t m place task n
+due_still capacity old new s t m place task n sizes is due =
+    subst (λ (u : QueueState). IsDue capacity new u m place task n) (sym is) (record {
+      started = due.started;
+      at = due.at;
+      fits = due.fits;
+      next = next_still capacity old new s.ring m n sizes due.next;
+      ready = due.ready;
+    })
+
+-- a step of the step table stops no queue
+unhalted : (head : ℕ) (h : Header1) (request : Asked) (step : Tasks.TaskStep) (u : QueueState) → halted (said head (answer_to h request step)) u ≡ u
+unhalted head h request (Tasks.Look q) u = refl
+unhalted head h request (Tasks.Put q) u = refl
+unhalted head h request (Tasks.Act q) u = refl
+unhalted head h request Tasks.Sync u = refl
+unhalted head h request Tasks.Status u = refl
+
+pub runs_on : (place : ℕ) (task : Task) (n : Making) (m : Bytes) (told : Option Bytes) (trail trail_after : Option (List Store)) (v v_after : Option Values) (x : Stepped) (s u t : QueueState)
+    → t ≡ halted x u → WorksOut place task n m told trail trail_after v v_after x s u → WorksOut place task n m told trail trail_after v v_after x s t
+runs_on place task n m told trail trail_after v v_after x s u t is out =
+    let still : u ≡ t = sym (is ∙ ap (λ (y : Stepped). halted y u) out.says ∙ unhalted task.head n.header n.request n.step u) in
+    subst (λ (w : QueueState). WorksOut place task n m told trail trail_after v v_after x s w) still out
+
+pub rests_on : (told told_after : Option Bytes) (trail trail_after : Option (List Store)) (v v_after : Option Values) (x : Stepped) (s u t : QueueState) → t ≡ halted x u → Rests told told_after trail trail_after v v_after x s u → Rests told told_after trail trail_after v v_after x s t
+rests_on told told_after trail trail_after v v_after x s u t is rests = record {
+  idle = rests.idle;
+  state = is ∙ ap (λ (y : Stepped). halted y u) rests.idle ∙ rests.state;
+  stores = rests.stores;
+  trails = rests.trails;
+  values = rests.values;
+}
+
+pub stepped_map : (P Q : Type 0) (x : Stepped) → (P → Q) → IfStepped x P → IfStepped x Q
+stepped_map P Q says.Idle f h = f h
+stepped_map P Q (says.Stored tag) f h = f h
+stepped_map P Q (says.Accepted head) f h = f h
+stepped_map P Q (says.Looked head sector) f h = f h
+stepped_map P Q (says.Acted head sector) f h = f h
+stepped_map P Q (says.Synced head) f h = f h
+stepped_map P Q (says.Faulted head) f h = h
+stepped_map P Q (says.Completed head) f h = f h
+stepped_map P Q says.Published f h = f h
+stepped_map P Q says.Started f h = f h
+stepped_map P Q says.SharedFault f h = h
+stepped_map P Q (says.Broken fault) f h = f h
 
 -- ---- causes
 

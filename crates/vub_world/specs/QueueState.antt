@@ -316,6 +316,14 @@ pub record WorksOut (place : ℕ) (task : Task) (n : Making) (m : Bytes) (told :
   pub trails : trail_after ≡ option_map (with_maybe (due_store s task n)) trail
   pub values : v_after ≡ option_map (values_after n.request n.step) v
 
+-- nothing was ready: all is as it was
+pub record Rests (told told_after : Option Bytes) (trail trail_after : Option (List Store)) (v v_after : Option Values) (x : Stepped) (s t : QueueState) : Type 0 where
+  pub idle : x ≡ says.Idle
+  pub state : t ≡ s
+  pub stores : told_after ≡ told
+  pub trails : trail_after ≡ trail
+  pub values : v_after ≡ v
+
 -- ---- turns
 
 abbrev pub is_idle : Stepped → Bool

@@ -155,14 +155,15 @@ impl Queue {
     ghost use Rattle.vub_world.specs.TaskState as TaskState;
     ghost use Rattle.vub_world.specs.TaskState.{Making, IfMade, GainsOne, memory_outcome};
     ghost use Rattle.vub_ring.specs.Readiness.{is_publication, is_ready, any_turn, work_or_publish, drain_turn};
-    ghost use Rattle.vub_ring.specs.declared.readiness.Turn.TheVariants.{Fetch};
-    ghost use Rattle.std.specs.Prelude.{not, ◌==◌, is_some, remove, ◌++◌, ◌∷◌, []};
+    ghost use Rattle.vub_ring.specs.declared.readiness.Turn.TheVariants.{Fetch, Work};
+    ghost use Rattle.std.specs.Prelude.{not, ◌==◌, ◌↔◌, IsTrue, option_map, is_some, Ok, remove, ◌++◌, ◌∷◌, []};
     ghost use Rattle.vub_ring.specs.Steps.{next_step, after_step};
     ghost use Rattle.vub_world.specs.declared.queue.Stepped.TheVariants.{Idle};
+    ghost use Rattle.vub_world.specs.declared.queue.Turn.TheVariants as asks;
     ghost use Rattle.vub_ring.specs.declared.steps.Phase.TheVariants.{Rest};
     ghost use Rattle.vub_ring.specs.declared.steps.Step.TheVariants.{Id, Len, Index};
     ghost use Rattle.vub_world.specs.Queue.{ring_in};
-    ghost use Rattle.vub_world.specs.QueueState.{state_of, IsNew, started_from, said, concluded, StepsAt, step_in, IsDue, IfStepped, StepsOut, WorksOut, disk_outcome, standing_at, waiting, IsFree, Finds, Fetches, accepted, may_fetch, begun, under_way, next_row, moved, with_phase, Moves, outcome, found_outcome, StoresRow, TrailsRow, publishes, publish_row, Publishes, is_idle, is_fault, Unless, Works, Does, DoesStore, DoesTrail, turn_at, halted, Turns};
+    ghost use Rattle.vub_world.specs.QueueState.{state_of, IsNew, started_from, said, concluded, StepsAt, step_in, IsDue, IfStepped, StepsOut, WorksOut, Rests, disk_outcome, standing_at, waiting, IsFree, Finds, Fetches, accepted, may_fetch, begun, under_way, next_row, moved, with_phase, Moves, outcome, found_outcome, StoresRow, TrailsRow, publishes, publish_row, Publishes, is_idle, is_fault, Unless, Works, Does, DoesStore, DoesTrail, DoesDisk, turn_at, halted, Turns};
 
     /// A queue that isn't started. All memory that it needs is reserved here.
     pub fn new(alloc: Global, setup: &QueueSetup) -> Result<Queue, Memory>
@@ -194,23 +195,24 @@ impl Queue {
     }
 
     /// Whether the next store shows the batch.
-    pub fn shows_next(&self) -> bool {
+    pub fn shows_next(&self) -> bool
+        ensures { IsTrue result ↔ (next_step (length (state_of self.now).batch) (state_of self.now).phase ≡ Some Index) }
+    {
         next_step(self.batch, self.phase) == Some(Step::Index)
     }
 
-    /// Whether some request is accepted and not completed.
-    pub fn has_unfinished(&self) -> bool {
-        !self.unfinished.is_empty()
-    }
-
     /// How many requests the batch under way has.
-    pub fn batch_len(&self) -> usize {
+    pub fn batch_len(&self) -> usize
+        ensures { result ≡ length (state_of self.now).batch }
+    {
         usize::from(self.batch)
     }
 
     /// The heads of the batch under way, in the order of publication.
-    pub fn batch_head(&self, element: usize) -> Option<u16> {
-        match self.batch().get(element) {
+    pub fn batch_head(&self, place: usize) -> Option<u16>
+        ensures { result ≡ option_map (λ x. x.0) (slice_get (state_of self.now).batch place) }
+    {
+        match self.batch().get(place) {
             Some(completed) => Some(completed.head),
             None => None,
         }
@@ -221,11 +223,6 @@ impl Queue {
         ensures { result.now ≡ take self.now.batch self.now.completed.items }
     {
         &self.completed[..usize::from(self.batch)]
-    }
-
-    /// Why the queue stopped, if it did.
-    pub fn stopped(&self) -> Option<&Stop> {
-        self.stopped.as_ref()
     }
 
     /// An element of the batch under way.
@@ -253,6 +250,7 @@ impl Queue {
         ensures ring { ring_in self.new ≡ ring_in self.old }
         ensures said { result ≡ started_from (state_of self.old) }
         ensures state { state_of self.new ≡ record (state_of self.old) { started = true } }
+        ensures no_disk { disk_outcome result ≡ Ok tt }
     {
         if self.started {
             return Stepped::Idle;
@@ -326,6 +324,7 @@ impl Queue {
         ensures trail { M.trail mem.new ≡ M.trail mem.old }
         ensures sizes { (s : ℕ) → M.sizes mem.new s ≡ M.sizes mem.old s }
         ensures cause { HasCause (M.faults mem.old) (M.faults mem.new) (outcome result) }
+        ensures no_disk { disk_outcome result ≡ Ok tt }
     {
         if !self.started || self.is_publishing() {
             return Stepped::Idle;
@@ -405,6 +404,7 @@ impl Queue {
         ensures works { Works place result (state_of self.old) (state_of self.new) }
         ensures made { (task : Task) (n : Making) → WhereTold (M.told mem.old) (λ m. IsDue (D.capacity disk.old) (M.sizes mem.old) (state_of self.old) m place task n → IfStepped result (WorksOut place task n m (M.told mem.new) (M.trail mem.old) (M.trail mem.new) (D.values disk.old) (D.values disk.new) result (state_of self.old) (state_of self.new))) }
         ensures trail { GainsOne (M.trail mem.old) (M.trail mem.new) }
+        ensures rests { (waiting : ℕ) → is_ready (standing_at (state_of self.old) waiting) (Work place) ≡ false → Rests (M.told mem.old) (M.told mem.new) (M.trail mem.old) (M.trail mem.new) (D.values disk.old) (D.values disk.new) result (state_of self.old) (state_of self.new) }
         ensures cause { HasCause (M.faults mem.old) (M.faults mem.new) (outcome result) }
         ensures disk_cause { HasCause (D.faults disk.old) (D.faults disk.new) (disk_outcome result) }
         ensures sizes { (s : ℕ) → M.sizes mem.new s ≡ M.sizes mem.old s }
@@ -478,6 +478,7 @@ impl Queue {
         ensures trails { TrailsRow (M.trail mem.old) (M.trail mem.new) result (next_row (state_of self.old)) }
         ensures sizes { (s : ℕ) → M.sizes mem.new s ≡ M.sizes mem.old s }
         ensures cause { HasCause (M.faults mem.old) (M.faults mem.new) (outcome result) }
+        ensures no_disk { disk_outcome result ≡ Ok tt }
     {
         let completed = self.batch_element(element);
         let index = self.used.wrapping_add(element as u16);
@@ -500,6 +501,7 @@ impl Queue {
         ensures trails { TrailsRow (M.trail mem.old) (M.trail mem.new) result (next_row (state_of self.old)) }
         ensures sizes { (s : ℕ) → M.sizes mem.new s ≡ M.sizes mem.old s }
         ensures cause { HasCause (M.faults mem.old) (M.faults mem.new) (outcome result) }
+        ensures no_disk { disk_outcome result ≡ Ok tt }
     {
         let completed = self.batch_element(element);
         let index = self.used.wrapping_add(element as u16);
@@ -521,6 +523,7 @@ impl Queue {
         ensures trails { TrailsRow (M.trail mem.old) (M.trail mem.new) result (next_row (state_of self.old)) }
         ensures sizes { (s : ℕ) → M.sizes mem.new s ≡ M.sizes mem.old s }
         ensures cause { HasCause (M.faults mem.old) (M.faults mem.new) (outcome result) }
+        ensures no_disk { disk_outcome result ≡ Ok tt }
     {
         let index = self.used.wrapping_add(self.batch);
         match self.ring.publish_idx(mem, index) {
@@ -542,6 +545,7 @@ impl Queue {
         ensures trails { TrailsRow (M.trail mem.old) (M.trail mem.new) result (next_row (state_of self.old)) }
         ensures sizes { (s : ℕ) → M.sizes mem.new s ≡ M.sizes mem.old s }
         ensures cause { HasCause (M.faults mem.old) (M.faults mem.new) (outcome result) }
+        ensures no_disk { disk_outcome result ≡ Ok tt }
     {
         match next_step(self.batch, self.phase) {
             Some(Step::Id(element)) => self.store_id(element, mem),
@@ -561,6 +565,7 @@ impl Queue {
         ensures trails { TrailsRow (M.trail mem.old) (M.trail mem.new) result (publish_row most (state_of self.old)) }
         ensures sizes { (s : ℕ) → M.sizes mem.new s ≡ M.sizes mem.old s }
         ensures cause { HasCause (M.faults mem.old) (M.faults mem.new) (outcome result) }
+        ensures no_disk { disk_outcome result ≡ Ok tt }
     {
         if !is_ready(&self.standing(0), vub_ring::Turn::Publish(most)) {
             return Stepped::Idle;
@@ -576,7 +581,10 @@ impl Queue {
         ensures does { (waiting : ℕ) → Does (work_or_publish self.old.ring.size (standing_at (state_of self.old) waiting)) (M.told mem.old) result (state_of self.old) (state_of self.new) }
         ensures stores { (waiting : ℕ) → DoesStore (work_or_publish self.old.ring.size (standing_at (state_of self.old) waiting)) (M.told mem.old) (M.told mem.new) result (state_of self.old) }
         ensures trails { (waiting : ℕ) → DoesTrail (work_or_publish self.old.ring.size (standing_at (state_of self.old) waiting)) (M.trail mem.old) (M.trail mem.new) result (state_of self.old) }
+        ensures values { (waiting : ℕ) → DoesDisk (work_or_publish self.old.ring.size (standing_at (state_of self.old) waiting)) (D.values disk.old) (D.values disk.new) }
+        ensures made { (waiting place : ℕ) (task : Task) (n : Making) → WhereTold (M.told mem.old) (λ m. work_or_publish self.old.ring.size (standing_at (state_of self.old) waiting) ≡ Work place → IsDue (D.capacity disk.old) (M.sizes mem.old) (state_of self.old) m place task n → IfStepped result (WorksOut place task n m (M.told mem.new) (M.trail mem.old) (M.trail mem.new) (D.values disk.old) (D.values disk.new) result (state_of self.old) (state_of self.new))) }
         ensures cause { HasCause (M.faults mem.old) (M.faults mem.new) (outcome result) }
+        ensures disk_cause { HasCause (D.faults disk.old) (D.faults disk.new) (disk_outcome result) }
         ensures sizes { (s : ℕ) → M.sizes mem.new s ≡ M.sizes mem.old s }
         ensures capacity { D.capacity disk.new ≡ D.capacity disk.old }
     {
@@ -596,7 +604,10 @@ impl Queue {
         ensures does { WhereTold (M.told mem.old) (λ m. Does (any_turn self.old.ring.size (standing_at (state_of self.old) (waiting (state_of self.old) m))) (M.told mem.old) result (state_of self.old) (state_of self.new)) }
         ensures stores { WhereTold (M.told mem.old) (λ m. DoesStore (any_turn self.old.ring.size (standing_at (state_of self.old) (waiting (state_of self.old) m))) (M.told mem.old) (M.told mem.new) result (state_of self.old)) }
         ensures trails { WhereTold (M.told mem.old) (λ m. DoesTrail (any_turn self.old.ring.size (standing_at (state_of self.old) (waiting (state_of self.old) m))) (M.trail mem.old) (M.trail mem.new) result (state_of self.old)) }
+        ensures values { WhereTold (M.told mem.old) (λ m. DoesDisk (any_turn self.old.ring.size (standing_at (state_of self.old) (waiting (state_of self.old) m))) (D.values disk.old) (D.values disk.new)) }
+        ensures made { (place : ℕ) (task : Task) (n : Making) → WhereTold (M.told mem.old) (λ m. any_turn self.old.ring.size (standing_at (state_of self.old) (waiting (state_of self.old) m)) ≡ Work place → IsDue (D.capacity disk.old) (M.sizes mem.old) (state_of self.old) m place task n → IfStepped result (WorksOut place task n m (M.told mem.new) (M.trail mem.old) (M.trail mem.new) (D.values disk.old) (D.values disk.new) result (state_of self.old) (state_of self.new))) }
         ensures cause { HasCause (M.faults mem.old) (M.faults mem.new) (outcome result) }
+        ensures disk_cause { HasCause (D.faults disk.old) (D.faults disk.new) (disk_outcome result) }
         ensures sizes { (s : ℕ) → M.sizes mem.new s ≡ M.sizes mem.old s }
         ensures capacity { D.capacity disk.new ≡ D.capacity disk.old }
     {
@@ -613,7 +624,10 @@ impl Queue {
         ensures does { WhereTold (M.told mem.old) (λ m. Does (any_turn self.old.ring.size (standing_at (state_of self.old) (waiting (state_of self.old) m))) (M.told mem.old) result (state_of self.old) (state_of self.new)) }
         ensures stores { WhereTold (M.told mem.old) (λ m. DoesStore (any_turn self.old.ring.size (standing_at (state_of self.old) (waiting (state_of self.old) m))) (M.told mem.old) (M.told mem.new) result (state_of self.old)) }
         ensures trails { WhereTold (M.told mem.old) (λ m. DoesTrail (any_turn self.old.ring.size (standing_at (state_of self.old) (waiting (state_of self.old) m))) (M.trail mem.old) (M.trail mem.new) result (state_of self.old)) }
+        ensures values { WhereTold (M.told mem.old) (λ m. DoesDisk (any_turn self.old.ring.size (standing_at (state_of self.old) (waiting (state_of self.old) m))) (D.values disk.old) (D.values disk.new)) }
+        ensures made { (place : ℕ) (task : Task) (n : Making) → WhereTold (M.told mem.old) (λ m. any_turn self.old.ring.size (standing_at (state_of self.old) (waiting (state_of self.old) m)) ≡ Work place → IsDue (D.capacity disk.old) (M.sizes mem.old) (state_of self.old) m place task n → IfStepped result (WorksOut place task n m (M.told mem.new) (M.trail mem.old) (M.trail mem.new) (D.values disk.old) (D.values disk.new) result (state_of self.old) (state_of self.new))) }
         ensures cause { HasCause (M.faults mem.old) (M.faults mem.new) (outcome result) }
+        ensures disk_cause { HasCause (D.faults disk.old) (D.faults disk.new) (disk_outcome result) }
         ensures sizes { (s : ℕ) → M.sizes mem.new s ≡ M.sizes mem.old s }
         ensures capacity { D.capacity disk.new ≡ D.capacity disk.old }
     {
@@ -632,7 +646,11 @@ impl Queue {
         ensures does { WhereTold (M.told mem.old) (λ m. Does (turn_at self.old.ring.size (standing_at (state_of self.old) (waiting (state_of self.old) m)) turn) (M.told mem.old) result (state_of self.old) (state_of self.new)) }
         ensures stores { WhereTold (M.told mem.old) (λ m. DoesStore (turn_at self.old.ring.size (standing_at (state_of self.old) (waiting (state_of self.old) m)) turn) (M.told mem.old) (M.told mem.new) result (state_of self.old)) }
         ensures trails { WhereTold (M.told mem.old) (λ m. DoesTrail (turn_at self.old.ring.size (standing_at (state_of self.old) (waiting (state_of self.old) m)) turn) (M.trail mem.old) (M.trail mem.new) result (state_of self.old)) }
+        ensures values { WhereTold (M.told mem.old) (λ m. DoesDisk (turn_at self.old.ring.size (standing_at (state_of self.old) (waiting (state_of self.old) m)) turn) (D.values disk.old) (D.values disk.new)) }
+        ensures made { (place : ℕ) (task : Task) (n : Making) → WhereTold (M.told mem.old) (λ m. turn_at self.old.ring.size (standing_at (state_of self.old) (waiting (state_of self.old) m)) turn ≡ Work place → IsDue (D.capacity disk.old) (M.sizes mem.old) (state_of self.old) m place task n → IfStepped result (WorksOut place task n m (M.told mem.new) (M.trail mem.old) (M.trail mem.new) (D.values disk.old) (D.values disk.new) result (state_of self.old) (state_of self.new))) }
+        ensures rests { (waiting place : ℕ) → turn ≡ asks.Work place → is_ready (standing_at (state_of self.old) waiting) (Work place) ≡ false → Rests (M.told mem.old) (M.told mem.new) (M.trail mem.old) (M.trail mem.new) (D.values disk.old) (D.values disk.new) result (state_of self.old) (state_of self.new) }
         ensures cause { HasCause (M.faults mem.old) (M.faults mem.new) (outcome result) }
+        ensures disk_cause { HasCause (D.faults disk.old) (D.faults disk.new) (disk_outcome result) }
         ensures sizes { (s : ℕ) → M.sizes mem.new s ≡ M.sizes mem.old s }
         ensures capacity { D.capacity disk.new ≡ D.capacity disk.old }
     {
@@ -663,11 +681,15 @@ impl Queue {
     pub fn turn<M: Shared, D: Disk>(&mut self, turn: Turn, mem: &mut M, disk: &mut D) -> Stepped
         requires { RingLies (M.sizes mem.old) (ring_in self.old) }
         ensures ring { ring_in self.new ≡ ring_in self.old }
-        ensures stopped { is_some (state_of self.old).stopped ≡ true → (result ≡ Idle) × (state_of self.new ≡ state_of self.old) × (M.told mem.new ≡ M.told mem.old) × (M.trail mem.new ≡ M.trail mem.old) }
+        ensures stopped { is_some (state_of self.old).stopped ≡ true → (result ≡ Idle) × (state_of self.new ≡ state_of self.old) × (M.told mem.new ≡ M.told mem.old) × (M.trail mem.new ≡ M.trail mem.old) × (D.values disk.new ≡ D.values disk.old) }
         ensures does { is_some (state_of self.old).stopped ≡ false → WhereTold (M.told mem.old) (λ m. Turns (turn_at (ring_in self.old).size (standing_at (state_of self.old) (waiting (state_of self.old) m)) turn) (M.told mem.old) result (state_of self.old) (state_of self.new)) }
         ensures stores { is_some (state_of self.old).stopped ≡ false → WhereTold (M.told mem.old) (λ m. DoesStore (turn_at (ring_in self.old).size (standing_at (state_of self.old) (waiting (state_of self.old) m)) turn) (M.told mem.old) (M.told mem.new) result (state_of self.old)) }
         ensures trails { is_some (state_of self.old).stopped ≡ false → WhereTold (M.told mem.old) (λ m. DoesTrail (turn_at (ring_in self.old).size (standing_at (state_of self.old) (waiting (state_of self.old) m)) turn) (M.trail mem.old) (M.trail mem.new) result (state_of self.old)) }
+        ensures values { is_some (state_of self.old).stopped ≡ false → WhereTold (M.told mem.old) (λ m. DoesDisk (turn_at (ring_in self.old).size (standing_at (state_of self.old) (waiting (state_of self.old) m)) turn) (D.values disk.old) (D.values disk.new)) }
+        ensures made { (place : ℕ) (task : Task) (n : Making) → is_some (state_of self.old).stopped ≡ false → WhereTold (M.told mem.old) (λ m. turn_at (ring_in self.old).size (standing_at (state_of self.old) (waiting (state_of self.old) m)) turn ≡ Work place → IsDue (D.capacity disk.old) (M.sizes mem.old) (state_of self.old) m place task n → IfStepped result (WorksOut place task n m (M.told mem.new) (M.trail mem.old) (M.trail mem.new) (D.values disk.old) (D.values disk.new) result (state_of self.old) (state_of self.new))) }
+        ensures rests { (waiting place : ℕ) → is_some (state_of self.old).stopped ≡ false → turn ≡ asks.Work place → is_ready (standing_at (state_of self.old) waiting) (Work place) ≡ false → Rests (M.told mem.old) (M.told mem.new) (M.trail mem.old) (M.trail mem.new) (D.values disk.old) (D.values disk.new) result (state_of self.old) (state_of self.new) }
         ensures cause { HasCause (M.faults mem.old) (M.faults mem.new) (outcome result) }
+        ensures disk_cause { HasCause (D.faults disk.old) (D.faults disk.new) (disk_outcome result) }
         ensures sizes { (s : ℕ) → M.sizes mem.new s ≡ M.sizes mem.old s }
         ensures capacity { D.capacity disk.new ≡ D.capacity disk.old }
     {

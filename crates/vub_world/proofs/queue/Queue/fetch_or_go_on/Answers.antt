@@ -1,15 +1,17 @@
-use Rattle.std.proofs.Common.{ℕ, ◌≡◌, false, List, sym, ◌∙◌, subst}
+use Rattle.std.proofs.Common.{ℕ, ◌≡◌, false, List, sym, ap, ◌∙◌, subst}
 use Rattle.std.specs.Prelude.{Option}
 use Rattle.vub_shared.specs.Bytes.{Bytes}
 use Rattle.vub_shared.specs.Stores.{Store}
 use Rattle.vub_ring.specs.Readiness.{is_ready, any_turn, work_or_publish}
 use Rattle.vub_ring.specs.declared.readiness.Turn.{Turn}
 use Rattle.vub_ring.specs.declared.readiness.Turn.TheVariants as turns
+use Rattle.vub_ring.specs.declared.readiness.Turn.TheVariants.{Work}
+use Rattle.vub_disk.specs.Values.{Values}
 use Rattle.vub_world.specs.declared.queue.Stepped.{Stepped}
 use Rattle.vub_world.specs.declared.queue.Stepped.TheVariants as says
-use Rattle.vub_world.specs.QueueState.{QueueState, state_of, standing_at, waiting, Fetches, Does, DoesStore, DoesTrail}
+use Rattle.vub_world.specs.QueueState.{QueueState, state_of, standing_at, waiting, Fetches, Does, DoesStore, DoesTrail, DoesDisk, IsDue, IfStepped, WorksOut}
 use Rattle.vub_world.proofs.SplitLemmas.{lies_still}
-use Rattle.vub_world.proofs.QueueLemmas.{idle_is, any_is, cause_later}
+use Rattle.vub_world.proofs.QueueLemmas.{idle_is, any_is, cause_later, due_still}
 use Rattle.vub_world.proofs.queue.Queue.fetch_or_go_on.Goals as goal
 
 pub go_on-requires : goal.go_on-requires
@@ -65,3 +67,35 @@ returns-clause-trails g c m told =
 
 pub returns-clause-cause : goal.returns-clause-cause
 returns-clause-cause g c = cause_later _ _ _ _ c.fetch-stepped.ensures.cause.later c.go_on.ensures.cause
+
+pub returns-clause-values : goal.returns-clause-values
+returns-clause-values g c m told =
+    let s : QueueState = state_of c.args.self.now in
+    let t : QueueState = state_of c.fetch-stepped.new.self in
+    let w : ℕ = waiting s m in
+    let before : Option Bytes = g.M.Shared.told c.args.mem.now in
+    let idle : c.fetch-stepped.result ≡ says.Idle = idle_is c.fetch-stepped.result (sym c.is_idle.ensures ∙ c.if-not-is_idle.false) in
+    let fetched : Fetches before says.Idle s t = subst (λ (x : Stepped). Fetches before x s t) idle c.fetch-stepped.ensures.fetches in
+    let next : any_turn s.ring.size (standing_at s w) ≡ work_or_publish s.ring.size (standing_at s w) = any_is s.ring.size (standing_at s w) c.requires.started c.requires.rests (fetched.1 m told) in
+    let v : Option Values = g.D.Disk.values c.args.disk.now in
+    let now : Option Values = g.D.Disk.values c.go_on.new.disk in
+    let same : DoesDisk (work_or_publish s.ring.size (standing_at s w)) v now =
+    subst (λ (u : QueueState). DoesDisk (work_or_publish u.ring.size (standing_at u w)) v now) fetched.0 (c.go_on.ensures.values w) in
+    subst (λ (turn : Turn). DoesDisk turn v now) (sym next) same
+
+pub returns-clause-made : goal.returns-clause-made
+returns-clause-made g c place task n m told turn due =
+    let s : QueueState = state_of c.args.self.now in
+    let t : QueueState = state_of c.fetch-stepped.new.self in
+    let w : ℕ = waiting s m in
+    let before : Option Bytes = g.M.Shared.told c.args.mem.now in
+    let idle : c.fetch-stepped.result ≡ says.Idle = idle_is c.fetch-stepped.result (sym c.is_idle.ensures ∙ c.if-not-is_idle.false) in
+    let fetched : Fetches before says.Idle s t = subst (λ (x : Stepped). Fetches before x s t) idle c.fetch-stepped.ensures.fetches in
+    let next : any_turn s.ring.size (standing_at s w) ≡ work_or_publish s.ring.size (standing_at s w) = any_is s.ring.size (standing_at s w) c.requires.started c.requires.rests (fetched.1 m told) in
+    let turns : work_or_publish t.ring.size (standing_at t w) ≡ Work place = ap (λ (u : QueueState). work_or_publish u.ring.size (standing_at u w)) fetched.0 ∙ sym next ∙ turn in
+    let here : IsDue (g.D.Disk.capacity c.args.disk.now) (g.M.Shared.sizes c.fetch-stepped.new.mem) t m place task n =
+    due_still (g.D.Disk.capacity c.args.disk.now) (g.M.Shared.sizes c.args.mem.now) (g.M.Shared.sizes c.fetch-stepped.new.mem) s t m place task n c.fetch-stepped.ensures.sizes fetched.0 due in
+    let out : Option (List Store) → QueueState → Type 0 = λ trail u. WorksOut place task n m (g.M.Shared.told c.go_on.new.mem) trail (g.M.Shared.trail c.go_on.new.mem) (g.D.Disk.values c.args.disk.now) (g.D.Disk.values c.go_on.new.disk) c.go_on.result u (state_of c.go_on.new.self) in
+    let made : IfStepped c.go_on.result (out (g.M.Shared.trail c.fetch-stepped.new.mem) t) = c.go_on.ensures.made w place task n m (c.fetch-stepped.ensures.told ∙ told) turns here in
+    subst (λ (u : QueueState). IfStepped c.go_on.result (out (g.M.Shared.trail c.args.mem.now) u)) fetched.0
+    (subst (λ (trail : Option (List Store)). IfStepped c.go_on.result (out trail t)) c.fetch-stepped.ensures.trail made)
