@@ -5,6 +5,7 @@ pub mod GuestLemmas
 pub mod MachineLemmas
 pub mod MachineLives
 pub mod MachineNotes
+pub mod MachineOpening
 pub mod QueueAtMoves
 pub mod QueueAtRows
 pub mod QueueAtTurns
