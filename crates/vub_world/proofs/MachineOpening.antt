@@ -1,7 +1,5 @@
-use Rattle.std.proofs.Common.{◌≡◌, ◌<◌, ◌≤◌, ℕ, ◌+◌, ◌-◌, ◌*◌, ◌%◌, List, [], ◌∷◌, length, Bool, true, false, sym, ap, ◌∙◌, subst, arith, refl, inl, inr}
+use Rattle.std.proofs.Common.{◌≡◌, ◌<◌, ℕ, ◌+◌, ◌-◌, ◌%◌, length, Bool, true, false, sym, ap, ◌∙◌, subst, arith, refl}
 use Rattle.std.specs.Prelude.{zero, suc, if◌then◌else◌, ◌==◌, ◌&&◌, nat_lt, nat_le, slice_index, replicate, Option, None}
-use Rattle.std.proofs.lemmas.Bool.Decides.{nat_tests}
-use Rattle.std.proofs.lemmas.Bool.{cases_eq, cases_Bool}
 use Rattle.byteorder.specs.Endian.{little_bytes}
 use mathlib.Core.Path.{fun_ext}
 use Rattle.vub_base.specs.declared.header.Header1.{Header1}
@@ -10,7 +8,7 @@ use Rattle.vub_shared.specs.Watched.{bytes_in}
 use Rattle.vub_device.specs.Requests.{zeros}
 use Rattle.vub_driver.specs.Layout.{ring_of}
 use Rattle.vub_driver.specs.Drivers.{new_driver}
-use Rattle.vub_memdisk.specs.MemDisks.{values_of, capacity_of}
+use Rattle.vub_memdisk.specs.MemDisks.{values_of}
 use Rattle.vub_ring.specs.Ring.{Ring}
 use Rattle.vub_schedule.specs.Spelling.{IsHeader}
 use Rattle.vub_world.specs.declared.machine.Machine.{Machine}

@@ -1,4 +1,4 @@
-use Rattle.std.proofs.Common.{◌≡◌, ◌≤◌, ℕ, List, length, ap, sym, subst, ◌*◌, ◌∙◌, arith}
+use Rattle.std.proofs.Common.{◌≡◌, ◌≤◌, ℕ, List, length, ap, sym, subst, ◌∙◌, arith}
 use Rattle.vub_shared.specs.Watched.{bytes_in}
 use Rattle.vub_shared.proofs.BytesLemmas.{length-bytes_from}
 use Rattle.vub_world.specs.declared.log.Outstanding.{Outstanding}

@@ -1,4 +1,4 @@
-use Rattle.std.proofs.Common.{◌≡◌, ◌<◌, ◌≤◌, ◌+◌, ◌++◌, ◌∷◌, [], ℕ, List, Vec, Global, vec_capacity, take, length, refl, ap, sym, ◌∙◌, subst, arith}
+use Rattle.std.proofs.Common.{◌≡◌, ◌<◌, ◌≤◌, ◌+◌, ◌++◌, ◌∷◌, [], ℕ, List, Vec, Global, vec_capacity, take, length, ap, sym, ◌∙◌, subst, arith}
 use Rattle.vub_shared.specs.Watched.{bytes_in}
 use Rattle.vub_device.specs.declared.entry.Answered.{Answered}
 use Rattle.vub_world.specs.Logs.{slot_in}
