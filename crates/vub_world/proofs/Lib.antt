@@ -2,10 +2,12 @@ pub mod ArmLemmas
 pub mod ChainLemmas
 pub mod ChainReading
 pub mod GuestLemmas
-pub mod MachineLemmas
 pub mod MachineDrains
+pub mod MachineLemmas
 pub mod MachineLives
 pub mod MachineLoops
+pub mod MachineNotes
+pub mod MachineOpening
 pub mod QueueAtMoves
 pub mod QueueAtRows
 pub mod QueueAtTurns
