@@ -3,6 +3,7 @@ pub mod ChainLemmas
 pub mod ChainReading
 pub mod GuestLemmas
 pub mod MachineDrains
+pub mod MachineGuests
 pub mod MachineLemmas
 pub mod MachineLives
 pub mod MachineLoops
