@@ -9,6 +9,9 @@ pub mod MachineLives
 pub mod MachineLoops
 pub mod MachineNotes
 pub mod MachineOpening
+pub mod MachineTurns
+pub mod MachineTurnsNext
+pub mod MachineTurnsWork
 pub mod QueueAtMoves
 pub mod QueueAtRows
 pub mod QueueAtTurns
