@@ -2,6 +2,7 @@ pub mod ArmLemmas
 pub mod ChainLemmas
 pub mod ChainReading
 pub mod GuestLemmas
+pub mod MachineBatches
 pub mod MachineDrains
 pub mod MachineGuests
 pub mod MachineLemmas
