@@ -14,6 +14,7 @@ use Rattle.vub_world.specs.declared.machine.Life.{Life}
 use Rattle.vub_world.specs.declared.machine.Machine.{Machine}
 use Rattle.vub_world.specs.declared.queue.Queue.{Queue}
 use Rattle.vub_world.specs.declared.report.items.Item.{Item}
+use Rattle.vub_world.specs.declared.report.items.Item.TheVariants as items
 use Rattle.vub_world.specs.declared.report.items.Record.{Record}
 use Rattle.vub_world.specs.declared.split.SplitRing.{SplitRing}
 use Rattle.vub_world.specs.Rooms.{RoomState}
@@ -22,7 +23,7 @@ use Rattle.vub_world.specs.MachineSteps.{DrainSteps, DrainGoes, HasTurnRoom, Has
 use Rattle.vub_world.specs.Moments.{Moment, standing}
 use Rattle.vub_world.specs.QueueAt.{QueueStands, spot_of}
 use Rattle.vub_world.specs.QueueState.{state_of}
-use Rattle.vub_world.specs.Run.{Stands, Played, played, turns, one_turn, is_due, then_played, IsDrained}
+use Rattle.vub_world.specs.Run.{Stands, Played, played, turns, one_turn, is_due, then_played, IsDrained, Drains}
 use Rattle.vub_world.proofs.MachineDrains.{shown_by, drain_shows, undone, effort_bound, batch_undone}
 use Rattle.vub_world.proofs.RunChainsEvents.{stands_turns}
 use Rattle.vub_world.proofs.RunChainsTurns.{turn_gentle}
@@ -218,3 +219,20 @@ drain_ends h m done now next before after after' taken taken' r made same is d s
 
     items_are : after' ≡ before ++ (so_far h m done).items
     items_are = step.2 ∙ d.items_are
+
+-- the event of a drain of which no turn was due
+pub drain_idle : (w now : Machine) (m : Moment) (after is : List Item) → DrainGoes false w now m [] after → is ≡ after ++ items.Idle ∷ [] → (next : Moment) × Drains w.header 0 m (choice w.header m) is next × MachineAt now next
+drain_idle w now m after is goes made = (m, inl (goes.0, ap (λ (xs : List Item). played xs m) (made ∙ ap (λ (xs : List Item). xs ++ items.Idle ∷ []) goes.2)), goes.1)
+
+-- and of one whose turns were made
+pub drain_made : (w now : Machine) (m : Moment) (after is : List Item) → DrainGoes true w now m [] after → is ≡ after → (next : Moment) × Drains w.header 0 m (choice w.header m) is next × MachineAt now next
+drain_made w now m after is goes made =
+    let next : Moment = goes.1.0 in
+    let same : goes.1.1 ≡ is = sym (made ∙ goes.1.4) in
+    (next, inr (goes.0, subst (λ (xs : List Item). IsDrained w.header 0 m (choice w.header m) xs next) same goes.1.2), goes.1.3)
+
+-- no more are outstanding than the ring has places
+pub outstanding_few : (h : Header1) (m : Moment) (w : Machine) → IsPlain h → Good h m → MachineAt w m → w.log.offered - w.log.collected ≤ 64
+outstanding_few h m w plain good at =
+    let few : h.size ≤ 64 = plain.good.size.small in
+    omega (arith, few, good.holds.known.room, at.log.offers_are, at.log.collects_are)
