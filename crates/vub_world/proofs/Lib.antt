@@ -12,6 +12,7 @@ pub mod MachineNotes
 pub mod MachineOpening
 pub mod MachineTurns
 pub mod MachineTurnsAt
+pub mod MachineTurnsDrain
 pub mod MachineTurnsNext
 pub mod MachineTurnsWork
 pub mod QueueAtMoves

@@ -254,7 +254,7 @@ map_over f g spot (k ∷ ks) same =
     ap (λ (a : Answered). a ∷ map f (map spot ks)) (same k (grind (arith, nat_tests)))
     ∙ ap (λ (l : List Answered). g k ∷ l) (map_over f g spot ks (λ j held. same j (grind (arith, nat_tests))))
 
-among_right : (xs ys : List ℕ) (k : ℕ) → is_among ys k ≡ true → is_among (xs ++ ys) k ≡ true
+pub among_right : (xs ys : List ℕ) (k : ℕ) → is_among ys k ≡ true → is_among (xs ++ ys) k ≡ true
 among_right xs ys k held = let joined : is_among (xs ++ ys) k ≡ (is_among xs k || is_among ys k) = is_among_append xs ys k in grind (arith, nat_tests)
 
 -- the row of the store of used.idx
