@@ -1,5 +1,5 @@
 -- A step of a drain: what it asks of the machine, and what its turn leaves.
-use Rattle.std.proofs.Common.{◌≡◌, ◌≤◌, ◌<◌, ℕ, zero, suc, ◌+◌, Bool, true, false, List, [], ◌∷◌, ◌++◌, length, map, refl, ap, sym, ◌∙◌, subst, inl, inr, arith}
+use Rattle.std.proofs.Common.{◌≡◌, ◌≤◌, ◌<◌, ℕ, zero, suc, ◌+◌, Bool, true, false, List, [], ◌∷◌, ◌++◌, length, map, refl, ap, sym, ◌∙◌, subst, inl, inr, arith, min}
 use Rattle.std.specs.Prelude.{Option, Some, None, slice_index, slice_get, ⊤}
 use Rattle.std.proofs.lemmas.Bool.{cases_Bool}
 use Rattle.std.proofs.lemmas.Bool.Decides.{nat_tests}
@@ -131,24 +131,24 @@ same_items zero r now spent = ap (λ (x : RoomState). x.items) spent
 same_items (suc shown) r now spent = spent.items
 
 -- a turn that made nothing
-pub step_ends : (t : Turn) (w now : Machine) (m : Moment) (x : Stepped) → x ≡ says.Idle → TurnGoes t w now m x → (is_due w.header 0 t m ≡ false) × MachineAt now m
+pub step_ends : (t : Turn) (w now : Machine) (m : Moment) (x : Stepped) → is_idle x ≡ true → TurnGoes t w now m x → (is_due w.header 0 t m ≡ false) × MachineAt now m
 step_ends t w now m x idle goes = elim (cases_Bool (is_due w.header 0 t m)) [
   | inl due ↦ absurd (
       let made = goes.0 due in
-      let fails : true ≡ false = sym (ap is_idle idle) ∙ made.goes in
+      let fails : true ≡ false = sym idle ∙ made.goes in
       cc)
   | inr undue ↦ (undue, (goes.1 undue).1)
 ]
 
 -- a turn that made something
-pub step_goes : (t : Turn) (w now : Machine) (m : Moment) (x : Stepped) → (x ≡ says.Idle → ⊥) → TurnGoes t w now m x → (is_due w.header 0 t m ≡ true) × MachineTurns t w now m x
+pub step_goes : (t : Turn) (w now : Machine) (m : Moment) (x : Stepped) → is_idle x ≡ false → TurnGoes t w now m x → (is_due w.header 0 t m ≡ true) × MachineTurns t w now m x
 step_goes t w now m x other goes = elim (cases_Bool (is_due w.header 0 t m)) [
   | inl due ↦ (due, goes.0 due)
-  | inr undue ↦ absurd (other (goes.1 undue).0)
+  | inr undue ↦ absurd (let fails : true ≡ false = sym (ap is_idle (goes.1 undue).0) ∙ other in cc)
 ]
 
 -- the items that are noted of it, and how many requests were accepted
-pub step_made : (t : Turn) (w now : Machine) (m : Moment) (x : Stepped) (before noted_items : List Item) (taken taken_after : ℕ) (answers : List Answered) → (x ≡ says.Idle → ⊥) → TurnGoes t w now m x → answers ≡ answers_shown w.log (bytes_in w.memory) w.life
+pub step_made : (t : Turn) (w now : Machine) (m : Moment) (x : Stepped) (before noted_items : List Item) (taken taken_after : ℕ) (answers : List Answered) → is_idle x ≡ false → TurnGoes t w now m x → answers ≡ answers_shown w.log (bytes_in w.memory) w.life
     → noted_items ≡ before ++ noted now.log (values_of now.disk) (stores_in now.memory) answers x → taken_after ≡ taken + accepts x → DrainSteps true t w now m before noted_items taken taken_after
 step_made t w now m x before noted_items taken taken_after answers other goes shown notes counts =
     let made = step_goes t w now m x other goes in (
@@ -157,3 +157,24 @@ step_made t w now m x before noted_items taken taken_after answers other goes sh
       notes ∙ ap (λ (l : List Answered). before ++ noted now.log (values_of now.disk) (stores_in now.memory) l x) shown ∙ ap (λ (l : List Item). before ++ l) (sym made.1.items_are),
       omega (arith, counts, made.1.taken),
     )
+
+-- how many requests are accepted in all, where the count has room
+pub count_more : (x : Stepped) (head taken : ℕ) → x ≡ says.Accepted head → taken < 65535 → min (taken + 1) 65535 ≡ taken + accepts x
+count_more x head taken is small = let one : accepts x ≡ 1 = ap accepts is in omega (arith, one)
+
+pub count_same : (x : Stepped) (taken : ℕ) → ((head : ℕ) → x ≡ says.Accepted head → ⊥) → taken ≡ taken + accepts x
+count_same x taken other = go x other
+  where
+    go : (y : Stepped) → ((head : ℕ) → y ≡ says.Accepted head → ⊥) → taken ≡ taken + accepts y
+    go (says.Accepted head) o = absurd (o head refl)
+    go says.Idle o = omega arith
+    go (says.Stored tag) o = omega arith
+    go (says.Looked head sector) o = omega arith
+    go (says.Acted head sector) o = omega arith
+    go (says.Synced head) o = omega arith
+    go (says.Faulted head) o = omega arith
+    go (says.Completed head) o = omega arith
+    go says.Published o = omega arith
+    go says.Started o = omega arith
+    go says.SharedFault o = omega arith
+    go (says.Broken fault) o = omega arith

@@ -531,7 +531,7 @@ impl Machine {
     {
         let answers = self.answers(room);
         let stepped = self.turn(*accepted);
-        if stepped == Stepped::Idle {
+        if stepped.is_idle() {
             return false;
         }
         if matches!(stepped, Stepped::Accepted(_)) {

@@ -141,7 +141,8 @@ fn drop_front(completed: &mut Vec<Completed>, count: usize)
 impl Stepped {
     ghost use Rattle.vub_world.specs.QueueState.{is_idle};
 
-    fn is_idle(&self) -> bool
+    /// Whether nothing was ready.
+    pub fn is_idle(&self) -> bool
         ensures { result ≡ is_idle self.now }
     {
         matches!(self, Stepped::Idle)

@@ -1,4 +1,3 @@
-use Rattle.vub_world.proofs.MachineTurnsDrain.{step_goes}
 use Rattle.vub_world.proofs.RunExists.{run_some}
 use Rattle.vub_world.proofs.laws.every_schedule_runs.Goals as goal
 
