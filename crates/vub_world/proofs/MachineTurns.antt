@@ -1,7 +1,6 @@
 -- A turn of the device at a moment of a run: start, fetch and publication.
-use Rattle.std.proofs.Common.{◌≡◌, ◌≢◌, ◌≤◌, ◌<◌, ◌⊎◌, ℕ, ◌+◌, ◌*◌, ◌%◌, Bool, true, false, List, [], ◌∷◌, ◌++◌, length, map, cond, refl, ap, sym, ◌∙◌, subst, inl, inr, arith}
-use Rattle.std.specs.Prelude.{Option, Some, None, Result, Ok, unwrap_or, option_map, slice_index, slice_get, nat_lt, ◌==◌, ◌||◌, ⊤}
-use Rattle.std.proofs.lemmas.Bool.{cases_Bool}
+use Rattle.std.proofs.Common.{◌≡◌, ◌≤◌, ◌<◌, ◌⊎◌, ℕ, ◌+◌, ◌*◌, ◌%◌, Bool, true, false, List, [], ◌∷◌, ◌++◌, length, map, cond, refl, ap, sym, ◌∙◌, subst, inl, inr, arith}
+use Rattle.std.specs.Prelude.{Option, Some, None, Result, Ok, unwrap_or, option_map, slice_index, slice_get, ◌==◌, ◌||◌, ⊤}
 use Rattle.std.proofs.lemmas.Bool.Decides.{nat_tests}
 use Rattle.byteorder.specs.Endian.{little_bytes}
 use Rattle.vub_base.specs.declared.header.Header1.{Header1}
@@ -21,7 +20,7 @@ use Rattle.vub_ring.specs.declared.steps.Step.{Step}
 use Rattle.vub_ring.specs.declared.steps.Step.TheVariants as steps
 use Rattle.vub_ring.specs.Readiness.{is_ready, is_publication}
 use Rattle.vub_ring.specs.Ring.{used_idx_place}
-use Rattle.vub_ring.specs.Rows.{Row, row, row_of}
+use Rattle.vub_ring.specs.Rows.{Row, row}
 use Rattle.vub_ring.specs.Steps.{next_step}
 use Rattle.vub_driver.specs.Layout.{area_place, buffer_place, status_place, sectors_place}
 use Rattle.vub_device.specs.declared.entry.Answered.{Answered}
@@ -41,8 +40,8 @@ use Rattle.vub_world.specs.declared.split.SplitRing.{SplitRing}
 use Rattle.vub_world.specs.declared.task.Task.{Task}
 use Rattle.vub_world.specs.Logs.{slot_in}
 use Rattle.vub_world.specs.MachineAt.{LogAt, reads_of}
-use Rattle.vub_world.specs.MachineSteps.{IsSmall, OneSmall, Device, DeviceAt, TurnMade, DeviceTurns, StoreFits, SectorFits, answer_for, answers_for, noted, stored_items, shown_of, is_showing, is_index, accepts, number_at}
-use Rattle.vub_world.specs.Memory.{Scene, after_items}
+use Rattle.vub_world.specs.MachineSteps.{IsSmall, OneSmall, Device, DeviceAt, TurnMade, StoreFits, SectorFits, answer_for, answers_for, noted, stored_items, shown_of, is_index, accepts, number_at}
+use Rattle.vub_world.specs.Memory.{after_items}
 use Rattle.vub_world.specs.Moments.{Lane, Moment, standing}
 use Rattle.vub_world.specs.QueueAt.{spot_of, QueueStands, IsMainRing, DiskAt}
 use Rattle.vub_world.specs.QueueState as states
@@ -57,9 +56,9 @@ use Rattle.vub_world.proofs.RunPhases.{some_waits}
 use Rattle.vub_world.proofs.RunTurns.{IsPlain, Good}
 use Rattle.vub_world.proofs.RunChainsEvents.{ChainedAt}
 use Rattle.vub_world.proofs.QueueAtMoves.{new_unpublished}
-use Rattle.vub_world.proofs.QueueAtTurns.{HasStarted, HasFetched, IsPhaseTurn, start_stands, fetch_stands, idle_stands, ready_same}
+use Rattle.vub_world.proofs.QueueAtTurns.{IsPhaseTurn, start_stands, fetch_stands, idle_stands, ready_same}
 use Rattle.vub_world.proofs.QueueAtRows.{HasPublished, HasShown, MadeElement, ShowsNext, row_stands, shown_stands, stored_stands, after_row, shows_goes, goes_under_way}
-use Rattle.vub_world.proofs.WorkAtItems.{IsNoWork, turn_disk}
+use Rattle.vub_world.proofs.WorkAtItems.{turn_disk}
 
 -- ---- what a turn is given, and what it does
 

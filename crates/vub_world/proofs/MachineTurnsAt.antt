@@ -1,8 +1,7 @@
 -- Where the machine stands after a turn of its device.
-use Rattle.std.proofs.Common.{◌≡◌, ◌≤◌, ◌<◌, ℕ, zero, suc, ◌+◌, ◌%◌, Bool, true, false, List, [], ◌∷◌, ◌++◌, length, refl, ap, sym, ◌∙◌, subst, inl, inr, arith}
-use Rattle.std.specs.Prelude.{◌&&◌, Option, Some, None, take, slice_index, is_some, ⊤}
+use Rattle.std.proofs.Common.{◌≡◌, ◌≤◌, ◌<◌, ℕ, zero, suc, ◌+◌, ◌%◌, Bool, true, false, List, [], ◌∷◌, ◌++◌, length, refl, ap, sym, ◌∙◌, subst, arith}
+use Rattle.std.specs.Prelude.{◌&&◌, Option, Some, None, take, slice_index, ⊤}
 use Rattle.std.proofs.lemmas.Bool.Decides.{nat_tests}
-use Rattle.std.proofs.lemmas.Bool.{cases_Bool}
 use Rattle.std.proofs.lemmas.List.{append-nil}
 use Rattle.vub_base.specs.declared.header.Header1.{Header1}
 use Rattle.vub_base.specs.declared.store.Tag.{Tag}
@@ -19,14 +18,12 @@ use Rattle.vub_memdisk.specs.MemDisks.{values_of}
 use Rattle.vub_memdisk.specs.declared.mem_disk.MemDisk.{MemDisk}
 use Rattle.vub_ring.specs.declared.readiness.Turn.{Turn}
 use Rattle.vub_ring.specs.Readiness.{is_ready}
-use Rattle.vub_driver.specs.Drivers.{Driver, Waiting}
+use Rattle.vub_driver.specs.Drivers.{Driver}
 use Rattle.vub_device.specs.declared.entry.Answered.{Answered}
 use Rattle.vub_device.specs.declared.entry.Asked.{Asked}
-use Rattle.vub_device.specs.declared.entry.Entry.{Entry}
 use Rattle.vub_device.specs.declared.entry.Entry.TheVariants as entries
 use Rattle.vub_device.specs.Past.{asked, published, collected, numbers, is_among}
 use Rattle.vub_world.specs.declared.log.Log.{Log}
-use Rattle.vub_world.specs.declared.log.Outstanding.{Outstanding}
 use Rattle.vub_world.specs.declared.machine.Life.{Life}
 use Rattle.vub_world.specs.declared.machine.Machine.{Machine}
 use Rattle.vub_world.specs.declared.queue.Queue.{Queue}
@@ -39,16 +36,14 @@ use Rattle.vub_world.specs.Lives.{RingOfLife}
 use Rattle.vub_world.specs.Machine.{IsSound}
 use Rattle.vub_world.specs.Queue.{ring_in}
 use Rattle.vub_world.specs.Split.{RingLies}
-use Rattle.vub_world.specs.Logs.{offered_in, collected_in, slot_in}
-use Rattle.vub_world.specs.MachineAt.{AskAt, FrontAt, AttachedAt, LifeAt, LogAt, MachineAt, IsReached, reads_of}
-use Rattle.vub_world.specs.MachineSteps.{Device, device, DeviceAt, TurnMade, DeviceTurns, MachineTurns, TurnGoes, noted, stored_items, shown_of, answers_shown, next_turn}
+use Rattle.vub_world.specs.Logs.{slot_in}
+use Rattle.vub_world.specs.MachineAt.{AskAt, AttachedAt, LifeAt, LogAt, MachineAt, reads_of}
+use Rattle.vub_world.specs.MachineSteps.{Device, device, DeviceAt, TurnMade, DeviceTurns, TurnGoes, noted, stored_items, shown_of, answers_shown}
 use Rattle.vub_world.specs.Memory.{Scene, after_items}
-use Rattle.vub_world.specs.Moments.{Lane, Moment, standing}
-use Rattle.vub_world.specs.QueueAt.{QueueStands}
+use Rattle.vub_world.specs.Moments.{Moment, standing}
 use Rattle.vub_world.specs.QueueState.{state_of}
 use Rattle.vub_world.specs.Run.{one_turn, is_due}
 use Rattle.vub_world.specs.Turns.{turned}
-use Rattle.vub_world.proofs.RunGood.{Known}
 use Rattle.vub_world.proofs.MachineLemmas.{sound_room, sound_ring}
 use Rattle.vub_world.proofs.RunDrains.{turned_stays}
 use Rattle.vub_world.proofs.RunTurns.{Good}
@@ -137,7 +132,6 @@ made_at : (w : Machine) (m : Moment) (q q' : Queue) (t : Turn) (memory : Watched
     → MachineAt (with_device w memory q' disk) (after_turn w t m)
 made_at w m q q' t memory disk d x has made =
     let life = life_at w m q has in
-    let s' : Scene = after_items w.header.size (noted w.log (values_of disk) (stores_in memory) (shown_of w.log d.memory d.queue) x) m.scene in
     let keeps : Keeps m.scene (after_turn w t m).scene = subst (λ (is : List Item). Keeps m.scene (after_items w.header.size is m.scene)) (sym made.items_are) (noted_keeps w.header.size w.log (values_of disk) (stores_in memory) (shown_of w.log d.memory d.queue) x m.scene) in
     let driver : (turned w.header 0 t m).lane.driver ≡ (m.lanes 0).driver = turn_driver w.header t m in
     record {

@@ -1,6 +1,6 @@
 -- A step of a drain: what it asks of the machine, and what its turn leaves.
-use Rattle.std.proofs.Common.{◌≡◌, ◌≤◌, ◌<◌, ℕ, zero, suc, ◌+◌, Bool, true, false, List, [], ◌∷◌, ◌++◌, length, map, refl, ap, sym, ◌∙◌, subst, inl, inr, arith, min}
-use Rattle.std.specs.Prelude.{Option, Some, None, slice_index, slice_get, ⊤}
+use Rattle.std.proofs.Common.{◌≡◌, ◌≤◌, ◌<◌, ℕ, zero, suc, ◌+◌, true, false, List, [], ◌∷◌, ◌++◌, length, map, refl, ap, sym, ◌∙◌, subst, inl, inr, arith, min}
+use Rattle.std.specs.Prelude.{Option, Some, None, slice_index, slice_get}
 use Rattle.std.proofs.lemmas.Bool.{cases_Bool}
 use Rattle.std.proofs.lemmas.Bool.Decides.{nat_tests}
 use Rattle.std.proofs.lemmas.List.{length-map}
@@ -16,7 +16,7 @@ use Rattle.vub_device.specs.declared.entry.Answered.{Answered}
 use Rattle.vub_device.specs.declared.entry.Asked.{Asked}
 use Rattle.vub_device.specs.declared.entry.Asked.TheVariants as asks
 use Rattle.vub_device.specs.declared.entry.Entry.{Entry}
-use Rattle.vub_device.specs.Past.{asked, accepted, is_among}
+use Rattle.vub_device.specs.Past.{asked, is_among}
 use Rattle.vub_world.specs.declared.log.Log.{Log}
 use Rattle.vub_world.specs.declared.log.Outstanding.{Outstanding}
 use Rattle.vub_world.specs.declared.machine.Life.{Life}
@@ -26,13 +26,13 @@ use Rattle.vub_world.specs.declared.queue.Stepped.{Stepped}
 use Rattle.vub_world.specs.declared.queue.Stepped.TheVariants as says
 use Rattle.vub_world.specs.declared.report.items.Item.{Item}
 use Rattle.vub_world.specs.Logs.{slot_in}
-use Rattle.vub_world.specs.MachineAt.{AttachedAt, LifeAt, LogAt, MachineAt, IsReached, reads_of}
-use Rattle.vub_world.specs.MachineSteps.{TurnGoes, MachineTurns, DrainSteps, BatchFits, ShowsSome, QueueShowsSome, SpendsUpTo, batch_in, queue_batch, noted, answers_shown, accepts, is_showing, is_index}
-use Rattle.vub_world.specs.Moments.{Lane, Moment, standing}
+use Rattle.vub_world.specs.MachineAt.{AttachedAt, LifeAt, MachineAt, reads_of}
+use Rattle.vub_world.specs.MachineSteps.{TurnGoes, MachineTurns, DrainSteps, BatchFits, ShowsSome, QueueShowsSome, SpendsUpTo, batch_in, queue_batch, noted, answers_shown, accepts, is_index}
+use Rattle.vub_world.specs.Moments.{Lane, Moment}
 use Rattle.vub_world.specs.QueueAt.{spot_of, QueueStands}
-use Rattle.vub_world.specs.QueueState.{QueueState, state_of, is_idle}
+use Rattle.vub_world.specs.QueueState.{state_of, is_idle}
 use Rattle.vub_world.specs.Rooms.{RoomState}
-use Rattle.vub_world.specs.Run.{one_turn, is_due}
+use Rattle.vub_world.specs.Run.{is_due}
 use Rattle.vub_world.proofs.RunFrames.{open_out}
 use Rattle.vub_world.proofs.RunGood.{IsSimple, IsOut, PhaseIs}
 use Rattle.vub_world.proofs.RunTurns.{IsPlain, Good, phase_cases}

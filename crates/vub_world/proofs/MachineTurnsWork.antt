@@ -1,21 +1,19 @@
 -- A turn of the device at a moment of a run: work on a request, and any turn of a drain.
-use Rattle.std.proofs.Common.{◌≡◌, ◌≢◌, ◌≤◌, ◌<◌, ◌⊎◌, ℕ, ◌+◌, ◌*◌, Bool, true, false, List, [], ◌∷◌, ◌++◌, length, filter, not, refl, ap, sym, ◌∙◌, subst, inl, inr, arith}
-use Rattle.std.specs.Prelude.{Option, Some, None, option_map, slice_index, nat_lt, ⊤}
+use Rattle.std.proofs.Common.{◌≡◌, ◌≤◌, ℕ, ◌+◌, true, false, List, [], ◌∷◌, ◌++◌, length, filter, not, refl, ap, sym, ◌∙◌, subst, inl, inr, arith}
+use Rattle.std.specs.Prelude.{Option, Some, option_map, nat_lt}
 use Rattle.std.proofs.lemmas.Bool.{cases_Bool}
 use Rattle.std.proofs.lemmas.Bool.Decides.{nat_tests}
 use Rattle.vub_base.specs.declared.header.Header1.{Header1}
 use Rattle.vub_base.specs.declared.store.Tag.{Tag}
 use Rattle.vub_base.specs.declared.store.Tag.TheVariants.{T2, T5}
-use Rattle.vub_base.specs.declared.store.Area.TheVariants.{M}
 use Rattle.vub_shared.specs.Bytes.{Bytes}
 use Rattle.vub_shared.specs.Stores.{Store, one_store}
 use Rattle.vub_disk.specs.Values.{Values}
 use Rattle.vub_ring.specs.declared.readiness.Standing.{Standing}
 use Rattle.vub_ring.specs.declared.readiness.Turn.{Turn}
 use Rattle.vub_ring.specs.declared.readiness.Turn.TheVariants as turns
-use Rattle.vub_ring.specs.Readiness.{is_ready, is_publication, any_turn, work_or_publish, drain_turn}
+use Rattle.vub_ring.specs.Readiness.{is_ready, is_publication, work_or_publish, drain_turn}
 use Rattle.vub_device.specs.declared.entry.Asked.{Asked}
-use Rattle.vub_device.specs.declared.entry.Asked.TheVariants as asks
 use Rattle.vub_device.specs.declared.entry.Entry.{Entry}
 use Rattle.vub_device.specs.declared.entry.Entry.TheVariants as entries
 use Rattle.vub_device.specs.Past.{accepted, published, is_among, missing_below, open_numbers, started}
@@ -27,19 +25,18 @@ use Rattle.vub_world.specs.declared.queue.Stepped.{Stepped}
 use Rattle.vub_world.specs.declared.queue.Stepped.TheVariants as says
 use Rattle.vub_world.specs.declared.split.SplitRing.{SplitRing}
 use Rattle.vub_world.specs.declared.task.Task.{Task}
-use Rattle.vub_world.specs.declared.task.TaskStep.TheVariants as answers
-use Rattle.vub_world.specs.MachineSteps.{IsSmall, OneSmall, Device, DeviceAt, TurnMade, DeviceTurns, StoreFits, SectorFits, noted, stored_items, shown_of, accepts, number_at}
-use Rattle.vub_world.specs.Memory.{Scene, after_items}
-use Rattle.vub_world.specs.Moments.{Lane, Moment, standing, unfinished}
-use Rattle.vub_world.specs.QueueAt.{QueueStands, IsMainRing, DiskAt}
-use Rattle.vub_world.specs.QueueState.{QueueState, IsDue, IfStepped, WorksOut, HasWorked, due_store, sector_at, said, is_idle, is_fault}
+use Rattle.vub_world.specs.MachineSteps.{OneSmall, Device, TurnMade, DeviceTurns, StoreFits, SectorFits, noted, stored_items, shown_of, accepts, number_at}
+use Rattle.vub_world.specs.Memory.{after_items}
+use Rattle.vub_world.specs.Moments.{Moment, standing}
+use Rattle.vub_world.specs.QueueAt.{DiskAt}
+use Rattle.vub_world.specs.QueueState.{QueueState, IsDue, IfStepped, WorksOut, due_store, sector_at, said, is_idle, is_fault}
 use Rattle.vub_world.specs.Run.{one_turn}
 use Rattle.vub_world.specs.TaskState.{Making, answer_in, answer_to, memory_after, values_after, with_maybe}
-use Rattle.vub_world.specs.Tasks.{TaskStep, Look, Put, Act, Sync, Status}
+use Rattle.vub_world.specs.Tasks.{TaskStep, Look, Act}
 use Rattle.vub_world.specs.Turns.{turned}
 use Rattle.vub_world.proofs.RunFrames.{open_out}
 use Rattle.vub_world.proofs.RunGood.{IsOut}
-use Rattle.vub_world.proofs.RunTurns.{IsPlain, Good}
+use Rattle.vub_world.proofs.RunTurns.{Good}
 use Rattle.vub_world.proofs.WorkAt.{WorkReady, making, Kind, work_ready}
 use Rattle.vub_world.proofs.WorkAtItems.{Shows, ShowsStore, work_items, work_memory, work_disk, work_kind}
 use Rattle.vub_world.proofs.WorkAtStands.{work_stands}
@@ -64,9 +61,6 @@ stepped_out (says.Broken fault) P fine served p = p
 pub record SaysWell (cap : ℕ) (request : Asked) (step : TaskStep) (x : Stepped) : Type 0 where
   pub looks : (head sector : ℕ) (v : Values) → x ≡ says.Looked head sector → values_after request step v ≡ v
   pub sector : SectorFits cap x
-
-SaysAt : Header1 → ℕ → Asked → TaskStep → Type 0
-SaysAt h head request step = SaysWell h.capacity request step (said head (answer_to h request step))
 
 says_well : (h : Header1) (head made : ℕ) (request : Asked) (step : TaskStep) → Kind h request made step → SaysWell h.capacity request step (said head (answer_to h request step))
 says_well h head made request step (inl x) =

@@ -1,6 +1,5 @@
 use Rattle.std.proofs.Common.{◌≡◌, true, false, ap, subst, sym, refl}
 use Rattle.std.specs.Prelude.{is_some}
-use Rattle.vub_memdisk.specs.MemDisks.{capacity_of}
 use Rattle.vub_ring.specs.Readiness.{is_ready}
 use Rattle.vub_ring.specs.declared.readiness.Turn.{Turn}
 use Rattle.vub_shared.specs.Bytes.{Bytes}

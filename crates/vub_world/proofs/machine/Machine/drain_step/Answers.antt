@@ -1,4 +1,4 @@
-use Rattle.std.proofs.Common.{◌≡◌, ap, sym, ◌∙◌, subst, true, false, ◌+◌, ◌++◌, ℕ}
+use Rattle.std.proofs.Common.{◌≡◌, ap, sym, ◌∙◌, true, false, ◌+◌, ◌++◌, ℕ}
 use Rattle.vub_memdisk.specs.MemDisks.{values_of}
 use Rattle.vub_shared.specs.Watched.{stores_in}
 use Rattle.vub_world.specs.declared.machine.Machine.{Machine}
