@@ -50,6 +50,7 @@ shows_some w m good at = go w.life at.life
     of_queue : (queue : Option Queue) → AttachedAt w.header w.ring m queue → QueueShowsSome queue
     of_queue None here = tt
     of_queue (Some q) here = queue_shows_some w.header w.ring m (state_of q) good here.2
+
     go : (life : Option Life) → LifeAt w.header w.ring m life → ShowsSome life
     go None here = tt
     go (Some l) here = of_queue l.queue here.1
@@ -101,9 +102,11 @@ batch_fits w m small good at = go w.life at.life
   where
     none_fits : BatchFits w.log []
     none_fits i x found = absurd (cc found)
+
     of_queue : (queue : Option Queue) → AttachedAt w.header w.ring m queue → BatchFits w.log (queue_batch queue)
     of_queue None here = none_fits
     of_queue (Some q) here = queue_batch_fits w.header w.ring m (state_of q) w.log small good here.2 at.log
+
     go : (life : Option Life) → LifeAt w.header w.ring m life → BatchFits w.log (batch_in life)
     go None here = none_fits
     go (Some l) here = of_queue l.queue here.1

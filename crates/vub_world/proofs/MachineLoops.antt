@@ -202,11 +202,13 @@ drain_ends h m done now next before after after' taken taken' r made same is d s
       subst (λ (k : Header1). (is_due k 0 (choice k m m) m ≡ false) × MachineAt next m × (after' ≡ before)) (sym header) (
         subst (λ (x : ℕ). is_due h 0 (choice h m (so_far h m x).next) (so_far h m x).next ≡ false) none ends,
         subst (λ (x : ℕ). MachineAt next (so_far h m x).next) none step.1,
-        items_are ∙ subst (λ (x : ℕ). before ++ (so_far h m x).items ≡ before ++ []) (sym none) refl ∙ append-nil before))
+        items_are ∙ subst (λ (x : ℕ). before ++ (so_far h m x).items ≡ before ++ []) (sym none) refl ∙ append-nil before,
+      ))
   | inr some ↦ subst (λ (b : Bool). DrainGoes b w next m before after') (sym (some_before done some)) (
       subst (λ (k : Header1). (is_due k 0 (choice k m m) m ≡ true) × ((to : Moment) × (is : List Item) × IsDrained k 0 m (choice k m) is to × MachineAt next to × (after' ≡ before ++ is))) (sym header) (
         d.begun (omega (arith, some)),
-        ((so_far h m done).next, (so_far h m done).items, record { count = done; made = refl; ends = ends }, step.1, items_are)))
+        ((so_far h m done).next, (so_far h m done).items, record { count = done; made = refl; ends = ends }, step.1, items_are),
+      ))
 ])
   where
     n : Moment

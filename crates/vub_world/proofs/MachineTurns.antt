@@ -277,11 +277,11 @@ answers_same h r m log d y a off =
     ap (λ (b : Bytes). answers_for log b d.queue.batch) a.at.memory_is
     ∙ ap (λ (xs : List (ℕ × ℕ)). answers_for log m.scene.memory xs) a.at.stands.batch
     ∙ map_over f (answer_at 0 (after_row h y m.scene)) (spot_of h past heads) l.batch (λ k held.
-      let done : is_among (l.completed ++ l.batch) k ≡ true = among_right l.completed l.batch k held in
-      let out : IsOut past heads k = open_out h.size h.capacity past heads k a.good.holds.known (a.good.holds.worked.opens k done) in
-      let head : ℕ = slice_index heads k in
-      ap (λ (o : Outstanding). answer_for o m.scene.memory head) (a.numbered.slots k out.below out.kept)
-      ∙ answer_same h.capacity (asked past 0 k) m.scene.memory y.store.place y.store.bytes k head (a.good.holds.known.simple k out.below) off (a.good.holds.stored.status k done))
+    let done : is_among (l.completed ++ l.batch) k ≡ true = among_right l.completed l.batch k held in
+    let out : IsOut past heads k = open_out h.size h.capacity past heads k a.good.holds.known (a.good.holds.worked.opens k done) in
+    let head : ℕ = slice_index heads k in
+    ap (λ (o : Outstanding). answer_for o m.scene.memory head) (a.numbered.slots k out.below out.kept)
+    ∙ answer_same h.capacity (asked past 0 k) m.scene.memory y.store.place y.store.bytes k head (a.good.holds.known.simple k out.below) off (a.good.holds.stored.status k done))
 
 -- which answers a turn notes
 shown_is : (log : Log) (m : Bytes) (q : QueueState) → ShowsNext q → shown_of log m q ≡ answers_for log m q.batch
@@ -309,9 +309,9 @@ show_made h r m log most d now x y a at has next s small off =
       goes = ap is_idle has.said;
       at = at;
       items_are = has.items
-      ∙ ap (λ (is : List Item). is ++ items.Made (entries.Publish 0 list) ∷ []) (sym (store_made d now SP5 y s))
-      ∙ ap (λ (xs : List Answered). stored_items SP5 now.stores ++ items.Made (entries.Publish 0 xs) ∷ []) (sym answers)
-      ∙ sym (ap (noted log now.values now.stores (shown_of log d.memory d.queue)) has.said);
+          ∙ ap (λ (is : List Item). is ++ items.Made (entries.Publish 0 list) ∷ []) (sym (store_made d now SP5 y s))
+          ∙ ap (λ (xs : List Answered). stored_items SP5 now.stores ++ items.Made (entries.Publish 0 xs) ∷ []) (sym answers)
+          ∙ sym (ap (noted log now.values now.stores (shown_of log d.memory d.queue)) has.said);
       store = subst (λ (z : Stepped). StoreFits z now.stores) (sym has.said) (one_small d now y s small);
       sector = subst (λ (z : Stepped). SectorFits h.capacity z) (sym has.said) tt;
       taken = omega (arith, none, same);

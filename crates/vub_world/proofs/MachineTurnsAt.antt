@@ -166,22 +166,22 @@ turn_goes w m q q' t kept memory disk x has same turns =
     let d : Device = device q kept w.disk in
     let does = turns (record { stands = life.1.2; memory_is = same ∙ has.at.front.memory; disk = has.at.disk }) in (
       λ due.
-        let ready : is_ready (standing w.header 0 m) t ≡ true = grind (arith, nat_tests) in
-        let made : TurnMade w.header w.ring m t w.log d (device q' memory disk) x = does.0 ready in
-        let shown : shown_of w.log (bytes_in kept) (state_of q) ≡ answers_shown w.log (bytes_in w.memory) w.life =
-        ap (λ (b : Bytes). shown_of w.log b (state_of q)) same ∙ sym (ap (answers_shown w.log (bytes_in w.memory)) has.life_is) in
-        record {
-          goes = made.goes;
-          at = made_at w m q q' t memory disk d x has made;
-          items_are = made.items_are ∙ ap (λ (as_shown : List Answered). noted w.log (values_of disk) (stores_in memory) as_shown x) shown;
-          store = made.store;
-          sector = made.sector;
-          taken = made.taken;
-        },
+          let ready : is_ready (standing w.header 0 m) t ≡ true = grind (arith, nat_tests) in
+          let made : TurnMade w.header w.ring m t w.log d (device q' memory disk) x = does.0 ready in
+          let shown : shown_of w.log (bytes_in kept) (state_of q) ≡ answers_shown w.log (bytes_in w.memory) w.life =
+          ap (λ (b : Bytes). shown_of w.log b (state_of q)) same ∙ sym (ap (answers_shown w.log (bytes_in w.memory)) has.life_is) in
+          record {
+            goes = made.goes;
+            at = made_at w m q q' t memory disk d x has made;
+            items_are = made.items_are ∙ ap (λ (as_shown : List Answered). noted w.log (values_of disk) (stores_in memory) as_shown x) shown;
+            store = made.store;
+            sector = made.sector;
+            taken = made.taken;
+          },
       λ undue.
-        let unready : is_ready (standing w.header 0 m) t ≡ false = ap (λ (b : Bool). b && is_ready (standing w.header 0 m) t) (sym life.1.1) ∙ undue in
-        let idle = does.1 unready in
-        (idle.0, idle_at w m q q' memory disk has idle.1),
+          let unready : is_ready (standing w.header 0 m) t ≡ false = ap (λ (b : Bool). b && is_ready (standing w.header 0 m) t) (sym life.1.1) ∙ undue in
+          let idle = does.1 unready in
+          (idle.0, idle_at w m q q' memory disk has idle.1),
     )
 
 -- where no queue is attached, no turn is due
@@ -206,13 +206,16 @@ none_attached w m good at none = go w.life at.life none
 pub turn_none : (w : Machine) (m : Moment) (t : Turn) (kept : WatchedShared) → Good w.header m → MachineAt w m → has_no_queue w.life → bytes_in kept ≡ bytes_in w.memory → TurnGoes t w (record w { memory = kept }) m says.Idle
 turn_none w m t kept good at none same = (
   λ due. absurd (let fails : true ≡ false = sym due ∙ undue w.header t m (none_attached w m good at none) in cc),
-  λ not_due. (refl, record {
-    front = record { memory = same ∙ at.front.memory; driver = at.front.driver; asks = at.front.asks };
-    position = at.position;
-    life = at.life;
-    disk = at.disk;
-    log = at.log;
-  }),
+  λ not_due. (
+    refl,
+    record {
+      front = record { memory = same ∙ at.front.memory; driver = at.front.driver; asks = at.front.asks };
+      position = at.position;
+      life = at.life;
+      disk = at.disk;
+      log = at.log;
+    },
+  ),
 )
 
 -- ---- the queue of a sound machine

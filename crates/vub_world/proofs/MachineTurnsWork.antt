@@ -126,8 +126,8 @@ work_noted h m t log d now k task n (says.Acted head sector) g shows =
     record {
       goes = refl;
       items_are = shows.1
-      ∙ ap (λ (j : ℕ). items.Made (entries.Act 0 j sector (values_after n.request n.step d.values sector)) ∷ []) (sym number)
-      ∙ ap (λ (v : Values). items.Made (entries.Act 0 (number_at log head) sector (v sector)) ∷ []) (sym g.values_are);
+          ∙ ap (λ (j : ℕ). items.Made (entries.Act 0 j sector (values_after n.request n.step d.values sector)) ∷ []) (sym number)
+          ∙ ap (λ (v : Values). items.Made (entries.Act 0 (number_at log head) sector (v sector)) ∷ []) (sym g.values_are);
       store = tt;
       none = refl;
       same = ap (λ (is : List Item). accepted (after_items h.size is m.scene).past 0) shows.1;

@@ -17,9 +17,9 @@ use crate::split::SplitRing;
 use std::alloc::Global;
 use vub_base::{Area, Ask, Header1, Memory, Shape, Space, Tag};
 use vub_device::{AnswerList, Answered, Asked, Entry, NumberList};
+use vub_disk::Disk;
 use vub_memdisk::MemDisk;
 use vub_schedule::Event;
-use vub_disk::Disk;
 use vub_shared::{Shared, WatchedShared};
 
 /// A life of the device; its queue is there once it is attached.
@@ -570,7 +570,13 @@ impl Machine {
         ensures performs { IfOk result (λ is. Performs self.old self.new (events.Drain 0) is) }
     {
         let undone = self.log.outstanding().min(64) as usize;
-        let mut room = Room::new(self.alloc, 14 * undone + 6, 8 * undone + 3, undone + 1, undone)?;
+        let mut room = Room::new(
+            self.alloc,
+            14 * undone + 6,
+            8 * undone + 3,
+            undone + 1,
+            undone,
+        )?;
         if !self.drain_steps(&mut room) {
             room.note(Item::Idle);
         }

@@ -9,6 +9,8 @@ use Rattle.vub_world.proofs.machine.Machine.join.Goals as goal
 pub returns-clause-performs : goal.returns-clause-performs
 returns-clause-performs c es rs m stands at =
     let h = c.args.self.now.header in
-    let new = joining_at c.args.self.now m at (sym c.is_joining.ensures ∙ c.if-not-is_joining.false) in
-    (joined m, ap (λ (is : List Item). played is (joined m)) c.nothing.ensures ∙ join_plays m new.0 new.1.0,
-    joined_at c.args.self.now m c.in_ok-queue.queue (plain_header h stands.header) (stands_good h es rs m stands) stands.header.begins new.1 new.0 c.in_ok-queue.ensures.state at)
+    let new = joining_at c.args.self.now m at (sym c.is_joining.ensures ∙ c.if-not-is_joining.false) in (
+      joined m,
+      ap (λ (is : List Item). played is (joined m)) c.nothing.ensures ∙ join_plays m new.0 new.1.0,
+      joined_at c.args.self.now m c.in_ok-queue.queue (plain_header h stands.header) (stands_good h es rs m stands) stands.header.begins new.1 new.0 c.in_ok-queue.ensures.state at,
+    )
