@@ -1,28 +1,17 @@
-use Rattle.std.proofs.Common.{rules, ◌≡◌, ◌<◌, ◌≤◌, ◌+◌, ◌-◌, ◌++◌, ◌∷◌, [], ℕ, List, IfOk, OnOk, OnErr, length, true, false, Some, None, ◌*◌, ◌/◌, ◌%◌, Bool, nat_eq, nat_lt, slice_index_or, slice_set, bit_and, bit_or, Fits, w8, w32, w64, Bor, MutBor}
-use Rattle.vub_shared.specs.Watched.{bytes_in, stores_in, sizes_in}
-use Rattle.vub_driver.specs.Layout.{ring_of as main_ring}
-use Rattle.vub_schedule.specs.Spelling.{IsHeader, IsEvent}
-use Rattle.vub_world.specs.MachineSteps.{AskFits, SpendsLists, FrontFits, OneSmall, GuestSteps, GuestGoes, TurnGoes, DrainSteps, DrainGoes, HasTurnRoom, HasDrainRoom, BatchFits, ShowsSome, StoreFits, SectorFits, IsEntry, Spends, SpendsAnswers, SpendsUpTo, SpendsTurn, SpendsStep, stored_items, head_shown, is_joining, answer_for, answers_for, answers_shown, batch_in, shown_in, noted, next_turn}
-use Rattle.vub_world.specs.Run.{request_of, Stands}
-use Rattle.std.specs.Borrow.{sem}
-use Rattle.vub_device.specs.declared.entry.Entry.TheVariants as entries
-use Rattle.vub_driver.specs.Drivers.{Waiting}
-use Rattle.vub_memdisk.specs.MemDisks.{values_of, capacity_of}
+use Rattle.std.proofs.Common.{subst, sym}
 use Rattle.vub_schedule.specs.declared.types.Event.{Event}
 use Rattle.vub_schedule.specs.declared.types.Event.TheVariants as events
-use Rattle.vub_world.specs.declared.guest.GuestStep.TheVariants as answers
-use Rattle.vub_world.specs.declared.guest.Collected.TheVariants as takes
-use Rattle.vub_world.specs.declared.report.items.Item.TheVariants as items
-use Rattle.vub_world.specs.declared.report.items.Record.{Record}
-use Rattle.vub_world.specs.GuestState.{driver_in, seen_in, next_store, Steps, Shows, Collects}
-use Rattle.vub_world.specs.Logs.{offered_in, collected_in, slot_in, Offers}
-use Rattle.vub_world.specs.Machine.{IsSound, LendsSound}
-use Rattle.vub_world.specs.MachineAt.{FrontAt, MachineAt, IsReached, IsStanding, Performs}
-use Rattle.vub_world.specs.Moments.{Moment, opening}
-use Rattle.vub_world.specs.QueueState.{state_of}
-use Rattle.vub_world.specs.TaskState.{after_maybe, with_maybe}
+use Rattle.vub_schedule.specs.Spelling.{IsEvent}
+use Rattle.vub_world.specs.MachineAt.{Performs}
+use Rattle.vub_world.proofs.MachineEvents.{ok_then}
 use Rattle.vub_world.proofs.machine.Machine.items_of.Goals as goal
 
--- src/machine.rt:580:5
 pub returns-in-Ask-clause-performs : goal.returns-in-Ask-clause-performs
-returns-in-Ask-clause-performs c = ?
+returns-in-Ask-clause-performs c =
+    let w = c.args.self.now in
+    let now = c.ask.new.self in
+    let fits : IsEvent w.header (events.Ask c.in-Ask.field-0 c.in-Ask.shape c.in-Ask.ask) = subst (λ (e : Event). IsEvent w.header e) c.in-Ask.is c.requires.fits in
+    let first = fits.0 in
+    ok_then _ (λ is. Performs w now c.args.event.now is) c.ask.result
+    (λ is p. subst (λ (e : Event). Performs w now e is) (sym c.in-Ask.is) (subst (λ q. Performs w now (events.Ask q c.in-Ask.shape c.in-Ask.ask) is) (sym first) (p (subst (λ q. IsEvent w.header (events.Ask q c.in-Ask.shape c.in-Ask.ask)) first fits))))
+    c.ask.ensures.performs
