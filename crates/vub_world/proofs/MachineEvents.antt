@@ -1,15 +1,22 @@
 -- An event leads from where the machine stood to where it stands.
-use Rattle.std.proofs.Common.{◌≡◌, List, [], ◌∷◌, ◌++◌, sym, subst}
-use Rattle.std.specs.Prelude.{Result, Ok, Err, IfOk}
+use Rattle.std.proofs.Common.{◌≡◌, ℕ, true, List, [], ◌∷◌, ◌++◌, sym, subst}
+use Rattle.std.specs.Prelude.{Result, Ok, Err, IfOk, Option, Some, None}
 use Rattle.vub_base.specs.declared.header.Header1.{Header1}
+use Rattle.vub_device.specs.declared.entry.Entry.{Entry}
+use Rattle.vub_device.specs.Past.{accepted, offers, open_numbers}
 use Rattle.vub_schedule.specs.declared.types.Event.{Event}
+use Rattle.vub_schedule.specs.declared.types.Event.TheVariants as events
 use Rattle.vub_schedule.specs.Spelling.{IsEvent}
+use Rattle.vub_world.specs.declared.machine.Life.{Life}
 use Rattle.vub_world.specs.declared.machine.Machine.{Machine}
+use Rattle.vub_world.specs.declared.queue.Queue.{Queue}
 use Rattle.vub_world.specs.declared.report.items.Record.{Record}
-use Rattle.vub_world.specs.MachineAt.{MachineAt, StandsFor, IsStanding, Performs, StandsOn, IsLegalRun}
-use Rattle.vub_world.specs.Moments.{Moment}
+use Rattle.vub_world.specs.LegalRuns.{IsLegalRun, IsServed, past_of}
+use Rattle.vub_world.specs.MachineAt.{MachineAt, LifeAt, AttachedAt, IsStanding, Performs, StandsOn, ServesAll, is_attached, has_queue}
+use Rattle.vub_world.specs.Moments.{Moment, opening}
 use Rattle.vub_world.specs.Run.{Stands, Plays}
-use Rattle.vub_world.proofs.RunsTo.{stands_more, stands_true}
+use Rattle.vub_world.proofs.Runs.{plain_header, opening_good}
+use Rattle.vub_world.proofs.RunsTo.{run_of, run_past, stands_more, stands_true, stands_drained}
 
 pub ok_then : {T E : Type 0} (P Q : T → Type 0) (r : Result T E) → ((x : T) → P x → Q x) → IfOk r P → IfOk r Q
 ok_then P Q (Ok x) f p = f x p
@@ -31,15 +38,48 @@ kept_at w r m at = record {
 pub legal_run : (h : Header1) (es : List Event) (rs : List Record) (m : Moment) → Stands h es rs m → IsLegalRun h es rs
 legal_run h es rs m stands =
     let both = stands_true h es rs m stands in
-    record { legal = both.0; tracked = both.1 }
+    record { run = run_of h (opening h) es rs m stands.run; legal = both.0; tracked = both.1 }
+
+-- a machine with an attached queue
+attached_at : (w : Machine) (m : Moment) → MachineAt w m → is_attached w.life ≡ true → (m.lanes 0).attached ≡ true
+attached_at w m at is = go w.life at.life is
+  where
+    go : (l : Option Life) → LifeAt w.header w.ring m l → is_attached l ≡ true → (m.lanes 0).attached ≡ true
+    go None at is = absurd (cc is)
+    go (Some l) at is = with_queue l.queue at.1 is
+      where
+        with_queue : (q : Option Queue) → AttachedAt w.header w.ring m q → has_queue q ≡ true → (m.lanes 0).attached ≡ true
+        with_queue None at is = absurd (cc is)
+        with_queue (Some q) at is = at.1
+
+served : (h : Header1) (es : List Event) (rs : List Record) (m k : Moment) (r : Record) → Stands h es rs m → Stands h (es ++ events.Drain 0 ∷ []) (rs ++ r ∷ []) k → (m.lanes 0).attached ≡ true → Plays h m (events.Drain 0) r.items k → IsServed (rs ++ r ∷ [])
+served h es rs m k r stands next attached plays =
+    let both = stands_drained h es rs m k r.items stands attached plays in
+    let past : k.scene.past ≡ past_of (rs ++ r ∷ []) = run_past h (opening h) (es ++ events.Drain 0 ∷ []) (rs ++ r ∷ []) k (plain_header h next.header) (opening_good h (plain_header h next.header)) next.events next.run in
+    record {
+      none_open = subst (λ (p : List Entry). open_numbers p 0 ≡ []) past both.0;
+      all_accepted = subst (λ (p : List Entry). accepted p 0 ≡ offers p 0) past both.1;
+    }
+
+serves_all : (w : Machine) (e : Event) (es : List Event) (rs : List Record) (m k : Moment) (r : Record) → IsEvent w.header e → MachineAt w m → Stands w.header es rs m → Stands w.header (es ++ e ∷ []) (rs ++ r ∷ []) k → Plays w.header m e r.items k → ServesAll w e (rs ++ r ∷ [])
+serves_all w (events.Drain q) es rs m k r fits at stands next plays = λ is.
+    served w.header es rs m k r stands (subst (λ (p : ℕ). Stands w.header (es ++ events.Drain p ∷ []) (rs ++ r ∷ []) k) fits next) (attached_at w m at is) (subst (λ (p : ℕ). Plays w.header m (events.Drain p) r.items k) fits plays)
+serves_all w (events.Ask q shape a) es rs m k r fits at stands next plays = tt
+serves_all w (events.Guest q n) es rs m k r fits at stands next plays = tt
+serves_all w (events.Collect q) es rs m k r fits at stands next plays = tt
+serves_all w events.Boot es rs m k r fits at stands next plays = tt
+serves_all w events.Join es rs m k r fits at stands next plays = tt
 
 pub stands_on : (w now : Machine) (e : Event) (r : Record) → IsEvent w.header e → now.header ≡ w.header → r.event ≡ e → Performs w now e r.items → StandsOn w (with_record r now) e r
 stands_on w now e r fits same is goes es rs stood =
     let m : Moment = stood.0 in
     let went = goes es rs m stood.1 stood.2 in
     let stands : Stands w.header (es ++ e ∷ []) (rs ++ r ∷ []) went.0 = stands_more w.header es rs m went.0 e r stood.1 fits is went.1 in
-    ((went.0, subst (λ (h : Header1). Stands h (es ++ e ∷ []) (rs ++ r ∷ []) went.0) (sym same) stands, kept_at now r went.0 went.2),
-    legal_run w.header (es ++ e ∷ []) (rs ++ r ∷ []) went.0 stands)
+    record {
+      stands = (went.0, subst (λ (h : Header1). Stands h (es ++ e ∷ []) (rs ++ r ∷ []) went.0) (sym same) stands, kept_at now r went.0 went.2);
+      runs = legal_run w.header (es ++ e ∷ []) (rs ++ r ∷ []) went.0 stands;
+      serves = serves_all w e es rs m went.0 r fits stood.2 stood.1 stands went.1;
+    }
 
 pub standing_on : (w now : Machine) (e : Event) (r : Record) → IsStanding w → StandsOn w now e r → IsStanding now
-standing_on w now e r s on = (s.0 ++ e ∷ [], s.1 ++ r ∷ [], (on s.0 s.1 s.2).0)
+standing_on w now e r s on = (s.0 ++ e ∷ [], s.1 ++ r ∷ [], (on s.0 s.1 s.2).stands)

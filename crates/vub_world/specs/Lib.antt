@@ -4,6 +4,7 @@ pub mod GuestChain
 pub mod GuestRequest
 pub mod GuestState
 pub mod GuestStores
+pub mod LegalRuns
 pub mod Lives
 pub mod Logs
 pub mod Machine

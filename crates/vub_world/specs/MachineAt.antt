@@ -1,17 +1,17 @@
 -- The machine stands at a moment of a run.
-use Rattle.std.specs.Prelude.{◌≡◌, ◌<◌, ℕ, ◌+◌, ◌%◌, true, false, List, [], ◌∷◌, ◌++◌, length, take, slice_index, Option, Some, None}
+use Rattle.std.specs.Prelude.{◌≡◌, ◌<◌, ℕ, ◌+◌, ◌%◌, true, false, List, [], ◌∷◌, ◌++◌, length, take, slice_index, Bool, Option, Some, None, ⊤}
 use Rattle.vub_base.specs.declared.header.Header1.{Header1}
 use Rattle.vub_base.specs.declared.request.Ask.{Ask}
 use Rattle.vub_shared.specs.Watched.{bytes_in}
 use Rattle.vub_ring.specs.declared.readiness.Turn.{Turn}
 use Rattle.vub_driver.specs.Drivers.{Waiting}
-use Rattle.vub_device.specs.Legal.{Legal}
 use Rattle.vub_device.specs.declared.entry.Asked.{Asked}
 use Rattle.vub_device.specs.declared.entry.Asked.TheVariants as requests
 use Rattle.vub_device.specs.declared.entry.Entry.{Entry}
 use Rattle.vub_device.specs.Past.{asked, published, collected, is_among, started}
 use Rattle.vub_memdisk.specs.MemDisks.{values_of}
 use Rattle.vub_schedule.specs.declared.types.Event.{Event}
+use Rattle.vub_schedule.specs.declared.types.Event.TheVariants as events
 use Rattle.vub_world.specs.declared.report.items.Item.{Item}
 use Rattle.vub_world.specs.declared.report.items.Record.{Record}
 use Rattle.vub_world.specs.declared.split.SplitRing.{SplitRing}
@@ -25,7 +25,7 @@ use Rattle.vub_world.specs.QueueState.{state_of}
 use Rattle.vub_world.specs.QueueAt.{QueueStands, DiskAt}
 use Rattle.vub_world.specs.Moments.{Moment}
 use Rattle.vub_world.specs.Run.{Stands, Plays, turns}
-use Rattle.vub_world.specs.Tracking.{TracksAlways, history_of}
+use Rattle.vub_world.specs.LegalRuns.{IsLegalRun, IsServed}
 
 -- the request that waits to be offered is the one that is kept
 abbrev pub AskAt : Option Waiting → Option Ask → Type 0
@@ -74,15 +74,29 @@ StandsFor w es rs = (m : Moment) × Stands w.header es rs m × MachineAt w m
 abbrev pub IsStanding : Machine → Type 0
 IsStanding w = (es : List Event) × (rs : List Record) × StandsFor w es rs
 
--- the records are a run of the events under that header; their history is legal, and every queue tracks it after each
--- item, taken together with the entry that it makes
-pub record IsLegalRun (h : Header1) (es : List Event) (rs : List Record) : Type 0 where
-  pub legal : Legal h.capacity h.mode (history_of rs)
-  pub tracked : TracksAlways h rs
+-- whether there is a life with its queue attached
+abbrev pub has_queue : Option Queue → Bool
+has_queue None = false
+has_queue (Some q) = true
+
+abbrev pub is_attached : Option Life → Bool
+is_attached None = false
+is_attached (Some l) = has_queue l.queue
+
+-- a drain of an attached queue serves all
+abbrev pub ServesAll : Machine → Event → List Record → Type 0
+ServesAll w (events.Drain q) rs = is_attached w.life ≡ true → IsServed rs
+ServesAll w e rs = ⊤
+
+-- what an event with its record leads to, after these events and records
+pub record GoesOn (w now : Machine) (e : Event) (es : List Event) (rs : List Record) : Type 0 where
+  pub stands : StandsFor now es rs
+  pub runs : IsLegalRun w.header es rs
+  pub serves : ServesAll w e rs
 
 -- for all events and records that a world stood for, it stands for these and one event more with its record
 abbrev pub StandsOn : Machine → Machine → Event → Record → Type 0
-StandsOn w now e r = (es : List Event) (rs : List Record) → StandsFor w es rs → StandsFor now (es ++ e ∷ []) (rs ++ r ∷ []) × IsLegalRun w.header (es ++ e ∷ []) (rs ++ r ∷ [])
+StandsOn w now e r = (es : List Event) (rs : List Record) → StandsFor w es rs → GoesOn w now e (es ++ e ∷ []) (rs ++ r ∷ [])
 
 -- wherever the machine stood, the event plays with these items, and leads to where it stands now
 abbrev pub Performs : Machine → Machine → Event → List Item → Type 0
