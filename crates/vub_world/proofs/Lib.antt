@@ -2,6 +2,8 @@ pub mod ArmLemmas
 pub mod ChainLemmas
 pub mod ChainReading
 pub mod GuestLemmas
+pub mod MachineGuestAsks
+pub mod MachineGuestCollects
 pub mod MachineGuestFits
 pub mod MachineGuestOffers
 pub mod MachineGuests

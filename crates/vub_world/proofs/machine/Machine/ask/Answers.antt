@@ -1,32 +1,26 @@
-use Rattle.std.proofs.Common.{rules, ◌≡◌, ◌<◌, ◌≤◌, ◌+◌, ◌-◌, ◌++◌, ◌∷◌, [], ℕ, List, IfOk, OnOk, OnErr, length, true, false, Some, None, ◌*◌, ◌/◌, ◌%◌, Bool, nat_eq, nat_lt, slice_index_or, slice_set, bit_and, bit_or, Fits, w8, w32, w64, Bor, MutBor}
-use Rattle.vub_shared.specs.Watched.{bytes_in, stores_in, sizes_in}
-use Rattle.vub_driver.specs.Layout.{ring_of as main_ring}
-use Rattle.vub_schedule.specs.Spelling.{IsHeader, IsEvent}
-use Rattle.vub_world.specs.MachineSteps.{AskFits, SpendsLists, FrontFits, OneSmall, GuestSteps, GuestGoes, TurnGoes, DrainSteps, DrainGoes, HasTurnRoom, HasDrainRoom, BatchFits, StoreFits, SectorFits, IsEntry, Spends, SpendsAnswers, SpendsUpTo, SpendsTurn, SpendsStep, stored_items, head_shown, is_joining, answer_for, answers_for, answers_shown, batch_in, shown_in, noted, next_turn}
-use Rattle.vub_world.specs.Run.{request_of, Stands}
-use Rattle.std.specs.Borrow.{sem}
-use Rattle.vub_device.specs.declared.entry.Entry.TheVariants as entries
-use Rattle.vub_driver.specs.Drivers.{Waiting}
-use Rattle.vub_memdisk.specs.MemDisks.{values_of, capacity_of}
-use Rattle.vub_schedule.specs.declared.types.Event.{Event}
-use Rattle.vub_schedule.specs.declared.types.Event.TheVariants as events
-use Rattle.vub_world.specs.declared.guest.GuestStep.TheVariants as answers
-use Rattle.vub_world.specs.declared.guest.Collected.TheVariants as takes
-use Rattle.vub_world.specs.declared.report.items.Item.TheVariants as items
-use Rattle.vub_world.specs.declared.report.items.Record.{Record}
-use Rattle.vub_world.specs.GuestState.{driver_in, seen_in, next_store, Steps, Shows, Collects}
-use Rattle.vub_world.specs.Logs.{offered_in, collected_in, slot_in, Offers}
-use Rattle.vub_world.specs.Machine.{IsSound, LendsSound}
-use Rattle.vub_world.specs.MachineAt.{FrontAt, MachineAt, IsReached, IsStanding, Performs}
-use Rattle.vub_world.specs.Moments.{Moment, opening}
-use Rattle.vub_world.specs.QueueState.{state_of}
-use Rattle.vub_world.specs.TaskState.{after_maybe, with_maybe}
+use Rattle.std.proofs.Common.{◌≡◌, List, [], refl, sym, ap, subst, ◌∙◌}
+use Rattle.std.specs.Prelude.{Some, Result, Ok, Err, OnErr}
+use Rattle.vub_base.specs.declared.request.Ask.{Ask}
+use Rattle.vub_world.specs.declared.guest.Guest.{Guest}
+use Rattle.vub_world.specs.declared.machine.Machine.{Machine}
+use Rattle.vub_world.specs.declared.report.items.Item.{Item}
+use Rattle.vub_world.specs.MachineAt.{MachineAt}
+use Rattle.vub_world.specs.Run.{played}
+use Rattle.vub_world.proofs.MachineGuestAsks.{ask_performs}
 use Rattle.vub_world.proofs.machine.Machine.ask.Goals as goal
 
--- src/machine.rt:304:13
-pub returns-then-not-queue_request-clause-kept : goal.returns-then-not-queue_request-clause-kept
-returns-then-not-queue_request-clause-kept c = ?
+on_err : {A B : Type 0} (r : Result A B) (P : Type 0) → P → OnErr r P
+on_err (Ok x) P p = tt
+on_err (Err e) P p = p
 
--- src/machine.rt:295:5
+pub returns-then-not-queue_request-clause-kept : goal.returns-then-not-queue_request-clause-kept
+returns-then-not-queue_request-clause-kept c =
+    let w : Machine = c.args.self.now in
+    on_err c.idle.result _ (ap (λ (g : Guest). record w { guest = g }) (c.queue_request.ensures.kept c.if-not-queue_request.true))
+
 pub returns-clause-performs : goal.returns-clause-performs
-returns-clause-performs c = ?
+returns-clause-performs c fits es rs m s at =
+    let w : Machine = c.args.self.now in
+    let q = c.queue_request.ensures in
+    let done = ask_performs w c.queue_request.new.self m c.args.shape c.args.ask.now c.queue_request.result c.requires.sound at q.answer c.if-not-queue_request.false q.driver q.position in
+    (done.0, ap (λ (is : List Item). played is done.0) c.nothing.ensures ∙ done.1, subst (λ (a : Ask). MachineAt (record w { guest = c.queue_request.new.self; asked = Some a }) done.0) (sym c.copied.ensures) done.2)
