@@ -2,6 +2,8 @@ pub mod ArmLemmas
 pub mod ChainLemmas
 pub mod ChainReading
 pub mod GuestLemmas
+pub mod MachineBatches
+pub mod MachineDrains
 pub mod MachineGuestAsks
 pub mod MachineGuestCollects
 pub mod MachineGuestFits
@@ -9,7 +11,12 @@ pub mod MachineGuestOffers
 pub mod MachineGuests
 pub mod MachineLemmas
 pub mod MachineLives
+pub mod MachineLoops
 pub mod MachineNotes
+pub mod MachineOpening
+pub mod MachineTurns
+pub mod MachineTurnsNext
+pub mod MachineTurnsWork
 pub mod QueueAtMoves
 pub mod QueueAtRows
 pub mod QueueAtTurns

@@ -99,6 +99,13 @@ taken_life h ring m x xs (Some l) at = (at.0, attached l.queue at.1)
     attached None a = a
     attached (Some q) a = (a.0, a.1, at_collect h ring m.scene.past (m.scene.heads 0) (m.lanes 0).phase (m.lanes 0).batch (m.lanes 0).completed (m.lanes 0).made (state_of q) (next_collected 0 m) a.2)
 
+head_plays : (h : Header1) (m : Moment) (x : ℕ × ℕ) (xs : List (ℕ × ℕ)) (number : ℕ) → number ≡ next_collected 0 m → seen (the_ring h.size) m.scene.memory (h.base + collected m.scene.past 0) ≡ x ∷ xs
+    → played (items.Made (entries.Collect 0 number) ∷ []) (take_first h 0 (x ∷ xs) m).next ≡ collect h 0 m
+head_plays h m x xs number is sees =
+    let next : Moment = (take_first h 0 (x ∷ xs) m).next in
+    let here : played (items.Made (entries.Collect 0 number) ∷ []) next ≡ take_first h 0 (x ∷ xs) m = ap (λ (j : ℕ). played (items.Made (entries.Collect 0 j) ∷ []) next) is in
+    here ∙ sym (ap (λ (ys : List (ℕ × ℕ)). take_first h 0 ys m) sees)
+
 pub head_performs : (w : Machine) (memory : WatchedShared) (guest' : Guest) (log : Log) (es : List Event) (rs : List Record) (m : Moment) (head : ℕ) → Stands w.header es rs m → MachineAt w m → bytes_in memory ≡ bytes_in w.memory
     → used_idx (the_ring w.header.size) (bytes_in w.memory) ≢ seen_in w.guest → head ≡ (element_at (the_ring w.header.size) (bytes_in w.memory) (seen_in w.guest)).0 % 65536
     → driver_in guest' ≡ after_collect head (driver_in w.guest) → seen_in guest' ≡ (seen_in w.guest + 1) % 65536 → TakesOne w.log log
@@ -130,11 +137,11 @@ head_performs w memory guest' log es rs m head s at bytes shown head_is driver p
     let read : (element_at r (bytes_in w.memory) (seen_in w.guest)).0 ≡ x.0 =
     ap (λ (b : Bytes). (element_at r b (seen_in w.guest)).0) at.front.memory ∙ ap (λ (i : ℕ). (element_at r m.scene.memory i).0) at.position ∙ ap (λ (y : ℕ × ℕ). y.0) (same_element r m.scene.memory p) in
     let is_first : head ≡ x.0 = omega (arith, head_is, read, first, low, small) in
-        let number : (slot_in w.log head).number ≡ k = ap (λ (d : ℕ). (slot_in w.log d).number) (is_first ∙ first) ∙ ap (λ (o : Outstanding). o.number) (at.log.slots k there kept) in
+    let number : (slot_in w.log head).number ≡ k = ap (λ (d : ℕ). (slot_in w.log d).number) (is_first ∙ first) ∙ ap (λ (o : Outstanding). o.number) (at.log.slots k there kept) in
     let next : Moment = (take_first h 0 (x ∷ some.0) m).next in
     let room : collected_in w.log < offered_in w.log = omega (arith, at.log.collects_are, at.log.offers_are, t.more, known.fewer, known.offered) in (
       next,
-      ap (λ (j : ℕ). played (items.Made (entries.Collect 0 j) ∷ []) next) number ∙ sym (ap (λ (xs : List (ℕ × ℕ)). take_first h 0 xs m) sees),
+      head_plays h m x some.0 (slot_in w.log head).number number sees,
       record {
         front = record {
           memory = bytes ∙ at.front.memory;

@@ -1,5 +1,5 @@
-use Rattle.std.proofs.Common.{◌≡◌, ◌≤◌, ℕ, ◌+◌, ◌*◌, ◌%◌, sym, ap, ◌∙◌, subst, arith, true, false, refl, lit≤, inl, inr, length}
-use Rattle.std.specs.Prelude.{Option, Some, None, Result, Err, IfOk, [], nat_lt}
+use Rattle.std.proofs.Common.{◌≡◌, ◌≤◌, ℕ, ◌%◌, sym, ap, ◌∙◌, subst, arith, true, refl, lit≤, inl, inr}
+use Rattle.std.specs.Prelude.{Option, Some, None, Err}
 use Rattle.std.specs.Int.{◌∣◌}
 use Rattle.std.proofs.lemmas.Bool.Decides.{nat_tests}
 use Rattle.std.proofs.lemmas.Bool.{cases_eq}
@@ -11,7 +11,6 @@ use Rattle.vub_ring.specs.Ring.{Ring}
 use Rattle.vub_schedule.specs.Spelling.{is_size, IsHeader}
 use Rattle.vub_driver.specs.Layout.{ring_of}
 use Rattle.vub_world.specs.declared.split.SplitRing.{SplitRing}
-use Rattle.vub_world.specs.declared.guest.Guest.{Guest}
 use Rattle.vub_world.specs.declared.machine.Life.{Life}
 use Rattle.vub_world.specs.declared.machine.Machine.{Machine}
 use Rattle.vub_world.specs.Split.{RingLies}

@@ -1,5 +1,15 @@
-use Rattle.std.proofs.Common.{◌≡◌, ◌<◌, ◌≤◌, ℕ, ◌+◌, ◌++◌, List, [], ◌∷◌, length, Bool, true, false, sym, ap, ◌∙◌, subst, arith, refl}
-use Rattle.std.specs.Prelude.{if◌then◌else◌, ◌==◌}
+use Rattle.std.proofs.Common.{◌≡◌, ◌<◌, ◌≤◌, ℕ, ◌+◌, ◌++◌, List, [], ◌∷◌, length, take, get_or, Bool, true, false, sym, ap, ◌∙◌, subst, arith, refl}
+use Rattle.std.specs.Prelude.{zero, suc, if◌then◌else◌, ◌==◌, map, slice_get, option_map, Option, Some, None}
+use Rattle.std.proofs.Math.Seq.{take-length}
+use Rattle.std.proofs.lemmas.List.{map-append, take_more}
+use Rattle.std.proofs.lemmas.Option.{slice_get-get_or, slice_get_within, get_or_from_slice_get}
+use Rattle.vub_device.specs.declared.entry.Answered.{Answered}
+use Rattle.vub_world.specs.declared.log.Log.{Log}
+use Rattle.vub_world.specs.Logs.{slot_in}
+use Rattle.vub_world.specs.Rooms.{RoomState}
+use Rattle.vub_world.specs.QueueState.{QueueState}
+use Rattle.vub_ring.specs.Steps.{next_step}
+use Rattle.vub_ring.specs.declared.steps.Step.TheVariants.{Index}
 use Rattle.vub_base.specs.declared.store.Tag.{Tag}
 use Rattle.vub_base.specs.declared.store.Area.{Area}
 use Rattle.vub_base.specs.declared.store.Area.TheVariants.{M}
@@ -7,17 +17,17 @@ use Rattle.vub_shared.specs.Bytes.{Bytes, cleared}
 use Rattle.vub_shared.specs.Stores.{Store, one_store}
 use Rattle.vub_world.specs.declared.report.items.Item.{Item}
 use Rattle.vub_world.specs.declared.report.items.Item.TheVariants as items
-use Rattle.vub_world.specs.MachineSteps.{IsSmall, OneSmall, stored_items, store_item}
+use Rattle.vub_world.specs.MachineSteps.{IsSmall, OneSmall, stored_items, store_item, answer_for, answers_for, is_index, is_showing, SpendsAnswers, SpendsLists, SpendsUpTo}
 
 -- ---- memory
 
 if_zero : (b : Bool) (x : ℕ) → x ≡ 0 → (if b then 0 else x) ≡ 0
-if_zero true x zero = refl
-if_zero false x zero = zero
+if_zero true x e = refl
+if_zero false x e = e
 
 -- zero bytes stay zero when a space of them is cleared
 pub cleared_zero : (space : ℕ) (m now : Bytes) → ((s p : ℕ) → m s p ≡ 0) → now ≡ cleared space m → (s p : ℕ) → now s p ≡ 0
-cleared_zero space m now zero is s p = ap (λ (f : Bytes). f s p) is ∙ if_zero (s == space) (m s p) (zero s p)
+cleared_zero space m now zeros is s p = ap (λ (f : Bytes). f s p) is ∙ if_zero (s == space) (m s p) (zeros s p)
 
 -- ---- the one store that is kept
 
@@ -44,3 +54,59 @@ one_noted tag area place bytes kept stores o space before after noted same in_gu
     let item : List Item → Area → ℕ → List ℕ → List Item = λ front a p bs. front ++ items.Store tag a p bs ∷ [] in
     is ∙ ap (λ (front : List Item). item front area place kept) goes ∙ ap (λ (a : Area). item noted a place kept) in_guest ∙ ap (λ (p : ℕ). item noted M p kept) place_is ∙ ap (item noted M o.st.place) bytes_is
     ∙ ap (λ (is : List Item). noted ++ is) (sym (one_item stores tag o))
+
+-- ---- the answers of a batch
+
+pub record IsHead (batch : List (ℕ × ℕ)) (i head : ℕ) : Type 0 where
+  pub pair : ℕ × ℕ
+  pub at : slice_get batch i ≡ Some pair
+  pub is : head ≡ pair.0
+
+pub head_of : (batch : List (ℕ × ℕ)) (i head : ℕ) → option_map (λ (x : ℕ × ℕ). x.0) (slice_get batch i) ≡ Some head → IsHead batch i head
+head_of batch i head found = pick (slice_get batch i) refl found
+  where
+    pick : (o : Option (ℕ × ℕ)) → slice_get batch i ≡ o → option_map (λ (x : ℕ × ℕ). x.0) o ≡ Some head → IsHead batch i head
+    pick None at found = absurd (cc found)
+    pick (Some x) at found = record { pair = x; at = at; is = let e : head ≡ x.0 = cc (found) in e }
+
+-- a place within has a head
+pub no_head : (batch : List (ℕ × ℕ)) (i : ℕ) → i < length batch → option_map (λ (x : ℕ × ℕ). x.0) (slice_get batch i) ≡ None → ⊥
+no_head batch i within none =
+    let some : slice_get batch i ≡ Some (get_or batch i (0, 0)) = slice_get-get_or batch i (0, 0) within in
+    let found : Some (get_or batch i (0, 0)).0 ≡ None = ap (option_map (λ (x : ℕ × ℕ). x.0)) (sym some) ∙ none in
+    cc found
+
+pub answers_more : (log : Log) (m : Bytes) (batch : List (ℕ × ℕ)) (i : ℕ) (x : ℕ × ℕ) → slice_get batch i ≡ Some x
+    → answers_for log m (take (i + 1) batch) ≡ answers_for log m (take i batch) ++ answer_for (slot_in log x.0) m x.0 ∷ []
+answers_more log m batch i x at =
+    let f : ℕ × ℕ → Answered = λ (y : ℕ × ℕ). answer_for (slot_in log y.0) m y.0 in
+    let within : i < length batch = slice_get_within batch i x at in
+    let is : get_or batch i x ≡ x = get_or_from_slice_get batch i x x at in
+    let more : take (i + 1) batch ≡ take i batch ++ x ∷ [] = take_more batch i x within ∙ ap (λ (y : ℕ × ℕ). take i batch ++ y ∷ []) is in
+    ap (map f) more ∙ map-append f (take i batch) (x ∷ [])
+
+pub answers_whole : (log : Log) (m : Bytes) (batch : List (ℕ × ℕ)) → answers_for log m (take (length batch) batch) ≡ answers_for log m batch
+answers_whole log m batch =
+    ap (answers_for log m) (take-length batch)
+
+-- one answer more
+pub spends_more : (count : ℕ) (r s t : RoomState) → SpendsAnswers count r s → SpendsLists 1 s t → SpendsAnswers (count + 1) r t
+spends_more count r s t so one = record {
+  items = one.items ∙ so.items;
+  item_room = one.item_room ∙ so.item_room;
+  lists_left = omega (arith, so.lists_left, one.lists_left);
+  answer_lists = ap (λ (k : ℕ). k + 1) one.answer_lists ∙ so.answer_lists;
+  answers = one.answers ∙ so.answers;
+}
+
+-- what the next step shows
+pub spends_up : (q : QueueState) (r now : RoomState) → next_step (length q.batch) q.phase ≡ Some Index → (is_showing q ≡ true → 1 ≤ length q.batch) → SpendsAnswers (length q.batch) r now
+    → SpendsUpTo (if is_showing q then length q.batch else 0) r now
+spends_up q r now next some spends =
+    let shows : is_showing q ≡ true = ap is_index next in
+    let here : length q.batch ≡ (if is_showing q then length q.batch else 0) = ap (λ (b : Bool). if b then length q.batch else 0) (sym shows) in
+    subst (λ (k : ℕ). SpendsUpTo k r now) here (up (length q.batch) (some shows) spends)
+  where
+    up : (count : ℕ) → 1 ≤ count → SpendsAnswers count r now → SpendsUpTo count r now
+    up zero one so = absurd (let e : ⊥ = omega (arith, one) in e)
+    up (suc count) one so = so

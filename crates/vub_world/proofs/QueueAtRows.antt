@@ -363,7 +363,7 @@ abbrev pub ShowsNext : QueueState → Type 0
 ShowsNext q = next_step (length q.batch) q.phase ≡ Some steps.Index
 
 -- a queue whose next step shows its batch goes on
-shows_goes : (p : Phase) (n : ℕ) → next_step n p ≡ Some steps.Index → is_publication p ≡ true
+pub shows_goes : (p : Phase) (n : ℕ) → next_step n p ≡ Some steps.Index → is_publication p ≡ true
 shows_goes phases.Rest n next = absurd (let fails : None ≡ Some steps.Index = next in cc)
 shows_goes (phases.Start done) n next = absurd (no_start done next)
   where

@@ -7,7 +7,6 @@ use Rattle.vub_schedule.specs.declared.types.Event.{Event}
 use Rattle.vub_world.specs.declared.report.items.Record.{Record}
 use Rattle.vub_world.specs.contracts.machine.Machine.{the_row}
 use Rattle.vub_world.specs.MachineAt.{IsStanding, StandsOn}
-use Rattle.vub_base.specs.declared.header.Header1.{Header1}
 use Rattle.vub_shared.specs.Watched as watched
 use Rattle.vub_schedule.specs.Spelling.{IsHeader}
 use Rattle.vub_memdisk.specs.MemDisks.{capacity_of}

@@ -229,6 +229,15 @@ abbrev pub shown_in : Option Life → ℕ
 shown_in None = 0
 shown_in (Some l) = queue_shows l.queue
 
+-- a batch that its next step shows isn't empty
+abbrev pub QueueShowsSome : Option Queue → Type 0
+QueueShowsSome None = ⊤
+QueueShowsSome (Some q) = is_showing (state_of q) ≡ true → 1 ≤ length (state_of q).batch
+
+abbrev pub ShowsSome : Option Life → Type 0
+ShowsSome None = ⊤
+ShowsSome (Some l) = QueueShowsSome l.queue
+
 abbrev pub has_queue : Option Queue → Bool
 has_queue None = true
 has_queue (Some q) = false

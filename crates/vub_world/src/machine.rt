@@ -93,7 +93,7 @@ impl Machine {
     ghost use Rattle.vub_world.specs.Logs.{offered_in, collected_in, slot_in, Offers};
     ghost use Rattle.vub_world.specs.Machine.{IsSound, LendsSound};
     ghost use Rattle.vub_world.specs.MachineAt.{FrontAt, MachineAt, IsReached, IsStanding, Performs};
-    ghost use Rattle.vub_world.specs.MachineSteps.{FrontFits, OneSmall, GuestSteps, GuestGoes, TurnGoes, DrainSteps, DrainGoes, HasTurnRoom, HasDrainRoom, BatchFits, StoreFits, SectorFits, IsEntry, Spends, SpendsAnswers, SpendsUpTo, SpendsTurn, SpendsStep, stored_items, head_shown, is_joining, answer_for, answers_for, answers_shown, batch_in, shown_in, noted, next_turn};
+    ghost use Rattle.vub_world.specs.MachineSteps.{FrontFits, OneSmall, GuestSteps, GuestGoes, TurnGoes, DrainSteps, DrainGoes, HasTurnRoom, HasDrainRoom, BatchFits, ShowsSome, StoreFits, SectorFits, IsEntry, Spends, SpendsAnswers, SpendsUpTo, SpendsTurn, SpendsStep, stored_items, head_shown, is_joining, answer_for, answers_for, answers_shown, batch_in, shown_in, noted, next_turn};
     ghost use Rattle.vub_world.specs.Moments.{Moment, opening};
     ghost use Rattle.vub_world.specs.QueueState.{state_of};
     ghost use Rattle.vub_world.specs.Run.{Stands};
@@ -431,6 +431,7 @@ impl Machine {
     fn answers(&self, room: &mut Room) -> Vec<Answered>
         requires sound { IsSound self.now }
         requires fits { BatchFits self.now.log (batch_in self.now.life) }
+        requires some { ShowsSome self.now.life }
         requires room { HasTurnRoom (length (batch_in self.now.life)) room.old }
         ensures answers { result.items ≡ answers_shown self.now.log (bytes_in self.now.memory) self.now.life }
         ensures room { SpendsUpTo (shown_in self.now.life) room.old room.new }

@@ -1,0 +1,109 @@
+-- What a step that shows a batch needs to know of it.
+use Rattle.std.proofs.Common.{◌≡◌, ◌≤◌, ◌<◌, ℕ, true, false, List, [], ◌++◌, length, refl, ap, sym, ◌∙◌, arith}
+use Rattle.std.specs.Prelude.{Bool, ◌||◌, Option, Some, None, map, slice_get, slice_index, option_map}
+use Rattle.std.proofs.lemmas.List.{length-map}
+use Rattle.std.proofs.lemmas.Option.{slice_get-map}
+use Rattle.vub_device.proofs.Numbers.{is_among_append}
+use Rattle.vub_base.specs.declared.header.Header1.{Header1}
+use Rattle.vub_ring.specs.declared.steps.Phase.{Phase}
+use Rattle.vub_ring.specs.declared.steps.Phase.TheVariants as phases
+use Rattle.vub_ring.specs.Steps.{next_step}
+use Rattle.vub_device.specs.declared.entry.Asked.{Asked}
+use Rattle.vub_device.specs.declared.entry.Asked.TheVariants as asks
+use Rattle.vub_device.specs.Past.{asked, is_among}
+use Rattle.vub_world.specs.declared.log.Log.{Log}
+use Rattle.vub_world.specs.declared.log.Outstanding.{Outstanding}
+use Rattle.vub_world.specs.declared.machine.Life.{Life}
+use Rattle.vub_world.specs.declared.machine.Machine.{Machine}
+use Rattle.vub_world.specs.declared.queue.Queue.{Queue}
+use Rattle.vub_world.specs.declared.split.SplitRing.{SplitRing}
+use Rattle.vub_world.specs.Logs.{slot_in}
+use Rattle.vub_world.specs.MachineAt.{MachineAt, LifeAt, AttachedAt, LogAt, reads_of}
+use Rattle.vub_world.specs.MachineSteps.{BatchFits, ShowsSome, QueueShowsSome, batch_in, queue_batch, is_index, is_showing}
+use Rattle.vub_world.specs.Moments.{Moment}
+use Rattle.vub_world.specs.QueueAt.{QueueStands, spot_of}
+use Rattle.vub_world.specs.QueueState.{QueueState, state_of}
+use Rattle.vub_world.proofs.RunFrames.{open_out}
+use Rattle.vub_world.proofs.RunGood.{IsSimple, PhaseIs, IsOut}
+use Rattle.vub_world.proofs.RunNumbers.{among_get}
+use Rattle.vub_world.proofs.RunTurns.{Good}
+
+-- ---- a batch that is shown isn't empty
+
+phase_shows : (batch : List ℕ) (count : ℕ) (phase : Phase) → PhaseIs batch phase → is_index (next_step count phase) ≡ true → 0 < length batch
+phase_shows batch count phases.Rest is shows = absurd (cc shows)
+phase_shows batch count (phases.Start done) is shows = absurd is
+phase_shows batch count (phases.Fetch done) is shows = absurd is
+phase_shows batch count (phases.Publish done) is shows = is.0
+
+pub queue_shows_some : (h : Header1) (r : SplitRing) (m : Moment) (q : QueueState) → Good h m → QueueStands h r m q → is_showing q ≡ true → 1 ≤ length q.batch
+queue_shows_some h r m q good at shows =
+    let lane = m.lanes 0 in
+    let here : is_index (next_step (length q.batch) lane.phase) ≡ true = ap (λ (p : Phase). is_index (next_step (length q.batch) p)) (sym at.phase) ∙ shows in
+    let some : 0 < length lane.batch = phase_shows lane.batch (length q.batch) lane.phase good.holds.worked.phase_is here in
+    let long : length q.batch ≡ length lane.batch = ap length at.batch ∙ length-map lane.batch (spot_of h m.scene.past (m.scene.heads 0)) in
+    omega (arith, some, long)
+
+pub shows_some : (w : Machine) (m : Moment) → Good w.header m → MachineAt w m → ShowsSome w.life
+shows_some w m good at = go w.life at.life
+  where
+    of_queue : (queue : Option Queue) → AttachedAt w.header w.ring m queue → QueueShowsSome queue
+    of_queue None here = tt
+    of_queue (Some q) here = queue_shows_some w.header w.ring m (state_of q) good here.2
+    go : (life : Option Life) → LifeAt w.header w.ring m life → ShowsSome life
+    go None here = tt
+    go (Some l) here = of_queue l.queue here.1
+
+-- ---- its heads
+
+or_right : (a b : Bool) → b ≡ true → (a || b) ≡ true
+or_right true b is = refl
+or_right false b is = is
+
+among_right : (xs ys : List ℕ) (k : ℕ) → is_among ys k ≡ true → is_among (xs ++ ys) k ≡ true
+among_right xs ys k is = is_among_append xs ys k ∙ or_right (is_among xs k) (is_among ys k) is
+
+one_read : (cap : ℕ) (r : Option Asked) → IsSimple cap r → reads_of r ≤ 1
+one_read cap (Some (asks.Read s c)) is = omega (arith, is.1)
+one_read cap (Some (asks.Write s bytes)) is = omega arith
+one_read cap (Some asks.Flush) is = absurd is
+one_read cap (Some asks.Id) is = absurd is
+one_read cap (Some (asks.Discard parts)) is = absurd is
+one_read cap (Some (asks.Zero parts)) is = absurd is
+one_read cap None is = absurd is
+
+pub queue_batch_fits : (h : Header1) (r : SplitRing) (m : Moment) (q : QueueState) (log : Log) → h.size ≤ 64 → Good h m → QueueStands h r m q → LogAt h.size m.scene.past (m.scene.heads 0) log → BatchFits log q.batch
+queue_batch_fits h r m q log small good at numbered i x found =
+    let lane = m.lanes 0 in
+    let past = m.scene.past in
+    let heads = m.scene.heads 0 in
+    let spots : slice_get (map (spot_of h past heads) lane.batch) i ≡ Some x = ap (λ (xs : List (ℕ × ℕ)). slice_get xs i) (sym at.batch) ∙ found in
+    let mapped : option_map (spot_of h past heads) (slice_get lane.batch i) ≡ Some x = sym (slice_get-map (spot_of h past heads) lane.batch i) ∙ spots in
+    pick (slice_get lane.batch i) refl mapped
+  where
+    pick : (o : Option ℕ) → slice_get (m.lanes 0).batch i ≡ o → option_map (spot_of h m.scene.past (m.scene.heads 0)) o ≡ Some x → (x.0 < 64) × ((slot_in log x.0).reads ≤ 1)
+    pick None here is = absurd (cc is)
+    pick (Some k) here is =
+        let past = m.scene.past in
+        let heads = m.scene.heads 0 in
+        let holds = good.holds in
+        let same : spot_of h past heads k ≡ x = cc is in
+        let head : x.0 ≡ slice_index heads k = sym (ap (λ (y : ℕ × ℕ). y.0) same) in
+        let among : is_among ((m.lanes 0).completed ++ (m.lanes 0).batch) k ≡ true = among_right (m.lanes 0).completed (m.lanes 0).batch k (among_get (m.lanes 0).batch i k here) in
+        let out : IsOut past heads k = open_out h.size h.capacity past heads k holds.known (holds.worked.opens k among) in
+        let below : slice_index heads k < h.size = holds.driven.below k out in
+        let slot : (slot_in log x.0).reads ≡ reads_of (asked past 0 k) = ap (λ (d : ℕ). (slot_in log d).reads) head ∙ ap (λ (o : Outstanding). o.reads) (numbered.slots k out.below out.kept) in
+        let few : reads_of (asked past 0 k) ≤ 1 = one_read h.capacity (asked past 0 k) (holds.known.simple k out.below) in
+        (omega (arith, below, head, small), omega (arith, slot, few))
+
+pub batch_fits : (w : Machine) (m : Moment) → w.header.size ≤ 64 → Good w.header m → MachineAt w m → BatchFits w.log (batch_in w.life)
+batch_fits w m small good at = go w.life at.life
+  where
+    none_fits : BatchFits w.log []
+    none_fits i x found = absurd (cc found)
+    of_queue : (queue : Option Queue) → AttachedAt w.header w.ring m queue → BatchFits w.log (queue_batch queue)
+    of_queue None here = none_fits
+    of_queue (Some q) here = queue_batch_fits w.header w.ring m (state_of q) w.log small good here.2 at.log
+    go : (life : Option Life) → LifeAt w.header w.ring m life → BatchFits w.log (batch_in life)
+    go None here = none_fits
+    go (Some l) here = of_queue l.queue here.1

@@ -1,0 +1,234 @@
+-- How much a drain publishes, and how much room its items need.
+use Rattle.std.proofs.Common.{◌≡◌, ◌≤◌, ◌<◌, ℕ, zero, suc, ◌+◌, ◌-◌, ◌*◌, Bool, true, false, not, cond, List, [], ◌∷◌, ◌++◌, length, map, refl, ap, sym, ◌∙◌, subst, inl, inr, arith, length-append}
+use Rattle.std.specs.Prelude.{◌||◌, if◌then◌else◌, Option, Some, None, take, slice_get, nat_lt, min, ⊤}
+use Rattle.std.proofs.lemmas.Bool.Decides.{nat_tests}
+use Rattle.std.proofs.lemmas.Bool.{cases_Bool}
+use Rattle.vub_base.specs.declared.header.Header1.{Header1}
+use Rattle.vub_ring.specs.declared.steps.Phase.{Phase}
+use Rattle.vub_ring.specs.declared.steps.Phase.TheVariants as phases
+use Rattle.vub_ring.specs.declared.steps.Step.{Step}
+use Rattle.vub_ring.specs.declared.steps.Step.TheVariants as steps
+use Rattle.vub_ring.specs.declared.readiness.Standing.{Standing}
+use Rattle.vub_ring.specs.declared.readiness.Turn.{Turn}
+use Rattle.vub_ring.specs.declared.readiness.Turn.TheVariants as turns
+use Rattle.vub_ring.specs.Readiness.{is_ready, is_publication, any_turn, drain_turn, work_or_publish}
+use Rattle.vub_ring.specs.Rows.{Row, row_of}
+use Rattle.vub_ring.specs.Ring.{used_idx}
+use Rattle.vub_ring.specs.Steps.{next_step}
+use Rattle.vub_driver.specs.Layout.{ring_of}
+use Rattle.vub_device.specs.declared.entry.Asked.{Asked}
+use Rattle.vub_device.specs.declared.entry.Entry.{Entry}
+use Rattle.vub_device.specs.declared.entry.SectorValue.{SectorValue}
+use Rattle.vub_device.specs.Past.{asked, accepted, published, collected, is_among, missing_below, open_numbers, started, numbers}
+use Rattle.vub_device.specs.Places.{are_distinct}
+use Rattle.vub_device.specs.Requests.{look_at, effect_at}
+use Rattle.vub_device.proofs.Numbers.{is_among_append}
+use Rattle.vub_world.specs.MachineSteps.{is_index}
+use Rattle.vub_world.specs.Memory.{Scene, after_items}
+use Rattle.vub_world.specs.Moments.{Lane, Moment, standing, unfinished, buffer_of}
+use Rattle.vub_world.specs.Run.{one_turn}
+use Rattle.vub_world.specs.Tasks.{TaskStep, Look, Put, Act, Sync, Status, task_steps, look_items, act_items}
+use Rattle.vub_world.specs.Turns.{turned, work_turn, request_turn, task_turn, phase_turn, phase_goes_on, under_way, begun, is_rest, row_items, step_stores, element_of, answer_at}
+use Rattle.vub_world.proofs.RunNumbers.{missing-among, distinct_join, few_below}
+use Rattle.vub_world.proofs.RunGood.{Known, Worked}
+use Rattle.vub_world.proofs.RunEfforts.{weight, sum_below, phase_left, effort, weight_small}
+use Rattle.vub_world.proofs.RunEnds.{effort_at, missing_distinct}
+use Rattle.vub_world.proofs.RunPublications.{numbers_answers}
+use Rattle.vub_world.proofs.RunTurns.{IsPlain, Good, phase_cases}
+
+-- ---- how many answers a turn shows
+
+abbrev count_in : Scene → ℕ
+count_in s = length (published s.past 0)
+
+look_shows : (size k : ℕ) (s : Scene) (o : Option ℕ) → count_in (after_items size (look_items 0 k s.past o) s) ≡ count_in s
+look_shows size k s None = refl
+look_shows size k s (Some sector) = refl
+
+act_shows : (size k : ℕ) (s : Scene) (o : Option SectorValue) → count_in (after_items size (act_items 0 k o) s) ≡ count_in s
+act_shows size k s None = refl
+act_shows size k s (Some x) = refl
+
+task_shows : (h : Header1) (s : Scene) (l : Lane) (k : ℕ) (r : Asked) (o : Option TaskStep) → count_in (after_items h.size (task_turn h 0 s l k r o).items s) ≡ count_in s
+task_shows h s l k r None = refl
+task_shows h s l k r (Some (Look place)) = look_shows h.size k s (look_at r place)
+task_shows h s l k r (Some (Put place)) = refl
+task_shows h s l k r (Some (Act place)) = act_shows h.size k s (effect_at r place)
+task_shows h s l k r (Some Sync) = refl
+task_shows h s l k r (Some Status) = refl
+
+request_shows : (h : Header1) (s : Scene) (l : Lane) (k : ℕ) (o : Option Asked) → count_in (after_items h.size (request_turn h 0 s l k o).items s) ≡ count_in s
+request_shows h s l k None = refl
+request_shows h s l k (Some r) = task_shows h s l k r (slice_get (task_steps h r) (l.made k))
+
+work_shows : (h : Header1) (s : Scene) (l : Lane) (o : Option ℕ) → count_in (after_items h.size (work_turn h 0 s l o).items s) ≡ count_in s
+work_shows h s l None = refl
+work_shows h s l (Some k) = request_shows h s l k (asked s.past 0 k)
+
+-- how many answers the next step of a phase shows
+abbrev pub shown_by : ℕ → Phase → ℕ
+shown_by batch p = if is_index (next_step batch p) then batch else 0
+
+abbrev step_shown : ℕ → Option Step → ℕ
+step_shown batch o = if is_index o then batch else 0
+
+row_shows : (size : ℕ) (s : Scene) (o : Option Row) → count_in (after_items size (row_items o ++ []) s) ≡ count_in s
+row_shows size s None = refl
+row_shows size s (Some x) = refl
+
+step_shows : (h : Header1) (s : Scene) (l : Lane) (step : Step) → count_in (after_items h.size (phase_turn h 0 s l (Some step)).items s) ≡ count_in s + step_shown (length l.batch) (Some step)
+step_shows h s l steps.Start = omega arith
+step_shows h s l steps.Accept = omega arith
+step_shows h s l (steps.Id e) = row_shows h.size s (row_of (ring_of 0 h.size) (used_idx (ring_of 0 h.size) s.memory) (map (element_of h 0 s) l.batch) (steps.Id e)) ∙ omega arith
+step_shows h s l (steps.Len e) = row_shows h.size s (row_of (ring_of 0 h.size) (used_idx (ring_of 0 h.size) s.memory) (map (element_of h 0 s) l.batch) (steps.Len e)) ∙ omega arith
+step_shows h s l steps.Index =
+    let s' : Scene = after_items h.size (step_stores h 0 l.batch steps.Index s) s in
+    length-append (published s.past 0) (numbers (map (answer_at 0 s') l.batch)) ∙ ap (λ (ks : List ℕ). length (published s.past 0) + length ks) (numbers_answers s' l.batch)
+
+phase_shows : (h : Header1) (s : Scene) (l : Lane) (o : Option Step) → count_in (after_items h.size (phase_turn h 0 s l o).items s) ≡ count_in s + step_shown (length l.batch) o
+phase_shows h s l None = omega arith
+phase_shows h s l (Some step) = step_shows h s l step
+
+-- a turn that isn't work on a request
+abbrev IsOfQueue : Turn → Type 0
+IsOfQueue (turns.Work place) = ⊥
+IsOfQueue t = ⊤
+
+begun_shows : (most : ℕ) (l : Lane) → l.batch ≡ [] → step_shown (length (take most l.completed)) (next_step (length (take most l.completed)) (phases.Publish 0)) ≡ 0
+begun_shows most l none = go (length (take most l.completed))
+  where
+    go : (n : ℕ) → step_shown n (next_step n (phases.Publish 0)) ≡ 0
+    go zero = refl
+    go (suc n) = refl
+
+rests : (h : Header1) (s : Scene) (l : Lane) (t : Turn) → IsOfQueue t → is_rest l.phase ≡ true → l.batch ≡ [] → count_in (after_items h.size (phase_goes_on h 0 s (under_way t l)).items s) ≡ count_in s
+rests h s l t of_queue rest none = subst (λ (b : Bool). count_in (after_items h.size (phase_goes_on h 0 s (if b then begun t l else l)).items s) ≡ count_in s) (sym rest) (go t of_queue)
+  where
+    go : (t : Turn) → IsOfQueue t → count_in (after_items h.size (phase_goes_on h 0 s (begun t l)).items s) ≡ count_in s
+    go turns.Start is = refl
+    go turns.Fetch is = refl
+    go (turns.Publish most) is =
+        phase_shows h s (begun (turns.Publish most) l) (next_step (length (take most l.completed)) (phases.Publish 0)) ∙ (let none' = begun_shows most l none in omega (arith, none'))
+    go (turns.Work place) is = absurd is
+
+goes_on : (h : Header1) (s : Scene) (l : Lane) (t : Turn) → is_rest l.phase ≡ false → count_in (after_items h.size (phase_goes_on h 0 s (under_way t l)).items s) ≡ count_in s + shown_by (length l.batch) l.phase
+goes_on h s l t busy =
+    subst (λ (b : Bool). count_in (after_items h.size (phase_goes_on h 0 s (if b then begun t l else l)).items s) ≡ count_in s + shown_by (length l.batch) l.phase) (sym busy)
+    (phase_shows h s l (next_step (length l.batch) l.phase))
+
+either : (P : Turn → Type 0) (b : Bool) (t u : Turn) → P t → P u → P (if b then t else u)
+either P true t u p q = p
+either P false t u p q = q
+
+-- while a batch is published a drain works on no request
+publishing_turn : (size taken : ℕ) (st : Standing) → is_publication st.phase ≡ true → IsOfQueue (drain_turn size taken st)
+publishing_turn size taken st publishes =
+    let rest : (n : Turn) → IsOfQueue (if is_publication st.phase then turns.Publish size else n) =
+    λ n. subst (λ (b : Bool). IsOfQueue (if b then turns.Publish size else n)) (sym publishes) tt in
+    either IsOfQueue (nat_lt taken size) (any_turn size st) _ (either IsOfQueue (not st.started) turns.Start _ tt (rest _)) (rest _)
+
+-- the turn of a drain publishes as many as its next step shows
+pub drain_shows : (h : Header1) (m : Moment) (taken : ℕ) → Good h m → (t : Turn) → t ≡ drain_turn h.size taken (standing h 0 m)
+    → length (published (one_turn h 0 t m).next.scene.past 0) ≡ length (published m.scene.past 0) + shown_by (length (m.lanes 0).batch) (m.lanes 0).phase
+drain_shows h m taken good t is = elim (phase_cases l.batch l.phase good.holds.worked.phase_is) [
+  | inl rest ↦
+      let none : shown_by (length l.batch) l.phase ≡ 0 = ap (λ (p : Phase). shown_by (length l.batch) p) rest.0 in
+      let same : count_in (after_items h.size (turned h 0 t m).items s) ≡ count_in s = resting t (ap is_rest rest.0) rest.1 in
+      omega (arith, none, same)
+  | inr shows ↦ publishes t (subst IsOfQueue (sym is) (publishing_turn h.size taken (standing h 0 m) (ap is_publication shows.1))) (ap is_rest shows.1)
+]
+  where
+    s : Scene
+    s = m.scene
+
+    l : Lane
+    l = m.lanes 0
+
+    resting : (t : Turn) → is_rest l.phase ≡ true → l.batch ≡ [] → count_in (after_items h.size (turned h 0 t m).items s) ≡ count_in s
+    resting turns.Start rest none = rests h s l turns.Start tt rest none
+    resting turns.Fetch rest none = rests h s l turns.Fetch tt rest none
+    resting (turns.Publish most) rest none = rests h s l (turns.Publish most) tt rest none
+    resting (turns.Work place) rest none = work_shows h s l (slice_get (unfinished 0 m) place)
+
+    publishes : (t : Turn) → IsOfQueue t → is_rest l.phase ≡ false → count_in (after_items h.size (turned h 0 t m).items s) ≡ count_in s + shown_by (length l.batch) l.phase
+    publishes turns.Start of_queue busy = goes_on h s l turns.Start busy
+    publishes turns.Fetch of_queue busy = goes_on h s l turns.Fetch busy
+    publishes (turns.Publish most) of_queue busy = goes_on h s l (turns.Publish most) busy
+    publishes (turns.Work place) of_queue busy = absurd of_queue
+
+-- ---- how much is left to do, by how many requests are offered and not published
+
+weight_done : (gone done : List ℕ) (made : ℕ → ℕ) (k : ℕ) → is_among (gone ++ done) k ≡ true → weight gone done made k ≡ 0
+weight_done gone done made k held =
+    let joined : is_among (gone ++ done) k ≡ (is_among gone k || is_among done k) = is_among_append gone done k in
+    grind (arith, nat_tests)
+
+sum_left : (gone done : List ℕ) (made : ℕ → ℕ) (a : ℕ) → sum_below (weight gone done made) a ≤ 6 * length (missing_below (gone ++ done) a)
+sum_left gone done made zero = omega arith
+sum_left gone done made (suc a) =
+    let rest : sum_below (weight gone done made) a ≤ 6 * length (missing_below (gone ++ done) a) = sum_left gone done made a in
+    elim (cases_Bool (is_among (gone ++ done) a)) [
+      | inl there ↦
+          let none : weight gone done made a ≡ 0 = weight_done gone done made a there in
+          let same : missing_below (gone ++ done) (suc a) ≡ missing_below (gone ++ done) a = grind (arith, nat_tests) in
+          omega (arith, none, ap (λ (xs : List ℕ). length xs) same)
+      | inr out ↦
+          let more : missing_below (gone ++ done) (suc a) ≡ missing_below (gone ++ done) a ++ a ∷ [] = grind (arith, nat_tests) in
+          omega (arith, weight_small gone done made a, ap (λ (xs : List ℕ). length xs) more, length-append (missing_below (gone ++ done) a) (a ∷ []))
+    ]
+
+-- published, completed and left are no more than were accepted
+all_few : (n cap : ℕ) (past : List Entry) (heads : List ℕ) (phase : Phase) (batch completed : List ℕ) (made : ℕ → ℕ) → Known n cap past heads → Worked past phase batch completed made
+    → length (published past 0) + (length completed + length batch) + length (missing_below (published past 0 ++ (completed ++ batch)) (accepted past 0)) ≤ accepted past 0
+all_few n cap past heads phase batch completed made known w =
+    let ps : List ℕ = published past 0 in
+    let ds : List ℕ = completed ++ batch in
+    let a : ℕ = accepted past 0 in
+    let ls : List ℕ = missing_below (ps ++ ds) a in
+    let d : are_distinct (ps ++ ds) ≡ true = distinct_join ps ds known.distinct w.distinct (λ k held. (w.opens k held).unpublished) in
+    let e : are_distinct ((ps ++ ds) ++ ls) ≡ true = distinct_join (ps ++ ds) ls d (missing_distinct (ps ++ ds) a) (λ k held. (missing-among (ps ++ ds) a k held).1) in
+    let few : length ((ps ++ ds) ++ ls) ≤ a = few_below ((ps ++ ds) ++ ls) a e (λ k held. elim (cases_Bool (is_among ls k)) [
+      | inl there ↦ (missing-among (ps ++ ds) a k there).0
+      | inr out ↦ elim (cases_Bool (is_among ds k)) [
+        | inl there ↦ (w.opens k there).taken
+        | inr not_done ↦ known.below k (
+            let joined : is_among ((ps ++ ds) ++ ls) k ≡ (is_among (ps ++ ds) k || is_among ls k) = is_among_append (ps ++ ds) ls k in
+            let front : is_among (ps ++ ds) k ≡ (is_among ps k || is_among ds k) = is_among_append ps ds k in
+            grind (arith, nat_tests))
+      ]
+    ]) in
+    omega (arith, few, length-append (ps ++ ds) ls, length-append ps ds, length-append completed batch)
+
+phase_few : (batch : List ℕ) (phase : Phase) → phase_left batch phase ≤ 2 * length batch + 1
+phase_few batch phases.Rest = omega arith
+phase_few batch (phases.Start done) = omega arith
+phase_few batch (phases.Fetch done) = omega arith
+phase_few batch (phases.Publish done) = omega arith
+
+start_few : (b : Bool) → cond {A = ℕ} b 0 1 ≤ 1
+start_few true = omega arith
+start_few false = omega arith
+
+-- the requests that are offered and not published
+abbrev pub undone : Moment → ℕ
+undone m = length (m.scene.heads 0) - length (published m.scene.past 0)
+
+pub effort_bound : (h : Header1) (m : Moment) → Good h m → effort_at m ≤ 7 * undone m + 2
+effort_bound h m good =
+    let s : Scene = m.scene in
+    let l : Lane = m.lanes 0 in
+    let known : Known h.size h.capacity s.past (s.heads 0) = good.holds.known in
+    let offered : accepted s.past 0 ≤ length (s.heads 0) = known.offered in
+    let all = all_few h.size h.capacity s.past (s.heads 0) l.phase l.batch l.completed l.made known good.holds.worked in
+    let sum = sum_left (published s.past 0) (l.completed ++ l.batch) l.made (accepted s.past 0) in
+    let stores = phase_few l.batch l.phase in
+    let begins = start_few (started s.past 0) in
+    omega (arith, all, sum, stores, begins)
+
+-- what a batch shows is not published yet
+pub batch_undone : (h : Header1) (m : Moment) → Good h m → length (m.lanes 0).batch ≤ undone m
+batch_undone h m good =
+    let known = good.holds.known in
+    let offered : accepted m.scene.past 0 ≤ length (m.scene.heads 0) = known.offered in
+    let all = all_few h.size h.capacity m.scene.past (m.scene.heads 0) (m.lanes 0).phase (m.lanes 0).batch (m.lanes 0).completed (m.lanes 0).made known good.holds.worked in
+    omega (arith, all, offered)

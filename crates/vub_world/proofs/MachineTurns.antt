@@ -1,0 +1,413 @@
+-- A turn of the device at a moment of a run: start, fetch and publication.
+use Rattle.std.proofs.Common.{◌≡◌, ◌≢◌, ◌≤◌, ◌<◌, ◌⊎◌, ℕ, ◌+◌, ◌*◌, ◌%◌, Bool, true, false, List, [], ◌∷◌, ◌++◌, length, map, cond, refl, ap, sym, ◌∙◌, subst, inl, inr, arith}
+use Rattle.std.specs.Prelude.{Option, Some, None, Result, Ok, unwrap_or, option_map, slice_index, slice_get, nat_lt, ◌==◌, ◌||◌, ⊤}
+use Rattle.std.proofs.lemmas.Bool.{cases_Bool}
+use Rattle.std.proofs.lemmas.Bool.Decides.{nat_tests}
+use Rattle.byteorder.specs.Endian.{little_bytes}
+use Rattle.vub_base.specs.declared.header.Header1.{Header1}
+use Rattle.vub_base.specs.declared.store.Tag.{Tag}
+use Rattle.vub_base.specs.declared.store.Tag.TheVariants.{SP5}
+use Rattle.vub_base.specs.declared.store.Area.TheVariants.{M}
+use Rattle.vub_shared.specs.Bytes.{Bytes, put, bytes_from}
+use Rattle.vub_shared.specs.Stores.{Store, Stores, Trails, after_store, after_in_trail}
+use Rattle.vub_shared.proofs.BytesLemmas.{put_other, bytes_from-put_other}
+use Rattle.vub_disk.specs.Values.{Values}
+use Rattle.vub_ring.specs.declared.steps.Phase.{Phase}
+use Rattle.vub_ring.specs.declared.steps.Phase.TheVariants as phases
+use Rattle.vub_ring.specs.declared.readiness.Standing.{Standing}
+use Rattle.vub_ring.specs.declared.readiness.Turn.{Turn}
+use Rattle.vub_ring.specs.declared.readiness.Turn.TheVariants as turns
+use Rattle.vub_ring.specs.declared.steps.Step.{Step}
+use Rattle.vub_ring.specs.declared.steps.Step.TheVariants as steps
+use Rattle.vub_ring.specs.Readiness.{is_ready, is_publication}
+use Rattle.vub_ring.specs.Ring.{used_idx_place}
+use Rattle.vub_ring.specs.Rows.{Row, row, row_of}
+use Rattle.vub_ring.specs.Steps.{next_step}
+use Rattle.vub_driver.specs.Layout.{area_place, buffer_place, status_place, sectors_place}
+use Rattle.vub_device.specs.declared.entry.Answered.{Answered}
+use Rattle.vub_device.specs.declared.entry.Asked.{Asked}
+use Rattle.vub_device.specs.declared.entry.Asked.TheVariants as asks
+use Rattle.vub_device.specs.declared.entry.Entry.{Entry}
+use Rattle.vub_device.specs.declared.entry.Entry.TheVariants as entries
+use Rattle.vub_device.specs.Past.{asked, accepted, published, collected, is_among}
+use Rattle.vub_device.proofs.Numbers.{is_among_append}
+use Rattle.vub_world.specs.declared.log.Log.{Log}
+use Rattle.vub_world.specs.declared.log.Outstanding.{Outstanding}
+use Rattle.vub_world.specs.declared.report.items.Item.{Item}
+use Rattle.vub_world.specs.declared.report.items.Item.TheVariants as items
+use Rattle.vub_world.specs.declared.queue.Stepped.{Stepped}
+use Rattle.vub_world.specs.declared.queue.Stepped.TheVariants as says
+use Rattle.vub_world.specs.declared.split.SplitRing.{SplitRing}
+use Rattle.vub_world.specs.declared.task.Task.{Task}
+use Rattle.vub_world.specs.Logs.{slot_in}
+use Rattle.vub_world.specs.MachineAt.{LogAt, reads_of}
+use Rattle.vub_world.specs.MachineSteps.{IsSmall, OneSmall, Device, DeviceAt, TurnMade, DeviceTurns, StoreFits, SectorFits, answer_for, answers_for, noted, stored_items, shown_of, is_showing, is_index, accepts, number_at}
+use Rattle.vub_world.specs.Memory.{Scene, after_items}
+use Rattle.vub_world.specs.Moments.{Lane, Moment, standing}
+use Rattle.vub_world.specs.QueueAt.{spot_of, QueueStands, IsMainRing, DiskAt}
+use Rattle.vub_world.specs.QueueState as states
+use Rattle.vub_world.specs.QueueState.{QueueState, row_at, row_if, next_row, used_side, publishes, publish_row, StoresRow, TrailsRow, Turns, DoesStore, DoesTrail, DoesDisk, IsDue, IfStepped, WorksOut, outcome, is_idle, is_fault}
+use Rattle.vub_world.specs.Run.{one_turn}
+use Rattle.vub_world.specs.TaskState.{Making}
+use Rattle.vub_world.specs.Turns.{turned, answer_len, answer_at}
+use Rattle.vub_world.proofs.RunNumbers.{not_among-take}
+use Rattle.vub_world.proofs.RunFrames.{open_out, length_little}
+use Rattle.vub_world.proofs.RunGood.{IsSimple, IsOut, PhaseIs}
+use Rattle.vub_world.proofs.RunPhases.{some_waits}
+use Rattle.vub_world.proofs.RunTurns.{IsPlain, Good}
+use Rattle.vub_world.proofs.RunChainsEvents.{ChainedAt}
+use Rattle.vub_world.proofs.QueueAtMoves.{new_unpublished}
+use Rattle.vub_world.proofs.QueueAtTurns.{HasStarted, HasFetched, IsPhaseTurn, start_stands, fetch_stands, idle_stands, ready_same}
+use Rattle.vub_world.proofs.QueueAtRows.{HasPublished, HasShown, MadeElement, ShowsNext, row_stands, shown_stands, stored_stands, after_row, shows_goes, goes_under_way}
+use Rattle.vub_world.proofs.WorkAtItems.{IsNoWork, turn_disk}
+
+-- ---- what a turn is given, and what it does
+
+-- the device stands at a moment of a run, and its memory keeps no store
+pub record TurnAt (h : Header1) (r : SplitRing) (m : Moment) (log : Log) (d : Device) : Type 0 where
+  pub plain : IsPlain h
+  pub good : Good h m
+  pub chained : ChainedAt h m
+  pub main : IsMainRing r h.size
+  pub at : DeviceAt h r m d
+  pub fresh : d.stores ≡ []
+  pub numbered : LogAt h.size m.scene.past (m.scene.heads 0) log
+
+-- the disk didn't fail
+abbrev pub IsServed : Stepped → Type 0
+IsServed (says.Faulted head) = ⊥
+IsServed x = ⊤
+
+-- what a turn tells, which failed nowhere
+pub record DeviceDoes (t : Turn) (cap : ℕ) (sizes : ℕ → ℕ) (d now : Device) (x : Stepped) : Type 0 where
+  pub fine : is_fault x ≡ false
+  pub served : IsServed x
+  pub does : Turns t (Some d.memory) x d.queue now.queue
+  pub stores_are : DoesStore t (Some d.memory) (Some now.memory) x d.queue
+  pub trails : DoesTrail t (Some d.stores) (Some now.stores) x d.queue
+  pub values_are : DoesDisk t (Some d.values) (Some now.values)
+  pub made : (place : ℕ) (task : Task) (n : Making) → t ≡ turns.Work place → IsDue cap sizes d.queue d.memory place task n
+      → IfStepped x (WorksOut place task n d.memory (Some now.memory) (Some d.stores) (Some now.stores) (Some d.values) (Some now.values) x d.queue now.queue)
+
+pub some_is : {A : Type 0} (a b : A) → Some a ≡ Some b → a ≡ b
+some_is a b e = ap (λ o. unwrap_or o a) e
+
+-- the disk where its values are those before
+pub disk_same : (cap : ℕ) (past : List Entry) (v w : Values) → w ≡ v → DiskAt cap past v → DiskAt cap past w
+disk_same cap past v w same disk = subst (λ (u : Values). DiskAt cap past u) (sym same) disk
+
+-- ---- a start
+
+pub start_made : (h : Header1) (r : SplitRing) (m : Moment) (log : Log) (cap : ℕ) (sizes : ℕ → ℕ) (d now : Device) (x : Stepped) → TurnAt h r m log d → is_ready (standing h 0 m) turns.Start ≡ true → DeviceDoes turns.Start cap sizes d now x
+    → TurnMade h r m turns.Start log d now x
+start_made h r m log cap sizes d now x a ready does =
+    let s = start_stands h r m (Some d.memory) x d.queue now.queue a.plain a.good a.main a.at.stands ready does.fine does.does in
+    let none : accepts x ≡ 0 = ap accepts s.said in
+    let same : accepted (one_turn h 0 turns.Start m).next.scene.past 0 ≡ accepted m.scene.past 0 = ap (λ (is : List Item). accepted (after_items h.size is m.scene).past 0) s.made in
+    record {
+      goes = ap is_idle s.said;
+      at = record {
+        stands = s.stands;
+        memory_is = some_is now.memory d.memory does.stores_are ∙ a.at.memory_is ∙ sym (ap (λ (is : List Item). (after_items h.size is m.scene).memory) s.made);
+        disk = disk_same h.capacity (one_turn h 0 turns.Start m).next.scene.past d.values now.values (some_is now.values d.values does.values_are) (turn_disk h m turns.Start d.values tt a.at.disk);
+      };
+      items_are = s.made ∙ sym (ap (noted log now.values now.stores (shown_of log d.memory d.queue)) s.said);
+      store = subst (λ (y : Stepped). StoreFits y now.stores) (sym s.said) tt;
+      sector = subst (λ (y : Stepped). SectorFits h.capacity y) (sym s.said) tt;
+      taken = omega (arith, none, same);
+    }
+
+-- ---- a fetch
+
+-- a fetch is at no phase of its own between two turns, so where it is ready something waits
+waits_there : (batch : List ℕ) (phase : Phase) (s : Bool) (w u c : ℕ) → PhaseIs batch phase → is_ready (record { started = s; phase = phase; waiting = w; unfinished = u; completed = c }) turns.Fetch ≡ true → 0 < w
+waits_there batch phases.Rest s w u c is ready = grind (arith, nat_tests)
+waits_there batch (phases.Publish done) s w u c is ready = absurd (let fails : true ≡ false = sym ready ∙ grind (arith, nat_tests) in cc)
+waits_there batch (phases.Start done) s w u c is ready = absurd is
+waits_there batch (phases.Fetch done) s w u c is ready = absurd is
+
+-- where it is ready, one more is offered
+more_offered : (h : Header1) (m : Moment) → IsPlain h → Good h m → is_ready (standing h 0 m) turns.Fetch ≡ true → accepted m.scene.past 0 < length (m.scene.heads 0)
+more_offered h m plain good ready =
+    let st : Standing = standing h 0 m in
+    let some = some_waits h m.scene (m.lanes 0) plain.good good.holds in
+    let waits = waits_there (m.lanes 0).batch (m.lanes 0).phase st.started st.waiting st.unfinished st.completed good.holds.worked.phase_is ready in
+    omega (arith, some, waits)
+
+pub fetch_made : (h : Header1) (r : SplitRing) (m : Moment) (log : Log) (cap : ℕ) (sizes : ℕ → ℕ) (d now : Device) (x : Stepped) → TurnAt h r m log d → is_ready (standing h 0 m) turns.Fetch ≡ true → DeviceDoes turns.Fetch cap sizes d now x
+    → TurnMade h r m turns.Fetch log d now x
+fetch_made h r m log cap sizes d now x a ready does =
+    let k : ℕ = accepted m.scene.past 0 in
+    let head : ℕ = slice_index (m.scene.heads 0) k in
+    let told : Turns turns.Fetch (Some m.scene.memory) x d.queue now.queue = subst (λ (b : Bytes). Turns turns.Fetch (Some b) x d.queue now.queue) a.at.memory_is does.does in
+    let s = fetch_stands h r m x d.queue now.queue a.plain a.good a.main a.at.stands ready does.fine told in
+    let new = not_among-take (published m.scene.past 0) (collected m.scene.past 0) k (new_unpublished h.size h.capacity m.scene.past (m.scene.heads 0) a.good.holds.known) in
+    let slot = a.numbered.slots k (more_offered h m a.plain a.good ready) new in
+    let number : number_at log head ≡ k = ap (λ (o : Outstanding). o.number) slot in
+    let one : accepts x ≡ 1 = ap accepts s.said in
+    let more : accepted (one_turn h 0 turns.Fetch m).next.scene.past 0 ≡ k + 1 = ap (λ (is : List Item). accepted (after_items h.size is m.scene).past 0) s.made in
+    record {
+      goes = ap is_idle s.said;
+      at = record {
+        stands = s.stands;
+        memory_is = some_is now.memory d.memory does.stores_are ∙ a.at.memory_is ∙ sym (ap (λ (is : List Item). (after_items h.size is m.scene).memory) s.made);
+        disk = disk_same h.capacity (one_turn h 0 turns.Fetch m).next.scene.past d.values now.values (some_is now.values d.values does.values_are) (turn_disk h m turns.Fetch d.values tt a.at.disk);
+      };
+      items_are = s.made ∙ ap (λ (n : ℕ). items.Made (entries.Accept 0 n) ∷ []) (sym number) ∙ sym (ap (noted log now.values now.stores (shown_of log d.memory d.queue)) s.said);
+      store = subst (λ (y : Stepped). StoreFits y now.stores) (sym s.said) tt;
+      sector = subst (λ (y : Stepped). SectorFits h.capacity y) (sym s.said) tt;
+      taken = omega (arith, one, more);
+    }
+
+-- ---- a publication
+
+-- memory and stores after the store of a row
+pub record StoredRow (d now : Device) (y : Row) : Type 0 where
+  pub memory_is : now.memory ≡ after_store y.store d.memory
+  pub stores_are : now.stores ≡ y.store ∷ []
+
+pub stored_row : (d now : Device) (x : Stepped) (o : Option Row) (y : Row) → outcome x ≡ Ok tt → o ≡ Some y → d.stores ≡ [] → StoresRow (Some d.memory) (Some now.memory) x o → TrailsRow (Some d.stores) (Some now.stores) x o → StoredRow d now y
+stored_row d now x o y fine is fresh stores trails =
+    let left : StoresRow (Some d.memory) (Some now.memory) x (Some y) = subst (λ (z : Option Row). StoresRow (Some d.memory) (Some now.memory) x z) is stores in
+    let right : TrailsRow (Some d.stores) (Some now.stores) x (Some y) = subst (λ (z : Option Row). TrailsRow (Some d.stores) (Some now.stores) x z) is trails in
+    let memory : Some now.memory ≡ Some (after_store y.store d.memory) = subst (λ (z : Result (Unit {0}) (Unit {0})). Stores (Some d.memory) (Some now.memory) z y.store) fine left in
+    let trail : Some now.stores ≡ Some (after_in_trail y.store d.stores) = subst (λ (z : Result (Unit {0}) (Unit {0})). Trails (Some d.stores) (Some now.stores) z y.store) fine right in
+    record {
+      memory_is = some_is now.memory (after_store y.store d.memory) memory;
+      stores_are = some_is now.stores (after_in_trail y.store d.stores) trail ∙ ap (after_in_trail y.store) fresh;
+    }
+
+few_get : (o : Option (ℕ × ℕ)) (f : ℕ × ℕ → Row) (y : Row) → ((z : ℕ × ℕ) → length (f z).store.bytes ≤ 512) → option_map f o ≡ Some y → length y.store.bytes ≤ 512
+few_get None f y few is = absurd (let fails : None ≡ Some y = is in cc)
+few_get (Some z) f y few is = subst (λ (x : Row). length x.store.bytes ≤ 512) (some_is (f z) y is) (few z)
+
+-- a row stores few bytes
+few_row : (u : QueueState) (o : Option Step) (y : Row) → row_at u o ≡ Some y → length y.store.bytes ≤ 512
+few_row u None y is = absurd (let fails : None ≡ Some y = is in cc)
+few_row u (Some steps.Start) y is = absurd (let fails : None ≡ Some y = is in cc)
+few_row u (Some steps.Accept) y is = absurd (let fails : None ≡ Some y = is in cc)
+few_row u (Some (steps.Id e)) y is = few_get (slice_get u.batch e) _ y (λ z. omega (arith, length_little 4 z.0)) is
+few_row u (Some (steps.Len e)) y is = few_get (slice_get u.batch e) _ y (λ z. omega (arith, length_little 4 z.1)) is
+few_row u (Some steps.Index) y is =
+    let last : ℕ = (u.used + length u.batch) % 65536 in
+    subst (λ (x : Row). length x.store.bytes ≤ 512) (some_is (row (used_side u.ring) SP5 (used_idx_place (used_side u.ring)) (little_bytes 2 last)) y is) (omega (arith, length_little 2 last))
+
+row_in : (b : Bool) (u : QueueState) (y : Row) → row_if b u ≡ Some y → next_row u ≡ Some y
+row_in true u y is = is
+row_in false u y is = absurd (let fails : None ≡ Some y = is in cc)
+
+small_row : (most : ℕ) (q : QueueState) (y : Row) → publish_row most q ≡ Some y → y.store.space ≡ 0 → IsSmall y.store
+small_row most q y is space =
+    let u : QueueState = states.under_way most q in
+    record { space = space; few = few_row u (next_step (length u.batch) u.phase) y (row_in (publishes most q) u y is) }
+
+-- the items of a store
+store_made : (d now : Device) (tag : Tag) (y : Row) → StoredRow d now y → stored_items tag now.stores ≡ items.Store tag M y.store.place y.store.bytes ∷ []
+store_made d now tag y s = ap (stored_items tag) s.stores_are
+
+one_small : (d now : Device) (y : Row) → StoredRow d now y → IsSmall y.store → OneSmall now.stores
+one_small d now y s small = subst (λ (l : List Store). OneSmall l) (sym s.stores_are) small
+
+-- memory after the store, as the items have it
+row_memory : (h : Header1) (m : Moment) (d now : Device) (tag : Tag) (y : Row) → d.memory ≡ m.scene.memory → y.store.space ≡ 0 → StoredRow d now y → now.memory ≡ (after_items h.size (items.Store tag M y.store.place y.store.bytes ∷ []) m.scene).memory
+row_memory h m d now tag y same space s =
+    s.memory_is ∙ ap (λ (b : Bytes). put b y.store.space y.store.place y.store.bytes) same ∙ ap (λ (k : ℕ). put m.scene.memory k y.store.place y.store.bytes) space
+
+-- ---- its answers
+
+same_answer : (k st st' : ℕ) (bs bs' : List ℕ) → st ≡ st' → bs ≡ bs' → ◌≡◌ {A = Answered} (record { number = k; status = st; bytes = bs }) (record { number = k; status = st'; bytes = bs' })
+same_answer k st st' bs bs' es eb = cc
+
+-- how many bytes an answer that succeeds has
+len_same : (cap : ℕ) (o : Option Asked) → IsSimple cap o → 512 * reads_of o ≡ answer_len 0 o
+len_same cap None simple = absurd simple
+len_same cap (Some (asks.Read s n)) simple = refl
+len_same cap (Some (asks.Write s bytes)) simple = refl
+len_same cap (Some asks.Flush) simple = absurd simple
+len_same cap (Some asks.Id) simple = absurd simple
+len_same cap (Some (asks.Discard parts)) simple = absurd simple
+len_same cap (Some (asks.Zero parts)) simple = absurd simple
+
+-- the store of used.idx touches no buffer
+answer_same : (cap : ℕ) (o : Option Asked) (m : Bytes) (p : ℕ) (bs : List ℕ) (k head : ℕ) → IsSimple cap o → p + length bs ≤ 65536 → m 0 (status_place (buffer_place (area_place 0) head)) ≡ 0
+    → answer_for (record { number = k; reads = reads_of o }) m head
+    ≡ record {
+      number = k;
+      status = put m 0 p bs 0 (status_place (buffer_place (area_place 0) head));
+      bytes = bytes_from (answer_len (put m 0 p bs 0 (status_place (buffer_place (area_place 0) head))) o) (put m 0 p bs) 0 (sectors_place (buffer_place (area_place 0) head));
+    }
+answer_same cap o m p bs k head simple off good =
+    let place : ℕ = status_place (buffer_place (area_place 0) head) in
+    let sectors : ℕ = sectors_place (buffer_place (area_place 0) head) in
+    let kept : put m 0 p bs 0 place ≡ m 0 place = put_other m 0 p bs 0 place (inr (inr (omega arith))) in
+    let zero_too : put m 0 p bs 0 place ≡ 0 = kept ∙ good in
+    let long : cond {A = ℕ} (m 0 place == 0) (512 * reads_of o) 0 ≡ answer_len (put m 0 p bs 0 place) o =
+    ap (λ (st : ℕ). cond {A = ℕ} (st == 0) (512 * reads_of o) 0) good ∙ len_same cap o simple ∙ sym (ap (λ (st : ℕ). answer_len st o) zero_too) in
+    let len : ℕ = answer_len (put m 0 p bs 0 place) o in
+    let bytes : bytes_from (cond {A = ℕ} (m 0 place == 0) (512 * reads_of o) 0) m 0 sectors ≡ bytes_from len (put m 0 p bs) 0 sectors =
+    ap (λ (n : ℕ). bytes_from n m 0 sectors) long ∙ sym (bytes_from-put_other len m 0 p bs 0 sectors (inr (inr (omega arith)))) in
+    same_answer k (m 0 place) (put m 0 p bs 0 place) _ _ (sym kept) bytes
+
+map_over : (f : ℕ × ℕ → Answered) (g : ℕ → Answered) (spot : ℕ → ℕ × ℕ) (ks : List ℕ) → ((k : ℕ) → is_among ks k ≡ true → f (spot k) ≡ g k) → map f (map spot ks) ≡ map g ks
+map_over f g spot [] same = refl
+map_over f g spot (k ∷ ks) same =
+    ap (λ (a : Answered). a ∷ map f (map spot ks)) (same k (grind (arith, nat_tests)))
+    ∙ ap (λ (l : List Answered). g k ∷ l) (map_over f g spot ks (λ j held. same j (grind (arith, nat_tests))))
+
+among_right : (xs ys : List ℕ) (k : ℕ) → is_among ys k ≡ true → is_among (xs ++ ys) k ≡ true
+among_right xs ys k held = let joined : is_among (xs ++ ys) k ≡ (is_among xs k || is_among ys k) = is_among_append xs ys k in grind (arith, nat_tests)
+
+-- the row of the store of used.idx
+index_place : (q : QueueState) (most : ℕ) (y : Row) → ShowsNext q → publish_row most q ≡ Some y → q.ring.used.1 ≡ 8192 → y.store.place + length y.store.bytes ≤ 65536
+index_place q most y next is lies =
+    let goes : is_publication q.phase ≡ true = shows_goes q.phase (length q.batch) next in
+    let same : states.under_way most q ≡ q = goes_under_way q most goes in
+    let found : next_row q ≡ Some y = subst (λ (u : QueueState). next_row u ≡ Some y) same (row_in (publishes most q) (states.under_way most q) y is) in
+    let last : ℕ = (q.used + length q.batch) % 65536 in
+    let z : Row = row (used_side q.ring) SP5 (used_idx_place (used_side q.ring)) (little_bytes 2 last) in
+    let same_row : z ≡ y = some_is z y (sym (ap (row_at q) next) ∙ found) in
+    subst (λ (x : Row). x.store.place + length x.store.bytes ≤ 65536) same_row (omega (arith, lies, length_little 2 last))
+
+answers_same : (h : Header1) (r : SplitRing) (m : Moment) (log : Log) (d : Device) (y : Row) → TurnAt h r m log d → y.store.place + length y.store.bytes ≤ 65536
+    → answers_for log d.memory d.queue.batch ≡ map (answer_at 0 (after_row h y m.scene)) (m.lanes 0).batch
+answers_same h r m log d y a off =
+    let l : Lane = m.lanes 0 in
+    let past : List Entry = m.scene.past in
+    let heads : List ℕ = m.scene.heads 0 in
+    let f : ℕ × ℕ → Answered = λ x. answer_for (slot_in log x.0) m.scene.memory x.0 in
+    ap (λ (b : Bytes). answers_for log b d.queue.batch) a.at.memory_is
+    ∙ ap (λ (xs : List (ℕ × ℕ)). answers_for log m.scene.memory xs) a.at.stands.batch
+    ∙ map_over f (answer_at 0 (after_row h y m.scene)) (spot_of h past heads) l.batch (λ k held.
+      let done : is_among (l.completed ++ l.batch) k ≡ true = among_right l.completed l.batch k held in
+      let out : IsOut past heads k = open_out h.size h.capacity past heads k a.good.holds.known (a.good.holds.worked.opens k done) in
+      let head : ℕ = slice_index heads k in
+      ap (λ (o : Outstanding). answer_for o m.scene.memory head) (a.numbered.slots k out.below out.kept)
+      ∙ answer_same h.capacity (asked past 0 k) m.scene.memory y.store.place y.store.bytes k head (a.good.holds.known.simple k out.below) off (a.good.holds.stored.status k done))
+
+-- which answers a turn notes
+shown_is : (log : Log) (m : Bytes) (q : QueueState) → ShowsNext q → shown_of log m q ≡ answers_for log m q.batch
+shown_is log m q next = ap (λ (o : Option Step). cond {A = List Answered} (is_index o) (answers_for log m q.batch) []) next
+
+-- what a turn of a publication leaves, whichever step it makes
+left_at : (h : Header1) (r : SplitRing) (m : Moment) (log : Log) (most : ℕ) (d now : Device) (tag : Tag) (y : Row) → TurnAt h r m log d → QueueStands h r (one_turn h 0 (turns.Publish most) m).next now.queue → now.values ≡ d.values
+    → y.store.space ≡ 0 → StoredRow d now y → (one_turn h 0 (turns.Publish most) m).next.scene.memory ≡ (after_items h.size (items.Store tag M y.store.place y.store.bytes ∷ []) m.scene).memory
+    → DeviceAt h r (one_turn h 0 (turns.Publish most) m).next now
+left_at h r m log most d now tag y a stands values space s memory = record {
+  stands = stands;
+  memory_is = row_memory h m d now tag y a.at.memory_is space s ∙ sym memory;
+  disk = disk_same h.capacity (one_turn h 0 (turns.Publish most) m).next.scene.past d.values now.values values (turn_disk h m (turns.Publish most) d.values tt a.at.disk);
+}
+
+-- the store of used.idx
+show_made : (h : Header1) (r : SplitRing) (m : Moment) (log : Log) (most : ℕ) (d now : Device) (x : Stepped) (y : Row) → TurnAt h r m log d → DeviceAt h r (one_turn h 0 (turns.Publish most) m).next now → HasShown h m most x y → ShowsNext d.queue
+    → StoredRow d now y → IsSmall y.store → y.store.place + length y.store.bytes ≤ 65536 → TurnMade h r m (turns.Publish most) log d now x
+show_made h r m log most d now x y a at has next s small off =
+    let list : List Answered = map (answer_at 0 (after_row h y m.scene)) (m.lanes 0).batch in
+    let none : accepts x ≡ 0 = ap accepts has.said in
+    let same : accepted (one_turn h 0 (turns.Publish most) m).next.scene.past 0 ≡ accepted m.scene.past 0 = ap (λ (is : List Item). accepted (after_items h.size is m.scene).past 0) has.items in
+    let answers : shown_of log d.memory d.queue ≡ list = shown_is log d.memory d.queue next ∙ answers_same h r m log d y a off in
+    record {
+      goes = ap is_idle has.said;
+      at = at;
+      items_are = has.items
+      ∙ ap (λ (is : List Item). is ++ items.Made (entries.Publish 0 list) ∷ []) (sym (store_made d now SP5 y s))
+      ∙ ap (λ (xs : List Answered). stored_items SP5 now.stores ++ items.Made (entries.Publish 0 xs) ∷ []) (sym answers)
+      ∙ sym (ap (noted log now.values now.stores (shown_of log d.memory d.queue)) has.said);
+      store = subst (λ (z : Stepped). StoreFits z now.stores) (sym has.said) (one_small d now y s small);
+      sector = subst (λ (z : Stepped). SectorFits h.capacity z) (sym has.said) tt;
+      taken = omega (arith, none, same);
+    }
+
+-- any other store
+part_made : (h : Header1) (r : SplitRing) (m : Moment) (log : Log) (most : ℕ) (d now : Device) (x : Stepped) (y : Row) → DeviceAt h r (one_turn h 0 (turns.Publish most) m).next now
+    → MadeElement (states.under_way most d.queue) x (turned h 0 (turns.Publish most) m).items y → StoredRow d now y → IsSmall y.store → TurnMade h r m (turns.Publish most) log d now x
+part_made h r m log most d now x y at part s small =
+    let none : accepts x ≡ 0 = ap accepts part.said in
+    let same : accepted (one_turn h 0 (turns.Publish most) m).next.scene.past 0 ≡ accepted m.scene.past 0 = ap (λ (is : List Item). accepted (after_items h.size is m.scene).past 0) part.items in
+    record {
+      goes = ap is_idle part.said;
+      at = at;
+      items_are = part.items ∙ sym (store_made d now y.tag y s) ∙ sym (ap (noted log now.values now.stores (shown_of log d.memory d.queue)) part.said);
+      store = subst (λ (z : Stepped). StoreFits z now.stores) (sym part.said) (one_small d now y s small);
+      sector = subst (λ (z : Stepped). SectorFits h.capacity z) (sym part.said) tt;
+      taken = omega (arith, none, same);
+    }
+
+-- whether the next step shows the batch
+shows_cases : (q : QueueState) → ShowsNext q ⊎ (ShowsNext q → ⊥)
+shows_cases q = go (next_step (length q.batch) q.phase)
+  where
+    go : (o : Option Step) → (o ≡ Some steps.Index) ⊎ (o ≡ Some steps.Index → ⊥)
+    go None = inr (λ e. let fails : None ≡ Some steps.Index = e in cc)
+    go (Some steps.Start) = inr (λ e. let fails : Some steps.Start ≡ Some steps.Index = e in cc)
+    go (Some steps.Accept) = inr (λ e. let fails : Some steps.Accept ≡ Some steps.Index = e in cc)
+    go (Some (steps.Id k)) = inr (λ e. let fails : Some (steps.Id k) ≡ Some steps.Index = e in cc)
+    go (Some (steps.Len k)) = inr (λ e. let fails : Some (steps.Len k) ≡ Some steps.Index = e in cc)
+    go (Some steps.Index) = inl refl
+
+pub publish_made : (h : Header1) (r : SplitRing) (m : Moment) (log : Log) (cap : ℕ) (sizes : ℕ → ℕ) (most : ℕ) (d now : Device) (x : Stepped) → TurnAt h r m log d → is_ready (standing h 0 m) (turns.Publish most) ≡ true
+    → DeviceDoes (turns.Publish most) cap sizes d now x → TurnMade h r m (turns.Publish most) log d now x
+publish_made h r m log cap sizes most d now x a ready does =
+    let t : Turn = turns.Publish most in
+    let found = row_stands h r m most (Some d.memory) x d.queue now.queue a.plain a.good a.main a.at.stands ready does.fine does.does in
+    let y : Row = found.0 in
+    let p : HasPublished h r m most x d.queue now.queue y = found.1 in
+    let small : IsSmall y.store = small_row most d.queue y p.row p.space in
+    let values : now.values ≡ d.values = some_is now.values d.values does.values_are in
+    elim (shows_cases d.queue) [
+      | inl next ↦
+          let has : HasShown h m most x y = shown_stands h r m most x d.queue now.queue y a.at.stands p next in
+          let s : StoredRow d now y = stored_row d now x (publish_row most d.queue) y (ap outcome has.said) p.row a.fresh does.stores_are does.trails in
+          let off = index_place d.queue most y next p.row (ap (λ (z : SplitRing). z.used.1) a.at.stands.ring ∙ a.main.used) in
+          let at = left_at h r m log most d now SP5 y a p.stands values p.space s (ap (λ (is : List Item). (after_items h.size is m.scene).memory) has.items) in
+          show_made h r m log most d now x y a at has next s small off
+      | inr other ↦
+          let part = stored_stands h r m most x d.queue now.queue y a.good a.at.stands ready p other in
+          let s : StoredRow d now y = stored_row d now x (publish_row most d.queue) y (ap outcome part.said) p.row a.fresh does.stores_are does.trails in
+          let at = left_at h r m log most d now y.tag y a p.stands values p.space s (ap (λ (is : List Item). (after_items h.size is m.scene).memory) part.items) in
+          part_made h r m log most d now x y at part s small
+    ]
+
+-- ---- a turn that isn't due
+
+-- the turns that store nothing
+abbrev IsEarly : Turn → Type 0
+IsEarly turns.Start = ⊤
+IsEarly turns.Fetch = ⊤
+IsEarly t = ⊥
+
+idle_values : (t : Turn) (v w : Values) → IsPhaseTurn t → DoesDisk t (Some v) (Some w) → w ≡ v
+idle_values turns.Start v w is does = some_is w v does
+idle_values turns.Fetch v w is does = some_is w v does
+idle_values (turns.Work place) v w is does = absurd is
+idle_values (turns.Publish most) v w is does = some_is w v does
+
+-- whether a publication is ready doesn't depend on what waits
+unready_still : (h : Header1) (r : SplitRing) (m : Moment) (t : Turn) (q : QueueState) → IsMainRing r h.size → QueueStands h r m q → IsPhaseTurn t → is_ready (standing h 0 m) t ≡ false → (is_ready (states.standing_at q 0) t ≡ false) ⊎ IsEarly t
+unready_still h r m turns.Start q main z is unready = inr tt
+unready_still h r m turns.Fetch q main z is unready = inr tt
+unready_still h r m (turns.Work place) q main z is unready = absurd is
+unready_still h r m (turns.Publish most) q main z is unready = inl (ready_same h r m q (turns.Publish most) main z ∙ unready)
+
+idle_memory : (t : Turn) (d now : Device) (x : Stepped) → IsPhaseTurn t → (is_ready (states.standing_at d.queue 0) t ≡ false) ⊎ IsEarly t → DoesStore t (Some d.memory) (Some now.memory) x d.queue → now.memory ≡ d.memory
+idle_memory turns.Start d now x is unready stores = some_is now.memory d.memory stores
+idle_memory turns.Fetch d now x is unready stores = some_is now.memory d.memory stores
+idle_memory (turns.Work place) d now x is unready stores = absurd is
+idle_memory (turns.Publish most) d now x is (inl unready) stores =
+    let none : publish_row most d.queue ≡ None = ap (λ (b : Bool). row_if b (states.under_way most d.queue)) unready in
+    some_is now.memory d.memory (subst (λ (o : Option Row). StoresRow (Some d.memory) (Some now.memory) x o) none stores)
+idle_memory (turns.Publish most) d now x is (inr early) stores = absurd early
+
+pub idle_made : (h : Header1) (r : SplitRing) (m : Moment) (log : Log) (cap : ℕ) (sizes : ℕ → ℕ) (t : Turn) (d now : Device) (x : Stepped) → TurnAt h r m log d → IsPhaseTurn t → is_ready (standing h 0 m) t ≡ false
+    → DeviceDoes t cap sizes d now x → (x ≡ says.Idle) × DeviceAt h r m now
+idle_made h r m log cap sizes t d now x a is unready does =
+    let told : Turns t (Some m.scene.memory) x d.queue now.queue = subst (λ (b : Bytes). Turns t (Some b) x d.queue now.queue) a.at.memory_is does.does in
+    let idle = idle_stands h r m t x d.queue now.queue a.main a.at.stands is unready does.fine told in
+    let values : now.values ≡ d.values = idle_values t d.values now.values is does.values_are in (
+      idle.0,
+      record {
+        stands = subst (λ (q : QueueState). QueueStands h r m q) (sym idle.1) a.at.stands;
+        memory_is = idle_memory t d now x is (unready_still h r m t d.queue a.main a.at.stands is unready) does.stores_are ∙ a.at.memory_is;
+        disk = disk_same h.capacity m.scene.past d.values now.values values a.at.disk;
+      },
+    )

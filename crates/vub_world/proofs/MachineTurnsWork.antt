@@ -1,0 +1,231 @@
+-- A turn of the device at a moment of a run: work on a request, and any turn of a drain.
+use Rattle.std.proofs.Common.{◌≡◌, ◌≢◌, ◌≤◌, ◌<◌, ◌⊎◌, ℕ, ◌+◌, ◌*◌, Bool, true, false, List, [], ◌∷◌, ◌++◌, length, filter, not, refl, ap, sym, ◌∙◌, subst, inl, inr, arith}
+use Rattle.std.specs.Prelude.{Option, Some, None, option_map, slice_index, nat_lt, ⊤}
+use Rattle.std.proofs.lemmas.Bool.{cases_Bool}
+use Rattle.std.proofs.lemmas.Bool.Decides.{nat_tests}
+use Rattle.vub_base.specs.declared.header.Header1.{Header1}
+use Rattle.vub_base.specs.declared.store.Tag.{Tag}
+use Rattle.vub_base.specs.declared.store.Tag.TheVariants.{T2, T5}
+use Rattle.vub_base.specs.declared.store.Area.TheVariants.{M}
+use Rattle.vub_shared.specs.Bytes.{Bytes}
+use Rattle.vub_shared.specs.Stores.{Store, one_store}
+use Rattle.vub_disk.specs.Values.{Values}
+use Rattle.vub_ring.specs.declared.readiness.Standing.{Standing}
+use Rattle.vub_ring.specs.declared.readiness.Turn.{Turn}
+use Rattle.vub_ring.specs.declared.readiness.Turn.TheVariants as turns
+use Rattle.vub_ring.specs.Readiness.{is_ready, is_publication, any_turn, work_or_publish, drain_turn}
+use Rattle.vub_device.specs.declared.entry.Asked.{Asked}
+use Rattle.vub_device.specs.declared.entry.Asked.TheVariants as asks
+use Rattle.vub_device.specs.declared.entry.Entry.{Entry}
+use Rattle.vub_device.specs.declared.entry.Entry.TheVariants as entries
+use Rattle.vub_device.specs.Past.{accepted, published, is_among, missing_below, open_numbers, started}
+use Rattle.vub_world.specs.declared.log.Log.{Log}
+use Rattle.vub_world.specs.declared.log.Outstanding.{Outstanding}
+use Rattle.vub_world.specs.declared.report.items.Item.{Item}
+use Rattle.vub_world.specs.declared.report.items.Item.TheVariants as items
+use Rattle.vub_world.specs.declared.queue.Stepped.{Stepped}
+use Rattle.vub_world.specs.declared.queue.Stepped.TheVariants as says
+use Rattle.vub_world.specs.declared.split.SplitRing.{SplitRing}
+use Rattle.vub_world.specs.declared.task.Task.{Task}
+use Rattle.vub_world.specs.declared.task.TaskStep.TheVariants as answers
+use Rattle.vub_world.specs.MachineSteps.{IsSmall, OneSmall, Device, DeviceAt, TurnMade, DeviceTurns, StoreFits, SectorFits, noted, stored_items, shown_of, accepts, number_at}
+use Rattle.vub_world.specs.Memory.{Scene, after_items}
+use Rattle.vub_world.specs.Moments.{Lane, Moment, standing, unfinished}
+use Rattle.vub_world.specs.QueueAt.{QueueStands, IsMainRing, DiskAt}
+use Rattle.vub_world.specs.QueueState.{QueueState, IsDue, IfStepped, WorksOut, HasWorked, due_store, sector_at, said, is_idle, is_fault}
+use Rattle.vub_world.specs.Run.{one_turn}
+use Rattle.vub_world.specs.TaskState.{Making, answer_in, answer_to, memory_after, values_after, with_maybe}
+use Rattle.vub_world.specs.Tasks.{TaskStep, Look, Put, Act, Sync, Status}
+use Rattle.vub_world.specs.Turns.{turned}
+use Rattle.vub_world.proofs.RunFrames.{open_out}
+use Rattle.vub_world.proofs.RunGood.{IsOut}
+use Rattle.vub_world.proofs.RunTurns.{IsPlain, Good}
+use Rattle.vub_world.proofs.WorkAt.{WorkReady, making, Kind, work_ready}
+use Rattle.vub_world.proofs.WorkAtItems.{Shows, ShowsStore, work_items, work_memory, work_disk, work_kind}
+use Rattle.vub_world.proofs.WorkAtStands.{work_stands}
+use Rattle.vub_world.proofs.MachineTurns.{TurnAt, DeviceDoes, IsServed, some_is, start_made, fetch_made, publish_made, idle_made}
+
+-- what a call made that failed nowhere
+stepped_out : (x : Stepped) (P : Type 0) → is_fault x ≡ false → IsServed x → IfStepped x P → P
+stepped_out says.SharedFault P fine served p = absurd (let fails : true ≡ false = fine in cc)
+stepped_out (says.Faulted head) P fine served p = absurd served
+stepped_out says.Idle P fine served p = p
+stepped_out (says.Stored tag) P fine served p = p
+stepped_out (says.Accepted head) P fine served p = p
+stepped_out (says.Looked head sector) P fine served p = p
+stepped_out (says.Acted head sector) P fine served p = p
+stepped_out (says.Synced head) P fine served p = p
+stepped_out (says.Completed head) P fine served p = p
+stepped_out says.Published P fine served p = p
+stepped_out says.Started P fine served p = p
+stepped_out (says.Broken fault) P fine served p = p
+
+-- what a step of work says fits: a look leaves the disk's values, and each sector is on the disk
+pub record SaysWell (cap : ℕ) (request : Asked) (step : TaskStep) (x : Stepped) : Type 0 where
+  pub looks : (head sector : ℕ) (v : Values) → x ≡ says.Looked head sector → values_after request step v ≡ v
+  pub sector : SectorFits cap x
+
+SaysAt : Header1 → ℕ → Asked → TaskStep → Type 0
+SaysAt h head request step = SaysWell h.capacity request step (said head (answer_to h request step))
+
+says_well : (h : Header1) (head made : ℕ) (request : Asked) (step : TaskStep) → Kind h request made step → SaysWell h.capacity request step (said head (answer_to h request step))
+says_well h head made request step (inl x) =
+    subst (λ (s : TaskStep). SaysWell h.capacity request s (said head (answer_to h request s))) (sym x.next)
+    (subst (λ (o : Asked). SaysWell h.capacity o (Look 0) (said head (answer_to h o (Look 0)))) (sym x.is)
+    (record { looks = λ d t v e. refl; sector = omega (arith, x.low) }))
+says_well h head made request step (inr (inl x)) =
+    subst (λ (s : TaskStep). SaysWell h.capacity request s (said head (answer_to h request s))) (sym x.next)
+    (record { looks = λ d t v e. refl; sector = tt })
+says_well h head made request step (inr (inr (inl x))) =
+    subst (λ (s : TaskStep). SaysWell h.capacity request s (said head (answer_to h request s))) (sym x.next)
+    (subst (λ (o : Asked). SaysWell h.capacity o (Act 0) (said head (answer_to h o (Act 0)))) (sym x.is)
+    (record { looks = λ d t v e. absurd (let fails : says.Acted head (x.sector + 0) ≡ says.Looked d t = e in cc); sector = omega (arith, x.low) }))
+says_well h head made request step (inr (inr (inr x))) =
+    subst (λ (s : TaskStep). SaysWell h.capacity request s (said head (answer_to h request s))) (sym x.next)
+    (record { looks = λ d t v e. refl; sector = tt })
+
+-- what a turn of work notes
+pub record NotesWork (h : Header1) (m : Moment) (t : Turn) (log : Log) (d now : Device) (x : Stepped) : Type 0 where
+  pub goes : is_idle x ≡ false
+  pub items_are : (one_turn h 0 t m).items ≡ noted log now.values now.stores (shown_of log d.memory d.queue) x
+  pub store : StoreFits x now.stores
+  pub none : accepts x ≡ 0
+  pub same : accepted (one_turn h 0 t m).next.scene.past 0 ≡ accepted m.scene.past 0
+
+-- of one store
+stores_noted : (h : Header1) (m : Moment) (t : Turn) (log : Log) (d now : Device) (tag : Tag) (x : Stepped) (task : Task) (n : Making) → d.stores ≡ [] → Some now.stores ≡ option_map (with_maybe (due_store d.queue task n)) (Some d.stores)
+    → ShowsStore tag d.queue task n (turned h 0 t m).items → is_idle x ≡ false → accepts x ≡ 0 → noted log now.values now.stores (shown_of log d.memory d.queue) x ≡ stored_items tag now.stores → StoreFits x now.stores ≡ OneSmall now.stores
+    → NotesWork h m t log d now x
+stores_noted h m t log d now tag x task n fresh trails shows goes none notes fits =
+    let st : Store = one_store 0 shows.place shows.bytes in
+    let kept : now.stores ≡ st ∷ [] = some_is now.stores (with_maybe (due_store d.queue task n) d.stores) trails ∙ ap (λ (o : Option Store). with_maybe o d.stores) shows.due ∙ ap (λ (l : List Store). with_maybe (Some st) l) fresh in
+    let small : OneSmall now.stores = subst (λ (l : List Store). OneSmall l) (sym kept) (record { space = refl; few = shows.few }) in
+    record {
+      goes = goes;
+      items_are = shows.items ∙ sym (ap (stored_items tag) kept) ∙ sym notes;
+      store = subst (λ (T : Type 0). T) (sym fits) small;
+      none = none;
+      same = ap (λ (is : List Item). accepted (after_items h.size is m.scene).past 0) shows.items;
+    }
+
+-- what is known of the step that is made
+pub record Makes (log : Log) (d now : Device) (k : ℕ) (task : Task) (n : Making) (x : Stepped) : Type 0 where
+  pub fresh : d.stores ≡ []
+  pub number : number_at log task.head ≡ k
+  pub values_are : now.values ≡ values_after n.request n.step d.values
+  pub trails : Some now.stores ≡ option_map (with_maybe (due_store d.queue task n)) (Some d.stores)
+  pub looks : (head sector : ℕ) (v : Values) → x ≡ says.Looked head sector → values_after n.request n.step v ≡ v
+
+work_noted : (h : Header1) (m : Moment) (t : Turn) (log : Log) (d now : Device) (k : ℕ) (task : Task) (n : Making) (x : Stepped) → Makes log d now k task n x → Shows d.values d.queue k task n (turned h 0 t m).items x → NotesWork h m t log d now x
+work_noted h m t log d now k task n (says.Looked head sector) g shows =
+    let values : now.values ≡ d.values = g.values_are ∙ g.looks head sector d.values refl in
+    let number : number_at log head ≡ k = ap (number_at log) shows.0 ∙ g.number in
+    record {
+      goes = refl;
+      items_are = shows.1 ∙ ap (λ (j : ℕ). items.Made (entries.Look 0 j sector (d.values sector)) ∷ []) (sym number) ∙ ap (λ (v : Values). items.Made (entries.Look 0 (number_at log head) sector (v sector)) ∷ []) (sym values);
+      store = tt;
+      none = refl;
+      same = ap (λ (is : List Item). accepted (after_items h.size is m.scene).past 0) shows.1;
+    }
+work_noted h m t log d now k task n (says.Acted head sector) g shows =
+    let number : number_at log head ≡ k = ap (number_at log) shows.0 ∙ g.number in
+    record {
+      goes = refl;
+      items_are = shows.1
+      ∙ ap (λ (j : ℕ). items.Made (entries.Act 0 j sector (values_after n.request n.step d.values sector)) ∷ []) (sym number)
+      ∙ ap (λ (v : Values). items.Made (entries.Act 0 (number_at log head) sector (v sector)) ∷ []) (sym g.values_are);
+      store = tt;
+      none = refl;
+      same = ap (λ (is : List Item). accepted (after_items h.size is m.scene).past 0) shows.1;
+    }
+work_noted h m t log d now k task n (says.Stored tag) g shows =
+    stores_noted h m t log d now T2 (says.Stored tag) task n g.fresh g.trails shows.1 refl refl (ap (λ (y : Tag). stored_items y now.stores) shows.0) refl
+work_noted h m t log d now k task n (says.Completed head) g shows = stores_noted h m t log d now T5 (says.Completed head) task n g.fresh g.trails shows.1 refl refl refl refl
+work_noted h m t log d now k task n says.Idle g shows = absurd shows
+work_noted h m t log d now k task n (says.Accepted head) g shows = absurd shows
+work_noted h m t log d now k task n (says.Synced head) g shows = absurd shows
+work_noted h m t log d now k task n (says.Faulted head) g shows = absurd shows
+work_noted h m t log d now k task n says.Published g shows = absurd shows
+work_noted h m t log d now k task n says.Started g shows = absurd shows
+work_noted h m t log d now k task n says.SharedFault g shows = absurd shows
+work_noted h m t log d now k task n (says.Broken fault) g shows = absurd shows
+
+pub work_made : (h : Header1) (r : SplitRing) (m : Moment) (log : Log) (sizes : ℕ → ℕ) (place : ℕ) (d now : Device) (x : Stepped) → TurnAt h r m log d → 1048576 ≤ sizes 0 → is_ready (standing h 0 m) (turns.Work place) ≡ true
+    → DeviceDoes (turns.Work place) h.capacity sizes d now x → TurnMade h r m (turns.Work place) log d now x
+work_made h r m log sizes place d now x a room ready does =
+    let q : QueueState = d.queue in
+    let w : WorkReady h sizes m q place = work_ready h m r sizes q place a.plain a.good a.chained a.main room a.at.stands ready in
+    let n : Making = making w in
+    let due : IsDue h.capacity sizes q d.memory place w.task n = subst (λ (b : Bytes). IsDue h.capacity sizes q b place w.task n) (sym a.at.memory_is) w.due in
+    let out : WorksOut place w.task n d.memory (Some now.memory) (Some d.stores) (Some now.stores) (Some d.values) (Some now.values) x q now.queue = stepped_out x _ does.fine does.served (does.made place w.task n refl due) in
+    let kind = work_kind h sizes m q place w a.plain a.good in
+    let well : SaysWell h.capacity w.request w.step (said w.task.head (answer_in n)) = says_well h w.task.head ((m.lanes 0).made w.k) w.request w.step kind in
+    let well_too : SaysWell h.capacity w.request w.step x = subst (λ (y : Stepped). SaysWell h.capacity w.request w.step y) (sym out.says) well in
+    let shows : Shows d.values q w.k w.task n (turned h 0 (turns.Work place) m).items x =
+    subst (λ (y : Stepped). Shows d.values q w.k w.task n (turned h 0 (turns.Work place) m).items y) (sym out.says) (work_items h sizes m r q place d.values w a.plain a.good a.main a.at.stands a.at.disk) in
+    let is_out : IsOut m.scene.past (m.scene.heads 0) w.k = open_out h.size h.capacity m.scene.past (m.scene.heads 0) w.k a.good.holds.known w.is_open in
+    let number : number_at log w.task.head ≡ w.k = ap (number_at log) w.head ∙ ap (λ (o : Outstanding). o.number) (a.numbered.slots w.k is_out.below is_out.kept) in
+    let values : now.values ≡ values_after w.request w.step d.values = some_is now.values (values_after w.request w.step d.values) out.values in
+    let notes : NotesWork h m (turns.Work place) log d now x = work_noted h m (turns.Work place) log d now w.k w.task n x (record { fresh = a.fresh; number = number; values_are = values; trails = out.trails; looks = well_too.looks }) shows in
+    let memory : now.memory ≡ memory_after q.ring n (sector_at q w.task.head) m.scene.memory =
+    some_is now.memory (memory_after q.ring n (sector_at q w.task.head) d.memory) out.stores ∙ ap (memory_after q.ring n (sector_at q w.task.head)) a.at.memory_is in
+    record {
+      goes = notes.goes;
+      at = record {
+        stands = work_stands h sizes m r q now.queue place d.values w a.plain a.good a.at.stands a.at.disk out.leaves;
+        memory_is = memory ∙ sym (work_memory h sizes m r q place w a.plain a.good a.main a.at.stands);
+        disk = subst (λ (v : Values). DiskAt h.capacity (one_turn h 0 (turns.Work place) m).next.scene.past v) (sym values) (work_disk h sizes m q place d.values w a.plain a.good a.at.disk);
+      };
+      items_are = notes.items_are;
+      store = notes.store;
+      sector = well_too.sector;
+      taken = omega (arith, notes.none, notes.same);
+    }
+
+-- ---- the turns of a drain
+
+-- a turn of work that a drain chooses is due
+pub work_chosen : (h : Header1) (m : Moment) (taken : ℕ) (place : ℕ) → Good h m → drain_turn h.size taken (standing h 0 m) ≡ turns.Work place → is_ready (standing h 0 m) (turns.Work place) ≡ true
+work_chosen h m taken place good is = chosen h.size taken place (standing h 0 m) (λ stopped. none_unfinished h m good stopped) is
+  where
+    none_open : (past : List Entry) → accepted past 0 ≡ 0 → open_numbers past 0 ≡ []
+    none_open past none = ap (missing_below (published past 0)) none
+
+    none_unfinished : (g : Header1) (n : Moment) → Good g n → started n.scene.past 0 ≡ false → (standing g 0 n).unfinished ≡ 0
+    none_unfinished g n ok stopped = ap (λ (ks : List ℕ). length (filter (λ k. not (is_among ((n.lanes 0).completed ++ (n.lanes 0).batch) k)) ks)) (none_open n.scene.past (ok.idle stopped))
+
+    work_or : (size j : ℕ) (s : Standing) → s.started ≡ true → work_or_publish size s ≡ turns.Work j → is_ready s (turns.Work j) ≡ true
+    work_or size j s run e = elim (cases_Bool (nat_lt 0 s.unfinished)) [
+      | inl some ↦ let same : turns.Work 0 ≡ turns.Work j = grind (arith, nat_tests) in let zero_is : j ≡ 0 = cc in grind (arith, nat_tests)
+      | inr none ↦ absurd (let fails : turns.Publish size ≡ turns.Work j = grind (arith, nat_tests) in cc)
+    ]
+
+    chosen : (size n j : ℕ) (s : Standing) → (s.started ≡ false → s.unfinished ≡ 0) → drain_turn size n s ≡ turns.Work j → is_ready s (turns.Work j) ≡ true
+    chosen size n j s quiet e = elim (cases_Bool s.started) [
+      | inl run ↦ elim (cases_Bool (is_publication s.phase)) [
+        | inl shows ↦ absurd (let fails : turns.Publish size ≡ turns.Work j = grind (arith, nat_tests) in cc)
+        | inr rests ↦ elim (cases_Bool (nat_lt n size)) [
+          | inl few ↦ elim (cases_Bool (is_ready s turns.Fetch)) [
+            | inl fetches ↦ absurd (let fails : turns.Fetch ≡ turns.Work j = grind (arith, nat_tests) in cc)
+            | inr none ↦ work_or size j s run (grind (arith, nat_tests))
+          ]
+          | inr many ↦ work_or size j s run (grind (arith, nat_tests))
+        ]
+      ]
+      | inr stopped ↦ absurd (
+          let none : s.unfinished ≡ 0 = quiet stopped in
+          elim (cases_Bool (nat_lt n size)) [
+            | inl few ↦ (let fails : turns.Start ≡ turns.Work j = grind (arith, nat_tests) in cc)
+            | inr many ↦ (let fails : turns.Publish size ≡ turns.Work j = grind (arith, nat_tests) in cc)
+          ])
+    ]
+
+-- any turn: it is made where it is due, and else nothing is
+pub device_turns : (h : Header1) (r : SplitRing) (m : Moment) (log : Log) (sizes : ℕ → ℕ) (t : Turn) (d now : Device) (x : Stepped) → TurnAt h r m log d → 1048576 ≤ sizes 0 → ((place : ℕ) → t ≡ turns.Work place → is_ready (standing h 0 m) t ≡ true)
+    → DeviceDoes t h.capacity sizes d now x → DeviceTurns h r m t log d now x
+device_turns h r m log sizes turns.Start d now x a room due does = (λ ready. start_made h r m log h.capacity sizes d now x a ready does, λ unready. idle_made h r m log h.capacity sizes turns.Start d now x a tt unready does)
+device_turns h r m log sizes turns.Fetch d now x a room due does = (λ ready. fetch_made h r m log h.capacity sizes d now x a ready does, λ unready. idle_made h r m log h.capacity sizes turns.Fetch d now x a tt unready does)
+device_turns h r m log sizes (turns.Publish most) d now x a room due does =
+    (λ ready. publish_made h r m log h.capacity sizes most d now x a ready does, λ unready. idle_made h r m log h.capacity sizes (turns.Publish most) d now x a tt unready does)
+device_turns h r m log sizes (turns.Work place) d now x a room due does =
+    (λ ready. work_made h r m log sizes place d now x a room ready does, λ unready. absurd (let fails : true ≡ false = sym (due place refl) ∙ unready in cc))

@@ -1,0 +1,11 @@
+use Rattle.std.proofs.Common.{◌≡◌, ◌≤◌, take, vec_capacity}
+use Rattle.vub_shared.specs.Watched.{bytes_in}
+use Rattle.vub_world.specs.MachineSteps.{answers_for, SpendsAnswers}
+use Rattle.vub_world.specs.QueueState.{state_of}
+use Rattle.vub_world.proofs.machine.Machine.batch_answers.Given as goal
+
+abbrev pub invariant-loop-element : goal.invariant-loop-element
+invariant-loop-element l =
+    (l.answers.items ≡ answers_for l.self.log (bytes_in l.self.memory) (take l.element (state_of l.queue).batch))
+    × (l.fn.room.answers ≤ vec_capacity l.answers)
+    × SpendsAnswers l.element l.fn.room l.room

@@ -1,0 +1,17 @@
+use Rattle.std.proofs.Common.{◌≡◌, List}
+use Rattle.vub_schedule.specs.declared.types.Event.{Event}
+use Rattle.vub_world.specs.declared.report.items.Record.{Record}
+use Rattle.vub_world.specs.Machine.{IsSound}
+use Rattle.vub_world.specs.MachineAt.{MachineAt}
+use Rattle.vub_world.specs.Moments.{Moment}
+use Rattle.vub_world.specs.Run.{Stands}
+use Rattle.vub_world.proofs.MachineLoops.{DrainAt}
+use Rattle.vub_world.proofs.machine.Machine.drain_steps.Given as goal
+
+abbrev pub invariant-loop-done : goal.invariant-loop-done
+invariant-loop-done l = record {
+  frame : l.self ≡ record l.fn.self { memory = l.self.memory; life = l.self.life; disk = l.self.disk };
+  sound : IsSound l.self;
+  goes : (es : List Event) (rs : List Record) (m : Moment) → Stands l.fn.self.header es rs m → MachineAt l.fn.self m → DrainAt l.fn.self.header m l.done l.self l.fn.room.items l.room.items l.accepted l.room;
+  idle : l.done ≡ 0 → l.room.item_room ≡ l.fn.room.item_room
+}
