@@ -1,5 +1,5 @@
 -- Where the machine stands after the driver took an element of the used ring.
-use Rattle.std.proofs.Common.{◌≡◌, ◌≢◌, ◌≤◌, ◌<◌, ℕ, zero, suc, ◌+◌, ◌*◌, ◌%◌, Bool, true, false, List, [], ◌∷◌, ◌++◌, length, take, refl, ap, sym, ◌∙◌, subst, arith}
+use Rattle.std.proofs.Common.{◌≡◌, ◌≢◌, ◌≤◌, ◌<◌, ℕ, zero, suc, ◌+◌, ◌*◌, ◌%◌, false, List, [], ◌∷◌, ◌++◌, length, take, refl, ap, sym, ◌∙◌, subst, arith}
 use Rattle.std.specs.Prelude.{Option, Some, None, slice_index, ◌||◌}
 use Rattle.std.proofs.lemmas.Bool.Decides.{nat_tests}
 use Rattle.std.proofs.lemmas.List.{take_more}
@@ -9,7 +9,6 @@ use Rattle.vub_shared.specs.Watched.{bytes_in}
 use Rattle.vub_shared.specs.declared.watched_shared.WatchedShared.{WatchedShared}
 use Rattle.vub_ring.specs.Ring.{Ring, ahead, used_idx, element_at, elements_from, seen}
 use Rattle.vub_driver.specs.Drivers.{Driver, after_collect}
-use Rattle.vub_device.specs.declared.entry.Entry.{Entry}
 use Rattle.vub_device.specs.declared.entry.Entry.TheVariants as entries
 use Rattle.vub_device.specs.Past.{published, collected, is_among}
 use Rattle.vub_device.proofs.Numbers.{is_among_append}
@@ -25,12 +24,12 @@ use Rattle.vub_world.specs.declared.report.items.Item.TheVariants as items
 use Rattle.vub_world.specs.declared.report.items.Record.{Record}
 use Rattle.vub_world.specs.GuestState.{driver_in, seen_in}
 use Rattle.vub_world.specs.Logs.{offered_in, collected_in, size_in, slot_in}
-use Rattle.vub_world.specs.MachineAt.{AskAt, LifeAt, AttachedAt, LogAt, MachineAt}
+use Rattle.vub_world.specs.MachineAt.{AskAt, LifeAt, AttachedAt, MachineAt}
 use Rattle.vub_world.specs.Moments.{Lane, Moment}
 use Rattle.vub_world.specs.QueueState.{state_of}
 use Rattle.vub_world.specs.Run.{Stands, played, next_collected, take_first, collect}
 use Rattle.vub_world.proofs.RunNumbers.{among_at}
-use Rattle.vub_world.proofs.RunGood.{the_ring, Known, IsOut}
+use Rattle.vub_world.proofs.RunGood.{the_ring, Known}
 use Rattle.vub_world.proofs.RunCollects.{IsTaken, none_before, first_seen, after_taken}
 use Rattle.vub_world.proofs.RunTurns.{IsPlain, Good}
 use Rattle.vub_world.proofs.Runs.{plain_header}

@@ -1,9 +1,8 @@
 -- What is noted of the driver's stores has room: they are small, and a request writes one sector.
-use Rattle.std.proofs.Common.{◌≡◌, ◌≤◌, ◌<◌, ℕ, zero, suc, ◌+◌, ◌*◌, ◌%◌, List, [], ◌∷◌, ◌++◌, length, replicate, refl, ap, sym, ◌∙◌, subst, arith}
+use Rattle.std.proofs.Common.{◌≡◌, ◌≤◌, ℕ, ◌+◌, ◌%◌, List, [], ◌∷◌, ◌++◌, length, replicate, refl, sym, subst, arith}
 use Rattle.std.specs.Prelude.{Option, Some, None}
 use Rattle.std.specs.List.{AllByRecursion, flat_map}
 use Rattle.std.proofs.lemmas.List.{length-append, length-replicate}
-use Rattle.byteorder.specs.Endian.{little_bytes}
 use Rattle.vub_base.specs.declared.header.Header1.{Header1}
 use Rattle.vub_base.specs.declared.request.Ask.{Ask}
 use Rattle.vub_base.specs.declared.request.Ask.TheVariants as wants
@@ -12,11 +11,8 @@ use Rattle.vub_driver.specs.Layout.{status_place, sectors_place}
 use Rattle.vub_driver.specs.Drivers.{Driver, Waiting}
 use Rattle.vub_driver.specs.Requests.{Piece, readable_piece, writable_piece, written_bytes, descriptor_bytes}
 use Rattle.vub_driver.specs.Stores.{store_of_some, offer_stores, request_stores}
-use Rattle.vub_schedule.specs.declared.types.Event.{Event}
 use Rattle.vub_world.specs.declared.machine.Machine.{Machine}
-use Rattle.vub_world.specs.declared.report.items.Record.{Record}
 use Rattle.vub_world.specs.ChainState.{data_of}
-use Rattle.vub_world.specs.GuestState.{driver_in}
 use Rattle.vub_world.specs.MachineAt.{AskAt, MachineAt, IsStanding}
 use Rattle.vub_world.specs.MachineSteps.{IsSmall, AreSmall, AskFits, FrontFits}
 use Rattle.vub_world.specs.Moments.{Moment}

@@ -1,15 +1,14 @@
 -- Where the machine stands after the driver's stores of a request, whose last one offers it.
-use Rattle.std.proofs.Common.{◌≡◌, ◌≢◌, ◌≤◌, ◌<◌, ℕ, zero, suc, ◌+◌, ◌%◌, Bool, true, false, cond, List, [], ◌∷◌, ◌++◌, length, take, refl, ap, sym, ◌∙◌, subst, inl, inr, arith}
+use Rattle.std.proofs.Common.{◌≡◌, ◌≢◌, ◌≤◌, ◌<◌, ℕ, zero, suc, ◌+◌, Bool, true, false, cond, List, [], ◌∷◌, ◌++◌, length, take, refl, ap, sym, ◌∙◌, subst, inl, inr, arith}
 use Rattle.std.specs.Prelude.{Option, Some, None, slice_index, is_some, ◌==◌, ◌&&◌, nat_lt}
 use Rattle.std.proofs.lemmas.Bool.Decides.{nat_tests}
-use Rattle.std.proofs.lemmas.Bool.{cases_Bool, cases_lt, cases_eq}
+use Rattle.std.proofs.lemmas.Bool.{cases_Bool, cases_lt}
 use Rattle.std.proofs.lemmas.List.{length-append, length_push}
 use Rattle.vub_base.specs.MemForms.{next_count}
 use Rattle.vub_base.specs.declared.header.Header1.{Header1}
 use Rattle.vub_base.specs.declared.request.Ask.{Ask}
 use Rattle.vub_base.specs.declared.request.Ask.TheVariants as wants
 use Rattle.vub_shared.specs.Bytes.{Bytes}
-use Rattle.vub_shared.specs.Watched.{bytes_in}
 use Rattle.vub_shared.specs.declared.watched_shared.WatchedShared.{WatchedShared}
 use Rattle.vub_ring.specs.Ring.{last_head}
 use Rattle.vub_driver.specs.Drivers.{Driver, Waiting, after_stores}
@@ -31,14 +30,14 @@ use Rattle.vub_world.specs.declared.report.items.Item.{Item}
 use Rattle.vub_world.specs.declared.report.items.Item.TheVariants as items
 use Rattle.vub_world.specs.declared.report.items.Record.{Record}
 use Rattle.vub_world.specs.GuestState.{seen_in}
-use Rattle.vub_world.specs.Logs.{offered_in, collected_in, size_in, slot_in, reads_in, new_slot, Offers}
+use Rattle.vub_world.specs.Logs.{offered_in, size_in, slot_in, reads_in, new_slot, Offers}
 use Rattle.vub_world.specs.MachineAt.{FrontAt, LifeAt, AttachedAt, LogAt, MachineAt, reads_of}
 use Rattle.vub_world.specs.MachineSteps.{head_shown, GuestGoes}
-use Rattle.vub_world.specs.Memory.{Scene, with_at, after_item, after_items}
+use Rattle.vub_world.specs.Memory.{Scene, after_item, after_items}
 use Rattle.vub_world.specs.Moments.{Lane, Moment}
 use Rattle.vub_world.specs.QueueState.{state_of}
-use Rattle.vub_world.specs.Run.{Played, Stands, played, if_ready, with_lane, with_driver, request_of, guest_items, guest_stores, guest}
-use Rattle.vub_world.proofs.RunGood.{the_ring, Known, IsOut, IsPlan, IsWaiting, WaitsWell, Driven, Holds}
+use Rattle.vub_world.specs.Run.{Stands, played, if_ready, with_lane, with_driver, request_of, guest_items, guest_stores, guest}
+use Rattle.vub_world.proofs.RunGood.{the_ring, Known, IsOut, IsPlan, IsWaiting, WaitsWell, Driven}
 use Rattle.vub_world.proofs.RunEvents.{Right, event_right}
 use Rattle.vub_world.proofs.RunOffers.{same_head, new_head, same_asked, new_asked}
 use Rattle.vub_world.proofs.RunTurns.{IsPlain, Good}

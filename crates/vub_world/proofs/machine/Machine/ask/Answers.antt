@@ -1,4 +1,4 @@
-use Rattle.std.proofs.Common.{◌≡◌, List, [], refl, sym, ap, subst, ◌∙◌}
+use Rattle.std.proofs.Common.{List, sym, ap, subst, ◌∙◌}
 use Rattle.std.specs.Prelude.{Some, Result, Ok, Err, OnErr}
 use Rattle.vub_base.specs.declared.request.Ask.{Ask}
 use Rattle.vub_world.specs.declared.guest.Guest.{Guest}
