@@ -4,6 +4,7 @@ pub mod ChainReading
 pub mod GuestLemmas
 pub mod MachineBatches
 pub mod MachineDrains
+pub mod MachineEvents
 pub mod MachineGuestAsks
 pub mod MachineGuestCollects
 pub mod MachineGuestFits

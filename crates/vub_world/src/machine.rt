@@ -92,7 +92,7 @@ impl Machine {
     ghost use Rattle.vub_world.specs.GuestState.{driver_in, seen_in, next_store, Steps, Shows, Collects};
     ghost use Rattle.vub_world.specs.Logs.{offered_in, collected_in, slot_in, Offers};
     ghost use Rattle.vub_world.specs.Machine.{IsSound, LendsSound};
-    ghost use Rattle.vub_world.specs.MachineAt.{FrontAt, MachineAt, IsReached, IsStanding, Performs};
+    ghost use Rattle.vub_world.specs.MachineAt.{FrontAt, MachineAt, IsReached, IsStanding, Performs, StandsOn};
     ghost use Rattle.vub_world.specs.MachineSteps.{FrontFits, OneSmall, GuestSteps, GuestGoes, TurnGoes, DrainSteps, DrainGoes, HasTurnRoom, HasDrainRoom, BatchFits, ShowsSome, StoreFits, SectorFits, IsEntry, Spends, SpendsAnswers, SpendsUpTo, SpendsTurn, SpendsStep, stored_items, head_shown, is_joining, answer_for, answers_for, answers_shown, batch_in, shown_in, noted, next_turn};
     ghost use Rattle.vub_world.specs.Moments.{Moment, opening};
     ghost use Rattle.vub_world.specs.QueueState.{state_of};
@@ -606,7 +606,7 @@ impl Machine {
         ensures stands { IsStanding self.new }
         ensures kept { OnErr result (self.new ≡ self.old) }
         ensures event { OnOk result (self.new.last.event ≡ event.now) }
-        ensures performs { OnOk result (Performs self.old self.new event.now self.new.last.items) }
+        ensures on { OnOk result (StandsOn self.old self.new event.now self.new.last) }
     {
         let made = event.copy()?;
         let items = self.items_of(event)?;
