@@ -5,6 +5,10 @@ pub mod GuestLemmas
 pub mod MachineBatches
 pub mod MachineDrains
 pub mod MachineEvents
+pub mod MachineGuestAsks
+pub mod MachineGuestCollects
+pub mod MachineGuestFits
+pub mod MachineGuestOffers
 pub mod MachineGuests
 pub mod MachineLemmas
 pub mod MachineLives

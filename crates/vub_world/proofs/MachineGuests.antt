@@ -8,7 +8,6 @@ use Rattle.vub_base.specs.declared.request.Ask.{Ask}
 use Rattle.vub_base.specs.declared.store.Tag.TheVariants.{G}
 use Rattle.vub_base.specs.declared.store.Area.TheVariants.{M}
 use Rattle.vub_shared.specs.Stores.{Store}
-use Rattle.vub_shared.specs.Watched.{bytes_in}
 use Rattle.vub_ring.specs.Ring.{Ring}
 use Rattle.vub_driver.specs.Drivers.{Driver, Waiting, with_left, after_stores}
 use Rattle.vub_world.specs.declared.guest.Guest.{Guest}

@@ -151,7 +151,7 @@ pub struct Guest {
 }
 
 impl Guest {
-    ghost use Rattle.std.specs.Prelude.{if◌then◌else◌, Ok};
+    ghost use Rattle.std.specs.Prelude.{false, if◌then◌else◌, Ok};
     ghost use Rattle.vub_base.specs.Causes.{HasCause};
     ghost use Rattle.vub_base.specs.Told.{WhereTold};
     ghost use Rattle.vub_shared.specs.Stores.{Stores, Trails};
@@ -230,6 +230,7 @@ impl Guest {
         ensures area { self.new.area ≡ self.old.area }
         ensures answer { result ≡ can_take (ring_in self.old).size shape ask.now (driver_in self.old) }
         ensures driver { driver_in self.new ≡ (if result then after_ask (ring_in self.old) ask.now (driver_in self.old) else driver_in self.old) }
+        ensures kept { result ≡ false → self.new ≡ self.old }
         ensures ring { ring_in self.new ≡ ring_in self.old }
         ensures position { seen_in self.new ≡ seen_in self.old }
     {

@@ -1,5 +1,5 @@
 //! What the records tell of one queue's requests.
-ghost use Rattle.std.specs.Prelude.{◌≡◌, ◌-◌, ◌^◌, ◌↔◌, ℕ, IsTrue, IfOk};
+ghost use Rattle.std.specs.Prelude.{◌≡◌, ◌<◌, ◌+◌, ◌-◌, ◌^◌, ◌↔◌, ℕ, false, IsTrue, IfOk};
 ghost use Rattle.vub_base.specs.MemForms.{next_count};
 ghost use Rattle.vub_world.specs.Logs.{reads_in};
 
@@ -57,7 +57,8 @@ impl Log {
 
     /// Whether no number is left for a further request.
     pub fn is_full(&self) -> bool
-        ensures { IsTrue result ↔ (offered_in self.now ≡ 2 ^ 64 - 1) }
+        ensures full { IsTrue result ↔ (offered_in self.now ≡ 2 ^ 64 - 1) }
+        ensures more { result ≡ false → next_count (offered_in self.now) ≡ offered_in self.now + 1 }
     {
         self.offered == u64::MAX
     }
@@ -87,14 +88,16 @@ impl Log {
         }
     }
 
-    /// Notes that a request was collected.
+    /// Notes that a request was collected, if one is outstanding.
     pub fn collect(&mut self)
-        ensures collected { collected_in self.new ≡ next_count (collected_in self.old) }
+        ensures collected { collected_in self.old < offered_in self.old → collected_in self.new ≡ collected_in self.old + 1 }
         ensures offered { offered_in self.new ≡ offered_in self.old }
         ensures size { size_in self.new ≡ size_in self.old }
         ensures slots { (d : ℕ) → slot_in self.new d ≡ slot_in self.old d }
     {
-        self.collected = self.collected.saturating_add(1);
+        if self.collected < self.offered {
+            self.collected += 1;
+        }
     }
 
     /// How many requests are offered and not collected.

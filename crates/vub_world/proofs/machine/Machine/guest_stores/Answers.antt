@@ -1,4 +1,4 @@
-use Rattle.std.proofs.Common.{refl, sym, subst, ◌∙◌, ◌+◌, ◌≤◌, ◌≡◌, ℕ, arith, cond, true, false, Bool}
+use Rattle.std.proofs.Common.{subst, ◌∙◌, ◌≡◌, ℕ, arith, Bool}
 use Rattle.vub_world.proofs.MachineGuests.{GuestLoop, loop_begins, frame_more, loop_more, loop_last}
 use Rattle.vub_world.specs.MachineSteps.{GuestSteps, GuestGoes}
 use Rattle.vub_world.proofs.machine.Machine.guest_stores.Goals as goal

@@ -1,0 +1,183 @@
+-- Where the machine stands after the driver's stores of a request, whose last one offers it.
+use Rattle.std.proofs.Common.{◌≡◌, ◌≢◌, ◌≤◌, ◌<◌, ℕ, zero, suc, ◌+◌, Bool, true, false, cond, List, [], ◌∷◌, ◌++◌, length, take, refl, ap, sym, ◌∙◌, subst, inl, inr, arith}
+use Rattle.std.specs.Prelude.{Option, Some, None, slice_index, is_some, ◌==◌, ◌&&◌, nat_lt}
+use Rattle.std.proofs.lemmas.Bool.Decides.{nat_tests}
+use Rattle.std.proofs.lemmas.Bool.{cases_Bool, cases_lt}
+use Rattle.std.proofs.lemmas.List.{length-append, length_push}
+use Rattle.vub_base.specs.MemForms.{next_count}
+use Rattle.vub_base.specs.declared.header.Header1.{Header1}
+use Rattle.vub_base.specs.declared.request.Ask.{Ask}
+use Rattle.vub_base.specs.declared.request.Ask.TheVariants as wants
+use Rattle.vub_shared.specs.Bytes.{Bytes}
+use Rattle.vub_shared.specs.declared.watched_shared.WatchedShared.{WatchedShared}
+use Rattle.vub_ring.specs.Ring.{last_head}
+use Rattle.vub_driver.specs.Drivers.{Driver, Waiting, after_stores}
+use Rattle.vub_driver.specs.Stores.{offer_stores}
+use Rattle.vub_device.specs.declared.entry.Asked.{Asked}
+use Rattle.vub_device.specs.declared.entry.Entry.{Entry}
+use Rattle.vub_device.specs.declared.entry.Entry.TheVariants as entries
+use Rattle.vub_device.specs.Past.{asked, published, collected, is_among}
+use Rattle.vub_schedule.specs.declared.types.Event.{Event}
+use Rattle.vub_schedule.specs.declared.types.Event.TheVariants as events
+use Rattle.vub_world.specs.declared.guest.Guest.{Guest}
+use Rattle.vub_world.specs.declared.log.Log.{Log}
+use Rattle.vub_world.specs.declared.log.Outstanding.{Outstanding}
+use Rattle.vub_world.specs.declared.machine.Life.{Life}
+use Rattle.vub_world.specs.declared.machine.Machine.{Machine}
+use Rattle.vub_world.specs.declared.queue.Queue.{Queue}
+use Rattle.vub_world.specs.declared.split.SplitRing.{SplitRing}
+use Rattle.vub_world.specs.declared.report.items.Item.{Item}
+use Rattle.vub_world.specs.declared.report.items.Item.TheVariants as items
+use Rattle.vub_world.specs.declared.report.items.Record.{Record}
+use Rattle.vub_world.specs.GuestState.{seen_in}
+use Rattle.vub_world.specs.Logs.{offered_in, size_in, slot_in, reads_in, new_slot, Offers}
+use Rattle.vub_world.specs.MachineAt.{FrontAt, LifeAt, AttachedAt, LogAt, MachineAt, reads_of}
+use Rattle.vub_world.specs.MachineSteps.{head_shown, GuestGoes}
+use Rattle.vub_world.specs.Memory.{Scene, after_item, after_items}
+use Rattle.vub_world.specs.Moments.{Lane, Moment}
+use Rattle.vub_world.specs.QueueState.{state_of}
+use Rattle.vub_world.specs.Run.{Stands, played, if_ready, with_lane, with_driver, request_of, guest_items, guest_stores, guest}
+use Rattle.vub_world.proofs.RunGood.{the_ring, Known, IsOut, IsPlan, IsWaiting, WaitsWell, Driven}
+use Rattle.vub_world.proofs.RunEvents.{Right, event_right}
+use Rattle.vub_world.proofs.RunOffers.{same_head, new_head, same_asked, new_asked}
+use Rattle.vub_world.proofs.RunTurns.{IsPlain, Good}
+use Rattle.vub_world.proofs.Runs.{plain_header}
+use Rattle.vub_world.proofs.RunsTo.{stands_good}
+use Rattle.vub_world.proofs.RunChainsStores.{put_all}
+use Rattle.vub_world.proofs.RunChainsGuests.{guest_scene}
+use Rattle.vub_world.proofs.QueueAtMoves.{at_offer}
+
+-- ---- the log
+
+reads_are : (a : Ask) → reads_of (Some (request_of a)) ≡ reads_in a
+reads_are (wants.Read s n) = refl
+reads_are (wants.Write s fills) = refl
+reads_are wants.Flush = refl
+reads_are wants.Id = refl
+reads_are (wants.Discard parts) = refl
+reads_are (wants.Zero parts) = refl
+
+abbrev slot : ℕ → ℕ → Outstanding
+slot number reads = record { number = number; reads = reads }
+
+-- under the head of the request stand its number and what it reads, and others keep their slots
+pub offered_log : (n cap base : ℕ) (past : List Entry) (heads : List ℕ) (a : Ask) (head : ℕ) (v : Driver) (l now : Log) → LogAt n past heads l → Known n cap past heads
+    → Driven n cap base (entries.Offer 0 (request_of a) ∷ past) (heads ++ head ∷ []) v → next_count (offered_in l) ≡ offered_in l + 1 → Offers l now head a
+    → LogAt n (entries.Offer 0 (request_of a) ∷ past) (heads ++ head ∷ []) now
+offered_log n cap base past heads a head v l now at known driven more offers =
+    let r : Asked = request_of a in
+    let past' : List Entry = entries.Offer 0 r ∷ past in
+    let heads' : List ℕ = heads ++ head ∷ [] in
+    let c : ℕ = length heads in
+    let long : length heads' ≡ c + 1 = length_push heads head in
+    let shown : List ℕ = take (collected past 0) (published past 0) in
+    let last_out : IsOut past' heads' c = record {
+      below = omega (arith, long);
+      kept = elim (cases_Bool (is_among shown c)) [
+        | inl held ↦ absurd (let low : is_among (published past 0) c ≡ true = among_taken (published past 0) (collected past 0) c held in omega (arith, known.below c low, known.offered))
+        | inr out ↦ out
+      ];
+    } in
+    let last_head_is : slice_index heads' c ≡ head = new_head heads head in
+    record {
+      offers_are = offers.offered ∙ more ∙ ap (λ (k : ℕ). k + 1) at.offers_are ∙ sym long;
+      collects_are = offers.collected ∙ at.collects_are;
+      places = offers.size ∙ at.places;
+      slots = λ k below kept. elim (cases_lt k c) [
+        | inl low ↦
+            let d : ℕ = slice_index heads' k in
+            let head_is : d ≡ slice_index heads k = same_head heads head k low in
+            let apart : d ≢ head = λ same. (let one : k ≡ c = driven.apart k c (record { below = below; kept = kept }) last_out (same ∙ sym last_head_is) in omega (arith, one)) in
+            let other : (d == head) ≡ false = grind (arith, nat_tests) in
+            let still : slot_in now d ≡ slot_in l d = offers.slots d ∙ ap (λ (b : Bool). cond {A = Outstanding} (b && nat_lt d (size_in l)) (new_slot l a) (slot_in l d)) other in
+            let asks_it : asked past' 0 k ≡ asked past 0 k = same_asked past r k (omega (arith, low, known.offers_are)) in
+            still ∙ ap (λ (e : ℕ). slot_in l e) head_is ∙ at.slots k low kept ∙ ap (λ (o : Option Asked). slot k (reads_of o)) (sym asks_it)
+        | inr high ↦
+            let is : k ≡ c = omega (arith, long, high, below) in
+            let d : ℕ = slice_index heads' k in
+            let here : d ≡ head = ap (λ (i : ℕ). slice_index heads' i) is ∙ last_head_is in
+            let fits : slice_index heads' c < n = driven.below c last_out in
+            let fits_here : d < size_in l = omega (arith, fits, here, last_head_is, at.places) in
+            let yes : ((d == head) && nat_lt d (size_in l)) ≡ true = grind (arith, nat_tests) in
+            let new : slot_in now d ≡ new_slot l a = offers.slots d ∙ ap (λ (b : Bool). cond {A = Outstanding} b (new_slot l a) (slot_in l d)) yes in
+            let number : offered_in l ≡ k = at.offers_are ∙ sym is in
+            let asks_it : asked past' 0 k ≡ Some r = new_asked past r k (is ∙ known.offers_are) in
+            new ∙ ap (λ (i : ℕ). slot i (reads_in a)) number ∙ ap (λ (i : ℕ). slot k i) (sym (reads_are a)) ∙ ap (λ (o : Option Asked). slot k (reads_of o)) (sym asks_it)
+      ];
+    }
+  where
+    among_taken : (xs : List ℕ) (k x : ℕ) → is_among (take k xs) x ≡ true → is_among xs x ≡ true
+    among_taken [] zero x held = held
+    among_taken [] (suc k) x held = held
+    among_taken (y ∷ xs) zero x held = absurd (let fails : false ≡ true = held in cc)
+    among_taken (y ∷ xs) (suc k) x held =
+        let rest : is_among (take k xs) x ≡ true → is_among xs x ≡ true = λ h. among_taken xs k x h in
+        grind (arith, nat_tests)
+
+-- ---- the moment
+
+-- the lane after all of the stores
+abbrev pub offered_lane : Waiting → Moment → Lane
+offered_lane x m = with_driver (after_stores 16 x (m.lanes 0).driver) (m.lanes 0)
+
+-- the scene after the offer, where memory is that
+abbrev pub offered_scene : ℕ → Asked → Bytes → Scene → Scene
+offered_scene size r b s = after_item size (items.Made (entries.Offer 0 r)) (record s { memory = b })
+
+abbrev pub moment_with : Waiting → Moment → Scene → Moment
+moment_with x m s = with_lane 0 (offered_lane x m) (record m { scene = s })
+
+offered_life : (h : Header1) (ring : SplitRing) (m : Moment) (x : Waiting) (r : Asked) (b : Bytes) (life : Option Life) → Good h m → LifeAt h ring m life → LifeAt h ring (moment_with x m (offered_scene h.size r b m.scene)) life
+offered_life h ring m x r b None good at = at
+offered_life h ring m x r b (Some l) good at = (at.0, attached l.queue at.1)
+  where
+    attached : (o : Option Queue) → AttachedAt h ring m o → AttachedAt h ring (moment_with x m (offered_scene h.size r b m.scene)) o
+    attached None a = a
+    attached (Some q) a = (a.0, a.1, at_offer h ring m.scene.past (m.scene.heads 0) (m.lanes 0).phase (m.lanes 0).batch (m.lanes 0).completed (m.lanes 0).made (state_of q) r (last_head (the_ring h.size) b) good.holds.known good.holds.worked a.2)
+
+-- the machine with other parts of the front
+abbrev pub with_front : Machine → WatchedShared → Guest → Option Ask → Log → Machine
+with_front w memory guest asked log = record w { memory = memory; guest = guest; asked = asked; log = log }
+
+offered_at : (w : Machine) (memory : WatchedShared) (guest' : Guest) (asked' : Option Ask) (log : Log) (es : List Event) (rs : List Record) (m : Moment) (x : Waiting) (is : List Item)
+    → seen_in guest' ≡ seen_in w.guest → next_count (offered_in w.log) ≡ offered_in w.log + 1 → Stands w.header es rs m → MachineAt w m → (m.lanes 0).driver.waiting ≡ Some x
+    → GuestGoes 16 x w (with_front w memory guest' asked' log) m [] is
+    → (next : Moment) × (played is next ≡ guest w.header 0 16 m) × MachineAt (with_front w memory guest' asked' log) next
+offered_at w memory guest' asked' log es rs m x is position more s at waits goes =
+    let h : Header1 = w.header in
+    let now : Machine = with_front w memory guest' asked' log in
+    let plain : IsPlain h = plain_header h s.header in
+    let good : Good h m = stands_good h es rs m s in
+    let v : Driver = (m.lanes 0).driver in
+    let r : Asked = request_of x.ask in
+    let next : Moment = (guest_stores h 0 16 (Some x) m).next in
+    let plays : played is next ≡ guest h 0 16 m = ap (λ (js : List Item). played js next) goes.items ∙ ap (λ (o : Option Waiting). if_ready (is_some o) (guest_stores h 0 16 o m) m) (sym waits) in
+    let right : Right h m is next = event_right h m (events.Guest 0 16) is next plain good (refl, refl) plays in
+    let waiting : IsWaiting h.size h.capacity m.scene.past (m.scene.heads 0) v x = subst (λ (o : Option Waiting). WaitsWell h.size h.capacity m.scene.past (m.scene.heads 0) v o) waits good.holds.driven.waits in
+    let plan : IsPlan h.size v.avail_idx x.head x.left = waiting.plan in
+    let long : length x.left ≡ length plan.first + 2 = ap length plan.whole ∙ length-append plan.first (offer_stores (the_ring h.size) v.avail_idx x.head) in
+    let few : length x.left ≤ 16 = omega (arith, long, plan.few) in
+    let b : Bytes = put_all x.left m.scene.memory in
+    let scene : after_items h.size (guest_items 16 0 x.ask x.left) m.scene ≡ offered_scene h.size r b m.scene = guest_scene h.size 16 x.ask x.left m.scene (omega (arith, long)) few in
+    let whole : next ≡ moment_with x m (offered_scene h.size r b m.scene) = ap (moment_with x m) scene in
+    let front : FrontAt now (moment_with x m (offered_scene h.size r b m.scene)) = subst (λ (n : Moment). FrontAt now n) whole goes.front in
+    let good_next : Good h (moment_with x m (offered_scene h.size r b m.scene)) = subst (λ (n : Moment). Good h n) whole right.good in
+    let shown : head_shown now ≡ last_head (the_ring h.size) b = ap (λ (bs : Bytes). last_head (the_ring h.size) bs) front.memory in
+    let offers : Offers w.log log (last_head (the_ring h.size) b) x.ask = subst (λ (d : ℕ). Offers w.log log d x.ask) shown (goes.log.offers few) in
+    let stands : MachineAt now (moment_with x m (offered_scene h.size r b m.scene)) = record {
+      front = front;
+      position = position ∙ at.position;
+      life = offered_life h w.ring m x r b w.life good at.life;
+      disk = at.disk;
+      log = offered_log h.size h.capacity h.base m.scene.past (m.scene.heads 0) x.ask (last_head (the_ring h.size) b) (offered_lane x m).driver w.log log at.log good.holds.known good_next.holds.driven more offers;
+    } in
+    (next, plays, subst (λ (n : Moment). MachineAt now n) (sym whole) stands)
+
+-- the event is played
+pub guest_performs : (w now : Machine) (es : List Event) (rs : List Record) (m : Moment) (x : Waiting) (is : List Item) → now ≡ record w { memory = now.memory; guest = now.guest; asked = now.asked; log = now.log }
+    → seen_in now.guest ≡ seen_in w.guest → next_count (offered_in w.log) ≡ offered_in w.log + 1 → Stands w.header es rs m → MachineAt w m → (m.lanes 0).driver.waiting ≡ Some x
+    → GuestGoes 16 x w now m [] is
+    → (next : Moment) × (played is next ≡ guest w.header 0 16 m) × MachineAt now next
+guest_performs w now es rs m x is frame position more s at waits goes =
+    let done = offered_at w now.memory now.guest now.asked now.log es rs m x is position more s at waits (subst (λ (u : Machine). GuestGoes 16 x w u m [] is) frame goes) in
+    (done.0, done.1, subst (λ (u : Machine). MachineAt u done.0) (sym frame) done.2)

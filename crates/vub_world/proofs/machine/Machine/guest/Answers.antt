@@ -1,0 +1,41 @@
+use Rattle.std.proofs.Common.{◌≡◌, ℕ, List, [], refl, sym, ap, subst, ◌∙◌, true, false}
+use Rattle.std.specs.Prelude.{Option, Some, None, is_some, not}
+use Rattle.vub_base.specs.declared.request.Ask.{Ask}
+use Rattle.vub_driver.specs.Drivers.{Waiting}
+use Rattle.vub_world.specs.declared.report.items.Item.{Item}
+use Rattle.vub_world.specs.declared.machine.Machine.{Machine}
+use Rattle.vub_world.specs.MachineAt.{AskAt, MachineAt}
+use Rattle.vub_world.specs.MachineSteps.{GuestGoes}
+use Rattle.vub_world.specs.Moments.{Moment}
+use Rattle.vub_world.specs.Run.{played, guest}
+use Rattle.vub_world.proofs.MachineGuestFits.{front_fits}
+use Rattle.vub_world.proofs.MachineGuestOffers.{guest_performs}
+use Rattle.vub_world.proofs.machine.Machine.guest.Goals as goal
+
+pub guest_stores-requires-clause-fits : goal.guest_stores-requires-clause-fits
+guest_stores-requires-clause-fits c = front_fits c.args.self.now c.requires.stands
+
+pub returns-clause-performs : goal.returns-clause-performs
+returns-clause-performs c sixteen es rs m s at = go (m.lanes 0).driver.waiting refl
+  where
+    w : Machine
+    w = c.args.self.now
+
+    now : Machine
+    now = c.guest_stores.new.self
+
+    is : List Item
+    is = c.into_items.result
+
+    go : (o : Option Waiting) → (m.lanes 0).driver.waiting ≡ o → (next : Moment) × (played is next ≡ guest w.header 0 c.args.stores m) × MachineAt now next
+    go None e =
+        let none : w.asked ≡ None = subst (λ (o : Option Waiting). AskAt o w.asked) e at.front.asks in
+        let fails : false ≡ true = ap (λ (a : Option Ask). is_some a) (sym none) ∙ c.is_none.ensures ∙ ap not c.if-is_none.false in
+        absurd (cc)
+    go (Some x) e =
+        let goes = c.guest_stores.ensures.goes m x at.front e in
+        let begins : c.in_ok-room.room.items ≡ [] = ap (λ r. r.items) c.in_ok-room.ensures in
+        let here : GuestGoes 16 x w now m [] is = subst (λ (js : List Item). GuestGoes 16 x w now m [] js) (sym c.into_items.ensures)
+        (subst (λ (js : List Item). GuestGoes 16 x w now m js c.guest_stores.new.room.items) begins (subst (λ (k : ℕ). GuestGoes k x w now m c.in_ok-room.room.items c.guest_stores.new.room.items) sixteen goes)) in
+        subst (λ (k : ℕ). (next : Moment) × (played is next ≡ guest w.header 0 k m) × MachineAt now next) (sym sixteen)
+        (guest_performs w now es rs m x is c.guest_stores.ensures.frame c.guest_stores.ensures.position (c.is_full.ensures.more c.if-is_full.false) s at e here)
