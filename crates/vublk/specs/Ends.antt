@@ -7,7 +7,7 @@ use Rattle.vub_schedule.specs.Faults.{IsFirstBad}
 use Rattle.vub_world.specs.declared.report.items.Record.{Record}
 use Rattle.vub_world.specs.RecordText.{run_spelling}
 use Rattle.vublk.specs.Flows.{TookAll, Wrote, WrotePart, IsPastLimit, input_limit}
-use Rattle.vublk.specs.Records.{IsRecorded}
+use Rattle.vub_world.specs.LegalRuns.{IsLegalRun}
 use Rattle.vublk.specs.declared.replay.End.{End}
 use Rattle.vublk.specs.declared.replay.End.TheVariants.{Done, Memory, ReadFault, WriteFault, BadLine, TooLong}
 
@@ -16,17 +16,17 @@ bad_line_text n = codes "bad line " ++ decimal n ++ 10 ∷ []
 
 -- ---- what a schedule prints
 
--- the head line and the records of all events
+-- the head line and the records of a run of all events, whose history is legal and tracked
 abbrev pub PrintsAll : Schedule → Option (List ℕ) → Option (List ℕ) → Type 0
-PrintsAll s old new = (records : List Record) × IsRecorded s.events records × Wrote old new (run_spelling s.header records)
+PrintsAll s old new = (records : List Record) × IsLegalRun s.header s.events records × Wrote old new (run_spelling s.header records)
 
--- the head line and the records of the first events
+-- the same of a run of the first events
 abbrev pub PrintsSome : Schedule → Option (List ℕ) → Option (List ℕ) → Type 0
-PrintsSome s old new = (n : ℕ) × (records : List Record) × IsRecorded (take n s.events) records × Wrote old new (run_spelling s.header records)
+PrintsSome s old new = (n : ℕ) × (records : List Record) × IsLegalRun s.header (take n s.events) records × Wrote old new (run_spelling s.header records)
 
 -- a front of such a text
 abbrev pub PrintsPart : Schedule → Option (List ℕ) → Option (List ℕ) → Type 0
-PrintsPart s old new = (n : ℕ) × (records : List Record) × IsRecorded (take n s.events) records × WrotePart old new (run_spelling s.header records)
+PrintsPart s old new = (n : ℕ) × (records : List Record) × IsLegalRun s.header (take n s.events) records × WrotePart old new (run_spelling s.header records)
 
 -- at each end of a schedule's run
 abbrev pub Prints : Schedule → Option (List ℕ) → Option (List ℕ) → End → Type 0

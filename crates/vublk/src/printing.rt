@@ -5,9 +5,11 @@ ghost use Rattle.vub_base.specs.Causes.{Rose};
 ghost use Rattle.vub_schedule.specs.Spelling.{IsEvent};
 ghost use Rattle.vub_world.specs.declared.report.items.Record.{Record};
 ghost use Rattle.vub_world.specs.RecordText.{head_spelling, record_spelling};
+ghost use Rattle.vub_world.specs.LegalRuns.{IsLegalRun};
+ghost use Rattle.vub_world.specs.MachineAt.{StandsFor, StandsOn};
 ghost use Rattle.vub_world.specs.World.{header_in};
 ghost use Rattle.vublk.specs.Flows.{Wrote, WrotePart};
-ghost use Rattle.vublk.specs.Records.{IsRecorded, records_text};
+ghost use Rattle.vublk.specs.Records.{records_text};
 
 use std::alloc::Global;
 use vub_base::{Header1, Sink};
@@ -57,19 +59,22 @@ fn print_next<O: Sink>(
 ) -> Result<(), PrintFault>
     requires event { IsEvent (header_in world.old) event.now }
     ensures header { header_in world.new ≡ header_in world.old }
-    ensures ok { OnOk result ((r : Record) × (r.event ≡ event.now) × Wrote (O.held out.old) (O.held out.new) (record_spelling r)) }
+    ensures ok { OnOk result ((r : Record) × StandsOn world.old world.new event.now r × Wrote (O.held out.old) (O.held out.new) (record_spelling r)) }
     ensures memory { IsErrOf result PrintFault.Memory → O.held out.new ≡ O.held out.old }
-    ensures part { IsErrOf result PrintFault.Failed → (r : Record) × (r.event ≡ event.now) × WrotePart (O.held out.old) (O.held out.new) (record_spelling r) }
+    ensures part { IsErrOf result PrintFault.Failed → (r : Record) × StandsOn world.old world.new event.now r × WrotePart (O.held out.old) (O.held out.new) (record_spelling r) }
     ensures later { O.faults out.old ≤ O.faults out.new }
     ensures failed { IsErrOf result PrintFault.Failed → Rose (O.faults out.old) (O.faults out.new) }
 {
-    let made = world.event(event).map_err(|_| PrintFault::Memory)?;
+    let made = match world.event(event) {
+        Ok(made) => made,
+        Err(_) => return Err(PrintFault::Memory),
+    };
     text.clear();
     put_record(alloc, text, made).map_err(|_| PrintFault::Memory)?;
     put(out, text)
 }
 
-/// Plays events in order, and prints each record as it is made.
+/// Plays events in order in a new world, and prints each record as it is made.
 pub fn print_all<O: Sink>(
     alloc: Global,
     world: &mut World,
@@ -77,11 +82,12 @@ pub fn print_all<O: Sink>(
     out: &mut O,
 ) -> Result<(), PrintFault>
     requires events { AllByRecursion (IsEvent (header_in world.old)) events.now }
-    ensures ok { OnOk result ((rs : List Record) × IsRecorded events.now rs × Wrote (O.held out.old) (O.held out.new) (records_text rs)) }
+    requires new { StandsFor world.old [] [] }
+    ensures ok { OnOk result ((rs : List Record) × IsLegalRun (header_in world.old) events.now rs × Wrote (O.held out.old) (O.held out.new) (records_text rs)) }
     ensures memory { IsErrOf result PrintFault.Memory →
-        (n : ℕ) × (rs : List Record) × IsRecorded (take n events.now) rs × Wrote (O.held out.old) (O.held out.new) (records_text rs) }
+        (n : ℕ) × (rs : List Record) × IsLegalRun (header_in world.old) (take n events.now) rs × Wrote (O.held out.old) (O.held out.new) (records_text rs) }
     ensures part { IsErrOf result PrintFault.Failed →
-        (n : ℕ) × (rs : List Record) × IsRecorded (take n events.now) rs × WrotePart (O.held out.old) (O.held out.new) (records_text rs) }
+        (n : ℕ) × (rs : List Record) × IsLegalRun (header_in world.old) (take n events.now) rs × WrotePart (O.held out.old) (O.held out.new) (records_text rs) }
     ensures later { O.faults out.old ≤ O.faults out.new }
     ensures failed { IsErrOf result PrintFault.Failed → Rose (O.faults out.old) (O.faults out.new) }
 {

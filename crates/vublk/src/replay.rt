@@ -2,6 +2,7 @@
 ghost use Rattle.std.specs.Prelude.{◌≡◌, ◌+◌, ◌≤◌, ◌++◌, [], List, ℕ, length, IfOk};
 ghost use Rattle.vub_base.specs.Causes.{Rose};
 ghost use Rattle.vub_schedule.specs.Spelling.{IsSchedule};
+ghost use Rattle.vub_world.specs.MachineAt.{StandsFor};
 ghost use Rattle.vub_world.specs.World.{header_in};
 ghost use Rattle.vublk.specs.Flows.{Wrote, WrotePart, TakesAtMost, input_limit};
 ghost use Rattle.vublk.specs.Ends.{Prints, Plays, Replays, IsBadEnd, bad_line_text};
@@ -35,6 +36,7 @@ pub enum End {
 fn print_world<O: Sink>(alloc: Global, world: &mut World, schedule: &Schedule, out: &mut O) -> End
     requires schedule { IsSchedule schedule.now }
     requires header { header_in world.old ≡ schedule.now.header }
+    requires new { StandsFor world.old [] [] }
     ensures ends { Prints schedule.now (O.held out.old) (O.held out.new) result }
     ensures later { O.faults out.old ≤ O.faults out.new }
     ensures failed { result ≡ End.WriteFault → Rose (O.faults out.old) (O.faults out.new) }
