@@ -10,12 +10,12 @@ use Rattle.vub_memdisk.specs.MemDisks.{capacity_of}
 use Rattle.vub_ring.specs.Ring.{Ring}
 use Rattle.vub_schedule.specs.Spelling.{is_size, IsHeader}
 use Rattle.vub_driver.specs.Layout.{ring_of}
-use Rattle.vub_world.specs.declared.split.SplitRing.{SplitRing}
+use Rattle.vub_split.specs.declared.split.SplitRing.{SplitRing}
 use Rattle.vub_world.specs.declared.machine.Life.{Life}
 use Rattle.vub_world.specs.declared.machine.Machine.{Machine}
-use Rattle.vub_world.specs.Split.{RingLies}
-use Rattle.vub_world.specs.Guest.{GuestLies}
-use Rattle.vub_world.specs.GuestState.{ring_in}
+use Rattle.vub_split.specs.Split.{RingLies}
+use Rattle.vub_guest.specs.Guest.{GuestLies}
+use Rattle.vub_guest.specs.GuestState.{ring_in}
 use Rattle.vub_world.specs.Lives.{RingOfQueue, RingOfLife}
 use Rattle.vub_world.specs.QueueAt.{IsMainRing}
 use Rattle.vub_world.specs.Machine.{IsSound, sizes_in}
