@@ -79,9 +79,9 @@ sound_size w sound =
 
 pub sound_guest : (w : Machine) → IsSound w → GuestLies (sizes_in w) w.guest
 sound_guest w sound =
-    let space : w.guest.memory.number ≡ 0 = ap (λ (r : Ring). r.space) sound.guest in
-    let area : w.guest.area ≡ 0 = ap (λ (r : Ring). r.desc) sound.guest in
-    let room : sizes_in w w.guest.memory.number ≡ 1048576 = ap (sizes_in w) space ∙ sound.room in
+    let space : (ring_in w.guest).space ≡ 0 = ap (λ (r : Ring). r.space) sound.guest in
+    let area : (ring_in w.guest).desc ≡ 0 = ap (λ (r : Ring). r.desc) sound.guest in
+    let room : sizes_in w (ring_in w.guest).space ≡ 1048576 = ap (sizes_in w) space ∙ sound.room in
     omega (arith, area, room)
 
 pub sound_ring : (w : Machine) → IsSound w → RingLies (sizes_in w) w.ring
