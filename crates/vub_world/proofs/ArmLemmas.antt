@@ -16,7 +16,7 @@ use Rattle.vub_world.specs.Tasks.{TaskStep, Look, Put, Act, Sync, Status, task_s
 use Rattle.vub_world.specs.ChainState.{sector_of, data_start, data_len, handed_bytes}
 use Rattle.vub_world.specs.TaskState.{IfMade, Making, IsNext, IsBasic, IsTaskAt, answer_of, transfer_at, work_for, with_effect, with_maybe}
 use Rattle.vub_world.proofs.ChainReading.{means_still}
-use Rattle.vub_world.specs.declared.split.SplitRing.{SplitRing}
+use Rattle.vub_split.specs.declared.split.SplitRing.{SplitRing}
 use Rattle.vub_world.specs.declared.task.Answer.{Answer}
 use Rattle.vub_world.specs.declared.task.Transfer.{Transfer}
 use Rattle.vub_world.specs.declared.task.Work.TheVariants as work

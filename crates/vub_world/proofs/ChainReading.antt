@@ -4,14 +4,14 @@ use Rattle.byteorder.specs.Numbers.{little_from-cons}
 use Rattle.vub_base.specs.Causes.{HasCause}
 use Rattle.vub_base.specs.Fields.{field}
 use Rattle.vub_shared.specs.Bytes.{Bytes, word, bytes_from}
-use Rattle.vub_world.specs.declared.split.SplitRing.{SplitRing}
+use Rattle.vub_split.specs.declared.split.SplitRing.{SplitRing}
 use Rattle.vub_world.specs.declared.chain.Desc.{Desc}
 use Rattle.std.specs.Prelude.{Option, Some, None, option_map, Result, Ok, Err, unwrap_or, ◌<◌}
 use Rattle.vub_driver.specs.Requests.{Piece, writable_piece}
 use Rattle.vub_driver.specs.Layout.{status_place}
 use Rattle.vub_device.specs.declared.entry.Asked.{Asked}
 use Rattle.vub_device.specs.declared.entry.Asked.TheVariants.{Read, Write, Flush, Id, Discard, Zero}
-use Rattle.vub_world.specs.GuestChain.{Links}
+use Rattle.vub_guest.specs.GuestChain.{Links}
 use Rattle.vub_base.specs.declared.ring_fault.RingFault.{RingFault}
 use Rattle.vub_world.specs.declared.chain.Unread.{Unread}
 use Rattle.vub_world.specs.declared.chain.Unread.TheVariants as unread

@@ -1,7 +1,5 @@
 pub mod ArmLemmas
-pub mod ChainLemmas
 pub mod ChainReading
-pub mod GuestLemmas
 pub mod MachineBatches
 pub mod MachineDrains
 pub mod MachineEvents
@@ -25,7 +23,6 @@ pub mod QueueAtRows
 pub mod QueueAtTurns
 pub mod QueueLemmas
 pub mod RecordTextLemmas
-pub mod RequestLemmas
 pub mod RunAsks
 pub mod RunChains
 pub mod RunChainsEvents
@@ -55,7 +52,6 @@ pub mod RunTurns
 pub mod RunWork
 pub mod Runs
 pub mod RunsTo
-pub mod SplitLemmas
 pub mod StepLemmas
 pub mod TaskLemmas
 pub mod WorkAt

@@ -7,12 +7,12 @@ use Rattle.vub_base.specs.declared.request.Shape.{Shape}
 use Rattle.vub_ring.specs.Ring.{Ring}
 use Rattle.vub_driver.specs.Layout.{ring_of}
 use Rattle.vub_driver.specs.Drivers.{Driver, can_take, after_ask}
-use Rattle.vub_world.specs.declared.guest.Guest.{Guest}
+use Rattle.vub_guest.specs.declared.guest.Guest.{Guest}
 use Rattle.vub_world.specs.declared.machine.Life.{Life}
 use Rattle.vub_world.specs.declared.machine.Machine.{Machine}
 use Rattle.vub_world.specs.declared.queue.Queue.{Queue}
-use Rattle.vub_world.specs.declared.split.SplitRing.{SplitRing}
-use Rattle.vub_world.specs.GuestState.{ring_in, driver_in, seen_in}
+use Rattle.vub_split.specs.declared.split.SplitRing.{SplitRing}
+use Rattle.vub_guest.specs.GuestState.{ring_in, driver_in, seen_in}
 use Rattle.vub_world.specs.Machine.{IsSound}
 use Rattle.vub_world.specs.MachineAt.{LifeAt, AttachedAt, MachineAt}
 use Rattle.vub_world.specs.Moments.{Moment}

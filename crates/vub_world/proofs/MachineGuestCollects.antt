@@ -13,16 +13,16 @@ use Rattle.vub_device.specs.declared.entry.Entry.TheVariants as entries
 use Rattle.vub_device.specs.Past.{published, collected, is_among}
 use Rattle.vub_device.proofs.Numbers.{is_among_append}
 use Rattle.vub_schedule.specs.declared.types.Event.{Event}
-use Rattle.vub_world.specs.declared.guest.Guest.{Guest}
+use Rattle.vub_guest.specs.declared.guest.Guest.{Guest}
 use Rattle.vub_world.specs.declared.log.Log.{Log}
 use Rattle.vub_world.specs.declared.log.Outstanding.{Outstanding}
 use Rattle.vub_world.specs.declared.machine.Life.{Life}
 use Rattle.vub_world.specs.declared.machine.Machine.{Machine}
 use Rattle.vub_world.specs.declared.queue.Queue.{Queue}
-use Rattle.vub_world.specs.declared.split.SplitRing.{SplitRing}
+use Rattle.vub_split.specs.declared.split.SplitRing.{SplitRing}
 use Rattle.vub_world.specs.declared.report.items.Item.TheVariants as items
 use Rattle.vub_world.specs.declared.report.items.Record.{Record}
-use Rattle.vub_world.specs.GuestState.{driver_in, seen_in}
+use Rattle.vub_guest.specs.GuestState.{driver_in, seen_in}
 use Rattle.vub_world.specs.Logs.{offered_in, collected_in, size_in, slot_in}
 use Rattle.vub_world.specs.MachineAt.{AskAt, LifeAt, AttachedAt, MachineAt}
 use Rattle.vub_world.specs.Moments.{Lane, Moment}

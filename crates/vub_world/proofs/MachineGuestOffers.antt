@@ -19,17 +19,17 @@ use Rattle.vub_device.specs.declared.entry.Entry.TheVariants as entries
 use Rattle.vub_device.specs.Past.{asked, published, collected, is_among}
 use Rattle.vub_schedule.specs.declared.types.Event.{Event}
 use Rattle.vub_schedule.specs.declared.types.Event.TheVariants as events
-use Rattle.vub_world.specs.declared.guest.Guest.{Guest}
+use Rattle.vub_guest.specs.declared.guest.Guest.{Guest}
 use Rattle.vub_world.specs.declared.log.Log.{Log}
 use Rattle.vub_world.specs.declared.log.Outstanding.{Outstanding}
 use Rattle.vub_world.specs.declared.machine.Life.{Life}
 use Rattle.vub_world.specs.declared.machine.Machine.{Machine}
 use Rattle.vub_world.specs.declared.queue.Queue.{Queue}
-use Rattle.vub_world.specs.declared.split.SplitRing.{SplitRing}
+use Rattle.vub_split.specs.declared.split.SplitRing.{SplitRing}
 use Rattle.vub_world.specs.declared.report.items.Item.{Item}
 use Rattle.vub_world.specs.declared.report.items.Item.TheVariants as items
 use Rattle.vub_world.specs.declared.report.items.Record.{Record}
-use Rattle.vub_world.specs.GuestState.{seen_in}
+use Rattle.vub_guest.specs.GuestState.{seen_in}
 use Rattle.vub_world.specs.Logs.{offered_in, size_in, slot_in, reads_in, new_slot, Offers}
 use Rattle.vub_world.specs.MachineAt.{FrontAt, LifeAt, AttachedAt, LogAt, MachineAt, reads_of}
 use Rattle.vub_world.specs.MachineSteps.{head_shown, GuestGoes}

@@ -10,18 +10,12 @@ use Rattle.vub_base.specs.declared.store.Area.TheVariants.{M}
 use Rattle.vub_shared.specs.Stores.{Store}
 use Rattle.vub_ring.specs.Ring.{Ring}
 use Rattle.vub_driver.specs.Drivers.{Driver, Waiting, with_left, after_stores}
-use Rattle.vub_driver.specs.Requests.{written_bytes}
-use Rattle.vub_world.specs.declared.guest.Guest.{Guest}
-use Rattle.vub_world.specs.declared.guest.Pending.{Pending}
-use Rattle.vub_world.specs.declared.guest.Stage.{Stage}
-use Rattle.vub_world.specs.declared.guest.Stage.TheVariants.{Header, Data, Status, HeaderDescriptor, DataDescriptor, StatusDescriptor, AvailEntry, AvailIdx}
 use Rattle.vub_world.specs.declared.log.Log.{Log}
 use Rattle.vub_world.specs.declared.machine.Machine.{Machine}
 use Rattle.vub_world.specs.declared.report.items.Item.{Item}
 use Rattle.vub_world.specs.declared.report.items.Item.TheVariants as items
-use Rattle.vub_world.specs.GuestChain.{Links}
-use Rattle.vub_world.specs.GuestStores.{stores_from, from_header_descriptor, from_data, from_status, from_data_descriptor, from_status_descriptor}
-use Rattle.vub_world.specs.GuestState.{ring_in, driver_in, seen_in, waiting_in}
+use Rattle.vub_guest.specs.GuestState.{ring_in, driver_in, seen_in}
+use Rattle.vub_guest.proofs.GuestLemmas.{left_some}
 use Rattle.vub_world.specs.Rooms.{RoomState}
 use Rattle.vub_world.specs.Logs.{Offers}
 use Rattle.vub_world.specs.Memory.{Scene, after_items}
@@ -33,64 +27,6 @@ use Rattle.vub_world.specs.MachineSteps.{head_shown, FrontFits, GuestGoes, Guest
 use Rattle.vub_world.proofs.RunEvents.{after-append}
 
 -- ---- the stores that are left
-
--- each stage makes a store
-stores_some : (r : Ring) (index : ℕ) (ask : Ask) (l : Links) (stage : Stage) → 0 < length (stores_from r index ask l stage)
-unfolding stores_from
-stores_some r index ask l Header = omega arith
-stores_some r index ask l Data = omega arith
-stores_some r index ask l Status = omega arith
-stores_some r index ask l HeaderDescriptor = omega arith
-stores_some r index ask l DataDescriptor = omega arith
-stores_some r index ask l StatusDescriptor = omega arith
-stores_some r index ask l AvailEntry = omega arith
-stores_some r index ask l AvailIdx = omega arith
-
--- a request that waits has one left
-pub left_some : (g : Guest) (x : Waiting) → (driver_in g).waiting ≡ Some x → 0 < length x.left
-left_some g x is = go g.waiting is
-  where
-    go : (o : Option Pending) → option_map (waiting_in (ring_in g) g.avail_idx) o ≡ Some x → 0 < length x.left
-    go None e = absurd (cc)
-    go (Some p) e =
-        let same : waiting_in (ring_in g) g.avail_idx p ≡ x = cc in
-        subst (λ (y : Waiting). 0 < length y.left) same (stores_some (ring_in g) g.avail_idx p.ask _ p.stage)
-
-either_few : (b : Bool) (n : ℕ) (xs ys : List Store) → length xs ≤ n → length ys ≤ n → length (if b then xs else ys) ≤ n
-either_few true n xs ys p q = p
-either_few false n xs ys p q = q
-
-descriptors_few : (r : Ring) (index : ℕ) (ask : Ask) (l : Links) → length (from_header_descriptor r index ask l) ≤ 5
-descriptors_few r index ask l =
-    let rest : length (if is_some l.body then from_data_descriptor r index ask l else from_status_descriptor r index ask l) ≤ 4 = either_few (is_some l.body) 4 (from_data_descriptor r index ask l) (from_status_descriptor r index ask l) (omega arith) (omega arith) in
-    omega (arith, rest)
-
-header_few : (r : Ring) (index : ℕ) (ask : Ask) (l : Links) → length (if nat_lt 0 (length (written_bytes ask)) then from_data r index ask l else from_status r index ask l) ≤ 7
-header_few r index ask l =
-    let few = descriptors_few r index ask l in
-    either_few (nat_lt 0 (length (written_bytes ask))) 7 (from_data r index ask l) (from_status r index ask l) (omega (arith, few)) (omega (arith, few))
-
--- a stage and those after it make eight stores at most
-stores_few : (r : Ring) (index : ℕ) (ask : Ask) (l : Links) (stage : Stage) → length (stores_from r index ask l stage) ≤ 8
-unfolding stores_from
-stores_few r index ask l Header = omega (arith, header_few r index ask l)
-stores_few r index ask l Data = omega (arith, descriptors_few r index ask l)
-stores_few r index ask l Status = omega (arith, descriptors_few r index ask l)
-stores_few r index ask l HeaderDescriptor = omega (arith, descriptors_few r index ask l)
-stores_few r index ask l DataDescriptor = omega arith
-stores_few r index ask l StatusDescriptor = omega arith
-stores_few r index ask l AvailEntry = omega arith
-stores_few r index ask l AvailIdx = omega arith
-
--- a request that waits has eight left at most
-pub left_few : (g : Guest) (x : Waiting) → (driver_in g).waiting ≡ Some x → length x.left ≤ 8
-left_few g x is = go g.waiting is
-  where
-    go : (o : Option Pending) → option_map (waiting_in (ring_in g) g.avail_idx) o ≡ Some x → length x.left ≤ 8
-    go None e = absurd (cc)
-    go (Some p) e =
-        let same : waiting_in (ring_in g) g.avail_idx p ≡ x = cc in
-        subst (λ (y : Waiting). length y.left ≤ 8) same (stores_few (ring_in g) g.avail_idx p.ask _ p.stage)
 
 -- the next one, and those after it
 record Cut (count : ℕ) (left : List Store) : Type 0 where

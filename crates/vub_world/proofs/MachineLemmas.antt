@@ -10,12 +10,12 @@ use Rattle.vub_memdisk.specs.MemDisks.{capacity_of}
 use Rattle.vub_ring.specs.Ring.{Ring}
 use Rattle.vub_schedule.specs.Spelling.{is_size, IsHeader}
 use Rattle.vub_driver.specs.Layout.{ring_of}
-use Rattle.vub_world.specs.declared.split.SplitRing.{SplitRing}
+use Rattle.vub_split.specs.declared.split.SplitRing.{SplitRing}
 use Rattle.vub_world.specs.declared.machine.Life.{Life}
 use Rattle.vub_world.specs.declared.machine.Machine.{Machine}
-use Rattle.vub_world.specs.Split.{RingLies}
-use Rattle.vub_world.specs.Guest.{GuestLies}
-use Rattle.vub_world.specs.GuestState.{ring_in}
+use Rattle.vub_split.specs.Split.{RingLies}
+use Rattle.vub_guest.specs.Guest.{GuestLies}
+use Rattle.vub_guest.specs.GuestState.{ring_in}
 use Rattle.vub_world.specs.Lives.{RingOfQueue, RingOfLife}
 use Rattle.vub_world.specs.QueueAt.{IsMainRing}
 use Rattle.vub_world.specs.Machine.{IsSound, sizes_in}
@@ -79,9 +79,9 @@ sound_size w sound =
 
 pub sound_guest : (w : Machine) → IsSound w → GuestLies (sizes_in w) w.guest
 sound_guest w sound =
-    let space : w.guest.memory.number ≡ 0 = ap (λ (r : Ring). r.space) sound.guest in
-    let area : w.guest.area ≡ 0 = ap (λ (r : Ring). r.desc) sound.guest in
-    let room : sizes_in w w.guest.memory.number ≡ 1048576 = ap (sizes_in w) space ∙ sound.room in
+    let space : (ring_in w.guest).space ≡ 0 = ap (λ (r : Ring). r.space) sound.guest in
+    let area : (ring_in w.guest).desc ≡ 0 = ap (λ (r : Ring). r.desc) sound.guest in
+    let room : sizes_in w (ring_in w.guest).space ≡ 1048576 = ap (sizes_in w) space ∙ sound.room in
     omega (arith, area, room)
 
 pub sound_ring : (w : Machine) → IsSound w → RingLies (sizes_in w) w.ring

@@ -12,7 +12,7 @@ use Rattle.vub_memdisk.specs.MemDisks.{values_of}
 use Rattle.vub_ring.specs.Ring.{Ring}
 use Rattle.vub_schedule.specs.Spelling.{IsHeader}
 use Rattle.vub_world.specs.declared.machine.Machine.{Machine}
-use Rattle.vub_world.specs.GuestState.{driver_in, seen_in}
+use Rattle.vub_guest.specs.GuestState.{driver_in, seen_in}
 use Rattle.vub_world.specs.Logs.{offered_in, collected_in, size_in}
 use Rattle.vub_world.specs.declared.machine.Life.{Life}
 use Rattle.vub_world.specs.MachineAt.{MachineAt, LifeAt}

@@ -36,7 +36,7 @@ use Rattle.vub_world.specs.declared.report.items.Item.{Item}
 use Rattle.vub_world.specs.declared.report.items.Item.TheVariants as items
 use Rattle.vub_world.specs.declared.queue.Stepped.{Stepped}
 use Rattle.vub_world.specs.declared.queue.Stepped.TheVariants as says
-use Rattle.vub_world.specs.declared.split.SplitRing.{SplitRing}
+use Rattle.vub_split.specs.declared.split.SplitRing.{SplitRing}
 use Rattle.vub_world.specs.declared.task.Task.{Task}
 use Rattle.vub_world.specs.Logs.{slot_in}
 use Rattle.vub_world.specs.MachineAt.{LogAt, reads_of}

@@ -31,11 +31,11 @@ use Rattle.vub_world.specs.declared.queue.Stepped.{Stepped}
 use Rattle.vub_world.specs.declared.queue.Stepped.TheVariants as says
 use Rattle.vub_world.specs.declared.report.items.Item.{Item}
 use Rattle.vub_world.specs.declared.report.items.Item.TheVariants as items
-use Rattle.vub_world.specs.declared.split.SplitRing.{SplitRing}
+use Rattle.vub_split.specs.declared.split.SplitRing.{SplitRing}
 use Rattle.vub_world.specs.Lives.{RingOfLife}
 use Rattle.vub_world.specs.Machine.{IsSound}
 use Rattle.vub_world.specs.Queue.{ring_in}
-use Rattle.vub_world.specs.Split.{RingLies}
+use Rattle.vub_split.specs.Split.{RingLies}
 use Rattle.vub_world.specs.Logs.{slot_in}
 use Rattle.vub_world.specs.MachineAt.{AskAt, AttachedAt, LifeAt, LogAt, MachineAt, reads_of}
 use Rattle.vub_world.specs.MachineSteps.{Device, device, DeviceAt, TurnMade, DeviceTurns, TurnGoes, noted, stored_items, shown_of, answers_shown}

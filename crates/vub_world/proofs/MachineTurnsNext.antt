@@ -16,7 +16,7 @@ use Rattle.vub_ring.specs.Rows.{Row}
 use Rattle.vub_world.specs.declared.queue.Stepped.{Stepped}
 use Rattle.vub_world.specs.declared.queue.Stepped.TheVariants as says
 use Rattle.vub_world.specs.declared.queue.Turn as asked
-use Rattle.vub_world.specs.declared.split.SplitRing.{SplitRing}
+use Rattle.vub_split.specs.declared.split.SplitRing.{SplitRing}
 use Rattle.vub_world.specs.MachineAt.{IsReached}
 use Rattle.vub_world.specs.MachineSteps.{next_turn}
 use Rattle.vub_world.specs.Moments.{Moment, standing}

@@ -27,7 +27,7 @@ use Rattle.vub_world.specs.QueueParts.{is_taken, without_heads}
 use Rattle.vub_world.specs.QueueState as states
 use Rattle.vub_world.specs.QueueState.{QueueState}
 use Rattle.vub_world.specs.QueueAt.{spot_of, left_of, TaskAt, QueueAt}
-use Rattle.vub_world.specs.declared.split.SplitRing.{SplitRing}
+use Rattle.vub_split.specs.declared.split.SplitRing.{SplitRing}
 use Rattle.vub_world.specs.declared.task.Task.{Task}
 use Rattle.vub_world.proofs.RunNumbers.{among_get, among_filter, missing-among}
 use Rattle.vub_world.proofs.RunGood.{Known, Worked}

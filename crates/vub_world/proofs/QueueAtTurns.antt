@@ -20,12 +20,12 @@ use Rattle.vub_device.specs.Past.{accepted, published, collected, missing_below,
 use Rattle.vub_world.specs.declared.report.items.Item.TheVariants as items
 use Rattle.vub_world.specs.declared.queue.Stepped.{Stepped}
 use Rattle.vub_world.specs.declared.queue.Stepped.TheVariants as says
-use Rattle.vub_world.specs.declared.split.SplitRing.{SplitRing}
+use Rattle.vub_split.specs.declared.split.SplitRing.{SplitRing}
 use Rattle.vub_world.specs.Memory.{Scene, after_items}
 use Rattle.vub_world.specs.Moments.{Lane, Moment, standing}
 use Rattle.vub_world.specs.Run.{one_turn}
 use Rattle.vub_world.specs.Turns.{Turned, turned, under_way, phase_goes_on}
-use Rattle.vub_world.specs.Split.{avail_idx_word, head_word}
+use Rattle.vub_split.specs.Split.{avail_idx_word, head_word}
 use Rattle.vub_world.specs.QueueState as states
 use Rattle.vub_world.specs.QueueState.{QueueState, standing_at, Fetches, Breaks, BreaksBy, Publishes, publishes, DoesOf, Unless, Turns, is_fault}
 use Rattle.vub_world.specs.QueueAt.{spot_of, QueueAt, IsMainRing, QueueStands}

@@ -11,7 +11,7 @@ use Rattle.vub_device.specs.declared.entry.Asked.TheVariants as asks
 use Rattle.vub_device.specs.Past.{asked, accepted, published, collected, is_among, open_numbers}
 use Rattle.vub_schedule.specs.declared.types.Event.{Event}
 use Rattle.vub_world.specs.declared.report.items.Record.{Record}
-use Rattle.vub_world.specs.declared.split.SplitRing.{SplitRing}
+use Rattle.vub_split.specs.declared.split.SplitRing.{SplitRing}
 use Rattle.vub_world.specs.declared.chain.Desc.{Desc}
 use Rattle.vub_world.specs.ChainState.{IsFirstRing, Meant, desc_in, desc_place, desc_of, data_of, data_start, body_desc, handed_bytes}
 use Rattle.vub_world.specs.Moments.{Moment, unfinished}

@@ -20,7 +20,7 @@ use Rattle.vub_driver.specs.Layout.{status_place}
 use Rattle.vub_world.specs.Tasks.{TaskStep, Look, Act, Sync, Status, task_steps, status_of, used_len, unless_refused, disk_steps, act_steps}
 use Rattle.vub_world.specs.ChainState.{parts_of, span_at, type_of, sector_of, data_start}
 use Rattle.vub_world.specs.TaskState.{IsServed, IsBasic, answer_of, work_for, whole_transfer, plain_answer_of, plain_len_of}
-use Rattle.vub_world.specs.declared.split.SplitRing.{SplitRing}
+use Rattle.vub_split.specs.declared.split.SplitRing.{SplitRing}
 use Rattle.vub_world.specs.declared.chain.Parts.{Parts}
 use Rattle.vub_world.specs.declared.chain.Sectors.{Sectors}
 use Rattle.vub_world.specs.declared.task.Answer.{Answer}

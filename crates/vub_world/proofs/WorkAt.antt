@@ -12,10 +12,10 @@ use Rattle.vub_device.specs.declared.entry.Asked.{Asked}
 use Rattle.vub_device.specs.declared.entry.Asked.TheVariants as asks
 use Rattle.vub_device.specs.Past.{asked, accepted, published, is_among, open_numbers, IsOpen, started}
 use Rattle.vub_device.specs.Requests.{refusal}
-use Rattle.vub_world.specs.declared.split.SplitRing.{SplitRing}
+use Rattle.vub_split.specs.declared.split.SplitRing.{SplitRing}
 use Rattle.vub_world.specs.declared.task.Task.{Task}
 use Rattle.vub_world.specs.ChainState.{IsFirstRing, Meant}
-use Rattle.vub_world.specs.GuestChain.{Links}
+use Rattle.vub_guest.specs.GuestChain.{Links}
 use Rattle.vub_world.specs.Moments.{Lane, Moment, standing, unfinished}
 use Rattle.vub_world.specs.QueueAt.{QueueStands, IsMainRing, TaskAt}
 use Rattle.vub_world.specs.QueueState.{QueueState, IsDue}

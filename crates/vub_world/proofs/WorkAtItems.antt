@@ -29,9 +29,9 @@ use Rattle.vub_world.specs.declared.queue.Stepped.{Stepped}
 use Rattle.vub_world.specs.declared.queue.Stepped.TheVariants as says
 use Rattle.vub_world.specs.declared.report.items.Item.{Item}
 use Rattle.vub_world.specs.declared.report.items.Item.TheVariants as items
-use Rattle.vub_world.specs.declared.split.SplitRing.{SplitRing}
+use Rattle.vub_split.specs.declared.split.SplitRing.{SplitRing}
 use Rattle.vub_world.specs.declared.task.Task.{Task}
-use Rattle.vub_world.specs.GuestChain.{Links}
+use Rattle.vub_guest.specs.GuestChain.{Links}
 use Rattle.vub_world.specs.Memory.{Scene, after_item, after_items}
 use Rattle.vub_world.specs.Moments.{Lane, Moment, unfinished, buffer_of}
 use Rattle.vub_world.specs.QueueAt.{QueueStands, IsMainRing, DiskAt}

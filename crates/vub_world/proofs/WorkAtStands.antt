@@ -20,7 +20,7 @@ use Rattle.vub_device.specs.Crash.{value}
 use Rattle.vub_device.specs.Past.{asked, accepted, published, missing_below, open_numbers, is_among, IsOpen, started, seen}
 use Rattle.vub_device.specs.Places.{are_distinct}
 use Rattle.vub_device.specs.Requests.{effect_at}
-use Rattle.vub_world.specs.declared.split.SplitRing.{SplitRing}
+use Rattle.vub_split.specs.declared.split.SplitRing.{SplitRing}
 use Rattle.vub_world.specs.declared.task.Task.{Task}
 use Rattle.vub_world.specs.Memory.{with_at, after_items}
 use Rattle.vub_world.specs.Moments.{Lane, Moment, buffer_of}

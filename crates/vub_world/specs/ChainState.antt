@@ -5,9 +5,9 @@ use Rattle.vub_driver.specs.Layout.{area_place, buffer_place, status_place, part
 use Rattle.vub_driver.specs.Requests.{Piece, readable_piece, writable_piece, write_flag, part_bytes}
 use Rattle.vub_device.specs.declared.entry.Asked.{Asked}
 use Rattle.vub_device.specs.declared.entry.Asked.TheVariants.{Read, Write, Flush, Id, Discard, Zero}
-use Rattle.vub_world.specs.GuestChain.{Links, second}
-use Rattle.vub_world.specs.GuestRequest.{next_flag}
-use Rattle.vub_world.specs.declared.split.SplitRing.{SplitRing}
+use Rattle.vub_guest.specs.GuestChain.{Links, second}
+use Rattle.vub_guest.specs.GuestRequest.{next_flag}
+use Rattle.vub_split.specs.declared.split.SplitRing.{SplitRing}
 use Rattle.vub_world.specs.declared.chain.Desc.{Desc}
 use Rattle.vub_world.specs.declared.chain.Span.{Span}
 use Rattle.vub_world.specs.declared.chain.Parts.{Parts}

@@ -1,9 +1,4 @@
 pub mod ChainState
-pub mod Guest
-pub mod GuestChain
-pub mod GuestRequest
-pub mod GuestState
-pub mod GuestStores
 pub mod LegalRuns
 pub mod Lives
 pub mod Logs
@@ -19,7 +14,6 @@ pub mod QueueState
 pub mod RecordText
 pub mod Rooms
 pub mod Run
-pub mod Split
 pub mod Tasks
 pub mod TaskState
 pub mod Tracking

@@ -1,6 +1,6 @@
 -- A life of the device and its queue.
 use Rattle.std.specs.Prelude.{◌≡◌, Option, Some, None, ⊤}
-use Rattle.vub_world.specs.declared.split.SplitRing.{SplitRing}
+use Rattle.vub_split.specs.declared.split.SplitRing.{SplitRing}
 use Rattle.vub_world.specs.declared.queue.Queue.{Queue}
 use Rattle.vub_world.specs.declared.machine.Life.{Life}
 use Rattle.vub_world.specs.Queue.{ring_in}

@@ -33,12 +33,12 @@ use Rattle.vub_world.specs.declared.log.Outstanding.{Outstanding}
 use Rattle.vub_world.specs.declared.machine.Life.{Life}
 use Rattle.vub_world.specs.declared.machine.Machine.{Machine}
 use Rattle.vub_world.specs.declared.queue.Queue.{Queue}
-use Rattle.vub_world.specs.declared.split.SplitRing.{SplitRing}
+use Rattle.vub_split.specs.declared.split.SplitRing.{SplitRing}
 use Rattle.vub_world.specs.declared.queue.Stepped.{Stepped}
 use Rattle.vub_world.specs.declared.queue.Stepped.TheVariants as says
 use Rattle.vub_world.specs.Rooms.{RoomState}
 use Rattle.vub_world.specs.Logs.{slot_in, Offers}
-use Rattle.vub_world.specs.GuestState.{driver_in}
+use Rattle.vub_guest.specs.GuestState.{driver_in}
 use Rattle.vub_world.specs.Moments.{Moment, standing}
 use Rattle.vub_world.specs.QueueState.{QueueState, state_of, is_idle}
 use Rattle.vub_world.specs.QueueAt.{QueueStands, DiskAt}

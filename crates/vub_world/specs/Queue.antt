@@ -1,5 +1,5 @@
 -- The device's side of one queue.
-use Rattle.vub_world.specs.declared.split.SplitRing.{SplitRing}
+use Rattle.vub_split.specs.declared.split.SplitRing.{SplitRing}
 use Rattle.vub_world.specs.declared.queue.Queue.{Queue}
 
 -- where its ring lies

@@ -14,7 +14,7 @@ use Rattle.vub_world.specs.Turns.{len_of}
 use Rattle.vub_world.specs.QueueParts.{is_taken}
 use Rattle.vub_world.specs.QueueState.{QueueState}
 use Rattle.vub_world.specs.TaskState.{IsTaskAt}
-use Rattle.vub_world.specs.declared.split.SplitRing.{SplitRing}
+use Rattle.vub_split.specs.declared.split.SplitRing.{SplitRing}
 use Rattle.vub_world.specs.declared.task.Task.{Task}
 
 -- head and used length of the k-th request

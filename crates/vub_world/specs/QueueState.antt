@@ -17,8 +17,8 @@ use Rattle.vub_ring.specs.Ring.{Ring, ahead}
 use Rattle.vub_ring.specs.Rows.{Row, row_of}
 use Rattle.vub_ring.specs.Steps.{next_step, after_step}
 use Rattle.vub_ring.specs.Readiness.{is_ready, is_publication, any_turn}
-use Rattle.vub_world.specs.declared.split.SplitRing.{SplitRing}
-use Rattle.vub_world.specs.Split.{avail_idx_word, head_word}
+use Rattle.vub_split.specs.declared.split.SplitRing.{SplitRing}
+use Rattle.vub_split.specs.Split.{avail_idx_word, head_word}
 use Rattle.vub_world.specs.declared.task.Task.{Task}
 use Rattle.vub_world.specs.declared.task.TaskStep as made
 use Rattle.vub_world.specs.declared.task.TaskStep.TheVariants as answers

@@ -11,10 +11,10 @@ use Rattle.vub_device.specs.declared.entry.Asked.{Asked}
 use Rattle.vub_device.specs.declared.entry.Asked.TheVariants as asked
 use Rattle.vub_device.specs.declared.entry.SectorValue.{SectorValue}
 use Rattle.vub_device.specs.Requests.{effect_at}
-use Rattle.vub_world.specs.GuestChain.{Links}
+use Rattle.vub_guest.specs.GuestChain.{Links}
 use Rattle.vub_world.specs.Tasks.{TaskStep, Look, Put, Act, Sync, Status, task_steps, status_of, used_len}
 use Rattle.vub_world.specs.ChainState.{MeansRequest, sector_of, data_start, data_len, span_at}
-use Rattle.vub_world.specs.declared.split.SplitRing.{SplitRing}
+use Rattle.vub_split.specs.declared.split.SplitRing.{SplitRing}
 use Rattle.vub_world.specs.declared.chain.Sectors.{Sectors}
 use Rattle.vub_world.specs.declared.chain.Parts.{Parts}
 use Rattle.vub_world.specs.declared.task.Answer.{Answer}

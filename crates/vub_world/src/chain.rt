@@ -4,13 +4,13 @@ ghost use Rattle.vub_base.specs.Causes.{HasCause};
 ghost use Rattle.vub_base.specs.Told.{WhereTold};
 ghost use Rattle.vub_base.specs.declared.ring_fault.RingFault.TheVariants as faults;
 ghost use Rattle.vub_world.specs.declared.chain.Unread.TheVariants as unread;
-ghost use Rattle.vub_world.specs.Split.{RingLies};
+ghost use Rattle.vub_split.specs.Split.{RingLies};
 ghost use Rattle.vub_driver.specs.Requests.{Piece};
 ghost use Rattle.vub_device.specs.declared.entry.Asked.{Asked};
-ghost use Rattle.vub_world.specs.GuestChain.{Links};
+ghost use Rattle.vub_guest.specs.GuestChain.{Links};
 ghost use Rattle.vub_world.specs.ChainState.{MeansRequest, Reads, desc_in, desc_of, parts_of, read_outcome, span_at};
 
-use crate::split::SplitRing;
+use vub_split::SplitRing;
 use vub_base::{ChainFault, Failed, RingFault, Space, get_u16, get_u32, get_u64};
 use vub_shared::Shared;
 

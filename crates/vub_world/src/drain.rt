@@ -4,13 +4,13 @@ ghost use Rattle.vub_base.specs.declared.header.Header1.{Header1};
 ghost use Rattle.vub_memdisk.specs.MemDisks.{capacity_of};
 ghost use Rattle.vub_shared.specs.Watched.{stores_in, sizes_in};
 ghost use Rattle.vub_world.specs.declared.log.Log.{Log};
-ghost use Rattle.vub_world.specs.declared.split.SplitRing.{SplitRing};
+ghost use Rattle.vub_split.specs.declared.split.SplitRing.{SplitRing};
 ghost use Rattle.vub_world.specs.MachineAt.{IsReached, LogAt};
 ghost use Rattle.vub_world.specs.MachineSteps.{DeviceAt, DeviceTurns, device, next_turn};
 ghost use Rattle.vub_world.specs.Moments.{Moment};
 ghost use Rattle.vub_world.specs.Queue.{ring_in};
 ghost use Rattle.vub_world.specs.QueueAt.{IsMainRing};
-ghost use Rattle.vub_world.specs.Split.{RingLies};
+ghost use Rattle.vub_split.specs.Split.{RingLies};
 
 use crate::queue::{Queue, Stepped};
 use vub_memdisk::MemDisk;

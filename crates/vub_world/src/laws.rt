@@ -8,7 +8,7 @@ ghost use Rattle.vub_schedule.specs.declared.types.Schedule.{Schedule};
 ghost use Rattle.vub_schedule.specs.Spelling.{IsSchedule};
 ghost use Rattle.vub_world.specs.declared.report.items.Item.{Item};
 ghost use Rattle.vub_world.specs.declared.report.items.Record.{Record};
-ghost use Rattle.vub_world.specs.declared.split.SplitRing.{SplitRing};
+ghost use Rattle.vub_split.specs.declared.split.SplitRing.{SplitRing};
 ghost use Rattle.vub_world.specs.ChainState.{IsFirstRing, Meant};
 ghost use Rattle.vub_world.specs.Moments.{Moment};
 ghost use Rattle.vub_world.specs.Run.{Run, Stands, Plays};

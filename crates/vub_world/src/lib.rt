@@ -4,15 +4,12 @@
 
 mod chain;
 mod drain;
-mod guest;
 pub mod laws;
-mod layout;
 mod log;
 mod machine;
 mod queue;
 pub mod report;
 mod room;
-mod split;
 mod task;
 #[cfg(test)]
 mod tests;

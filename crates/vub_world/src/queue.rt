@@ -1,9 +1,9 @@
 //! The device's side of one split queue: each turn makes one step (VIRTIO 1.2, 2.7.7 and 2.7.8).
 ghost use Rattle.std.specs.Prelude.{◌≡◌, ◌<◌, ◌≤◌, ◌+◌, ℕ, true, false, Some, length, map, take, drop, set, slice_get, vec_len, vec_capacity, IfOk};
-ghost use Rattle.vub_world.specs.Split.{RingLies};
+ghost use Rattle.vub_split.specs.Split.{RingLies};
 ghost use Rattle.vub_world.specs.QueueParts.{element, is_taken, taken_count, without_heads, phase_fits};
 
-use crate::split::SplitRing;
+use vub_split::SplitRing;
 use crate::task::{Task, TaskStep};
 use std::alloc::Global;
 use vub_base::{Failed, Memory, RingFault, Tag};

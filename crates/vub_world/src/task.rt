@@ -8,14 +8,14 @@ ghost use Rattle.vub_base.specs.declared.store.Tag.TheVariants.{T2};
 ghost use Rattle.vub_shared.specs.Bytes.{bytes_from};
 ghost use Rattle.vub_shared.specs.Stores.{one_store, after_store, after_in_trail};
 ghost use Rattle.vub_disk.specs.Values.{with_value};
-ghost use Rattle.vub_world.specs.Split.{RingLies};
+ghost use Rattle.vub_split.specs.Split.{RingLies};
 ghost use Rattle.vub_world.specs.TaskState.{IfMade, GainsOne, fresh_task, memory_outcome, disk_outcome, plain_len_of, plain_answer_of, whole_transfer};
 ghost use Rattle.vub_world.specs.declared.chain.Sectors.{Sectors};
 ghost use Rattle.vub_world.specs.declared.task.TaskStep.TheVariants as answers;
 ghost use Rattle.vub_world.specs.declared.task.Work.TheVariants as work;
 
 use crate::chain::{Parts, Sectors, Span, Unread, lies_in, read_chain};
-use crate::split::SplitRing;
+use vub_split::SplitRing;
 use vub_base::{ChainFault, Failed, RingFault, Tag, get_u32, get_u64};
 use vub_disk::Disk;
 use vub_shared::Shared;
@@ -207,12 +207,12 @@ impl Task {
     ghost use Rattle.std.specs.Prelude.{slice_get};
     ghost use Rattle.vub_base.specs.declared.header.Header1.{Header1};
     ghost use Rattle.vub_device.specs.declared.entry.Asked.{Asked};
-    ghost use Rattle.vub_world.specs.GuestChain.{Links};
+    ghost use Rattle.vub_guest.specs.GuestChain.{Links};
     ghost use Rattle.vub_world.specs.Tasks as Tasks;
     ghost use Rattle.vub_world.specs.Tasks.{task_steps};
     ghost use Rattle.vub_world.specs.ChainState.{MeansRequest, Reads, read_outcome};
     ghost use Rattle.vub_world.specs.TaskState.{Making, IsNext, IsServed, IsReady, IsTaskAt, HasMade, LooksAt, answer_in, store_in, memory_after, with_maybe, values_after, work_for, work_of};
-    ghost use Rattle.vub_world.specs.declared.split.SplitRing.{SplitRing};
+    ghost use Rattle.vub_split.specs.declared.split.SplitRing.{SplitRing};
 
     /// A request that was accepted under this head.
     pub fn new(head: u16) -> Task

@@ -1,7 +1,7 @@
 use Rattle.std.proofs.Common.{◌∙◌, sym}
 use Rattle.std.proofs.lemmas.Result.{err_from_is_err_and}
 use Rattle.vub_driver.specs.Requests.{readable_piece}
-use Rattle.vub_world.specs.GuestChain.{second}
+use Rattle.vub_guest.specs.GuestChain.{second}
 use Rattle.vub_world.specs.ChainState.{desc_in}
 use Rattle.vub_world.proofs.ChainReading.{reads_err, some_same, tail_rest, pair_none, pair_some}
 use Rattle.vub_world.proofs.chain.tail_of.Goals as goal

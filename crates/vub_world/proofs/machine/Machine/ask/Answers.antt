@@ -1,7 +1,7 @@
 use Rattle.std.proofs.Common.{List, sym, ap, subst, ◌∙◌}
 use Rattle.std.specs.Prelude.{Some, Result, Ok, Err, OnErr}
 use Rattle.vub_base.specs.declared.request.Ask.{Ask}
-use Rattle.vub_world.specs.declared.guest.Guest.{Guest}
+use Rattle.vub_guest.specs.declared.guest.Guest.{Guest}
 use Rattle.vub_world.specs.declared.machine.Machine.{Machine}
 use Rattle.vub_world.specs.declared.report.items.Item.{Item}
 use Rattle.vub_world.specs.MachineAt.{MachineAt}

@@ -2,14 +2,14 @@ use Rattle.std.proofs.Common.{◌≡◌, ◌++◌, ◌∷◌, List, [], sym, ap,
 use Rattle.vub_device.specs.declared.entry.Entry.TheVariants as entries
 use Rattle.vub_driver.specs.Layout.{ring_of}
 use Rattle.vub_shared.specs.Watched.{bytes_in}
-use Rattle.vub_world.specs.declared.guest.Collected.{Collected}
-use Rattle.vub_world.specs.declared.guest.Collected.TheVariants as takes
+use Rattle.vub_guest.specs.declared.guest.Collected.{Collected}
+use Rattle.vub_guest.specs.declared.guest.Collected.TheVariants as takes
 use Rattle.vub_world.specs.declared.log.Log.{Log}
 use Rattle.vub_world.specs.declared.log.Outstanding.{Outstanding}
 use Rattle.vub_world.specs.declared.machine.Machine.{Machine}
 use Rattle.vub_world.specs.declared.report.items.Item.{Item}
 use Rattle.vub_world.specs.declared.report.items.Item.TheVariants as items
-use Rattle.vub_world.specs.GuestState.{driver_in, seen_in, Shows, Collects}
+use Rattle.vub_guest.specs.GuestState.{driver_in, seen_in, Shows, Collects}
 use Rattle.vub_world.specs.Logs.{slot_in}
 use Rattle.vub_world.specs.MachineAt.{MachineAt}
 use Rattle.vub_world.specs.Rooms.{RoomState}

@@ -4,14 +4,15 @@ use Rattle.vub_base.specs.declared.request.Ask.{Ask}
 use Rattle.vub_driver.specs.Drivers.{Driver, Waiting}
 use Rattle.vub_world.specs.declared.report.items.Item.{Item}
 use Rattle.vub_world.specs.declared.machine.Machine.{Machine}
-use Rattle.vub_world.specs.GuestState.{driver_in}
+use Rattle.vub_guest.specs.GuestState.{driver_in}
 use Rattle.vub_world.specs.MachineAt.{AskAt, MachineAt}
 use Rattle.vub_world.specs.MachineSteps.{GuestGoes}
 use Rattle.vub_world.specs.Moments.{Moment}
 use Rattle.vub_world.specs.Run.{played, guest}
 use Rattle.vub_world.proofs.MachineGuestFits.{front_fits}
 use Rattle.vub_world.proofs.MachineGuestOffers.{guest_performs}
-use Rattle.vub_world.proofs.MachineGuests.{all_gone, left_few}
+use Rattle.vub_guest.proofs.GuestLemmas.{left_few}
+use Rattle.vub_world.proofs.MachineGuests.{all_gone}
 use Rattle.vub_world.proofs.machine.Machine.guest.Goals as goal
 
 pub guest_stores-requires-clause-fits : goal.guest_stores-requires-clause-fits

@@ -10,7 +10,7 @@ use Rattle.vub_disk.specs.Values.{Values}
 use Rattle.vub_world.specs.declared.queue.Stepped.{Stepped}
 use Rattle.vub_world.specs.declared.queue.Stepped.TheVariants as says
 use Rattle.vub_world.specs.QueueState.{QueueState, state_of, standing_at, waiting, Fetches, Does, DoesStore, DoesTrail, DoesDisk, IsDue, IfStepped, WorksOut}
-use Rattle.vub_world.proofs.SplitLemmas.{lies_still}
+use Rattle.vub_split.proofs.SplitLemmas.{lies_still}
 use Rattle.vub_world.proofs.QueueLemmas.{idle_is, any_is, cause_later, due_still}
 use Rattle.vub_world.proofs.queue.Queue.fetch_or_go_on.Goals as goal
 

@@ -1,6 +1,6 @@
 use Rattle.std.proofs.Common.{subst, sym}
-use Rattle.vub_world.specs.Split.{RingLies}
-use Rattle.vub_world.specs.declared.split.SplitRing.{SplitRing}
+use Rattle.vub_split.specs.Split.{RingLies}
+use Rattle.vub_split.specs.declared.split.SplitRing.{SplitRing}
 use Rattle.vub_world.proofs.queue.Queue.publish.Goals as goal
 
 pub publish_step-requires-clause-lies : goal.publish_step-requires-clause-lies

@@ -1,0 +1,5 @@
+pub mod Guest
+pub mod GuestChain
+pub mod GuestRequest
+pub mod GuestState
+pub mod GuestStores

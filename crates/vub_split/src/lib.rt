@@ -1,0 +1,7 @@
+//! The words of a split virtqueue in shared memory (VIRTIO 1.2, 2.7): a call for each load and
+//! each store that the device makes of its rings.
+#![tactic(auto)]
+
+mod split;
+
+pub use split::SplitRing;
