@@ -1,6 +1,5 @@
-use Rattle.std.proofs.Common.{◌≡◌, ◌++◌, ◌∷◌, [], List, ap, ◌∙◌, sym, subst, true, false, Bool, ◌≤◌, ◌-◌, arith}
+use Rattle.std.proofs.Common.{◌≡◌, [], List, ap, ◌∙◌, sym, subst, Bool, ◌≤◌, ◌-◌, arith}
 use Rattle.vub_world.specs.declared.report.items.Item.{Item}
-use Rattle.vub_world.specs.declared.report.items.Item.TheVariants as items
 use Rattle.vub_world.specs.Logs.{offered_in, collected_in}
 use Rattle.vub_world.specs.MachineSteps.{HasDrainRoom, DrainGoes}
 use Rattle.vub_world.specs.Rooms.{RoomState}
