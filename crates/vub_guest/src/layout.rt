@@ -2,8 +2,8 @@
 //! table, its avail ring, its used ring, and a buffer of 8 KiB for each descriptor.
 ghost use Rattle.std.specs.Prelude.{◌≡◌, ◌<◌, ◌+◌, ◌*◌, ◌^◌};
 
-use vub_split::SplitRing;
 use vub_base::Space;
+use vub_split::SplitRing;
 
 /// The bytes of one queue's area.
 pub const AREA: u64 = 0x10_0000;

@@ -1,1 +1,4 @@
+pub mod Rings
+pub mod Seen
 pub mod SplitLemmas
+pub mod Words

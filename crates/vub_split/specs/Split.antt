@@ -2,6 +2,7 @@
 use Rattle.std.specs.Prelude.{◌≡◌, ◌≤◌, ℕ, ◌+◌, ◌*◌, ◌%◌}
 use Rattle.std.specs.Int.{◌∣◌}
 use Rattle.vub_shared.specs.Bytes.{Bytes, word}
+use Rattle.vub_ring.specs.Ring.{Ring}
 use Rattle.vub_split.specs.declared.split.SplitRing.{SplitRing}
 
 -- Its descriptor table, avail ring and used ring lie in their spaces at their alignments. Its size
@@ -46,3 +47,13 @@ head_word r m index = word 2 m r.avail.0.number (avail_entry_place r index)
 
 abbrev pub used_idx_word : SplitRing → Bytes → ℕ
 used_idx_word r m = word 2 m r.used.0.number (used_idx_place r)
+
+-- ---- the three parts in one space
+
+pub record IsInOneSpace (r : SplitRing) : Type 0 where
+  pub desc : r.desc.0.number ≡ r.avail.0.number
+  pub used : r.used.0.number ≡ r.avail.0.number
+
+-- the ring that a split ring in one space is
+abbrev pub ring_of_split : SplitRing → Ring
+ring_of_split r = record { space = r.avail.0.number; desc = r.desc.1; avail = r.avail.1; used = r.used.1; size = r.size }

@@ -2,6 +2,7 @@
 //! each store that the device makes of its rings.
 #![tactic(auto)]
 
+pub mod laws;
 mod split;
 
 pub use split::SplitRing;

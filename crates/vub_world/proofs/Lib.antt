@@ -45,7 +45,6 @@ pub mod RunNumbers
 pub mod RunOffers
 pub mod RunPhases
 pub mod RunPublications
-pub mod RunRings
 pub mod RunShown
 pub mod RunTracks
 pub mod RunTurns

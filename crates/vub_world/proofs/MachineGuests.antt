@@ -1,6 +1,6 @@
 -- The driver's stores in the machine, one after another.
 use Rattle.std.proofs.Common.{◌≡◌, ◌≤◌, ◌<◌, ℕ, zero, suc, ◌+◌, Bool, true, false, List, [], ◌∷◌, ◌++◌, length, drop, refl, ap, sym, ◌∙◌, subst, arith}
-use Rattle.std.specs.Prelude.{Option, Some, None, option_map, is_some, nat_lt, if◌then◌else◌}
+use Rattle.std.specs.Prelude.{Option, Some, nat_lt}
 use Rattle.std.proofs.lemmas.Bool.Decides.{nat_tests}
 use Rattle.std.proofs.lemmas.List.{append-nil, append_assoc, drop_all}
 use Rattle.vub_base.specs.declared.header.Header1.{Header1}
@@ -8,13 +8,12 @@ use Rattle.vub_base.specs.declared.request.Ask.{Ask}
 use Rattle.vub_base.specs.declared.store.Tag.TheVariants.{G}
 use Rattle.vub_base.specs.declared.store.Area.TheVariants.{M}
 use Rattle.vub_shared.specs.Stores.{Store}
-use Rattle.vub_ring.specs.Ring.{Ring}
 use Rattle.vub_driver.specs.Drivers.{Driver, Waiting, with_left, after_stores}
 use Rattle.vub_world.specs.declared.log.Log.{Log}
 use Rattle.vub_world.specs.declared.machine.Machine.{Machine}
 use Rattle.vub_world.specs.declared.report.items.Item.{Item}
 use Rattle.vub_world.specs.declared.report.items.Item.TheVariants as items
-use Rattle.vub_guest.specs.GuestState.{ring_in, driver_in, seen_in}
+use Rattle.vub_guest.specs.GuestState.{seen_in}
 use Rattle.vub_guest.proofs.GuestLemmas.{left_some}
 use Rattle.vub_world.specs.Rooms.{RoomState}
 use Rattle.vub_world.specs.Logs.{Offers}

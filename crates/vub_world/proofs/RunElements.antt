@@ -25,7 +25,7 @@ use Rattle.vub_world.specs.Moments.{Lane}
 use Rattle.vub_world.specs.Tracking.{answered_len}
 use Rattle.vub_world.specs.Turns.{len_of}
 use Rattle.vub_world.proofs.RunNumbers.{few_below, distinct_parts, distinct_join}
-use Rattle.vub_world.proofs.RunRings.{entries_apart}
+use Rattle.vub_split.proofs.Rings.{entries_apart}
 use Rattle.vub_world.proofs.RunGood.{the_ring, IsSize, IsSimple, Known, Ringed, Worked, PhaseIs, IsBuilt, Built, Holds}
 use Rattle.vub_world.proofs.RunFrames.{keeps, entry_small, length_little, stored_elsewhere, below_buffers}
 use Rattle.vub_world.proofs.RunGuests.{IsGood, stored_at}

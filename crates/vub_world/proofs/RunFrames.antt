@@ -13,7 +13,7 @@ use Rattle.vub_driver.specs.Layout.{status_place, sectors_place}
 use Rattle.vub_device.specs.declared.entry.Entry.{Entry}
 use Rattle.vub_device.specs.Past.{accepted, published, collected, is_among, IsOpen}
 use Rattle.vub_world.proofs.RunNumbers.{not_among-take}
-use Rattle.vub_world.proofs.RunRings.{entries_apart}
+use Rattle.vub_split.proofs.Rings.{entries_apart}
 use Rattle.vub_world.proofs.RunGood.{the_ring, IsSize, Known, Ringed, IsOut, Stored, Built, buffer}
 
 -- an open number is offered and not collected

@@ -12,7 +12,7 @@ use Rattle.vub_device.specs.declared.entry.Entry.TheVariants as entries
 use Rattle.vub_device.specs.Past.{asked, accepted, published, collected, numbers}
 use Rattle.vub_world.specs.Memory.{Scene}
 use Rattle.vub_world.specs.Tracking.{answers, answered_len, element, Tracks, EveryTracks}
-use Rattle.vub_world.proofs.RunRings.{heads_are, elements_are}
+use Rattle.vub_split.proofs.Rings.{heads_are, elements_are}
 use Rattle.vub_world.proofs.RunGood.{the_ring, IsSize, Known, Ringed, spot}
 
 numbers-append : (xs ys : List Answered) → numbers (xs ++ ys) ≡ numbers xs ++ numbers ys
