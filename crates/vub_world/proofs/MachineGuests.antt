@@ -1,6 +1,6 @@
 -- The driver's stores in the machine, one after another.
 use Rattle.std.proofs.Common.{◌≡◌, ◌≤◌, ◌<◌, ℕ, zero, suc, ◌+◌, Bool, true, false, List, [], ◌∷◌, ◌++◌, length, drop, refl, ap, sym, ◌∙◌, subst, arith}
-use Rattle.std.specs.Prelude.{Option, Some, None, option_map, nat_lt}
+use Rattle.std.specs.Prelude.{Option, Some, None, option_map, is_some, nat_lt, if◌then◌else◌}
 use Rattle.std.proofs.lemmas.Bool.Decides.{nat_tests}
 use Rattle.std.proofs.lemmas.List.{append-nil, append_assoc, drop_all}
 use Rattle.vub_base.specs.declared.header.Header1.{Header1}
@@ -10,6 +10,7 @@ use Rattle.vub_base.specs.declared.store.Area.TheVariants.{M}
 use Rattle.vub_shared.specs.Stores.{Store}
 use Rattle.vub_ring.specs.Ring.{Ring}
 use Rattle.vub_driver.specs.Drivers.{Driver, Waiting, with_left, after_stores}
+use Rattle.vub_driver.specs.Requests.{written_bytes}
 use Rattle.vub_world.specs.declared.guest.Guest.{Guest}
 use Rattle.vub_world.specs.declared.guest.Pending.{Pending}
 use Rattle.vub_world.specs.declared.guest.Stage.{Stage}
@@ -19,7 +20,7 @@ use Rattle.vub_world.specs.declared.machine.Machine.{Machine}
 use Rattle.vub_world.specs.declared.report.items.Item.{Item}
 use Rattle.vub_world.specs.declared.report.items.Item.TheVariants as items
 use Rattle.vub_world.specs.GuestChain.{Links}
-use Rattle.vub_world.specs.GuestStores.{stores_from}
+use Rattle.vub_world.specs.GuestStores.{stores_from, from_header_descriptor, from_data, from_status, from_data_descriptor, from_status_descriptor}
 use Rattle.vub_world.specs.GuestState.{ring_in, driver_in, seen_in, waiting_in}
 use Rattle.vub_world.specs.Rooms.{RoomState}
 use Rattle.vub_world.specs.Logs.{Offers}
@@ -54,6 +55,42 @@ left_some g x is = go g.waiting is
     go (Some p) e =
         let same : waiting_in (ring_in g) g.avail_idx p ≡ x = cc in
         subst (λ (y : Waiting). 0 < length y.left) same (stores_some (ring_in g) g.avail_idx p.ask _ p.stage)
+
+either_few : (b : Bool) (n : ℕ) (xs ys : List Store) → length xs ≤ n → length ys ≤ n → length (if b then xs else ys) ≤ n
+either_few true n xs ys p q = p
+either_few false n xs ys p q = q
+
+descriptors_few : (r : Ring) (index : ℕ) (ask : Ask) (l : Links) → length (from_header_descriptor r index ask l) ≤ 5
+descriptors_few r index ask l =
+    let rest : length (if is_some l.body then from_data_descriptor r index ask l else from_status_descriptor r index ask l) ≤ 4 = either_few (is_some l.body) 4 (from_data_descriptor r index ask l) (from_status_descriptor r index ask l) (omega arith) (omega arith) in
+    omega (arith, rest)
+
+header_few : (r : Ring) (index : ℕ) (ask : Ask) (l : Links) → length (if nat_lt 0 (length (written_bytes ask)) then from_data r index ask l else from_status r index ask l) ≤ 7
+header_few r index ask l =
+    let few = descriptors_few r index ask l in
+    either_few (nat_lt 0 (length (written_bytes ask))) 7 (from_data r index ask l) (from_status r index ask l) (omega (arith, few)) (omega (arith, few))
+
+-- a stage and those after it make eight stores at most
+stores_few : (r : Ring) (index : ℕ) (ask : Ask) (l : Links) (stage : Stage) → length (stores_from r index ask l stage) ≤ 8
+unfolding stores_from
+stores_few r index ask l Header = omega (arith, header_few r index ask l)
+stores_few r index ask l Data = omega (arith, descriptors_few r index ask l)
+stores_few r index ask l Status = omega (arith, descriptors_few r index ask l)
+stores_few r index ask l HeaderDescriptor = omega (arith, descriptors_few r index ask l)
+stores_few r index ask l DataDescriptor = omega arith
+stores_few r index ask l StatusDescriptor = omega arith
+stores_few r index ask l AvailEntry = omega arith
+stores_few r index ask l AvailIdx = omega arith
+
+-- a request that waits has eight left at most
+pub left_few : (g : Guest) (x : Waiting) → (driver_in g).waiting ≡ Some x → length x.left ≤ 8
+left_few g x is = go g.waiting is
+  where
+    go : (o : Option Pending) → option_map (waiting_in (ring_in g) g.avail_idx) o ≡ Some x → length x.left ≤ 8
+    go None e = absurd (cc)
+    go (Some p) e =
+        let same : waiting_in (ring_in g) g.avail_idx p ≡ x = cc in
+        subst (λ (y : Waiting). length y.left ≤ 8) same (stores_few (ring_in g) g.avail_idx p.ask _ p.stage)
 
 -- the next one, and those after it
 record Cut (count : ℕ) (left : List Store) : Type 0 where
@@ -188,7 +225,7 @@ loop_begins w r sound fits = record {
 -- a frame after a frame
 pub frame_more : (w v now : Machine) → v ≡ record w { memory = v.memory; guest = v.guest; asked = v.asked; log = v.log } → now ≡ record v { memory = now.memory; guest = now.guest; asked = now.asked; log = now.log }
     → now ≡ record w { memory = now.memory; guest = now.guest; asked = now.asked; log = now.log }
-frame_more w v now first then = then ∙ ap (λ (u : Machine). record u { memory = now.memory; guest = now.guest; asked = now.asked; log = now.log }) first
+frame_more w v now first last = last ∙ ap (λ (u : Machine). record u { memory = now.memory; guest = now.guest; asked = now.asked; log = now.log }) first
 
 -- one store that isn't the last
 pub loop_more : (done : ℕ) (w v now : Machine) (r mid room : RoomState) → GuestLoop done w v r mid → now ≡ record v { memory = now.memory; guest = now.guest; asked = now.asked; log = now.log } → IsSound now → FrontFits now → seen_in now.guest ≡ seen_in v.guest → Spends 1 1 mid room

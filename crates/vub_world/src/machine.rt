@@ -22,6 +22,9 @@ use vub_memdisk::MemDisk;
 use vub_schedule::Event;
 use vub_shared::{Shared, WatchedShared};
 
+/// The most stores that a request takes, with the one that offers it.
+const MOST_STORES: u16 = 8;
+
 /// A life of the device; its queue is there once it is attached.
 #[derive(Debug, Drop)]
 struct Life {
@@ -286,9 +289,10 @@ impl Machine {
         if self.log.is_full() {
             return Err(Memory);
         }
-        let most = usize::from(stores) + 1;
-        let mut room = Room::new(self.alloc, most, most, 0, 0)?;
-        self.guest_stores(stores, &mut room);
+        let most = stores.min(MOST_STORES);
+        let noted = usize::from(most) + 1;
+        let mut room = Room::new(self.alloc, noted, noted, 0, 0)?;
+        self.guest_stores(most, &mut room);
         Ok(room.into_items())
     }
 
