@@ -1,5 +1,5 @@
 -- What the driver's stores leave of what waits in its ring and of what is seen of it.
-use Rattle.std.proofs.Common.{◌≡◌, ◌≤◌, ◌<◌, ◌⊎◌, ℕ, ◌+◌, ◌*◌, ◌%◌, Bool, true, false, List, [], ◌∷◌, ◌++◌, length, refl, ap, sym, ◌∙◌, subst, inl, inr, arith}
+use Rattle.std.proofs.Common.{◌≡◌, ◌≤◌, ◌<◌, ◌⊎◌, ℕ, ◌+◌, ◌%◌, Bool, true, false, List, [], ◌∷◌, ◌++◌, length, refl, ap, sym, ◌∙◌, subst, inl, inr, arith}
 use Rattle.std.specs.Prelude.{Option, Some, None, option_map, IfSome, if◌then◌else◌, nat_lt, is_some}
 use Rattle.std.specs.Option.{ForSome}
 use Rattle.vub_base.specs.declared.request.Ask.{Ask}
@@ -8,7 +8,7 @@ use Rattle.vub_shared.specs.Stores.{Store, after_store}
 use Rattle.vub_ring.specs.Ring.{Ring, avail_idx, head_at, waiting, seen}
 use Rattle.vub_driver.specs.Drivers.{Waiting}
 use Rattle.vub_driver.specs.Requests.{written_bytes}
-use Rattle.vub_split.specs.Words.{IsRingSize, RingFits, OffAvail, OffUsed, avail_bytes, used_bytes}
+use Rattle.vub_split.specs.Words.{IsRingSize, RingFits, OffAvail, OffUsed, used_bytes}
 use Rattle.vub_split.specs.Stores.{avail_idx_store, avail_entry_store}
 use Rattle.vub_split.proofs.Words.{avail_idx_off_used, avail_entry_off_used, head_stored}
 use Rattle.vub_split.proofs.Seen.{waiting_off, waiting_entry, waiting_index, seen_off}

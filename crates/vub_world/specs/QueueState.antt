@@ -13,7 +13,7 @@ use Rattle.vub_ring.specs.declared.steps.Step.{Step}
 use Rattle.vub_ring.specs.declared.readiness.Standing.{Standing}
 use Rattle.vub_ring.specs.declared.readiness.Turn.{Turn}
 use Rattle.vub_ring.specs.declared.readiness.Turn.TheVariants.{Start, Fetch, Work, Publish}
-use Rattle.vub_ring.specs.Ring.{Ring, ahead}
+use Rattle.vub_ring.specs.Ring.{ahead}
 use Rattle.vub_ring.specs.Rows.{Row, row_of}
 use Rattle.vub_ring.specs.Steps.{next_step, after_step}
 use Rattle.vub_ring.specs.Readiness.{is_ready, is_publication, any_turn}
