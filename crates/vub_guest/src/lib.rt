@@ -5,5 +5,7 @@
 mod guest;
 pub mod laws;
 pub mod layout;
+#[cfg(test)]
+mod tests;
 
 pub use guest::{Collected, Guest, GuestStep};
