@@ -3,6 +3,7 @@
 #![tactic(auto)]
 
 mod guest;
+pub mod laws;
 pub mod layout;
 
 pub use guest::{Collected, Guest, GuestStep};

@@ -45,7 +45,8 @@ use Rattle.vub_world.specs.Memory.{after_items}
 use Rattle.vub_world.specs.Moments.{Lane, Moment, standing}
 use Rattle.vub_world.specs.QueueAt.{spot_of, QueueStands, IsMainRing, DiskAt}
 use Rattle.vub_world.specs.QueueState as states
-use Rattle.vub_world.specs.QueueState.{QueueState, row_at, row_if, next_row, used_side, publishes, publish_row, StoresRow, TrailsRow, Turns, DoesStore, DoesTrail, DoesDisk, IsDue, IfStepped, WorksOut, outcome, is_idle, is_fault}
+use Rattle.vub_split.specs.Split.{used_side}
+use Rattle.vub_world.specs.QueueState.{QueueState, row_at, row_if, next_row, publishes, publish_row, StoresRow, TrailsRow, Turns, DoesStore, DoesTrail, DoesDisk, IsDue, IfStepped, WorksOut, outcome, is_idle, is_fault}
 use Rattle.vub_world.specs.Run.{one_turn}
 use Rattle.vub_world.specs.TaskState.{Making}
 use Rattle.vub_world.specs.Turns.{turned, answer_len, answer_at}

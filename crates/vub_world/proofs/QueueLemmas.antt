@@ -29,7 +29,8 @@ use Rattle.vub_world.specs.declared.queue.Completed.{Completed}
 use Rattle.vub_world.specs.declared.queue.Stepped.{Stepped}
 use Rattle.vub_world.specs.declared.queue.Stepped.TheVariants as says
 use Rattle.vub_world.specs.QueueParts.{element, is_taken, taken_count, without_heads, phase_fits}
-use Rattle.vub_world.specs.QueueState.{QueueState, used_side, row_at, next_row, Moves, StoresRow, TrailsRow, outcome, publishes, Unless, is_idle, standing_at, worked, done_at, Works, StepsAt, StepsOut, WorksOut, IfStepped, Advances, concluded, said, sector_at, IsDue, Rests, halted}
+use Rattle.vub_split.specs.Split.{used_side}
+use Rattle.vub_world.specs.QueueState.{QueueState, row_at, next_row, Moves, StoresRow, TrailsRow, outcome, publishes, Unless, is_idle, standing_at, worked, done_at, Works, StepsAt, StepsOut, WorksOut, IfStepped, Advances, concluded, said, sector_at, IsDue, Rests, halted}
 use Rattle.vub_world.specs.TaskState.{Making, IfMade, HasMade, LooksAt, answer_in, answer_to, memory_after, values_after, store_in, with_maybe}
 use Rattle.vub_world.specs.Tasks as Tasks
 use Rattle.vub_world.proofs.ArmLemmas.{next_still}
