@@ -1,6 +1,6 @@
 -- How much a drain publishes, and how much room its items need.
-use Rattle.std.proofs.Common.{◌≡◌, ◌≤◌, ◌<◌, ℕ, zero, suc, ◌+◌, ◌-◌, ◌*◌, Bool, true, false, not, cond, List, [], ◌∷◌, ◌++◌, length, map, refl, ap, sym, ◌∙◌, subst, inl, inr, arith, length-append}
-use Rattle.std.specs.Prelude.{◌||◌, if◌then◌else◌, Option, Some, None, take, slice_get, nat_lt, min, ⊤}
+use Rattle.std.proofs.Common.{◌≡◌, ◌≤◌, ℕ, zero, suc, ◌+◌, ◌-◌, ◌*◌, Bool, true, false, not, List, [], ◌∷◌, ◌++◌, length, map, refl, ap, sym, ◌∙◌, subst, inl, inr, arith, length-append}
+use Rattle.std.specs.Prelude.{◌||◌, if◌then◌else◌, Option, Some, None, take, slice_get, nat_lt, ⊤}
 use Rattle.std.proofs.lemmas.Bool.Decides.{nat_tests}
 use Rattle.std.proofs.lemmas.Bool.{cases_Bool}
 use Rattle.vub_base.specs.declared.header.Header1.{Header1}
@@ -11,7 +11,7 @@ use Rattle.vub_ring.specs.declared.steps.Step.TheVariants as steps
 use Rattle.vub_ring.specs.declared.readiness.Standing.{Standing}
 use Rattle.vub_ring.specs.declared.readiness.Turn.{Turn}
 use Rattle.vub_ring.specs.declared.readiness.Turn.TheVariants as turns
-use Rattle.vub_ring.specs.Readiness.{is_ready, is_publication, any_turn, drain_turn, work_or_publish}
+use Rattle.vub_ring.specs.Readiness.{is_publication, any_turn, drain_turn}
 use Rattle.vub_ring.specs.Rows.{Row, row_of}
 use Rattle.vub_ring.specs.Ring.{used_idx}
 use Rattle.vub_ring.specs.Steps.{next_step}
@@ -19,22 +19,22 @@ use Rattle.vub_driver.specs.Layout.{ring_of}
 use Rattle.vub_device.specs.declared.entry.Asked.{Asked}
 use Rattle.vub_device.specs.declared.entry.Entry.{Entry}
 use Rattle.vub_device.specs.declared.entry.SectorValue.{SectorValue}
-use Rattle.vub_device.specs.Past.{asked, accepted, published, collected, is_among, missing_below, open_numbers, started, numbers}
+use Rattle.vub_device.specs.Past.{asked, accepted, published, is_among, missing_below, started, numbers}
 use Rattle.vub_device.specs.Places.{are_distinct}
 use Rattle.vub_device.specs.Requests.{look_at, effect_at}
 use Rattle.vub_device.proofs.Numbers.{is_among_append}
-use Rattle.vub_world.specs.MachineSteps.{is_index}
+use Rattle.vub_world.specs.MachineDevice.{is_index}
 use Rattle.vub_world.specs.Memory.{Scene, after_items}
-use Rattle.vub_world.specs.Moments.{Lane, Moment, standing, unfinished, buffer_of}
+use Rattle.vub_world.specs.Moments.{Lane, Moment, standing, unfinished}
 use Rattle.vub_world.specs.Run.{one_turn}
 use Rattle.vub_world.specs.Tasks.{TaskStep, Look, Put, Act, Sync, Status, task_steps, look_items, act_items}
 use Rattle.vub_world.specs.Turns.{turned, work_turn, request_turn, task_turn, phase_turn, phase_goes_on, under_way, begun, is_rest, row_items, step_stores, element_of, answer_at}
 use Rattle.vub_world.proofs.RunNumbers.{missing-among, distinct_join, few_below}
 use Rattle.vub_world.proofs.RunGood.{Known, Worked}
-use Rattle.vub_world.proofs.RunEfforts.{weight, sum_below, phase_left, effort, weight_small}
-use Rattle.vub_world.proofs.RunEnds.{effort_at, missing_distinct}
+use Rattle.vub_world.proofs.RunEfforts.{weight, sum_below, weight_small}
+use Rattle.vub_world.proofs.RunEnds.{effort_at, missing_distinct, phase_few, start_few}
 use Rattle.vub_world.proofs.RunPublications.{numbers_answers}
-use Rattle.vub_world.proofs.RunTurns.{IsPlain, Good, phase_cases}
+use Rattle.vub_world.proofs.RunTurns.{Good, phase_cases}
 
 -- ---- how many answers a turn shows
 
@@ -198,16 +198,6 @@ all_few n cap past heads phase batch completed made known w =
       ]
     ]) in
     omega (arith, few, length-append (ps ++ ds) ls, length-append ps ds, length-append completed batch)
-
-phase_few : (batch : List ℕ) (phase : Phase) → phase_left batch phase ≤ 2 * length batch + 1
-phase_few batch phases.Rest = omega arith
-phase_few batch (phases.Start done) = omega arith
-phase_few batch (phases.Fetch done) = omega arith
-phase_few batch (phases.Publish done) = omega arith
-
-start_few : (b : Bool) → cond {A = ℕ} b 0 1 ≤ 1
-start_few true = omega arith
-start_few false = omega arith
 
 -- the requests that are offered and not published
 abbrev pub undone : Moment → ℕ

@@ -1,17 +1,16 @@
 -- Where the machine stands after a life begins, and after its queue is attached.
-use Rattle.std.proofs.Common.{◌≡◌, ◌≤◌, ◌<◌, ℕ, true, false, List, [], length, refl, ap, sym, ◌∙◌, subst, inl, inr, arith}
+use Rattle.std.proofs.Common.{◌≡◌, ℕ, true, false, List, [], refl, ap, sym, ◌∙◌, subst, arith}
 use Rattle.std.specs.Prelude.{Bool, not, ◌&&◌, Option, Some, None, is_some}
-use Rattle.vub_base.specs.declared.header.Header1.{Header1}
 use Rattle.vub_ring.specs.declared.steps.Phase.{Phase}
 use Rattle.vub_ring.specs.declared.steps.Phase.TheVariants as phases
-use Rattle.vub_device.specs.Past.{accepted, published, started}
+use Rattle.vub_device.specs.Past.{accepted, started}
 use Rattle.vub_world.specs.declared.machine.Life.{Life}
 use Rattle.vub_world.specs.declared.machine.Machine.{Machine}
 use Rattle.vub_world.specs.declared.queue.Queue.{Queue}
-use Rattle.vub_world.specs.MachineAt.{MachineAt, LifeAt, AttachedAt}
-use Rattle.vub_world.specs.MachineSteps.{is_joining, has_queue}
+use Rattle.vub_world.specs.MachineAt.{MachineAt, LifeAt, AttachedAt, has_queue}
+use Rattle.vub_world.specs.MachineDevice.{is_joining}
 use Rattle.vub_world.specs.Moments.{Lane, Moment, fresh}
-use Rattle.vub_world.specs.QueueAt.{QueueStands, QueueAt, IsMainRing}
+use Rattle.vub_world.specs.QueueAt.{QueueStands, QueueAt}
 use Rattle.vub_world.specs.QueueState.{IsNew, state_of}
 use Rattle.vub_world.specs.Run.{played, if_ready, boot, join}
 use Rattle.vub_world.proofs.QueueAtMoves.{at_new}
@@ -65,7 +64,7 @@ joining_at w m at new = go w.life at.life new
     go None at new = absurd (cc new)
     go (Some l) at new = (at.0, with_queue l.queue at.1 new)
       where
-        with_queue : (q : Option Queue) → AttachedAt w.header w.ring m q → has_queue q ≡ true → AttachedAt w.header w.ring m None
+        with_queue : (q : Option Queue) → AttachedAt w.header w.ring m q → not (has_queue q) ≡ true → AttachedAt w.header w.ring m None
         with_queue None at new = at
         with_queue (Some q) at new = absurd (cc new)
 

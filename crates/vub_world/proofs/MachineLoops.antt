@@ -1,6 +1,6 @@
 -- Where the machine stands in the middle of a drain, and at its end.
-use Rattle.std.proofs.Common.{◌≡◌, ◌≢◌, ◌≤◌, ◌<◌, ℕ, zero, suc, ◌+◌, ◌-◌, ◌*◌, Bool, true, false, List, [], ◌∷◌, ◌++◌, length, map, refl, ap, sym, ◌∙◌, subst, inl, inr, arith}
-use Rattle.std.specs.Prelude.{◌&&◌, Option, Some, None, nat_lt, min}
+use Rattle.std.proofs.Common.{◌≡◌, ◌≢◌, ◌≤◌, ◌<◌, ℕ, zero, suc, ◌+◌, ◌-◌, ◌*◌, Bool, true, false, List, [], ◌∷◌, ◌++◌, length, refl, ap, sym, ◌∙◌, subst, inl, inr, arith}
+use Rattle.std.specs.Prelude.{Option, Some, None, nat_lt, min}
 use Rattle.std.proofs.lemmas.Bool.Decides.{nat_tests}
 use Rattle.std.proofs.lemmas.Bool.{cases_eq}
 use Rattle.std.proofs.lemmas.List.{append-nil, append_assoc, length-map}
@@ -8,7 +8,7 @@ use Rattle.vub_base.specs.declared.header.Header1.{Header1}
 use Rattle.vub_ring.specs.declared.steps.Phase.{Phase}
 use Rattle.vub_ring.specs.declared.readiness.Turn.{Turn}
 use Rattle.vub_ring.specs.Readiness.{drain_turn}
-use Rattle.vub_device.specs.Past.{accepted, collected, published}
+use Rattle.vub_device.specs.Past.{accepted, collected}
 use Rattle.vub_schedule.specs.declared.types.Event.{Event}
 use Rattle.vub_world.specs.declared.machine.Life.{Life}
 use Rattle.vub_world.specs.declared.machine.Machine.{Machine}
@@ -17,9 +17,10 @@ use Rattle.vub_world.specs.declared.report.items.Item.{Item}
 use Rattle.vub_world.specs.declared.report.items.Item.TheVariants as items
 use Rattle.vub_world.specs.declared.report.items.Record.{Record}
 use Rattle.vub_world.specs.declared.split.SplitRing.{SplitRing}
-use Rattle.vub_world.specs.Rooms.{RoomState}
-use Rattle.vub_world.specs.MachineAt.{MachineAt, LifeAt, AttachedAt, LogAt, IsReached}
-use Rattle.vub_world.specs.MachineSteps.{DrainSteps, DrainGoes, HasTurnRoom, HasDrainRoom, SpendsStep, batch_in, shown_in, queue_batch, queue_shows, next_turn, choice}
+use Rattle.vub_world.specs.Rooms.{RoomState, HasTurnRoom, HasDrainRoom, SpendsStep}
+use Rattle.vub_world.specs.MachineAt.{MachineAt, LifeAt, AttachedAt, IsReached}
+use Rattle.vub_world.specs.MachineDevice.{batch_in, shown_in, queue_batch, queue_shows}
+use Rattle.vub_world.specs.MachineDrain.{DrainSteps, DrainGoes, next_turn, choice}
 use Rattle.vub_world.specs.Moments.{Moment, standing}
 use Rattle.vub_world.specs.QueueAt.{QueueStands, spot_of}
 use Rattle.vub_world.specs.QueueState.{state_of}
@@ -27,7 +28,7 @@ use Rattle.vub_world.specs.Run.{Stands, Played, played, turns, one_turn, is_due,
 use Rattle.vub_world.proofs.MachineDrains.{shown_by, drain_shows, undone, effort_bound, batch_undone}
 use Rattle.vub_world.proofs.RunChainsEvents.{stands_turns}
 use Rattle.vub_world.proofs.RunChainsTurns.{turn_gentle}
-use Rattle.vub_world.proofs.RunEnds.{effort_at, turn_falls, effort_small, turns_more}
+use Rattle.vub_world.proofs.RunEnds.{effort_at, turn_falls, turns_more}
 use Rattle.vub_world.proofs.RunTurns.{IsPlain, Good}
 use Rattle.vub_world.proofs.Runs.{plain_header}
 use Rattle.vub_world.proofs.RunsTo.{stands_good}

@@ -3,7 +3,7 @@ use Rattle.vub_world.specs.declared.machine.Machine.{Machine}
 use Rattle.vub_world.specs.MachineAt.{IsReached}
 use Rattle.vub_base.specs.declared.header.Header1.{Header1}
 use Rattle.vub_world.proofs.MachineLoops.{DrainAt, drain_begins, drain_taken, drain_room, drain_goes_on, drain_ends, undone_few, reached, so_far}
-use Rattle.vub_world.proofs.RunEnds.{effort_at, effort_small}
+use Rattle.vub_world.proofs.RunEnds.{effort_small}
 use Rattle.vub_world.proofs.Runs.{plain_header}
 use Rattle.vub_world.proofs.RunsTo.{stands_good}
 use Rattle.vub_world.proofs.machine.Machine.drain_steps.Goals as goal

@@ -1,4 +1,3 @@
-use Rattle.std.proofs.Common.{◌≡◌}
 use Rattle.vub_world.specs.declared.report.items.Record.{Record}
 use Rattle.vub_world.proofs.MachineEvents.{stands_on, standing_on}
 use Rattle.vub_world.proofs.machine.Machine.perform.Goals as goal

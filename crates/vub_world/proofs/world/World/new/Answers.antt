@@ -1,6 +1,5 @@
 use Rattle.std.proofs.Common.{[], subst, sym}
 use Rattle.vub_base.specs.declared.header.Header1.{Header1}
-use Rattle.vub_world.specs.MachineAt.{MachineAt}
 use Rattle.vub_world.specs.Moments.{opening}
 use Rattle.vub_world.specs.Run.{Stands}
 use Rattle.vub_world.proofs.RunsTo.{stands_none}
