@@ -1,3 +1,4 @@
+-- What is noted of a store, of an answer and of a batch, and what room it takes.
 use Rattle.std.proofs.Common.{◌≡◌, ◌<◌, ◌≤◌, ℕ, ◌+◌, ◌++◌, List, [], ◌∷◌, length, take, get_or, Bool, true, false, sym, ap, ◌∙◌, subst, arith, refl}
 use Rattle.std.specs.Prelude.{zero, suc, if◌then◌else◌, ◌==◌, map, slice_get, option_map, Option, Some, None}
 use Rattle.std.proofs.lemmas.List.{map-append, take_more}
