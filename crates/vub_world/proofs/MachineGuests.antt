@@ -13,9 +13,8 @@ use Rattle.vub_world.specs.declared.log.Log.{Log}
 use Rattle.vub_world.specs.declared.machine.Machine.{Machine}
 use Rattle.vub_world.specs.declared.report.items.Item.{Item}
 use Rattle.vub_world.specs.declared.report.items.Item.TheVariants as items
-use Rattle.vub_guest.specs.GuestChain.{Links}
-use Rattle.vub_guest.specs.GuestStores.{stores_from}
-use Rattle.vub_guest.specs.GuestState.{ring_in, driver_in, seen_in, waiting_in}
+use Rattle.vub_guest.proofs.GuestLemmas.{left_some}
+use Rattle.vub_guest.specs.GuestState.{seen_in}
 use Rattle.vub_world.specs.Rooms.{RoomState, Spends}
 use Rattle.vub_world.specs.Logs.{Offers}
 use Rattle.vub_world.specs.Memory.{Scene, after_items}

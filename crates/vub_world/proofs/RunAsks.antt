@@ -24,7 +24,7 @@ use Rattle.vub_world.proofs.RunGood.{the_ring, IsSimple, IsHarmless, IsPlan, Dri
 use Rattle.vub_world.proofs.RunFrames.{length_little}
 use Rattle.vub_world.proofs.RunGuests.{IsGood}
 use Rattle.vub_world.proofs.RunChains.{desc_long}
-use Rattle.vub_world.proofs.RequestLemmas.{length-fills}
+use Rattle.vub_guest.proofs.RequestLemmas.{length-fills}
 
 -- ---- descriptors
 

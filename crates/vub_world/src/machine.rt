@@ -8,20 +8,20 @@ ghost use Rattle.vub_world.specs.Rooms.{SpendsLists};
 ghost use Rattle.vub_world.specs.Run.{request_of};
 
 use crate::drain::next_turn;
-use vub_guest::{Collected, Guest, GuestStep};
-use vub_guest::layout::{AREA, AVAIL, SECTORS, STATUS, buffer_of, ring_of};
 use crate::log::Log;
 use crate::queue::{Queue, QueueSetup, Stepped};
 use crate::report::{Item, Items, Record};
 use crate::room::Room;
-use vub_split::SplitRing;
 use std::alloc::Global;
 use vub_base::{Area, Ask, Header1, Memory, Shape, Space, Tag};
 use vub_device::{AnswerList, Answered, Asked, Entry, NumberList};
 use vub_disk::Disk;
+use vub_guest::layout::{AREA, AVAIL, SECTORS, STATUS, buffer_of, ring_of};
+use vub_guest::{Collected, Guest, GuestStep};
 use vub_memdisk::MemDisk;
 use vub_schedule::Event;
 use vub_shared::{Shared, WatchedShared};
+use vub_split::SplitRing;
 
 /// The most stores that a request takes, with the one that offers it.
 const MOST_STORES: u16 = 8;
