@@ -1,13 +1,16 @@
 #!/usr/bin/env python3
 """Times `vublk replay` on a schedule of just under 16 MiB.
 
-usage: bench/replay.py [PROGRAM]
+usage: bench/replay.py [PROGRAM [OTHER]]
 
 PROGRAM is the built program, crates/vublk/out/vublk by default. The schedule writes one sector after
 another: some 330,000 requests, each asked for, handed over, served and collected. The program runs
 on it with its output in a file, and `sha256sum` runs over that output, each three times in turn; the
 best time of each counts. Prints both, their ratio, which may be at most 6, and how much memory the
 program took at most beyond the input, which may be 200 MB. Ends with status 1 where either is more.
+
+Where a second program OTHER is given, it runs in the same turns, and the time that PROGRAM computes
+is printed as a part of that of OTHER, the best of each: 1.02 says that PROGRAM is slower by 2%.
 """
 import os
 import resource
@@ -38,7 +41,7 @@ def schedule():
 
 
 def timed(command, source, target):
-    """The seconds that a command takes, and the most memory that it held, in bytes."""
+    """The seconds that a command takes, those that it computes, and the most memory that it held, in bytes."""
     with open(source, "rb") as stdin, open(target, "wb") as stdout:
         start = time.perf_counter()
         child = subprocess.Popen(command, stdin=stdin, stdout=stdout)
@@ -46,11 +49,12 @@ def timed(command, source, target):
         seconds = time.perf_counter() - start
     if status != 0:
         sys.exit(f"{command[0]} ended with status {os.waitstatus_to_exitcode(status)}")
-    return seconds, usage.ru_maxrss * 1024
+    return seconds, usage.ru_utime, usage.ru_maxrss * 1024
 
 
 def main():
     program = sys.argv[1] if len(sys.argv) > 1 else os.path.join(ROOT, "crates/vublk/out/vublk")
+    other = sys.argv[2] if len(sys.argv) > 2 else None
     with tempfile.TemporaryDirectory() as folder:
         source = os.path.join(folder, "schedule")
         records = os.path.join(folder, "records")
@@ -58,10 +62,13 @@ def main():
         text, requests = schedule()
         with open(source, "wb") as file:
             file.write(text)
-        runs, sums, memory = [], [], 0
+        runs, computed, others, sums, memory = [], [], [], [], 0
         for _ in range(RUNS):
-            seconds, held = timed([program, "replay"], source, records)
+            if other is not None:
+                others.append(timed([other, "replay"], source, records)[1])
+            seconds, computes, held = timed([program, "replay"], source, records)
             runs.append(seconds)
+            computed.append(computes)
             memory = max(memory, held - len(text))
             sums.append(timed(["sha256sum"], records, digest)[0])
         ratio = min(runs) / min(sums)
@@ -71,6 +78,10 @@ def main():
         print(f"sha256sum  {min(sums):>12.3f} s")
         print(f"ratio      {ratio:>12.2f}   (at most {MOST_RATIO})")
         print(f"memory     {memory / 1e6:>12.1f} MB beyond the input (at most {MOST_MEMORY / 1e6:.0f})")
+        if other is not None:
+            print(f"computes   {min(computed):>12.3f} s")
+            print(f"other      {min(others):>12.3f} s")
+            print(f"part       {min(computed) / min(others):>12.3f}")
         sys.exit(1 if ratio > MOST_RATIO or memory > MOST_MEMORY else 0)
 
 

@@ -1,9 +1,8 @@
 use Rattle.std.proofs.Common.{◌≡◌, ◌<◌, ◌≤◌, ℕ, suc, ◌+◌, ◌-◌, ◌%◌, Bool, true, false, List, [], ◌∷◌, ◌++◌, length, get_or, refl, ap, sym, ◌∙◌, subst, arith, append_assoc}
-use Rattle.std.proofs.lemmas.List.{drop-drop}
 use Rattle.std.proofs.lemmas.Bool.Decides.{nat_tests}
 use Rattle.std.specs.Prelude.{nat_lt, is_none, is_some, if◌then◌else◌, take, drop, option_map, Result, Option, Some, None}
 use mathlib.Core.Path.{fun_ext}
-use Rattle.vub_driver.specs.Drivers.{Driver, Waiting, free_from, with_left, after_stores, after_ask, chosen, owned_by, first_or_zero, waits_on, after_collect, is_head, without_owner}
+use Rattle.vub_driver.specs.Drivers.{Driver, Waiting, free_from, with_left, after_stores, after_ask, chosen, owned_by, first_or_zero, waits_on}
 use Rattle.vub_base.specs.declared.request.Ask.{Ask}
 use Rattle.vub_base.specs.declared.request.Ask.TheVariants.{Read, Write, Flush, Id, Discard, Zero}
 use Rattle.vub_shared.specs.Bytes.{Bytes}
@@ -178,29 +177,6 @@ asked r index old new ask same c waiting is chooses size owners =
     let named : Ask → Driver = λ a. record { avail_idx = index; owner = owner_at new; waiting = Some (waiting_in r index (record { ask = a; chain = c; stage = Header })) } in
     ap named is ∙ ap (λ o. driver o (stores_from r index ask l Header)) owner ∙ ap (driver (owned_by c.head ds (owner_at old))) left ∙ sym after
 
--- ---- steps one after another
-
--- a driver that waits for fewer stores goes on as the one before
-with_left-again : (w : Waiting) (v : Driver) (kept left : List Store) → with_left (record w { left = kept }) left (record v { waiting = Some (record w { left = kept }) }) ≡ with_left w left v
-with_left-again w v kept [] = refl
-with_left-again w v kept (st ∷ left) = refl
-
--- so many stores after one are one more
-pub after_stores-more : (count : ℕ) (w : Waiting) (v : Driver) (st : Store) (left : List Store) → drop 1 w.left ≡ st ∷ left
-    → after_stores count (record w { left = st ∷ left }) (after_stores 1 w v) ≡ after_stores (count + 1) w v
-after_stores-more count w v st left is =
-    let w' : Waiting = record w { left = st ∷ left } in
-    let first : after_stores 1 w v ≡ record v { waiting = Some w' } = ap (λ xs. with_left w xs v) is in
-    let again : after_stores count w' (record v { waiting = Some w' }) ≡ with_left w (drop count (st ∷ left)) v = with_left-again w v (st ∷ left) (drop count (st ∷ left)) in
-    let rest : drop count (st ∷ left) ≡ drop (count + 1) w.left = ap (drop count) (sym is) ∙ drop-drop count 1 w.left ∙ ap (λ n. drop n w.left) (let e : 1 + count ≡ count + 1 = omega arith in e) in
-    ap (after_stores count w') first ∙ again ∙ ap (λ xs. with_left w xs v) rest
-
--- a collection sees the low 16 bits of an id alone
-pub after_collect-low : (id : ℕ) (v : Driver) → after_collect (id % 65536) v ≡ after_collect id v
-after_collect-low id v =
-    let low : id % 65536 % 65536 ≡ id % 65536 = omega arith in
-    ap (λ (h : ℕ). if is_head h v.waiting then v else record v { owner = without_owner h v.owner }) low
-
 -- ---- the stores that are left
 
 -- each stage makes a store
@@ -224,3 +200,39 @@ left_some g x is = go g.waiting is
     go (Some p) e =
         let same : waiting_in (ring_in g) g.avail_idx p ≡ x = cc in
         subst (λ (y : Waiting). 0 < length y.left) same (stores_some (ring_in g) g.avail_idx p.ask _ p.stage)
+
+either_few : (b : Bool) (n : ℕ) (xs ys : List Store) → length xs ≤ n → length ys ≤ n → length (if b then xs else ys) ≤ n
+either_few true n xs ys p q = p
+either_few false n xs ys p q = q
+
+descriptors_few : (r : Ring) (index : ℕ) (ask : Ask) (l : Links) → length (from_header_descriptor r index ask l) ≤ 5
+descriptors_few r index ask l =
+    let rest : length (if is_some l.body then from_data_descriptor r index ask l else from_status_descriptor r index ask l) ≤ 4 = either_few (is_some l.body) 4 (from_data_descriptor r index ask l) (from_status_descriptor r index ask l) (omega arith) (omega arith) in
+    omega (arith, rest)
+
+header_few : (r : Ring) (index : ℕ) (ask : Ask) (l : Links) → length (if nat_lt 0 (length (written_bytes ask)) then from_data r index ask l else from_status r index ask l) ≤ 7
+header_few r index ask l =
+    let few = descriptors_few r index ask l in
+    either_few (nat_lt 0 (length (written_bytes ask))) 7 (from_data r index ask l) (from_status r index ask l) (omega (arith, few)) (omega (arith, few))
+
+-- a stage and those after it make eight stores at most
+stores_few : (r : Ring) (index : ℕ) (ask : Ask) (l : Links) (stage : Stage) → length (stores_from r index ask l stage) ≤ 8
+unfolding stores_from
+stores_few r index ask l Header = omega (arith, header_few r index ask l)
+stores_few r index ask l Data = omega (arith, descriptors_few r index ask l)
+stores_few r index ask l Status = omega (arith, descriptors_few r index ask l)
+stores_few r index ask l HeaderDescriptor = omega (arith, descriptors_few r index ask l)
+stores_few r index ask l DataDescriptor = omega arith
+stores_few r index ask l StatusDescriptor = omega arith
+stores_few r index ask l AvailEntry = omega arith
+stores_few r index ask l AvailIdx = omega arith
+
+-- a request that waits has eight left at most
+pub left_few : (g : Guest) (x : Waiting) → (driver_in g).waiting ≡ Some x → length x.left ≤ 8
+left_few g x is = go g.waiting is
+  where
+    go : (o : Option Pending) → option_map (waiting_in (ring_in g) g.avail_idx) o ≡ Some x → length x.left ≤ 8
+    go None e = absurd (cc)
+    go (Some p) e =
+        let same : waiting_in (ring_in g) g.avail_idx p ≡ x = cc in
+        subst (λ (y : Waiting). length y.left ≤ 8) same (stores_few (ring_in g) g.avail_idx p.ask _ p.stage)

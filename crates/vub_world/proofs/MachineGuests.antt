@@ -13,16 +13,16 @@ use Rattle.vub_world.specs.declared.log.Log.{Log}
 use Rattle.vub_world.specs.declared.machine.Machine.{Machine}
 use Rattle.vub_world.specs.declared.report.items.Item.{Item}
 use Rattle.vub_world.specs.declared.report.items.Item.TheVariants as items
-use Rattle.vub_guest.specs.GuestState.{seen_in}
 use Rattle.vub_guest.proofs.GuestLemmas.{left_some}
-use Rattle.vub_world.specs.Rooms.{RoomState}
+use Rattle.vub_guest.specs.GuestState.{seen_in}
+use Rattle.vub_world.specs.Rooms.{RoomState, Spends}
 use Rattle.vub_world.specs.Logs.{Offers}
 use Rattle.vub_world.specs.Memory.{Scene, after_items}
 use Rattle.vub_world.specs.Moments.{Moment}
 use Rattle.vub_world.specs.Run.{guest_items, guest_stores}
 use Rattle.vub_world.specs.MachineAt.{AskAt, FrontAt}
 use Rattle.vub_world.specs.Machine.{IsSound}
-use Rattle.vub_world.specs.MachineSteps.{head_shown, FrontFits, GuestGoes, GuestSteps, Spends}
+use Rattle.vub_world.specs.MachineFront.{head_shown, FrontFits, GuestGoes, GuestSteps}
 use Rattle.vub_world.proofs.RunEvents.{after-append}
 
 -- ---- the stores that are left
@@ -160,7 +160,7 @@ loop_begins w r sound fits = record {
 -- a frame after a frame
 pub frame_more : (w v now : Machine) → v ≡ record w { memory = v.memory; guest = v.guest; asked = v.asked; log = v.log } → now ≡ record v { memory = now.memory; guest = now.guest; asked = now.asked; log = now.log }
     → now ≡ record w { memory = now.memory; guest = now.guest; asked = now.asked; log = now.log }
-frame_more w v now first then = then ∙ ap (λ (u : Machine). record u { memory = now.memory; guest = now.guest; asked = now.asked; log = now.log }) first
+frame_more w v now first last = last ∙ ap (λ (u : Machine). record u { memory = now.memory; guest = now.guest; asked = now.asked; log = now.log }) first
 
 -- one store that isn't the last
 pub loop_more : (done : ℕ) (w v now : Machine) (r mid room : RoomState) → GuestLoop done w v r mid → now ≡ record v { memory = now.memory; guest = now.guest; asked = now.asked; log = now.log } → IsSound now → FrontFits now → seen_in now.guest ≡ seen_in v.guest → Spends 1 1 mid room

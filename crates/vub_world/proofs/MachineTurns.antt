@@ -40,7 +40,8 @@ use Rattle.vub_split.specs.declared.split.SplitRing.{SplitRing}
 use Rattle.vub_world.specs.declared.task.Task.{Task}
 use Rattle.vub_world.specs.Logs.{slot_in}
 use Rattle.vub_world.specs.MachineAt.{LogAt, reads_of}
-use Rattle.vub_world.specs.MachineSteps.{IsSmall, OneSmall, Device, DeviceAt, TurnMade, StoreFits, SectorFits, answer_for, answers_for, noted, stored_items, shown_of, is_index, accepts, number_at}
+use Rattle.vub_world.specs.MachineDevice.{Device, DeviceAt, TurnMade, StoreFits, SectorFits, answer_for, answers_for, noted, stored_items, shown_of, is_index, accepts, number_at}
+use Rattle.vub_world.specs.MachineFront.{IsSmall, OneSmall}
 use Rattle.vub_world.specs.Memory.{after_items}
 use Rattle.vub_world.specs.Moments.{Lane, Moment, standing}
 use Rattle.vub_world.specs.QueueAt.{spot_of, QueueStands, IsMainRing, DiskAt}

@@ -3,24 +3,28 @@ ghost use Rattle.std.specs.Prelude.{◌≡◌, ◌<◌, ◌≤◌, ◌+◌, ◌-
 ghost use Rattle.vub_shared.specs.Watched.{bytes_in, stores_in, sizes_in};
 ghost use Rattle.vub_driver.specs.Layout.{ring_of as main_ring};
 ghost use Rattle.vub_schedule.specs.Spelling.{IsHeader, IsEvent};
-ghost use Rattle.vub_world.specs.MachineSteps.{AskFits, SpendsLists};
+ghost use Rattle.vub_world.specs.MachineFront.{AskFits};
+ghost use Rattle.vub_world.specs.Rooms.{SpendsLists};
 ghost use Rattle.vub_world.specs.Run.{request_of};
 
 use crate::drain::next_turn;
-use vub_guest::{Collected, Guest, GuestStep};
-use vub_guest::layout::{AREA, AVAIL, SECTORS, STATUS, buffer_of, ring_of};
 use crate::log::Log;
 use crate::queue::{Queue, QueueSetup, Stepped};
 use crate::report::{Item, Items, Record};
 use crate::room::Room;
-use vub_split::SplitRing;
 use std::alloc::Global;
 use vub_base::{Area, Ask, Header1, Memory, Shape, Space, Tag};
 use vub_device::{AnswerList, Answered, Asked, Entry, NumberList};
 use vub_disk::Disk;
+use vub_guest::layout::{AREA, AVAIL, SECTORS, STATUS, buffer_of, ring_of};
+use vub_guest::{Collected, Guest, GuestStep};
 use vub_memdisk::MemDisk;
 use vub_schedule::Event;
 use vub_shared::{Shared, WatchedShared};
+use vub_split::SplitRing;
+
+/// The most stores that a request takes, with the one that offers it.
+const MOST_STORES: u16 = 8;
 
 /// A life of the device; its queue is there once it is attached.
 #[derive(Debug, Drop)]
@@ -93,7 +97,10 @@ impl Machine {
     ghost use Rattle.vub_world.specs.Logs.{offered_in, collected_in, slot_in, Offers};
     ghost use Rattle.vub_world.specs.Machine.{IsSound, LendsSound};
     ghost use Rattle.vub_world.specs.MachineAt.{FrontAt, MachineAt, IsReached, IsStanding, Performs, StandsOn};
-    ghost use Rattle.vub_world.specs.MachineSteps.{FrontFits, OneSmall, GuestSteps, GuestGoes, TurnGoes, DrainSteps, DrainGoes, HasTurnRoom, HasDrainRoom, BatchFits, ShowsSome, StoreFits, SectorFits, IsEntry, Spends, SpendsAnswers, SpendsUpTo, SpendsTurn, SpendsStep, stored_items, head_shown, is_joining, answer_for, answers_for, answers_shown, batch_in, shown_in, noted, next_turn};
+    ghost use Rattle.vub_world.specs.MachineDevice.{BatchFits, ShowsSome, StoreFits, SectorFits, IsEntry, stored_items, is_joining, answer_for, answers_for, answers_shown, batch_in, shown_in, noted};
+    ghost use Rattle.vub_world.specs.MachineDrain.{TurnGoes, DrainSteps, DrainGoes, next_turn};
+    ghost use Rattle.vub_world.specs.MachineFront.{FrontFits, OneSmall, GuestSteps, GuestGoes, head_shown};
+    ghost use Rattle.vub_world.specs.Rooms.{HasTurnRoom, HasDrainRoom, Spends, SpendsAnswers, SpendsUpTo, SpendsTurn, SpendsStep};
     ghost use Rattle.vub_world.specs.Moments.{Moment, opening};
     ghost use Rattle.vub_world.specs.QueueState.{state_of};
     ghost use Rattle.vub_world.specs.Run.{Stands};
@@ -286,9 +293,10 @@ impl Machine {
         if self.log.is_full() {
             return Err(Memory);
         }
-        let most = usize::from(stores) + 1;
-        let mut room = Room::new(self.alloc, most, most, 0, 0)?;
-        self.guest_stores(stores, &mut room);
+        let most = stores.min(MOST_STORES);
+        let noted = usize::from(most) + 1;
+        let mut room = Room::new(self.alloc, noted, noted, 0, 0)?;
+        self.guest_stores(most, &mut room);
         Ok(room.into_items())
     }
 
@@ -569,6 +577,8 @@ impl Machine {
         ensures kept { OnErr result (self.new ≡ self.old) }
         ensures performs { IfOk result (λ is. Performs self.old self.new (events.Drain 0) is) }
     {
+        // At most seven turns are left for each of these requests, and two besides. A turn has two
+        // items at most and one list of bytes; each answer takes a list more.
         let undone = self.log.outstanding().min(64) as usize;
         let mut room = Room::new(
             self.alloc,

@@ -1,15 +1,18 @@
-use Rattle.std.proofs.Common.{◌≡◌, ℕ, List, [], refl, sym, ap, subst, ◌∙◌, true, false}
+use Rattle.std.proofs.Common.{◌≡◌, ℕ, List, [], refl, sym, ap, subst, ◌∙◌, true, false, arith}
 use Rattle.std.specs.Prelude.{Option, Some, None, is_some, not}
 use Rattle.vub_base.specs.declared.request.Ask.{Ask}
-use Rattle.vub_driver.specs.Drivers.{Waiting}
+use Rattle.vub_driver.specs.Drivers.{Driver, Waiting}
 use Rattle.vub_world.specs.declared.report.items.Item.{Item}
 use Rattle.vub_world.specs.declared.machine.Machine.{Machine}
+use Rattle.vub_guest.specs.GuestState.{driver_in}
 use Rattle.vub_world.specs.MachineAt.{AskAt, MachineAt}
-use Rattle.vub_world.specs.MachineSteps.{GuestGoes}
+use Rattle.vub_world.specs.MachineFront.{GuestGoes}
 use Rattle.vub_world.specs.Moments.{Moment}
 use Rattle.vub_world.specs.Run.{played, guest}
 use Rattle.vub_world.proofs.MachineGuestFits.{front_fits}
 use Rattle.vub_world.proofs.MachineGuestOffers.{guest_performs}
+use Rattle.vub_guest.proofs.GuestLemmas.{left_few}
+use Rattle.vub_world.proofs.MachineGuests.{all_gone}
 use Rattle.vub_world.proofs.machine.Machine.guest.Goals as goal
 
 pub guest_stores-requires-clause-fits : goal.guest_stores-requires-clause-fits
@@ -35,7 +38,10 @@ returns-clause-performs c sixteen es rs m s at = go (m.lanes 0).driver.waiting r
     go (Some x) e =
         let goes = c.guest_stores.ensures.goes m x at.front e in
         let begins : c.in_ok-room.room.items ≡ [] = ap (λ r. r.items) c.in_ok-room.ensures in
-        let here : GuestGoes 16 x w now m [] is = subst (λ (js : List Item). GuestGoes 16 x w now m [] js) (sym c.into_items.ensures)
-        (subst (λ (js : List Item). GuestGoes 16 x w now m js c.guest_stores.new.room.items) begins (subst (λ (k : ℕ). GuestGoes k x w now m c.in_ok-room.room.items c.guest_stores.new.room.items) sixteen goes)) in
+        let eight : c.min-most.result ≡ 8 = omega (arith, sixteen, c.min-most.ensures) in
+        let all : GuestGoes 8 x w now m [] is = subst (λ (js : List Item). GuestGoes 8 x w now m [] js) (sym c.into_items.ensures)
+        (subst (λ (js : List Item). GuestGoes 8 x w now m js c.guest_stores.new.room.items) begins (subst (λ (k : ℕ). GuestGoes k x w now m c.in_ok-room.room.items c.guest_stores.new.room.items) eight goes)) in
+        let waits : (driver_in w.guest).waiting ≡ Some x = ap (λ (v : Driver). v.waiting) at.front.driver ∙ e in
+        let here : GuestGoes 16 x w now m [] is = all_gone 8 16 x w now m [] is (left_few w.guest x waits) (omega arith) all in
         subst (λ (k : ℕ). (next : Moment) × (played is next ≡ guest w.header 0 k m) × MachineAt now next) (sym sixteen)
         (guest_performs w now es rs m x is c.guest_stores.ensures.frame c.guest_stores.ensures.position (c.is_full.ensures.more c.if-is_full.false) s at e here)
