@@ -62,10 +62,6 @@ get_map f [] e l = absurd (omega arith)
 get_map f (x ∷ xs) zero l = refl
 get_map f (x ∷ xs) (suc e) l = get_map f xs e (omega arith)
 
-pub length_map : (f : ℕ → ℕ × ℕ) (xs : List ℕ) → length (map f xs) ≡ length xs
-length_map f [] = refl
-length_map f (x ∷ xs) = omega (arith, length_map f xs)
-
 -- the used length of a request that succeeds
 pub len_is : (h : Header1) (o : Option Asked) → h.mode ≡ Back → IsSimple h.capacity o → (len_of h o ≡ answered_len 0 o) × (answered_len 0 o < 256 ^ 4)
 len_is h o back simple = elim (simple_cases h.capacity o simple) [
