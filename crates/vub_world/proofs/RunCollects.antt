@@ -148,7 +148,7 @@ taken_holds h s l x k t =
       ringed = record { avail_idx_is = r.avail_idx_is; used_idx_is = r.used_idx_is; avail_at = r.avail_at; used_at = λ i from upto. r.used_at i (omega arith) upto };
       driven = taken_driven h s l x k t;
       worked = taken_worked h s l k t.holds.worked;
-      stored = record { sectors = λ j is_open far read. t.holds.stored.sectors j (record { taken = is_open.taken; unpublished = is_open.unpublished }) far read; status = t.holds.stored.status };
+      stored = record { sectors = λ j i is_open kept read. t.holds.stored.sectors j i (record { taken = is_open.taken; unpublished = is_open.unpublished }) kept read; status = t.holds.stored.status };
       built = built_same h.size h.base s.past (entries.Collect 0 k ∷ s.past) (s.heads 0) s.memory l.batch l.phase refl (λ j. refl) t.holds.built;
     }
 

@@ -1,5 +1,5 @@
 -- The step that is due of a request at work: which task makes it, and what memory means there.
-use Rattle.std.proofs.Common.{◌≡◌, ◌≤◌, ◌<◌, ◌⊎◌, ℕ, zero, suc, true, false, not, List, [], ◌∷◌, ◌++◌, length, refl, ap, sym, ◌∙◌, subst, inl, inr, arith}
+use Rattle.std.proofs.Common.{◌≡◌, ◌≤◌, ◌<◌, ◌⊎◌, ℕ, zero, suc, ◌/◌, true, false, not, List, [], ◌∷◌, ◌++◌, length, refl, ap, sym, ◌∙◌, subst, inl, inr, arith}
 use Rattle.std.specs.Prelude.{Option, Some, None, slice_index, slice_get, get_or}
 use Rattle.std.proofs.lemmas.Bool.Decides.{nat_tests}
 use Rattle.std.proofs.lemmas.Option.{slice_get-get_or}
@@ -111,7 +111,8 @@ some_step h request made back simple pending = elim (simple_cases h.capacity (So
   | inr r ↦
       let is : request ≡ asks.Write r.0 r.1 = let e : Some request ≡ Some (asks.Write r.0 r.1) = r.4 in cc in
       let steps : task_steps h request ≡ Act 0 ∷ Status ∷ [] = ap (task_steps h) is ∙ write_steps h r.0 r.1 back r.2 r.3 in
-      let x = write_next made (subst (λ (o : Option Asked). IsPending made o) r.4 pending) in
+      let few : made ≤ length r.1 / 512 = subst (λ (o : Option Asked). IsPending made o) r.4 pending in
+      let x = write_next made (omega (arith, few, r.3)) in
       (x.0, ap (λ (xs : List TaskStep). slice_get xs made) steps ∙ x.1)
 ]
 

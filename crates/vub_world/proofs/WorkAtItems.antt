@@ -43,7 +43,7 @@ use Rattle.vub_world.specs.Turns.{Turned, turned, work_turn, request_turn, task_
 use Rattle.vub_world.proofs.RunNumbers.{among_get}
 use Rattle.vub_world.proofs.RunGood.{IsSimple, IsOut}
 use Rattle.vub_world.proofs.RunFrames.{open_out}
-use Rattle.vub_world.proofs.RunWork.{effect_is}
+use Rattle.vub_world.proofs.RunSteps.{effect_is}
 use Rattle.vub_world.proofs.RunTurns.{IsPlain, Good}
 use Rattle.vub_world.proofs.WorkAt.{WorkReady, making, making_of, Kind, kind_of}
 
@@ -106,7 +106,7 @@ show_act : (h : Header1) (m : Moment) (q : QueueState) (v : Values) (k : ℕ) (t
 show_act h m q v k task links sector bytes long =
     let bs : List ℕ = slice_range bytes (512 * 0) (512 * 0 + 512) in
     let x : SectorValue = record { sector = sector + 0; value = bs } in
-    let effect : effect_at (asks.Write sector bytes) 0 ≡ Some x = effect_is sector bytes long in
+    let effect : effect_at (asks.Write sector bytes) 0 ≡ Some x = effect_is sector bytes 0 (omega (arith, long)) in
     let new : with_effect (Some x) v (sector + 0) ≡ bs = grind (arith, nat_tests) in
     let now : with_effect (effect_at (asks.Write sector bytes) 0) v (sector + 0) ≡ bs = ap (λ (o : Option SectorValue). with_effect o v (sector + 0)) effect ∙ new in
     (refl, ap (act_items 0 k) effect ∙ ap (λ (xs : List ℕ). items.Made (entries.Act 0 k (sector + 0) xs) ∷ []) (sym now))

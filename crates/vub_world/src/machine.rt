@@ -573,13 +573,13 @@ impl Machine {
         ensures kept { OnErr result (self.new ≡ self.old) }
         ensures performs { IfOk result (λ is. Performs self.old self.new (events.Drain 0) is) }
     {
-        // At most seven turns are left for each of these requests, and two besides. A turn has two
+        // At most 21 turns are left for each of these requests, and two besides. A turn has two
         // items at most and one list of bytes; each answer takes a list more.
         let undone = self.log.outstanding().min(64) as usize;
         let mut room = Room::new(
             self.alloc,
-            14 * undone + 6,
-            8 * undone + 3,
+            42 * undone + 6,
+            22 * undone + 3,
             undone + 1,
             undone,
         )?;
