@@ -258,7 +258,7 @@ look_follows past k s v run = record {
 looks_more : (past : List Entry) (k s : ℕ) (v : List ℕ) → looks (entries.Look 0 k s v ∷ past) 0 k ≡ looks past 0 k + 1
 looks_more past k s v = grind (arith, nat_tests)
 
-seen_more : (past : List Entry) (k s : ℕ) (v : List ℕ) → seen (entries.Look 0 k s v ∷ past) 0 k ≡ seen past 0 k ++ v
+pub seen_more : (past : List Entry) (k s : ℕ) (v : List ℕ) → seen (entries.Look 0 k s v ∷ past) 0 k ≡ seen past 0 k ++ v
 seen_more past k s v = grind (arith, nat_tests)
 
 -- a request that is worked on reads
