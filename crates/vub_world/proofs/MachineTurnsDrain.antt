@@ -34,7 +34,7 @@ use Rattle.vub_world.specs.QueueState.{state_of, is_idle}
 use Rattle.vub_world.specs.Rooms.{RoomState}
 use Rattle.vub_world.specs.Run.{is_due}
 use Rattle.vub_world.proofs.RunFrames.{open_out}
-use Rattle.vub_world.proofs.RunGood.{IsSimple, IsOut, PhaseIs}
+use Rattle.vub_world.proofs.RunGood.{IsWide, IsOut, PhaseIs}
 use Rattle.vub_world.proofs.RunTurns.{IsPlain, Good, phase_cases}
 use Rattle.vub_world.proofs.QueueAtRows.{ShowsNext, shows_goes}
 use Rattle.vub_world.proofs.MachineTurns.{among_right, some_is}
@@ -50,11 +50,11 @@ get_of_map f [] i x is = absurd (none_of i is)
 get_of_map f (k ∷ ks) zero x is = (k, grind (arith, nat_tests), sym (some_is (f k) x is))
 get_of_map f (k ∷ ks) (suc i) x is = let rest = get_of_map f ks i x is in let there : is_among ks rest.0 ≡ true = rest.1 in (rest.0, grind (arith, nat_tests), rest.2)
 
-few_reads : (cap : ℕ) (o : Option Asked) → IsSimple cap o → reads_of o ≤ 1
+few_reads : (cap : ℕ) (o : Option Asked) → IsWide cap o → reads_of o ≤ 8
 few_reads cap None simple = absurd simple
-few_reads cap (Some (asks.Read s n)) simple = omega (arith, simple.1)
+few_reads cap (Some (asks.Read s n)) simple = simple.few
 few_reads cap (Some (asks.Write s bytes)) simple = omega arith
-few_reads cap (Some asks.Flush) simple = absurd simple
+few_reads cap (Some asks.Flush) simple = omega arith
 few_reads cap (Some asks.Id) simple = absurd simple
 few_reads cap (Some (asks.Discard parts)) simple = absurd simple
 few_reads cap (Some (asks.Zero parts)) simple = absurd simple

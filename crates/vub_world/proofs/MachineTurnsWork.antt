@@ -96,7 +96,7 @@ stores_noted : (h : Header1) (m : Moment) (t : Turn) (log : Log) (d now : Device
 stores_noted h m t log d now tag x task n fresh trails shows goes none notes fits =
     let st : Store = one_store 0 shows.place shows.bytes in
     let kept : now.stores ≡ st ∷ [] = some_is now.stores (with_maybe (due_store d.queue task n) d.stores) trails ∙ ap (λ (o : Option Store). with_maybe o d.stores) shows.due ∙ ap (λ (l : List Store). with_maybe (Some st) l) fresh in
-    let small : OneSmall now.stores = subst (λ (l : List Store). OneSmall l) (sym kept) (record { space = refl; few = shows.few }) in
+    let small : OneSmall now.stores = subst (λ (l : List Store). OneSmall l) (sym kept) (record { space = refl; few = omega (arith, shows.few) }) in
     record {
       goes = goes;
       items_are = shows.items ∙ sym (ap (stored_items tag) kept) ∙ sym notes;

@@ -4,8 +4,8 @@ use Rattle.std.specs.Prelude.{slice_index}
 use Rattle.byteorder.specs.Endian.{little_bytes}
 use Rattle.byteorder.specs.Numbers.{length-bytes_low_first}
 use Rattle.std.proofs.lemmas.Bool.{cases_lt}
-use Rattle.vub_shared.specs.Bytes.{Bytes, put, word, bytes_from}
-use Rattle.vub_shared.proofs.BytesLemmas.{put_other, word-put_other, word-put_same, bytes_from-put_other}
+use Rattle.vub_shared.specs.Bytes.{Bytes, put, word}
+use Rattle.vub_shared.proofs.BytesLemmas.{put_other, word-put_other, word-put_same}
 use Rattle.vub_ring.specs.declared.steps.Phase.{Phase}
 use Rattle.vub_ring.specs.declared.steps.Phase.TheVariants as phases
 use Rattle.vub_ring.specs.Ring.{entry_of, avail_entry_place, avail_idx_place, used_id_place, used_len_place, head_at}

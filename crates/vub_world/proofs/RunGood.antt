@@ -35,12 +35,6 @@ pub record IsSize (n : ℕ) : Type 0 where
 
 -- ---- the history
 
--- one sector of the disk is read or written
-abbrev pub IsSimple : ℕ → Option Asked → Type 0
-IsSimple cap (Some (asks.Read s c)) = (s < cap) × (c ≡ 1)
-IsSimple cap (Some (asks.Write s bytes)) = (s < cap) × (length bytes ≡ 512)
-IsSimple cap r = ⊥
-
 -- one to eight sectors are read, up to the end of the disk
 pub record IsWideRead (cap s c : ℕ) : Type 0 where
   pub fits : s + c ≤ cap
@@ -70,7 +64,7 @@ pub record Known (n cap : ℕ) (past : List Entry) (heads : List ℕ) : Type 0 w
   pub fewer : length (published past 0) ≤ accepted past 0
   pub room : length heads ≤ n + collected past 0
   pub good : AllByRecursion (λ (a : Answered). a.status ≡ 0) (answers past 0)
-  pub simple : (k : ℕ) → k < length heads → IsSimple cap (asked past 0 k)
+  pub simple : (k : ℕ) → k < length heads → IsWide cap (asked past 0 k)
   pub unfaulted : (k : ℕ) → faulted past 0 k ≡ false
   pub values : (s : ℕ) → length (value past s) ≡ 512
 
@@ -106,7 +100,7 @@ pub record IsPlan (n index head : ℕ) (left : List Store) : Type 0 where
   pub whole : left ≡ first ++ offer_stores (the_ring n) index head
 
 pub record IsWaiting (n cap : ℕ) (past : List Entry) (heads : List ℕ) (v : Driver) (w : Waiting) : Type 0 where
-  pub simple : IsSimple cap (Some (request_of w.ask))
+  pub simple : IsWide cap (Some (request_of w.ask))
   pub below : w.head < n
   pub mine : v.owner w.head ≡ Some w.head
   pub apart : (k : ℕ) → IsOut past heads k → slice_index heads k ≢ w.head

@@ -5,7 +5,7 @@ use Rattle.byteorder.specs.Endian.{little_bytes}
 use Rattle.std.proofs.lemmas.Bool.Decides.{nat_tests}
 use Rattle.std.proofs.lemmas.Bool.{cases_lt, or_right}
 use Rattle.std.proofs.lemmas.List.{length_push, get_or_append_left, get_or_push, length-take-le}
-use Rattle.vub_shared.specs.Bytes.{Bytes, put, word, bytes_from}
+use Rattle.vub_shared.specs.Bytes.{Bytes, put, word}
 use Rattle.vub_shared.proofs.BytesLemmas.{word-put_same}
 use Rattle.vub_ring.specs.declared.steps.Phase.{Phase}
 use Rattle.vub_ring.specs.declared.steps.Phase.TheVariants as phases
@@ -18,7 +18,7 @@ use Rattle.vub_device.specs.Past.{offers, asked, accepted, published, collected,
 use Rattle.vub_device.proofs.Numbers.{is_among_append}
 use Rattle.vub_world.specs.Tracking.{answered_len}
 use Rattle.vub_world.proofs.RunNumbers.{among_at, few_places}
-use Rattle.vub_world.proofs.RunGood.{the_ring, IsSize, IsSimple, Known, Ringed, spot, IsOut, IsWaiting, Driven, IsBegun, IsFull, IsPending, Worked, Stored, IsRead, Built}
+use Rattle.vub_world.proofs.RunGood.{the_ring, IsSize, IsWide, Known, Ringed, spot, IsOut, IsWaiting, Driven, IsBegun, IsFull, IsPending, Worked, Stored, IsRead, Built}
 use Rattle.vub_world.proofs.RunFrames.{keeps, length_little}
 
 pub same_head : (heads : List ℕ) (h k : ℕ) → k < length heads → slice_index (heads ++ h ∷ []) k ≡ slice_index heads k
@@ -65,7 +65,7 @@ offer_room n cap base past heads v w known driven waits =
     ]) in
     omega (arith, all, many)
 
-pub offer_known : (n cap : ℕ) (past : List Entry) (heads : List ℕ) (r : Asked) (h : ℕ) → Known n cap past heads → IsSimple cap (Some r) → length heads < n + collected past 0 → Known n cap (entries.Offer 0 r ∷ past) (heads ++ h ∷ [])
+pub offer_known : (n cap : ℕ) (past : List Entry) (heads : List ℕ) (r : Asked) (h : ℕ) → Known n cap past heads → IsWide cap (Some r) → length heads < n + collected past 0 → Known n cap (entries.Offer 0 r ∷ past) (heads ++ h ∷ [])
 offer_known n cap past heads r h known simple room =
     let longer : length (heads ++ h ∷ []) ≡ length heads + 1 = length_push heads h in record {
       offers_are = omega (arith, longer, known.offers_are);
@@ -77,8 +77,8 @@ offer_known n cap past heads r h known simple room =
       room = omega (arith, longer, room);
       good = known.good;
       simple = λ k l. elim (cases_lt k (length heads)) [
-        | inl low ↦ subst (λ (o : Option Asked). IsSimple cap o) (sym (same_asked past r k (omega (arith, known.offers_are)))) (known.simple k low)
-        | inr high ↦ subst (λ (o : Option Asked). IsSimple cap o) (sym (new_asked past r k (omega (arith, longer, known.offers_are)))) simple
+        | inl low ↦ subst (λ (o : Option Asked). IsWide cap o) (sym (same_asked past r k (omega (arith, known.offers_are)))) (known.simple k low)
+        | inr high ↦ subst (λ (o : Option Asked). IsWide cap o) (sym (new_asked past r k (omega (arith, longer, known.offers_are)))) simple
       ];
       unfaulted = known.unfaulted;
       values = known.values;

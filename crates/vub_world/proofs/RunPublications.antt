@@ -1,6 +1,6 @@
 -- A publication keeps what holds, and its answers are those of a legal history.
-use Rattle.std.proofs.Common.{◌≡◌, ◌≤◌, ◌<◌, ℕ, zero, suc, ◌+◌, ◌*◌, ◌/◌, ◌^◌, Bool, true, false, List, [], ◌∷◌, ◌++◌, length, map, refl, ap, sym, ◌∙◌, subst, inl, inr, arith}
-use Rattle.std.specs.Prelude.{Option, Some, None, slice_index, slice_get, option_map, nat_lt, if◌then◌else◌, All}
+use Rattle.std.proofs.Common.{◌≡◌, ◌≤◌, ◌<◌, ℕ, zero, suc, ◌+◌, ◌*◌, ◌/◌, ◌^◌, Bool, true, false, List, [], ◌∷◌, ◌++◌, length, map, refl, ap, sym, ◌∙◌, subst, inr, arith}
+use Rattle.std.specs.Prelude.{Option, Some, slice_index, slice_get, option_map, nat_lt, if◌then◌else◌, All}
 use Rattle.std.specs.List.{AllByRecursion}
 use Rattle.byteorder.specs.Endian.{little_bytes}
 use Rattle.std.proofs.lemmas.Bool.Decides.{nat_tests}
@@ -33,7 +33,7 @@ use Rattle.vub_world.proofs.RunNumbers.{among_at}
 use Rattle.vub_world.proofs.RunGood.{the_ring, IsWide, IsReadTo, IsWrittenTo, IsFull, Worked, Stored, IsRead, buffer, Holds}
 use Rattle.vub_world.proofs.RunFrames.{open_out}
 use Rattle.vub_world.proofs.RunGuests.{IsGood, stored_at, holds_track}
-use Rattle.vub_world.proofs.RunSteps.{wide_some, simple_wide, wide_served, looks_end, effects_end, read_to, written_to, flushed_to}
+use Rattle.vub_world.proofs.RunSteps.{wide_some, wide_served, looks_end, effects_end, read_to, written_to, flushed_to}
 use Rattle.vub_world.proofs.RunWork.{Fine}
 use Rattle.vub_world.proofs.RunElements.{steps_many, get_map, len_is, element_place, IsNextElement, one_on, id_holds, len_holds}
 
@@ -61,7 +61,7 @@ pub batch_open : (h : Header1) (s : Scene) (l : Lane) (done k : ℕ) → IsUnder
 batch_open h s l done k x held = x.holds.worked.opens k (in_batch h s l done k x held)
 
 batch_wide : (h : Header1) (s : Scene) (l : Lane) (done k : ℕ) → IsUnderWay h s l done → is_among l.batch k ≡ true → IsWide h.capacity (asked s.past 0 k)
-batch_wide h s l done k x held = simple_wide h.capacity (asked s.past 0 k) (x.holds.known.simple k (omega (arith, (batch_open h s l done k x held).taken, x.holds.known.offered)))
+batch_wide h s l done k x held = (x.holds.known.simple k (omega (arith, (batch_open h s l done k x held).taken, x.holds.known.offered)))
 
 -- ---- the stores of elements
 

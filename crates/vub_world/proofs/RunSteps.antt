@@ -1,5 +1,5 @@
 -- The steps of a request, by how many were made.
-use Rattle.std.proofs.Common.{◌≡◌, ◌≤◌, ◌<◌, ℕ, zero, suc, ◌+◌, ◌*◌, ◌/◌, ◌%◌, Bool, true, List, [], ◌∷◌, ◌++◌, length, refl, ap, ◌∙◌, sym, subst, arith}
+use Rattle.std.proofs.Common.{◌≡◌, ◌≤◌, ◌<◌, ℕ, zero, suc, ◌+◌, ◌*◌, ◌/◌, Bool, true, List, [], ◌∷◌, ◌++◌, length, refl, ap, ◌∙◌, subst, arith}
 use Rattle.std.specs.Prelude.{Option, Some, None, slice_get, slice_range, nat_lt, if◌then◌else◌}
 use Rattle.std.proofs.lemmas.Bool.Decides.{nat_tests}
 use Rattle.vub_base.specs.declared.header.CacheMode.{CacheMode}
@@ -9,8 +9,8 @@ use Rattle.vub_device.specs.declared.entry.Asked.{Asked}
 use Rattle.vub_device.specs.declared.entry.Asked.TheVariants as asks
 use Rattle.vub_device.specs.declared.entry.SectorValue.{SectorValue}
 use Rattle.vub_device.specs.Requests.{look_at, effect_at, refusal}
-use Rattle.vub_world.specs.Tasks.{TaskStep, Look, Put, Act, Sync, Status, task_steps, unless_refused, disk_steps, look_steps, act_steps}
-use Rattle.vub_world.proofs.RunGood.{IsSimple, IsWideRead, IsWideWrite, IsWide, Progress, IsBegun, IsReadTo, IsWrittenTo}
+use Rattle.vub_world.specs.Tasks.{TaskStep, Look, Put, Act, Status, task_steps, unless_refused, disk_steps, look_steps, act_steps}
+use Rattle.vub_world.proofs.RunGood.{IsWideRead, IsWideWrite, IsWide, Progress, IsBegun, IsReadTo, IsWrittenTo}
 
 -- ---- requests
 
@@ -31,15 +31,6 @@ wide_cases cap None wide = absurd wide
 pub wide_some : (cap : ℕ) (o : Option Asked) → IsWide cap o → (r : Asked) × (o ≡ Some r)
 wide_some cap (Some r) wide = (r, refl)
 wide_some cap None wide = absurd wide
-
-pub simple_wide : (cap : ℕ) (o : Option Asked) → IsSimple cap o → IsWide cap o
-simple_wide cap (Some (asks.Read s c)) simple = record { fits = omega (arith, simple.0, simple.1); some = omega (arith, simple.1); few = omega (arith, simple.1) }
-simple_wide cap (Some (asks.Write s bytes)) simple = record { fits = omega (arith, simple.0, simple.1); whole = omega (arith, simple.1); some = omega (arith, simple.1); few = omega (arith, simple.1) }
-simple_wide cap (Some asks.Flush) simple = absurd simple
-simple_wide cap (Some asks.Id) simple = absurd simple
-simple_wide cap (Some (asks.Discard parts)) simple = absurd simple
-simple_wide cap (Some (asks.Zero parts)) simple = absurd simple
-simple_wide cap None simple = absurd simple
 
 -- none of them is refused
 pub wide_served : (h : Header1) (r : Asked) → h.mode ≡ Back → IsWide h.capacity (Some r) → refusal h.capacity h.mode r ≡ None
@@ -74,6 +65,13 @@ read_at a (suc c) zero l = ToLook 0 (omega arith) refl (ap (λ (k : ℕ). Some (
 read_at a (suc c) (suc zero) l = ToPut 0 (omega arith) refl (ap (λ (k : ℕ). Some (Put k)) (let same : a ≡ a + 0 = omega arith in same))
 read_at a (suc c) (suc (suc made)) l = read_later a c made (slice_get (look_steps (a + 1) c ++ Status ∷ []) made) (read_at (a + 1) c made (omega arith))
 
+pub read_over : (a c made : ℕ) → 2 * c < made → slice_get (look_steps a c ++ Status ∷ []) made ≡ None
+read_over a zero zero l = absurd (omega arith)
+read_over a zero (suc made) l = refl
+read_over a (suc c) zero l = absurd (omega arith)
+read_over a (suc c) (suc zero) l = absurd (omega arith)
+read_over a (suc c) (suc (suc made)) l = read_over (a + 1) c made (omega arith)
+
 pub data WriteAt : ℕ → ℕ → ℕ → Option TaskStep → Type 0 where
   ToAct : {a n made : ℕ} {o : Option TaskStep} → made < n → o ≡ Some (Act (a + made)) → WriteAt a n made o
   ToEnd : {a n made : ℕ} {o : Option TaskStep} → made ≡ n → o ≡ Some Status → WriteAt a n made o
@@ -87,6 +85,12 @@ write_at a zero zero l = ToEnd refl refl
 write_at a zero (suc made) l = absurd (omega arith)
 write_at a (suc n) zero l = ToAct (omega arith) (ap (λ (k : ℕ). Some (Act k)) (let same : a ≡ a + 0 = omega arith in same))
 write_at a (suc n) (suc made) l = write_later a n made (slice_get (act_steps (a + 1) n ++ Status ∷ []) made) (write_at (a + 1) n made (omega arith))
+
+pub write_over : (a n made : ℕ) → n < made → slice_get (act_steps a n ++ Status ∷ []) made ≡ None
+write_over a zero zero l = absurd (omega arith)
+write_over a zero (suc made) l = refl
+write_over a (suc n) zero l = absurd (omega arith)
+write_over a (suc n) (suc made) l = write_over (a + 1) n made (omega arith)
 
 -- ---- what a step does
 

@@ -4,7 +4,6 @@ use Rattle.std.specs.Prelude.{Option, Some, None, slice_index, slice_get, slice_
 use Rattle.std.proofs.lemmas.Bool.Decides.{nat_tests}
 use Rattle.std.proofs.lemmas.Bool.{cases_eq, cases_lt}
 use Rattle.std.proofs.lemmas.List.{length-take-le, length-drop, get_or-take, get_or-drop, get_or_append_left}
-use Rattle.vub_base.specs.declared.header.CacheMode.{CacheMode}
 use Rattle.vub_base.specs.declared.header.CacheMode.TheVariants.{Back}
 use Rattle.vub_base.specs.declared.header.Header1.{Header1}
 use Rattle.vub_shared.specs.Bytes.{Bytes, put, word}
@@ -30,12 +29,12 @@ use Rattle.vub_base.specs.declared.store.Area.TheVariants.{M}
 use Rattle.vub_world.specs.declared.report.items.Item.TheVariants as items
 use Rattle.vub_world.specs.Memory.{Scene, with_at, after_items}
 use Rattle.vub_world.specs.Moments.{Lane}
-use Rattle.vub_world.specs.Tasks.{TaskStep, Look, Put, Act, Sync, Status, task_steps, look_items, act_items, status_of, unless_refused, disk_steps, look_steps, act_steps}
+use Rattle.vub_world.specs.Tasks.{TaskStep, Look, Put, Act, Sync, Status, look_items, act_items, status_of, disk_steps, look_steps, act_steps}
 use Rattle.vub_world.specs.Tracking.{EveryTracks, AfterEach, entries_of, answered_len}
 use Rattle.vub_world.specs.Turns.{Turned, request_turn, task_turn}
 use Rattle.vub_world.proofs.RunNumbers.{distinct_parts, distinct_join, distinct_push}
-use Rattle.vub_world.proofs.RunGood.{the_ring, IsSimple, IsWideRead, IsWideWrite, IsWide, Known, IsOut, WaitsWell, Driven, IsReadTo, IsWrittenTo, Progress, IsBegun, IsFull, IsPending, Worked, IsKept, Stored, IsRead, Built, buffer, Holds}
-use Rattle.vub_world.proofs.RunSteps.{WideCases, AtRead, AtWrite, AtFlush, wide_cases, simple_wide, wide_served, wide_steps, ReadAt, ToLook, ToPut, ToReply, read_at, WriteAt, ToAct, ToEnd, write_at, look_is, written, effect_is, read_to, written_to}
+use Rattle.vub_world.proofs.RunGood.{the_ring, IsWideRead, IsWideWrite, IsWide, Known, IsOut, WaitsWell, Driven, IsReadTo, IsWrittenTo, Progress, IsBegun, IsFull, IsPending, Worked, IsKept, Stored, IsRead, Built, buffer, Holds}
+use Rattle.vub_world.proofs.RunSteps.{WideCases, AtRead, AtWrite, AtFlush, wide_cases, wide_served, wide_steps, ReadAt, ToLook, ToPut, ToReply, read_at, WriteAt, ToAct, ToEnd, write_at, look_is, written, effect_is, read_to, written_to}
 use Rattle.vub_world.proofs.RunEfforts.{effort, step_falls, status_falls}
 use Rattle.vub_world.proofs.RunFrames.{open_out, OffBuffer, ringed_elsewhere, built_elsewhere, sector_elsewhere, status_elsewhere, other_buffer}
 use Rattle.vub_world.proofs.RunGuests.{IsGood, stored_at, holds_track}
@@ -72,32 +71,6 @@ built_same n base past past' heads m batch (phases.Publish done) ps ks b = recor
 }
 
 -- ---- requests
-
-pub simple_cases : (cap : ℕ) (o : Option Asked) → IsSimple cap o → ((s : ℕ) × (s < cap) × (o ≡ Some (asks.Read s 1))) ⊎ ((s : ℕ) × (bytes : List ℕ) × (s < cap) × (length bytes ≡ 512) × (o ≡ Some (asks.Write s bytes)))
-simple_cases cap (Some (asks.Read s c)) simple = inl (s, simple.0, ap (λ (k : ℕ). Some (asks.Read s k)) simple.1)
-simple_cases cap (Some (asks.Write s bytes)) simple = inr (s, bytes, simple.0, simple.1, refl)
-simple_cases cap (Some asks.Flush) simple = absurd simple
-simple_cases cap (Some asks.Id) simple = absurd simple
-simple_cases cap (Some (asks.Discard parts)) simple = absurd simple
-simple_cases cap (Some (asks.Zero parts)) simple = absurd simple
-simple_cases cap None simple = absurd simple
-
-pub read_served : (h : Header1) (s : ℕ) → s < h.capacity → refusal h.capacity h.mode (asks.Read s 1) ≡ None
-read_served h s low = grind (arith, nat_tests)
-
-pub write_served : (h : Header1) (s : ℕ) (bytes : List ℕ) → h.mode ≡ Back → s < h.capacity → length bytes ≡ 512 → refusal h.capacity h.mode (asks.Write s bytes) ≡ None
-write_served h s bytes back low long =
-    let one : length bytes / 512 ≡ 1 = ap (λ (k : ℕ). k / 512) long in
-    ap (λ (mode : CacheMode). refusal h.capacity mode (asks.Write s bytes)) back ∙ grind (arith, nat_tests)
-
-pub read_steps : (h : Header1) (s : ℕ) → s < h.capacity → task_steps h (asks.Read s 1) ≡ Look 0 ∷ Put 0 ∷ Status ∷ []
-read_steps h s low = ap (λ (o : Option ℕ). unless_refused o (disk_steps (asks.Read s 1)) ++ Status ∷ []) (read_served h s low)
-
-pub write_steps : (h : Header1) (s : ℕ) (bytes : List ℕ) → h.mode ≡ Back → s < h.capacity → length bytes ≡ 512 → task_steps h (asks.Write s bytes) ≡ Act 0 ∷ Status ∷ []
-write_steps h s bytes back low long =
-    let one : length bytes / 512 ≡ 1 = ap (λ (k : ℕ). k / 512) long in
-    ap (λ (o : Option ℕ). unless_refused o (disk_steps (asks.Write s bytes)) ++ Status ∷ []) (write_served h s bytes back low long)
-    ∙ ap (λ (k : ℕ). act_steps 0 k ++ Status ∷ []) one
 
 pub at_same : (f : ℕ → ℕ) (k x j : ℕ) → j ≡ k → with_at f k x j ≡ x
 at_same f k x j e = grind (arith, nat_tests)
@@ -756,7 +729,7 @@ pub request_fine : (h : Header1) (s : Scene) (l : Lane) (k : ℕ) → IsLeft h s
 request_fine h s l k x =
     let known : Known h.size h.capacity s.past (s.heads 0) = x.holds.known in
     let low : k < length (s.heads 0) = omega (arith, x.is_open.taken, known.offered) in
-    go (wide_cases h.capacity (asked s.past 0 k) (simple_wide h.capacity (asked s.past 0 k) (known.simple k low))) (x.holds.worked.pending k x.is_open x.left)
+    go (wide_cases h.capacity (asked s.past 0 k) (known.simple k low)) (x.holds.worked.pending k x.is_open x.left)
   where
     go : WideCases h.capacity (asked s.past 0 k) → IsPending (l.made k) (asked s.past 0 k) → Fine h s l (request_turn h 0 s l k (asked s.past 0 k))
     go (AtRead sector c wide is) pending =

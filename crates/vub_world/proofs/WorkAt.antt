@@ -24,7 +24,7 @@ use Rattle.vub_world.specs.Tasks.{TaskStep, Look, Put, Act, Sync, Status, task_s
 use Rattle.vub_world.proofs.RunNumbers.{among_get, among_filter, missing-among}
 use Rattle.vub_world.proofs.RunGood.{IsWideRead, IsWideWrite, IsWide, IsOut, IsPending}
 use Rattle.vub_world.proofs.RunFrames.{open_out}
-use Rattle.vub_world.proofs.RunSteps.{WideCases, AtRead, AtWrite, AtFlush, wide_cases, simple_wide, wide_served, wide_steps, ReadAt, ToLook, ToPut, ToReply, read_at, WriteAt, ToAct, ToEnd, write_at}
+use Rattle.vub_world.proofs.RunSteps.{WideCases, AtRead, AtWrite, AtFlush, wide_cases, wide_served, wide_steps, ReadAt, ToLook, ToPut, ToReply, read_at, WriteAt, ToAct, ToEnd, write_at}
 use Rattle.vub_world.proofs.RunTurns.{IsPlain, Good}
 use Rattle.vub_world.proofs.RunChainsEvents.{ChainedAt}
 use Rattle.vub_world.proofs.RunChainsMeaning.{work_means}
@@ -207,7 +207,7 @@ due_at h m r sizes q place k task plain good chained main room a run is at =
     let is_out : IsOut m.scene.past (m.scene.heads 0) k = open_out h.size h.capacity m.scene.past (m.scene.heads 0) k good.holds.known where_open.0 in
     let meant : Meant sizes r m.scene.memory head (asked m.scene.past 0 k) = work_means h m sizes r place k plain good chained (first_ring sizes r h.size main room) is in
     let request : Asked = meant.request in
-    let wide : IsWide h.capacity (Some request) = subst (λ (o : Option Asked). IsWide h.capacity o) meant.is (simple_wide h.capacity (asked m.scene.past 0 k) (good.holds.known.simple k is_out.below)) in
+    let wide : IsWide h.capacity (Some request) = subst (λ (o : Option Asked). IsWide h.capacity o) meant.is (good.holds.known.simple k is_out.below) in
     let pending : IsPending (l.made k) (Some request) = subst (λ (o : Option Asked). IsPending (l.made k) o) meant.is (good.holds.worked.pending k where_open.0 where_open.1) in
     let next = some_step h request (l.made k) plain.back wide pending in
     let stands : TaskAt h r m.scene.past (m.scene.heads 0) k (l.made k) task = a.tasks place k task is at in

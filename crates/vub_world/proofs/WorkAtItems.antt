@@ -23,7 +23,7 @@ use Rattle.vub_device.specs.declared.entry.Asked.TheVariants as asks
 use Rattle.vub_device.specs.declared.entry.Entry.TheVariants as entries
 use Rattle.vub_device.specs.declared.entry.SectorValue.{SectorValue}
 use Rattle.vub_device.specs.Crash.{value}
-use Rattle.vub_device.specs.Past.{asked, seen}
+use Rattle.vub_device.specs.Past.{seen}
 use Rattle.vub_device.specs.Requests.{look_at, effect_at}
 use Rattle.vub_world.specs.declared.queue.Stepped.{Stepped}
 use Rattle.vub_world.specs.declared.queue.Stepped.TheVariants as says
@@ -38,12 +38,12 @@ use Rattle.vub_world.specs.QueueAt.{QueueStands, IsMainRing, DiskAt}
 use Rattle.vub_world.specs.QueueState.{QueueState, said, sector_at, due_store}
 use Rattle.vub_world.specs.Run.{one_turn}
 use Rattle.vub_world.specs.TaskState.{Making, answer_in, memory_after, values_after, with_effect}
-use Rattle.vub_world.specs.Tasks.{TaskStep, Look, Put, Act, Sync, Status, task_items, look_items, act_items, status_of}
+use Rattle.vub_world.specs.Tasks.{TaskStep, Look, Put, Act, Status, task_items, look_items, act_items, status_of}
 use Rattle.vub_world.specs.Turns.{Turned, turned, work_turn, request_turn, task_turn, phase_turn, under_way, step_stores, row_items, entry_items}
 use Rattle.vub_world.proofs.RunNumbers.{among_get}
 use Rattle.vub_world.proofs.RunGood.{IsWide, IsOut, IsPending}
 use Rattle.vub_world.proofs.RunFrames.{open_out}
-use Rattle.vub_world.proofs.RunSteps.{simple_wide, look_is, effect_is}
+use Rattle.vub_world.proofs.RunSteps.{look_is, effect_is}
 use Rattle.vub_world.proofs.RunTurns.{IsPlain, Good}
 use Rattle.vub_world.proofs.WorkAt.{WorkReady, making, making_of, unfinished_open, Kind, kind_of}
 
@@ -79,7 +79,7 @@ pub work_kind : (h : Header1) (sizes : ℕ → ℕ) (m : Moment) (q : QueueState
 work_kind h sizes m q place w plain good =
     let is_out : IsOut m.scene.past (m.scene.heads 0) w.k = open_out h.size h.capacity m.scene.past (m.scene.heads 0) w.k good.holds.known w.is_open in
     let where_open = unfinished_open m place w.k w.at in
-    let wide : IsWide h.capacity (Some w.request) = subst (λ (o : Option Asked). IsWide h.capacity o) w.is (simple_wide h.capacity (asked m.scene.past 0 w.k) (good.holds.known.simple w.k is_out.below)) in
+    let wide : IsWide h.capacity (Some w.request) = subst (λ (o : Option Asked). IsWide h.capacity o) w.is (good.holds.known.simple w.k is_out.below) in
     let pending : IsPending ((m.lanes 0).made w.k) (Some w.request) = subst (λ (o : Option Asked). IsPending ((m.lanes 0).made w.k) o) w.is (good.holds.worked.pending w.k where_open.0 where_open.1) in
     kind_of h w.request ((m.lanes 0).made w.k) w.step plain.back wide pending w.due.next.next
 

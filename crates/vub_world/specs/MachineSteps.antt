@@ -2,8 +2,6 @@
 use Rattle.std.specs.Prelude.{◌≡◌, ◌<◌, ◌≤◌, ℕ, zero, suc, ◌+◌, ◌*◌, Bool, true, false, nat_lt, ◌==◌, if◌then◌else◌, min, List, [], ◌∷◌, ◌++◌, length, map, slice_get, Option, Some, None, ⊤}
 use Rattle.std.specs.List.{AllByRecursion}
 use Rattle.vub_base.specs.declared.header.Header1.{Header1}
-use Rattle.vub_base.specs.declared.request.Ask.{Ask}
-use Rattle.vub_base.specs.declared.request.Ask.TheVariants as asks
 use Rattle.vub_base.specs.declared.store.Tag.{Tag}
 use Rattle.vub_base.specs.declared.store.Tag.TheVariants.{SP5, T5}
 use Rattle.vub_base.specs.declared.store.Area.TheVariants.{M}
@@ -47,25 +45,19 @@ use Rattle.vub_world.specs.MachineAt.{AskAt, FrontAt, MachineAt}
 
 -- ---- the driver's stores
 
--- a store into guest memory of one sector at most
+-- a store into guest memory of eight sectors at most
 pub record IsSmall (st : Store) : Type 0 where
   pub space : st.space ≡ 0
-  pub few : length st.bytes ≤ 512
+  pub few : length st.bytes ≤ 4096
 
 abbrev pub AreSmall : Option Waiting → Type 0
 AreSmall None = ⊤
 AreSmall (Some w) = AllByRecursion IsSmall w.left
 
--- a write of one sector, if it is one
-abbrev pub AskFits : Option Ask → Type 0
-AskFits (Some (asks.Write s fills)) = length fills.items ≡ 1
-AskFits a = ⊤
-
 -- the request that waits is kept, and all that is noted of it has room
 pub record FrontFits (w : Machine) : Type 0 where
   pub stores : AreSmall (driver_in w.guest).waiting
   pub kept : AskAt (driver_in w.guest).waiting w.asked
-  pub ask : AskFits w.asked
 
 abbrev pub store_item : Tag → Store → Item
 store_item tag st = items.Store tag M st.place st.bytes
@@ -247,9 +239,9 @@ abbrev pub is_joining : Option Life → Bool
 is_joining None = false
 is_joining (Some l) = has_queue l.queue
 
--- each head of a batch has a buffer, and its request reads one sector at most
+-- each head of a batch has a buffer, and its request reads eight sectors at most
 abbrev pub BatchFits : Log → List (ℕ × ℕ) → Type 0
-BatchFits log batch = (i : ℕ) (x : ℕ × ℕ) → slice_get batch i ≡ Some x → (x.0 < 64) × ((slot_in log x.0).reads ≤ 1)
+BatchFits log batch = (i : ℕ) (x : ℕ × ℕ) → slice_get batch i ≡ Some x → (x.0 < 64) × ((slot_in log x.0).reads ≤ 8)
 
 -- ---- drains
 

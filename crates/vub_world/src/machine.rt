@@ -3,7 +3,7 @@ ghost use Rattle.std.specs.Prelude.{◌≡◌, ◌<◌, ◌≤◌, ◌+◌, ◌-
 ghost use Rattle.vub_shared.specs.Watched.{bytes_in, stores_in, sizes_in};
 ghost use Rattle.vub_driver.specs.Layout.{ring_of as main_ring};
 ghost use Rattle.vub_schedule.specs.Spelling.{IsHeader, IsEvent};
-ghost use Rattle.vub_world.specs.MachineSteps.{AskFits, SpendsLists};
+ghost use Rattle.vub_world.specs.MachineSteps.{SpendsLists};
 ghost use Rattle.vub_world.specs.Run.{request_of};
 
 use crate::drain::next_turn;
@@ -50,8 +50,7 @@ pub struct Machine {
 
 /// A request as the history has it.
 fn asked_of(ask: Ask, room: &mut Room) -> Asked
-    requires fits { AskFits (Some ask) }
-    requires lists { 1 ≤ room.old.lists }
+    requires { 1 ≤ room.old.lists }
     ensures asked { result ≡ request_of ask }
     ensures room { SpendsLists 1 room.old room.new }
 {
@@ -59,7 +58,7 @@ fn asked_of(ask: Ask, room: &mut Room) -> Asked
         Ask::Read { sector, count } => Asked::Read { sector, count },
         Ask::Write { sector, fills } => Asked::Write {
             sector,
-            bytes: room.filled(fills[0]),
+            bytes: room.filled(&fills),
         },
         Ask::Flush => Asked::Flush,
         Ask::Id => Asked::Id,
@@ -198,7 +197,6 @@ impl Machine {
     /// Notes that the waiting request is offered.
     fn note_offer(&mut self, room: &mut Room)
         requires sound { IsSound self.old }
-        requires fits { AskFits self.old.asked }
         requires items { 1 ≤ room.old.item_room }
         requires lists { 1 ≤ room.old.lists }
         ensures frame { self.new ≡ record self.old { asked = None; log = self.new.log } }
@@ -392,7 +390,7 @@ impl Machine {
     fn answer(&self, head: u16, room: &mut Room) -> Answered
         requires sound { IsSound self.now }
         requires fits { head < 64 }
-        requires few { (slot_in self.now.log head).reads ≤ 1 }
+        requires few { (slot_in self.now.log head).reads ≤ 8 }
         requires lists { 1 ≤ room.old.lists }
         ensures answer { result ≡ answer_for (slot_in self.now.log head) (bytes_in self.now.memory) head }
         ensures room { SpendsLists 1 room.old room.new }
