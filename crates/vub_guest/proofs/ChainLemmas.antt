@@ -66,11 +66,11 @@ waits_of owners p owned = λ x is. subst (λ (o : Option Pending). IfSome o (λ 
 
 -- ---- lawful stores
 
-length-table_entry : (p : Piece) (next : Option ℕ) → length (table_entry p next) ≡ 16
+pub length-table_entry : (p : Piece) (next : Option ℕ) → length (table_entry p next) ≡ 16
 unfolding table_entry
 length-table_entry p next = refl
 
-data_place-near : (buffer : ℕ) (ask : Ask) → (buffer ≤ data_place buffer ask) × (data_place buffer ask ≤ buffer + 4096)
+pub data_place-near : (buffer : ℕ) (ask : Ask) → (buffer ≤ data_place buffer ask) × (data_place buffer ask ≤ buffer + 4096)
 data_place-near buffer (Read s n) = (omega arith, omega arith)
 data_place-near buffer (Write s fills) = (omega arith, omega arith)
 data_place-near buffer Flush = (omega arith, omega arith)

@@ -1,9 +1,8 @@
 use Rattle.std.proofs.Common.{◌≡◌, ◌<◌, ◌≤◌, ℕ, suc, ◌+◌, ◌-◌, ◌%◌, Bool, true, false, List, [], ◌∷◌, ◌++◌, length, get_or, refl, ap, sym, ◌∙◌, subst, arith, append_assoc}
-use Rattle.std.proofs.lemmas.List.{drop-drop}
 use Rattle.std.proofs.lemmas.Bool.Decides.{nat_tests}
 use Rattle.std.specs.Prelude.{nat_lt, is_none, is_some, if◌then◌else◌, take, drop, option_map, Result, Option, Some, None}
 use mathlib.Core.Path.{fun_ext}
-use Rattle.vub_driver.specs.Drivers.{Driver, Waiting, free_from, with_left, after_stores, after_ask, chosen, owned_by, first_or_zero, waits_on, after_collect, is_head, without_owner}
+use Rattle.vub_driver.specs.Drivers.{Driver, Waiting, free_from, with_left, after_stores, after_ask, chosen, owned_by, first_or_zero, waits_on}
 use Rattle.vub_base.specs.declared.request.Ask.{Ask}
 use Rattle.vub_base.specs.declared.request.Ask.TheVariants.{Read, Write, Flush, Id, Discard, Zero}
 use Rattle.vub_shared.specs.Bytes.{Bytes}
@@ -177,29 +176,6 @@ asked r index old new ask same c waiting is chooses size owners =
     let driver : (ℕ → Option ℕ) → List Store → Driver = λ o xs. record { avail_idx = index; owner = o; waiting = Some (record { ask = ask; head = c.head; left = xs }) } in
     let named : Ask → Driver = λ a. record { avail_idx = index; owner = owner_at new; waiting = Some (waiting_in r index (record { ask = a; chain = c; stage = Header })) } in
     ap named is ∙ ap (λ o. driver o (stores_from r index ask l Header)) owner ∙ ap (driver (owned_by c.head ds (owner_at old))) left ∙ sym after
-
--- ---- steps one after another
-
--- a driver that waits for fewer stores goes on as the one before
-with_left-again : (w : Waiting) (v : Driver) (kept left : List Store) → with_left (record w { left = kept }) left (record v { waiting = Some (record w { left = kept }) }) ≡ with_left w left v
-with_left-again w v kept [] = refl
-with_left-again w v kept (st ∷ left) = refl
-
--- so many stores after one are one more
-pub after_stores-more : (count : ℕ) (w : Waiting) (v : Driver) (st : Store) (left : List Store) → drop 1 w.left ≡ st ∷ left
-    → after_stores count (record w { left = st ∷ left }) (after_stores 1 w v) ≡ after_stores (count + 1) w v
-after_stores-more count w v st left is =
-    let w' : Waiting = record w { left = st ∷ left } in
-    let first : after_stores 1 w v ≡ record v { waiting = Some w' } = ap (λ xs. with_left w xs v) is in
-    let again : after_stores count w' (record v { waiting = Some w' }) ≡ with_left w (drop count (st ∷ left)) v = with_left-again w v (st ∷ left) (drop count (st ∷ left)) in
-    let rest : drop count (st ∷ left) ≡ drop (count + 1) w.left = ap (drop count) (sym is) ∙ drop-drop count 1 w.left ∙ ap (λ n. drop n w.left) (let e : 1 + count ≡ count + 1 = omega arith in e) in
-    ap (after_stores count w') first ∙ again ∙ ap (λ xs. with_left w xs v) rest
-
--- a collection sees the low 16 bits of an id alone
-pub after_collect-low : (id : ℕ) (v : Driver) → after_collect (id % 65536) v ≡ after_collect id v
-after_collect-low id v =
-    let low : id % 65536 % 65536 ≡ id % 65536 = omega arith in
-    ap (λ (h : ℕ). if is_head h v.waiting then v else record v { owner = without_owner h v.owner }) low
 
 -- ---- the stores that are left
 

@@ -1,3 +1,4 @@
 pub mod ChainLemmas
 pub mod GuestLemmas
+pub mod Offers
 pub mod RequestLemmas

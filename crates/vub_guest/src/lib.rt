@@ -3,6 +3,9 @@
 #![tactic(auto)]
 
 mod guest;
+pub mod laws;
 pub mod layout;
+#[cfg(test)]
+mod tests;
 
 pub use guest::{Collected, Guest, GuestStep};

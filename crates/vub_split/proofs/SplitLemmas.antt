@@ -1,5 +1,5 @@
 -- A split ring in its spaces, and as a ring of one space.
-use Rattle.std.proofs.Common.{◌≡◌, ℕ, ◌+◌, ◌*◌, ◌%◌, refl, ap, sym, ◌∙◌, subst}
+use Rattle.std.proofs.Common.{◌≡◌, ℕ, ◌+◌, ◌*◌, ◌%◌, refl, ap, sym, subst}
 use Rattle.std.specs.Int.{◌∣◌}
 use Rattle.std.proofs.Math.Nat.{mod-mod_of_dvd}
 use mathlib.Core.Path.{fun_ext}
@@ -8,8 +8,8 @@ use Rattle.vub_shared.specs.Bytes.{Bytes, word}
 use Rattle.vub_shared.specs.Stores.{one_store}
 use Rattle.vub_ring.specs.Ring.{entry_of, avail_idx, head_at, used_idx}
 use Rattle.vub_split.specs.declared.split.SplitRing.{SplitRing}
-use Rattle.vub_split.specs.Split.{RingLies, IsInOneSpace, ring_of_split, avail_idx_word, head_word, used_idx_word, used_idx_place, used_id_place, used_len_place}
-use Rattle.vub_split.specs.Stores.{used_idx_store, used_id_store, used_len_store}
+use Rattle.vub_split.specs.Split.{RingLies, IsInOneSpace, ring_of_split, used_side, avail_idx_word, head_word, used_idx_word, used_id_place, used_len_place}
+use Rattle.vub_split.specs.Stores.{used_id_store, used_len_store}
 
 -- a ring lies where it lay while no size changes
 pub lies_still : (old new : ℕ → ℕ) (r s : SplitRing) → s ≡ r → ((t : ℕ) → new t ≡ old t) → RingLies old r → RingLies new s
@@ -29,17 +29,16 @@ entry_is r index laps = sym (mod-mod_of_dvd r.size index laps)
 pub head_is : (r : SplitRing) (m : Bytes) (index : ℕ) → r.size ∣ 65536 → head_word r m index ≡ head_at (ring_of_split r) m index
 head_is r m index laps = ap (λ (e : ℕ). word 2 m r.avail.0.number (r.avail.1 + (4 + 2 * e))) (entry_is r index laps)
 
-pub used_idx_is : (r : SplitRing) (m : Bytes) → IsInOneSpace r → used_idx_word r m ≡ used_idx (ring_of_split r) m
-used_idx_is r m one = ap (λ (s : ℕ). word 2 m s (r.used.1 + 2)) one.used
+pub used_idx_is : (r : SplitRing) (m : Bytes) → used_idx_word r m ≡ used_idx (used_side r) m
+used_idx_is r m = refl
+
+-- in one space both sides are one ring
+pub sides_are : (r : SplitRing) → IsInOneSpace r → used_side r ≡ ring_of_split r
+sides_are r one = ap (λ (s : ℕ). record (ring_of_split r) { space = s }) one.used
 
 -- the device's stores are those of the ring
-pub used_idx_store_is : (r : SplitRing) (index : ℕ) → IsInOneSpace r → one_store r.used.0.number (used_idx_place r) (little_bytes 2 index) ≡ used_idx_store (ring_of_split r) index
-used_idx_store_is r index one = ap (λ (s : ℕ). one_store s (r.used.1 + 2) (little_bytes 2 index)) one.used
+pub used_id_store_is : (r : SplitRing) (index id : ℕ) → r.size ∣ 65536 → one_store r.used.0.number (used_id_place r index) (little_bytes 4 id) ≡ used_id_store (used_side r) index id
+used_id_store_is r index id laps = ap (λ (e : ℕ). one_store r.used.0.number (r.used.1 + (4 + 8 * e)) (little_bytes 4 id)) (entry_is r index laps)
 
-pub used_id_store_is : (r : SplitRing) (index id : ℕ) → r.size ∣ 65536 → IsInOneSpace r → one_store r.used.0.number (used_id_place r index) (little_bytes 4 id) ≡ used_id_store (ring_of_split r) index id
-used_id_store_is r index id laps one =
-    ap (λ (s : ℕ). one_store s (used_id_place r index) (little_bytes 4 id)) one.used ∙ ap (λ (e : ℕ). one_store r.avail.0.number (r.used.1 + (4 + 8 * e)) (little_bytes 4 id)) (entry_is r index laps)
-
-pub used_len_store_is : (r : SplitRing) (index len : ℕ) → r.size ∣ 65536 → IsInOneSpace r → one_store r.used.0.number (used_len_place r index) (little_bytes 4 len) ≡ used_len_store (ring_of_split r) index len
-used_len_store_is r index len laps one =
-    ap (λ (s : ℕ). one_store s (used_len_place r index) (little_bytes 4 len)) one.used ∙ ap (λ (e : ℕ). one_store r.avail.0.number (r.used.1 + (8 + 8 * e)) (little_bytes 4 len)) (entry_is r index laps)
+pub used_len_store_is : (r : SplitRing) (index len : ℕ) → r.size ∣ 65536 → one_store r.used.0.number (used_len_place r index) (little_bytes 4 len) ≡ used_len_store (used_side r) index len
+used_len_store_is r index len laps = ap (λ (e : ℕ). one_store r.used.0.number (r.used.1 + (8 + 8 * e)) (little_bytes 4 len)) (entry_is r index laps)

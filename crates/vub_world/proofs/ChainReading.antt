@@ -36,7 +36,7 @@ field_of_loaded (suc at) w (suc n) m s p h =
     let there : p + 1 + at ≡ p + suc at = omega arith in
     rest ∙ ap (word w m s) there
 
-abbrev make : ℕ → ℕ → ℕ → ℕ → Desc
+abbrev pub make : ℕ → ℕ → ℕ → ℕ → Desc
 make a l f n = record { addr = a; len = l; flags = f; next = n }
 
 -- the descriptor whose fields were loaded

@@ -1,9 +1,8 @@
--- What a step that shows a batch needs to know of it.
-use Rattle.std.proofs.Common.{◌≡◌, ◌≤◌, ◌<◌, ℕ, true, false, List, [], ◌++◌, length, refl, ap, sym, ◌∙◌, arith}
-use Rattle.std.specs.Prelude.{Bool, ◌||◌, Option, Some, None, map, slice_get, slice_index, option_map}
+-- What the room and the answers of a step of a drain need to know of the batch under way.
+use Rattle.std.proofs.Common.{◌≡◌, ◌≤◌, ◌<◌, ℕ, true, List, [], ◌++◌, length, refl, ap, sym, ◌∙◌, arith}
+use Rattle.std.specs.Prelude.{Option, Some, None, map, slice_get, slice_index, option_map}
 use Rattle.std.proofs.lemmas.List.{length-map}
 use Rattle.std.proofs.lemmas.Option.{slice_get-map}
-use Rattle.vub_device.proofs.Numbers.{is_among_append}
 use Rattle.vub_base.specs.declared.header.Header1.{Header1}
 use Rattle.vub_ring.specs.declared.steps.Phase.{Phase}
 use Rattle.vub_ring.specs.declared.steps.Phase.TheVariants as phases
@@ -19,10 +18,11 @@ use Rattle.vub_world.specs.declared.queue.Queue.{Queue}
 use Rattle.vub_split.specs.declared.split.SplitRing.{SplitRing}
 use Rattle.vub_world.specs.Logs.{slot_in}
 use Rattle.vub_world.specs.MachineAt.{MachineAt, LifeAt, AttachedAt, LogAt, reads_of}
-use Rattle.vub_world.specs.MachineSteps.{BatchFits, ShowsSome, QueueShowsSome, batch_in, queue_batch, is_index, is_showing}
+use Rattle.vub_world.specs.MachineDevice.{BatchFits, ShowsSome, QueueShowsSome, batch_in, queue_batch, is_index, is_showing}
 use Rattle.vub_world.specs.Moments.{Moment}
 use Rattle.vub_world.specs.QueueAt.{QueueStands, spot_of}
 use Rattle.vub_world.specs.QueueState.{QueueState, state_of}
+use Rattle.vub_world.proofs.MachineTurns.{among_right}
 use Rattle.vub_world.proofs.RunFrames.{open_out}
 use Rattle.vub_world.proofs.RunGood.{IsWide, PhaseIs, IsOut}
 use Rattle.vub_world.proofs.RunNumbers.{among_get}
@@ -56,13 +56,6 @@ shows_some w m good at = go w.life at.life
     go (Some l) here = of_queue l.queue here.1
 
 -- ---- its heads
-
-or_right : (a b : Bool) → b ≡ true → (a || b) ≡ true
-or_right true b is = refl
-or_right false b is = is
-
-among_right : (xs ys : List ℕ) (k : ℕ) → is_among ys k ≡ true → is_among (xs ++ ys) k ≡ true
-among_right xs ys k is = is_among_append xs ys k ∙ or_right (is_among xs k) (is_among ys k) is
 
 few_reads : (cap : ℕ) (r : Option Asked) → IsWide cap r → reads_of r ≤ 8
 few_reads cap (Some (asks.Read s c)) is = is.few

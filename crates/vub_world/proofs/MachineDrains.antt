@@ -1,5 +1,5 @@
 -- How much a drain publishes, and how much room its items need.
-use Rattle.std.proofs.Common.{◌≡◌, ◌≤◌, ℕ, zero, suc, ◌+◌, ◌-◌, ◌*◌, Bool, true, false, not, cond, List, [], ◌∷◌, ◌++◌, length, map, refl, ap, sym, ◌∙◌, subst, inl, inr, arith, length-append}
+use Rattle.std.proofs.Common.{◌≡◌, ◌≤◌, ℕ, zero, suc, ◌+◌, ◌-◌, ◌*◌, Bool, true, false, not, List, [], ◌∷◌, ◌++◌, length, map, refl, ap, sym, ◌∙◌, subst, inl, inr, arith, length-append}
 use Rattle.std.specs.Prelude.{◌||◌, if◌then◌else◌, Option, Some, None, take, slice_get, nat_lt, ⊤}
 use Rattle.std.proofs.lemmas.Bool.Decides.{nat_tests}
 use Rattle.std.proofs.lemmas.Bool.{cases_Bool}
@@ -23,7 +23,7 @@ use Rattle.vub_device.specs.Past.{asked, accepted, published, is_among, missing_
 use Rattle.vub_device.specs.Places.{are_distinct}
 use Rattle.vub_device.specs.Requests.{look_at, effect_at}
 use Rattle.vub_device.proofs.Numbers.{is_among_append}
-use Rattle.vub_world.specs.MachineSteps.{is_index}
+use Rattle.vub_world.specs.MachineDevice.{is_index}
 use Rattle.vub_world.specs.Memory.{Scene, after_items}
 use Rattle.vub_world.specs.Moments.{Lane, Moment, standing, unfinished}
 use Rattle.vub_world.specs.Run.{one_turn}
@@ -31,8 +31,8 @@ use Rattle.vub_world.specs.Tasks.{TaskStep, Look, Put, Act, Sync, Status, task_s
 use Rattle.vub_world.specs.Turns.{turned, work_turn, request_turn, task_turn, phase_turn, phase_goes_on, under_way, begun, is_rest, row_items, step_stores, element_of, answer_at}
 use Rattle.vub_world.proofs.RunNumbers.{missing-among, distinct_join, few_below}
 use Rattle.vub_world.proofs.RunGood.{Known, Worked}
-use Rattle.vub_world.proofs.RunEfforts.{weight, sum_below, phase_left, weight_small}
-use Rattle.vub_world.proofs.RunEnds.{effort_at, missing_distinct}
+use Rattle.vub_world.proofs.RunEfforts.{weight, sum_below, weight_small}
+use Rattle.vub_world.proofs.RunEnds.{effort_at, missing_distinct, phase_few, start_few}
 use Rattle.vub_world.proofs.RunPublications.{numbers_answers}
 use Rattle.vub_world.proofs.RunTurns.{Good, phase_cases}
 
@@ -198,16 +198,6 @@ all_few n cap past heads phase batch completed made known w =
       ]
     ]) in
     omega (arith, few, length-append (ps ++ ds) ls, length-append ps ds, length-append completed batch)
-
-phase_few : (batch : List ℕ) (phase : Phase) → phase_left batch phase ≤ 2 * length batch + 1
-phase_few batch phases.Rest = omega arith
-phase_few batch (phases.Start done) = omega arith
-phase_few batch (phases.Fetch done) = omega arith
-phase_few batch (phases.Publish done) = omega arith
-
-start_few : (b : Bool) → cond {A = ℕ} b 0 1 ≤ 1
-start_few true = omega arith
-start_few false = omega arith
 
 -- the requests that are offered and not published
 abbrev pub undone : Moment → ℕ

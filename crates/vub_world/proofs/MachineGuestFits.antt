@@ -13,13 +13,13 @@ use Rattle.vub_driver.specs.Stores.{store_of_some, offer_stores, request_stores}
 use Rattle.vub_world.specs.declared.machine.Machine.{Machine}
 use Rattle.vub_world.specs.ChainState.{data_of}
 use Rattle.vub_world.specs.MachineAt.{AskAt, MachineAt, IsStanding}
-use Rattle.vub_world.specs.MachineSteps.{IsSmall, AreSmall, FrontFits}
+use Rattle.vub_world.specs.MachineFront.{IsSmall, AreSmall, FrontFits}
 use Rattle.vub_world.specs.Moments.{Moment}
 use Rattle.vub_world.specs.Run.{Stands, request_of}
 use Rattle.vub_world.proofs.RunGood.{the_ring, IsWide, IsWaiting, WaitsWell}
 use Rattle.vub_world.proofs.RunFrames.{length_little}
 use Rattle.vub_world.proofs.RunChains.{table_place, buffer_at, chain_of, desc_long}
-use Rattle.vub_world.proofs.RunChainsStores.{header_long}
+use Rattle.vub_world.proofs.RunChainsStores.{header_long, linked}
 use Rattle.vub_world.proofs.RunChainsTurns.{IsPrepared, PreparedWell}
 use Rattle.vub_world.proofs.RunChainsEvents.{ChainedAt, stands_chained}
 use Rattle.vub_world.proofs.RunTurns.{Good}
@@ -37,14 +37,6 @@ small_append (x ∷ xs) ys p q = (p.0, small_append xs ys p.1 q)
 some_small : (p : ℕ) (bytes : List ℕ) → length bytes ≤ 4096 → Small (store_of_some 0 p bytes)
 some_small p [] few = tt
 some_small p (b ∷ bytes) few = (record { space = refl; few = few }, tt)
-
--- descriptors and offer
-abbrev linked : ℕ → ℕ → ℕ → ℕ → ℕ → Piece → List Store
-linked n index head body status p =
-    one_store 0 (table_place head) (descriptor_bytes (readable_piece (buffer_at head) 16) 1 body)
-    ∷ one_store 0 (table_place body) (descriptor_bytes p 1 status)
-    ∷ one_store 0 (table_place status) (descriptor_bytes (writable_piece (status_place (buffer_at head)) 1) 0 0)
-    ∷ offer_stores (the_ring n) index head
 
 linked_small : (n index head body status : ℕ) (p : Piece) → Small (linked n index head body status p)
 linked_small n index head body status p = (

@@ -32,7 +32,7 @@ use Rattle.vub_world.specs.declared.report.items.Record.{Record}
 use Rattle.vub_guest.specs.GuestState.{seen_in}
 use Rattle.vub_world.specs.Logs.{offered_in, size_in, slot_in, reads_in, new_slot, Offers}
 use Rattle.vub_world.specs.MachineAt.{FrontAt, LifeAt, AttachedAt, LogAt, MachineAt, reads_of}
-use Rattle.vub_world.specs.MachineSteps.{head_shown, GuestGoes}
+use Rattle.vub_world.specs.MachineFront.{head_shown, GuestGoes}
 use Rattle.vub_world.specs.Memory.{Scene, after_item, after_items}
 use Rattle.vub_world.specs.Moments.{Lane, Moment}
 use Rattle.vub_world.specs.QueueState.{state_of}

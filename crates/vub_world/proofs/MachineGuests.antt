@@ -13,16 +13,16 @@ use Rattle.vub_world.specs.declared.log.Log.{Log}
 use Rattle.vub_world.specs.declared.machine.Machine.{Machine}
 use Rattle.vub_world.specs.declared.report.items.Item.{Item}
 use Rattle.vub_world.specs.declared.report.items.Item.TheVariants as items
-use Rattle.vub_guest.specs.GuestState.{seen_in}
 use Rattle.vub_guest.proofs.GuestLemmas.{left_some}
-use Rattle.vub_world.specs.Rooms.{RoomState}
+use Rattle.vub_guest.specs.GuestState.{seen_in}
+use Rattle.vub_world.specs.Rooms.{RoomState, Spends}
 use Rattle.vub_world.specs.Logs.{Offers}
 use Rattle.vub_world.specs.Memory.{Scene, after_items}
 use Rattle.vub_world.specs.Moments.{Moment}
 use Rattle.vub_world.specs.Run.{guest_items, guest_stores}
 use Rattle.vub_world.specs.MachineAt.{AskAt, FrontAt}
 use Rattle.vub_world.specs.Machine.{IsSound}
-use Rattle.vub_world.specs.MachineSteps.{head_shown, FrontFits, GuestGoes, GuestSteps, Spends}
+use Rattle.vub_world.specs.MachineFront.{head_shown, FrontFits, GuestGoes, GuestSteps}
 use Rattle.vub_world.proofs.RunEvents.{after-append}
 
 -- ---- the stores that are left

@@ -7,8 +7,8 @@ use Rattle.vub_device.specs.Past.{accepted, started}
 use Rattle.vub_world.specs.declared.machine.Life.{Life}
 use Rattle.vub_world.specs.declared.machine.Machine.{Machine}
 use Rattle.vub_world.specs.declared.queue.Queue.{Queue}
-use Rattle.vub_world.specs.MachineAt.{MachineAt, LifeAt, AttachedAt}
-use Rattle.vub_world.specs.MachineSteps.{is_joining, has_queue}
+use Rattle.vub_world.specs.MachineAt.{MachineAt, LifeAt, AttachedAt, has_queue}
+use Rattle.vub_world.specs.MachineDevice.{is_joining}
 use Rattle.vub_world.specs.Moments.{Lane, Moment, fresh}
 use Rattle.vub_world.specs.QueueAt.{QueueStands, QueueAt}
 use Rattle.vub_world.specs.QueueState.{IsNew, state_of}
@@ -64,7 +64,7 @@ joining_at w m at new = go w.life at.life new
     go None at new = absurd (cc new)
     go (Some l) at new = (at.0, with_queue l.queue at.1 new)
       where
-        with_queue : (q : Option Queue) → AttachedAt w.header w.ring m q → has_queue q ≡ true → AttachedAt w.header w.ring m None
+        with_queue : (q : Option Queue) → AttachedAt w.header w.ring m q → not (has_queue q) ≡ true → AttachedAt w.header w.ring m None
         with_queue None at new = at
         with_queue (Some q) at new = absurd (cc new)
 

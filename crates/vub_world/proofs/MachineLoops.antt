@@ -17,9 +17,10 @@ use Rattle.vub_world.specs.declared.report.items.Item.{Item}
 use Rattle.vub_world.specs.declared.report.items.Item.TheVariants as items
 use Rattle.vub_world.specs.declared.report.items.Record.{Record}
 use Rattle.vub_split.specs.declared.split.SplitRing.{SplitRing}
-use Rattle.vub_world.specs.Rooms.{RoomState}
+use Rattle.vub_world.specs.Rooms.{RoomState, HasTurnRoom, HasDrainRoom, SpendsStep}
 use Rattle.vub_world.specs.MachineAt.{MachineAt, LifeAt, AttachedAt, IsReached}
-use Rattle.vub_world.specs.MachineSteps.{DrainSteps, DrainGoes, HasTurnRoom, HasDrainRoom, SpendsStep, batch_in, shown_in, queue_batch, queue_shows, next_turn, choice}
+use Rattle.vub_world.specs.MachineDevice.{batch_in, shown_in, queue_batch, queue_shows}
+use Rattle.vub_world.specs.MachineDrain.{DrainSteps, DrainGoes, next_turn, choice}
 use Rattle.vub_world.specs.Moments.{Moment, standing}
 use Rattle.vub_world.specs.QueueAt.{QueueStands, spot_of}
 use Rattle.vub_world.specs.QueueState.{state_of}

@@ -1,12 +1,12 @@
+-- What is noted of a store, of an answer and of a batch, and what room it takes.
 use Rattle.std.proofs.Common.{◌≡◌, ◌<◌, ◌≤◌, ℕ, ◌+◌, ◌++◌, List, [], ◌∷◌, length, take, get_or, Bool, true, false, sym, ap, ◌∙◌, subst, arith, refl}
 use Rattle.std.specs.Prelude.{zero, suc, if◌then◌else◌, ◌==◌, map, slice_get, option_map, Option, Some, None}
-use Rattle.std.proofs.Math.Seq.{take-length}
 use Rattle.std.proofs.lemmas.List.{map-append, take_more}
 use Rattle.std.proofs.lemmas.Option.{slice_get-get_or, slice_get_within, get_or_from_slice_get}
 use Rattle.vub_device.specs.declared.entry.Answered.{Answered}
 use Rattle.vub_world.specs.declared.log.Log.{Log}
 use Rattle.vub_world.specs.Logs.{slot_in}
-use Rattle.vub_world.specs.Rooms.{RoomState}
+use Rattle.vub_world.specs.Rooms.{RoomState, SpendsAnswers, SpendsLists, SpendsUpTo}
 use Rattle.vub_world.specs.QueueState.{QueueState}
 use Rattle.vub_ring.specs.Steps.{next_step}
 use Rattle.vub_ring.specs.declared.steps.Step.TheVariants.{Index}
@@ -17,7 +17,8 @@ use Rattle.vub_shared.specs.Bytes.{Bytes, cleared}
 use Rattle.vub_shared.specs.Stores.{Store, one_store}
 use Rattle.vub_world.specs.declared.report.items.Item.{Item}
 use Rattle.vub_world.specs.declared.report.items.Item.TheVariants as items
-use Rattle.vub_world.specs.MachineSteps.{IsSmall, OneSmall, stored_items, store_item, answer_for, answers_for, is_index, is_showing, SpendsAnswers, SpendsLists, SpendsUpTo}
+use Rattle.vub_world.specs.MachineDevice.{stored_items, answer_for, answers_for, is_index, is_showing}
+use Rattle.vub_world.specs.MachineFront.{IsSmall, OneSmall, store_item}
 
 -- ---- memory
 
@@ -84,10 +85,6 @@ answers_more log m batch i x at =
     let is : get_or batch i x ≡ x = get_or_from_slice_get batch i x x at in
     let more : take (i + 1) batch ≡ take i batch ++ x ∷ [] = take_more batch i x within ∙ ap (λ (y : ℕ × ℕ). take i batch ++ y ∷ []) is in
     ap (map f) more ∙ map-append f (take i batch) (x ∷ [])
-
-pub answers_whole : (log : Log) (m : Bytes) (batch : List (ℕ × ℕ)) → answers_for log m (take (length batch) batch) ≡ answers_for log m batch
-answers_whole log m batch =
-    ap (answers_for log m) (take-length batch)
 
 -- one answer more
 pub spends_more : (count : ℕ) (r s t : RoomState) → SpendsAnswers count r s → SpendsLists 1 s t → SpendsAnswers (count + 1) r t

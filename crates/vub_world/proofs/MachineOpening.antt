@@ -1,3 +1,4 @@
+-- The machine at the opening.
 use Rattle.std.proofs.Common.{◌≡◌, ◌<◌, ℕ, ◌+◌, ◌-◌, ◌%◌, length, Bool, true, false, sym, ap, ◌∙◌, subst, arith, refl}
 use Rattle.std.specs.Prelude.{zero, suc, if◌then◌else◌, ◌==◌, ◌&&◌, nat_lt, nat_le, slice_index, replicate, Option, None}
 use Rattle.byteorder.specs.Endian.{little_bytes}

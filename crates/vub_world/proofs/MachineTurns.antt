@@ -40,12 +40,14 @@ use Rattle.vub_split.specs.declared.split.SplitRing.{SplitRing}
 use Rattle.vub_world.specs.declared.task.Task.{Task}
 use Rattle.vub_world.specs.Logs.{slot_in}
 use Rattle.vub_world.specs.MachineAt.{LogAt, reads_of}
-use Rattle.vub_world.specs.MachineSteps.{IsSmall, OneSmall, Device, DeviceAt, TurnMade, StoreFits, SectorFits, answer_for, answers_for, noted, stored_items, shown_of, is_index, accepts, number_at}
+use Rattle.vub_world.specs.MachineDevice.{Device, DeviceAt, TurnMade, StoreFits, SectorFits, answer_for, answers_for, noted, stored_items, shown_of, is_index, accepts, number_at}
+use Rattle.vub_world.specs.MachineFront.{IsSmall, OneSmall}
 use Rattle.vub_world.specs.Memory.{after_items}
 use Rattle.vub_world.specs.Moments.{Lane, Moment, standing}
 use Rattle.vub_world.specs.QueueAt.{spot_of, QueueStands, IsMainRing, DiskAt}
 use Rattle.vub_world.specs.QueueState as states
-use Rattle.vub_world.specs.QueueState.{QueueState, row_at, row_if, next_row, used_side, publishes, publish_row, StoresRow, TrailsRow, Turns, DoesStore, DoesTrail, DoesDisk, IsDue, IfStepped, WorksOut, outcome, is_idle, is_fault}
+use Rattle.vub_split.specs.Split.{used_side}
+use Rattle.vub_world.specs.QueueState.{QueueState, row_at, row_if, next_row, publishes, publish_row, StoresRow, TrailsRow, Turns, DoesStore, DoesTrail, DoesDisk, IsDue, IfStepped, WorksOut, outcome, is_idle, is_fault}
 use Rattle.vub_world.specs.Run.{one_turn}
 use Rattle.vub_world.specs.TaskState.{Making}
 use Rattle.vub_world.specs.Turns.{turned, answer_len, answer_at}

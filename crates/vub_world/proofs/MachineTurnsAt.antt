@@ -38,7 +38,8 @@ use Rattle.vub_world.specs.Queue.{ring_in}
 use Rattle.vub_split.specs.Split.{RingLies}
 use Rattle.vub_world.specs.Logs.{slot_in}
 use Rattle.vub_world.specs.MachineAt.{AskAt, AttachedAt, LifeAt, LogAt, MachineAt, reads_of}
-use Rattle.vub_world.specs.MachineSteps.{Device, device, DeviceAt, TurnMade, DeviceTurns, TurnGoes, noted, stored_items, shown_of, answers_shown}
+use Rattle.vub_world.specs.MachineDevice.{Device, device, DeviceAt, TurnMade, DeviceTurns, noted, stored_items, shown_of, answers_shown}
+use Rattle.vub_world.specs.MachineDrain.{TurnGoes}
 use Rattle.vub_world.specs.Memory.{Scene, after_items}
 use Rattle.vub_world.specs.Moments.{Moment, standing}
 use Rattle.vub_world.specs.QueueState.{state_of}

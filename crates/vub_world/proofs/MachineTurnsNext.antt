@@ -1,13 +1,13 @@
 -- A turn of a drain: no call fails in it, and its kind is the one that is chosen at the moment.
-use Rattle.std.proofs.Common.{◌≡◌, ◌≤◌, ℕ, Bool, true, false, List, [], ◌∷◌, length, cond, refl, ap, sym, ◌∙◌, subst, inl, inr, arith}
-use Rattle.std.specs.Prelude.{Option, Some, None, Result, Ok, Err, nat_lt}
-use Rattle.std.proofs.lemmas.Bool.Decides.{nat_tests}
-use Rattle.vub_base.specs.Causes.{HasCause, Rose}
+use Rattle.std.proofs.Common.{◌≡◌, ◌≤◌, ◌<◌, ℕ, false, List, [], ◌∷◌, length, refl, ap, sym, ◌∙◌, subst, inl, inr, arith}
+use Rattle.std.specs.Prelude.{Option, Some, None, Result, Ok, Err}
+use Rattle.vub_base.specs.Causes.{HasCause}
 use Rattle.vub_base.specs.declared.header.Header1.{Header1}
 use Rattle.vub_shared.specs.Bytes.{Bytes}
 use Rattle.vub_shared.specs.Stores.{Store, Trails, after_in_trail}
 use Rattle.vub_shared.specs.Watched.{stores_in, faults_in}
 use Rattle.vub_shared.specs.declared.watched_shared.WatchedShared.{WatchedShared}
+use Rattle.vub_shared.proofs.WatchedLemmas.{no_fault}
 use Rattle.vub_ring.specs.declared.readiness.Standing.{Standing}
 use Rattle.vub_ring.specs.declared.readiness.Turn.{Turn}
 use Rattle.vub_ring.specs.declared.readiness.Turn.TheVariants as turns
@@ -18,7 +18,7 @@ use Rattle.vub_world.specs.declared.queue.Stepped.TheVariants as says
 use Rattle.vub_world.specs.declared.queue.Turn as asked
 use Rattle.vub_split.specs.declared.split.SplitRing.{SplitRing}
 use Rattle.vub_world.specs.MachineAt.{IsReached}
-use Rattle.vub_world.specs.MachineSteps.{next_turn}
+use Rattle.vub_world.specs.MachineDrain.{next_turn}
 use Rattle.vub_world.specs.Moments.{Moment, standing}
 use Rattle.vub_world.specs.QueueAt.{QueueStands, IsMainRing}
 use Rattle.vub_world.specs.QueueState.{QueueState, standing_at, waiting, turn_at, publish_row, TrailsRow, DoesTrail, outcome, disk_outcome, is_fault}
@@ -59,14 +59,8 @@ few_stores turns.Fetch now x q trails = omega (arith, ap (λ (l : List Store). l
 few_stores (turns.Work place) now x q trails = few_gained now trails
 few_stores (turns.Publish most) now x q trails = few_row_trail now x (publish_row most q) trails
 
-no_faults : (w : WatchedShared) → length (stores_in w) ≤ 1 → faults_in w ≡ 0
-no_faults w few = ap (λ (b : Bool). cond {A = ℕ} b 0 w.refused) (let room : nat_lt (length (stores_in w)) 2 ≡ true = grind (arith, nat_tests) in room)
-
-never_rose : (a b : ℕ) → a ≡ 0 → b ≡ 0 → Rose a b → ⊥
-never_rose a b ea eb rose = omega (arith, ea, eb, rose)
-
 no_cause : (a b : ℕ) (x : Stepped) → a ≡ 0 → b ≡ 0 → HasCause a b (outcome x) → is_fault x ≡ false
-no_cause a b says.SharedFault ea eb cause = absurd (never_rose a b ea eb cause.failed)
+no_cause a b says.SharedFault ea eb cause = absurd (omega (arith, ea, eb, cause.failed))
 no_cause a b says.Idle ea eb cause = refl
 no_cause a b (says.Stored tag) ea eb cause = refl
 no_cause a b (says.Accepted head) ea eb cause = refl
@@ -80,15 +74,15 @@ no_cause a b says.Started ea eb cause = refl
 no_cause a b (says.Broken fault) ea eb cause = refl
 
 -- the memory doesn't fail in a turn, before which it keeps no store
-pub no_fault : (t : Turn) (w w' : WatchedShared) (x : Stepped) (q : QueueState) → stores_in w ≡ [] → DoesTrail t (Some (stores_in w)) (Some (stores_in w')) x q → HasCause (faults_in w) (faults_in w') (outcome x) → is_fault x ≡ false
-no_fault t w w' x q fresh trails cause =
+pub never_fails : (t : Turn) (w w' : WatchedShared) (x : Stepped) (q : QueueState) → stores_in w ≡ [] → DoesTrail t (Some (stores_in w)) (Some (stores_in w')) x q → HasCause (faults_in w) (faults_in w') (outcome x) → is_fault x ≡ false
+never_fails t w w' x q fresh trails cause =
     let told : DoesTrail t (Some []) (Some (stores_in w')) x q = subst (λ (l : List Store). DoesTrail t (Some l) (Some (stores_in w')) x q) fresh trails in
-    let few : length (stores_in w) ≤ 1 = omega (arith, ap (λ (l : List Store). length l) fresh) in
-    no_cause (faults_in w) (faults_in w') x (no_faults w few) (no_faults w' (few_stores t (stores_in w') x q told)) cause
+    let few : length (stores_in w) < 2 = omega (arith, ap (λ (l : List Store). length l) fresh) in
+    no_cause (faults_in w) (faults_in w') x (no_fault w few) (no_fault w' (let now : length (stores_in w') < 2 = omega (arith, few_stores t (stores_in w') x q told) in now)) cause
 
 -- a disk without faults doesn't fail
 pub served_is : (x : Stepped) → HasCause 0 0 (disk_outcome x) → IsServed x
-served_is (says.Faulted head) cause = absurd (never_rose 0 0 refl refl cause.failed)
+served_is (says.Faulted head) cause = absurd (omega (arith, cause.failed))
 served_is says.SharedFault cause = tt
 served_is says.Idle cause = tt
 served_is (says.Stored tag) cause = tt

@@ -33,6 +33,7 @@ use Rattle.vub_world.proofs.RunNumbers.{among_get, among_filter, missing-among}
 use Rattle.vub_world.proofs.RunGood.{Known, Worked}
 use Rattle.vub_world.proofs.RunOffers.{same_head, same_asked}
 use Rattle.vub_world.proofs.RunPhases.{swap_among}
+use Rattle.vub_world.proofs.QueueLemmas.{length_without}
 
 -- ---- lists
 
@@ -304,10 +305,6 @@ at_row h r past heads phase batch completed made q x goes =
 
 -- ---- a publication
 
-pub length-without_heads : (xs : List (ℕ × ℕ)) (taken : List Bool) → length (without_heads xs taken) ≡ length taken
-length-without_heads [] taken = refl
-length-without_heads (x ∷ xs) taken = length-without_heads xs (set taken x.0 false) ∙ length-set taken x.0 false
-
 -- a head that is still taken was taken before, and is none of theirs
 pub still_taken : (f : ℕ → ℕ × ℕ) (xs : List ℕ) (taken : List Bool) (d : ℕ) → d < length taken → is_taken (without_heads (map f xs) taken) d ≡ true
     → (is_taken taken d ≡ true) × ((k : ℕ) → is_among xs k ≡ true → (f k).0 ≢ d)
@@ -386,7 +383,7 @@ at_show h r past heads phase batch completed made q list ends is x =
           let t = x.tasks i k task (subst (λ (ks : List ℕ). slice_get ks i ≡ Some k) same there) is_task in
           record { head = t.head; stands = t.stands };
       buffers = x.buffers;
-      places = length-without_heads q.batch q.taken ∙ x.places;
+      places = length_without q.batch q.taken ∙ x.places;
       sectors = λ k place request held asks_it next. x.sectors k place request (subst (λ (ks : List ℕ). is_among ks k ≡ true) same held) asks_it next;
       taken = λ d low held.
           let held_too : is_taken (without_heads (map (spot_of h past heads) batch) q.taken) d ≡ true = subst (λ (xs : List (ℕ × ℕ)). is_taken (without_heads xs q.taken) d ≡ true) x.batch held in

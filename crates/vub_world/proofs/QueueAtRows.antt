@@ -30,7 +30,8 @@ use Rattle.vub_world.specs.Moments.{Lane, Moment, standing}
 use Rattle.vub_world.specs.Run.{one_turn}
 use Rattle.vub_world.specs.Turns.{Turned, turned, is_rest, begun, under_way, phase_turn, phase_goes_on, element_of, answer_at, row_items, with_phase}
 use Rattle.vub_world.specs.QueueState as states
-use Rattle.vub_world.specs.QueueState.{QueueState, used_side, row_at, next_row, moved, Moves, publishes, publish_row, Publishes, Turns, is_fault}
+use Rattle.vub_split.specs.Split.{used_side}
+use Rattle.vub_world.specs.QueueState.{QueueState, row_at, next_row, moved, Moves, publishes, publish_row, Publishes, Turns, is_fault}
 use Rattle.vub_world.specs.QueueAt.{spot_of, QueueAt, IsMainRing, QueueStands}
 use Rattle.vub_world.proofs.RunGood.{the_ring, Worked, Holds}
 use Rattle.vub_world.proofs.RunPhases.{resting, rest_is, taking, taking_holds}

@@ -29,7 +29,8 @@ use Rattle.vub_world.specs.declared.queue.Completed.{Completed}
 use Rattle.vub_world.specs.declared.queue.Stepped.{Stepped}
 use Rattle.vub_world.specs.declared.queue.Stepped.TheVariants as says
 use Rattle.vub_world.specs.QueueParts.{element, is_taken, taken_count, without_heads, phase_fits}
-use Rattle.vub_world.specs.QueueState.{QueueState, used_side, row_at, next_row, Moves, StoresRow, TrailsRow, outcome, publishes, Unless, is_idle, standing_at, worked, done_at, Works, StepsAt, StepsOut, WorksOut, IfStepped, Advances, concluded, said, sector_at, IsDue, Rests, halted}
+use Rattle.vub_split.specs.Split.{used_side}
+use Rattle.vub_world.specs.QueueState.{QueueState, row_at, next_row, Moves, StoresRow, TrailsRow, outcome, publishes, Unless, is_idle, worked, done_at, Works, StepsAt, StepsOut, WorksOut, IfStepped, Advances, concluded, said, sector_at, IsDue, Rests, halted}
 use Rattle.vub_world.specs.TaskState.{Making, IfMade, HasMade, LooksAt, answer_in, answer_to, memory_after, values_after, store_in, with_maybe}
 use Rattle.vub_world.specs.Tasks as Tasks
 use Rattle.vub_world.proofs.ArmLemmas.{next_still}
@@ -81,10 +82,6 @@ count_released (x ∷ xs) taken = omega (arith, count_set taken x.0, count_relea
 both_first : (a b : Bool) → a && b ≡ true → a ≡ true
 both_first true b is = refl
 both_first false b is = is
-
-both_second : (a b : Bool) → a && b ≡ true → b ≡ true
-both_second true b is = is
-both_second false b is = grind arith
 
 -- ---- elements of a batch
 
@@ -266,12 +263,6 @@ resting (Start done) n started fits rests = grind arith
 resting (Fetch done) n started fits rests = grind arith
 resting (Publish done) n started fits rests = grind arith
 
-pub goes_started : (p : Phase) (n : ℕ) (started : Bool) → phase_fits p n started ≡ true → is_publication p ≡ true → started ≡ true
-goes_started (Publish done) n started fits goes = both_second (nat_le done (2 * n)) started fits
-goes_started Rest n started fits goes = grind arith
-goes_started (Start done) n started fits goes = grind arith
-goes_started (Fetch done) n started fits goes = grind arith
-
 -- ---- turns
 
 pub unless : (b : Bool) (P : Type 0) → P → Unless b P
@@ -284,16 +275,6 @@ none_at_work tasks n is none = grind (arith, nat_tests)
 
 pub some_at_work : (tasks : List Task) (n : ℕ) → n ≡ length tasks → (n == 0) ≡ false → nat_lt 0 (length tasks) ≡ true
 some_at_work tasks n is some = grind (arith, nat_tests)
-
-or_true : (b : Bool) → (b || true) ≡ true
-or_true true = refl
-or_true false = refl
-
--- something waits, and a fetch is ready
-pub fetch_ready : (s : QueueState) (n : ℕ) → s.started ≡ true → is_publication s.phase ≡ false → 1 ≤ n → is_ready (standing_at s n) turns.Fetch ≡ true
-fetch_ready s n started rests some =
-    let more : nat_lt 0 n ≡ true = grind (arith, nat_tests) in
-    rw (started, rests, more) (or_true (is_fetch s.phase))
 
 pub idle_is : (x : Stepped) → is_idle x ≡ true → x ≡ says.Idle
 idle_is says.Idle idle = refl

@@ -1,11 +1,11 @@
 -- A request that the driver takes keeps what holds.
-use Rattle.std.proofs.Common.{◌≡◌, ◌≤◌, ◌<◌, ℕ, zero, suc, ◌+◌, ◌*◌, Bool, true, false, List, [], ◌∷◌, ◌++◌, length, take, replicate, cond, refl, ap, sym, ◌∙◌, inl, inr, arith}
+use Rattle.std.proofs.Common.{◌≡◌, ◌≤◌, ◌<◌, ℕ, zero, suc, ◌+◌, ◌*◌, Bool, true, false, List, [], ◌∷◌, ◌++◌, length, take, cond, refl, ap, sym, ◌∙◌, inl, inr, arith}
 use Rattle.std.specs.Prelude.{Option, Some, None, slice_index, is_none}
-use Rattle.std.specs.List.{AllByRecursion, flat_map}
+use Rattle.std.specs.List.{AllByRecursion}
 use Rattle.byteorder.specs.Endian.{little_bytes}
 use Rattle.std.proofs.lemmas.Bool.Decides.{nat_tests}
 use Rattle.std.proofs.lemmas.Bool.{cases_eq}
-use Rattle.std.proofs.lemmas.List.{length-append, length-replicate, append_assoc, length-take-le}
+use Rattle.std.proofs.lemmas.List.{length-append, append_assoc, length-take-le}
 use Rattle.vub_base.specs.declared.header.Header1.{Header1}
 use Rattle.vub_base.specs.declared.request.Ask.{Ask}
 use Rattle.vub_base.specs.declared.request.Ask.TheVariants as asks
@@ -13,7 +13,7 @@ use Rattle.vub_base.specs.declared.request.Shape.TheVariants.{Direct}
 use Rattle.vub_shared.specs.Stores.{Store, one_store}
 use Rattle.vub_driver.specs.Layout.{buffer_place, status_place, area_place}
 use Rattle.vub_driver.specs.Drivers.{Driver, free_from, free_descriptors, can_take, chosen, first_or_zero, owned_by, waits_on, after_ask}
-use Rattle.vub_driver.specs.Requests.{Piece, pieces, descriptors_needed, header_bytes, written_bytes, data_place, descriptor_bytes, request_type, first_sector, write_flag}
+use Rattle.vub_driver.specs.Requests.{Piece, pieces, descriptors_needed, header_bytes, written_bytes, data_place, request_type, first_sector}
 use Rattle.vub_driver.specs.Stores.{store_of_some, buffer_stores, chain_stores, offer_stores, request_stores}
 use Rattle.vub_device.specs.declared.entry.Entry.{Entry}
 use Rattle.vub_schedule.specs.Spelling.{IsAsk}
@@ -23,6 +23,8 @@ use Rattle.vub_world.specs.Run.{request_of, with_driver}
 use Rattle.vub_world.proofs.RunGood.{the_ring, IsWide, IsHarmless, IsPlan, Driven, Holds}
 use Rattle.vub_world.proofs.RunFrames.{length_little}
 use Rattle.vub_world.proofs.RunGuests.{IsGood}
+use Rattle.vub_world.proofs.RunChains.{desc_long}
+use Rattle.vub_guest.proofs.RequestLemmas.{length-fills}
 
 -- ---- descriptors
 
@@ -30,7 +32,7 @@ use Rattle.vub_world.proofs.RunGuests.{IsGood}
 abbrev pub IsFree : ℕ → (ℕ → Option ℕ) → ℕ → Type 0
 IsFree n owner d = (d < n) × (owner d ≡ None)
 
-is_none_means : (o : Option ℕ) → is_none o ≡ true → o ≡ None
+pub is_none_means : (o : Option ℕ) → is_none o ≡ true → o ≡ None
 is_none_means None e = refl
 is_none_means (Some x) e = absurd (let fails : false ≡ true = e in cc)
 
@@ -64,14 +66,10 @@ owned_first head ds owner = grind (arith, nat_tests)
 abbrev pub IsPlainAsk : ℕ → Ask → Type 0
 IsPlainAsk cap a = IsWide cap (Some (request_of a))
 
-filled : (fills : List ℕ) → length (flat_map (λ b. replicate 512 b) fills) ≡ 512 * length fills
-filled [] = refl
-filled (b ∷ fills) = omega (arith, filled fills, length-replicate 512 b, length-append (replicate 512 b) (flat_map (λ c. replicate 512 c) fills))
-
 pub plain_ask : (h : Header1) (a : Ask) → IsAsk h a → IsPlainAsk h.capacity a
 plain_ask h (asks.Read s n) is = record { fits = omega (arith, is.0, is.1); some = omega (arith, is.1); few = omega (arith, is.1) }
 plain_ask h (asks.Write s fills) is =
-    let one : length (flat_map (λ b. replicate 512 b) fills.items) ≡ 512 = filled fills.items ∙ ap (λ (k : ℕ). 512 * k) is.1 in
+    let one : length (written_bytes (asks.Write s fills)) ≡ 512 = length-fills fills.items ∙ ap (λ (k : ℕ). 512 * k) is.1 in
     record { fits = omega (arith, one, is.0); whole = omega (arith, one); some = omega (arith, one); few = omega (arith, one) }
 plain_ask h asks.Flush is = absurd is
 plain_ask h asks.Id is = absurd is
@@ -85,21 +83,6 @@ header_long a =
     let third = length_little 8 (first_sector a) in
     let front : length (little_bytes 4 (request_type a) ++ little_bytes 4 0) ≡ 8 = omega (arith, length-append (little_bytes 4 (request_type a)) (little_bytes 4 0)) in
     omega (arith, length-append (little_bytes 4 (request_type a) ++ little_bytes 4 0) (little_bytes 8 (first_sector a)), length-append (little_bytes 4 (request_type a)) (little_bytes 4 0 ++ little_bytes 8 (first_sector a)), length-append (little_bytes 4 0) (little_bytes 8 (first_sector a)))
-
-descriptor_long : (p : Piece) (flag next : ℕ) → length (descriptor_bytes p flag next) ≡ 16
-descriptor_long p flag next =
-    let a : List ℕ = little_bytes 8 p.place in
-    let b : List ℕ = little_bytes 4 p.len in
-    let c : List ℕ = little_bytes 2 (write_flag p.writable + flag) in
-    let d : List ℕ = little_bytes 2 next in
-    let la : length a ≡ 8 = length_little 8 p.place in
-    let lb : length b ≡ 4 = length_little 4 p.len in
-    let lc : length c ≡ 2 = length_little 2 (write_flag p.writable + flag) in
-    let ld : length d ≡ 2 = length_little 2 next in
-    four a b c d la lb lc ld
-  where
-    four : (a b c d : List ℕ) → length a ≡ 8 → length b ≡ 4 → length c ≡ 2 → length d ≡ 2 → length (a ++ b ++ c ++ d) ≡ 16
-    four a b c d la lb lc ld = simp length-append (omega arith)
 
 harmless_append : (head : ℕ) (xs ys : List Store) → AllByRecursion (IsHarmless head) xs → AllByRecursion (IsHarmless head) ys → AllByRecursion (IsHarmless head) (xs ++ ys)
 harmless_append head [] ys p q = q
@@ -134,12 +117,12 @@ buffer_harmless n cap head (asks.Zero parts) plain = absurd plain
 chain_harmless : (n head : ℕ) (owner : ℕ → Option ℕ) (ps : List Piece) (ds : List ℕ) → n ≤ 64 → AllByRecursion (IsFree n owner) ds → AllByRecursion (IsHarmless head) (chain_stores (the_ring n) ps ds) × (length (chain_stores (the_ring n) ps ds) ≤ length ds)
 chain_harmless n head owner [] ds small all = (tt, omega arith)
 chain_harmless n head owner (p ∷ []) [] small all = (tt, omega arith)
-chain_harmless n head owner (p ∷ []) (d ∷ ds) small all = ((record { space = refl; lies = inl (omega (arith, all.0.0, descriptor_long p 0 0)) }, tt), omega arith)
+chain_harmless n head owner (p ∷ []) (d ∷ ds) small all = ((record { space = refl; lies = inl (omega (arith, all.0.0, desc_long p 0 0)) }, tt), omega arith)
 chain_harmless n head owner (p ∷ p' ∷ ps) [] small all = (tt, omega arith)
 chain_harmless n head owner (p ∷ p' ∷ ps) (d ∷ []) small all = (tt, omega arith)
 chain_harmless n head owner (p ∷ p' ∷ ps) (d ∷ d' ∷ ds) small all =
     let rest = chain_harmless n head owner (p' ∷ ps) (d' ∷ ds) small all.1 in
-    ((record { space = refl; lies = inl (omega (arith, all.0.0, descriptor_long p 1 d')) }, rest.0), omega (arith, rest.1))
+    ((record { space = refl; lies = inl (omega (arith, all.0.0, desc_long p 1 d')) }, rest.0), omega (arith, rest.1))
 
 -- two or three descriptors are needed
 few_needed : (a : Ask) → (0 < descriptors_needed a) × (descriptors_needed a ≤ 3)

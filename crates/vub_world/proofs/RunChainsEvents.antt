@@ -1,5 +1,5 @@
 -- Along every run the chain of each request that is offered and not collected stands in memory.
-use Rattle.std.proofs.Common.{◌≡◌, ◌≤◌, ◌<◌, ℕ, zero, suc, ◌+◌, Bool, true, false, not, cond, List, [], ◌∷◌, length, drop, refl, ap, sym, ◌∙◌, subst, inl, inr, arith}
+use Rattle.std.proofs.Common.{◌≡◌, ◌≤◌, ℕ, zero, suc, ◌+◌, Bool, true, false, not, cond, List, [], ◌∷◌, length, drop, refl, ap, sym, ◌∙◌, subst, inl, inr, arith}
 use Rattle.std.specs.Prelude.{Option, Some, None, is_some, ◌&&◌}
 use Rattle.std.specs.List.{AllByRecursion}
 use Rattle.std.proofs.lemmas.List.{length-append, drop_all}
@@ -23,11 +23,11 @@ use Rattle.vub_world.specs.Memory.{Scene, after_items}
 use Rattle.vub_world.specs.Moments.{Lane, Moment, opening}
 use Rattle.vub_world.specs.Run.{Played, played, if_ready, guest_items, guest, guest_stores, ask, collect, take_first, boot, join, one_turn, is_due, then_played, turns, drain_choice, Drains, Plays}
 use Rattle.vub_world.specs.Turns.{turned}
-use Rattle.vub_world.proofs.RunGood.{the_ring, IsOut, IsPlan, IsWaiting, WaitsWell}
+use Rattle.vub_world.proofs.RunGood.{the_ring, IsPlan, IsWaiting, WaitsWell}
 use Rattle.vub_world.proofs.RunCollects.{IsTaken, next_number, after_taken, first_seen}
 use Rattle.vub_world.proofs.RunTurns.{IsPlain, Good}
 use Rattle.vub_world.proofs.RunEvents.{Right, turn_right, event_right}
-use Rattle.vub_world.proofs.Runs.{opening_good, plain_header}
+use Rattle.vub_world.proofs.Runs.{opening_good, plain_header, none_out}
 use Rattle.vub_world.proofs.RunsTo.{stands_good}
 use Rattle.vub_world.specs.Run.{RunTo, Stands}
 use Rattle.vub_world.proofs.RunChainsTurns.{IsPrepared, PreparedWell, Chained, gentle_chained, turn_gentle, turn_driver}
@@ -138,9 +138,6 @@ run_chained h m (e ∷ es) [] n plain few good c fits run = absurd run
 run_chained h m (e ∷ es) (r ∷ rs) n plain few good c fits run =
     let right : Right h m r.items run.1.0 = event_right h m e r.items run.1.0 plain good fits.0 run.1.1 in
     run_chained h run.1.0 es rs n plain few right.good (event_chained h m e r.items run.1.0 plain few good c fits.0 run.1.1) fits.1 run.1.2
-
-none_out : (k : ℕ) → IsOut [] [] k → ⊥
-none_out k out = let low : k < 0 = out.below in omega arith
 
 opening_chained : (h : Header1) → ChainedAt h (opening h)
 opening_chained h = record { linked = λ k out. absurd (none_out k out); waits = tt }

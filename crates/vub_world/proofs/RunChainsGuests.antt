@@ -29,7 +29,7 @@ use Rattle.vub_world.proofs.RunFrames.{keeps, length_little, entry_small}
 use Rattle.vub_world.proofs.RunGuests.{IsGood}
 use Rattle.vub_world.proofs.RunOffers.{same_head, new_head, same_asked, new_asked}
 use Rattle.vub_world.proofs.RunChains.{table_place, buffer_at, chain_of, HasChain, IsOff, Spares, chain_kept, desc_long}
-use Rattle.vub_world.proofs.RunChainsStores.{put_all, handed_fits, header_long, stores_make}
+use Rattle.vub_world.proofs.RunChainsStores.{put_all, handed_fits, header_long, stores_make, linked}
 use Rattle.vub_world.proofs.RunChainsTurns.{IsLinked, IsPrepared, Chained, ring_spares, buffer_spares}
 
 -- ---- where the stores of a request are
@@ -51,14 +51,6 @@ mine_append owner head (x ∷ xs) ys p q = (p.0, mine_append owner head xs ys p.
 some_mine : (owner : ℕ → Option ℕ) (head : ℕ) (bytes : List ℕ) → length bytes ≤ 4096 → AreMine owner head (store_of_some 0 (sectors_place (buffer_at head)) bytes)
 some_mine owner head [] few = tt
 some_mine owner head (b ∷ bytes) few = (inr (inl (omega arith, omega arith)), tt)
-
--- descriptors and offer
-abbrev linked : ℕ → ℕ → ℕ → ℕ → ℕ → Piece → List Store
-linked n index head body status p =
-    one_store 0 (table_place head) (descriptor_bytes (readable_piece (buffer_at head) 16) 1 body)
-    ∷ one_store 0 (table_place body) (descriptor_bytes p 1 status)
-    ∷ one_store 0 (table_place status) (descriptor_bytes (writable_piece (status_place (buffer_at head)) 1) 0 0)
-    ∷ offer_stores (the_ring n) index head
 
 linked_mine : (n index : ℕ) (owner : ℕ → Option ℕ) (head body status : ℕ) (p : Piece) → IsSize n → head < 64 → body < 64 → status < 64 → owner head ≡ Some head → owner body ≡ Some head → owner status ≡ Some head → AreMine owner head (linked n index head body status p)
 linked_mine n index owner head body status p size fh fb fs mh mb ms =

@@ -3,7 +3,6 @@ use Rattle.std.proofs.Common.{◌≡◌, ◌≤◌, ◌<◌, ℕ, ◌+◌, not, 
 use Rattle.std.specs.Prelude.{Option, Some, None, slice_index, slice_get}
 use Rattle.vub_base.specs.declared.header.Header1.{Header1}
 use Rattle.vub_shared.specs.Bytes.{Bytes, word, bytes_from}
-use Rattle.vub_ring.specs.declared.readiness.Turn.{Turn}
 use Rattle.vub_driver.specs.Layout.{status_place}
 use Rattle.vub_driver.specs.Requests.{readable_piece, writable_piece}
 use Rattle.vub_device.specs.declared.entry.Asked.{Asked}
@@ -15,7 +14,6 @@ use Rattle.vub_split.specs.declared.split.SplitRing.{SplitRing}
 use Rattle.vub_world.specs.declared.chain.Desc.{Desc}
 use Rattle.vub_world.specs.ChainState.{IsFirstRing, Meant, desc_in, desc_place, desc_of, data_of, data_start, data_len, body_desc, handed_bytes, type_of, sector_of}
 use Rattle.vub_world.specs.Moments.{Moment, unfinished}
-use Rattle.vub_world.specs.Run.{turns}
 use Rattle.vub_world.proofs.RunNumbers.{not_among-take, among_get, among_filter, missing-among}
 use Rattle.vub_world.proofs.RunFrames.{open_out}
 use Rattle.vub_world.proofs.RunGood.{IsSize, IsWide, IsOut}
@@ -26,10 +24,8 @@ use Rattle.vub_world.specs.Run.{Stands}
 use Rattle.vub_world.proofs.RunChains.{table_place, buffer_at, has_body, HasDesc}
 use Rattle.vub_world.proofs.RunChainsStores.{handed_fits}
 use Rattle.vub_world.proofs.RunChainsTurns.{IsLinked}
-use Rattle.vub_world.proofs.RunChainsEvents.{ChainedAt, stands_chained, stands_turns}
-
-abbrev make : ℕ → ℕ → ℕ → ℕ → Desc
-make a l f n = record { addr = a; len = l; flags = f; next = n }
+use Rattle.vub_world.proofs.RunChainsEvents.{ChainedAt, stands_chained}
+use Rattle.vub_world.proofs.ChainReading.{make}
 
 desc_found : (r : SplitRing) (m : Bytes) (d : ℕ) (x : Desc) → r.desc.0.number ≡ 0 → r.desc.1 ≡ 0 → HasDesc m d x → desc_in r m d ≡ make x.addr x.len x.flags x.next
 desc_found r m d x space table h =
@@ -155,14 +151,6 @@ pub stands_means : (h : Header1) (es : List Event) (rs : List Record) (n : Momen
     → Meant sizes r n.scene.memory (slice_index (n.scene.heads 0) k) (asked n.scene.past 0 k)
 stands_means h es rs n sizes r k s ring low new =
     moment_means h n sizes r k (plain_header h s.header) (stands_good h es rs n s) (stands_chained h es rs n s) ring (unpublished_out h n k low new)
-
--- also after any number of turns from there on
-pub turns_mean : (h : Header1) (es : List Event) (rs : List Record) (n : Moment) (count : ℕ) (choose : Moment → Turn) (sizes : ℕ → ℕ) (r : SplitRing) (k : ℕ) → Stands h es rs n → IsFirstRing sizes r h.size
-    → k < length ((turns count choose h 0 n).next.scene.heads 0) → is_among (published (turns count choose h 0 n).next.scene.past 0) k ≡ false
-    → Meant sizes r (turns count choose h 0 n).next.scene.memory (slice_index ((turns count choose h 0 n).next.scene.heads 0) k) (asked (turns count choose h 0 n).next.scene.past 0 k)
-turns_mean h es rs n count choose sizes r k s ring low new =
-    let both = stands_turns h es rs n count choose s in
-    moment_means h (turns count choose h 0 n).next sizes r k (plain_header h s.header) both.0 both.1 ring (unpublished_out h (turns count choose h 0 n).next k low new)
 
 -- the request of which a turn makes the next step
 pub work_means : (h : Header1) (m : Moment) (sizes : ℕ → ℕ) (r : SplitRing) (place k : ℕ) → IsPlain h → Good h m → ChainedAt h m → IsFirstRing sizes r h.size → slice_get (unfinished 0 m) place ≡ Some k

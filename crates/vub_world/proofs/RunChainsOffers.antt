@@ -1,9 +1,9 @@
 -- An offer adds the chain of its request; asks and collections leave the others.
-use Rattle.std.proofs.Common.{◌≡◌, ◌≢◌, ◌≤◌, ◌<◌, ℕ, zero, suc, ◌+◌, Bool, true, false, cond, List, [], ◌∷◌, ◌++◌, length, take, refl, ap, sym, ◌∙◌, subst, inl, inr, arith}
-use Rattle.std.specs.Prelude.{Option, Some, None, ⊤, slice_index, is_none, ◌||◌, ◌==◌}
+use Rattle.std.proofs.Common.{◌≡◌, ◌≢◌, ◌≤◌, ◌<◌, ℕ, zero, suc, ◌+◌, Bool, true, false, cond, List, [], ◌∷◌, length, take, refl, ap, sym, ◌∙◌, subst, inl, inr, arith}
+use Rattle.std.specs.Prelude.{Option, Some, None, ⊤, slice_index, is_none, ◌==◌}
 use Rattle.std.proofs.lemmas.Bool.{cases_eq}
 use Rattle.std.proofs.lemmas.Bool.Decides.{nat_tests}
-use Rattle.std.proofs.lemmas.List.{length-take-le, take_more}
+use Rattle.std.proofs.lemmas.List.{length-take-le}
 use Rattle.vub_base.specs.declared.header.Header1.{Header1}
 use Rattle.vub_base.specs.declared.request.Ask.{Ask}
 use Rattle.vub_base.specs.declared.request.Ask.TheVariants as wants
@@ -14,15 +14,14 @@ use Rattle.vub_driver.specs.Requests.{descriptors_needed, has_data}
 use Rattle.vub_driver.specs.Stores.{request_stores}
 use Rattle.vub_device.specs.declared.entry.Asked.{Asked}
 use Rattle.vub_device.specs.declared.entry.Entry.TheVariants as entries
-use Rattle.vub_device.specs.Past.{asked, published, collected, is_among}
-use Rattle.vub_device.proofs.Numbers.{is_among_append}
+use Rattle.vub_device.specs.Past.{asked}
 use Rattle.vub_world.specs.Memory.{Scene}
 use Rattle.vub_world.specs.Moments.{Lane}
-use Rattle.vub_world.proofs.RunNumbers.{among_at}
-use Rattle.vub_world.proofs.RunGood.{the_ring, IsOut, IsWaiting, WaitsWell, Driven}
-use Rattle.vub_world.proofs.RunCollects.{IsTaken, next_number, none_before}
+use Rattle.vub_world.proofs.RunGood.{the_ring, IsWaiting, WaitsWell, Driven}
+use Rattle.vub_world.proofs.RunCollects.{IsTaken, next_number, next_out, later_out}
 use Rattle.vub_world.proofs.RunChains.{chain_of}
 use Rattle.vub_world.proofs.RunChainsTurns.{IsLinked, IsPrepared, PreparedWell, Chained}
+use Rattle.vub_world.proofs.RunAsks.{is_none_means}
 
 -- ---- the descriptors that an ask takes
 
@@ -35,16 +34,12 @@ free_lower : (n : ℕ) (owner : ℕ → Option ℕ) (d e : ℕ) (xs : List ℕ) 
 free_lower n owner d e [] l all = tt
 free_lower n owner d e (x ∷ xs) l all = (omega (arith, all.0), all.1)
 
-none_means : (o : Option ℕ) → is_none o ≡ true → o ≡ None
-none_means None e = refl
-none_means (Some x) e = absurd (let fails : false ≡ true = e in cc)
-
 free_are : (owner : ℕ → Option ℕ) (count d n : ℕ) → d + count ≤ n → IsFreeFrom n owner d (free_from owner count d)
 free_are owner zero d n l = tt
 free_are owner (suc count) d n l = go (is_none (owner d)) refl (free_are owner count (d + 1) n (omega arith))
   where
     go : (b : Bool) → is_none (owner d) ≡ b → IsFreeFrom n owner (d + 1) (free_from owner count (d + 1)) → IsFreeFrom n owner d (cond b (d ∷ free_from owner count (d + 1)) (free_from owner count (d + 1)))
-    go true e rest = (omega arith, (omega arith, (none_means (owner d) e, rest)))
+    go true e rest = (omega arith, (omega arith, (is_none_means (owner d) e, rest)))
     go false e rest = free_lower n owner (d + 1) d (free_from owner count (d + 1)) (omega arith) rest
 
 free_taken : (n : ℕ) (owner : ℕ → Option ℕ) (d k : ℕ) (xs : List ℕ) → IsFreeFrom n owner d xs → IsFreeFrom n owner d (take k xs)
@@ -138,23 +133,6 @@ ask_chained h s v a ready c =
     }
 
 -- ---- a collection
-
-next_out : (h : Header1) (s : Scene) (l : Lane) (x : ℕ) → IsTaken h s l x → IsOut s.past (s.heads 0) (next_number s)
-next_out h s l x t = record {
-  below = omega (arith, t.holds.known.below (next_number s) (among_at (published s.past 0) (collected s.past 0) t.more), t.holds.known.offered);
-  kept = none_before (published s.past 0) (collected s.past 0) t.holds.known.distinct t.more;
-}
-
--- what is out after it was out before, and is another one
-later_out : (h : Header1) (s : Scene) (l : Lane) (x j k : ℕ) → IsTaken h s l x → IsOut (entries.Collect 0 k ∷ s.past) (s.heads 0) j → IsOut s.past (s.heads 0) j × (j ≢ next_number s)
-later_out h s l x j k t out =
-    let c : ℕ = collected s.past 0 in
-    let ps : List ℕ = published s.past 0 in
-    let more : take (c + 1) ps ≡ take c ps ++ next_number s ∷ [] = take_more ps c 0 t.more in
-    let joined : is_among (take c ps ++ next_number s ∷ []) j ≡ (is_among (take c ps) j || is_among (next_number s ∷ []) j) = is_among_append (take c ps) (next_number s ∷ []) j in
-    let none : is_among (take c ps ++ next_number s ∷ []) j ≡ false = ap (λ (ks : List ℕ). is_among ks j) (sym more) ∙ out.kept in
-    let both : (is_among (take c ps) j || is_among (next_number s ∷ []) j) ≡ false = sym joined ∙ none in
-    (record { below = out.below; kept = grind (arith, nat_tests) }, λ same. let here : next_number s ≡ j = sym same in grind (arith, nat_tests))
 
 kept_owner : (owner : ℕ → Option ℕ) (x e d : ℕ) → e ≢ x → owner d ≡ Some e → without_owner x owner d ≡ Some e
 kept_owner owner x e d apart is =

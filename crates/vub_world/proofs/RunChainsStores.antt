@@ -53,7 +53,7 @@ handed_fits cap buffer (asks.Zero parts) wide = absurd wide
 -- ---- table and offer
 
 -- three descriptors and the offer
-abbrev linked : ℕ → ℕ → ℕ → ℕ → ℕ → Piece → List Store
+abbrev pub linked : ℕ → ℕ → ℕ → ℕ → ℕ → Piece → List Store
 linked n index head body status p =
     one_store 0 (table_place head) (descriptor_bytes (readable_piece (buffer_at head) 16) 1 body)
     ∷ one_store 0 (table_place body) (descriptor_bytes p 1 status)

@@ -54,14 +54,14 @@ pub record IsTaken (h : Header1) (s : Scene) (l : Lane) (x : ℕ) : Type 0 where
 abbrev pub next_number : Scene → ℕ
 next_number s = slice_index (published s.past 0) (collected s.past 0)
 
-next_out : (h : Header1) (s : Scene) (l : Lane) (x : ℕ) → IsTaken h s l x → IsOut s.past (s.heads 0) (next_number s)
+pub next_out : (h : Header1) (s : Scene) (l : Lane) (x : ℕ) → IsTaken h s l x → IsOut s.past (s.heads 0) (next_number s)
 next_out h s l x t = record {
   below = omega (arith, t.holds.known.below (next_number s) (among_at (published s.past 0) (collected s.past 0) t.more), t.holds.known.offered);
   kept = none_before (published s.past 0) (collected s.past 0) t.holds.known.distinct t.more;
 }
 
 -- what is out after it was out before, and is another one
-later_out : (h : Header1) (s : Scene) (l : Lane) (x j k : ℕ) → IsTaken h s l x → IsOut (entries.Collect 0 k ∷ s.past) (s.heads 0) j → IsOut s.past (s.heads 0) j × (j ≢ next_number s)
+pub later_out : (h : Header1) (s : Scene) (l : Lane) (x j k : ℕ) → IsTaken h s l x → IsOut (entries.Collect 0 k ∷ s.past) (s.heads 0) j → IsOut s.past (s.heads 0) j × (j ≢ next_number s)
 later_out h s l x j k t out =
     let c : ℕ = collected s.past 0 in
     let ps : List ℕ = published s.past 0 in

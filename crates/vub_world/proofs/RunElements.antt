@@ -62,10 +62,6 @@ get_map f [] e l = absurd (omega arith)
 get_map f (x ∷ xs) zero l = refl
 get_map f (x ∷ xs) (suc e) l = get_map f xs e (omega arith)
 
-pub length_map : (f : ℕ → ℕ × ℕ) (xs : List ℕ) → length (map f xs) ≡ length xs
-length_map f [] = refl
-length_map f (x ∷ xs) = omega (arith, length_map f xs)
-
 len_small : (cap : ℕ) (r : Asked) → IsWide cap (Some r) → answered_len 0 (Some r) < 256 ^ 4
 len_small cap (asks.Read s c) wide = let few : c ≤ 8 = wide.few in omega arith
 len_small cap (asks.Write s bytes) wide = omega arith

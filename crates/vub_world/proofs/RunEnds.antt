@@ -88,13 +88,13 @@ done_few n cap past heads phase batch completed made known w =
     ]) in
     omega (arith, few, length-append ps ds, length-append completed batch)
 
-phase_few : (batch : List ℕ) (phase : Phase) → phase_left batch phase ≤ 2 * length batch + 1
+pub phase_few : (batch : List ℕ) (phase : Phase) → phase_left batch phase ≤ 2 * length batch + 1
 phase_few batch phases.Rest = omega arith
 phase_few batch (phases.Start done) = omega arith
 phase_few batch (phases.Fetch done) = omega arith
 phase_few batch (phases.Publish done) = omega arith
 
-start_few : (b : Bool) → cond {A = ℕ} b 0 1 ≤ 1
+pub start_few : (b : Bool) → cond {A = ℕ} b 0 1 ≤ 1
 start_few true = omega arith
 start_few false = omega arith
 

@@ -4,7 +4,7 @@ use Rattle.std.specs.Prelude.{◌||◌, ◌==◌, slice_index, slice_get, Some, 
 use Rattle.std.specs.List.{list_any, AllByRecursion, IsDistinct as IsDistinctBy}
 use Rattle.std.proofs.lemmas.Bool.Decides.{nat_tests}
 use Rattle.std.proofs.lemmas.Bool.{cases_eq, cases_Bool}
-use Rattle.std.proofs.lemmas.List.{length-append}
+use Rattle.std.proofs.lemmas.List.{length-append, length-map}
 use Rattle.std.proofs.lemmas.Map.Steps.{length-le_from_distinct_below}
 use Rattle.vub_device.specs.Past.{is_among, missing_below}
 use Rattle.vub_device.specs.Places.{are_distinct}
@@ -196,10 +196,6 @@ map_distinct f taken (suc a) inj =
           grind (arith, nat_tests)
     ]
 
-length_map : (f : ℕ → ℕ) (xs : List ℕ) → length (map f xs) ≡ length xs
-length_map f [] = refl
-length_map f (x ∷ xs) = omega (arith, length_map f xs)
-
 pub few_places : (f : ℕ → ℕ) (taken : List ℕ) (a n : ℕ) → ((j k : ℕ) → j < k → k < a → is_among taken j ≡ false → is_among taken k ≡ false → f j ≢ f k) → ((k : ℕ) → k < a → is_among taken k ≡ false → f k < n) → a ≤ n + length taken
 few_places f taken a n inj below =
     let few : length (map f (missing_below taken a)) ≤ n = few_below (map f (missing_below taken a)) n (map_distinct f taken a inj) (λ y h.
@@ -207,4 +203,4 @@ few_places f taken a n inj below =
     let low : (r.0 < a) × (is_among taken r.0 ≡ false) = missing-among taken a r.0 r.1 in
     let fits : f r.0 < n = below r.0 low.0 low.1 in
     omega (arith, fits, r.2)) in
-    omega (arith, few, length_map f (missing_below taken a), missing_count taken a)
+    omega (arith, few, length-map (missing_below taken a) f, missing_count taken a)

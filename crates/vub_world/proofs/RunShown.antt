@@ -35,7 +35,7 @@ use Rattle.vub_world.proofs.RunFrames.{keeps, entry_small, length_little, stored
 use Rattle.vub_world.proofs.RunGuests.{stored_at, holds_track}
 use Rattle.vub_world.proofs.RunPhases.{resting}
 use Rattle.vub_world.proofs.RunWork.{Fine, driven_same}
-use Rattle.vub_world.proofs.RunElements.{StepAt, AtId, AtLen, AtIndex, step_at, length_map, batch_room}
+use Rattle.vub_world.proofs.RunElements.{StepAt, AtId, AtLen, AtIndex, step_at, batch_room}
 use Rattle.vub_world.proofs.RunPublications.{publishing, IsUnderWay, none_left, in_batch, batch_open, id_fine, len_fine, numbers_answers, all_map, good_map, good_append, answer_right}
 
 -- the scene after the store, and the past with the publication
@@ -220,7 +220,7 @@ index_turn h s l done x more = record {
 index_fine : (h : Header1) (s : Scene) (l : Lane) (done : ℕ) → IsUnderWay h s l done → done ≡ 2 * length l.batch → Fine h s (publishing done l) (phase_turn h 0 s (publishing done l) (Some steps.Index))
 index_fine h s l done u whole =
     let x : ℕ = (used_idx (the_ring h.size) s.memory + length (map (element_of h 0 s) l.batch)) % 65536 in
-    let many : length (map (element_of h 0 s) l.batch) ≡ length l.batch = length_map (element_of h 0 s) l.batch in
+    let many : length (map (element_of h 0 s) l.batch) ≡ length l.batch = length-map l.batch (element_of h 0 s) in
     let is : x ≡ (h.base + length (published s.past 0) + length l.batch) % 65536 = omega (arith, u.holds.ringed.used_idx_is, many) in
     let holds = shown_holds h x s l done u whole is in
     let fine : Fine h s (publishing done l) (index_turn h s l done x false) = record {

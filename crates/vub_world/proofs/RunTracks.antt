@@ -2,7 +2,7 @@
 use Rattle.std.proofs.Common.{◌≡◌, ◌≤◌, ◌<◌, ℕ, zero, suc, ◌+◌, ◌%◌, List, [], ◌∷◌, ◌++◌, length, drop, map, get_or, refl, ap, sym, ◌∙◌, subst, arith}
 use Rattle.std.specs.Prelude.{slice_index}
 use Rattle.std.specs.List.{AllByRecursion}
-use Rattle.std.proofs.lemmas.List.{length-drop, get_or-drop}
+use Rattle.std.proofs.lemmas.List.{length-drop, get_or-drop, length-map}
 use Rattle.std.proofs.lemmas.Bool.Decides.{nat_tests}
 use Rattle.vub_base.specs.declared.header.Header1.{Header1}
 use Rattle.vub_ring.specs.Ring.{head_at, element_at, ahead, avail_idx, used_idx, seen as seen_elements}
@@ -60,10 +60,6 @@ get_map f [] i d l = absurd (omega arith)
 get_map f (x ∷ xs) zero d l = refl
 get_map f (x ∷ xs) (suc i) d l = get_map f xs i d (omega arith)
 
-length_map : (f : ℕ → ℕ × ℕ) (xs : List ℕ) → length (map f xs) ≡ length xs
-length_map f [] = refl
-length_map f (x ∷ xs) = omega (arith, length_map f xs)
-
 pub ahead_by : (base a b : ℕ) → b ≤ a → a < b + 65536 → ahead ((base + a) % 65536) (base + b) + b ≡ a
 ahead_by base a b le near = omega arith
 
@@ -82,7 +78,7 @@ tracks h s size known ringed =
     let left : drop c ps ≡ numbers (drop c (answers s.past 0)) = ap (drop c) (sym (numbers_published s.past 0)) ∙ sym (numbers-drop c (answers s.past 0)) in
     let right : map (element 0 s) (drop c (answers s.past 0)) ≡ map (spot (s.heads 0) s.past) (drop c ps) =
     elements_of_good s (drop c (answers s.past 0)) (good-drop c (answers s.past 0) known.good) ∙ ap (map (spot (s.heads 0) s.past)) (sym left) in
-    let many : length (map (spot (s.heads 0) s.past) (drop c ps)) ≡ ahead (used_idx (the_ring h.size) s.memory) (h.base + c) = omega (arith, length_map (spot (s.heads 0) s.past) (drop c ps), length-drop c ps, seen_far) in
+    let many : length (map (spot (s.heads 0) s.past) (drop c ps)) ≡ ahead (used_idx (the_ring h.size) s.memory) (h.base + c) = omega (arith, length-map (drop c ps) (spot (s.heads 0) s.past), length-drop c ps, seen_far) in
     let sees : seen_elements (the_ring h.size) s.memory (h.base + c) ≡ map (spot (s.heads 0) s.past) (drop c ps) =
     elements_are (the_ring h.size) s.memory (ahead (used_idx (the_ring h.size) s.memory) (h.base + c)) (h.base + c) (map (spot (s.heads 0) s.past) (drop c ps)) many (λ i l.
     let place : h.base + c + i ≡ h.base + (c + i) = omega arith in

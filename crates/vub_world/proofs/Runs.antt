@@ -57,7 +57,7 @@ open_ringed h fits =
       used_at = λ i from upto. absurd (omega arith);
     }
 
-none_out : (k : ℕ) → IsOut [] [] k → ⊥
+pub none_out : (k : ℕ) → IsOut [] [] k → ⊥
 none_out k out = let low : k < 0 = out.below in omega arith
 
 opening_holds : (h : Header1) → IsPlain h → Holds h (opening_scene h) (opening_lane h)

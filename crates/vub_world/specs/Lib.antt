@@ -4,7 +4,9 @@ pub mod Lives
 pub mod Logs
 pub mod Machine
 pub mod MachineAt
-pub mod MachineSteps
+pub mod MachineDevice
+pub mod MachineDrain
+pub mod MachineFront
 pub mod Memory
 pub mod Moments
 pub mod Queue

@@ -1,5 +1,5 @@
 -- A life of the device and its queue.
-use Rattle.std.specs.Prelude.{◌≡◌, Option, Some, None, ⊤}
+use Rattle.std.specs.Prelude.{Option, Some, None, ⊤}
 use Rattle.vub_split.specs.declared.split.SplitRing.{SplitRing}
 use Rattle.vub_world.specs.declared.queue.Queue.{Queue}
 use Rattle.vub_world.specs.declared.machine.Life.{Life}
@@ -14,7 +14,3 @@ RingOfQueue P (Some q) = P (ring_in q)
 abbrev pub RingOfLife : (SplitRing → Type 0) → Option Life → Type 0
 RingOfLife P None = ⊤
 RingOfLife P (Some l) = RingOfQueue P l.queue
-
--- whatever held of the ring of the attached queue holds of it still
-abbrev pub SameRing : Option Life → Option Life → Type 0
-SameRing old new = (r : SplitRing) → RingOfLife (λ q. q ≡ r) old → RingOfLife (λ q. q ≡ r) new

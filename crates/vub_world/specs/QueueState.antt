@@ -13,12 +13,12 @@ use Rattle.vub_ring.specs.declared.steps.Step.{Step}
 use Rattle.vub_ring.specs.declared.readiness.Standing.{Standing}
 use Rattle.vub_ring.specs.declared.readiness.Turn.{Turn}
 use Rattle.vub_ring.specs.declared.readiness.Turn.TheVariants.{Start, Fetch, Work, Publish}
-use Rattle.vub_ring.specs.Ring.{Ring, ahead}
+use Rattle.vub_ring.specs.Ring.{ahead}
 use Rattle.vub_ring.specs.Rows.{Row, row_of}
 use Rattle.vub_ring.specs.Steps.{next_step, after_step}
 use Rattle.vub_ring.specs.Readiness.{is_ready, is_publication, any_turn}
 use Rattle.vub_split.specs.declared.split.SplitRing.{SplitRing}
-use Rattle.vub_split.specs.Split.{avail_idx_word, head_word}
+use Rattle.vub_split.specs.Split.{avail_idx_word, head_word, used_side}
 use Rattle.vub_world.specs.declared.task.Task.{Task}
 use Rattle.vub_world.specs.declared.task.TaskStep as made
 use Rattle.vub_world.specs.declared.task.TaskStep.TheVariants as answers
@@ -154,10 +154,6 @@ Fetches told says.SharedFault s t = (t ≡ s) × (may_fetch s ≡ true)
 Fetches told x s t = ⊥
 
 -- ---- a publication
-
--- the ring as it lies in the space of its used part
-abbrev pub used_side : SplitRing → Ring
-used_side r = record { space = r.used.0.number; desc = r.desc.1; avail = r.avail.1; used = r.used.1; size = r.size }
 
 -- a batch of the first completed requests, at most so many
 abbrev pub begun : ℕ → QueueState → QueueState

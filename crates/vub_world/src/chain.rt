@@ -10,9 +10,9 @@ ghost use Rattle.vub_device.specs.declared.entry.Asked.{Asked};
 ghost use Rattle.vub_guest.specs.GuestChain.{Links};
 ghost use Rattle.vub_world.specs.ChainState.{MeansRequest, Reads, desc_in, desc_of, parts_of, read_outcome, span_at};
 
-use vub_split::SplitRing;
 use vub_base::{ChainFault, Failed, RingFault, Space, get_u16, get_u32, get_u64};
 use vub_shared::Shared;
+use vub_split::SplitRing;
 
 const NEXT: u16 = 1;
 

@@ -3,24 +3,24 @@ ghost use Rattle.std.specs.Prelude.{◌≡◌, ◌<◌, ◌≤◌, ◌+◌, ◌-
 ghost use Rattle.vub_shared.specs.Watched.{bytes_in, stores_in, sizes_in};
 ghost use Rattle.vub_driver.specs.Layout.{ring_of as main_ring};
 ghost use Rattle.vub_schedule.specs.Spelling.{IsHeader, IsEvent};
-ghost use Rattle.vub_world.specs.MachineSteps.{SpendsLists};
+ghost use Rattle.vub_world.specs.Rooms.{SpendsLists};
 ghost use Rattle.vub_world.specs.Run.{request_of};
 
 use crate::drain::next_turn;
-use vub_guest::{Collected, Guest, GuestStep};
-use vub_guest::layout::{AREA, AVAIL, SECTORS, STATUS, buffer_of, ring_of};
 use crate::log::Log;
 use crate::queue::{Queue, QueueSetup, Stepped};
 use crate::report::{Item, Items, Record};
 use crate::room::Room;
-use vub_split::SplitRing;
 use std::alloc::Global;
 use vub_base::{Area, Ask, Header1, Memory, Shape, Space, Tag};
 use vub_device::{AnswerList, Answered, Asked, Entry, NumberList};
 use vub_disk::Disk;
+use vub_guest::layout::{AREA, AVAIL, SECTORS, STATUS, buffer_of, ring_of};
+use vub_guest::{Collected, Guest, GuestStep};
 use vub_memdisk::MemDisk;
 use vub_schedule::Event;
 use vub_shared::{Shared, WatchedShared};
+use vub_split::SplitRing;
 
 /// The most stores that a request takes, with the one that offers it.
 const MOST_STORES: u16 = 8;
@@ -95,7 +95,10 @@ impl Machine {
     ghost use Rattle.vub_world.specs.Logs.{offered_in, collected_in, slot_in, Offers};
     ghost use Rattle.vub_world.specs.Machine.{IsSound, LendsSound};
     ghost use Rattle.vub_world.specs.MachineAt.{FrontAt, MachineAt, IsReached, IsStanding, Performs, StandsOn};
-    ghost use Rattle.vub_world.specs.MachineSteps.{FrontFits, OneSmall, GuestSteps, GuestGoes, TurnGoes, DrainSteps, DrainGoes, HasTurnRoom, HasDrainRoom, BatchFits, ShowsSome, StoreFits, SectorFits, IsEntry, Spends, SpendsAnswers, SpendsUpTo, SpendsTurn, SpendsStep, stored_items, head_shown, is_joining, answer_for, answers_for, answers_shown, batch_in, shown_in, noted, next_turn};
+    ghost use Rattle.vub_world.specs.MachineDevice.{BatchFits, ShowsSome, StoreFits, SectorFits, IsEntry, stored_items, is_joining, answer_for, answers_for, answers_shown, batch_in, shown_in, noted};
+    ghost use Rattle.vub_world.specs.MachineDrain.{TurnGoes, DrainSteps, DrainGoes, next_turn};
+    ghost use Rattle.vub_world.specs.MachineFront.{FrontFits, OneSmall, GuestSteps, GuestGoes, head_shown};
+    ghost use Rattle.vub_world.specs.Rooms.{HasTurnRoom, HasDrainRoom, Spends, SpendsAnswers, SpendsUpTo, SpendsTurn, SpendsStep};
     ghost use Rattle.vub_world.specs.Moments.{Moment, opening};
     ghost use Rattle.vub_world.specs.QueueState.{state_of};
     ghost use Rattle.vub_world.specs.Run.{Stands};

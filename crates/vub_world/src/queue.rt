@@ -3,13 +3,13 @@ ghost use Rattle.std.specs.Prelude.{◌≡◌, ◌<◌, ◌≤◌, ◌+◌, ℕ,
 ghost use Rattle.vub_split.specs.Split.{RingLies};
 ghost use Rattle.vub_world.specs.QueueParts.{element, is_taken, taken_count, without_heads, phase_fits};
 
-use vub_split::SplitRing;
 use crate::task::{Task, TaskStep};
 use std::alloc::Global;
 use vub_base::{Failed, Memory, RingFault, Tag};
 use vub_disk::Disk;
 use vub_ring::{Phase, Standing, Step, after_step, is_ready, next_step};
 use vub_shared::Shared;
+use vub_split::SplitRing;
 
 /// The kinds of turn. `Work(j)` is on the j-th unfinished request, from 0; `Publish(m)` publishes
 /// at most m of the completed ones; `Any` is the first of start, publication under way, fetch, work

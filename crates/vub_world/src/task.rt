@@ -15,10 +15,10 @@ ghost use Rattle.vub_world.specs.declared.task.TaskStep.TheVariants as answers;
 ghost use Rattle.vub_world.specs.declared.task.Work.TheVariants as work;
 
 use crate::chain::{Parts, Sectors, Span, Unread, lies_in, read_chain};
-use vub_split::SplitRing;
 use vub_base::{ChainFault, Failed, RingFault, Tag, get_u32, get_u64};
 use vub_disk::Disk;
 use vub_shared::Shared;
+use vub_split::SplitRing;
 
 /// What a step of a request was. A number is that of a sector.
 #[derive(Clone, Copy, Debug, PartialEq, Eq)]

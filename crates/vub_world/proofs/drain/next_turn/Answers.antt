@@ -5,12 +5,13 @@ use Rattle.vub_ring.specs.declared.readiness.Turn.{Turn}
 use Rattle.vub_shared.specs.Bytes.{Bytes}
 use Rattle.vub_shared.specs.Watched.{bytes_in, sizes_in}
 use Rattle.vub_world.specs.declared.queue.Stepped.{Stepped}
-use Rattle.vub_world.specs.MachineSteps.{Device, device, next_turn}
+use Rattle.vub_world.specs.MachineDevice.{Device, device}
+use Rattle.vub_world.specs.MachineDrain.{next_turn}
 use Rattle.vub_world.specs.Moments.{standing}
 use Rattle.vub_world.specs.QueueState.{QueueState, state_of, standing_at, waiting, turn_at, IsDue}
 use Rattle.vub_world.proofs.MachineTurns.{DeviceDoes}
 use Rattle.vub_world.proofs.MachineTurnsWork.{device_turns, work_chosen}
-use Rattle.vub_world.proofs.MachineTurnsNext.{reached_plain, reached_holds, no_fault, served_is, turn_same}
+use Rattle.vub_world.proofs.MachineTurnsNext.{reached_plain, reached_holds, never_fails, served_is, turn_same}
 use Rattle.vub_world.proofs.drain.next_turn.Goals as goal
 
 pub returns-clause-turns : goal.returns-clause-turns
@@ -25,7 +26,7 @@ returns-clause-turns c h r m log reached cap main room at numbered =
     let holds = reached_holds h m reached in
     let trails = c.turn.ensures.trails runs b refl in
     let does : DeviceDoes t h.capacity (sizes_in c.args.memory.now) d now x = record {
-      fine = no_fault t c.args.memory.now c.turn.new.mem x q c.requires.fresh trails c.turn.ensures.cause;
+      fine = never_fails t c.args.memory.now c.turn.new.mem x q c.requires.fresh trails c.turn.ensures.cause;
       served = served_is x c.turn.ensures.disk_cause;
       does = c.turn.ensures.does runs b refl;
       stores_are = c.turn.ensures.stores runs b refl;

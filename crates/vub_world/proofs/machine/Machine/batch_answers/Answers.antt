@@ -2,8 +2,8 @@ use Rattle.std.proofs.Common.{◌≡◌, ◌<◌, ◌≤◌, ◌+◌, ◌++◌, 
 use Rattle.vub_shared.specs.Watched.{bytes_in}
 use Rattle.vub_device.specs.declared.entry.Answered.{Answered}
 use Rattle.vub_world.specs.Logs.{slot_in}
-use Rattle.vub_world.specs.MachineSteps.{answer_for, answers_for, SpendsAnswers}
-use Rattle.vub_world.specs.Rooms.{RoomState}
+use Rattle.vub_world.specs.MachineDevice.{answer_for, answers_for}
+use Rattle.vub_world.specs.Rooms.{SpendsAnswers, RoomState}
 use Rattle.vub_world.specs.QueueState.{state_of}
 use Rattle.vub_world.proofs.MachineNotes.{head_of, no_head, answers_more, spends_more}
 use Rattle.vub_world.proofs.machine.Machine.batch_answers.Goals as goal

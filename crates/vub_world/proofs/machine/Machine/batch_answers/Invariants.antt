@@ -1,6 +1,7 @@
 use Rattle.std.proofs.Common.{◌≡◌, ◌≤◌, take, vec_capacity}
 use Rattle.vub_shared.specs.Watched.{bytes_in}
-use Rattle.vub_world.specs.MachineSteps.{answers_for, SpendsAnswers}
+use Rattle.vub_world.specs.MachineDevice.{answers_for}
+use Rattle.vub_world.specs.Rooms.{SpendsAnswers}
 use Rattle.vub_world.specs.QueueState.{state_of}
 use Rattle.vub_world.proofs.machine.Machine.batch_answers.Given as goal
 

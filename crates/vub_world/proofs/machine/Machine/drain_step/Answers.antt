@@ -4,9 +4,11 @@ use Rattle.vub_shared.specs.Watched.{stores_in}
 use Rattle.vub_world.specs.declared.machine.Machine.{Machine}
 use Rattle.vub_world.specs.declared.queue.Stepped.{Stepped}
 use Rattle.vub_world.specs.QueueState.{is_idle}
-use Rattle.vub_world.specs.MachineSteps.{next_turn, noted, shown_in, accepts}
+use Rattle.vub_world.specs.MachineDevice.{noted, shown_in, accepts}
+use Rattle.vub_world.specs.MachineDrain.{next_turn}
+use Rattle.vub_world.proofs.MachineBatches.{batch_fits, shows_some}
 use Rattle.vub_world.proofs.MachineTurnsNext.{reached_plain, reached_holds}
-use Rattle.vub_world.proofs.MachineTurnsDrain.{batch_fits, shows_some, same_items, step_ends, step_made, count_more, count_same}
+use Rattle.vub_world.proofs.MachineTurnsDrain.{same_items, step_ends, step_made, count_more, count_same}
 use Rattle.vub_world.proofs.machine.Machine.drain_step.Goals as goal
 use Rattle.vub_world.proofs.machine.Machine.drain_step.Goals.{then-matches, else-matches, in-Accepted, in_default}
 
@@ -14,7 +16,7 @@ pub answers-answers-requires-clause-fits : goal.answers-answers-requires-clause-
 answers-answers-requires-clause-fits c =
     let w : Machine = c.args.self.now in
     let s = c.requires.stands in
-    batch_fits w s.0 (reached_plain w.header s.0 s.1) (reached_holds w.header s.0 s.1).0 s.2
+    batch_fits w s.0 (reached_plain w.header s.0 s.1).good.size.small (reached_holds w.header s.0 s.1).0 s.2
 
 pub answers-answers-requires-clause-some : goal.answers-answers-requires-clause-some
 answers-answers-requires-clause-some c =

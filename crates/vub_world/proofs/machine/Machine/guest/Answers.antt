@@ -6,7 +6,7 @@ use Rattle.vub_world.specs.declared.report.items.Item.{Item}
 use Rattle.vub_world.specs.declared.machine.Machine.{Machine}
 use Rattle.vub_guest.specs.GuestState.{driver_in}
 use Rattle.vub_world.specs.MachineAt.{AskAt, MachineAt}
-use Rattle.vub_world.specs.MachineSteps.{GuestGoes}
+use Rattle.vub_world.specs.MachineFront.{GuestGoes}
 use Rattle.vub_world.specs.Moments.{Moment}
 use Rattle.vub_world.specs.Run.{played, guest}
 use Rattle.vub_world.proofs.MachineGuestFits.{front_fits}

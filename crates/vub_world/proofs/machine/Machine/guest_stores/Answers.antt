@@ -1,6 +1,6 @@
 use Rattle.std.proofs.Common.{subst, ◌∙◌, ◌≡◌, ℕ, arith, Bool}
 use Rattle.vub_world.proofs.MachineGuests.{GuestLoop, loop_begins, frame_more, loop_more, loop_last}
-use Rattle.vub_world.specs.MachineSteps.{GuestSteps, GuestGoes}
+use Rattle.vub_world.specs.MachineFront.{GuestSteps, GuestGoes}
 use Rattle.vub_world.proofs.machine.Machine.guest_stores.Goals as goal
 
 pub loop-done-init : goal.loop-done-init

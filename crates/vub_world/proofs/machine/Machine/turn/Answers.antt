@@ -1,7 +1,7 @@
 use Rattle.std.proofs.Common.{◌≡◌, ap, sym, ◌∙◌, subst, Some}
 use Rattle.vub_world.specs.declared.machine.Machine.{Machine}
 use Rattle.vub_world.specs.declared.queue.Queue.{Queue}
-use Rattle.vub_world.specs.MachineSteps.{next_turn}
+use Rattle.vub_world.specs.MachineDrain.{next_turn}
 use Rattle.vub_world.proofs.MachineTurnsNext.{reached_holds}
 use Rattle.vub_world.proofs.MachineTurnsAt.{with_queue, has_no_queue, HasQueue, turn_goes, turn_none, queue_lies_still, kept_room, kept_bytes}
 use Rattle.vub_world.proofs.machine.Machine.turn.Goals as goal

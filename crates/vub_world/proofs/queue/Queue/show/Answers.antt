@@ -9,7 +9,8 @@ use Rattle.vub_ring.specs.Rows.{Row, row}
 use Rattle.vub_ring.specs.Steps.{next_step, after_step}
 use Rattle.vub_world.specs.declared.queue.Queue.{Queue}
 use Rattle.vub_world.specs.declared.queue.Stepped.TheVariants as says
-use Rattle.vub_world.specs.QueueState.{QueueState, state_of, used_side, next_row, moved, with_phase}
+use Rattle.vub_split.specs.Split.{used_side}
+use Rattle.vub_world.specs.QueueState.{QueueState, state_of, next_row, moved, with_phase}
 use Rattle.vub_world.proofs.QueueLemmas.{index_ends, length_batch, row_of_index, failed_row, failed_trail, made_row, made_trail, moves_if}
 use Rattle.vub_world.proofs.queue.Queue.show.Goals as goal
 

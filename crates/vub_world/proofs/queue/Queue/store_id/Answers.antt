@@ -10,7 +10,8 @@ use Rattle.vub_world.specs.declared.queue.Queue.{Queue}
 use Rattle.vub_world.specs.declared.queue.Completed.{Completed}
 use Rattle.vub_world.specs.declared.queue.Stepped.TheVariants as says
 use Rattle.vub_world.specs.QueueParts.{element}
-use Rattle.vub_world.specs.QueueState.{state_of, used_side, next_row}
+use Rattle.vub_split.specs.Split.{used_side}
+use Rattle.vub_world.specs.QueueState.{state_of, next_row}
 use Rattle.vub_world.proofs.QueueLemmas.{id_within, count_fits, length_batch, row_of_id, failed_row, failed_trail, made_row, made_trail, moves_if}
 use Rattle.vub_world.proofs.queue.Queue.store_id.Goals as goal
 

@@ -8,6 +8,14 @@ pub returns : goal.returns
 returns c =
     let now : Machine = c.event.follows.lender-at-none in
     let x = c.event.follows.holds-at-none in
-    let is = c.self.view_is in
-    ((refl, (λ w. tt), (x.2 ∙ ap (λ (w : Machine). w.header) is,
-    subst (λ (w : Machine). MatchResult c.event.result (λ r. (r.now.event ≡ c.args.event.now) × StandsOn w now c.args.event.now r.now) (λ e. now ≡ w)) is x.3)), record { after = tt })
+    let is = c.self.view_is in (
+      (
+        refl,
+        (λ w. tt),
+        (
+          x.2 ∙ ap (λ (w : Machine). w.header) is,
+          subst (λ (w : Machine). MatchResult c.event.result (λ r. (r.now.event ≡ c.args.event.now) × StandsOn w now c.args.event.now r.now) (λ e. now ≡ w)) is x.3,
+        ),
+      ),
+      record { after = tt },
+    )
