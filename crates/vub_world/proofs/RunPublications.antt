@@ -177,7 +177,7 @@ read_answer h past heads m batch completed made phase k sector c x =
     let read : IsRead (asked past 0 k) = subst (λ (o : Option Asked). IsRead o) (sym x.is) tt in (
       ap (look_at (asks.Read sector c)) looked ∙ looks_end sector c,
       answer_bytes_are h past heads m batch completed made phase k (asks.Read sector c) x
-      ∙ read_stands m (sectors_place (buffer heads k)) (512 * c) (seen past 0 k) long (λ i low. x.stored.sectors k i is_open (record { small = omega (arith, low, few); put = omega (arith, low, enough); looked = omega (arith, low, long) }) read),
+          ∙ read_stands m (sectors_place (buffer heads k)) (512 * c) (seen past 0 k) long (λ i low. x.stored.sectors k i is_open (record { small = omega (arith, low, few); put = omega (arith, low, enough); looked = omega (arith, low, long) }) read),
     )
 
 write_answer : (h : Header1) (past : List Entry) (heads : List ℕ) (m : Bytes) (batch completed : List ℕ) (made : ℕ → ℕ) (phase : Phase) (k sector : ℕ) (bytes : List ℕ) → h.mode ≡ Back → IsShown h past heads m batch completed made phase k (asks.Write sector bytes)
