@@ -87,7 +87,7 @@ queue_batch_fits h r m q log small good at numbered i x found =
         let out : IsOut past heads k = open_out h.size h.capacity past heads k holds.known (holds.worked.opens k among) in
         let below : slice_index heads k < h.size = holds.driven.below k out in
         let slot : (slot_in log x.0).reads ≡ reads_of (asked past 0 k) = ap (λ (d : ℕ). (slot_in log d).reads) head ∙ ap (λ (o : Outstanding). o.reads) (numbered.slots k out.below out.kept) in
-        let few : reads_of (asked past 0 k) ≤ 8 = few_reads h.capacity (asked past 0 k) (holds.known.simple k out.below) in
+        let few : reads_of (asked past 0 k) ≤ 8 = few_reads h.capacity (asked past 0 k) (holds.known.wide k out.below) in
         (omega (arith, below, head, small), omega (arith, slot, few))
 
 pub batch_fits : (w : Machine) (m : Moment) → w.header.size ≤ 64 → Good w.header m → MachineAt w m → BatchFits w.log (batch_in w.life)

@@ -1,4 +1,4 @@
--- What is noted of the driver's stores has room: they are small, and a request writes one sector.
+-- What is noted of the driver's stores has room: they are small.
 use Rattle.std.proofs.Common.{◌≡◌, ◌≤◌, ℕ, ◌+◌, ◌%◌, List, [], ◌∷◌, ◌++◌, length, refl, sym, subst, arith}
 use Rattle.std.specs.Prelude.{Option, Some, None}
 use Rattle.std.specs.List.{AllByRecursion}
@@ -8,8 +8,8 @@ use Rattle.vub_base.specs.declared.request.Ask.TheVariants as wants
 use Rattle.vub_shared.specs.Stores.{Store, one_store}
 use Rattle.vub_driver.specs.Layout.{status_place, sectors_place}
 use Rattle.vub_driver.specs.Drivers.{Driver, Waiting}
-use Rattle.vub_driver.specs.Requests.{Piece, readable_piece, writable_piece, written_bytes, has_data, descriptor_bytes}
-use Rattle.vub_driver.specs.Stores.{store_of_some, offer_stores, request_stores}
+use Rattle.vub_driver.specs.Requests.{Piece, readable_piece, writable_piece, written_bytes, has_data}
+use Rattle.vub_driver.specs.Stores.{store_of_some, request_stores}
 use Rattle.vub_world.specs.declared.machine.Machine.{Machine}
 use Rattle.vub_world.specs.ChainState.{data_of}
 use Rattle.vub_world.specs.MachineAt.{AskAt, MachineAt, IsStanding}
@@ -18,8 +18,8 @@ use Rattle.vub_world.specs.Moments.{Moment}
 use Rattle.vub_world.specs.Run.{Stands, request_of}
 use Rattle.vub_world.proofs.RunGood.{the_ring, IsWide, IsWaiting, WaitsWell}
 use Rattle.vub_world.proofs.RunFrames.{length_little}
-use Rattle.vub_world.proofs.RunChains.{table_place, buffer_at, chain_of, desc_long}
-use Rattle.vub_world.proofs.RunChainsStores.{header_long, linked}
+use Rattle.vub_world.proofs.RunChains.{buffer_at, chain_of, desc_long}
+use Rattle.vub_world.proofs.RunChainsStores.{header_long, linked, linked_two}
 use Rattle.vub_world.proofs.RunChainsTurns.{IsPrepared, PreparedWell}
 use Rattle.vub_world.proofs.RunChainsEvents.{ChainedAt, stands_chained}
 use Rattle.vub_world.proofs.RunTurns.{Good}
@@ -54,7 +54,7 @@ linked_small n index head body status p = (
 )
 
 two_small : (n index head status : ℕ)
-    → Small (one_store 0 (table_place head) (descriptor_bytes (readable_piece (buffer_at head) 16) 1 status) ∷ one_store 0 (table_place status) (descriptor_bytes (writable_piece (status_place (buffer_at head)) 1) 0 0) ∷ offer_stores (the_ring n) index head)
+    → Small (linked_two n index head status)
 two_small n index head status = (
   record { space = refl; few = omega (arith, desc_long (readable_piece (buffer_at head) 16) 1 status) },
   (
@@ -118,4 +118,4 @@ front_fits w standing = record {
         let v : Driver = (m.lanes 0).driver in
         let waits : IsWaiting h.size h.capacity m.scene.past (m.scene.heads 0) v x = subst (λ (o : Option Waiting). WaitsWell h.size h.capacity m.scene.past (m.scene.heads 0) v o) e good.holds.driven.waits in
         let ready : IsPrepared h.size v x = subst (λ (o : Option Waiting). PreparedWell h.size v o) e chained.waits in
-        subst (λ (sts : List Store). Small sts) (sym ready.stores) (stores_small h.size h.capacity v.avail_idx x.head ready.body ready.status x.ask waits.simple)
+        subst (λ (sts : List Store). Small sts) (sym ready.stores) (stores_small h.size h.capacity v.avail_idx x.head ready.body ready.status x.ask waits.wide)

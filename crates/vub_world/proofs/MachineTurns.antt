@@ -283,7 +283,7 @@ answers_same h r m log d y a off =
     let out : IsOut past heads k = open_out h.size h.capacity past heads k a.good.holds.known (a.good.holds.worked.opens k done) in
     let head : ℕ = slice_index heads k in
     ap (λ (o : Outstanding). answer_for o m.scene.memory head) (a.numbered.slots k out.below out.kept)
-    ∙ answer_same h.capacity (asked past 0 k) m.scene.memory y.store.place y.store.bytes k head (a.good.holds.known.simple k out.below) off (a.good.holds.stored.status k done))
+    ∙ answer_same h.capacity (asked past 0 k) m.scene.memory y.store.place y.store.bytes k head (a.good.holds.known.wide k out.below) off (a.good.holds.stored.status k done))
 
 -- which answers a turn notes
 shown_is : (log : Log) (m : Bytes) (q : QueueState) → ShowsNext q → shown_of log m q ≡ answers_for log m q.batch

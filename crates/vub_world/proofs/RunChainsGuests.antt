@@ -14,7 +14,7 @@ use Rattle.vub_shared.proofs.BytesLemmas.{word-put_same}
 use Rattle.vub_ring.specs.Ring.{avail_idx, avail_entry_place, avail_idx_place, last_head}
 use Rattle.vub_driver.specs.Layout.{status_place, sectors_place}
 use Rattle.vub_driver.specs.Drivers.{Driver, Waiting}
-use Rattle.vub_driver.specs.Requests.{Piece, readable_piece, writable_piece, written_bytes, has_data, descriptor_bytes}
+use Rattle.vub_driver.specs.Requests.{Piece, readable_piece, writable_piece, written_bytes, has_data}
 use Rattle.vub_driver.specs.Stores.{store_of_some, offer_stores, request_stores}
 use Rattle.vub_device.specs.declared.entry.Asked.{Asked}
 use Rattle.vub_device.specs.declared.entry.Entry.{Entry}
@@ -29,7 +29,7 @@ use Rattle.vub_world.proofs.RunFrames.{keeps, length_little, entry_small}
 use Rattle.vub_world.proofs.RunGuests.{IsGood}
 use Rattle.vub_world.proofs.RunOffers.{same_head, new_head, same_asked, new_asked}
 use Rattle.vub_world.proofs.RunChains.{table_place, buffer_at, chain_of, HasChain, IsOff, Spares, chain_kept, desc_long}
-use Rattle.vub_world.proofs.RunChainsStores.{put_all, handed_fits, header_long, stores_make, linked}
+use Rattle.vub_world.proofs.RunChainsStores.{put_all, handed_fits, header_long, stores_make, linked, linked_two}
 use Rattle.vub_world.proofs.RunChainsTurns.{IsLinked, IsPrepared, Chained, ring_spares, buffer_spares}
 
 -- ---- where the stores of a request are
@@ -69,7 +69,7 @@ linked_mine n index owner head body status p size fh fb fs mh mb ms =
 
 -- those of a request without data
 two_mine : (n index : ℕ) (owner : ℕ → Option ℕ) (head status : ℕ) → IsSize n → head < 64 → status < 64 → owner head ≡ Some head → owner status ≡ Some head
-    → AreMine owner head (one_store 0 (table_place head) (descriptor_bytes (readable_piece (buffer_at head) 16) 1 status) ∷ one_store 0 (table_place status) (descriptor_bytes (writable_piece (status_place (buffer_at head)) 1) 0 0) ∷ offer_stores (the_ring n) index head)
+    → AreMine owner head (linked_two n index head status)
 two_mine n index owner head status size fh fs mh ms =
     let low = entry_small n index size in
     let e : length (little_bytes 2 head) ≡ 2 = length_little 2 head in
@@ -188,7 +188,7 @@ guest_chained h s v w good few known driven waits ready c =
     let shows : last_head (the_ring n) m ≡ w.head = ap (last_head (the_ring n)) from_offer ∙ offered_head n v.avail_idx w.head (put_all plan.first s.memory) good.size index (omega (arith, waits.below)) in
     let up : w.head < ready.body = ready.up in
     let within : ready.body ≤ ready.status = ready.within in
-    let wide : IsWide h.capacity (Some r) = waits.simple in
+    let wide : IsWide h.capacity (Some r) = waits.wide in
     let fits : ready.status < n = ready.fits in
     let all : AreMine v.owner w.head w.left = subst (λ (sts : List Store). AreMine v.owner w.head sts) (sym ready.stores)
     (stores_mine n h.capacity v.avail_idx v.owner w.head ready.body ready.status w.ask good.size wide waits.below (omega arith) fits waits.mine ready.body_mine ready.status_mine) in
@@ -205,7 +205,7 @@ guest_chained h s v w good few known driven waits ready c =
             let below : slice_index (s.heads 0) k < n = driven.below k out_k in
             let fb : was.body < n = was.body_fits in
             let fs : was.status < n = was.status_fits in
-            let simple : IsWide h.capacity (Some was.request) = subst (λ (o : Option Asked). IsWide h.capacity o) was.is (known.simple k low) in
+            let simple : IsWide h.capacity (Some was.request) = subst (λ (o : Option Asked). IsWide h.capacity o) was.is (known.wide k low) in
             subst (λ (x : ℕ). IsLinked n v.owner m x (asked past 0 k)) (sym (same_head (s.heads 0) w.head k low)) (record {
               body = was.body;
               status = was.status;

@@ -140,7 +140,7 @@ linked_means sizes r n cap owner m head o ring size low wide l = go (has_body l.
 pub moment_means : (h : Header1) (m : Moment) (sizes : ℕ → ℕ) (r : SplitRing) (k : ℕ) → IsPlain h → Good h m → ChainedAt h m → IsFirstRing sizes r h.size → IsOut m.scene.past (m.scene.heads 0) k
     → Meant sizes r m.scene.memory (slice_index (m.scene.heads 0) k) (asked m.scene.past 0 k)
 moment_means h m sizes r k plain good c ring out =
-    linked_means sizes r h.size h.capacity (m.lanes 0).driver.owner m.scene.memory (slice_index (m.scene.heads 0) k) (asked m.scene.past 0 k) ring plain.good.size (good.holds.driven.below k out) (good.holds.known.simple k out.below) (c.linked k out)
+    linked_means sizes r h.size h.capacity (m.lanes 0).driver.owner m.scene.memory (slice_index (m.scene.heads 0) k) (asked m.scene.past 0 k) ring plain.good.size (good.holds.driven.below k out) (good.holds.known.wide k out.below) (c.linked k out)
 
 -- a request that isn't published isn't collected
 pub unpublished_out : (h : Header1) (m : Moment) (k : ℕ) → k < length (m.scene.heads 0) → is_among (published m.scene.past 0) k ≡ false → IsOut m.scene.past (m.scene.heads 0) k

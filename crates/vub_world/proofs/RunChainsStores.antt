@@ -112,7 +112,7 @@ chain_made n cap index head body status r m size wide some up upper fits front =
     flags_small (asks.Zero parts) = omega arith
 
 -- two descriptors and the offer
-abbrev linked_two : ℕ → ℕ → ℕ → ℕ → List Store
+abbrev pub linked_two : ℕ → ℕ → ℕ → ℕ → List Store
 linked_two n index head status =
     one_store 0 (table_place head) (descriptor_bytes (readable_piece (buffer_at head) 16) 1 status)
     ∷ one_store 0 (table_place status) (descriptor_bytes (writable_piece (status_place (buffer_at head)) 1) 0 0)

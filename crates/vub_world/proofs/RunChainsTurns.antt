@@ -1,9 +1,9 @@
 -- A turn leaves the chain of each offered request.
-use Rattle.std.proofs.Common.{◌≡◌, ◌≢◌, ◌≤◌, ◌<◌, ℕ, zero, suc, ◌+◌, ◌-◌, ◌*◌, ◌/◌, ◌%◌, Bool, true, false, not, cond, List, [], ◌∷◌, ◌++◌, length, map, refl, ap, sym, ◌∙◌, subst, inl, inr, arith}
-use Rattle.std.specs.Prelude.{Option, Some, None, ⊤, slice_index, slice_get, slice_range, drop, option_map}
+use Rattle.std.proofs.Common.{◌≡◌, ◌≢◌, ◌≤◌, ◌<◌, ℕ, zero, suc, ◌+◌, ◌*◌, ◌/◌, ◌%◌, Bool, true, false, not, cond, List, [], ◌∷◌, ◌++◌, length, map, refl, ap, sym, ◌∙◌, subst, inl, inr, arith}
+use Rattle.std.specs.Prelude.{Option, Some, None, ⊤, slice_index, slice_get, slice_range, option_map}
 use Rattle.byteorder.specs.Endian.{little_bytes}
 use Rattle.std.proofs.lemmas.Bool.{cases_lt, cases_eq}
-use Rattle.std.proofs.lemmas.List.{take-append-le, length-take}
+use Rattle.std.proofs.lemmas.List.{take-append-le}
 use Rattle.vub_base.specs.declared.header.Header1.{Header1}
 use Rattle.vub_base.specs.declared.store.Tag.TheVariants.{SP1, SP2}
 use Rattle.vub_shared.specs.Bytes.{Bytes}
@@ -35,6 +35,7 @@ use Rattle.vub_world.proofs.RunGood.{the_ring, IsWide, IsOut, Holds, buffer}
 use Rattle.vub_world.proofs.RunFrames.{entry_small, open_out, length_little}
 use Rattle.vub_world.proofs.RunGuests.{IsGood, stored_at}
 use Rattle.vub_world.proofs.RunSteps.{WideCases, AtRead, AtWrite, AtFlush, wide_cases, wide_steps, ReadAt, ToLook, ToPut, ToReply, read_at, read_over, WriteAt, ToAct, ToEnd, write_at, write_over}
+use Rattle.vub_world.proofs.RunWork.{sector_few}
 use Rattle.vub_world.proofs.RunTurns.{IsPlain, Good}
 use Rattle.vub_world.proofs.RunChains.{buffer_at, chain_of, HasChain, Spares, chain_kept}
 use Rattle.vub_world.proofs.RunChainsStores.{handed_fits}
@@ -113,7 +114,7 @@ store_gentle h s l p bs x spares = record {
   same = λ k. refl;
   out = λ k o. o;
   chain = λ k body status r out fb fs is held.
-      let simple : IsWide h.capacity (Some r) = subst (λ (o : Option Asked). IsWide h.capacity o) is (x.known.simple k out.below) in
+      let simple : IsWide h.capacity (Some r) = subst (λ (o : Option Asked). IsWide h.capacity o) is (x.known.wide k out.below) in
       chain_kept s.memory (slice_index (s.heads 0) k) body status r p bs (spares k body status r out (x.driven.below k out) fb fs is simple) held;
 }
 
@@ -207,16 +208,13 @@ own_status cap head body status r byte fh fb fs simple =
 own_read : (head body status sector c p : ℕ) (bs : List ℕ) → head < 64 → body < 64 → status < 64 → sectors_place (buffer_at head) ≤ p → Spares head body status (asks.Read sector c) p bs
 own_read head body status sector c p bs fh fb fs at = record { first = inl (omega arith); middle = inl (omega arith); last = inl (omega arith); header = inl (omega arith); handed = inl (omega arith) }
 
-few_in_range : (xs : List ℕ) (q : ℕ) → length (slice_range xs (512 * q) (512 * q + 512)) ≤ 512
-few_in_range xs q = omega (arith, length-take (512 * q + 512 - 512 * q) (drop (512 * q) xs))
-
 put_gentle : (h : Header1) (s : Scene) (l : Lane) (k sector c q : ℕ) → IsGood h → Holds h s l → IsOpen s.past 0 k → asked s.past 0 k ≡ Some (asks.Read sector c) → q < 8
     → IsGentle h.size s (stored_at (sectors_place (buffer (s.heads 0) k) + 512 * q) (slice_range (seen s.past 0 k) (512 * q) (512 * q + 512)) s)
 put_gentle h s l k sector c q good x is_open is_k low =
     let small : h.size ≤ 64 = good.size.small in
     let bs : List ℕ = slice_range (seen s.past 0 k) (512 * q) (512 * q + 512) in
     let p : ℕ = sectors_place (buffer (s.heads 0) k) + 512 * q in
-    let few : length bs ≤ 512 = few_in_range (seen s.past 0 k) q in
+    let few : length bs ≤ 512 = sector_few (seen s.past 0 k) q in
     let out_k = open_out h.size h.capacity s.past (s.heads 0) k x.known is_open in
     store_gentle h s l p bs x (λ j body status r out fh fb fs is simple. elim (cases_eq j k) [
       | inl same ↦
@@ -251,7 +249,7 @@ sync_gentle n s k = record { heads = refl; same = λ j. refl; out = λ j o. reco
 request_gentle : (h : Header1) (s : Scene) (l : Lane) (k : ℕ) → IsPlain h → Holds h s l → IsOpen s.past 0 k → IsGentle h.size s (after_items h.size (request_turn h 0 s l k (asked s.past 0 k)).items s)
 request_gentle h s l k plain x is_open =
     let low : k < length (s.heads 0) = omega (arith, is_open.taken, x.known.offered) in
-    go (wide_cases h.capacity (asked s.past 0 k) (x.known.simple k low))
+    go (wide_cases h.capacity (asked s.past 0 k) (x.known.wide k low))
   where
     Gentle : Asked → Option TaskStep → Type 0
     Gentle r o = IsGentle h.size s (after_items h.size (task_turn h 0 s l k r o).items s)

@@ -76,7 +76,7 @@ waits_on_still h s l x k None t w = tt
 waits_on_still h s l x k (Some y) t w =
     let apart : slice_index (s.heads 0) (next_number s) ≢ y.head = w.apart (next_number s) (next_out h s l x t) in
     let differs : y.head ≢ x = λ same. apart (sym t.head ∙ sym same) in record {
-      simple = w.simple;
+      wide = w.wide;
       below = w.below;
       mine = ap (λ (o : Option ℕ). cond (is_that x o) None o) w.mine ∙ (let out : (y.head == x) ≡ false = grind (arith, nat_tests) in ap (λ (b : Bool). cond {A = Option ℕ} b None (Some y.head)) out);
       apart = λ j out. w.apart j (later_out h s l x j k t out).0;
@@ -141,7 +141,7 @@ taken_holds h s l x k t =
         fewer = a.fewer;
         room = omega (arith, a.room);
         good = a.good;
-        simple = a.simple;
+        wide = a.wide;
         unfaulted = a.unfaulted;
         values = a.values;
       };

@@ -64,7 +64,7 @@ pub record Known (n cap : ℕ) (past : List Entry) (heads : List ℕ) : Type 0 w
   pub fewer : length (published past 0) ≤ accepted past 0
   pub room : length heads ≤ n + collected past 0
   pub good : AllByRecursion (λ (a : Answered). a.status ≡ 0) (answers past 0)
-  pub simple : (k : ℕ) → k < length heads → IsWide cap (asked past 0 k)
+  pub wide : (k : ℕ) → k < length heads → IsWide cap (asked past 0 k)
   pub unfaulted : (k : ℕ) → faulted past 0 k ≡ false
   pub values : (s : ℕ) → length (value past s) ≡ 512
 
@@ -100,7 +100,7 @@ pub record IsPlan (n index head : ℕ) (left : List Store) : Type 0 where
   pub whole : left ≡ first ++ offer_stores (the_ring n) index head
 
 pub record IsWaiting (n cap : ℕ) (past : List Entry) (heads : List ℕ) (v : Driver) (w : Waiting) : Type 0 where
-  pub simple : IsWide cap (Some (request_of w.ask))
+  pub wide : IsWide cap (Some (request_of w.ask))
   pub below : w.head < n
   pub mine : v.owner w.head ≡ Some w.head
   pub apart : (k : ℕ) → IsOut past heads k → slice_index heads k ≢ w.head

@@ -76,8 +76,8 @@ offer_known n cap past heads r h known simple room =
       fewer = known.fewer;
       room = omega (arith, longer, room);
       good = known.good;
-      simple = λ k l. elim (cases_lt k (length heads)) [
-        | inl low ↦ subst (λ (o : Option Asked). IsWide cap o) (sym (same_asked past r k (omega (arith, known.offers_are)))) (known.simple k low)
+      wide = λ k l. elim (cases_lt k (length heads)) [
+        | inl low ↦ subst (λ (o : Option Asked). IsWide cap o) (sym (same_asked past r k (omega (arith, known.offers_are)))) (known.wide k low)
         | inr high ↦ subst (λ (o : Option Asked). IsWide cap o) (sym (new_asked past r k (omega (arith, longer, known.offers_are)))) simple
       ];
       unfaulted = known.unfaulted;

@@ -60,7 +60,7 @@ start_holds h s l list stopped x = record {
     fewer = x.known.fewer;
     room = x.known.room;
     good = x.known.good;
-    simple = x.known.simple;
+    wide = x.known.wide;
     unfaulted = λ k. refl;
     values = x.known.values;
   };
@@ -125,7 +125,7 @@ accept_holds h s l k more x = record {
     fewer = omega (arith, x.known.fewer);
     room = x.known.room;
     good = x.known.good;
-    simple = x.known.simple;
+    wide = x.known.wide;
     unfaulted = x.known.unfaulted;
     values = x.known.values;
   };

@@ -61,7 +61,7 @@ pub batch_open : (h : Header1) (s : Scene) (l : Lane) (done k : ℕ) → IsUnder
 batch_open h s l done k x held = x.holds.worked.opens k (in_batch h s l done k x held)
 
 batch_wide : (h : Header1) (s : Scene) (l : Lane) (done k : ℕ) → IsUnderWay h s l done → is_among l.batch k ≡ true → IsWide h.capacity (asked s.past 0 k)
-batch_wide h s l done k x held = (x.holds.known.simple k (omega (arith, (batch_open h s l done k x held).taken, x.holds.known.offered)))
+batch_wide h s l done k x held = (x.holds.known.wide k (omega (arith, (batch_open h s l done k x held).taken, x.holds.known.offered)))
 
 -- ---- the stores of elements
 

@@ -79,7 +79,7 @@ shown_known h x s l done u =
       fewer = omega (arith, many, room);
       room = known.room;
       good = good_append (answers s.past 0) (shown_list h x s l) known.good (good_map (answer_at 0 (shown_scene h x s)) l.batch (λ k held. st.status k (in_batch h s l done k u held)));
-      simple = known.simple;
+      wide = known.wide;
       unfaulted = known.unfaulted;
       values = known.values;
     }

@@ -3,7 +3,7 @@ use Rattle.std.proofs.Common.{◌≡◌, ◌≢◌, ◌≤◌, ◌<◌, ◌⊎�
 use Rattle.std.specs.Prelude.{Option, Some, None, slice_index, slice_get, slice_range, drop, ◌||◌, unwrap_or}
 use Rattle.std.proofs.lemmas.Bool.Decides.{nat_tests}
 use Rattle.std.proofs.lemmas.Bool.{cases_eq, cases_lt}
-use Rattle.std.proofs.lemmas.List.{length-take-le, length-drop, get_or-take, get_or-drop, get_or_append_left}
+use Rattle.std.proofs.lemmas.List.{length-take, length-take-le, length-drop, get_or-take, get_or-drop, get_or_append_left}
 use Rattle.vub_base.specs.declared.header.CacheMode.TheVariants.{Back}
 use Rattle.vub_base.specs.declared.header.Header1.{Header1}
 use Rattle.vub_shared.specs.Bytes.{Bytes, put, word}
@@ -44,7 +44,7 @@ use Rattle.vub_world.proofs.RunGuests.{IsGood, stored_at, holds_track}
 waits_same : (n cap : ℕ) (past past' : List Entry) (heads : List ℕ) (v : Driver) (o : Option Waiting) → ((k : ℕ) → IsOut past' heads k → IsOut past heads k) → WaitsWell n cap past heads v o → WaitsWell n cap past' heads v o
 waits_same n cap past past' heads v None out w = tt
 waits_same n cap past past' heads v (Some x) out w = record {
-  simple = w.simple;
+  wide = w.wide;
   below = w.below;
   mine = w.mine;
   apart = λ k o. w.apart k (out k o);
@@ -122,7 +122,7 @@ look_known n cap past heads k s v a = record {
   fewer = a.fewer;
   room = a.room;
   good = a.good;
-  simple = a.simple;
+  wide = a.wide;
   unfaulted = a.unfaulted;
   values = a.values;
 }
@@ -317,7 +317,7 @@ act_known n cap past heads k s v long a = record {
   fewer = a.fewer;
   room = a.room;
   good = a.good;
-  simple = a.simple;
+  wide = a.wide;
   unfaulted = a.unfaulted;
   values = λ t. let old : length (value past t) ≡ 512 = a.values t in elim (cases_eq s t) [
     | inl same ↦ ap length (let now : value (entries.Act 0 k s v ∷ past) t ≡ v = grind (arith, nat_tests) in now) ∙ long
@@ -379,6 +379,9 @@ sector_long xs p fits =
     let wide : 512 * p + 512 - 512 * p ≡ 512 = omega arith in
     length-take-le (512 * p + 512 - 512 * p) (drop (512 * p) xs) (omega (arith, length-drop (512 * p) xs)) ∙ wide
 
+pub sector_few : (xs : List ℕ) (p : ℕ) → length (slice_range xs (512 * p) (512 * p + 512)) ≤ 512
+sector_few xs p = omega (arith, length-take (512 * p + 512 - 512 * p) (drop (512 * p) xs))
+
 pub sector_byte : (xs : List ℕ) (p i : ℕ) → i < 512 → slice_index (slice_range xs (512 * p) (512 * p + 512)) i ≡ slice_index xs (512 * p + i)
 sector_byte xs p i low = get_or-take (512 * p + 512 - 512 * p) (drop (512 * p) xs) i 0 (omega arith) ∙ get_or-drop (512 * p) xs i 0
 
@@ -429,7 +432,7 @@ sync_known n cap past heads k a = record {
   fewer = a.fewer;
   room = a.room;
   good = a.good;
-  simple = a.simple;
+  wide = a.wide;
   unfaulted = a.unfaulted;
   values = a.values;
 }
@@ -729,7 +732,7 @@ pub request_fine : (h : Header1) (s : Scene) (l : Lane) (k : ℕ) → IsLeft h s
 request_fine h s l k x =
     let known : Known h.size h.capacity s.past (s.heads 0) = x.holds.known in
     let low : k < length (s.heads 0) = omega (arith, x.is_open.taken, known.offered) in
-    go (wide_cases h.capacity (asked s.past 0 k) (known.simple k low)) (x.holds.worked.pending k x.is_open x.left)
+    go (wide_cases h.capacity (asked s.past 0 k) (known.wide k low)) (x.holds.worked.pending k x.is_open x.left)
   where
     go : WideCases h.capacity (asked s.past 0 k) → IsPending (l.made k) (asked s.past 0 k) → Fine h s l (request_turn h 0 s l k (asked s.past 0 k))
     go (AtRead sector c wide is) pending =

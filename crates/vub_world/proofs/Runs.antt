@@ -40,7 +40,7 @@ none_known n cap some = record {
   fewer = omega arith;
   room = omega arith;
   good = tt;
-  simple = λ k low. absurd (omega arith);
+  wide = λ k low. absurd (omega arith);
   unfaulted = λ k. refl;
   values = λ s. length_zeros;
 }

@@ -1,6 +1,6 @@
 -- What a step of work shows, what it leaves of memory, and what it leaves of the disk.
-use Rattle.std.proofs.Common.{◌≡◌, ◌≢◌, ◌≤◌, ◌<◌, ℕ, ◌+◌, ◌-◌, ◌*◌, ◌/◌, List, [], ◌∷◌, ◌++◌, length, refl, ap, sym, ◌∙◌, subst, inl, inr, arith, length-take}
-use Rattle.std.specs.Prelude.{Option, Some, None, ⊤, slice_range, drop}
+use Rattle.std.proofs.Common.{◌≡◌, ◌≢◌, ◌≤◌, ◌<◌, ℕ, ◌+◌, ◌*◌, ◌/◌, List, [], ◌∷◌, ◌++◌, length, refl, ap, sym, ◌∙◌, subst, inl, inr, arith}
+use Rattle.std.specs.Prelude.{Option, Some, None, ⊤, slice_range}
 use Rattle.std.specs.List.{AllByRecursion}
 use Rattle.std.proofs.lemmas.Bool.Decides.{nat_tests}
 use Rattle.std.proofs.lemmas.Bool.{cases_eq}
@@ -44,6 +44,7 @@ use Rattle.vub_world.proofs.RunNumbers.{among_get}
 use Rattle.vub_world.proofs.RunGood.{IsWide, IsOut, IsPending}
 use Rattle.vub_world.proofs.RunFrames.{open_out}
 use Rattle.vub_world.proofs.RunSteps.{look_is, effect_is}
+use Rattle.vub_world.proofs.RunWork.{sector_few}
 use Rattle.vub_world.proofs.RunTurns.{IsPlain, Good}
 use Rattle.vub_world.proofs.WorkAt.{WorkReady, making, making_of, unfinished_open, Kind, kind_of}
 
@@ -79,7 +80,7 @@ pub work_kind : (h : Header1) (sizes : ℕ → ℕ) (m : Moment) (q : QueueState
 work_kind h sizes m q place w plain good =
     let is_out : IsOut m.scene.past (m.scene.heads 0) w.k = open_out h.size h.capacity m.scene.past (m.scene.heads 0) w.k good.holds.known w.is_open in
     let where_open = unfinished_open m place w.k w.at in
-    let wide : IsWide h.capacity (Some w.request) = subst (λ (o : Option Asked). IsWide h.capacity o) w.is (good.holds.known.simple w.k is_out.below) in
+    let wide : IsWide h.capacity (Some w.request) = subst (λ (o : Option Asked). IsWide h.capacity o) w.is (good.holds.known.wide w.k is_out.below) in
     let pending : IsPending ((m.lanes 0).made w.k) (Some w.request) = subst (λ (o : Option Asked). IsPending ((m.lanes 0).made w.k) o) w.is (good.holds.worked.pending w.k where_open.0 where_open.1) in
     kind_of h w.request ((m.lanes 0).made w.k) w.step plain.back wide pending w.due.next.next
 
@@ -90,9 +91,6 @@ ShowsAt h m q v k task links request step =
 show_look : (h : Header1) (m : Moment) (q : QueueState) (v : Values) (k : ℕ) (task : Task) (links : Links) (sector c p : ℕ) → p < c → v (sector + p) ≡ value m.scene.past (sector + p) → ShowsAt h m q v k task links (asks.Read sector c) (Look p)
 show_look h m q v k task links sector c p low held = (refl, ap (look_items 0 k m.scene.past) (look_is sector c p low) ∙ ap (λ (bs : List ℕ). items.Made (entries.Look 0 k (sector + p) bs) ∷ []) (sym held))
 
-few_in_range : (xs : List ℕ) (p : ℕ) → length (slice_range xs (512 * p) (512 * p + 512)) ≤ 512
-few_in_range xs p = omega (arith, length-take (512 * p + 512 - 512 * p) (drop (512 * p) xs))
-
 show_put : (h : Header1) (m : Moment) (q : QueueState) (v : Values) (k : ℕ) (task : Task) (links : Links) (sector c p : ℕ) → q.ring.desc.0.number ≡ 0 → sector_at q task.head ≡ slice_range (seen m.scene.past 0 k) (512 * p) (512 * p + 512)
     → ShowsAt h m q v k task links (asks.Read sector c) (Put p)
 show_put h m q v k task links sector c p space held =
@@ -102,7 +100,7 @@ show_put h m q v k task links sector c p space held =
       record {
         place = place;
         bytes = bs;
-        few = few_in_range (seen m.scene.past 0 k) p;
+        few = sector_few (seen m.scene.past 0 k) p;
         due = ap (λ (t : ℕ). Some (one_store t place (sector_at q task.head))) space ∙ ap (λ (xs : List ℕ). Some (one_store 0 place xs)) held;
         items = refl;
       },
