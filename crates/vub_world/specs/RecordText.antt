@@ -147,6 +147,15 @@ entry_text (entries.Start q numbers) = at_queue (codes "start ") q (listed decim
 entry_text (entries.Collect q k) = at_queue (codes "collect ") q (decimal k)
 entry_text (entries.Power sectors) = codes "power " ++ listed sector_text sectors
 
+-- ---- histories
+
+unfoldable pub entry_line : Entry → List ℕ
+entry_line entry = line (entry_text entry)
+
+-- entries, a line each
+abbrev pub entries_spelling : List Entry → List ℕ
+entries_spelling entries = flat_map entry_line entries
+
 -- ---- records
 
 abbrev pub item_text : Item → List ℕ

@@ -3,4 +3,4 @@ mod items;
 mod text;
 
 pub use items::{Item, Items, Record};
-pub use text::{head_text, put_record, record_text};
+pub use text::{head_text, put_entries, put_record, record_text};

@@ -1,20 +1,29 @@
--- One record more, or a part of one.
-use Rattle.std.proofs.Common.{◌≡◌, ℕ, ◌<◌, ◌+◌, List, [], ◌∷◌, ◌++◌, take, length, get_or, sym, ap, ◌∙◌, subst, Option}
+-- What a command writes of one record more, or a part of it.
+use Rattle.std.proofs.Common.{◌≡◌, ℕ, ◌<◌, ◌+◌, List, [], ◌∷◌, ◌++◌, take, length, get_or, sym, ap, ◌∙◌, subst, append_assoc, Option}
 use Rattle.std.proofs.lemmas.List.{take_more, append-nil}
 use Rattle.std.proofs.lemmas.Grind.{flat_map-append}
+use Rattle.std.specs.List.{flat_map}
 use Rattle.vub_base.specs.declared.header.Header1.{Header1}
 use Rattle.vub_schedule.specs.declared.types.Event.{Event}
 use Rattle.vub_world.specs.declared.machine.Machine.{Machine}
 use Rattle.vub_world.specs.declared.report.items.Record.{Record}
 use Rattle.vub_world.specs.LegalRuns.{IsLegalRun}
 use Rattle.vub_world.specs.MachineAt.{StandsFor, StandsOn, GoesOn}
-use Rattle.vub_world.specs.RecordText.{record_spelling}
+use Rattle.vub_world.specs.RecordText.{record_spelling, entry_line, entries_spelling}
+use Rattle.vub_world.specs.Tracking.{entries_of, history_of}
 use Rattle.vublk.specs.Flows.{Wrote, WrotePart}
-use Rattle.vublk.specs.Records.{records_text}
+use Rattle.vublk.specs.Records.{piece_of, records_text}
+use Rattle.vublk.specs.declared.words.Command.{Command}
+use Rattle.vublk.specs.declared.words.Command.TheVariants.{Replay, Entries}
 use Rattle.vublk.proofs.Streams.{Wrote-then, Part-then}
 
-records_text-more : (rs : List Record) (r : Record) → records_text (rs ++ r ∷ []) ≡ records_text rs ++ record_spelling r
-records_text-more rs r = flat_map-append record_spelling rs (r ∷ []) ∙ ap (λ (t : List ℕ). records_text rs ++ t) (append-nil (record_spelling r))
+history-more : (rs : List Record) (r : Record) → history_of (rs ++ r ∷ []) ≡ history_of rs ++ entries_of r.items
+history-more [] r = append-nil (entries_of r.items)
+history-more (x ∷ rs) r = ap (λ es. entries_of x.items ++ es) (history-more rs r) ∙ sym (append_assoc (entries_of x.items) (history_of rs) (entries_of r.items))
+
+records_text-more : (c : Command) (rs : List Record) (r : Record) → records_text c (rs ++ r ∷ []) ≡ records_text c rs ++ piece_of c r
+records_text-more Replay rs r = flat_map-append record_spelling rs (r ∷ []) ∙ ap (λ (t : List ℕ). flat_map record_spelling rs ++ t) (append-nil (record_spelling r))
+records_text-more Entries rs r = ap (λ es. entries_spelling es) (history-more rs r) ∙ flat_map-append entry_line (history_of rs) (entries_of r.items)
 
 -- a world after the first so many events, with their records
 pub record IsPlayed (h : Header1) (w : Machine) (events : List Event) (rs : List Record) : Type 0 where
@@ -31,17 +40,17 @@ played_more h w now events i e rs r lt is same so on =
       runs = subst (λ (k : Header1). IsLegalRun k (take (i + 1) events) (rs ++ r ∷ [])) same (subst (λ (es : List Event). IsLegalRun w.header es (rs ++ r ∷ [])) at went.runs);
     }
 
-pub Whole-more : (h : Header1) (w now : Machine) (events : List Event) (i : ℕ) (e : Event) (rs : List Record) (r : Record) (a b c : Option (List ℕ))
-    → i < length events → e ≡ get_or events i e → w.header ≡ h → IsPlayed h w (take i events) rs → StandsOn w now e r → Wrote a b (records_text rs) → Wrote b c (record_spelling r)
-    → (rs : List Record) × IsPlayed h now (take (i + 1) events) rs × Wrote a c (records_text rs)
-Whole-more h w now events i e rs r a b c lt is same so on wrote next =
-    (rs ++ r ∷ [], played_more h w now events i e rs r lt is same so on, rw (records_text-more rs r) (Wrote-then a b c (records_text rs) (record_spelling r) wrote next))
+pub Whole-more : (c : Command) (h : Header1) (w now : Machine) (events : List Event) (i : ℕ) (e : Event) (rs : List Record) (r : Record) (before at after : Option (List ℕ))
+    → i < length events → e ≡ get_or events i e → w.header ≡ h → IsPlayed h w (take i events) rs → StandsOn w now e r → Wrote before at (records_text c rs) → Wrote at after (piece_of c r)
+    → (rs : List Record) × IsPlayed h now (take (i + 1) events) rs × Wrote before after (records_text c rs)
+Whole-more c h w now events i e rs r before at after lt is same so on wrote next =
+    (rs ++ r ∷ [], played_more h w now events i e rs r lt is same so on, rw (records_text-more c rs r) (Wrote-then before at after (records_text c rs) (piece_of c r) wrote next))
 
-pub Part-more : (h : Header1) (w now : Machine) (events : List Event) (i : ℕ) (e : Event) (rs : List Record) (r : Record) (a b c : Option (List ℕ))
-    → i < length events → e ≡ get_or events i e → w.header ≡ h → IsPlayed h w (take i events) rs → StandsOn w now e r → Wrote a b (records_text rs) → WrotePart b c (record_spelling r)
-    → (n : ℕ) × (rs : List Record) × IsLegalRun h (take n events) rs × WrotePart a c (records_text rs)
-Part-more h w now events i e rs r a b c lt is same so on wrote part =
-    (i + 1, rs ++ r ∷ [], (played_more h w now events i e rs r lt is same so on).runs, rw (records_text-more rs r) (Part-then a b c (records_text rs) (record_spelling r) wrote part))
+pub Part-more : (c : Command) (h : Header1) (w now : Machine) (events : List Event) (i : ℕ) (e : Event) (rs : List Record) (r : Record) (before at after : Option (List ℕ))
+    → i < length events → e ≡ get_or events i e → w.header ≡ h → IsPlayed h w (take i events) rs → StandsOn w now e r → Wrote before at (records_text c rs) → WrotePart at after (piece_of c r)
+    → (n : ℕ) × (rs : List Record) × IsLegalRun h (take n events) rs × WrotePart before after (records_text c rs)
+Part-more c h w now events i e rs r before at after lt is same so on wrote part =
+    (i + 1, rs ++ r ∷ [], (played_more h w now events i e rs r lt is same so on).runs, rw (records_text-more c rs r) (Part-then before at after (records_text c rs) (piece_of c r) wrote part))
 
 -- no event was played
 pub none_played : (h : Header1) (w : Machine) → StandsFor w [] [] → IsPlayed h w [] []

@@ -4,6 +4,7 @@ use Rattle.vub_schedule.specs.Spelling.{IsText}
 use Rattle.vub_schedule.specs.Faults.{IsFirstBad}
 use Rattle.vub_schedule.proofs.Texts.{not_spelled}
 use Rattle.vublk.specs.Flows.{input_limit}
+use Rattle.vublk.specs.declared.words.Command.{Command}
 use Rattle.vublk.specs.declared.replay.End.{End}
 use Rattle.vublk.specs.declared.replay.End.TheVariants.{Done, Memory, ReadFault, WriteFault, BadLine, TooLong}
 use Rattle.vublk.specs.Ends.{Replays, status_of}
@@ -38,32 +39,32 @@ fault_4 wanted = inr (inr (inl refl))
 abbrev fault_5 : (wanted : ℕ) → IsUnlessFault wanted 5
 fault_5 wanted = inr (inr (inr refl))
 
-plays_of : (text : List ℕ) (after old new : Option (List ℕ)) (e : End) → Replays (Some text) after old new e → IsText text → length text ≤ input_limit → IsUnlessFault 0 (status_of e)
-plays_of text after old new Done p is fits = inl refl
-plays_of text after old new Memory p is fits = fault_3 0
-plays_of text after old new ReadFault p is fits = fault_4 0
-plays_of text after old new WriteFault p is fits = fault_5 0
-plays_of text after old new (BadLine n) p is fits = absurd (not_spelled p.0 n is.0 p.3.0 is.1 (sym p.1.0 ∙ is.2))
-plays_of text after old new TooLong p is fits = absurd (omega (arith, p.1, fits))
+plays_of : (c : Command) (text : List ℕ) (after old new : Option (List ℕ)) (e : End) → Replays c (Some text) after old new e → IsText text → length text ≤ input_limit → IsUnlessFault 0 (status_of e)
+plays_of c text after old new Done p is fits = inl refl
+plays_of c text after old new Memory p is fits = fault_3 0
+plays_of c text after old new ReadFault p is fits = fault_4 0
+plays_of c text after old new WriteFault p is fits = fault_5 0
+plays_of c text after old new (BadLine n) p is fits = absurd (not_spelled p.0 n is.0 p.3.0 is.1 (sym p.1.0 ∙ is.2))
+plays_of c text after old new TooLong p is fits = absurd (omega (arith, p.1, fits))
 
-finds_of : (text : List ℕ) (after old new : Option (List ℕ)) (e : End) (n : ℕ) → Replays (Some text) after old new e → IsFirstBad text n → length text ≤ input_limit → IsUnlessFault 6 (status_of e)
-finds_of text after old new Done n p bad fits = absurd (not_spelled text n p.3.0 bad p.3.1 (p.1.0 ∙ p.3.2))
-finds_of text after old new Memory n p bad fits = fault_3 6
-finds_of text after old new ReadFault n p bad fits = fault_4 6
-finds_of text after old new WriteFault n p bad fits = fault_5 6
-finds_of text after old new (BadLine m) n p bad fits = inl refl
-finds_of text after old new TooLong n p bad fits = absurd (omega (arith, p.1, fits))
+finds_of : (c : Command) (text : List ℕ) (after old new : Option (List ℕ)) (e : End) (n : ℕ) → Replays c (Some text) after old new e → IsFirstBad text n → length text ≤ input_limit → IsUnlessFault 6 (status_of e)
+finds_of c text after old new Done n p bad fits = absurd (not_spelled text n p.3.0 bad p.3.1 (p.1.0 ∙ p.3.2))
+finds_of c text after old new Memory n p bad fits = fault_3 6
+finds_of c text after old new ReadFault n p bad fits = fault_4 6
+finds_of c text after old new WriteFault n p bad fits = fault_5 6
+finds_of c text after old new (BadLine m) n p bad fits = inl refl
+finds_of c text after old new TooLong n p bad fits = absurd (omega (arith, p.1, fits))
 
-at : (left after old new : Option (List ℕ)) (e : End) (text : List ℕ) → Replays left after old new e → left ≡ Some text → Replays (Some text) after old new e
-at left after old new e text p told = subst (λ (l : Option (List ℕ)). Replays l after old new e) told p
+at : (c : Command) (left after old new : Option (List ℕ)) (e : End) (text : List ℕ) → Replays c left after old new e → left ≡ Some text → Replays c (Some text) after old new e
+at c left after old new e text p told = subst (λ (l : Option (List ℕ)). Replays c l after old new e) told p
 
-pub plays : (left after old new : Option (List ℕ)) (e : End) (status : ℕ) → status ≡ status_of e → Replays left after old new e
+pub plays : (c : Command) (left after old new : Option (List ℕ)) (e : End) (status : ℕ) → status ≡ status_of e → Replays c left after old new e
     → (text : List ℕ) → left ≡ Some text → IsText text → length text ≤ input_limit → IsUnlessFault 0 status
-plays left after old new e status same p text told is fits = rw same (plays_of text after old new e (at left after old new e text p told) is fits)
+plays c left after old new e status same p text told is fits = rw same (plays_of c text after old new e (at c left after old new e text p told) is fits)
 
-pub finds : (left after old new : Option (List ℕ)) (e : End) (status : ℕ) → status ≡ status_of e → Replays left after old new e
+pub finds : (c : Command) (left after old new : Option (List ℕ)) (e : End) (status : ℕ) → status ≡ status_of e → Replays c left after old new e
     → (text : List ℕ) → left ≡ Some text → (n : ℕ) → IsFirstBad text n → length text ≤ input_limit → IsUnlessFault 6 status
-finds left after old new e status same p text told n bad fits = rw same (finds_of text after old new e n (at left after old new e text p told) bad fits)
+finds c left after old new e status same p text told n bad fits = rw same (finds_of c text after old new e n (at c left after old new e text p told) bad fits)
 
 pub completes : (e : End) (status : ℕ) (Read Write : Type 0) → status ≡ status_of e → IsUnlessFault 0 status → (e ≡ ReadFault → Read) → (e ≡ WriteFault → Write) → (Read → ⊥) → (Write → ⊥) → (status ≡ 0) ⊎ (status ≡ 3)
 completes e status Read Write same (inl z) read write no_read no_write = inl z

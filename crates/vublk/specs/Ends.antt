@@ -1,13 +1,14 @@
--- How a replay may end, and what it has read and written by then.
+-- How a command on a schedule may end, and what it has read and written by then.
 use Rattle.std.specs.Prelude.{◌≡◌, ℕ, ◌≤◌, List, [], ◌∷◌, ◌++◌, length, take, codes, Option, ◌⊎◌}
 use Rattle.std.specs.Fmt.{decimal}
 use Rattle.vub_schedule.specs.declared.types.Schedule.{Schedule}
 use Rattle.vub_schedule.specs.Spelling.{IsSchedule, spelling}
 use Rattle.vub_schedule.specs.Faults.{IsFirstBad}
 use Rattle.vub_world.specs.declared.report.items.Record.{Record}
-use Rattle.vub_world.specs.RecordText.{run_spelling}
 use Rattle.vublk.specs.Flows.{TookAll, Wrote, WrotePart, IsPastLimit, input_limit}
 use Rattle.vub_world.specs.LegalRuns.{IsLegalRun}
+use Rattle.vublk.specs.Records.{written}
+use Rattle.vublk.specs.declared.words.Command.{Command}
 use Rattle.vublk.specs.declared.replay.End.{End}
 use Rattle.vublk.specs.declared.replay.End.TheVariants.{Done, Memory, ReadFault, WriteFault, BadLine, TooLong}
 
@@ -16,26 +17,26 @@ bad_line_text n = codes "bad line " ++ decimal n ++ 10 ∷ []
 
 -- ---- what a schedule prints
 
--- the head line and the records of a run of all events, whose history is legal and tracked
-abbrev pub PrintsAll : Schedule → Option (List ℕ) → Option (List ℕ) → Type 0
-PrintsAll s old new = (records : List Record) × IsLegalRun s.header s.events records × Wrote old new (run_spelling s.header records)
+-- what the command writes of a run of all events, whose history is legal and tracked
+abbrev pub PrintsAll : Command → Schedule → Option (List ℕ) → Option (List ℕ) → Type 0
+PrintsAll c s old new = (records : List Record) × IsLegalRun s.header s.events records × Wrote old new (written c s.header records)
 
 -- the same of a run of the first events
-abbrev pub PrintsSome : Schedule → Option (List ℕ) → Option (List ℕ) → Type 0
-PrintsSome s old new = (n : ℕ) × (records : List Record) × IsLegalRun s.header (take n s.events) records × Wrote old new (run_spelling s.header records)
+abbrev pub PrintsSome : Command → Schedule → Option (List ℕ) → Option (List ℕ) → Type 0
+PrintsSome c s old new = (n : ℕ) × (records : List Record) × IsLegalRun s.header (take n s.events) records × Wrote old new (written c s.header records)
 
 -- a front of such a text
-abbrev pub PrintsPart : Schedule → Option (List ℕ) → Option (List ℕ) → Type 0
-PrintsPart s old new = (n : ℕ) × (records : List Record) × IsLegalRun s.header (take n s.events) records × WrotePart old new (run_spelling s.header records)
+abbrev pub PrintsPart : Command → Schedule → Option (List ℕ) → Option (List ℕ) → Type 0
+PrintsPart c s old new = (n : ℕ) × (records : List Record) × IsLegalRun s.header (take n s.events) records × WrotePart old new (written c s.header records)
 
 -- at each end of a schedule's run
-abbrev pub Prints : Schedule → Option (List ℕ) → Option (List ℕ) → End → Type 0
-Prints s old new Done = PrintsAll s old new
-Prints s old new Memory = (new ≡ old) ⊎ PrintsSome s old new
-Prints s old new WriteFault = PrintsPart s old new
-Prints s old new ReadFault = ⊥
-Prints s old new (BadLine n) = ⊥
-Prints s old new TooLong = ⊥
+abbrev pub Prints : Command → Schedule → Option (List ℕ) → Option (List ℕ) → End → Type 0
+Prints c s old new Done = PrintsAll c s old new
+Prints c s old new Memory = (new ≡ old) ⊎ PrintsSome c s old new
+Prints c s old new WriteFault = PrintsPart c s old new
+Prints c s old new ReadFault = ⊥
+Prints c s old new (BadLine n) = ⊥
+Prints c s old new TooLong = ⊥
 
 -- the ends of printing a bad line
 abbrev pub IsBadEnd : ℕ → End → Type 0
@@ -56,14 +57,14 @@ Spelled text P = (s : Schedule) × IsSchedule s × (text ≡ spelling s) × P s
 abbrev pub Bad : List ℕ → ℕ → (List ℕ → Type 0) → Type 0
 Bad text n P = IsFirstBad text n × P (bad_line_text n)
 
--- at each end of a text's replay
-abbrev pub Plays : List ℕ → Option (List ℕ) → Option (List ℕ) → End → Type 0
-Plays text old new Done = Spelled text (λ s. PrintsAll s old new)
-Plays text old new Memory = (new ≡ old) ⊎ Spelled text (λ s. PrintsSome s old new)
-Plays text old new WriteFault = Spelled text (λ s. PrintsPart s old new) ⊎ ((n : ℕ) × Bad text n (WrotePart old new))
-Plays text old new (BadLine n) = Bad text n (Wrote old new)
-Plays text old new ReadFault = ⊥
-Plays text old new TooLong = ⊥
+-- at each end of the command on a text
+abbrev pub Plays : Command → List ℕ → Option (List ℕ) → Option (List ℕ) → End → Type 0
+Plays c text old new Done = Spelled text (λ s. PrintsAll c s old new)
+Plays c text old new Memory = (new ≡ old) ⊎ Spelled text (λ s. PrintsSome c s old new)
+Plays c text old new WriteFault = Spelled text (λ s. PrintsPart c s old new) ⊎ ((n : ℕ) × Bad text n (WrotePart old new))
+Plays c text old new (BadLine n) = Bad text n (Wrote old new)
+Plays c text old new ReadFault = ⊥
+Plays c text old new TooLong = ⊥
 
 -- ---- what a source gives
 
@@ -71,14 +72,14 @@ Plays text old new TooLong = ⊥
 abbrev pub ReadWhole : Option (List ℕ) → Option (List ℕ) → (List ℕ → Type 0) → Type 0
 ReadWhole left after P = (text : List ℕ) × TookAll left after text × (length text ≤ input_limit) × P text
 
--- at each end of a replay: what was left before and is left after, and what the sink held and holds
-abbrev pub Replays : Option (List ℕ) → Option (List ℕ) → Option (List ℕ) → Option (List ℕ) → End → Type 0
-Replays left after old new Done = ReadWhole left after (λ text. Plays text old new Done)
-Replays left after old new Memory = (new ≡ old) ⊎ ReadWhole left after (λ text. Plays text old new Memory)
-Replays left after old new ReadFault = new ≡ old
-Replays left after old new WriteFault = ReadWhole left after (λ text. Plays text old new WriteFault)
-Replays left after old new (BadLine n) = ReadWhole left after (λ text. Plays text old new (BadLine n))
-Replays left after old new TooLong = (new ≡ old) × IsPastLimit left
+-- at each end of the command: what was left before and is left after, and what the sink held and holds
+abbrev pub Replays : Command → Option (List ℕ) → Option (List ℕ) → Option (List ℕ) → Option (List ℕ) → End → Type 0
+Replays c left after old new Done = ReadWhole left after (λ text. Plays c text old new Done)
+Replays c left after old new Memory = (new ≡ old) ⊎ ReadWhole left after (λ text. Plays c text old new Memory)
+Replays c left after old new ReadFault = new ≡ old
+Replays c left after old new WriteFault = ReadWhole left after (λ text. Plays c text old new WriteFault)
+Replays c left after old new (BadLine n) = ReadWhole left after (λ text. Plays c text old new (BadLine n))
+Replays c left after old new TooLong = (new ≡ old) × IsPastLimit left
 
 abbrev pub status_of : End → ℕ
 status_of Done = 0

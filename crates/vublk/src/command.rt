@@ -1,17 +1,18 @@
 //! The command line.
-ghost use Rattle.std.specs.Prelude.{◌≡◌, ◌+◌, ◌<◌, ◌≤◌, ◌↔◌, ◌⊎◌, ℕ, length, IsTrue, codes, string_bytes};
+ghost use Rattle.std.specs.Prelude.{◌≡◌, ◌+◌, ◌<◌, ◌≤◌, ◌⊎◌, ℕ, length};
 ghost use Rattle.vub_base.specs.Causes.{Rose};
 ghost use Rattle.vub_base.specs.Told.{WhereTold};
 ghost use Rattle.vub_schedule.specs.Spelling.{IsText};
 ghost use Rattle.vub_schedule.specs.Faults.{IsFirstBad};
 ghost use Rattle.vublk.specs.Flows.{Wrote, WrotePart, TakesAtMost, input_limit};
-ghost use Rattle.vublk.specs.Words.{IsReplay, usage_text};
+ghost use Rattle.vublk.specs.Words.{IsCommand, IsAccepted, Asks, usage_text};
 ghost use Rattle.vublk.specs.Ends.{Replays, status_of};
 ghost use Rattle.vublk.specs.Statuses.{IsUnlessFault, Refuses};
 ghost use Rattle.vublk.specs.declared.replay.End.{End as Ended};
 
 use crate::printing::put;
 use crate::replay::{End, replay};
+use crate::words::{Command, command_of};
 use std::alloc::Global;
 use vub_base::{Bell, Sink, Source};
 use vub_disk::Disk;
@@ -19,21 +20,6 @@ use vub_shared::Shared;
 
 const USAGE: &[u8] =
     b"usage: vublk replay|entries|bulk SEED COUNT|inspect FORMAT SIZE WORD|serve [--read-only] IMAGE NAME..\n";
-
-fn is_word(word: &String) -> bool
-    ensures { IsTrue result ↔ (string_bytes word.now ≡ codes "replay") }
-{
-    word.as_str() == "replay"
-}
-
-fn is_replay(words: &[String]) -> bool
-    ensures { IsTrue result ↔ IsReplay words.now }
-{
-    match words {
-        [word] => is_word(word),
-        _ => false,
-    }
-}
 
 fn status(end: End) -> u8
     ensures { result ≡ status_of end }
@@ -48,10 +34,22 @@ fn status(end: End) -> u8
     }
 }
 
+/// Writes the usage line.
+fn refuse<O: Sink>(out: &mut O) -> u8
+    ensures refuses { Refuses result (O.held out.old) (O.held out.new) }
+    ensures failed { result ≡ 5 → Rose (O.faults out.old) (O.faults out.new) }
+{
+    match put(out, USAGE) {
+        Ok(()) => 2,
+        Err(_) => 5,
+    }
+}
+
 /// All that the program does. `words` are those after its name, and the answer is its exit status.
 ///
-/// `replay` reads a schedule from `input` and writes its records to `out`. All other words are
-/// refused with the usage line. The regions, the disk and the bell are left as they are.
+/// `replay` reads a schedule from `input` and writes the records of its run to `out`, `entries` only
+/// the history of the same run. All other words are refused with the usage line. The regions, the
+/// disk and the bell are left as they are.
 ///
 /// | Status | |
 /// |---|---|
@@ -71,35 +69,35 @@ pub fn run<I: Source, O: Sink, M: Shared, D: Disk, B: Bell>(
     disk: &mut D,
     bell: &mut B,
 ) -> u8
-    // 0: the input spells a schedule and was read to its end, and the sink grew by the head line
-    // and the records of all its events.
-    ensures done { result ≡ 0 → IsReplay words.now × Replays (I.left input.old) (I.left input.new) (O.held out.old) (O.held out.new) End.Done }
+    // 0: the input spells a schedule and was read to its end, and the sink grew by what the command
+    // writes of a run of it.
+    ensures done { result ≡ 0 → Asks words.now (λ c. Replays c (I.left input.old) (I.left input.new) (O.held out.old) (O.held out.new) End.Done) }
     // 2: the words aren't accepted, and the sink grew by the usage line.
-    ensures usage { result ≡ 2 → (IsReplay words.now → ⊥) × Wrote (O.held out.old) (O.held out.new) usage_text }
-    // 3: the sink grew by the head line and the records of the first events, or not at all.
-    ensures memory { result ≡ 3 → IsReplay words.now × Replays (I.left input.old) (I.left input.new) (O.held out.old) (O.held out.new) End.Memory }
+    ensures usage { result ≡ 2 → (IsAccepted words.now → ⊥) × Wrote (O.held out.old) (O.held out.new) usage_text }
+    // 3: the sink grew by what the command writes of a run of the first events, or not at all.
+    ensures memory { result ≡ 3 → Asks words.now (λ c. Replays c (I.left input.old) (I.left input.new) (O.held out.old) (O.held out.new) End.Memory) }
     // 4: the source failed, and the sink is as it was.
-    ensures read { result ≡ 4 → IsReplay words.now × Rose (I.faults input.old) (I.faults input.new) × (O.held out.new ≡ O.held out.old) }
+    ensures read { result ≡ 4 → IsAccepted words.now × Rose (I.faults input.old) (I.faults input.new) × (O.held out.new ≡ O.held out.old) }
     // 5: the sink failed, and grew by a front of what was to be written.
     ensures write { result ≡ 5 → Rose (O.faults out.old) (O.faults out.new) ×
-        ((IsReplay words.now × Replays (I.left input.old) (I.left input.new) (O.held out.old) (O.held out.new) End.WriteFault)
-        ⊎ ((IsReplay words.now → ⊥) × WrotePart (O.held out.old) (O.held out.new) usage_text)) }
+        (Asks words.now (λ c. Replays c (I.left input.old) (I.left input.new) (O.held out.old) (O.held out.new) End.WriteFault)
+        ⊎ ((IsAccepted words.now → ⊥) × WrotePart (O.held out.old) (O.held out.new) usage_text)) }
     // 6: the sink grew by the line that names the first bad line of the input.
-    ensures bad { result ≡ 6 → IsReplay words.now × ((n : ℕ) × Replays (I.left input.old) (I.left input.new) (O.held out.old) (O.held out.new) (End.BadLine n)) }
+    ensures bad { result ≡ 6 → Asks words.now (λ c. (n : ℕ) × Replays c (I.left input.old) (I.left input.new) (O.held out.old) (O.held out.new) (End.BadLine n)) }
     // 10: the input is too long, and the sink is as it was.
-    ensures long { result ≡ 10 → IsReplay words.now × Replays (I.left input.old) (I.left input.new) (O.held out.old) (O.held out.new) End.TooLong }
-    // With accepted words a replay comes to one of its ends, and the status is that of the end.
-    ensures accepted { IsReplay words.now → (e : Ended) × (result ≡ status_of e) × Replays (I.left input.old) (I.left input.new) (O.held out.old) (O.held out.new) e }
+    ensures long { result ≡ 10 → Asks words.now (λ c. Replays c (I.left input.old) (I.left input.new) (O.held out.old) (O.held out.new) End.TooLong) }
+    // With the words of a command it comes to one of its ends, and the status is that of the end.
+    ensures accepted { (c : Command) → IsCommand c words.now → (e : Ended) × (result ≡ status_of e) × Replays c (I.left input.old) (I.left input.new) (O.held out.old) (O.held out.new) e }
     // With all other words the usage line was written, or a front of it where the sink failed.
-    ensures refused { (IsReplay words.now → ⊥) → Refuses result (O.held out.old) (O.held out.new) × (input.new ≡ input.old) }
+    ensures refused { (IsAccepted words.now → ⊥) → Refuses result (O.held out.old) (O.held out.new) × (input.new ≡ input.old) }
     // A schedule is played to its end,
-    ensures plays { IsReplay words.now → WhereTold (I.left input.old) (λ text. IsText text → length text ≤ input_limit → IsUnlessFault 0 result) }
+    ensures plays { IsAccepted words.now → WhereTold (I.left input.old) (λ text. IsText text → length text ≤ input_limit → IsUnlessFault 0 result) }
     // a bad line is found,
-    ensures finds { IsReplay words.now → WhereTold (I.left input.old) (λ text. (n : ℕ) → IsFirstBad text n → length text ≤ input_limit → IsUnlessFault 6 result) }
+    ensures finds { IsAccepted words.now → WhereTold (I.left input.old) (λ text. (n : ℕ) → IsFirstBad text n → length text ≤ input_limit → IsUnlessFault 6 result) }
     // and an input that is too long is refused, but for want of memory and earlier faults.
-    ensures measures { IsReplay words.now → WhereTold (I.left input.old) (λ text. input_limit < length text → IsUnlessFault 10 result) }
+    ensures measures { IsAccepted words.now → WhereTold (I.left input.old) (λ text. input_limit < length text → IsUnlessFault 10 result) }
     // Where neither the source nor the sink fails, a schedule is played to its end but for want of memory.
-    ensures completes { IsReplay words.now → WhereTold (I.left input.old) (λ text. IsText text → length text ≤ input_limit
+    ensures completes { IsAccepted words.now → WhereTold (I.left input.old) (λ text. IsText text → length text ≤ input_limit
         → (Rose (I.faults input.old) (I.faults input.new) → ⊥) → (Rose (O.faults out.old) (O.faults out.new) → ⊥) → (result ≡ 0) ⊎ (result ≡ 3)) }
     // At each status no more than one byte past the limit was taken from the source.
     ensures taken { TakesAtMost (input_limit + 1) (I.left input.old) (I.left input.new) }
@@ -107,11 +105,8 @@ pub fn run<I: Source, O: Sink, M: Shared, D: Disk, B: Bell>(
     ensures disk { disk.new ≡ disk.old }
     ensures bell { bell.new ≡ bell.old }
 {
-    if is_replay(words) {
-        status(replay(alloc, input, out))
-    } else if put(out, USAGE).is_ok() {
-        2
-    } else {
-        5
+    match command_of(words) {
+        Some(command) => status(replay(alloc, command, input, out)),
+        None => refuse(out),
     }
 }

@@ -1,4 +1,5 @@
-//! `vublk`, a vhost-user block backend. Its command `replay` runs a schedule and prints its records.
+//! `vublk`, a vhost-user block backend. Its command `replay` runs a schedule and prints its records,
+//! `entries` prints the history of the same run.
 #![tactic(auto)]
 
 mod command;
@@ -8,6 +9,7 @@ mod reading;
 mod replay;
 #[cfg(test)]
 mod tests;
+mod words;
 
 use edge::{FileSink, FileSource, NoBell};
 use std::alloc::{AllocError, Global};

@@ -1,21 +1,21 @@
-//! Prints the records of a run, each as it is made.
-ghost use Rattle.std.specs.Prelude.{◌≡◌, ◌≤◌, ◌++◌, [], List, ℕ, take, OnOk, OnErr, IsErrOf};
+//! Prints what a command writes of a run, each record's part as it is made.
+ghost use Rattle.std.specs.Prelude.{◌≡◌, ◌≤◌, ◌++◌, [], List, ℕ, take, IfOk, OnOk, OnErr, IsErrOf};
 ghost use Rattle.std.specs.List.{AllByRecursion};
 ghost use Rattle.vub_base.specs.Causes.{Rose};
 ghost use Rattle.vub_schedule.specs.Spelling.{IsEvent};
 ghost use Rattle.vub_world.specs.declared.report.items.Record.{Record};
-ghost use Rattle.vub_world.specs.RecordText.{head_spelling, record_spelling};
 ghost use Rattle.vub_world.specs.LegalRuns.{IsLegalRun};
 ghost use Rattle.vub_world.specs.MachineAt.{StandsFor, StandsOn};
 ghost use Rattle.vub_world.specs.World.{header_in};
 ghost use Rattle.vublk.specs.Flows.{Wrote, WrotePart};
-ghost use Rattle.vublk.specs.Records.{records_text};
+ghost use Rattle.vublk.specs.Records.{head_of, piece_of, records_text};
 
+use crate::words::Command;
 use std::alloc::Global;
-use vub_base::{Header1, Sink};
+use vub_base::{Header1, Memory, Sink};
 use vub_schedule::Event;
 use vub_world::World;
-use vub_world::report::{head_text, put_record};
+use vub_world::report::{Record, head_text, put_entries, put_record};
 
 /// Why a run stopped.
 #[derive(Clone, Copy, Debug, PartialEq, Eq)]
@@ -26,7 +26,7 @@ pub enum PrintFault {
     Failed,
 }
 
-/// Writes a text.
+/// Writes a text, where it isn't empty.
 pub fn put<O: Sink>(out: &mut O, text: &[u8]) -> Result<(), PrintFault>
     ensures ok { OnOk result (Wrote (O.held out.old) (O.held out.new) text.now) }
     ensures part { OnErr result (WrotePart (O.held out.old) (O.held out.new) text.now) }
@@ -34,24 +34,58 @@ pub fn put<O: Sink>(out: &mut O, text: &[u8]) -> Result<(), PrintFault>
     ensures failed { OnErr result (Rose (O.faults out.old) (O.faults out.new)) }
     ensures only { IsErrOf result PrintFault.Memory → ⊥ }
 {
+    if text.is_empty() {
+        return Ok(());
+    }
     out.write(text).map_err(|_| PrintFault::Failed)
 }
 
-/// Prints the head line.
-pub fn print_head<O: Sink>(alloc: Global, header: &Header1, out: &mut O) -> Result<(), PrintFault>
-    ensures ok { OnOk result (Wrote (O.held out.old) (O.held out.new) (head_spelling header.now)) }
+/// What the command writes before all records.
+fn head(alloc: Global, command: Command, header: &Header1) -> Result<Vec<u8>, Memory>
+    ensures { IfOk result (λ v. v.items ≡ head_of command header.now) }
+{
+    match command {
+        Command::Replay => head_text(alloc, header),
+        Command::Entries => Ok(Vec::new(alloc)),
+    }
+}
+
+/// Appends what the command writes of a record.
+fn put_piece(
+    alloc: Global,
+    command: Command,
+    text: &mut Vec<u8>,
+    made: &Record,
+) -> Result<(), Memory>
+    ensures { OnOk result (text.new.items ≡ text.old.items ++ piece_of command made.now) }
+{
+    match command {
+        Command::Replay => put_record(alloc, text, made),
+        Command::Entries => put_entries(text, made),
+    }
+}
+
+/// Prints what the command writes before all records.
+pub fn print_head<O: Sink>(
+    alloc: Global,
+    command: Command,
+    header: &Header1,
+    out: &mut O,
+) -> Result<(), PrintFault>
+    ensures ok { OnOk result (Wrote (O.held out.old) (O.held out.new) (head_of command header.now)) }
     ensures memory { IsErrOf result PrintFault.Memory → O.held out.new ≡ O.held out.old }
-    ensures part { IsErrOf result PrintFault.Failed → WrotePart (O.held out.old) (O.held out.new) (head_spelling header.now) }
+    ensures part { IsErrOf result PrintFault.Failed → WrotePart (O.held out.old) (O.held out.new) (head_of command header.now) }
     ensures later { O.faults out.old ≤ O.faults out.new }
     ensures failed { IsErrOf result PrintFault.Failed → Rose (O.faults out.old) (O.faults out.new) }
 {
-    let text = head_text(alloc, header).map_err(|_| PrintFault::Memory)?;
+    let text = head(alloc, command, header).map_err(|_| PrintFault::Memory)?;
     put(out, &text)
 }
 
-/// Plays an event and prints its record. `text` is used for the record's text.
+/// Plays an event and prints what the command writes of its record. `text` is used for it.
 fn print_next<O: Sink>(
     alloc: Global,
+    command: Command,
     world: &mut World,
     event: &Event,
     text: &mut Vec<u8>,
@@ -59,9 +93,9 @@ fn print_next<O: Sink>(
 ) -> Result<(), PrintFault>
     requires event { IsEvent (header_in world.old) event.now }
     ensures header { header_in world.new ≡ header_in world.old }
-    ensures ok { OnOk result ((r : Record) × StandsOn world.old world.new event.now r × Wrote (O.held out.old) (O.held out.new) (record_spelling r)) }
+    ensures ok { OnOk result ((r : Record) × StandsOn world.old world.new event.now r × Wrote (O.held out.old) (O.held out.new) (piece_of command r)) }
     ensures memory { IsErrOf result PrintFault.Memory → O.held out.new ≡ O.held out.old }
-    ensures part { IsErrOf result PrintFault.Failed → (r : Record) × StandsOn world.old world.new event.now r × WrotePart (O.held out.old) (O.held out.new) (record_spelling r) }
+    ensures part { IsErrOf result PrintFault.Failed → (r : Record) × StandsOn world.old world.new event.now r × WrotePart (O.held out.old) (O.held out.new) (piece_of command r) }
     ensures later { O.faults out.old ≤ O.faults out.new }
     ensures failed { IsErrOf result PrintFault.Failed → Rose (O.faults out.old) (O.faults out.new) }
 {
@@ -70,30 +104,32 @@ fn print_next<O: Sink>(
         Err(_) => return Err(PrintFault::Memory),
     };
     text.clear();
-    put_record(alloc, text, made).map_err(|_| PrintFault::Memory)?;
+    put_piece(alloc, command, text, made).map_err(|_| PrintFault::Memory)?;
     put(out, text)
 }
 
-/// Plays events in order in a new world, and prints each record as it is made.
+/// Plays events in order in a new world, and prints what the command writes of each record as it
+/// is made.
 pub fn print_all<O: Sink>(
     alloc: Global,
+    command: Command,
     world: &mut World,
     events: &[Event],
     out: &mut O,
 ) -> Result<(), PrintFault>
     requires events { AllByRecursion (IsEvent (header_in world.old)) events.now }
     requires new { StandsFor world.old [] [] }
-    ensures ok { OnOk result ((rs : List Record) × IsLegalRun (header_in world.old) events.now rs × Wrote (O.held out.old) (O.held out.new) (records_text rs)) }
+    ensures ok { OnOk result ((rs : List Record) × IsLegalRun (header_in world.old) events.now rs × Wrote (O.held out.old) (O.held out.new) (records_text command rs)) }
     ensures memory { IsErrOf result PrintFault.Memory →
-        (n : ℕ) × (rs : List Record) × IsLegalRun (header_in world.old) (take n events.now) rs × Wrote (O.held out.old) (O.held out.new) (records_text rs) }
+        (n : ℕ) × (rs : List Record) × IsLegalRun (header_in world.old) (take n events.now) rs × Wrote (O.held out.old) (O.held out.new) (records_text command rs) }
     ensures part { IsErrOf result PrintFault.Failed →
-        (n : ℕ) × (rs : List Record) × IsLegalRun (header_in world.old) (take n events.now) rs × WrotePart (O.held out.old) (O.held out.new) (records_text rs) }
+        (n : ℕ) × (rs : List Record) × IsLegalRun (header_in world.old) (take n events.now) rs × WrotePart (O.held out.old) (O.held out.new) (records_text command rs) }
     ensures later { O.faults out.old ≤ O.faults out.new }
     ensures failed { IsErrOf result PrintFault.Failed → Rose (O.faults out.old) (O.faults out.new) }
 {
     let mut text = Vec::new(alloc);
     for event in events {
-        print_next(alloc, world, event, &mut text, out)?;
+        print_next(alloc, command, world, event, &mut text, out)?;
     }
     Ok(())
 }

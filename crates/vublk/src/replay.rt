@@ -1,4 +1,4 @@
-//! The command `replay`: reads a schedule, runs it and prints its records.
+//! The commands on a schedule: read it, run it and print what the command writes of the run.
 ghost use Rattle.std.specs.Prelude.{◌≡◌, ◌+◌, ◌≤◌, ◌++◌, [], List, ℕ, length, IfOk};
 ghost use Rattle.vub_base.specs.Causes.{Rose};
 ghost use Rattle.vub_schedule.specs.Spelling.{IsSchedule};
@@ -9,6 +9,7 @@ ghost use Rattle.vublk.specs.Ends.{Prints, Plays, Replays, IsBadEnd, bad_line_te
 
 use crate::printing::{PrintFault, print_all, print_head, put};
 use crate::reading::{ReadFault, read_all};
+use crate::words::Command;
 use std::alloc::Global;
 use vub_base::{Memory, Sink, Source};
 use vub_schedule::writing::{put_number, put_text};
@@ -18,7 +19,7 @@ use vub_world::World;
 /// How a replay ended.
 #[derive(Clone, Copy, Debug, PartialEq, Eq)]
 pub enum End {
-    /// All events were played and their records printed.
+    /// All events were played, and all was printed.
     Done,
     /// Want of memory.
     Memory,
@@ -32,36 +33,42 @@ pub enum End {
     TooLong,
 }
 
-/// Prints the head line and the records that the world makes.
-fn print_world<O: Sink>(alloc: Global, world: &mut World, schedule: &Schedule, out: &mut O) -> End
+/// Prints what the command writes of the records that the world makes.
+fn print_world<O: Sink>(
+    alloc: Global,
+    command: Command,
+    world: &mut World,
+    schedule: &Schedule,
+    out: &mut O,
+) -> End
     requires schedule { IsSchedule schedule.now }
     requires header { header_in world.old ≡ schedule.now.header }
     requires new { StandsFor world.old [] [] }
-    ensures ends { Prints schedule.now (O.held out.old) (O.held out.new) result }
+    ensures ends { Prints command schedule.now (O.held out.old) (O.held out.new) result }
     ensures later { O.faults out.old ≤ O.faults out.new }
     ensures failed { result ≡ End.WriteFault → Rose (O.faults out.old) (O.faults out.new) }
 {
-    match print_head(alloc, &schedule.header, out) {
+    match print_head(alloc, command, &schedule.header, out) {
         Ok(()) => {}
         Err(PrintFault::Memory) => return End::Memory,
         Err(PrintFault::Failed) => return End::WriteFault,
     }
-    match print_all(alloc, world, schedule.events.items(), out) {
+    match print_all(alloc, command, world, schedule.events.items(), out) {
         Ok(()) => End::Done,
         Err(PrintFault::Memory) => End::Memory,
         Err(PrintFault::Failed) => End::WriteFault,
     }
 }
 
-/// Runs a schedule and prints the head line and the records.
-fn print_run<O: Sink>(alloc: Global, schedule: &Schedule, out: &mut O) -> End
+/// Runs a schedule and prints what the command writes of the run.
+fn print_run<O: Sink>(alloc: Global, command: Command, schedule: &Schedule, out: &mut O) -> End
     requires { IsSchedule schedule.now }
-    ensures ends { Prints schedule.now (O.held out.old) (O.held out.new) result }
+    ensures ends { Prints command schedule.now (O.held out.old) (O.held out.new) result }
     ensures later { O.faults out.old ≤ O.faults out.new }
     ensures failed { result ≡ End.WriteFault → Rose (O.faults out.old) (O.faults out.new) }
 {
     match World::new(alloc, &schedule.header) {
-        Ok(mut world) => print_world(alloc, &mut world, schedule, out),
+        Ok(mut world) => print_world(alloc, command, &mut world, schedule, out),
         Err(Memory) => End::Memory,
     }
 }
@@ -95,27 +102,32 @@ fn print_bad<O: Sink>(alloc: Global, line: u64, out: &mut O) -> End
 }
 
 /// Plays a text.
-fn play<O: Sink>(alloc: Global, text: &[u8], out: &mut O) -> End
-    ensures ends { Plays text.now (O.held out.old) (O.held out.new) result }
+fn play<O: Sink>(alloc: Global, command: Command, text: &[u8], out: &mut O) -> End
+    ensures ends { Plays command text.now (O.held out.old) (O.held out.new) result }
     ensures later { O.faults out.old ≤ O.faults out.new }
     ensures failed { result ≡ End.WriteFault → Rose (O.faults out.old) (O.faults out.new) }
 {
     match parse_schedule(alloc, text) {
-        Ok(schedule) => print_run(alloc, &schedule, out),
+        Ok(schedule) => print_run(alloc, command, &schedule, out),
         Err(ScheduleFault::BadLine(line)) => print_bad(alloc, line, out),
         Err(ScheduleFault::Memory) => End::Memory,
     }
 }
 
 /// Reads a text and plays it.
-pub fn replay<I: Source, O: Sink>(alloc: Global, input: &mut I, out: &mut O) -> End
-    ensures ends { Replays (I.left input.old) (I.left input.new) (O.held out.old) (O.held out.new) result }
+pub fn replay<I: Source, O: Sink>(
+    alloc: Global,
+    command: Command,
+    input: &mut I,
+    out: &mut O,
+) -> End
+    ensures ends { Replays command (I.left input.old) (I.left input.new) (O.held out.old) (O.held out.new) result }
     ensures read { result ≡ End.ReadFault → Rose (I.faults input.old) (I.faults input.new) }
     ensures write { result ≡ End.WriteFault → Rose (O.faults out.old) (O.faults out.new) }
     ensures taken { TakesAtMost (input_limit + 1) (I.left input.old) (I.left input.new) }
 {
     match read_all(alloc, input) {
-        Ok(text) => play(alloc, &text, out),
+        Ok(text) => play(alloc, command, &text, out),
         Err(ReadFault::Memory) => End::Memory,
         Err(ReadFault::Failed) => End::ReadFault,
         Err(ReadFault::TooLong) => End::TooLong,

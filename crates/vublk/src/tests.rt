@@ -73,6 +73,19 @@ const RECORDS: &str = "record 1 split 1 4 8 0 back
 ! collect 0 1
 ";
 
+const HISTORY: &str = "offer 0 write 0 aa*512
+start 0 -
+accept 0 0
+act 0 0 0 aa*512
+publish 0 0:0
+collect 0 0
+offer 0 read 0 1
+accept 0 1
+look 0 1 0 aa*512
+publish 0 1:0:aa*512
+collect 0 1
+";
+
 const USAGE: &str =
     "usage: vublk replay|entries|bulk SEED COUNT|inspect FORMAT SIZE WORD|serve [--read-only] IMAGE NAME..\n";
 
@@ -174,8 +187,38 @@ fn worked_rows(rt: HostRuntime) -> Result<(), Fail> {
 }
 
 #[test]
+fn histories(rt: HostRuntime) -> Result<(), Fail> {
+    let whole = (None, None);
+    let kill = "vub 1 split 1 4 8 0 back\nkill\n";
+    for (text, status, out) in [
+        (WRITE_AND_READ, 0, HISTORY),
+        (HEADER, 0, ""),
+        (kill, 6, "bad line 2\n"),
+    ] {
+        check_row(&rt, rt.alloc(), "entries", text, whole, (status, out))?;
+    }
+    // The sink fails at the second record that has an entry.
+    let front = "offer 0 write 0 aa*512\n";
+    check_row(
+        &rt,
+        rt.alloc(),
+        "entries",
+        WRITE_AND_READ,
+        (None, Some(1)),
+        (5, front),
+    )
+}
+
+#[test]
 fn refused_words(rt: HostRuntime) -> Result<(), Fail> {
-    for words in ["", "replay now", "entries", "--help", "replay ", "Replay"] {
+    for words in [
+        "",
+        "replay now",
+        "replay entries",
+        "--help",
+        "entries ",
+        "Replay",
+    ] {
         check_row(&rt, rt.alloc(), words, HEADER, (None, None), (2, USAGE))?;
     }
     Ok(())

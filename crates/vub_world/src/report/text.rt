@@ -2,7 +2,8 @@
 ghost use Rattle.std.specs.Prelude.{◌≡◌, ◌+◌, ◌<◌, ◌≤◌, ◌++◌, ◌∷◌, ◌==◌, [], ℕ, List, length, IfOk, OnOk};
 ghost use Rattle.std.specs.Fmt.{decimal};
 ghost use Rattle.std.specs.List.{take_while};
-ghost use Rattle.vub_world.specs.RecordText.{repeated_text, joint_text, bytes_text, tag_text, area_text, place_text, each_after, listed, asked_text, answer_bytes_text, answered_text, sector_text, entry_text, item_text, item_line, record_spelling, head_spelling};
+ghost use Rattle.vub_world.specs.RecordText.{repeated_text, joint_text, bytes_text, tag_text, area_text, place_text, each_after, listed, asked_text, answer_bytes_text, answered_text, sector_text, entry_text, entry_line, entries_spelling, item_text, item_line, record_spelling, head_spelling};
+ghost use Rattle.vub_world.specs.Tracking.{entries_of};
 
 use crate::report::items::{Item, Record};
 use std::alloc::Global;
@@ -380,6 +381,34 @@ pub fn put_record(alloc: Global, out: &mut Vec<u8>, made: &Record) -> Result<(),
     put_event(out, &made.event)?;
     for item in made.items.list() {
         put_item(alloc, out, item)?;
+    }
+    Ok(())
+}
+
+#[tactic(auto, unfolding(crate::specs::RecordText::entry_line))]
+fn put_entry_line(out: &mut Vec<u8>, entry: &Entry) -> Result<(), Memory>
+    ensures { OnOk result (out.new.items ≡ out.old.items ++ entry_line entry.now) }
+{
+    put_entry(out, entry)?;
+    put_text(out, b"\n")
+}
+
+/// Appends the entry of an item, if it is one.
+fn put_made(out: &mut Vec<u8>, item: &Item) -> Result<(), Memory>
+    ensures { OnOk result (out.new.items ≡ out.old.items ++ entries_spelling (entries_of (item.now ∷ []))) }
+{
+    match item {
+        Item::Made(entry) => put_entry_line(out, entry),
+        _ => Ok(()),
+    }
+}
+
+/// Appends the entries of a record, a line each.
+pub fn put_entries(out: &mut Vec<u8>, made: &Record) -> Result<(), Memory>
+    ensures { OnOk result (out.new.items ≡ out.old.items ++ entries_spelling (entries_of made.now.items)) }
+{
+    for item in made.items.list() {
+        put_made(out, item)?;
     }
     Ok(())
 }

@@ -9,6 +9,6 @@ use Rattle.vublk.proofs.printing.print_all.Given as goal
 abbrev pub invariant-loop-event : goal.invariant-loop-event
 invariant-loop-event g l = record {
   header : header_in l.world ≡ header_in l.fn.world;
-  printed : (rs : List Record) × IsPlayed (header_in l.fn.world) l.world (take l.event-index l.events) rs × Wrote (g.O.Sink.held l.fn.out) (g.O.Sink.held l.out) (records_text rs);
+  printed : (rs : List Record) × IsPlayed (header_in l.fn.world) l.world (take l.event-index l.events) rs × Wrote (g.O.Sink.held l.fn.out) (g.O.Sink.held l.out) (records_text l.command rs);
   later : g.O.Sink.faults l.fn.out ≤ g.O.Sink.faults l.out;
 }
