@@ -10,7 +10,7 @@ use crate::drain::next_turn;
 use crate::log::Log;
 use crate::queue::{Queue, QueueSetup, Stepped};
 use crate::report::{Item, Items, Record};
-use crate::room::Room;
+use crate::room::{Room, Spare};
 use std::alloc::Global;
 use vub_base::{Area, Ask, Header1, Memory, Shape, Space, Tag};
 use vub_device::{AnswerList, Answered, Asked, Entry, NumberList};
@@ -46,6 +46,7 @@ pub struct Machine {
     disk: MemDisk,
     log: Log,
     last: Record,
+    spare: Spare,
 }
 
 /// A request as the history has it.
@@ -127,6 +128,7 @@ impl Machine {
                 event: Event::Boot,
                 items: Items::new(Vec::new(alloc)),
             },
+            spare: Spare::new(alloc),
         })
     }
 
@@ -150,7 +152,7 @@ impl Machine {
     fn idle(&self) -> Result<Items, Memory>
         ensures { IfOk result (λ is. is ≡ items.Idle ∷ []) }
     {
-        let mut room = Room::new(self.alloc, 1, 0, 0, 0)?;
+        let mut room = Room::of_items(self.alloc, 1)?;
         room.note(Item::Idle);
         Ok(room.into_items())
     }
@@ -292,9 +294,9 @@ impl Machine {
         }
         let most = stores.min(MOST_STORES);
         let noted = usize::from(most) + 1;
-        let mut room = Room::new(self.alloc, noted, noted, 0, 0)?;
+        let mut room = Room::new(self.alloc, &mut self.spare, noted, noted, 0, 0)?;
         self.guest_stores(most, &mut room);
-        Ok(room.into_items())
+        Ok(room.finish(&mut self.spare))
     }
 
     fn ask(&mut self, shape: Shape, ask: &Ask) -> Result<Items, Memory>
@@ -334,7 +336,7 @@ impl Machine {
         ensures kept { OnErr result (self.new ≡ self.old) }
         ensures performs { IfOk result (λ is. Performs self.old self.new (events.Collect 0) is) }
     {
-        let mut room = Room::new(self.alloc, 1, 0, 0, 0)?;
+        let mut room = Room::of_items(self.alloc, 1)?;
         match self.take_element() {
             Collected::Nothing | Collected::Failed => room.note(Item::Idle),
             Collected::Head(head) => {
@@ -579,6 +581,7 @@ impl Machine {
         let undone = self.log.outstanding().min(64) as usize;
         let mut room = Room::new(
             self.alloc,
+            &mut self.spare,
             42 * undone + 6,
             22 * undone + 3,
             undone + 1,
@@ -587,7 +590,7 @@ impl Machine {
         if !self.drain_steps(&mut room) {
             room.note(Item::Idle);
         }
-        Ok(room.into_items())
+        Ok(room.finish(&mut self.spare))
     }
 
     fn items_of(&mut self, event: &Event) -> Result<Items, Memory>

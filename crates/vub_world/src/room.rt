@@ -4,11 +4,50 @@ ghost use Rattle.std.specs.Prelude.{◌≡◌, ◌<◌, ◌≤◌, ◌+◌, ◌-
 use crate::report::{Item, Items};
 use std::alloc::Global;
 use std::marker::Model;
+use std::mem;
 use vub_base::{Bytes, Memory};
 use vub_device::Answered;
 
 /// The bytes that a list has room for: eight sectors.
 const LIST: usize = 4096;
+
+/// Memory that is kept from one event for the next. Contracts see nothing of it.
+#[derive(Drop)]
+pub struct Spare {
+    // Each empty, with room for eight sectors.
+    lists: Vec<Vec<u8>>,
+}
+
+impl Model for Spare {
+    ghost use Rattle.std.specs.Prelude.{◌≡◌, ◌≤◌, [], All, vec_capacity, ⊤};
+
+    ghost Value = { ⊤ };
+
+    ghost view = { λ _. tt };
+
+    ghost invariant = { λ s. All (λ l. (l.items ≡ []) × (4096 ≤ vec_capacity l)) s.lists.items };
+}
+
+impl Spare {
+    /// No memory.
+    pub fn new(alloc: Global) -> Spare {
+        Spare {
+            lists: Vec::new(alloc),
+        }
+    }
+
+    /// At least so many lists of bytes.
+    fn take(&mut self, alloc: Global, count: usize) -> Result<Vec<Vec<u8>>, Memory>
+        ensures count { IfOk result (λ v. count ≤ length v.items) }
+        ensures room { IfOk result (λ v. All (λ l. (l.items ≡ []) × (4096 ≤ vec_capacity l)) v.items) }
+    {
+        let mut lists = mem::replace(&mut self.lists, Vec::new(alloc));
+        for _made in lists.len()..count {
+            add_list(alloc, &mut lists)?;
+        }
+        Ok(lists)
+    }
+}
 
 /// Items so far, with room for so many more, for so many lists of bytes of eight sectors, and for so
 /// many lists of answers.
@@ -16,8 +55,9 @@ const LIST: usize = 4096;
 pub struct Room {
     items: Vec<Item>,
     item_room: usize,
-    // Each empty, with room for eight sectors.
+    // Each empty, with room for eight sectors; there may be more than may be used.
     lists: Vec<Vec<u8>>,
+    list_room: usize,
     // Each empty, with room for so many answers.
     answer_lists: Vec<Vec<Answered>>,
     answers: usize,
@@ -29,21 +69,9 @@ impl Model for Room {
 
     ghost Value = { RoomState };
 
-    ghost view = { λ r. record { items = r.items.items; item_room = r.item_room; lists = length r.lists.items; answer_lists = length r.answer_lists.items; answers = r.answers } };
+    ghost view = { λ r. record { items = r.items.items; item_room = r.item_room; lists = r.list_room; answer_lists = length r.answer_lists.items; answers = r.answers } };
 
-    ghost invariant = { λ r. (vec_len r.items + r.item_room ≤ vec_capacity r.items) × All (λ l. (l.items ≡ []) × (4096 ≤ vec_capacity l)) r.lists.items × All (λ l. (l.items ≡ []) × (r.answers ≤ vec_capacity l)) r.answer_lists.items };
-}
-
-/// So many lists of bytes.
-fn byte_lists(alloc: Global, count: usize) -> Result<Vec<Vec<u8>>, Memory>
-    ensures count { IfOk result (λ v. length v.items ≡ count) }
-    ensures room { IfOk result (λ v. All (λ l. (l.items ≡ []) × (4096 ≤ vec_capacity l)) v.items) }
-{
-    let mut lists = Vec::with_capacity(alloc, count).map_err(|_| Memory)?;
-    for _made in 0..count {
-        add_list(alloc, &mut lists)?;
-    }
-    Ok(lists)
+    ghost invariant = { λ r. (vec_len r.items + r.item_room ≤ vec_capacity r.items) × (r.list_room ≤ length r.lists.items) × All (λ l. (l.items ≡ []) × (4096 ≤ vec_capacity l)) r.lists.items × All (λ l. (l.items ≡ []) × (r.answers ≤ vec_capacity l)) r.answer_lists.items };
 }
 
 fn add_list(alloc: Global, lists: &mut Vec<Vec<u8>>) -> Result<(), Memory>
@@ -83,9 +111,10 @@ fn add_answer_list(
 }
 
 impl Room {
-    /// Room for so many items, lists of bytes, and lists of so many answers.
+    /// Room for so many items, lists of bytes, and lists of so many answers. It takes what is spare.
     pub fn new(
         alloc: Global,
+        spare: &mut Spare,
         items: usize,
         lists: usize,
         answer_lists: usize,
@@ -96,9 +125,24 @@ impl Room {
         Ok(Room {
             items: Vec::with_capacity(alloc, items).map_err(|_| Memory)?,
             item_room: items,
-            lists: byte_lists(alloc, lists)?,
+            lists: spare.take(alloc, lists)?,
+            list_room: lists,
             answer_lists: self::answer_lists(alloc, answer_lists, answers)?,
             answers,
+        })
+    }
+
+    /// Room for so many items that have no bytes.
+    pub fn of_items(alloc: Global, items: usize) -> Result<Room, Memory>
+        ensures { IfOk result (λ r. r ≡ record { items = []; item_room = items; lists = 0; answer_lists = 0; answers = 0 }) }
+    {
+        Ok(Room {
+            items: Vec::with_capacity(alloc, items).map_err(|_| Memory)?,
+            item_room: items,
+            lists: Vec::new(alloc),
+            list_room: 0,
+            answer_lists: Vec::new(alloc),
+            answers: 0,
         })
     }
 
@@ -109,6 +153,7 @@ impl Room {
         ensures room { 4096 ≤ vec_capacity result }
         ensures spent { self.new ≡ record self.old { lists = self.old.lists - 1 } }
     {
+        self.list_room -= 1;
         match self.lists.pop() {
             Some(list) => list,
             None => unreachable!(),
@@ -167,6 +212,14 @@ impl Room {
     pub fn into_items(self) -> Items
         ensures { result ≡ self.items }
     {
+        Items::new(self.items)
+    }
+
+    /// The same, and what is left is spare.
+    pub fn finish(self, spare: &mut Spare) -> Items
+        ensures { result ≡ self.items }
+    {
+        spare.lists = self.lists;
         Items::new(self.items)
     }
 }
