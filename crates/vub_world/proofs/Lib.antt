@@ -46,6 +46,7 @@ pub mod RunOffers
 pub mod RunPhases
 pub mod RunPublications
 pub mod RunShown
+pub mod RunSteps
 pub mod RunTracks
 pub mod RunTurns
 pub mod RunWork

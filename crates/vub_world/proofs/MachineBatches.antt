@@ -24,7 +24,7 @@ use Rattle.vub_world.specs.QueueAt.{QueueStands, spot_of}
 use Rattle.vub_world.specs.QueueState.{QueueState, state_of}
 use Rattle.vub_world.proofs.MachineTurns.{among_right}
 use Rattle.vub_world.proofs.RunFrames.{open_out}
-use Rattle.vub_world.proofs.RunGood.{IsSimple, PhaseIs, IsOut}
+use Rattle.vub_world.proofs.RunGood.{IsWide, PhaseIs, IsOut}
 use Rattle.vub_world.proofs.RunNumbers.{among_get}
 use Rattle.vub_world.proofs.RunTurns.{Good}
 
@@ -57,14 +57,14 @@ shows_some w m good at = go w.life at.life
 
 -- ---- its heads
 
-one_read : (cap : ℕ) (r : Option Asked) → IsSimple cap r → reads_of r ≤ 1
-one_read cap (Some (asks.Read s c)) is = omega (arith, is.1)
-one_read cap (Some (asks.Write s bytes)) is = omega arith
-one_read cap (Some asks.Flush) is = absurd is
-one_read cap (Some asks.Id) is = absurd is
-one_read cap (Some (asks.Discard parts)) is = absurd is
-one_read cap (Some (asks.Zero parts)) is = absurd is
-one_read cap None is = absurd is
+few_reads : (cap : ℕ) (r : Option Asked) → IsWide cap r → reads_of r ≤ 8
+few_reads cap (Some (asks.Read s c)) is = is.few
+few_reads cap (Some (asks.Write s bytes)) is = omega arith
+few_reads cap (Some asks.Flush) is = omega arith
+few_reads cap (Some asks.Id) is = absurd is
+few_reads cap (Some (asks.Discard parts)) is = absurd is
+few_reads cap (Some (asks.Zero parts)) is = absurd is
+few_reads cap None is = absurd is
 
 pub queue_batch_fits : (h : Header1) (r : SplitRing) (m : Moment) (q : QueueState) (log : Log) → h.size ≤ 64 → Good h m → QueueStands h r m q → LogAt h.size m.scene.past (m.scene.heads 0) log → BatchFits log q.batch
 queue_batch_fits h r m q log small good at numbered i x found =
@@ -75,7 +75,7 @@ queue_batch_fits h r m q log small good at numbered i x found =
     let mapped : option_map (spot_of h past heads) (slice_get lane.batch i) ≡ Some x = sym (slice_get-map (spot_of h past heads) lane.batch i) ∙ spots in
     pick (slice_get lane.batch i) refl mapped
   where
-    pick : (o : Option ℕ) → slice_get (m.lanes 0).batch i ≡ o → option_map (spot_of h m.scene.past (m.scene.heads 0)) o ≡ Some x → (x.0 < 64) × ((slot_in log x.0).reads ≤ 1)
+    pick : (o : Option ℕ) → slice_get (m.lanes 0).batch i ≡ o → option_map (spot_of h m.scene.past (m.scene.heads 0)) o ≡ Some x → (x.0 < 64) × ((slot_in log x.0).reads ≤ 8)
     pick None here is = absurd (cc is)
     pick (Some k) here is =
         let past = m.scene.past in
@@ -87,7 +87,7 @@ queue_batch_fits h r m q log small good at numbered i x found =
         let out : IsOut past heads k = open_out h.size h.capacity past heads k holds.known (holds.worked.opens k among) in
         let below : slice_index heads k < h.size = holds.driven.below k out in
         let slot : (slot_in log x.0).reads ≡ reads_of (asked past 0 k) = ap (λ (d : ℕ). (slot_in log d).reads) head ∙ ap (λ (o : Outstanding). o.reads) (numbered.slots k out.below out.kept) in
-        let few : reads_of (asked past 0 k) ≤ 1 = one_read h.capacity (asked past 0 k) (holds.known.simple k out.below) in
+        let few : reads_of (asked past 0 k) ≤ 8 = few_reads h.capacity (asked past 0 k) (holds.known.wide k out.below) in
         (omega (arith, below, head, small), omega (arith, slot, few))
 
 pub batch_fits : (w : Machine) (m : Moment) → w.header.size ≤ 64 → Good w.header m → MachineAt w m → BatchFits w.log (batch_in w.life)

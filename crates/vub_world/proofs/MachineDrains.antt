@@ -163,10 +163,10 @@ weight_done gone done made k held =
     let joined : is_among (gone ++ done) k ≡ (is_among gone k || is_among done k) = is_among_append gone done k in
     grind (arith, nat_tests)
 
-sum_left : (gone done : List ℕ) (made : ℕ → ℕ) (a : ℕ) → sum_below (weight gone done made) a ≤ 6 * length (missing_below (gone ++ done) a)
+sum_left : (gone done : List ℕ) (made : ℕ → ℕ) (a : ℕ) → sum_below (weight gone done made) a ≤ 20 * length (missing_below (gone ++ done) a)
 sum_left gone done made zero = omega arith
 sum_left gone done made (suc a) =
-    let rest : sum_below (weight gone done made) a ≤ 6 * length (missing_below (gone ++ done) a) = sum_left gone done made a in
+    let rest : sum_below (weight gone done made) a ≤ 20 * length (missing_below (gone ++ done) a) = sum_left gone done made a in
     elim (cases_Bool (is_among (gone ++ done) a)) [
       | inl there ↦
           let none : weight gone done made a ≡ 0 = weight_done gone done made a there in
@@ -203,7 +203,7 @@ all_few n cap past heads phase batch completed made known w =
 abbrev pub undone : Moment → ℕ
 undone m = length (m.scene.heads 0) - length (published m.scene.past 0)
 
-pub effort_bound : (h : Header1) (m : Moment) → Good h m → effort_at m ≤ 7 * undone m + 2
+pub effort_bound : (h : Header1) (m : Moment) → Good h m → effort_at m ≤ 21 * undone m + 2
 effort_bound h m good =
     let s : Scene = m.scene in
     let l : Lane = m.lanes 0 in

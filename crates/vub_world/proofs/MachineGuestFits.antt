@@ -1,26 +1,25 @@
--- What is noted of the driver's stores has room: they are small, and a request writes one sector.
-use Rattle.std.proofs.Common.{◌≡◌, ◌≤◌, ℕ, ◌+◌, ◌%◌, List, [], ◌∷◌, ◌++◌, length, replicate, refl, sym, subst, arith}
+-- What is noted of the driver's stores has room: they are small.
+use Rattle.std.proofs.Common.{◌≡◌, ◌≤◌, ℕ, ◌+◌, ◌%◌, List, [], ◌∷◌, ◌++◌, length, refl, sym, subst, arith}
 use Rattle.std.specs.Prelude.{Option, Some, None}
-use Rattle.std.specs.List.{AllByRecursion, flat_map}
-use Rattle.std.proofs.lemmas.List.{length-append, length-replicate}
+use Rattle.std.specs.List.{AllByRecursion}
 use Rattle.vub_base.specs.declared.header.Header1.{Header1}
 use Rattle.vub_base.specs.declared.request.Ask.{Ask}
 use Rattle.vub_base.specs.declared.request.Ask.TheVariants as wants
 use Rattle.vub_shared.specs.Stores.{Store, one_store}
 use Rattle.vub_driver.specs.Layout.{status_place, sectors_place}
 use Rattle.vub_driver.specs.Drivers.{Driver, Waiting}
-use Rattle.vub_driver.specs.Requests.{Piece, readable_piece, writable_piece, written_bytes}
+use Rattle.vub_driver.specs.Requests.{Piece, readable_piece, writable_piece, written_bytes, has_data}
 use Rattle.vub_driver.specs.Stores.{store_of_some, request_stores}
 use Rattle.vub_world.specs.declared.machine.Machine.{Machine}
 use Rattle.vub_world.specs.ChainState.{data_of}
 use Rattle.vub_world.specs.MachineAt.{AskAt, MachineAt, IsStanding}
-use Rattle.vub_world.specs.MachineFront.{IsSmall, AreSmall, AskFits, FrontFits}
+use Rattle.vub_world.specs.MachineFront.{IsSmall, AreSmall, FrontFits}
 use Rattle.vub_world.specs.Moments.{Moment}
 use Rattle.vub_world.specs.Run.{Stands, request_of}
-use Rattle.vub_world.proofs.RunGood.{the_ring, IsSimple, IsWaiting, WaitsWell}
+use Rattle.vub_world.proofs.RunGood.{the_ring, IsWide, IsWaiting, WaitsWell}
 use Rattle.vub_world.proofs.RunFrames.{length_little}
-use Rattle.vub_world.proofs.RunChains.{buffer_at, desc_long}
-use Rattle.vub_world.proofs.RunChainsStores.{header_long, linked}
+use Rattle.vub_world.proofs.RunChains.{buffer_at, chain_of, desc_long}
+use Rattle.vub_world.proofs.RunChainsStores.{header_long, linked, linked_two}
 use Rattle.vub_world.proofs.RunChainsTurns.{IsPrepared, PreparedWell}
 use Rattle.vub_world.proofs.RunChainsEvents.{ChainedAt, stands_chained}
 use Rattle.vub_world.proofs.RunTurns.{Good}
@@ -35,7 +34,7 @@ small_append : (xs ys : List Store) → Small xs → Small ys → Small (xs ++ y
 small_append [] ys p q = q
 small_append (x ∷ xs) ys p q = (p.0, small_append xs ys p.1 q)
 
-some_small : (p : ℕ) (bytes : List ℕ) → length bytes ≤ 512 → Small (store_of_some 0 p bytes)
+some_small : (p : ℕ) (bytes : List ℕ) → length bytes ≤ 4096 → Small (store_of_some 0 p bytes)
 some_small p [] few = tt
 some_small p (b ∷ bytes) few = (record { space = refl; few = few }, tt)
 
@@ -54,50 +53,45 @@ linked_small n index head body status p = (
   ),
 )
 
-stores_small : (n cap index head body status : ℕ) (a : Ask) → IsSimple cap (Some (request_of a)) → Small (request_stores (the_ring n) index a (head ∷ body ∷ status ∷ []))
-stores_small n cap index head body status (wants.Read s c) simple = (
+two_small : (n index head status : ℕ)
+    → Small (linked_two n index head status)
+two_small n index head status = (
+  record { space = refl; few = omega (arith, desc_long (readable_piece (buffer_at head) 16) 1 status) },
+  (
+    record { space = refl; few = omega (arith, desc_long (writable_piece (status_place (buffer_at head)) 1) 0 0) },
+    (record { space = refl; few = omega (arith, length_little 2 head) }, (record { space = refl; few = omega (arith, length_little 2 ((index + 1) % 65536)) }, tt)),
+  ),
+)
+
+stores_small : (n cap index head body status : ℕ) (a : Ask) → IsWide cap (Some (request_of a)) → Small (request_stores (the_ring n) index a (chain_of (has_data a) head body status))
+stores_small n cap index head body status (wants.Read s c) wide = (
   record { space = refl; few = omega (arith, header_long 0 s) },
   (record { space = refl; few = omega arith }, linked_small n index head body status (data_of (buffer_at head) (request_of (wants.Read s c)))),
 )
-stores_small n cap index head body status (wants.Write s fills) simple =
+stores_small n cap index head body status (wants.Write s fills) wide =
     let bytes : List ℕ = written_bytes (wants.Write s fills) in
     let front : List Store = store_of_some 0 (sectors_place (buffer_at head)) bytes in
     let last : List Store = one_store 0 (status_place (buffer_at head)) (255 ∷ []) ∷ [] in
     let rest : List Store = linked n index head body status (data_of (buffer_at head) (request_of (wants.Write s fills))) in (
       record { space = refl; few = omega (arith, header_long 1 s) },
       small_append (front ++ last) rest
-          (small_append front last (some_small (sectors_place (buffer_at head)) bytes (omega (arith, simple.1))) (record { space = refl; few = omega arith }, tt))
+          (small_append front last (some_small (sectors_place (buffer_at head)) bytes wide.few) (record { space = refl; few = omega arith }, tt))
           (linked_small n index head body status (data_of (buffer_at head) (request_of (wants.Write s fills)))),
     )
-stores_small n cap index head body status wants.Flush simple = absurd simple
-stores_small n cap index head body status wants.Id simple = absurd simple
-stores_small n cap index head body status (wants.Discard parts) simple = absurd simple
-stores_small n cap index head body status (wants.Zero parts) simple = absurd simple
-
--- ---- the request
-
-fills_one : (fills : List ℕ) → length (flat_map (λ b. replicate 512 b) fills) ≡ 512 → length fills ≡ 1
-fills_one [] is = absurd (omega arith)
-fills_one (b ∷ []) is = refl
-fills_one (b ∷ c ∷ fills) is =
-    let rest : List ℕ = flat_map (λ d. replicate 512 d) fills in
-    absurd (omega (arith, is, length-append (replicate 512 b) (replicate 512 c ++ rest), length-append (replicate 512 c) rest, length-replicate 512 b, length-replicate 512 c))
-
-simple_fits : (cap : ℕ) (a : Ask) → IsSimple cap (Some (request_of a)) → AskFits (Some a)
-simple_fits cap (wants.Read s c) simple = tt
-simple_fits cap (wants.Write s fills) simple = fills_one fills.items simple.1
-simple_fits cap wants.Flush simple = absurd simple
-simple_fits cap wants.Id simple = absurd simple
-simple_fits cap (wants.Discard parts) simple = absurd simple
-simple_fits cap (wants.Zero parts) simple = absurd simple
+stores_small n cap index head body status wants.Flush wide = (
+  record { space = refl; few = omega (arith, header_long 4 0) },
+  (record { space = refl; few = omega arith }, two_small n index head status),
+)
+stores_small n cap index head body status wants.Id wide = absurd wide
+stores_small n cap index head body status (wants.Discard parts) wide = absurd wide
+stores_small n cap index head body status (wants.Zero parts) wide = absurd wide
 
 -- ---- where the machine stands
 
 pub front_fits : (w : Machine) → IsStanding w → FrontFits w
 front_fits w standing = record {
-  stores = subst (λ (v : Driver). AreSmall v.waiting) (sym at.front.driver) (both (m.lanes 0).driver.waiting refl).0;
+  stores = subst (λ (v : Driver). AreSmall v.waiting) (sym at.front.driver) (smalls (m.lanes 0).driver.waiting refl);
   kept = subst (λ (v : Driver). AskAt v.waiting w.asked) (sym at.front.driver) at.front.asks;
-  ask = (both (m.lanes 0).driver.waiting refl).1;
 }
   where
     h : Header1
@@ -118,15 +112,10 @@ front_fits w standing = record {
     chained : ChainedAt h m
     chained = stands_chained h standing.0 standing.1 m s
 
-    both : (o : Option Waiting) → (m.lanes 0).driver.waiting ≡ o → AreSmall o × AskFits w.asked
-    both None e =
-        let none : w.asked ≡ None = subst (λ (o : Option Waiting). AskAt o w.asked) e at.front.asks in
-        (tt, subst (λ (a : Option Ask). AskFits a) (sym none) tt)
-    both (Some x) e =
+    smalls : (o : Option Waiting) → (m.lanes 0).driver.waiting ≡ o → AreSmall o
+    smalls None e = tt
+    smalls (Some x) e =
         let v : Driver = (m.lanes 0).driver in
         let waits : IsWaiting h.size h.capacity m.scene.past (m.scene.heads 0) v x = subst (λ (o : Option Waiting). WaitsWell h.size h.capacity m.scene.past (m.scene.heads 0) v o) e good.holds.driven.waits in
         let ready : IsPrepared h.size v x = subst (λ (o : Option Waiting). PreparedWell h.size v o) e chained.waits in
-        let some : w.asked ≡ Some x.ask = subst (λ (o : Option Waiting). AskAt o w.asked) e at.front.asks in (
-          subst (λ (sts : List Store). Small sts) (sym ready.stores) (stores_small h.size h.capacity v.avail_idx x.head ready.body ready.status x.ask waits.simple),
-          subst (λ (a : Option Ask). AskFits a) (sym some) (simple_fits h.capacity x.ask waits.simple),
-        )
+        subst (λ (sts : List Store). Small sts) (sym ready.stores) (stores_small h.size h.capacity v.avail_idx x.head ready.body ready.status x.ask waits.wide)

@@ -53,7 +53,7 @@ use Rattle.vub_world.specs.TaskState.{Making}
 use Rattle.vub_world.specs.Turns.{turned, answer_len, answer_at}
 use Rattle.vub_world.proofs.RunNumbers.{not_among-take}
 use Rattle.vub_world.proofs.RunFrames.{open_out, length_little}
-use Rattle.vub_world.proofs.RunGood.{IsSimple, IsOut, PhaseIs}
+use Rattle.vub_world.proofs.RunGood.{IsWide, IsOut, PhaseIs}
 use Rattle.vub_world.proofs.RunPhases.{some_waits}
 use Rattle.vub_world.proofs.RunTurns.{IsPlain, Good}
 use Rattle.vub_world.proofs.RunChainsEvents.{ChainedAt}
@@ -200,7 +200,7 @@ row_in false u y is = absurd (let fails : None ≡ Some y = is in cc)
 small_row : (most : ℕ) (q : QueueState) (y : Row) → publish_row most q ≡ Some y → y.store.space ≡ 0 → IsSmall y.store
 small_row most q y is space =
     let u : QueueState = states.under_way most q in
-    record { space = space; few = few_row u (next_step (length u.batch) u.phase) y (row_in (publishes most q) u y is) }
+    record { space = space; few = omega (arith, few_row u (next_step (length u.batch) u.phase) y (row_in (publishes most q) u y is)) }
 
 -- the items of a store
 store_made : (d now : Device) (tag : Tag) (y : Row) → StoredRow d now y → stored_items tag now.stores ≡ items.Store tag M y.store.place y.store.bytes ∷ []
@@ -220,17 +220,17 @@ same_answer : (k st st' : ℕ) (bs bs' : List ℕ) → st ≡ st' → bs ≡ bs'
 same_answer k st st' bs bs' es eb = cc
 
 -- how many bytes an answer that succeeds has
-len_same : (cap : ℕ) (o : Option Asked) → IsSimple cap o → 512 * reads_of o ≡ answer_len 0 o
+len_same : (cap : ℕ) (o : Option Asked) → IsWide cap o → 512 * reads_of o ≡ answer_len 0 o
 len_same cap None simple = absurd simple
 len_same cap (Some (asks.Read s n)) simple = refl
 len_same cap (Some (asks.Write s bytes)) simple = refl
-len_same cap (Some asks.Flush) simple = absurd simple
+len_same cap (Some asks.Flush) simple = refl
 len_same cap (Some asks.Id) simple = absurd simple
 len_same cap (Some (asks.Discard parts)) simple = absurd simple
 len_same cap (Some (asks.Zero parts)) simple = absurd simple
 
 -- the store of used.idx touches no buffer
-answer_same : (cap : ℕ) (o : Option Asked) (m : Bytes) (p : ℕ) (bs : List ℕ) (k head : ℕ) → IsSimple cap o → p + length bs ≤ 65536 → m 0 (status_place (buffer_place (area_place 0) head)) ≡ 0
+answer_same : (cap : ℕ) (o : Option Asked) (m : Bytes) (p : ℕ) (bs : List ℕ) (k head : ℕ) → IsWide cap o → p + length bs ≤ 65536 → m 0 (status_place (buffer_place (area_place 0) head)) ≡ 0
     → answer_for (record { number = k; reads = reads_of o }) m head
     ≡ record {
       number = k;
@@ -283,7 +283,7 @@ answers_same h r m log d y a off =
     let out : IsOut past heads k = open_out h.size h.capacity past heads k a.good.holds.known (a.good.holds.worked.opens k done) in
     let head : ℕ = slice_index heads k in
     ap (λ (o : Outstanding). answer_for o m.scene.memory head) (a.numbered.slots k out.below out.kept)
-    ∙ answer_same h.capacity (asked past 0 k) m.scene.memory y.store.place y.store.bytes k head (a.good.holds.known.simple k out.below) off (a.good.holds.stored.status k done))
+    ∙ answer_same h.capacity (asked past 0 k) m.scene.memory y.store.place y.store.bytes k head (a.good.holds.known.wide k out.below) off (a.good.holds.stored.status k done))
 
 -- which answers a turn notes
 shown_is : (log : Log) (m : Bytes) (q : QueueState) → ShowsNext q → shown_of log m q ≡ answers_for log m q.batch

@@ -66,16 +66,19 @@ pub record SaysWell (cap : ℕ) (request : Asked) (step : TaskStep) (x : Stepped
 says_well : (h : Header1) (head made : ℕ) (request : Asked) (step : TaskStep) → Kind h request made step → SaysWell h.capacity request step (said head (answer_to h request step))
 says_well h head made request step (inl x) =
     subst (λ (s : TaskStep). SaysWell h.capacity request s (said head (answer_to h request s))) (sym x.next)
-    (subst (λ (o : Asked). SaysWell h.capacity o (Look 0) (said head (answer_to h o (Look 0)))) (sym x.is)
-    (record { looks = λ d t v e. refl; sector = omega (arith, x.low) }))
+    (subst (λ (o : Asked). SaysWell h.capacity o (Look x.place) (said head (answer_to h o (Look x.place)))) (sym x.is)
+    (record { looks = λ d t v e. refl; sector = omega (arith, x.within, x.wide.fits) }))
 says_well h head made request step (inr (inl x)) =
     subst (λ (s : TaskStep). SaysWell h.capacity request s (said head (answer_to h request s))) (sym x.next)
     (record { looks = λ d t v e. refl; sector = tt })
 says_well h head made request step (inr (inr (inl x))) =
     subst (λ (s : TaskStep). SaysWell h.capacity request s (said head (answer_to h request s))) (sym x.next)
-    (subst (λ (o : Asked). SaysWell h.capacity o (Act 0) (said head (answer_to h o (Act 0)))) (sym x.is)
-    (record { looks = λ d t v e. absurd (let fails : says.Acted head (x.sector + 0) ≡ says.Looked d t = e in cc); sector = omega (arith, x.low) }))
-says_well h head made request step (inr (inr (inr x))) =
+    (subst (λ (o : Asked). SaysWell h.capacity o (Act x.place) (said head (answer_to h o (Act x.place)))) (sym x.is)
+    (record { looks = λ d t v e. absurd (let fails : says.Acted head (x.sector + x.place) ≡ says.Looked d t = e in cc); sector = omega (arith, x.within, x.wide.fits) }))
+says_well h head made request step (inr (inr (inr (inl x)))) =
+    subst (λ (s : TaskStep). SaysWell h.capacity request s (said head (answer_to h request s))) (sym x.next)
+    (record { looks = λ d t v e. refl; sector = tt })
+says_well h head made request step (inr (inr (inr (inr x)))) =
     subst (λ (s : TaskStep). SaysWell h.capacity request s (said head (answer_to h request s))) (sym x.next)
     (record { looks = λ d t v e. refl; sector = tt })
 
@@ -94,7 +97,7 @@ stores_noted : (h : Header1) (m : Moment) (t : Turn) (log : Log) (d now : Device
 stores_noted h m t log d now tag x task n fresh trails shows goes none notes fits =
     let st : Store = one_store 0 shows.place shows.bytes in
     let kept : now.stores ≡ st ∷ [] = some_is now.stores (with_maybe (due_store d.queue task n) d.stores) trails ∙ ap (λ (o : Option Store). with_maybe o d.stores) shows.due ∙ ap (λ (l : List Store). with_maybe (Some st) l) fresh in
-    let small : OneSmall now.stores = subst (λ (l : List Store). OneSmall l) (sym kept) (record { space = refl; few = shows.few }) in
+    let small : OneSmall now.stores = subst (λ (l : List Store). OneSmall l) (sym kept) (record { space = refl; few = omega (arith, shows.few) }) in
     record {
       goes = goes;
       items_are = shows.items ∙ sym (ap (stored_items tag) kept) ∙ sym notes;
@@ -138,7 +141,15 @@ work_noted h m t log d now k task n (says.Stored tag) g shows =
 work_noted h m t log d now k task n (says.Completed head) g shows = stores_noted h m t log d now T5 (says.Completed head) task n g.fresh g.trails shows.1 refl refl refl refl
 work_noted h m t log d now k task n says.Idle g shows = absurd shows
 work_noted h m t log d now k task n (says.Accepted head) g shows = absurd shows
-work_noted h m t log d now k task n (says.Synced head) g shows = absurd shows
+work_noted h m t log d now k task n (says.Synced head) g shows =
+    let number : number_at log head ≡ k = ap (number_at log) shows.0 ∙ g.number in
+    record {
+      goes = refl;
+      items_are = shows.1 ∙ ap (λ (j : ℕ). items.Made (entries.Sync 0 j) ∷ []) (sym number);
+      store = tt;
+      none = refl;
+      same = ap (λ (is : List Item). accepted (after_items h.size is m.scene).past 0) shows.1;
+    }
 work_noted h m t log d now k task n (says.Faulted head) g shows = absurd shows
 work_noted h m t log d now k task n says.Published g shows = absurd shows
 work_noted h m t log d now k task n says.Started g shows = absurd shows

@@ -20,7 +20,7 @@ use Rattle.vub_schedule.specs.Spelling.{IsAsk}
 use Rattle.vub_world.specs.Memory.{Scene}
 use Rattle.vub_world.specs.Moments.{Lane}
 use Rattle.vub_world.specs.Run.{request_of, with_driver}
-use Rattle.vub_world.proofs.RunGood.{the_ring, IsSimple, IsHarmless, IsPlan, Driven, Holds}
+use Rattle.vub_world.proofs.RunGood.{the_ring, IsWide, IsHarmless, IsPlan, Driven, Holds}
 use Rattle.vub_world.proofs.RunFrames.{length_little}
 use Rattle.vub_world.proofs.RunGuests.{IsGood}
 use Rattle.vub_world.proofs.RunChains.{desc_long}
@@ -64,11 +64,13 @@ owned_first head ds owner = grind (arith, nat_tests)
 
 -- a request of the grammar
 abbrev pub IsPlainAsk : ℕ → Ask → Type 0
-IsPlainAsk cap a = IsSimple cap (Some (request_of a))
+IsPlainAsk cap a = IsWide cap (Some (request_of a))
 
 pub plain_ask : (h : Header1) (a : Ask) → IsAsk h a → IsPlainAsk h.capacity a
-plain_ask h (asks.Read s n) is = is
-plain_ask h (asks.Write s fills) is = (is.0, length-fills fills.items ∙ ap (λ (k : ℕ). 512 * k) is.1)
+plain_ask h (asks.Read s n) is = record { fits = omega (arith, is.0, is.1); some = omega (arith, is.1); few = omega (arith, is.1) }
+plain_ask h (asks.Write s fills) is =
+    let one : length (written_bytes (asks.Write s fills)) ≡ 512 = length-fills fills.items ∙ ap (λ (k : ℕ). 512 * k) is.1 in
+    record { fits = omega (arith, one, is.0); whole = omega (arith, one); some = omega (arith, one); few = omega (arith, one) }
 plain_ask h asks.Flush is = absurd is
 plain_ask h asks.Id is = absurd is
 plain_ask h (asks.Discard parts) is = absurd is
@@ -86,8 +88,8 @@ harmless_append : (head : ℕ) (xs ys : List Store) → AllByRecursion (IsHarmle
 harmless_append head [] ys p q = q
 harmless_append head (x ∷ xs) ys p q = (p.0, harmless_append head xs ys p.1 q)
 
--- data of up to a sector, in its part of the buffer
-some_harmless : (head p : ℕ) (bytes : List ℕ) → length bytes ≤ 512 → p ≡ area_place 0 + (65536 + 8192 * head) + 4096 → AllByRecursion (IsHarmless head) (store_of_some 0 p bytes)
+-- data of up to eight sectors, in its part of the buffer
+some_harmless : (head p : ℕ) (bytes : List ℕ) → length bytes ≤ 4096 → p ≡ area_place 0 + (65536 + 8192 * head) + 4096 → AllByRecursion (IsHarmless head) (store_of_some 0 p bytes)
 some_harmless head p [] small at = tt
 some_harmless head p (b ∷ bytes) small at = (record { space = refl; lies = inr (omega arith, omega arith) }, tt)
 
@@ -102,11 +104,12 @@ buffer_harmless n cap head (asks.Write s fills) plain =
     let bytes : List ℕ = written_bytes (asks.Write s fills) in
     let p : ℕ = data_place (buffer_place (the_ring n).desc head) (asks.Write s fills) in
     let last : List Store = one_store 0 (status_place (buffer_place (the_ring n).desc head)) (255 ∷ []) ∷ [] in
-    let size : length bytes ≡ 512 = plain.1 in (
+    let size : length bytes ≤ 4096 = plain.few in (
       (record { space = refl; lies = inr (omega arith, omega (arith, header_long (asks.Write s fills))) }, harmless_append head (store_of_some 0 p bytes) last (some_harmless head p bytes (omega arith) (omega arith)) (record { space = refl; lies = inr (omega arith, omega arith) }, tt)),
       omega (arith, some_few p bytes, length-append (store_of_some 0 p bytes) last),
     )
-buffer_harmless n cap head asks.Flush plain = absurd plain
+buffer_harmless n cap head asks.Flush plain =
+    ((record { space = refl; lies = inr (omega arith, omega (arith, header_long asks.Flush)) }, (record { space = refl; lies = inr (omega arith, omega arith) }, tt)), omega arith)
 buffer_harmless n cap head asks.Id plain = absurd plain
 buffer_harmless n cap head (asks.Discard parts) plain = absurd plain
 buffer_harmless n cap head (asks.Zero parts) plain = absurd plain
@@ -121,14 +124,14 @@ chain_harmless n head owner (p ∷ p' ∷ ps) (d ∷ d' ∷ ds) small all =
     let rest = chain_harmless n head owner (p' ∷ ps) (d' ∷ ds) small all.1 in
     ((record { space = refl; lies = inl (omega (arith, all.0.0, desc_long p 1 d')) }, rest.0), omega (arith, rest.1))
 
--- three descriptors are needed
-three_needed : (cap : ℕ) (a : Ask) → IsPlainAsk cap a → descriptors_needed a ≡ 3
-three_needed cap (asks.Read s c) plain = refl
-three_needed cap (asks.Write s fills) plain = refl
-three_needed cap asks.Flush plain = absurd plain
-three_needed cap asks.Id plain = absurd plain
-three_needed cap (asks.Discard parts) plain = absurd plain
-three_needed cap (asks.Zero parts) plain = absurd plain
+-- two or three descriptors are needed
+few_needed : (a : Ask) → (0 < descriptors_needed a) × (descriptors_needed a ≤ 3)
+few_needed (asks.Read s c) = (omega arith, omega arith)
+few_needed (asks.Write s fills) = (omega arith, omega arith)
+few_needed asks.Flush = (omega arith, omega arith)
+few_needed asks.Id = (omega arith, omega arith)
+few_needed (asks.Discard parts) = (omega arith, omega arith)
+few_needed (asks.Zero parts) = (omega arith, omega arith)
 
 plan_of : (n cap index head : ℕ) (owner : ℕ → Option ℕ) (a : Ask) (ds : List ℕ) → n ≤ 64 → IsPlainAsk cap a → length ds ≤ 2 → AllByRecursion (IsFree n owner) (head ∷ ds) → IsPlan n index head (request_stores (the_ring n) index a (head ∷ ds))
 plan_of n cap index head owner a ds small plain short all =
@@ -144,16 +147,16 @@ plan_of n cap index head owner a ds small plain short all =
 
 -- ---- the driver
 
-ask_driven : (n cap base : ℕ) (past : List Entry) (heads : List ℕ) (a : Ask) (v : Driver) (ds : List ℕ) → n ≤ 64 → IsPlainAsk cap a → length ds ≡ 3 → AllByRecursion (IsFree n v.owner) ds → Driven n cap base past heads v
+ask_driven : (n cap base : ℕ) (past : List Entry) (heads : List ℕ) (a : Ask) (v : Driver) (ds : List ℕ) → n ≤ 64 → IsPlainAsk cap a → 0 < length ds → length ds ≤ 3 → AllByRecursion (IsFree n v.owner) ds → Driven n cap base past heads v
     → Driven n cap base past heads (record v { owner = owned_by (first_or_zero ds) ds v.owner; waiting = Some (waits_on (the_ring n) a ds v.avail_idx) })
-ask_driven n cap base past heads a v [] small plain three all d = absurd (omega arith)
-ask_driven n cap base past heads a v (head ∷ ds) small plain three all d = record {
+ask_driven n cap base past heads a v [] small plain some few all d = absurd (omega arith)
+ask_driven n cap base past heads a v (head ∷ ds) small plain some few all d = record {
   index = d.index;
   below = d.below;
   owned = λ k out. owned_other n head (head ∷ ds) v.owner (slice_index heads k) (slice_index heads k) all (d.owned k out);
   apart = d.apart;
   waits = record {
-    simple = plain;
+    wide = plain;
     below = all.0.0;
     mine = owned_first head ds v.owner;
     apart = λ k out same.
@@ -169,11 +172,12 @@ ask_holds h s l a good plain ready x =
     let v : Driver = l.driver in
     let free : List ℕ = free_descriptors h.size v in
     let enough : descriptors_needed a ≤ length free = grind (arith, nat_tests) in
-    let three : length (chosen h.size a v) ≡ 3 = length-take-le (descriptors_needed a) free enough ∙ three_needed h.capacity a plain in
+    let many : length (chosen h.size a v) ≡ descriptors_needed a = length-take-le (descriptors_needed a) free enough in
+    let needed = few_needed a in
     let all : AllByRecursion (IsFree h.size v.owner) (chosen h.size a v) = free_taken h.size v.owner (descriptors_needed a) free (free_are v.owner h.size 0 h.size (omega arith)) in record {
       known = x.known;
       ringed = x.ringed;
-      driven = ask_driven h.size h.capacity h.base s.past (s.heads 0) a v (chosen h.size a v) good.size.small plain three all x.driven;
+      driven = ask_driven h.size h.capacity h.base s.past (s.heads 0) a v (chosen h.size a v) good.size.small plain (omega (arith, many, needed.0)) (omega (arith, many, needed.1)) all x.driven;
       worked = x.worked;
       stored = x.stored;
       built = x.built;

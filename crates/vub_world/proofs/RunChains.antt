@@ -1,5 +1,5 @@
 -- The chain of a request in memory: what stores leave of it, and how the driver's stores make it.
-use Rattle.std.proofs.Common.{◌≡◌, ◌≤◌, ◌<◌, ◌⊎◌, ℕ, zero, suc, ◌+◌, ◌*◌, ◌^◌, List, [], ◌∷◌, ◌++◌, length, refl, ap, sym, ◌∙◌, inl, inr, arith}
+use Rattle.std.proofs.Common.{◌≡◌, ◌≤◌, ◌<◌, ◌⊎◌, ℕ, zero, suc, ◌+◌, ◌*◌, ◌^◌, Bool, true, false, List, [], ◌∷◌, ◌++◌, length, refl, ap, sym, ◌∙◌, inl, inr, arith}
 use Rattle.std.specs.Prelude.{Some, None}
 use Rattle.byteorder.specs.Endian.{little_from, little_bytes}
 use Rattle.byteorder.specs.Numbers.{little_from-cons, little_number-reads_back}
@@ -9,6 +9,7 @@ use Rattle.vub_shared.proofs.BytesLemmas.{word-put_inside, bytes_from-put_other}
 use Rattle.vub_driver.specs.Layout.{area_place, buffer_place, status_place}
 use Rattle.vub_driver.specs.Requests.{Piece, readable_piece, writable_piece, write_flag, descriptor_bytes}
 use Rattle.vub_device.specs.declared.entry.Asked.{Asked}
+use Rattle.vub_device.specs.declared.entry.Asked.TheVariants as asks
 use Rattle.vub_world.specs.declared.chain.Desc.{Desc}
 use Rattle.vub_world.specs.ChainState.{type_of, sector_of, handed_bytes, data_start, data_of, desc_of}
 use Rattle.vub_world.proofs.RunFrames.{keeps, length_little}
@@ -33,10 +34,21 @@ pub record HasFront (m : Bytes) (buffer : ℕ) (request : Asked) : Type 0 where
   pub sector : word 8 m 0 (buffer + 8) ≡ sector_of request
   pub handed : bytes_from (length (handed_bytes request)) m 0 (data_start buffer request) ≡ handed_bytes request
 
--- the chain of header, data and status, and the buffer
+-- whether there is data between header and status
+abbrev pub has_body : Asked → Bool
+has_body asks.Flush = false
+has_body request = true
+
+-- the descriptors of a chain, with one for the data or without
+abbrev pub chain_of : Bool → ℕ → ℕ → ℕ → List ℕ
+chain_of true head body status = head ∷ body ∷ status ∷ []
+chain_of false head body status = head ∷ status ∷ []
+
+-- the chain of header, data and status, and the buffer. Without data the second descriptor is that of the status
 pub record HasChain (m : Bytes) (head body status : ℕ) (request : Asked) : Type 0 where
   pub first : HasDesc m head (desc_of (readable_piece (buffer_at head) 16) (Some body))
-  pub middle : HasDesc m body (desc_of (data_of (buffer_at head) request) (Some status))
+  pub middle : has_body request ≡ true → HasDesc m body (desc_of (data_of (buffer_at head) request) (Some status))
+  pub none : has_body request ≡ false → body ≡ status
   pub last : HasDesc m status (desc_of (writable_piece (status_place (buffer_at head)) 1) None)
   pub front : HasFront m (buffer_at head) request
 
@@ -76,7 +88,8 @@ pub record Spares (head body status : ℕ) (request : Asked) (p : ℕ) (bs : Lis
 pub chain_kept : (m : Bytes) (head body status : ℕ) (request : Asked) (p : ℕ) (bs : List ℕ) → Spares head body status request p bs → HasChain m head body status request → HasChain (put m 0 p bs) head body status request
 chain_kept m head body status request p bs s h = record {
   first = desc_kept m head (desc_of (readable_piece (buffer_at head) 16) (Some body)) p bs s.first h.first;
-  middle = desc_kept m body (desc_of (data_of (buffer_at head) request) (Some status)) p bs s.middle h.middle;
+  middle = λ some. desc_kept m body (desc_of (data_of (buffer_at head) request) (Some status)) p bs s.middle (h.middle some);
+  none = h.none;
   last = desc_kept m status (desc_of (writable_piece (status_place (buffer_at head)) 1) None) p bs s.last h.last;
   front = front_kept m (buffer_at head) request p bs s.header s.handed h.front;
 }

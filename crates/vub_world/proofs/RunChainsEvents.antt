@@ -24,7 +24,6 @@ use Rattle.vub_world.specs.Moments.{Lane, Moment, opening}
 use Rattle.vub_world.specs.Run.{Played, played, if_ready, guest_items, guest, guest_stores, ask, collect, take_first, boot, join, one_turn, is_due, then_played, turns, drain_choice, Drains, Plays}
 use Rattle.vub_world.specs.Turns.{turned}
 use Rattle.vub_world.proofs.RunGood.{the_ring, IsPlan, IsWaiting, WaitsWell}
-use Rattle.vub_world.proofs.RunAsks.{plain_ask}
 use Rattle.vub_world.proofs.RunCollects.{IsTaken, next_number, after_taken, first_seen}
 use Rattle.vub_world.proofs.RunTurns.{IsPlain, Good}
 use Rattle.vub_world.proofs.RunEvents.{Right, turn_right, event_right}
@@ -62,7 +61,7 @@ guest_all h m plain few good c = tested h m (is_some (m.lanes 0).driver.waiting)
     go (Some w) e = guest_some h m w plain few good c e
 
 ask_all : (h : Header1) (m : Moment) (a : Ask) → IsAsk h a → ChainedAt h m → ChainedAt h (ask h 0 Direct a m).next
-ask_all h m a is c = tested h m (can_take h.size Direct a (m.lanes 0).driver) _ c (λ ready. ask_chained h m.scene (m.lanes 0).driver a (plain_ask h a is) ready c)
+ask_all h m a is c = tested h m (can_take h.size Direct a (m.lanes 0).driver) _ c (λ ready. ask_chained h m.scene (m.lanes 0).driver a ready c)
 
 collect_all : (h : Header1) (m : Moment) → IsPlain h → Good h m → ChainedAt h m → ChainedAt h (collect h 0 m).next
 collect_all h m plain good c = go (seen (the_ring h.size) m.scene.memory (h.base + collected m.scene.past 0)) refl

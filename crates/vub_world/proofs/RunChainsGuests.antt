@@ -14,7 +14,7 @@ use Rattle.vub_shared.proofs.BytesLemmas.{word-put_same}
 use Rattle.vub_ring.specs.Ring.{avail_idx, avail_entry_place, avail_idx_place, last_head}
 use Rattle.vub_driver.specs.Layout.{status_place, sectors_place}
 use Rattle.vub_driver.specs.Drivers.{Driver, Waiting}
-use Rattle.vub_driver.specs.Requests.{Piece, readable_piece, writable_piece, written_bytes}
+use Rattle.vub_driver.specs.Requests.{Piece, readable_piece, writable_piece, written_bytes, has_data}
 use Rattle.vub_driver.specs.Stores.{store_of_some, offer_stores, request_stores}
 use Rattle.vub_device.specs.declared.entry.Asked.{Asked}
 use Rattle.vub_device.specs.declared.entry.Entry.{Entry}
@@ -24,12 +24,12 @@ use Rattle.vub_world.specs.declared.report.items.Item.TheVariants as items
 use Rattle.vub_world.specs.Memory.{Scene, with_at, after_item, after_items}
 use Rattle.vub_world.specs.Run.{request_of, guest_items}
 use Rattle.vub_world.specs.ChainState.{data_of}
-use Rattle.vub_world.proofs.RunGood.{the_ring, IsSize, IsSimple, IsOut, IsPlan, IsWaiting, Known, Driven}
+use Rattle.vub_world.proofs.RunGood.{the_ring, IsSize, IsWide, IsOut, IsPlan, IsWaiting, Known, Driven}
 use Rattle.vub_world.proofs.RunFrames.{keeps, length_little, entry_small}
 use Rattle.vub_world.proofs.RunGuests.{IsGood}
 use Rattle.vub_world.proofs.RunOffers.{same_head, new_head, same_asked, new_asked}
-use Rattle.vub_world.proofs.RunChains.{table_place, buffer_at, HasChain, IsOff, Spares, chain_kept, desc_long}
-use Rattle.vub_world.proofs.RunChainsStores.{put_all, handed_fits, header_long, stores_make, linked}
+use Rattle.vub_world.proofs.RunChains.{table_place, buffer_at, chain_of, HasChain, IsOff, Spares, chain_kept, desc_long}
+use Rattle.vub_world.proofs.RunChainsStores.{put_all, handed_fits, header_long, stores_make, linked, linked_two}
 use Rattle.vub_world.proofs.RunChainsTurns.{IsLinked, IsPrepared, Chained, ring_spares, buffer_spares}
 
 -- ---- where the stores of a request are
@@ -48,7 +48,7 @@ mine_append : (owner : ℕ → Option ℕ) (head : ℕ) (xs ys : List Store) →
 mine_append owner head [] ys p q = q
 mine_append owner head (x ∷ xs) ys p q = (p.0, mine_append owner head xs ys p.1 q)
 
-some_mine : (owner : ℕ → Option ℕ) (head : ℕ) (bytes : List ℕ) → length bytes ≤ 512 → AreMine owner head (store_of_some 0 (sectors_place (buffer_at head)) bytes)
+some_mine : (owner : ℕ → Option ℕ) (head : ℕ) (bytes : List ℕ) → length bytes ≤ 4096 → AreMine owner head (store_of_some 0 (sectors_place (buffer_at head)) bytes)
 some_mine owner head [] few = tt
 some_mine owner head (b ∷ bytes) few = (inr (inl (omega arith, omega arith)), tt)
 
@@ -67,12 +67,23 @@ linked_mine n index owner head body status p size fh fb fs mh mb ms =
       ),
     )
 
-stores_mine : (n cap index : ℕ) (owner : ℕ → Option ℕ) (head body status : ℕ) (a : Ask) → IsSize n → IsSimple cap (Some (request_of a)) → head < n → body < n → status < n → owner head ≡ Some head → owner body ≡ Some head → owner status ≡ Some head
-    → AreMine owner head (request_stores (the_ring n) index a (head ∷ body ∷ status ∷ []))
-stores_mine n cap index owner head body status (wants.Read s c) size simple fh fb fs mh mb ms =
+-- those of a request without data
+two_mine : (n index : ℕ) (owner : ℕ → Option ℕ) (head status : ℕ) → IsSize n → head < 64 → status < 64 → owner head ≡ Some head → owner status ≡ Some head
+    → AreMine owner head (linked_two n index head status)
+two_mine n index owner head status size fh fs mh ms =
+    let low = entry_small n index size in
+    let e : length (little_bytes 2 head) ≡ 2 = length_little 2 head in
+    let i : length (little_bytes 2 ((index + 1) % 65536)) ≡ 2 = length_little 2 ((index + 1) % 65536) in (
+      inr (inr (head, fh, mh, refl, desc_long (readable_piece (buffer_at head) 16) 1 status)),
+      (inr (inr (status, fs, ms, refl, desc_long (writable_piece (status_place (buffer_at head)) 1) 0 0)), (inl (omega arith, omega arith), (inl (omega arith, omega arith), tt))),
+    )
+
+stores_mine : (n cap index : ℕ) (owner : ℕ → Option ℕ) (head body status : ℕ) (a : Ask) → IsSize n → IsWide cap (Some (request_of a)) → head < n → body < n → status < n → owner head ≡ Some head → owner body ≡ Some head → owner status ≡ Some head
+    → AreMine owner head (request_stores (the_ring n) index a (chain_of (has_data a) head body status))
+stores_mine n cap index owner head body status (wants.Read s c) size wide fh fb fs mh mb ms =
     let small : n ≤ 64 = size.small in
     (inr (inl (omega arith, omega (arith, header_long 0 s))), (inr (inl (omega arith, omega arith)), linked_mine n index owner head body status (data_of (buffer_at head) (request_of (wants.Read s c))) size (omega arith) (omega arith) (omega arith) mh mb ms))
-stores_mine n cap index owner head body status (wants.Write s fills) size simple fh fb fs mh mb ms =
+stores_mine n cap index owner head body status (wants.Write s fills) size wide fh fb fs mh mb ms =
     let small : n ≤ 64 = size.small in
     let bytes : List ℕ = written_bytes (wants.Write s fills) in
     let front : List Store = store_of_some 0 (sectors_place (buffer_at head)) bytes in
@@ -80,13 +91,15 @@ stores_mine n cap index owner head body status (wants.Write s fills) size simple
     let rest : List Store = linked n index head body status (data_of (buffer_at head) (request_of (wants.Write s fills))) in (
       inr (inl (omega arith, omega (arith, header_long 1 s))),
       mine_append owner head (front ++ last) rest
-          (mine_append owner head front last (some_mine owner head bytes (omega (arith, simple.1))) (inr (inl (omega arith, omega arith)), tt))
+          (mine_append owner head front last (some_mine owner head bytes wide.few) (inr (inl (omega arith, omega arith)), tt))
           (linked_mine n index owner head body status (data_of (buffer_at head) (request_of (wants.Write s fills))) size (omega arith) (omega arith) (omega arith) mh mb ms),
     )
-stores_mine n cap index owner head body status wants.Flush size simple fh fb fs mh mb ms = absurd simple
-stores_mine n cap index owner head body status wants.Id size simple fh fb fs mh mb ms = absurd simple
-stores_mine n cap index owner head body status (wants.Discard parts) size simple fh fb fs mh mb ms = absurd simple
-stores_mine n cap index owner head body status (wants.Zero parts) size simple fh fb fs mh mb ms = absurd simple
+stores_mine n cap index owner head body status wants.Flush size wide fh fb fs mh mb ms =
+    let small : n ≤ 64 = size.small in
+    (inr (inl (omega arith, omega (arith, header_long 4 0))), (inr (inl (omega arith, omega arith)), two_mine n index owner head status size (omega arith) (omega arith) mh ms))
+stores_mine n cap index owner head body status wants.Id size wide fh fb fs mh mb ms = absurd wide
+stores_mine n cap index owner head body status (wants.Discard parts) size wide fh fb fs mh mb ms = absurd wide
+stores_mine n cap index owner head body status (wants.Zero parts) size wide fh fb fs mh mb ms = absurd wide
 
 -- ---- they leave the chains of others
 
@@ -101,7 +114,7 @@ owners_apart owner d e x y is_d is_e apart same =
     let both : Some x ≡ Some y = sym is_d ∙ ap owner same ∙ is_e in
     apart (let t : y ≡ x = cc in t)
 
-other_spared : (cap : ℕ) (owner : ℕ → Option ℕ) (other head body status : ℕ) (r : Asked) (p : ℕ) (bs : List ℕ) → IsSimple cap (Some r) → head < 64 → body < 64 → status < 64 → head ≢ other → owner head ≡ Some head → owner body ≡ Some head → owner status ≡ Some head
+other_spared : (cap : ℕ) (owner : ℕ → Option ℕ) (other head body status : ℕ) (r : Asked) (p : ℕ) (bs : List ℕ) → IsWide cap (Some r) → head < 64 → body < 64 → status < 64 → head ≢ other → owner head ≡ Some head → owner body ≡ Some head → owner status ≡ Some head
     → IsMine owner other p bs → Spares head body status r p bs
 other_spared cap owner other head body status r p bs simple fh fb fs apart mh mb ms (inl ring) = ring_spares cap head body status r p bs fh fb fs simple ring.0 ring.1
 other_spared cap owner other head body status r p bs simple fh fb fs apart mh mb ms (inr (inl own)) = buffer_spares cap head body status other r p bs fh fb fs simple apart own.0 own.1
@@ -119,7 +132,7 @@ other_spared cap owner other head body status r p bs simple fh fb fs apart mh mb
       handed = inr (omega (arith, there.0));
     }
 
-chain_stays : (cap : ℕ) (owner : ℕ → Option ℕ) (other head body status : ℕ) (r : Asked) (sts : List Store) (m : Bytes) → IsSimple cap (Some r) → head < 64 → body < 64 → status < 64 → head ≢ other → owner head ≡ Some head → owner body ≡ Some head → owner status ≡ Some head
+chain_stays : (cap : ℕ) (owner : ℕ → Option ℕ) (other head body status : ℕ) (r : Asked) (sts : List Store) (m : Bytes) → IsWide cap (Some r) → head < 64 → body < 64 → status < 64 → head ≢ other → owner head ≡ Some head → owner body ≡ Some head → owner status ≡ Some head
     → AreMine owner other sts → HasChain m head body status r → HasChain (put_all sts m) head body status r
 chain_stays cap owner other head body status r [] m simple fh fb fs apart mh mb ms mine h = h
 chain_stays cap owner other head body status r (st ∷ sts) m simple fh fb fs apart mh mb ms mine h =
@@ -174,12 +187,13 @@ guest_chained h s v w good few known driven waits ready c =
     let index : v.avail_idx < 65536 = omega (arith, driven.index) in
     let shows : last_head (the_ring n) m ≡ w.head = ap (last_head (the_ring n)) from_offer ∙ offered_head n v.avail_idx w.head (put_all plan.first s.memory) good.size index (omega (arith, waits.below)) in
     let up : w.head < ready.body = ready.up in
-    let upper : ready.body < ready.status = ready.upper in
+    let within : ready.body ≤ ready.status = ready.within in
+    let wide : IsWide h.capacity (Some r) = waits.wide in
     let fits : ready.status < n = ready.fits in
     let all : AreMine v.owner w.head w.left = subst (λ (sts : List Store). AreMine v.owner w.head sts) (sym ready.stores)
-    (stores_mine n h.capacity v.avail_idx v.owner w.head ready.body ready.status w.ask good.size waits.simple waits.below (omega arith) fits waits.mine ready.body_mine ready.status_mine) in
+    (stores_mine n h.capacity v.avail_idx v.owner w.head ready.body ready.status w.ask good.size wide waits.below (omega arith) fits waits.mine ready.body_mine ready.status_mine) in
     let made : HasChain m w.head ready.body ready.status r = subst (λ (sts : List Store). HasChain (put_all sts s.memory) w.head ready.body ready.status r) (sym ready.stores)
-    (stores_make n h.capacity v.avail_idx w.head ready.body ready.status w.ask s.memory good.size few waits.simple up upper fits) in
+    (stores_make n h.capacity v.avail_idx w.head ready.body ready.status w.ask s.memory good.size few wide up ready.upper ready.none fits) in
     let past : List Entry = entries.Offer 0 r ∷ s.past in
     let heads : List ℕ = s.heads 0 ++ w.head ∷ [] in
     let next : Scene = record { memory = m; past = past; heads = with_at s.heads 0 heads } in
@@ -191,7 +205,7 @@ guest_chained h s v w good few known driven waits ready c =
             let below : slice_index (s.heads 0) k < n = driven.below k out_k in
             let fb : was.body < n = was.body_fits in
             let fs : was.status < n = was.status_fits in
-            let simple : IsSimple h.capacity (Some was.request) = subst (λ (o : Option Asked). IsSimple h.capacity o) was.is (known.simple k low) in
+            let simple : IsWide h.capacity (Some was.request) = subst (λ (o : Option Asked). IsWide h.capacity o) was.is (known.wide k low) in
             subst (λ (x : ℕ). IsLinked n v.owner m x (asked past 0 k)) (sym (same_head (s.heads 0) w.head k low)) (record {
               body = was.body;
               status = was.status;

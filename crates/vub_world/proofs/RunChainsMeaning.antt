@@ -1,5 +1,5 @@
 -- What memory means along every run: each request that is offered and not published, at its head.
-use Rattle.std.proofs.Common.{◌≡◌, ◌≤◌, ◌<◌, ℕ, ◌+◌, not, false, List, ◌++◌, length, refl, ap, sym, ◌∙◌, subst, arith}
+use Rattle.std.proofs.Common.{◌≡◌, ◌≤◌, ◌<◌, ℕ, ◌+◌, not, Bool, true, false, List, ◌++◌, length, refl, ap, sym, ◌∙◌, subst, arith}
 use Rattle.std.specs.Prelude.{Option, Some, None, slice_index, slice_get}
 use Rattle.vub_base.specs.declared.header.Header1.{Header1}
 use Rattle.vub_shared.specs.Bytes.{Bytes, word, bytes_from}
@@ -12,16 +12,16 @@ use Rattle.vub_schedule.specs.declared.types.Event.{Event}
 use Rattle.vub_world.specs.declared.report.items.Record.{Record}
 use Rattle.vub_split.specs.declared.split.SplitRing.{SplitRing}
 use Rattle.vub_world.specs.declared.chain.Desc.{Desc}
-use Rattle.vub_world.specs.ChainState.{IsFirstRing, Meant, desc_in, desc_place, desc_of, data_of, data_start, body_desc, handed_bytes}
+use Rattle.vub_world.specs.ChainState.{IsFirstRing, Meant, desc_in, desc_place, desc_of, data_of, data_start, data_len, body_desc, handed_bytes, type_of, sector_of}
 use Rattle.vub_world.specs.Moments.{Moment, unfinished}
 use Rattle.vub_world.proofs.RunNumbers.{not_among-take, among_get, among_filter, missing-among}
 use Rattle.vub_world.proofs.RunFrames.{open_out}
-use Rattle.vub_world.proofs.RunGood.{IsSize, IsSimple, IsOut}
+use Rattle.vub_world.proofs.RunGood.{IsSize, IsWide, IsOut}
 use Rattle.vub_world.proofs.Runs.{plain_header}
 use Rattle.vub_world.proofs.RunTurns.{IsPlain, Good}
 use Rattle.vub_world.proofs.RunsTo.{stands_good}
 use Rattle.vub_world.specs.Run.{Stands}
-use Rattle.vub_world.proofs.RunChains.{table_place, buffer_at, HasDesc}
+use Rattle.vub_world.proofs.RunChains.{table_place, buffer_at, has_body, HasDesc}
 use Rattle.vub_world.proofs.RunChainsStores.{handed_fits}
 use Rattle.vub_world.proofs.RunChainsTurns.{IsLinked}
 use Rattle.vub_world.proofs.RunChainsEvents.{ChainedAt, stands_chained}
@@ -41,49 +41,106 @@ desc_found r m d x space table h =
     ∙ ap (λ (y : ℕ). make x.addr x.len y (word 2 m s (p + 14))) f
     ∙ ap (λ (y : ℕ). make x.addr x.len x.flags y) n
 
-body_some : (cap buffer next : ℕ) (r : Asked) → IsSimple cap (Some r) → body_desc buffer next r ≡ Some (desc_of (data_of buffer r) (Some next))
-body_some cap buffer next (asks.Read s c) simple = refl
-body_some cap buffer next (asks.Write s bytes) simple = refl
-body_some cap buffer next asks.Flush simple = absurd simple
-body_some cap buffer next asks.Id simple = absurd simple
-body_some cap buffer next (asks.Discard parts) simple = absurd simple
-body_some cap buffer next (asks.Zero parts) simple = absurd simple
+body_some : (buffer next : ℕ) (r : Asked) → has_body r ≡ true → body_desc buffer next r ≡ Some (desc_of (data_of buffer r) (Some next))
+body_some buffer next (asks.Read s c) some = refl
+body_some buffer next (asks.Write s bytes) some = refl
+body_some buffer next asks.Flush some = absurd (let fails : false ≡ true = some in cc)
+body_some buffer next asks.Id some = refl
+body_some buffer next (asks.Discard parts) some = refl
+body_some buffer next (asks.Zero parts) some = refl
 
-pub linked_means : (sizes : ℕ → ℕ) (r : SplitRing) (n cap : ℕ) (owner : ℕ → Option ℕ) (m : Bytes) (head : ℕ) (o : Option Asked) → IsFirstRing sizes r n → IsSize n → head < n → IsSimple cap o → IsLinked n owner m head o → Meant sizes r m head o
-linked_means sizes r n cap owner m head o ring size low simple l =
-    let b : ℕ = buffer_at head in
-    let q : Asked = l.request in
-    let is_simple : IsSimple cap (Some q) = subst (λ (x : Option Asked). IsSimple cap x) l.is simple in
-    let at = handed_fits cap b q is_simple in
-    let small : n ≤ 64 = size.small in
-    let fb : l.body < n = l.body_fits in
-    let fs : l.status < n = l.status_fits in
-    let many : sizes r.desc.0.number ≡ sizes 0 = ap sizes ring.space in
-    let space : r.desc.0.number ≡ 0 = ring.space in
-    let body : desc_in r m l.body ≡ desc_of (data_of b q) (Some l.status) = desc_found r m l.body (desc_of (data_of b q) (Some l.status)) ring.space ring.table l.stands.middle in
-    record {
-      links = record { head = head; body = Some l.body; status = l.status };
-      at_head = refl;
-      request = q;
-      is = l.is;
-      means = record {
-        first = desc_found r m head (desc_of (readable_piece b 16) (Some l.body)) ring.space ring.table l.stands.first;
-        body = ap (λ (x : Desc). Some x) body ∙ sym (body_some cap b l.status q is_simple);
-        last = desc_found r m l.status (desc_of (writable_piece (status_place b) 1) None) ring.space ring.table l.stands.last;
-        second_fits = omega (arith, ring.size, fb);
-        status_fits = omega (arith, ring.size, fs);
-        kind = ap (λ (t : ℕ). word 4 m t b) space ∙ l.stands.front.kind;
-        sector = ap (λ (t : ℕ). word 8 m t (b + 8)) space ∙ l.stands.front.sector;
-        handed = ap (λ (t : ℕ). bytes_from (length (handed_bytes q)) m t (data_start b q)) space ∙ l.stands.front.handed;
-        room = omega (arith, many, ring.room, at.1.1);
-      };
-    }
+body_none : (buffer next : ℕ) (r : Asked) → has_body r ≡ false → body_desc buffer next r ≡ None
+body_none buffer next (asks.Read s c) none = absurd (let fails : true ≡ false = none in cc)
+body_none buffer next (asks.Write s bytes) none = absurd (let fails : true ≡ false = none in cc)
+body_none buffer next asks.Flush none = refl
+body_none buffer next asks.Id none = absurd (let fails : true ≡ false = none in cc)
+body_none buffer next (asks.Discard parts) none = absurd (let fails : true ≡ false = none in cc)
+body_none buffer next (asks.Zero parts) none = absurd (let fails : true ≡ false = none in cc)
+
+pub linked_means : (sizes : ℕ → ℕ) (r : SplitRing) (n cap : ℕ) (owner : ℕ → Option ℕ) (m : Bytes) (head : ℕ) (o : Option Asked) → IsFirstRing sizes r n → IsSize n → head < n → IsWide cap o → IsLinked n owner m head o → Meant sizes r m head o
+linked_means sizes r n cap owner m head o ring size low wide l = go (has_body l.request) refl
+  where
+    b : ℕ
+    b = buffer_at head
+
+    q : Asked
+    q = l.request
+
+    is_wide : IsWide cap (Some q)
+    is_wide = subst (λ (x : Option Asked). IsWide cap x) l.is wide
+
+    space : r.desc.0.number ≡ 0
+    space = ring.space
+
+    status_fits : l.status < r.size
+    status_fits = let fs : l.status < n = l.status_fits in omega (arith, ring.size, fs)
+
+    body_fits : l.body < r.size
+    body_fits = let fb : l.body < n = l.body_fits in omega (arith, ring.size, fb)
+
+    last : desc_in r m l.status ≡ desc_of (writable_piece (status_place b) 1) None
+    last = desc_found r m l.status (desc_of (writable_piece (status_place b) 1) None) ring.space ring.table l.stands.last
+
+    kind : word 4 m r.desc.0.number b ≡ type_of q
+    kind = ap (λ (t : ℕ). word 4 m t b) space ∙ l.stands.front.kind
+
+    sector : word 8 m r.desc.0.number (b + 8) ≡ sector_of q
+    sector = ap (λ (t : ℕ). word 8 m t (b + 8)) space ∙ l.stands.front.sector
+
+    handed : bytes_from (length (handed_bytes q)) m r.desc.0.number (data_start b q) ≡ handed_bytes q
+    handed = ap (λ (t : ℕ). bytes_from (length (handed_bytes q)) m t (data_start b q)) space ∙ l.stands.front.handed
+
+    room : b + (4096 + data_len q) ≤ sizes r.desc.0.number
+    room =
+        let many : sizes r.desc.0.number ≡ sizes 0 = ap sizes ring.space in
+        let small : n ≤ 64 = size.small in
+        omega (arith, many, ring.room, (handed_fits cap b q is_wide).1.1)
+
+    go : (t : Bool) → has_body q ≡ t → Meant sizes r m head o
+    go true some =
+        let body : desc_in r m l.body ≡ desc_of (data_of b q) (Some l.status) = desc_found r m l.body (desc_of (data_of b q) (Some l.status)) ring.space ring.table (l.stands.middle some) in
+        record {
+          links = record { head = head; body = Some l.body; status = l.status };
+          at_head = refl;
+          request = q;
+          is = l.is;
+          means = record {
+            first = desc_found r m head (desc_of (readable_piece b 16) (Some l.body)) ring.space ring.table l.stands.first;
+            body = ap (λ (x : Desc). Some x) body ∙ sym (body_some b l.status q some);
+            last = last;
+            second_fits = body_fits;
+            status_fits = status_fits;
+            kind = kind;
+            sector = sector;
+            handed = handed;
+            room = room;
+          };
+        }
+    go false none =
+        let same : l.body ≡ l.status = l.stands.none none in
+        record {
+          links = record { head = head; body = None; status = l.status };
+          at_head = refl;
+          request = q;
+          is = l.is;
+          means = record {
+            first = desc_found r m head (desc_of (readable_piece b 16) (Some l.body)) ring.space ring.table l.stands.first ∙ ap (λ (d : ℕ). desc_of (readable_piece b 16) (Some d)) same;
+            body = sym (body_none b l.status q none);
+            last = last;
+            second_fits = status_fits;
+            status_fits = status_fits;
+            kind = kind;
+            sector = sector;
+            handed = handed;
+            room = room;
+          };
+        }
 
 -- at a moment: each request that is offered and not collected
 pub moment_means : (h : Header1) (m : Moment) (sizes : ℕ → ℕ) (r : SplitRing) (k : ℕ) → IsPlain h → Good h m → ChainedAt h m → IsFirstRing sizes r h.size → IsOut m.scene.past (m.scene.heads 0) k
     → Meant sizes r m.scene.memory (slice_index (m.scene.heads 0) k) (asked m.scene.past 0 k)
 moment_means h m sizes r k plain good c ring out =
-    linked_means sizes r h.size h.capacity (m.lanes 0).driver.owner m.scene.memory (slice_index (m.scene.heads 0) k) (asked m.scene.past 0 k) ring plain.good.size (good.holds.driven.below k out) (good.holds.known.simple k out.below) (c.linked k out)
+    linked_means sizes r h.size h.capacity (m.lanes 0).driver.owner m.scene.memory (slice_index (m.scene.heads 0) k) (asked m.scene.past 0 k) ring plain.good.size (good.holds.driven.below k out) (good.holds.known.wide k out.below) (c.linked k out)
 
 -- a request that isn't published isn't collected
 pub unpublished_out : (h : Header1) (m : Moment) (k : ℕ) → k < length (m.scene.heads 0) → is_among (published m.scene.past 0) k ≡ false → IsOut m.scene.past (m.scene.heads 0) k

@@ -10,15 +10,16 @@ use Rattle.vub_base.specs.declared.request.Ask.TheVariants as wants
 use Rattle.vub_base.specs.declared.request.Shape.TheVariants.{Direct}
 use Rattle.vub_shared.specs.Bytes.{Bytes}
 use Rattle.vub_driver.specs.Drivers.{Driver, Waiting, free_from, free_descriptors, can_take, chosen, first_or_zero, owned_by, waits_on, after_ask, is_that, without_owner}
-use Rattle.vub_driver.specs.Requests.{descriptors_needed}
+use Rattle.vub_driver.specs.Requests.{descriptors_needed, has_data}
+use Rattle.vub_driver.specs.Stores.{request_stores}
 use Rattle.vub_device.specs.declared.entry.Asked.{Asked}
 use Rattle.vub_device.specs.declared.entry.Entry.TheVariants as entries
 use Rattle.vub_device.specs.Past.{asked}
 use Rattle.vub_world.specs.Memory.{Scene}
 use Rattle.vub_world.specs.Moments.{Lane}
-use Rattle.vub_world.specs.Run.{request_of}
-use Rattle.vub_world.proofs.RunGood.{the_ring, IsSimple, IsWaiting, WaitsWell, Driven}
+use Rattle.vub_world.proofs.RunGood.{the_ring, IsWaiting, WaitsWell, Driven}
 use Rattle.vub_world.proofs.RunCollects.{IsTaken, next_number, next_out, later_out}
+use Rattle.vub_world.proofs.RunChains.{chain_of}
 use Rattle.vub_world.proofs.RunChainsTurns.{IsLinked, IsPrepared, PreparedWell, Chained}
 use Rattle.vub_world.proofs.RunAsks.{is_none_means}
 
@@ -54,13 +55,14 @@ owned_still n head d (y ∷ ys) owner x e all is = elim (cases_eq y x) [
   | inr apart ↦ let rest : owned_by head ys owner x ≡ Some e = owned_still n head (y + 1) ys owner x e all.1.1.1 is in grind (arith, nat_tests)
 ]
 
-three_needed : (cap : ℕ) (a : Ask) → IsSimple cap (Some (request_of a)) → descriptors_needed a ≡ 3
-three_needed cap (wants.Read s c) plain = refl
-three_needed cap (wants.Write s fills) plain = refl
-three_needed cap wants.Flush plain = absurd plain
-three_needed cap wants.Id plain = absurd plain
-three_needed cap (wants.Discard parts) plain = absurd plain
-three_needed cap (wants.Zero parts) plain = absurd plain
+-- how many descriptors a request takes
+pub needed_is : (a : Ask) → descriptors_needed a ≡ cond (has_data a) 3 2
+needed_is (wants.Read s c) = refl
+needed_is (wants.Write s fills) = refl
+needed_is wants.Flush = refl
+needed_is wants.Id = refl
+needed_is (wants.Discard parts) = refl
+needed_is (wants.Zero parts) = refl
 
 linked_still : (n : ℕ) (owner owner' : ℕ → Option ℕ) (m : Bytes) (head : ℕ) (o : Option Asked) → ((d : ℕ) → owner d ≡ Some head → owner' d ≡ Some head) → IsLinked n owner m head o → IsLinked n owner' m head o
 linked_still n owner owner' m head o still was = record {
@@ -75,34 +77,59 @@ linked_still n owner owner' m head o still was = record {
   stands = was.stands;
 }
 
-prepared : (n : ℕ) (a : Ask) (v : Driver) (ds : List ℕ) → length ds ≡ 3 → IsFreeFrom n v.owner 0 ds
+prepared_three : (n : ℕ) (a : Ask) (v : Driver) (ds : List ℕ) → has_data a ≡ true → length ds ≡ 3 → IsFreeFrom n v.owner 0 ds
     → IsPrepared n (record v { owner = owned_by (first_or_zero ds) ds v.owner; waiting = Some (waits_on (the_ring n) a ds v.avail_idx) }) (waits_on (the_ring n) a ds v.avail_idx)
-prepared n a v [] three all = absurd (omega arith)
-prepared n a v (x ∷ []) three all = absurd (omega arith)
-prepared n a v (x ∷ y ∷ []) three all = absurd (omega arith)
-prepared n a v (x ∷ y ∷ z ∷ []) three all = record {
+prepared_three n a v [] some three all = absurd (omega arith)
+prepared_three n a v (x ∷ []) some three all = absurd (omega arith)
+prepared_three n a v (x ∷ y ∷ []) some three all = absurd (omega arith)
+prepared_three n a v (x ∷ y ∷ z ∷ []) some three all = record {
   body = y;
   status = z;
   up = omega (arith, all.1.1.1.0);
-  upper = omega (arith, all.1.1.1.1.1.1.0);
+  within = omega (arith, all.1.1.1.1.1.1.0);
+  upper = λ given. omega (arith, all.1.1.1.1.1.1.0);
+  none = λ lacks. absurd (let fails : true ≡ false = sym some ∙ lacks in cc);
   fits = all.1.1.1.1.1.1.1.0;
   body_mine = grind (arith, nat_tests);
   status_mine = grind (arith, nat_tests);
-  stores = refl;
+  stores = ap (λ (b : Bool). request_stores (the_ring n) v.avail_idx a (chain_of b x y z)) (sym some);
 }
-prepared n a v (x ∷ y ∷ z ∷ t ∷ ts) three all = absurd (omega arith)
+prepared_three n a v (x ∷ y ∷ z ∷ t ∷ ts) some three all = absurd (omega arith)
 
-pub ask_chained : (h : Header1) (s : Scene) (v : Driver) (a : Ask) → IsSimple h.capacity (Some (request_of a)) → can_take h.size Direct a v ≡ true → Chained h.size s v → Chained h.size s (after_ask (the_ring h.size) a v)
-ask_chained h s v a plain ready c =
+prepared_two : (n : ℕ) (a : Ask) (v : Driver) (ds : List ℕ) → has_data a ≡ false → length ds ≡ 2 → IsFreeFrom n v.owner 0 ds
+    → IsPrepared n (record v { owner = owned_by (first_or_zero ds) ds v.owner; waiting = Some (waits_on (the_ring n) a ds v.avail_idx) }) (waits_on (the_ring n) a ds v.avail_idx)
+prepared_two n a v [] none two all = absurd (omega arith)
+prepared_two n a v (x ∷ []) none two all = absurd (omega arith)
+prepared_two n a v (x ∷ y ∷ []) none two all = record {
+  body = y;
+  status = y;
+  up = omega (arith, all.1.1.1.0);
+  within = omega arith;
+  upper = λ given. absurd (let fails : false ≡ true = sym none ∙ given in cc);
+  none = λ lacks. refl;
+  fits = all.1.1.1.1.0;
+  body_mine = grind (arith, nat_tests);
+  status_mine = grind (arith, nat_tests);
+  stores = ap (λ (b : Bool). request_stores (the_ring n) v.avail_idx a (chain_of b x y y)) (sym none);
+}
+prepared_two n a v (x ∷ y ∷ z ∷ ds) none two all = absurd (omega arith)
+
+prepared : (n : ℕ) (a : Ask) (v : Driver) (ds : List ℕ) (b : Bool) → has_data a ≡ b → length ds ≡ cond b 3 2 → IsFreeFrom n v.owner 0 ds
+    → IsPrepared n (record v { owner = owned_by (first_or_zero ds) ds v.owner; waiting = Some (waits_on (the_ring n) a ds v.avail_idx) }) (waits_on (the_ring n) a ds v.avail_idx)
+prepared n a v ds true is many all = prepared_three n a v ds is many all
+prepared n a v ds false is many all = prepared_two n a v ds is many all
+
+pub ask_chained : (h : Header1) (s : Scene) (v : Driver) (a : Ask) → can_take h.size Direct a v ≡ true → Chained h.size s v → Chained h.size s (after_ask (the_ring h.size) a v)
+ask_chained h s v a ready c =
     let free : List ℕ = free_descriptors h.size v in
     let ds : List ℕ = chosen h.size a v in
     let enough : descriptors_needed a ≤ length free = grind (arith, nat_tests) in
-    let three : length ds ≡ 3 = length-take-le (descriptors_needed a) free enough ∙ three_needed h.capacity a plain in
+    let many : length ds ≡ cond (has_data a) 3 2 = length-take-le (descriptors_needed a) free enough ∙ needed_is a in
     let all : IsFreeFrom h.size v.owner 0 ds = free_taken h.size v.owner 0 (descriptors_needed a) free (free_are v.owner h.size 0 h.size (omega arith)) in
     record {
       linked = λ k out. linked_still h.size v.owner (owned_by (first_or_zero ds) ds v.owner) s.memory (slice_index (s.heads 0) k) (asked s.past 0 k)
           (λ d is. owned_still h.size (first_or_zero ds) 0 ds v.owner d (slice_index (s.heads 0) k) all is) (c.linked k out);
-      waits = prepared h.size a v ds three all;
+      waits = prepared h.size a v ds (has_data a) refl many all;
     }
 
 -- ---- a collection
@@ -118,7 +145,9 @@ prepared_still h s l x (Some w) t p apart = record {
   body = p.body;
   status = p.status;
   up = p.up;
+  within = p.within;
   upper = p.upper;
+  none = p.none;
   fits = p.fits;
   body_mine = kept_owner l.driver.owner x w.head p.body (apart w refl) p.body_mine;
   status_mine = kept_owner l.driver.owner x w.head p.status (apart w refl) p.status_mine;

@@ -1,9 +1,9 @@
 -- A turn leaves the chain of each offered request.
-use Rattle.std.proofs.Common.{◌≡◌, ◌≢◌, ◌≤◌, ◌<◌, ℕ, zero, suc, ◌+◌, ◌*◌, ◌%◌, Bool, true, false, not, cond, List, [], ◌∷◌, ◌++◌, length, map, refl, ap, sym, ◌∙◌, subst, inl, inr, arith}
+use Rattle.std.proofs.Common.{◌≡◌, ◌≢◌, ◌≤◌, ◌<◌, ℕ, zero, suc, ◌+◌, ◌*◌, ◌/◌, ◌%◌, Bool, true, false, not, cond, List, [], ◌∷◌, ◌++◌, length, map, refl, ap, sym, ◌∙◌, subst, inl, inr, arith}
 use Rattle.std.specs.Prelude.{Option, Some, None, ⊤, slice_index, slice_get, slice_range, option_map}
 use Rattle.byteorder.specs.Endian.{little_bytes}
 use Rattle.std.proofs.lemmas.Bool.{cases_lt, cases_eq}
-use Rattle.std.proofs.lemmas.List.{take-append-le, length-take}
+use Rattle.std.proofs.lemmas.List.{take-append-le}
 use Rattle.vub_base.specs.declared.header.Header1.{Header1}
 use Rattle.vub_base.specs.declared.store.Tag.TheVariants.{SP1, SP2}
 use Rattle.vub_shared.specs.Bytes.{Bytes}
@@ -16,6 +16,7 @@ use Rattle.vub_ring.specs.Rows.{row}
 use Rattle.vub_ring.specs.Steps.{next_step}
 use Rattle.vub_driver.specs.Layout.{status_place, sectors_place}
 use Rattle.vub_driver.specs.Drivers.{Driver, Waiting}
+use Rattle.vub_driver.specs.Requests.{has_data}
 use Rattle.vub_driver.specs.Stores.{request_stores}
 use Rattle.vub_device.specs.declared.entry.Answered.{Answered}
 use Rattle.vub_device.specs.declared.entry.Asked.{Asked}
@@ -26,16 +27,17 @@ use Rattle.vub_world.specs.Memory.{Scene, after_items}
 use Rattle.vub_world.specs.Moments.{Lane, Moment, unfinished}
 use Rattle.vub_device.specs.declared.entry.SectorValue.{SectorValue}
 use Rattle.vub_device.specs.Crash.{value}
-use Rattle.vub_device.specs.Requests.{effect_at}
-use Rattle.vub_world.specs.Tasks.{TaskStep, Look, Put, Act, Sync, Status, task_steps, act_items, status_of}
+use Rattle.vub_device.specs.Requests.{look_at, effect_at}
+use Rattle.vub_world.specs.Tasks.{TaskStep, Look, Put, Act, Sync, Status, task_steps, disk_steps, look_steps, act_steps, look_items, act_items, status_of}
 use Rattle.vub_world.specs.Turns.{turned, work_turn, request_turn, task_turn, phase_turn, phase_goes_on, under_way, begun, is_rest, step_items, row_items, element_of, answer_at}
 use Rattle.vub_world.proofs.RunNumbers.{among_get, among_filter, missing-among}
-use Rattle.vub_world.proofs.RunGood.{the_ring, IsSimple, IsOut, Holds, buffer}
+use Rattle.vub_world.proofs.RunGood.{the_ring, IsWide, IsOut, Holds, buffer}
 use Rattle.vub_world.proofs.RunFrames.{entry_small, open_out, length_little}
 use Rattle.vub_world.proofs.RunGuests.{IsGood, stored_at}
-use Rattle.vub_world.proofs.RunWork.{simple_cases, read_steps, write_steps}
+use Rattle.vub_world.proofs.RunSteps.{WideCases, AtRead, AtWrite, AtFlush, wide_cases, wide_steps, ReadAt, ToLook, ToPut, ToReply, read_at, read_over, WriteAt, ToAct, ToEnd, write_at, write_over}
+use Rattle.vub_world.proofs.RunWork.{sector_few}
 use Rattle.vub_world.proofs.RunTurns.{IsPlain, Good}
-use Rattle.vub_world.proofs.RunChains.{buffer_at, HasChain, Spares, chain_kept}
+use Rattle.vub_world.proofs.RunChains.{buffer_at, chain_of, HasChain, Spares, chain_kept}
 use Rattle.vub_world.proofs.RunChainsStores.{handed_fits}
 
 -- the chain of an offered request stands in memory, and its descriptors belong to its head
@@ -55,11 +57,13 @@ pub record IsPrepared (n : ℕ) (v : Driver) (w : Waiting) : Type 0 where
   pub body : ℕ
   pub status : ℕ
   pub up : w.head < body
-  pub upper : body < status
+  pub within : body ≤ status
+  pub upper : has_data w.ask ≡ true → body < status
+  pub none : has_data w.ask ≡ false → body ≡ status
   pub fits : status < n
   pub body_mine : v.owner body ≡ Some w.head
   pub status_mine : v.owner status ≡ Some w.head
-  pub stores : w.left ≡ request_stores (the_ring n) v.avail_idx w.ask (w.head ∷ body ∷ status ∷ [])
+  pub stores : w.left ≡ request_stores (the_ring n) v.avail_idx w.ask (chain_of (has_data w.ask) w.head body status)
 
 abbrev pub PreparedWell : ℕ → Driver → Option Waiting → Type 0
 PreparedWell n v None = ⊤
@@ -103,19 +107,19 @@ gentle_none n s = record { heads = refl; same = λ k. refl; out = λ k o. o; cha
 
 -- a store that spares each chain
 pub store_gentle : (h : Header1) (s : Scene) (l : Lane) (p : ℕ) (bs : List ℕ) → Holds h s l
-    → ((k body status : ℕ) (r : Asked) → IsOut s.past (s.heads 0) k → slice_index (s.heads 0) k < h.size → body < h.size → status < h.size → asked s.past 0 k ≡ Some r → IsSimple h.capacity (Some r) → Spares (slice_index (s.heads 0) k) body status r p bs)
+    → ((k body status : ℕ) (r : Asked) → IsOut s.past (s.heads 0) k → slice_index (s.heads 0) k < h.size → body < h.size → status < h.size → asked s.past 0 k ≡ Some r → IsWide h.capacity (Some r) → Spares (slice_index (s.heads 0) k) body status r p bs)
     → IsGentle h.size s (stored_at p bs s)
 store_gentle h s l p bs x spares = record {
   heads = refl;
   same = λ k. refl;
   out = λ k o. o;
   chain = λ k body status r out fb fs is held.
-      let simple : IsSimple h.capacity (Some r) = subst (λ (o : Option Asked). IsSimple h.capacity o) is (x.known.simple k out.below) in
+      let simple : IsWide h.capacity (Some r) = subst (λ (o : Option Asked). IsWide h.capacity o) is (x.known.wide k out.below) in
       chain_kept s.memory (slice_index (s.heads 0) k) body status r p bs (spares k body status r out (x.driven.below k out) fb fs is simple) held;
 }
 
 -- between table and buffers
-pub ring_spares : (cap head body status : ℕ) (r : Asked) (p : ℕ) (bs : List ℕ) → head < 64 → body < 64 → status < 64 → IsSimple cap (Some r) → 4096 ≤ p → p + length bs ≤ 65536 → Spares head body status r p bs
+pub ring_spares : (cap head body status : ℕ) (r : Asked) (p : ℕ) (bs : List ℕ) → head < 64 → body < 64 → status < 64 → IsWide cap (Some r) → 4096 ≤ p → p + length bs ≤ 65536 → Spares head body status r p bs
 ring_spares cap head body status r p bs fh fb fs simple from upto =
     let at = handed_fits cap (buffer_at head) r simple in record {
       first = inl (omega arith);
@@ -126,7 +130,7 @@ ring_spares cap head body status r p bs fh fb fs simple from upto =
     }
 
 -- in the buffer of another head
-pub buffer_spares : (cap head body status other : ℕ) (r : Asked) (p : ℕ) (bs : List ℕ) → head < 64 → body < 64 → status < 64 → IsSimple cap (Some r) → head ≢ other → 65536 + 8192 * other ≤ p → p + length bs ≤ 65536 + 8192 * other + 8192 → Spares head body status r p bs
+pub buffer_spares : (cap head body status other : ℕ) (r : Asked) (p : ℕ) (bs : List ℕ) → head < 64 → body < 64 → status < 64 → IsWide cap (Some r) → head ≢ other → 65536 + 8192 * other ≤ p → p + length bs ≤ 65536 + 8192 * other + 8192 → Spares head body status r p bs
 buffer_spares cap head body status other r p bs fh fb fs simple apart from upto =
     let at = handed_fits cap (buffer_at head) r simple in record {
       first = inl (omega arith);
@@ -191,7 +195,7 @@ phase_gentle h s l l' (Some step) good x = step_gentle h s l l'.batch step good 
 
 -- ---- work
 
-own_status : (cap head body status : ℕ) (r : Asked) (byte : ℕ) → head < 64 → body < 64 → status < 64 → IsSimple cap (Some r) → Spares head body status r (status_place (buffer_at head)) (byte ∷ [])
+own_status : (cap head body status : ℕ) (r : Asked) (byte : ℕ) → head < 64 → body < 64 → status < 64 → IsWide cap (Some r) → Spares head body status r (status_place (buffer_at head)) (byte ∷ [])
 own_status cap head body status r byte fh fb fs simple =
     let at = handed_fits cap (buffer_at head) r simple in record {
       first = inl (omega arith);
@@ -201,26 +205,23 @@ own_status cap head body status r byte fh fb fs simple =
       handed = inr (omega (arith, at.0));
     }
 
-own_read : (head body status sector c p : ℕ) (bs : List ℕ) → head < 64 → body < 64 → status < 64 → p ≡ sectors_place (buffer_at head) → Spares head body status (asks.Read sector c) p bs
+own_read : (head body status sector c p : ℕ) (bs : List ℕ) → head < 64 → body < 64 → status < 64 → sectors_place (buffer_at head) ≤ p → Spares head body status (asks.Read sector c) p bs
 own_read head body status sector c p bs fh fb fs at = record { first = inl (omega arith); middle = inl (omega arith); last = inl (omega arith); header = inl (omega arith); handed = inl (omega arith) }
 
-few_in_range : (xs : List ℕ) → length (slice_range xs (512 * 0) (512 * 0 + 512)) ≤ 512
-few_in_range xs = omega (arith, length-take 512 xs)
-
-put_gentle : (h : Header1) (s : Scene) (l : Lane) (k sector : ℕ) → IsGood h → Holds h s l → IsOpen s.past 0 k → asked s.past 0 k ≡ Some (asks.Read sector 1)
-    → IsGentle h.size s (stored_at (sectors_place (buffer (s.heads 0) k) + 512 * 0) (slice_range (seen s.past 0 k) (512 * 0) (512 * 0 + 512)) s)
-put_gentle h s l k sector good x is_open is_k =
+put_gentle : (h : Header1) (s : Scene) (l : Lane) (k sector c q : ℕ) → IsGood h → Holds h s l → IsOpen s.past 0 k → asked s.past 0 k ≡ Some (asks.Read sector c) → q < 8
+    → IsGentle h.size s (stored_at (sectors_place (buffer (s.heads 0) k) + 512 * q) (slice_range (seen s.past 0 k) (512 * q) (512 * q + 512)) s)
+put_gentle h s l k sector c q good x is_open is_k low =
     let small : h.size ≤ 64 = good.size.small in
-    let bs : List ℕ = slice_range (seen s.past 0 k) (512 * 0) (512 * 0 + 512) in
-    let p : ℕ = sectors_place (buffer (s.heads 0) k) + 512 * 0 in
-    let few : length bs ≤ 512 = few_in_range (seen s.past 0 k) in
+    let bs : List ℕ = slice_range (seen s.past 0 k) (512 * q) (512 * q + 512) in
+    let p : ℕ = sectors_place (buffer (s.heads 0) k) + 512 * q in
+    let few : length bs ≤ 512 = sector_few (seen s.past 0 k) q in
     let out_k = open_out h.size h.capacity s.past (s.heads 0) k x.known is_open in
     store_gentle h s l p bs x (λ j body status r out fh fb fs is simple. elim (cases_eq j k) [
       | inl same ↦
-          let both : Some r ≡ Some (asks.Read sector 1) = sym is ∙ ap (asked s.past 0) same ∙ is_k in
-          let is_r : r ≡ asks.Read sector 1 = cc in
-          let here : p ≡ sectors_place (buffer_at (slice_index (s.heads 0) j)) = ap (λ (i : ℕ). sectors_place (buffer (s.heads 0) i) + 512 * 0) (sym same) ∙ omega arith in
-          subst (λ (q : Asked). Spares (slice_index (s.heads 0) j) body status q p bs) (sym is_r) (own_read (slice_index (s.heads 0) j) body status sector 1 p bs (omega arith) (omega arith) (omega arith) here)
+          let both : Some r ≡ Some (asks.Read sector c) = sym is ∙ ap (asked s.past 0) same ∙ is_k in
+          let is_r : r ≡ asks.Read sector c = cc in
+          let here : p ≡ sectors_place (buffer_at (slice_index (s.heads 0) j)) + 512 * q = ap (λ (i : ℕ). sectors_place (buffer (s.heads 0) i) + 512 * q) (sym same) in
+          subst (λ (o : Asked). Spares (slice_index (s.heads 0) j) body status o p bs) (sym is_r) (own_read (slice_index (s.heads 0) j) body status sector c p bs (omega arith) (omega arith) (omega arith) (omega (arith, here)))
       | inr apart ↦ buffer_spares h.capacity (slice_index (s.heads 0) j) body status (slice_index (s.heads 0) k) r p bs (omega arith) (omega arith) (omega arith) simple (λ same. apart (x.driven.apart j k out out_k same)) (omega arith) (omega arith)
     ])
 
@@ -241,31 +242,55 @@ look_gentle n s k sector v = record { heads = refl; same = λ j. refl; out = λ 
 act_gentle : (n : ℕ) (s : Scene) (k sector : ℕ) (v : List ℕ) → IsGentle n s (record s { past = entries.Act 0 k sector v ∷ s.past })
 act_gentle n s k sector v = record { heads = refl; same = λ j. refl; out = λ j o. record { below = o.below; kept = o.kept }; chain = λ j body status r out fb fs is c. c }
 
+sync_gentle : (n : ℕ) (s : Scene) (k : ℕ) → IsGentle n s (record s { past = entries.Sync 0 k ∷ s.past })
+sync_gentle n s k = record { heads = refl; same = λ j. refl; out = λ j o. record { below = o.below; kept = o.kept }; chain = λ j body status r out fb fs is c. c }
+
 -- any step of a request at work
 request_gentle : (h : Header1) (s : Scene) (l : Lane) (k : ℕ) → IsPlain h → Holds h s l → IsOpen s.past 0 k → IsGentle h.size s (after_items h.size (request_turn h 0 s l k (asked s.past 0 k)).items s)
 request_gentle h s l k plain x is_open =
     let low : k < length (s.heads 0) = omega (arith, is_open.taken, x.known.offered) in
-    elim (simple_cases h.capacity (asked s.past 0 k) (x.known.simple k low)) [
-      | inl r ↦ subst (λ (o : Option Asked). IsGentle h.size s (after_items h.size (request_turn h 0 s l k o).items s)) (sym r.2)
-          (subst (λ (steps : List TaskStep). IsGentle h.size s (after_items h.size (task_turn h 0 s l k (asks.Read r.0 1) (slice_get steps (l.made k))).items s)) (sym (read_steps h r.0 r.1)) (reads r.0 r.2 (l.made k)))
-      | inr r ↦ subst (λ (o : Option Asked). IsGentle h.size s (after_items h.size (request_turn h 0 s l k o).items s)) (sym r.4)
-          (subst (λ (steps : List TaskStep). IsGentle h.size s (after_items h.size (task_turn h 0 s l k (asks.Write r.0 r.1) (slice_get steps (l.made k))).items s)) (sym (write_steps h r.0 r.1 plain.back r.2 r.3)) (writes r.0 r.1 r.3 (l.made k)))
-    ]
+    go (wide_cases h.capacity (asked s.past 0 k) (x.known.wide k low))
   where
-    reads : (sector : ℕ) → asked s.past 0 k ≡ Some (asks.Read sector 1) → (made : ℕ) → IsGentle h.size s (after_items h.size (task_turn h 0 s l k (asks.Read sector 1) (slice_get (Look 0 ∷ Put 0 ∷ Status ∷ []) made)).items s)
-    reads sector is zero = look_gentle h.size s k (sector + 0) (value s.past (sector + 0))
-    reads sector is (suc zero) = put_gentle h s l k sector plain.good x is_open is
-    reads sector is (suc (suc zero)) = status_gentle h s l k (status_of h (asks.Read sector 1)) plain.good x is_open
-    reads sector is (suc (suc (suc made))) = gentle_none h.size s
+    Gentle : Asked → Option TaskStep → Type 0
+    Gentle r o = IsGentle h.size s (after_items h.size (task_turn h 0 s l k r o).items s)
+
+    looks_of : (o : Option ℕ) → IsGentle h.size s (after_items h.size (look_items 0 k s.past o) s)
+    looks_of None = gentle_none h.size s
+    looks_of (Some y) = look_gentle h.size s k y (value s.past y)
 
     acts_of : (o : Option SectorValue) → IsGentle h.size s (after_items h.size (act_items 0 k o) s)
     acts_of None = gentle_none h.size s
     acts_of (Some y) = act_gentle h.size s k y.sector y.value
 
-    writes : (sector : ℕ) (bytes : List ℕ) → length bytes ≡ 512 → (made : ℕ) → IsGentle h.size s (after_items h.size (task_turn h 0 s l k (asks.Write sector bytes) (slice_get (Act 0 ∷ Status ∷ []) made)).items s)
-    writes sector bytes long zero = acts_of (effect_at (asks.Write sector bytes) 0)
-    writes sector bytes long (suc zero) = status_gentle h s l k (status_of h (asks.Write sector bytes)) plain.good x is_open
-    writes sector bytes long (suc (suc made)) = gentle_none h.size s
+    reads : (sector c : ℕ) → c ≤ 8 → asked s.past 0 k ≡ Some (asks.Read sector c) → (o : Option TaskStep) → ReadAt 0 c (l.made k) o → Gentle (asks.Read sector c) o
+    reads sector c few is o (ToLook p within at i) = subst (Gentle (asks.Read sector c)) (sym i) (looks_of (look_at (asks.Read sector c) (0 + p)))
+    reads sector c few is o (ToPut p within at i) = subst (Gentle (asks.Read sector c)) (sym i) (put_gentle h s l k sector c (0 + p) plain.good x is_open is (omega arith))
+    reads sector c few is o (ToReply at i) = subst (Gentle (asks.Read sector c)) (sym i) (status_gentle h s l k (status_of h (asks.Read sector c)) plain.good x is_open)
+
+    writes : (sector : ℕ) (bytes : List ℕ) (o : Option TaskStep) → WriteAt 0 (length bytes / 512) (l.made k) o → Gentle (asks.Write sector bytes) o
+    writes sector bytes o (ToAct within i) = subst (Gentle (asks.Write sector bytes)) (sym i) (acts_of (effect_at (asks.Write sector bytes) (0 + l.made k)))
+    writes sector bytes o (ToEnd at i) = subst (Gentle (asks.Write sector bytes)) (sym i) (status_gentle h s l k (status_of h (asks.Write sector bytes)) plain.good x is_open)
+
+    flushes : (made : ℕ) → Gentle asks.Flush (slice_get (Sync ∷ Status ∷ []) made)
+    flushes zero = sync_gentle h.size s k
+    flushes (suc zero) = status_gentle h s l k (status_of h asks.Flush) plain.good x is_open
+    flushes (suc (suc made)) = gentle_none h.size s
+
+    of_steps : (r : Asked) → asked s.past 0 k ≡ Some r → IsWide h.capacity (Some r) → Gentle r (slice_get (disk_steps r ++ Status ∷ []) (l.made k)) → IsGentle h.size s (after_items h.size (request_turn h 0 s l k (asked s.past 0 k)).items s)
+    of_steps r is wide fine =
+        subst (λ (o : Option Asked). IsGentle h.size s (after_items h.size (request_turn h 0 s l k o).items s)) (sym is)
+        (subst (λ (steps : List TaskStep). Gentle r (slice_get steps (l.made k))) (sym (wide_steps h r plain.back wide)) fine)
+
+    go : WideCases h.capacity (asked s.past 0 k) → IsGentle h.size s (after_items h.size (request_turn h 0 s l k (asked s.past 0 k)).items s)
+    go (AtRead sector c wide is) = of_steps (asks.Read sector c) is wide (elim (cases_lt (2 * c) (l.made k)) [
+      | inl over ↦ subst (Gentle (asks.Read sector c)) (sym (read_over 0 c (l.made k) over)) (gentle_none h.size s)
+      | inr under ↦ reads sector c wide.few is (slice_get (look_steps 0 c ++ Status ∷ []) (l.made k)) (read_at 0 c (l.made k) (omega arith))
+    ])
+    go (AtWrite sector bytes wide is) = of_steps (asks.Write sector bytes) is wide (elim (cases_lt (length bytes / 512) (l.made k)) [
+      | inl over ↦ subst (Gentle (asks.Write sector bytes)) (sym (write_over 0 (length bytes / 512) (l.made k) over)) (gentle_none h.size s)
+      | inr under ↦ writes sector bytes (slice_get (act_steps 0 (length bytes / 512) ++ Status ∷ []) (l.made k)) (write_at 0 (length bytes / 512) (l.made k) (omega arith))
+    ])
+    go (AtFlush is) = of_steps asks.Flush is tt (flushes (l.made k))
 
 work_gentle : (h : Header1) (m : Moment) (place : ℕ) → IsPlain h → Good h m → IsGentle h.size m.scene (after_items h.size (turned h 0 (turns.Work place) m).items m.scene)
 work_gentle h m place plain good = go (slice_get (unfinished 0 m) place) refl

@@ -76,7 +76,7 @@ waits_on_still h s l x k None t w = tt
 waits_on_still h s l x k (Some y) t w =
     let apart : slice_index (s.heads 0) (next_number s) ≢ y.head = w.apart (next_number s) (next_out h s l x t) in
     let differs : y.head ≢ x = λ same. apart (sym t.head ∙ sym same) in record {
-      simple = w.simple;
+      wide = w.wide;
       below = w.below;
       mine = ap (λ (o : Option ℕ). cond (is_that x o) None o) w.mine ∙ (let out : (y.head == x) ≡ false = grind (arith, nat_tests) in ap (λ (b : Bool). cond {A = Option ℕ} b None (Some y.head)) out);
       apart = λ j out. w.apart j (later_out h s l x j k t out).0;
@@ -141,14 +141,14 @@ taken_holds h s l x k t =
         fewer = a.fewer;
         room = omega (arith, a.room);
         good = a.good;
-        simple = a.simple;
+        wide = a.wide;
         unfaulted = a.unfaulted;
         values = a.values;
       };
       ringed = record { avail_idx_is = r.avail_idx_is; used_idx_is = r.used_idx_is; avail_at = r.avail_at; used_at = λ i from upto. r.used_at i (omega arith) upto };
       driven = taken_driven h s l x k t;
       worked = taken_worked h s l k t.holds.worked;
-      stored = record { sectors = λ j is_open far read. t.holds.stored.sectors j (record { taken = is_open.taken; unpublished = is_open.unpublished }) far read; status = t.holds.stored.status };
+      stored = record { sectors = λ j i is_open kept read. t.holds.stored.sectors j i (record { taken = is_open.taken; unpublished = is_open.unpublished }) kept read; status = t.holds.stored.status };
       built = built_same h.size h.base s.past (entries.Collect 0 k ∷ s.past) (s.heads 0) s.memory l.batch l.phase refl (λ j. refl) t.holds.built;
     }
 

@@ -1,6 +1,6 @@
 -- The stores of used elements keep what holds.
 use Rattle.std.proofs.Common.{◌≡◌, ◌≢◌, ◌≤◌, ◌<◌, ℕ, zero, suc, ◌+◌, ◌*◌, ◌%◌, ◌^◌, true, List, [], ◌∷◌, ◌++◌, length, map, refl, ap, sym, ◌∙◌, subst, inl, inr, arith}
-use Rattle.std.specs.Prelude.{Option, Some, slice_index, slice_get, ◌||◌, unwrap_or}
+use Rattle.std.specs.Prelude.{Option, Some, None, slice_index, slice_get, ◌||◌, unwrap_or}
 use Rattle.byteorder.specs.Endian.{little_bytes}
 use Rattle.std.proofs.lemmas.Bool.Decides.{nat_tests}
 use Rattle.std.proofs.lemmas.Bool.{cases_lt, cases_Bool, or_right}
@@ -26,10 +26,10 @@ use Rattle.vub_world.specs.Tracking.{answered_len}
 use Rattle.vub_world.specs.Turns.{len_of}
 use Rattle.vub_world.proofs.RunNumbers.{few_below, distinct_parts, distinct_join}
 use Rattle.vub_split.proofs.Rings.{entries_apart}
-use Rattle.vub_world.proofs.RunGood.{the_ring, IsSize, IsSimple, Known, Ringed, Worked, PhaseIs, IsBuilt, Built, Holds}
+use Rattle.vub_world.proofs.RunGood.{the_ring, IsSize, IsWide, Known, Ringed, Worked, PhaseIs, IsBuilt, Built, Holds}
 use Rattle.vub_world.proofs.RunFrames.{keeps, entry_small, length_little, stored_elsewhere, below_buffers}
 use Rattle.vub_world.proofs.RunGuests.{IsGood, stored_at}
-use Rattle.vub_world.proofs.RunWork.{simple_cases, read_served, write_served}
+use Rattle.vub_world.proofs.RunSteps.{wide_served}
 
 -- ---- which step is next
 
@@ -62,14 +62,18 @@ get_map f [] e l = absurd (omega arith)
 get_map f (x ∷ xs) zero l = refl
 get_map f (x ∷ xs) (suc e) l = get_map f xs e (omega arith)
 
+len_small : (cap : ℕ) (r : Asked) → IsWide cap (Some r) → answered_len 0 (Some r) < 256 ^ 4
+len_small cap (asks.Read s c) wide = let few : c ≤ 8 = wide.few in omega arith
+len_small cap (asks.Write s bytes) wide = omega arith
+len_small cap asks.Flush wide = omega arith
+len_small cap asks.Id wide = absurd wide
+len_small cap (asks.Discard parts) wide = absurd wide
+len_small cap (asks.Zero parts) wide = absurd wide
+
 -- the used length of a request that succeeds
-pub len_is : (h : Header1) (o : Option Asked) → h.mode ≡ Back → IsSimple h.capacity o → (len_of h o ≡ answered_len 0 o) × (answered_len 0 o < 256 ^ 4)
-len_is h o back simple = elim (simple_cases h.capacity o simple) [
-  | inl r ↦ subst (λ (x : Option Asked). (len_of h x ≡ answered_len 0 x) × (answered_len 0 x < 256 ^ 4)) (sym r.2)
-      (ap (λ (x : Option ℕ). answered_len (unwrap_or x 0) (Some (asks.Read r.0 1))) (read_served h r.0 r.1), omega arith)
-  | inr r ↦ subst (λ (x : Option Asked). (len_of h x ≡ answered_len 0 x) × (answered_len 0 x < 256 ^ 4)) (sym r.4)
-      (ap (λ (x : Option ℕ). answered_len (unwrap_or x 0) (Some (asks.Write r.0 r.1))) (write_served h r.0 r.1 back r.2 r.3), omega arith)
-]
+pub len_is : (h : Header1) (o : Option Asked) → h.mode ≡ Back → IsWide h.capacity o → (len_of h o ≡ answered_len 0 o) × (answered_len 0 o < 256 ^ 4)
+len_is h (Some r) back wide = (ap (λ (x : Option ℕ). answered_len (unwrap_or x 0) (Some r)) (wide_served h r back wide), len_small h.capacity r wide)
+len_is h None back wide = absurd wide
 
 -- the numbers of a batch are as many as open ones, so the ring has room for their elements
 pub batch_room : (past : List Entry) (phase : Phase) (batch completed : List ℕ) (made : ℕ → ℕ) (n cap : ℕ) (heads : List ℕ) → Known n cap past heads → Worked past phase batch completed made → length (published past 0) + length batch ≤ accepted past 0

@@ -226,7 +226,7 @@ boot_right h m plain good = tested h m (not m.lives) (played [] (record m { live
           ringed = good.holds.ringed;
           driven = good.holds.driven;
           worked = fresh_worked m.scene.past (m.lanes 0) stopped good.holds.worked;
-          stored = record { sectors = λ k is_open far read. absurd (omega arith); status = λ k held. absurd (let fails : false ≡ true = held in cc) };
+          stored = record { sectors = λ k i is_open kept read. absurd (omega (arith, kept.put)); status = λ k held. absurd (let fails : false ≡ true = held in cc) };
           built = tt;
         };
         asleep = λ e. absurd (let fails : true ≡ false = e in cc);

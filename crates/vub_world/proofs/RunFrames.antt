@@ -4,8 +4,8 @@ use Rattle.std.specs.Prelude.{slice_index}
 use Rattle.byteorder.specs.Endian.{little_bytes}
 use Rattle.byteorder.specs.Numbers.{length-bytes_low_first}
 use Rattle.std.proofs.lemmas.Bool.{cases_lt}
-use Rattle.vub_shared.specs.Bytes.{Bytes, put, word, bytes_from}
-use Rattle.vub_shared.proofs.BytesLemmas.{put_other, word-put_other, word-put_same, bytes_from-put_other}
+use Rattle.vub_shared.specs.Bytes.{Bytes, put, word}
+use Rattle.vub_shared.proofs.BytesLemmas.{put_other, word-put_other, word-put_same}
 use Rattle.vub_ring.specs.declared.steps.Phase.{Phase}
 use Rattle.vub_ring.specs.declared.steps.Phase.TheVariants as phases
 use Rattle.vub_ring.specs.Ring.{entry_of, avail_entry_place, avail_idx_place, used_id_place, used_len_place, head_at}
@@ -64,9 +64,9 @@ built_elsewhere n base past heads m p bs batch (phases.Publish done) size off b 
 abbrev pub OffBuffer : List ℕ → ℕ → ℕ → List ℕ → Type 0
 OffBuffer heads k p bs = (p + length bs ≤ buffer heads k) ⊎ (buffer heads k + 8192 ≤ p)
 
-pub sectors_elsewhere : (heads : List ℕ) (k : ℕ) (m : Bytes) (p : ℕ) (bs : List ℕ) → OffBuffer heads k p bs → bytes_from 512 (put m 0 p bs) 0 (sectors_place (buffer heads k)) ≡ bytes_from 512 m 0 (sectors_place (buffer heads k))
-sectors_elsewhere heads k m p bs (inl below) = bytes_from-put_other 512 m 0 p bs 0 (sectors_place (buffer heads k)) (inr (inr (omega arith)))
-sectors_elsewhere heads k m p bs (inr above) = bytes_from-put_other 512 m 0 p bs 0 (sectors_place (buffer heads k)) (inr (inl (omega arith)))
+pub sector_elsewhere : (heads : List ℕ) (k i : ℕ) (m : Bytes) (p : ℕ) (bs : List ℕ) → i < 4096 → OffBuffer heads k p bs → put m 0 p bs 0 (sectors_place (buffer heads k) + i) ≡ m 0 (sectors_place (buffer heads k) + i)
+sector_elsewhere heads k i m p bs small (inl below) = put_other m 0 p bs 0 (sectors_place (buffer heads k) + i) (inr (inr (omega arith)))
+sector_elsewhere heads k i m p bs small (inr above) = put_other m 0 p bs 0 (sectors_place (buffer heads k) + i) (inr (inl (omega arith)))
 
 pub status_elsewhere : (heads : List ℕ) (k : ℕ) (m : Bytes) (p : ℕ) (bs : List ℕ) → OffBuffer heads k p bs → put m 0 p bs 0 (status_place (buffer heads k)) ≡ m 0 (status_place (buffer heads k))
 status_elsewhere heads k m p bs (inl below) = put_other m 0 p bs 0 (status_place (buffer heads k)) (inr (inr (omega arith)))
@@ -76,7 +76,7 @@ pub stored_elsewhere : (past : List Entry) (heads : List ℕ) (m : Bytes) (p : �
     → ((k : ℕ) → is_among (completed ++ batch) k ≡ true → IsOpen past 0 k) → ((k : ℕ) → IsOpen past 0 k → OffBuffer heads k p bs)
     → Stored past heads m batch completed made → Stored past heads (put m 0 p bs) batch completed made
 stored_elsewhere past heads m p bs batch completed made opens off s = record {
-  sectors = λ k open_k far read. sectors_elsewhere heads k m p bs (off k open_k) ∙ s.sectors k open_k far read;
+  sectors = λ k i open_k kept read. sector_elsewhere heads k i m p bs kept.small (off k open_k) ∙ s.sectors k i open_k kept read;
   status = λ k held. status_elsewhere heads k m p bs (off k (opens k held)) ∙ s.status k held;
 }
 

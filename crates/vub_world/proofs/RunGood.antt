@@ -1,10 +1,10 @@
 -- What holds of queue 0 at every moment of a run, part by part.
-use Rattle.std.proofs.Common.{◌≡◌, ◌≢◌, ◌≤◌, ◌<◌, ◌⊎◌, ℕ, ◌+◌, ◌*◌, ◌%◌, true, false, List, [], ◌++◌, length, take}
+use Rattle.std.proofs.Common.{◌≡◌, ◌≢◌, ◌≤◌, ◌<◌, ◌⊎◌, ℕ, ◌+◌, ◌*◌, ◌/◌, ◌%◌, Bool, true, false, List, [], ◌++◌, length, take}
 use Rattle.std.specs.Prelude.{Option, Some, None, slice_index, ⊤}
 use Rattle.std.specs.Int.{◌∣◌}
 use Rattle.std.specs.List.{AllByRecursion}
 use Rattle.vub_base.specs.declared.header.Header1.{Header1}
-use Rattle.vub_shared.specs.Bytes.{Bytes, word, bytes_from}
+use Rattle.vub_shared.specs.Bytes.{Bytes, word}
 use Rattle.vub_shared.specs.Stores.{Store}
 use Rattle.vub_ring.specs.declared.steps.Phase.{Phase}
 use Rattle.vub_ring.specs.declared.steps.Phase.TheVariants as phases
@@ -17,7 +17,7 @@ use Rattle.vub_device.specs.declared.entry.Asked.{Asked}
 use Rattle.vub_device.specs.declared.entry.Asked.TheVariants as asks
 use Rattle.vub_device.specs.declared.entry.Entry.{Entry}
 use Rattle.vub_device.specs.Crash.{value}
-use Rattle.vub_device.specs.Past.{offers, asked, accepted, published, collected, is_among, IsOpen, started, looks, seen, acts, faulted}
+use Rattle.vub_device.specs.Past.{offers, asked, accepted, published, collected, is_among, IsOpen, started, looks, seen, acts, synced, faulted}
 use Rattle.vub_device.specs.Places.{are_distinct}
 use Rattle.vub_world.specs.Memory.{Scene}
 use Rattle.vub_world.specs.Moments.{Lane}
@@ -35,11 +35,25 @@ pub record IsSize (n : ℕ) : Type 0 where
 
 -- ---- the history
 
--- one sector of the disk is read or written
-abbrev pub IsSimple : ℕ → Option Asked → Type 0
-IsSimple cap (Some (asks.Read s c)) = (s < cap) × (c ≡ 1)
-IsSimple cap (Some (asks.Write s bytes)) = (s < cap) × (length bytes ≡ 512)
-IsSimple cap r = ⊥
+-- one to eight sectors are read, up to the end of the disk
+pub record IsWideRead (cap s c : ℕ) : Type 0 where
+  pub fits : s + c ≤ cap
+  pub some : 0 < c
+  pub few : c ≤ 8
+
+-- one to eight sectors are written, up to the end of the disk
+pub record IsWideWrite (cap s : ℕ) (bytes : List ℕ) : Type 0 where
+  pub fits : s + length bytes / 512 ≤ cap
+  pub whole : length bytes % 512 ≡ 0
+  pub some : 512 ≤ length bytes
+  pub few : length bytes ≤ 4096
+
+-- one to eight sectors of the disk are read or written, or all is made stable
+abbrev pub IsWide : ℕ → Option Asked → Type 0
+IsWide cap (Some (asks.Read s c)) = IsWideRead cap s c
+IsWide cap (Some (asks.Write s bytes)) = IsWideWrite cap s bytes
+IsWide cap (Some asks.Flush) = ⊤
+IsWide cap r = ⊥
 
 pub record Known (n cap : ℕ) (past : List Entry) (heads : List ℕ) : Type 0 where
   pub offers_are : length heads ≡ offers past 0
@@ -50,7 +64,7 @@ pub record Known (n cap : ℕ) (past : List Entry) (heads : List ℕ) : Type 0 w
   pub fewer : length (published past 0) ≤ accepted past 0
   pub room : length heads ≤ n + collected past 0
   pub good : AllByRecursion (λ (a : Answered). a.status ≡ 0) (answers past 0)
-  pub simple : (k : ℕ) → k < length heads → IsSimple cap (asked past 0 k)
+  pub wide : (k : ℕ) → k < length heads → IsWide cap (asked past 0 k)
   pub unfaulted : (k : ℕ) → faulted past 0 k ≡ false
   pub values : (s : ℕ) → length (value past s) ≡ 512
 
@@ -86,7 +100,7 @@ pub record IsPlan (n index head : ℕ) (left : List Store) : Type 0 where
   pub whole : left ≡ first ++ offer_stores (the_ring n) index head
 
 pub record IsWaiting (n cap : ℕ) (past : List Entry) (heads : List ℕ) (v : Driver) (w : Waiting) : Type 0 where
-  pub simple : IsSimple cap (Some (request_of w.ask))
+  pub wide : IsWide cap (Some (request_of w.ask))
   pub below : w.head < n
   pub mine : v.owner w.head ≡ Some w.head
   pub apart : (k : ℕ) → IsOut past heads k → slice_index heads k ≢ w.head
@@ -105,26 +119,40 @@ pub record Driven (n cap base : ℕ) (past : List Entry) (heads : List ℕ) (v :
 
 -- ---- the device
 
--- a request with a step made was read or written
-abbrev pub IsBegun : ℕ → ℕ → List ℕ → Option Asked → Type 0
-IsBegun looked acted read (Some (asks.Read s c)) = (looked ≡ 1) × (length read ≡ 512)
-IsBegun looked acted read (Some (asks.Write s bytes)) = acted ≡ 1
-IsBegun looked acted read r = ⊤
+-- of c sectors so many were looked at in so many steps, a look and a store for each, and this was read
+pub record IsReadTo (c made looked : ℕ) (read : List ℕ) : Type 0 where
+  pub under : made ≤ 2 * c → looked ≡ (made + 1) / 2
+  pub whole : 2 * c ≤ made → looked ≡ c
+  pub long : length read ≡ 512 * looked
 
-pub record Progress (made looked acted : ℕ) (read : List ℕ) (r : Option Asked) : Type 0 where
-  pub fresh : made ≡ 0 → (looked ≡ 0) × ((acted ≡ 0) × (read ≡ []))
-  pub begun : 0 < made → IsBegun looked acted read r
+-- of so many sectors so many were written in so many steps
+pub record IsWrittenTo (n made acted : ℕ) : Type 0 where
+  pub under : made ≤ n → acted ≡ made
+  pub whole : n ≤ made → acted ≡ n
+
+-- what the steps of a request have done
+abbrev pub IsBegun : ℕ → ℕ → ℕ → List ℕ → Bool → Option Asked → Type 0
+IsBegun made looked acted read stable (Some (asks.Read s c)) = IsReadTo c made looked read
+IsBegun made looked acted read stable (Some (asks.Write s bytes)) = IsWrittenTo (length bytes / 512) made acted
+IsBegun made looked acted read stable (Some asks.Flush) = stable ≡ true
+IsBegun made looked acted read stable r = ⊤
+
+pub record Progress (made looked acted : ℕ) (read : List ℕ) (stable : Bool) (r : Option Asked) : Type 0 where
+  pub fresh : made ≡ 0 → (looked ≡ 0) × ((acted ≡ 0) × ((read ≡ []) × (stable ≡ false)))
+  pub begun : 0 < made → IsBegun made looked acted read stable r
 
 -- all steps before the status were made
 abbrev pub IsFull : ℕ → Option Asked → Type 0
-IsFull made (Some (asks.Read s c)) = 2 ≤ made
-IsFull made (Some (asks.Write s bytes)) = 1 ≤ made
+IsFull made (Some (asks.Read s c)) = 2 * c ≤ made
+IsFull made (Some (asks.Write s bytes)) = length bytes / 512 ≤ made
+IsFull made (Some asks.Flush) = 1 ≤ made
 IsFull made r = ⊤
 
 -- a step is left
 abbrev pub IsPending : ℕ → Option Asked → Type 0
-IsPending made (Some (asks.Read s c)) = made ≤ 2
-IsPending made (Some (asks.Write s bytes)) = made ≤ 1
+IsPending made (Some (asks.Read s c)) = made ≤ 2 * c
+IsPending made (Some (asks.Write s bytes)) = made ≤ length bytes / 512
+IsPending made (Some asks.Flush) = made ≤ 1
 IsPending made r = ⊤
 
 abbrev pub PhaseIs : List ℕ → Phase → Type 0
@@ -136,7 +164,7 @@ pub record Worked (past : List Entry) (phase : Phase) (batch completed : List �
   pub distinct : are_distinct (completed ++ batch) ≡ true
   pub opens : (k : ℕ) → is_among (completed ++ batch) k ≡ true → IsOpen past 0 k
   pub untouched : (k : ℕ) → accepted past 0 ≤ k → made k ≡ 0
-  pub progress : (k : ℕ) → Progress (made k) (looks past 0 k) (acts past 0 k) (seen past 0 k) (asked past 0 k)
+  pub progress : (k : ℕ) → Progress (made k) (looks past 0 k) (acts past 0 k) (seen past 0 k) (synced past 0 k) (asked past 0 k)
   pub full : (k : ℕ) → is_among (completed ++ batch) k ≡ true → IsFull (made k) (asked past 0 k)
   pub pending : (k : ℕ) → IsOpen past 0 k → is_among (completed ++ batch) k ≡ false → IsPending (made k) (asked past 0 k)
   pub quiet : started past 0 ≡ false → (phase ≡ phases.Rest) × ((completed ≡ []) × ((k : ℕ) → made k ≡ 0))
@@ -151,8 +179,14 @@ abbrev pub IsRead : Option Asked → Type 0
 IsRead (Some (asks.Read s c)) = ⊤
 IsRead r = ⊥
 
+-- a byte that was read and stored: within the buffer, within the sectors whose steps were made, and seen
+pub record IsKept (made read i : ℕ) : Type 0 where
+  pub small : i < 4096
+  pub put : i < 512 * (made / 2)
+  pub looked : i < read
+
 pub record Stored (past : List Entry) (heads : List ℕ) (m : Bytes) (batch completed : List ℕ) (made : ℕ → ℕ) : Type 0 where
-  pub sectors : (k : ℕ) → IsOpen past 0 k → 2 ≤ made k → IsRead (asked past 0 k) → bytes_from 512 m 0 (sectors_place (buffer heads k)) ≡ seen past 0 k
+  pub sectors : (k i : ℕ) → IsOpen past 0 k → IsKept (made k) (length (seen past 0 k)) i → IsRead (asked past 0 k) → m 0 (sectors_place (buffer heads k) + i) ≡ slice_index (seen past 0 k) i
   pub status : (k : ℕ) → is_among (completed ++ batch) k ≡ true → m 0 (status_place (buffer heads k)) ≡ 0
 
 -- ---- what stands in the used ring of a publication under way

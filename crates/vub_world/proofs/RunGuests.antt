@@ -107,7 +107,7 @@ index_holds h s l w good waits holds stands =
     let stored = stored_elsewhere s.past (s.heads 0) s.memory p bs l.batch l.completed l.made holds.worked.opens (λ k is_open. below_buffers (s.heads 0) k p bs (omega arith)) holds.stored in
     let built = built_below h.size h.base s.past (s.heads 0) s.memory p bs l.batch l.phase (omega arith) holds.built in
     let whole : Holds h (record { memory = m; past = entries.Offer 0 r ∷ s.past; heads = with_at s.heads 0 (s.heads 0 ++ w.head ∷ []) }) (offered l) = record {
-      known = offer_known h.size h.capacity s.past (s.heads 0) r w.head holds.known waits.simple room;
+      known = offer_known h.size h.capacity s.past (s.heads 0) r w.head holds.known waits.wide room;
       ringed = ringed;
       driven = offer_driven h.size h.capacity h.base s.past (s.heads 0) l.driver w r holds.driven waits;
       worked = offer_worked h.size h.capacity s.past (s.heads 0) r l.phase l.batch l.completed l.made holds.known holds.worked;

@@ -5,7 +5,7 @@ use Rattle.byteorder.specs.Endian.{little_bytes}
 use Rattle.std.proofs.lemmas.Bool.Decides.{nat_tests}
 use Rattle.std.proofs.lemmas.Bool.{cases_lt, or_right}
 use Rattle.std.proofs.lemmas.List.{length_push, get_or_append_left, get_or_push, length-take-le}
-use Rattle.vub_shared.specs.Bytes.{Bytes, put, word, bytes_from}
+use Rattle.vub_shared.specs.Bytes.{Bytes, put, word}
 use Rattle.vub_shared.proofs.BytesLemmas.{word-put_same}
 use Rattle.vub_ring.specs.declared.steps.Phase.{Phase}
 use Rattle.vub_ring.specs.declared.steps.Phase.TheVariants as phases
@@ -14,11 +14,11 @@ use Rattle.vub_driver.specs.Drivers.{Driver, Waiting}
 use Rattle.vub_device.specs.declared.entry.Asked.{Asked}
 use Rattle.vub_device.specs.declared.entry.Entry.{Entry}
 use Rattle.vub_device.specs.declared.entry.Entry.TheVariants as entries
-use Rattle.vub_device.specs.Past.{offers, asked, accepted, published, collected, is_among, looks, seen, acts}
+use Rattle.vub_device.specs.Past.{offers, asked, accepted, published, collected, is_among, looks, seen, acts, synced}
 use Rattle.vub_device.proofs.Numbers.{is_among_append}
 use Rattle.vub_world.specs.Tracking.{answered_len}
 use Rattle.vub_world.proofs.RunNumbers.{among_at, few_places}
-use Rattle.vub_world.proofs.RunGood.{the_ring, IsSize, IsSimple, Known, Ringed, spot, IsOut, IsWaiting, Driven, IsBegun, IsFull, IsPending, Worked, Stored, IsRead, Built}
+use Rattle.vub_world.proofs.RunGood.{the_ring, IsSize, IsWide, Known, Ringed, spot, IsOut, IsWaiting, Driven, IsBegun, IsFull, IsPending, Worked, Stored, IsRead, Built}
 use Rattle.vub_world.proofs.RunFrames.{keeps, length_little}
 
 pub same_head : (heads : List ℕ) (h k : ℕ) → k < length heads → slice_index (heads ++ h ∷ []) k ≡ slice_index heads k
@@ -65,7 +65,7 @@ offer_room n cap base past heads v w known driven waits =
     ]) in
     omega (arith, all, many)
 
-pub offer_known : (n cap : ℕ) (past : List Entry) (heads : List ℕ) (r : Asked) (h : ℕ) → Known n cap past heads → IsSimple cap (Some r) → length heads < n + collected past 0 → Known n cap (entries.Offer 0 r ∷ past) (heads ++ h ∷ [])
+pub offer_known : (n cap : ℕ) (past : List Entry) (heads : List ℕ) (r : Asked) (h : ℕ) → Known n cap past heads → IsWide cap (Some r) → length heads < n + collected past 0 → Known n cap (entries.Offer 0 r ∷ past) (heads ++ h ∷ [])
 offer_known n cap past heads r h known simple room =
     let longer : length (heads ++ h ∷ []) ≡ length heads + 1 = length_push heads h in record {
       offers_are = omega (arith, longer, known.offers_are);
@@ -76,9 +76,9 @@ offer_known n cap past heads r h known simple room =
       fewer = known.fewer;
       room = omega (arith, longer, room);
       good = known.good;
-      simple = λ k l. elim (cases_lt k (length heads)) [
-        | inl low ↦ subst (λ (o : Option Asked). IsSimple cap o) (sym (same_asked past r k (omega (arith, known.offers_are)))) (known.simple k low)
-        | inr high ↦ subst (λ (o : Option Asked). IsSimple cap o) (sym (new_asked past r k (omega (arith, longer, known.offers_are)))) simple
+      wide = λ k l. elim (cases_lt k (length heads)) [
+        | inl low ↦ subst (λ (o : Option Asked). IsWide cap o) (sym (same_asked past r k (omega (arith, known.offers_are)))) (known.wide k low)
+        | inr high ↦ subst (λ (o : Option Asked). IsWide cap o) (sym (new_asked past r k (omega (arith, longer, known.offers_are)))) simple
       ];
       unfaulted = known.unfaulted;
       values = known.values;
@@ -161,7 +161,7 @@ offer_worked n cap past heads r phase batch completed made known worked = record
   progress = λ k. record {
     fresh = (worked.progress k).fresh;
     begun = λ some. elim (cases_lt k (offers past 0)) [
-      | inl low ↦ subst (λ (o : Option Asked). IsBegun (looks past 0 k) (acts past 0 k) (seen past 0 k) o) (sym (same_asked past r k low)) ((worked.progress k).begun some)
+      | inl low ↦ subst (λ (o : Option Asked). IsBegun (made k) (looks past 0 k) (acts past 0 k) (seen past 0 k) (synced past 0 k) o) (sym (same_asked past r k low)) ((worked.progress k).begun some)
       | inr high ↦ absurd (let none : made k ≡ 0 = worked.untouched k (omega (arith, known.offers_are, known.offered)) in omega arith)
     ];
   };
@@ -178,11 +178,11 @@ offer_worked n cap past heads r phase batch completed made known worked = record
 pub offer_stored : (n cap : ℕ) (past : List Entry) (heads : List ℕ) (r : Asked) (h : ℕ) (m : Bytes) (phase : Phase) (batch completed : List ℕ) (made : ℕ → ℕ) → Known n cap past heads → Worked past phase batch completed made
     → Stored past heads m batch completed made → Stored (entries.Offer 0 r ∷ past) (heads ++ h ∷ []) m batch completed made
 offer_stored n cap past heads r h m phase batch completed made known worked stored = record {
-  sectors = λ k is_open far read.
+  sectors = λ k i is_open kept read.
       let low : k < length heads = omega (arith, is_open.taken, known.offered) in
       let low_too : k < offers past 0 = omega (arith, low, known.offers_are) in
       let read_too : IsRead (asked past 0 k) = subst (λ (o : Option Asked). IsRead o) (same_asked past r k low_too) read in
-      ap (λ (x : ℕ). bytes_from 512 m 0 (1048576 * 0 + (65536 + 8192 * x) + 4096)) (same_head heads h k low) ∙ stored.sectors k (record { taken = is_open.taken; unpublished = is_open.unpublished }) far read_too;
+      ap (λ (x : ℕ). m 0 (1048576 * 0 + (65536 + 8192 * x) + 4096 + i)) (same_head heads h k low) ∙ stored.sectors k i (record { taken = is_open.taken; unpublished = is_open.unpublished }) kept read_too;
   status = λ k held.
       let low : k < length heads = omega (arith, (worked.opens k held).taken, known.offered) in
       ap (λ (x : ℕ). m 0 (1048576 * 0 + (65536 + 8192 * x) + 16)) (same_head heads h k low) ∙ stored.status k held;

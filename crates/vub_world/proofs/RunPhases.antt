@@ -42,7 +42,7 @@ start_worked past list batch completed made phase stopped w =
       distinct = w.distinct;
       opens = λ j held. record { taken = (w.opens j held).taken; unpublished = (w.opens j held).unpublished };
       untouched = w.untouched;
-      progress = λ k. record { fresh = λ e. (refl, (refl, refl)); begun = λ some. absurd (let zero_made : made k ≡ 0 = none k in omega arith) };
+      progress = λ k. record { fresh = λ e. (refl, (refl, (refl, refl))); begun = λ some. absurd (let zero_made : made k ≡ 0 = none k in omega arith) };
       full = w.full;
       pending = λ j is_open out. w.pending j (record { taken = is_open.taken; unpublished = is_open.unpublished }) out;
       quiet = λ stops. absurd (let fails : true ≡ false = stops in cc);
@@ -60,7 +60,7 @@ start_holds h s l list stopped x = record {
     fewer = x.known.fewer;
     room = x.known.room;
     good = x.known.good;
-    simple = x.known.simple;
+    wide = x.known.wide;
     unfaulted = λ k. refl;
     values = x.known.values;
   };
@@ -68,7 +68,7 @@ start_holds h s l list stopped x = record {
   driven = driven_same h.size h.capacity h.base s.past (entries.Start 0 list ∷ s.past) (s.heads 0) l.driver (λ j o. record { below = o.below; kept = o.kept }) x.driven;
   worked = start_worked s.past list l.batch l.completed l.made l.phase stopped x.worked;
   stored = record {
-    sectors = λ k is_open far read. absurd (let zero_made : l.made k ≡ 0 = (x.worked.quiet stopped).1.1 k in omega arith);
+    sectors = λ k i is_open kept read. absurd (let zero_made : l.made k ≡ 0 = (x.worked.quiet stopped).1.1 k in omega (arith, kept.put));
     status = x.stored.status;
   };
   built = built_same h.size h.base s.past (entries.Start 0 list ∷ s.past) (s.heads 0) s.memory l.batch l.phase refl (λ j. refl) x.built;
@@ -108,7 +108,7 @@ accept_worked past k batch completed made phase w = record {
     pending_none : (o : Option Asked) → IsPending 0 o
     pending_none (Some (asks.Read s n)) = omega arith
     pending_none (Some (asks.Write s bytes)) = omega arith
-    pending_none (Some asks.Flush) = tt
+    pending_none (Some asks.Flush) = omega arith
     pending_none (Some asks.Id) = tt
     pending_none (Some (asks.Discard parts)) = tt
     pending_none (Some (asks.Zero parts)) = tt
@@ -125,7 +125,7 @@ accept_holds h s l k more x = record {
     fewer = omega (arith, x.known.fewer);
     room = x.known.room;
     good = x.known.good;
-    simple = x.known.simple;
+    wide = x.known.wide;
     unfaulted = x.known.unfaulted;
     values = x.known.values;
   };
@@ -133,13 +133,13 @@ accept_holds h s l k more x = record {
   driven = driven_same h.size h.capacity h.base s.past (entries.Accept 0 k ∷ s.past) (s.heads 0) l.driver (λ j o. record { below = o.below; kept = o.kept }) x.driven;
   worked = accept_worked s.past k l.batch l.completed l.made l.phase x.worked;
   stored = record {
-    sectors = λ j is_open far read. x.stored.sectors j (record {
+    sectors = λ j i is_open kept read. x.stored.sectors j i (record {
       taken = elim (cases_lt j (accepted s.past 0)) [
         | inl low ↦ low
-        | inr high ↦ absurd (let none : l.made j ≡ 0 = x.worked.untouched j high in omega arith)
+        | inr high ↦ absurd (let none : l.made j ≡ 0 = x.worked.untouched j high in omega (arith, kept.put))
       ];
       unpublished = is_open.unpublished;
-    }) far read;
+    }) kept read;
     status = x.stored.status;
   };
   built = built_same h.size h.base s.past (entries.Accept 0 k ∷ s.past) (s.heads 0) s.memory l.batch l.phase refl (λ j. refl) x.built;

@@ -1,14 +1,16 @@
 -- A publication keeps what holds, and its answers are those of a legal history.
-use Rattle.std.proofs.Common.{◌≡◌, ◌≤◌, ◌<◌, ℕ, zero, suc, ◌+◌, ◌*◌, ◌/◌, ◌^◌, Bool, true, false, List, [], ◌∷◌, ◌++◌, length, map, refl, ap, sym, ◌∙◌, subst, inl, inr, arith}
-use Rattle.std.specs.Prelude.{Option, Some, None, slice_index, slice_get, option_map, nat_lt, if◌then◌else◌, All}
+use Rattle.std.proofs.Common.{◌≡◌, ◌≤◌, ◌<◌, ℕ, zero, suc, ◌+◌, ◌*◌, ◌/◌, ◌^◌, Bool, true, false, List, [], ◌∷◌, ◌++◌, length, map, refl, ap, sym, ◌∙◌, subst, inr, arith}
+use Rattle.std.specs.Prelude.{Option, Some, slice_index, slice_get, option_map, nat_lt, if◌then◌else◌, All}
 use Rattle.std.specs.List.{AllByRecursion}
 use Rattle.byteorder.specs.Endian.{little_bytes}
 use Rattle.std.proofs.lemmas.Bool.Decides.{nat_tests}
 use Rattle.std.proofs.lemmas.Bool.{or_right}
+use Rattle.std.proofs.lemmas.List.{ext_get_or}
 use Rattle.vub_base.specs.declared.header.CacheMode.TheVariants.{Back, Through}
 use Rattle.vub_base.specs.declared.header.Header1.{Header1}
 use Rattle.vub_base.specs.declared.store.Tag.TheVariants.{SP1, SP2}
 use Rattle.vub_shared.specs.Bytes.{Bytes, bytes_from}
+use Rattle.vub_shared.proofs.BytesLemmas.{length-bytes_from, get_or-bytes_from}
 use Rattle.vub_ring.specs.declared.steps.Phase.{Phase}
 use Rattle.vub_ring.specs.declared.steps.Phase.TheVariants as phases
 use Rattle.vub_ring.specs.declared.steps.Step.TheVariants as steps
@@ -21,17 +23,18 @@ use Rattle.vub_device.specs.declared.entry.Asked.{Asked}
 use Rattle.vub_device.specs.declared.entry.Asked.TheVariants as asks
 use Rattle.vub_device.specs.declared.entry.Entry.{Entry}
 use Rattle.vub_device.specs.Legal.{IsAnswer, IsDone}
-use Rattle.vub_device.specs.Past.{asked, published, numbers, is_among, IsOpen, started, looks, seen, acts}
+use Rattle.vub_device.specs.Past.{asked, published, numbers, is_among, IsOpen, started, looks, seen, acts, synced}
 use Rattle.vub_device.specs.Requests.{look_at, effect_at}
 use Rattle.vub_device.proofs.Numbers.{is_among_append}
 use Rattle.vub_world.specs.Memory.{Scene}
 use Rattle.vub_world.specs.Moments.{Lane}
 use Rattle.vub_world.specs.Turns.{Turned, element_of, len_of, phase_turn, answer_at, answer_len, row_items, with_phase}
 use Rattle.vub_world.proofs.RunNumbers.{among_at}
-use Rattle.vub_world.proofs.RunGood.{the_ring, IsSimple, IsBegun, IsFull, Worked, Stored, IsRead, buffer, Holds}
+use Rattle.vub_world.proofs.RunGood.{the_ring, IsWide, IsReadTo, IsWrittenTo, IsFull, Worked, Stored, IsRead, buffer, Holds}
 use Rattle.vub_world.proofs.RunFrames.{open_out}
 use Rattle.vub_world.proofs.RunGuests.{IsGood, stored_at, holds_track}
-use Rattle.vub_world.proofs.RunWork.{Fine, simple_cases, read_served, write_served}
+use Rattle.vub_world.proofs.RunSteps.{wide_some, wide_served, looks_end, effects_end, read_to, written_to, flushed_to}
+use Rattle.vub_world.proofs.RunWork.{Fine}
 use Rattle.vub_world.proofs.RunElements.{steps_many, get_map, len_is, element_place, IsNextElement, one_on, id_holds, len_holds}
 
 -- the lane with so many stores of its publication made
@@ -57,8 +60,8 @@ in_batch h s l done k x held = is_among_append l.completed l.batch k ∙ or_righ
 pub batch_open : (h : Header1) (s : Scene) (l : Lane) (done k : ℕ) → IsUnderWay h s l done → is_among l.batch k ≡ true → IsOpen s.past 0 k
 batch_open h s l done k x held = x.holds.worked.opens k (in_batch h s l done k x held)
 
-batch_simple : (h : Header1) (s : Scene) (l : Lane) (done k : ℕ) → IsUnderWay h s l done → is_among l.batch k ≡ true → IsSimple h.capacity (asked s.past 0 k)
-batch_simple h s l done k x held = x.holds.known.simple k (omega (arith, (batch_open h s l done k x held).taken, x.holds.known.offered))
+batch_wide : (h : Header1) (s : Scene) (l : Lane) (done k : ℕ) → IsUnderWay h s l done → is_among l.batch k ≡ true → IsWide h.capacity (asked s.past 0 k)
+batch_wide h s l done k x held = (x.holds.known.wide k (omega (arith, (batch_open h s l done k x held).taken, x.holds.known.offered)))
 
 -- ---- the stores of elements
 
@@ -103,7 +106,7 @@ len_fine h s l done e x inside at =
     let k : ℕ = slice_index l.batch e in
     let held : is_among l.batch k ≡ true = among_at l.batch e inside in
     let len : ℕ = len_of h (asked s.past 0 k) in
-    let is_len = len_is h (asked s.past 0 k) x.back (batch_simple h s l done k x held) in
+    let is_len = len_is h (asked s.past 0 k) x.back (batch_wide h s l done k x held) in
     let fits : len < 256 ^ 4 = subst (λ (y : ℕ). y < 256 ^ 4) (sym is_len.0) is_len.1 in
     let P : ℕ = h.base + length (published s.past 0) in
     let next : IsNextElement h s (publishing done l) done e = record { good = x.good; back = x.back; holds = x.holds; phase = refl; inside = inside } in
@@ -141,50 +144,81 @@ pub good_append : (xs ys : List Answered) → AllByRecursion (λ (a : Answered).
 good_append [] ys p q = q
 good_append (x ∷ xs) ys p q = (p.0, good_append xs ys p.1 q)
 
-read_answer : (h : Header1) (past : List Entry) (heads : List ℕ) (m : Bytes) (batch completed : List ℕ) (made : ℕ → ℕ) (phase : Phase) (k sector : ℕ) → Worked past phase batch completed made → Stored past heads m batch completed made → is_among (completed ++ batch) k ≡ true
-    → asked past 0 k ≡ Some (asks.Read sector 1) → IsDone h.mode past 0 k (asks.Read sector 1) (bytes_from (answer_len (m 0 (status_place (buffer heads k))) (asked past 0 k)) m 0 (sectors_place (buffer heads k)))
-read_answer h past heads m batch completed made phase k sector w st held is =
-    let is_open : IsOpen past 0 k = w.opens k held in
-    let enough : 2 ≤ made k = subst (λ (o : Option Asked). IsFull (made k) o) is (w.full k held) in
-    let begun : IsBegun (looks past 0 k) (acts past 0 k) (seen past 0 k) (asked past 0 k) = (w.progress k).begun (omega arith) in
-    let one : (looks past 0 k ≡ 1) × (length (seen past 0 k) ≡ 512) = subst (λ (o : Option Asked). IsBegun (looks past 0 k) (acts past 0 k) (seen past 0 k) o) is begun in
-    let status : m 0 (status_place (buffer heads k)) ≡ 0 = st.status k held in
-    let read : IsRead (asked past 0 k) = subst (λ (o : Option Asked). IsRead o) (sym is) tt in
-    let long : answer_len (m 0 (status_place (buffer heads k))) (asked past 0 k) ≡ 512 = ap (λ (c : ℕ). answer_len c (asked past 0 k)) status ∙ ap (answer_len 0) is in
-    (ap (look_at (asks.Read sector 1)) one.0, ap (λ (c : ℕ). bytes_from c m 0 (sectors_place (buffer heads k))) long ∙ st.sectors k is_open enough read)
+-- what stands in the buffer is what was seen
+read_stands : (m : Bytes) (p n : ℕ) (read : List ℕ) → length read ≡ n → ((i : ℕ) → i < n → m 0 (p + i) ≡ slice_index read i) → bytes_from n m 0 p ≡ read
+read_stands m p n read long each =
+    let wide : length (bytes_from n m 0 p) ≡ n = length-bytes_from n m 0 p in
+    ext_get_or 0 (bytes_from n m 0 p) read (omega (arith, wide, long)) (λ i low. let within : i < n = omega (arith, wide, low) in get_or-bytes_from n m 0 p i within ∙ each i within)
 
-write_answer : (h : Header1) (past : List Entry) (heads : List ℕ) (m : Bytes) (batch completed : List ℕ) (made : ℕ → ℕ) (phase : Phase) (k sector : ℕ) (bytes : List ℕ) → h.mode ≡ Back → Worked past phase batch completed made → Stored past heads m batch completed made
-    → is_among (completed ++ batch) k ≡ true → asked past 0 k ≡ Some (asks.Write sector bytes) → length bytes ≡ 512
-    → IsDone h.mode past 0 k (asks.Write sector bytes) (bytes_from (answer_len (m 0 (status_place (buffer heads k))) (asked past 0 k)) m 0 (sectors_place (buffer heads k)))
-write_answer h past heads m batch completed made phase k sector bytes back w st held is size =
-    let enough : 1 ≤ made k = subst (λ (o : Option Asked). IsFull (made k) o) is (w.full k held) in
-    let begun : IsBegun (looks past 0 k) (acts past 0 k) (seen past 0 k) (asked past 0 k) = (w.progress k).begun enough in
-    let one : acts past 0 k ≡ 1 = subst (λ (o : Option Asked). IsBegun (looks past 0 k) (acts past 0 k) (seen past 0 k) o) is begun in
-    let long : answer_len (m 0 (status_place (buffer heads k))) (asked past 0 k) ≡ 0 = ap (answer_len (m 0 (status_place (buffer heads k)))) is in
-    let sectors : length bytes / 512 ≡ 1 = ap (λ (c : ℕ). c / 512) size in
-    let whole : effect_at (asks.Write sector bytes) 1 ≡ None = grind (arith, nat_tests) in
-    (ap (effect_at (asks.Write sector bytes)) one ∙ whole, (λ through. absurd (let fails : Back ≡ Through = sym back ∙ through in cc)), ap (λ (c : ℕ). bytes_from c m 0 (sectors_place (buffer heads k))) long)
+-- a request of the batch, with what stands in its buffer
+record IsShown (h : Header1) (past : List Entry) (heads : List ℕ) (m : Bytes) (batch completed : List ℕ) (made : ℕ → ℕ) (phase : Phase) (k : ℕ) (r : Asked) : Type 0 where
+  pub worked : Worked past phase batch completed made
+  pub stored : Stored past heads m batch completed made
+  pub held : is_among (completed ++ batch) k ≡ true
+  pub is : asked past 0 k ≡ Some r
+  pub wide : IsWide h.capacity (Some r)
+
+-- the bytes of its answer
+abbrev answer_bytes : List Entry → List ℕ → Bytes → ℕ → List ℕ
+answer_bytes past heads m k = bytes_from (answer_len (m 0 (status_place (buffer heads k))) (asked past 0 k)) m 0 (sectors_place (buffer heads k))
+
+answer_bytes_are : (h : Header1) (past : List Entry) (heads : List ℕ) (m : Bytes) (batch completed : List ℕ) (made : ℕ → ℕ) (phase : Phase) (k : ℕ) (r : Asked) → IsShown h past heads m batch completed made phase k r → answer_bytes past heads m k ≡ bytes_from (answer_len 0 (Some r)) m 0 (sectors_place (buffer heads k))
+answer_bytes_are h past heads m batch completed made phase k r x =
+    ap (λ (c : ℕ). bytes_from (answer_len c (asked past 0 k)) m 0 (sectors_place (buffer heads k))) (x.stored.status k x.held) ∙ ap (λ (o : Option Asked). bytes_from (answer_len 0 o) m 0 (sectors_place (buffer heads k))) x.is
+
+read_answer : (h : Header1) (past : List Entry) (heads : List ℕ) (m : Bytes) (batch completed : List ℕ) (made : ℕ → ℕ) (phase : Phase) (k sector c : ℕ) → IsShown h past heads m batch completed made phase k (asks.Read sector c) → IsDone h.mode past 0 k (asks.Read sector c) (answer_bytes past heads m k)
+read_answer h past heads m batch completed made phase k sector c x =
+    let is_open : IsOpen past 0 k = x.worked.opens k x.held in
+    let enough : 2 * c ≤ made k = subst (λ (o : Option Asked). IsFull (made k) o) x.is (x.worked.full k x.held) in
+    let to : IsReadTo c (made k) (looks past 0 k) (seen past 0 k) = read_to sector c (made k) (looks past 0 k) (acts past 0 k) (seen past 0 k) (synced past 0 k) (asked past 0 k) x.is (x.worked.progress k) in
+    let looked : looks past 0 k ≡ c = to.whole enough in
+    let long : length (seen past 0 k) ≡ 512 * c = omega (arith, to.long, looked) in
+    let few : c ≤ 8 = x.wide.few in
+    let read : IsRead (asked past 0 k) = subst (λ (o : Option Asked). IsRead o) (sym x.is) tt in (
+      ap (look_at (asks.Read sector c)) looked ∙ looks_end sector c,
+      answer_bytes_are h past heads m batch completed made phase k (asks.Read sector c) x
+          ∙ read_stands m (sectors_place (buffer heads k)) (512 * c) (seen past 0 k) long (λ i low. x.stored.sectors k i is_open (record { small = omega (arith, low, few); put = omega (arith, low, enough); looked = omega (arith, low, long) }) read),
+    )
+
+write_answer : (h : Header1) (past : List Entry) (heads : List ℕ) (m : Bytes) (batch completed : List ℕ) (made : ℕ → ℕ) (phase : Phase) (k sector : ℕ) (bytes : List ℕ) → h.mode ≡ Back → IsShown h past heads m batch completed made phase k (asks.Write sector bytes)
+    → IsDone h.mode past 0 k (asks.Write sector bytes) (answer_bytes past heads m k)
+write_answer h past heads m batch completed made phase k sector bytes back x =
+    let enough : length bytes / 512 ≤ made k = subst (λ (o : Option Asked). IsFull (made k) o) x.is (x.worked.full k x.held) in
+    let to : IsWrittenTo (length bytes / 512) (made k) (acts past 0 k) = written_to sector (made k) (looks past 0 k) (acts past 0 k) bytes (seen past 0 k) (synced past 0 k) (asked past 0 k) x.is (x.worked.progress k) in (
+      ap (effect_at (asks.Write sector bytes)) (to.whole enough) ∙ effects_end sector bytes,
+      (λ through. absurd (let fails : Back ≡ Through = sym back ∙ through in cc)),
+      answer_bytes_are h past heads m batch completed made phase k (asks.Write sector bytes) x,
+    )
+
+flush_answer : (h : Header1) (past : List Entry) (heads : List ℕ) (m : Bytes) (batch completed : List ℕ) (made : ℕ → ℕ) (phase : Phase) (k : ℕ) → IsShown h past heads m batch completed made phase k asks.Flush → IsDone h.mode past 0 k asks.Flush (answer_bytes past heads m k)
+flush_answer h past heads m batch completed made phase k x =
+    let enough : 1 ≤ made k = subst (λ (o : Option Asked). IsFull (made k) o) x.is (x.worked.full k x.held) in (
+      flushed_to (made k) (looks past 0 k) (acts past 0 k) (seen past 0 k) (synced past 0 k) (asked past 0 k) x.is enough (x.worked.progress k),
+      answer_bytes_are h past heads m batch completed made phase k asks.Flush x,
+    )
+
+done_right : (h : Header1) (past : List Entry) (heads : List ℕ) (m : Bytes) (batch completed : List ℕ) (made : ℕ → ℕ) (phase : Phase) (k : ℕ) (r : Asked) → h.mode ≡ Back → IsShown h past heads m batch completed made phase k r → IsDone h.mode past 0 k r (answer_bytes past heads m k)
+done_right h past heads m batch completed made phase k (asks.Read sector c) back x = read_answer h past heads m batch completed made phase k sector c x
+done_right h past heads m batch completed made phase k (asks.Write sector bytes) back x = write_answer h past heads m batch completed made phase k sector bytes back x
+done_right h past heads m batch completed made phase k asks.Flush back x = flush_answer h past heads m batch completed made phase k x
+done_right h past heads m batch completed made phase k asks.Id back x = absurd x.wide
+done_right h past heads m batch completed made phase k (asks.Discard parts) back x = absurd x.wide
+done_right h past heads m batch completed made phase k (asks.Zero parts) back x = absurd x.wide
 
 -- each request of the batch was done, and its answer says so
 pub answer_right : (h : Header1) (s : Scene) (l : Lane) (done : ℕ) (m : Bytes) (k : ℕ) → IsUnderWay h s l done → Stored s.past (s.heads 0) m l.batch l.completed l.made → is_among l.batch k ≡ true → IsAnswer h.capacity h.mode s.past 0 (answer_at 0 (record s { memory = m }) k)
 answer_right h s l done m k x st held =
     let among = in_batch h s l done k x held in
     let status : m 0 (status_place (buffer (s.heads 0) k)) ≡ 0 = st.status k among in
-    elim (simple_cases h.capacity (asked s.past 0 k) (batch_simple h s l done k x held)) [
-      | inl r ↦ record {
-        request = asks.Read r.0 1;
-        offered = r.2;
-        known = omega arith;
-        success = λ is_zero. record { served = read_served h r.0 r.1; unfaulted = x.holds.known.unfaulted k; done = read_answer h s.past (s.heads 0) m l.batch l.completed l.made (phases.Publish done) k r.0 x.holds.worked st among r.2 };
-        failure = λ is_one. absurd (omega arith);
-        unsupported = λ is_two. absurd (omega arith);
-      }
-      | inr r ↦ record {
-        request = asks.Write r.0 r.1;
-        offered = r.4;
-        known = omega arith;
-        success = λ is_zero. record { served = write_served h r.0 r.1 x.back r.2 r.3; unfaulted = x.holds.known.unfaulted k; done = write_answer h s.past (s.heads 0) m l.batch l.completed l.made (phases.Publish done) k r.0 r.1 x.back x.holds.worked st among r.4 r.3 };
-        failure = λ is_one. absurd (omega arith);
-        unsupported = λ is_two. absurd (omega arith);
-      }
-    ]
+    let wide : IsWide h.capacity (asked s.past 0 k) = batch_wide h s l done k x held in
+    let asks_it = wide_some h.capacity (asked s.past 0 k) wide in
+    let is_wide : IsWide h.capacity (Some asks_it.0) = subst (λ (o : Option Asked). IsWide h.capacity o) asks_it.1 wide in
+    let shown : IsShown h s.past (s.heads 0) m l.batch l.completed l.made (phases.Publish done) k asks_it.0 = record { worked = x.holds.worked; stored = st; held = among; is = asks_it.1; wide = is_wide } in
+    record {
+      request = asks_it.0;
+      offered = asks_it.1;
+      known = omega arith;
+      success = λ is_zero. record { served = wide_served h asks_it.0 x.back is_wide; unfaulted = x.holds.known.unfaulted k; done = done_right h s.past (s.heads 0) m l.batch l.completed l.made (phases.Publish done) k asks_it.0 x.back shown };
+      failure = λ is_one. absurd (omega arith);
+      unsupported = λ is_two. absurd (omega arith);
+    }

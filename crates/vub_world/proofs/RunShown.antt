@@ -79,7 +79,7 @@ shown_known h x s l done u =
       fewer = omega (arith, many, room);
       room = known.room;
       good = good_append (answers s.past 0) (shown_list h x s l) known.good (good_map (answer_at 0 (shown_scene h x s)) l.batch (λ k held. st.status k (in_batch h s l done k u held)));
-      simple = known.simple;
+      wide = known.wide;
       unfaulted = known.unfaulted;
       values = known.values;
     }
@@ -191,7 +191,7 @@ shown_holds h x s l done u whole is =
       driven = driven_same h.size h.capacity h.base s.past (shown_past h x s l) (s.heads 0) l.driver (λ k out. record { below = out.below; kept = ap (λ (ks : List ℕ). is_among ks k) (sym front) ∙ out.kept }) u.holds.driven;
       worked = shown_worked h x s l done u;
       stored = record {
-        sectors = λ k is_open far read. st.sectors k (still_open h x s l k is_open) far read;
+        sectors = λ k i is_open kept read. st.sectors k i (still_open h x s l k is_open) kept read;
         status = λ k held. st.status k (is_among_append l.completed l.batch k ∙ or_left (is_among l.completed k) (is_among l.batch k) (ap (λ (ks : List ℕ). is_among ks k) (sym (append-nil l.completed)) ∙ held));
       };
       built = tt;

@@ -1,14 +1,13 @@
 -- A step of work keeps what holds.
-use Rattle.std.proofs.Common.{◌≡◌, ◌≢◌, ◌≤◌, ◌<◌, ◌⊎◌, ℕ, zero, suc, ◌+◌, ◌*◌, ◌/◌, true, false, List, [], ◌∷◌, ◌++◌, length, refl, ap, sym, ◌∙◌, subst, inl, inr, arith, length-append}
-use Rattle.std.specs.Prelude.{Option, Some, None, slice_index, slice_get, slice_range, ◌||◌, if◌then◌else◌, nat_lt, unwrap_or}
+use Rattle.std.proofs.Common.{◌≡◌, ◌≢◌, ◌≤◌, ◌<◌, ◌⊎◌, ℕ, zero, suc, ◌+◌, ◌-◌, ◌*◌, ◌/◌, Bool, true, false, List, [], ◌∷◌, ◌++◌, length, refl, ap, sym, ◌∙◌, subst, inl, inr, arith, length-append}
+use Rattle.std.specs.Prelude.{Option, Some, None, slice_index, slice_get, slice_range, drop, ◌||◌, unwrap_or}
 use Rattle.std.proofs.lemmas.Bool.Decides.{nat_tests}
-use Rattle.std.proofs.lemmas.Bool.{cases_eq}
-use Rattle.std.proofs.lemmas.List.{take_all, length-take-le}
-use Rattle.vub_base.specs.declared.header.CacheMode.{CacheMode}
+use Rattle.std.proofs.lemmas.Bool.{cases_eq, cases_lt}
+use Rattle.std.proofs.lemmas.List.{length-take, length-take-le, length-drop, get_or-take, get_or-drop, get_or_append_left}
 use Rattle.vub_base.specs.declared.header.CacheMode.TheVariants.{Back}
 use Rattle.vub_base.specs.declared.header.Header1.{Header1}
-use Rattle.vub_shared.specs.Bytes.{Bytes, put, word, bytes_from}
-use Rattle.vub_shared.proofs.BytesLemmas.{put_inside, bytes_from-put_other, bytes_from-put_same}
+use Rattle.vub_shared.specs.Bytes.{Bytes, put, word}
+use Rattle.vub_shared.proofs.BytesLemmas.{put_other, put_inside}
 use Rattle.vub_ring.specs.declared.steps.Phase.{Phase}
 use Rattle.vub_ring.specs.declared.steps.Phase.TheVariants as phases
 use Rattle.vub_ring.specs.Ring.{used_id_place, used_len_place}
@@ -20,9 +19,9 @@ use Rattle.vub_device.specs.declared.entry.Entry.{Entry}
 use Rattle.vub_device.specs.declared.entry.Entry.TheVariants as entries
 use Rattle.vub_device.specs.declared.entry.SectorValue.{SectorValue}
 use Rattle.vub_device.specs.Crash.{value}
-use Rattle.vub_device.specs.Legal.{LegalFrom, IsAtWork, MayLook, MayAct}
+use Rattle.vub_device.specs.Legal.{LegalFrom, IsAtWork, MayLook, MayAct, MaySync}
 use Rattle.vub_device.specs.Requests.{look_at, effect_at, refusal}
-use Rattle.vub_device.specs.Past.{accepted, asked, published, collected, is_among, IsOpen, started, looks, seen, acts}
+use Rattle.vub_device.specs.Past.{accepted, asked, published, collected, is_among, IsOpen, started, looks, seen, acts, synced}
 use Rattle.vub_device.specs.Places.{are_distinct}
 use Rattle.vub_device.proofs.Numbers.{is_among_append}
 use Rattle.vub_base.specs.declared.store.Tag.TheVariants.{T5}
@@ -30,13 +29,14 @@ use Rattle.vub_base.specs.declared.store.Area.TheVariants.{M}
 use Rattle.vub_world.specs.declared.report.items.Item.TheVariants as items
 use Rattle.vub_world.specs.Memory.{Scene, with_at, after_items}
 use Rattle.vub_world.specs.Moments.{Lane}
-use Rattle.vub_world.specs.Tasks.{TaskStep, Look, Put, Act, Status, task_steps, act_items, status_of, unless_refused, disk_steps, act_steps}
+use Rattle.vub_world.specs.Tasks.{TaskStep, Look, Put, Act, Sync, Status, look_items, act_items, status_of, disk_steps, look_steps, act_steps}
 use Rattle.vub_world.specs.Tracking.{EveryTracks, AfterEach, entries_of, answered_len}
 use Rattle.vub_world.specs.Turns.{Turned, request_turn, task_turn}
 use Rattle.vub_world.proofs.RunNumbers.{distinct_parts, distinct_join, distinct_push}
-use Rattle.vub_world.proofs.RunGood.{the_ring, IsSimple, Known, IsOut, WaitsWell, Driven, Progress, IsBegun, IsFull, IsPending, Worked, Stored, IsRead, Built, buffer, Holds}
+use Rattle.vub_world.proofs.RunGood.{the_ring, IsWideRead, IsWideWrite, IsWide, Known, IsOut, WaitsWell, Driven, IsReadTo, IsWrittenTo, Progress, IsBegun, IsFull, IsPending, Worked, IsKept, Stored, IsRead, Built, buffer, Holds}
+use Rattle.vub_world.proofs.RunSteps.{WideCases, AtRead, AtWrite, AtFlush, wide_cases, wide_served, wide_steps, ReadAt, ToLook, ToPut, ToReply, read_at, WriteAt, ToAct, ToEnd, write_at, look_is, written, effect_is, read_to, written_to}
 use Rattle.vub_world.proofs.RunEfforts.{effort, step_falls, status_falls}
-use Rattle.vub_world.proofs.RunFrames.{open_out, OffBuffer, ringed_elsewhere, built_elsewhere, sectors_elsewhere, status_elsewhere, other_buffer}
+use Rattle.vub_world.proofs.RunFrames.{open_out, OffBuffer, ringed_elsewhere, built_elsewhere, sector_elsewhere, status_elsewhere, other_buffer}
 use Rattle.vub_world.proofs.RunGuests.{IsGood, stored_at, holds_track}
 
 -- ---- what doesn't change with most entries
@@ -44,7 +44,7 @@ use Rattle.vub_world.proofs.RunGuests.{IsGood, stored_at, holds_track}
 waits_same : (n cap : ℕ) (past past' : List Entry) (heads : List ℕ) (v : Driver) (o : Option Waiting) → ((k : ℕ) → IsOut past' heads k → IsOut past heads k) → WaitsWell n cap past heads v o → WaitsWell n cap past' heads v o
 waits_same n cap past past' heads v None out w = tt
 waits_same n cap past past' heads v (Some x) out w = record {
-  simple = w.simple;
+  wide = w.wide;
   below = w.below;
   mine = w.mine;
   apart = λ k o. w.apart k (out k o);
@@ -71,32 +71,6 @@ built_same n base past past' heads m batch (phases.Publish done) ps ks b = recor
 }
 
 -- ---- requests
-
-pub simple_cases : (cap : ℕ) (o : Option Asked) → IsSimple cap o → ((s : ℕ) × (s < cap) × (o ≡ Some (asks.Read s 1))) ⊎ ((s : ℕ) × (bytes : List ℕ) × (s < cap) × (length bytes ≡ 512) × (o ≡ Some (asks.Write s bytes)))
-simple_cases cap (Some (asks.Read s c)) simple = inl (s, simple.0, ap (λ (k : ℕ). Some (asks.Read s k)) simple.1)
-simple_cases cap (Some (asks.Write s bytes)) simple = inr (s, bytes, simple.0, simple.1, refl)
-simple_cases cap (Some asks.Flush) simple = absurd simple
-simple_cases cap (Some asks.Id) simple = absurd simple
-simple_cases cap (Some (asks.Discard parts)) simple = absurd simple
-simple_cases cap (Some (asks.Zero parts)) simple = absurd simple
-simple_cases cap None simple = absurd simple
-
-pub read_served : (h : Header1) (s : ℕ) → s < h.capacity → refusal h.capacity h.mode (asks.Read s 1) ≡ None
-read_served h s low = grind (arith, nat_tests)
-
-pub write_served : (h : Header1) (s : ℕ) (bytes : List ℕ) → h.mode ≡ Back → s < h.capacity → length bytes ≡ 512 → refusal h.capacity h.mode (asks.Write s bytes) ≡ None
-write_served h s bytes back low long =
-    let one : length bytes / 512 ≡ 1 = ap (λ (k : ℕ). k / 512) long in
-    ap (λ (mode : CacheMode). refusal h.capacity mode (asks.Write s bytes)) back ∙ grind (arith, nat_tests)
-
-pub read_steps : (h : Header1) (s : ℕ) → s < h.capacity → task_steps h (asks.Read s 1) ≡ Look 0 ∷ Put 0 ∷ Status ∷ []
-read_steps h s low = ap (λ (o : Option ℕ). unless_refused o (disk_steps (asks.Read s 1)) ++ Status ∷ []) (read_served h s low)
-
-pub write_steps : (h : Header1) (s : ℕ) (bytes : List ℕ) → h.mode ≡ Back → s < h.capacity → length bytes ≡ 512 → task_steps h (asks.Write s bytes) ≡ Act 0 ∷ Status ∷ []
-write_steps h s bytes back low long =
-    let one : length bytes / 512 ≡ 1 = ap (λ (k : ℕ). k / 512) long in
-    ap (λ (o : Option ℕ). unless_refused o (disk_steps (asks.Write s bytes)) ++ Status ∷ []) (write_served h s bytes back low long)
-    ∙ ap (λ (k : ℕ). act_steps 0 k ++ Status ∷ []) one
 
 pub at_same : (f : ℕ → ℕ) (k x j : ℕ) → j ≡ k → with_at f k x j ≡ x
 at_same f k x j e = grind (arith, nat_tests)
@@ -135,7 +109,7 @@ at_work h s l k r x is served = record { started = x.started; is_open = x.is_ope
 abbrev one_more : ℕ → Lane → Lane
 one_more k l = record l { made = with_at l.made k (l.made k + 1) }
 
-one_more_falls : (h : Header1) (s : Scene) (l : Lane) (k : ℕ) → IsLeft h s l k → l.made k ≤ 2 → effort s.past (length (s.heads 0)) (one_more k l) + 1 ≤ effort s.past (length (s.heads 0)) l
+one_more_falls : (h : Header1) (s : Scene) (l : Lane) (k : ℕ) → IsLeft h s l k → l.made k ≤ 16 → effort s.past (length (s.heads 0)) (one_more k l) + 1 ≤ effort s.past (length (s.heads 0)) l
 one_more_falls h s l k x small = omega (arith, step_falls (published s.past 0) (l.completed ++ l.batch) l.made (accepted s.past 0) k x.is_open.taken x.is_open.unpublished x.left small)
 
 look_known : (n cap : ℕ) (past : List Entry) (heads : List ℕ) (k s : ℕ) (v : List ℕ) → Known n cap past heads → Known n cap (entries.Look 0 k s v ∷ past) heads
@@ -148,90 +122,188 @@ look_known n cap past heads k s v a = record {
   fewer = a.fewer;
   room = a.room;
   good = a.good;
-  simple = a.simple;
+  wide = a.wide;
   unfaulted = a.unfaulted;
   values = a.values;
 }
 
-look_worked : (past : List Entry) (phase : Phase) (batch completed : List ℕ) (made : ℕ → ℕ) (k s sector : ℕ) (v : List ℕ) → started past 0 ≡ true → IsOpen past 0 k → is_among (completed ++ batch) k ≡ false → made k ≡ 0 → asked past 0 k ≡ Some (asks.Read sector 1) → length v ≡ 512
-    → Worked past phase batch completed made → Worked (entries.Look 0 k s v ∷ past) phase batch completed (with_at made k (made k + 1))
-look_worked past phase batch completed made k s sector v run is_open left none is long w = record {
+-- what a step of a request leaves: all but what was done for it
+record Follows (past later : List Entry) (k : ℕ) : Type 0 where
+  pub accepts : accepted later 0 ≡ accepted past 0
+  pub publishes : published later 0 ≡ published past 0
+  pub asks_same : (j : ℕ) → asked later 0 j ≡ asked past 0 j
+  pub runs : started past 0 ≡ true
+  pub runs_on : started later 0 ≡ true
+  pub others : (j : ℕ) → j ≢ k → (looks later 0 j ≡ looks past 0 j) × ((acts later 0 j ≡ acts past 0 j) × ((seen later 0 j ≡ seen past 0 j) × (synced later 0 j ≡ synced past 0 j)))
+
+open_later : (past later : List Entry) (k j : ℕ) → Follows past later k → IsOpen past 0 j → IsOpen later 0 j
+open_later past later k j f is_open = record { taken = omega (arith, f.accepts, is_open.taken); unpublished = ap (λ (ks : List ℕ). is_among ks j) f.publishes ∙ is_open.unpublished }
+
+open_before : (past later : List Entry) (k j : ℕ) → Follows past later k → IsOpen later 0 j → IsOpen past 0 j
+open_before past later k j f is_open = record { taken = omega (arith, f.accepts, is_open.taken); unpublished = ap (λ (ks : List ℕ). is_among ks j) (sym f.publishes) ∙ is_open.unpublished }
+
+-- how far a number is
+abbrev Far : List Entry → (ℕ → ℕ) → ℕ → Type 0
+Far past made j = Progress (made j) (looks past 0 j) (acts past 0 j) (seen past 0 j) (synced past 0 j) (asked past 0 j)
+
+far_other : (past later : List Entry) (made : ℕ → ℕ) (k j : ℕ) → Follows past later k → j ≢ k → Far past made j → Far later (with_at made k (made k + 1)) j
+far_other past later made k j f apart far =
+    let same = f.others j apart in
+    let n : ℕ = with_at made k (made k + 1) j in
+    let one : Progress n (looks past 0 j) (acts past 0 j) (seen past 0 j) (synced past 0 j) (asked past 0 j) = subst (λ (c : ℕ). Progress c (looks past 0 j) (acts past 0 j) (seen past 0 j) (synced past 0 j) (asked past 0 j)) (sym (at_other made k (made k + 1) j apart)) far in
+    let two : Progress n (looks later 0 j) (acts past 0 j) (seen past 0 j) (synced past 0 j) (asked past 0 j) = subst (λ (c : ℕ). Progress n c (acts past 0 j) (seen past 0 j) (synced past 0 j) (asked past 0 j)) (sym same.0) one in
+    let three : Progress n (looks later 0 j) (acts later 0 j) (seen past 0 j) (synced past 0 j) (asked past 0 j) = subst (λ (c : ℕ). Progress n (looks later 0 j) c (seen past 0 j) (synced past 0 j) (asked past 0 j)) (sym same.1.0) two in
+    let four : Progress n (looks later 0 j) (acts later 0 j) (seen later 0 j) (synced past 0 j) (asked past 0 j) = subst (λ (xs : List ℕ). Progress n (looks later 0 j) (acts later 0 j) xs (synced past 0 j) (asked past 0 j)) (sym same.1.1.0) three in
+    let five : Progress n (looks later 0 j) (acts later 0 j) (seen later 0 j) (synced later 0 j) (asked past 0 j) = subst (λ (b : Bool). Progress n (looks later 0 j) (acts later 0 j) (seen later 0 j) b (asked past 0 j)) (sym same.1.1.1) four in
+    subst (λ (o : Option Asked). Progress n (looks later 0 j) (acts later 0 j) (seen later 0 j) (synced later 0 j) o) (sym (f.asks_same j)) five
+
+far_same : (past later : List Entry) (made : ℕ → ℕ) (k j : ℕ) → j ≡ k → Follows past later k → IsBegun (made k + 1) (looks later 0 k) (acts later 0 k) (seen later 0 k) (synced later 0 k) (asked past 0 k) → Far later (with_at made k (made k + 1)) j
+far_same past later made k j same f begun =
+    subst (λ (i : ℕ). Far later (with_at made k (made k + 1)) i) (sym same)
+    (subst (λ (c : ℕ). Progress c (looks later 0 k) (acts later 0 k) (seen later 0 k) (synced later 0 k) (asked later 0 k)) (sym (at_same made k (made k + 1) k refl))
+    (subst (λ (o : Option Asked). Progress (made k + 1) (looks later 0 k) (acts later 0 k) (seen later 0 k) (synced later 0 k) o) (sym (f.asks_same k)) (record { fresh = λ e. absurd (omega arith); begun = λ some. begun })))
+
+-- a step that isn't the last
+step_worked : (past later : List Entry) (phase : Phase) (batch completed : List ℕ) (made : ℕ → ℕ) (k : ℕ) → Follows past later k → IsOpen past 0 k → is_among (completed ++ batch) k ≡ false
+    → IsBegun (made k + 1) (looks later 0 k) (acts later 0 k) (seen later 0 k) (synced later 0 k) (asked past 0 k) → IsPending (made k + 1) (asked past 0 k) → Worked past phase batch completed made → Worked later phase batch completed (with_at made k (made k + 1))
+step_worked past later phase batch completed made k f is_open left begun next w = record {
   distinct = w.distinct;
-  opens = λ j held. record { taken = (w.opens j held).taken; unpublished = (w.opens j held).unpublished };
-  untouched = λ j high. at_other made k (made k + 1) j (λ same. omega (arith, is_open.taken)) ∙ w.untouched j high;
+  opens = λ j held. open_later past later k j f (w.opens j held);
+  untouched = λ j high. at_other made k (made k + 1) j (λ same. omega (arith, is_open.taken, f.accepts)) ∙ w.untouched j (omega (arith, f.accepts));
   progress = λ j. elim (cases_eq j k) [
-    | inl same ↦
-        let now : with_at made k (made k + 1) j ≡ made k + 1 = at_same made k (made k + 1) j same in
-        let looked : looks (entries.Look 0 k s v ∷ past) 0 j ≡ looks past 0 j + 1 = grind (arith, nat_tests) in
-        let read : seen (entries.Look 0 k s v ∷ past) 0 j ≡ seen past 0 j ++ v = grind (arith, nat_tests) in
-        let zero_made : made j ≡ 0 = ap made same ∙ none in
-        let old : (looks past 0 j ≡ 0) × ((acts past 0 j ≡ 0) × (seen past 0 j ≡ [])) = (w.progress j).fresh zero_made in
-        let all : seen (entries.Look 0 k s v ∷ past) 0 j ≡ v = read ∙ ap (λ (xs : List ℕ). xs ++ v) old.1.1 in
-        let is_j : asked past 0 j ≡ Some (asks.Read sector 1) = ap (asked past 0) same ∙ is in
-        record {
-          fresh = λ e. absurd (omega arith);
-          begun = λ some. subst (λ (o : Option Asked). IsBegun (looks (entries.Look 0 k s v ∷ past) 0 j) (acts past 0 j) (seen (entries.Look 0 k s v ∷ past) 0 j) o) (sym is_j) (omega (arith, looked, old.0), ap length all ∙ long);
-        }
-    | inr apart ↦
-        let now : with_at made k (made k + 1) j ≡ made j = at_other made k (made k + 1) j apart in
-        let looked : looks (entries.Look 0 k s v ∷ past) 0 j ≡ looks past 0 j = grind (arith, nat_tests) in
-        let read : seen (entries.Look 0 k s v ∷ past) 0 j ≡ seen past 0 j = grind (arith, nat_tests) in
-        let both : Progress (made j) (looks (entries.Look 0 k s v ∷ past) 0 j) (acts past 0 j) (seen (entries.Look 0 k s v ∷ past) 0 j) (asked past 0 j) =
-        subst (λ (c : ℕ). Progress (made j) c (acts past 0 j) (seen (entries.Look 0 k s v ∷ past) 0 j) (asked past 0 j)) (sym looked)
-        (subst (λ (xs : List ℕ). Progress (made j) (looks past 0 j) (acts past 0 j) xs (asked past 0 j)) (sym read) (w.progress j)) in
-        subst (λ (c : ℕ). Progress c (looks (entries.Look 0 k s v ∷ past) 0 j) (acts past 0 j) (seen (entries.Look 0 k s v ∷ past) 0 j) (asked past 0 j)) (sym now) both
+    | inl same ↦ far_same past later made k j same f begun
+    | inr apart ↦ far_other past later made k j f apart (w.progress j)
   ];
-  full = λ j held. subst (λ (c : ℕ). IsFull c (asked past 0 j)) (sym (at_other made k (made k + 1) j (among_apart (completed ++ batch) j k held left))) (w.full j held);
-  pending = λ j is_open_j out. elim (cases_eq j k) [
-    | inl same ↦ subst (λ (o : Option Asked). IsPending (with_at made k (made k + 1) j) o) (sym (ap (asked past 0) same ∙ is)) (let now : with_at made k (made k + 1) j ≡ made k + 1 = at_same made k (made k + 1) j same in omega arith)
-    | inr apart ↦ subst (λ (c : ℕ). IsPending c (asked past 0 j)) (sym (at_other made k (made k + 1) j apart)) (w.pending j (record { taken = is_open_j.taken; unpublished = is_open_j.unpublished }) out)
-  ];
-  quiet = λ stopped. absurd (let fails : true ≡ false = sym run ∙ stopped in cc);
+  full = λ j held. subst (λ (c : ℕ). IsFull c (asked later 0 j)) (sym (at_other made k (made k + 1) j (among_apart (completed ++ batch) j k held left))) (subst (λ (o : Option Asked). IsFull (made j) o) (sym (f.asks_same j)) (w.full j held));
+  pending = λ j is_open_j out. subst (λ (o : Option Asked). IsPending (with_at made k (made k + 1) j) o) (sym (f.asks_same j)) (elim (cases_eq j k) [
+    | inl same ↦ subst (λ (i : ℕ). IsPending (with_at made k (made k + 1) i) (asked past 0 i)) (sym same) (subst (λ (c : ℕ). IsPending c (asked past 0 k)) (sym (at_same made k (made k + 1) k refl)) next)
+    | inr apart ↦ subst (λ (c : ℕ). IsPending c (asked past 0 j)) (sym (at_other made k (made k + 1) j apart)) (w.pending j (open_before past later k j f is_open_j) out)
+  ]);
+  quiet = λ stopped. absurd (let fails : true ≡ false = sym f.runs_on ∙ stopped in cc);
   phase_is = w.phase_is;
 }
 
-look_stored : (past : List Entry) (heads : List ℕ) (m : Bytes) (batch completed : List ℕ) (made : ℕ → ℕ) (k s : ℕ) (v : List ℕ) → made k ≡ 0 → Stored past heads m batch completed made → Stored (entries.Look 0 k s v ∷ past) heads m batch completed (with_at made k (made k + 1))
-look_stored past heads m batch completed made k s v none st = record {
-  sectors = λ j is_open far read. elim (cases_eq j k) [
-    | inl same ↦ absurd (let now : with_at made k (made k + 1) j ≡ made k + 1 = at_same made k (made k + 1) j same in omega arith)
-    | inr apart ↦
-        let now : with_at made k (made k + 1) j ≡ made j = at_other made k (made k + 1) j apart in
-        let same_seen : seen (entries.Look 0 k s v ∷ past) 0 j ≡ seen past 0 j = let differs : k ≢ j = λ e. apart (sym e) in grind (arith, nat_tests) in
-        st.sectors j (record { taken = is_open.taken; unpublished = is_open.unpublished }) (subst (λ (c : ℕ). 2 ≤ c) now far) read ∙ sym same_seen
-  ];
+-- what was stored of the sectors that were read was seen before too
+abbrev SeenBefore : List Entry → List Entry → (ℕ → ℕ) → ℕ → ℕ → Type 0
+SeenBefore past later made k j = (i : ℕ) → IsRead (asked past 0 j) → IsKept (with_at made k (made k + 1) j) (length (seen later 0 j)) i → IsKept (made j) (length (seen past 0 j)) i × (slice_index (seen later 0 j) i ≡ slice_index (seen past 0 j) i)
+
+seen_other : (past later : List Entry) (made : ℕ → ℕ) (k j : ℕ) → Follows past later k → j ≢ k → SeenBefore past later made k j
+seen_other past later made k j f apart = λ i read kept.
+    let same : seen later 0 j ≡ seen past 0 j = (f.others j apart).1.1.0 in
+    let made_same : with_at made k (made k + 1) j ≡ made j = at_other made k (made k + 1) j apart in (
+      subst (λ (c : ℕ). IsKept c (length (seen past 0 j)) i) made_same (subst (λ (xs : List ℕ). IsKept (with_at made k (made k + 1) j) (length xs) i) same kept),
+      ap (λ (xs : List ℕ). slice_index xs i) same,
+    )
+
+-- a step that stores nothing
+step_stored : (past later : List Entry) (heads : List ℕ) (m : Bytes) (batch completed : List ℕ) (made : ℕ → ℕ) (k : ℕ) → Follows past later k → SeenBefore past later made k k → Stored past heads m batch completed made → Stored later heads m batch completed (with_at made k (made k + 1))
+step_stored past later heads m batch completed made k f here st = record {
+  sectors = λ j i is_open kept read.
+      let read_before : IsRead (asked past 0 j) = subst (λ (o : Option Asked). IsRead o) (f.asks_same j) read in
+      let before : IsKept (made j) (length (seen past 0 j)) i × (slice_index (seen later 0 j) i ≡ slice_index (seen past 0 j) i) = elim (cases_eq j k) [
+        | inl same ↦ subst (λ (n : ℕ). SeenBefore past later made k n) (sym same) here i read_before kept
+        | inr apart ↦ seen_other past later made k j f apart i read_before kept
+      ] in
+      st.sectors j i (open_before past later k j f is_open) before.0 read_before ∙ sym before.1;
   status = st.status;
 }
 
-look_holds : (h : Header1) (s : Scene) (l : Lane) (k sector place : ℕ) (v : List ℕ) → IsLeft h s l k → l.made k ≡ 0 → asked s.past 0 k ≡ Some (asks.Read sector 1) → length v ≡ 512 → Holds h (record s { past = entries.Look 0 k place v ∷ s.past }) (one_more k l)
-look_holds h s l k sector place v x none is long = record {
-  known = look_known h.size h.capacity s.past (s.heads 0) k place v x.holds.known;
-  ringed = record { avail_idx_is = x.holds.ringed.avail_idx_is; used_idx_is = x.holds.ringed.used_idx_is; avail_at = x.holds.ringed.avail_at; used_at = x.holds.ringed.used_at };
-  driven = driven_same h.size h.capacity h.base s.past (entries.Look 0 k place v ∷ s.past) (s.heads 0) l.driver (λ j o. record { below = o.below; kept = o.kept }) x.holds.driven;
-  worked = look_worked s.past l.phase l.batch l.completed l.made k place sector v x.started x.is_open x.left none is long x.holds.worked;
-  stored = look_stored s.past (s.heads 0) s.memory l.batch l.completed l.made k place v none x.holds.stored;
-  built = built_same h.size h.base s.past (entries.Look 0 k place v ∷ s.past) (s.heads 0) s.memory l.batch l.phase refl (λ j. refl) x.holds.built;
+-- of a request that isn't a read there is nothing to say
+seen_never : (past later : List Entry) (made : ℕ → ℕ) (k : ℕ) → (IsRead (asked past 0 k) → ⊥) → SeenBefore past later made k k
+seen_never past later made k never = λ i read kept. absurd (never read)
+
+-- ---- reading a sector
+
+look_follows : (past : List Entry) (k s : ℕ) (v : List ℕ) → started past 0 ≡ true → Follows past (entries.Look 0 k s v ∷ past) k
+look_follows past k s v run = record {
+  accepts = refl;
+  publishes = refl;
+  asks_same = λ j. refl;
+  runs = run;
+  runs_on = run;
+  others = λ j apart.
+      let differs : k ≢ j = λ e. apart (sym e) in
+      let looked : looks (entries.Look 0 k s v ∷ past) 0 j ≡ looks past 0 j = grind (arith, nat_tests) in
+      let read : seen (entries.Look 0 k s v ∷ past) 0 j ≡ seen past 0 j = grind (arith, nat_tests) in
+      (looked, (refl, (read, refl)));
 }
 
-look_fine : (h : Header1) (s : Scene) (l : Lane) (k sector : ℕ) → IsLeft h s l k → l.made k ≡ 0 → sector < h.capacity → asked s.past 0 k ≡ Some (asks.Read sector 1)
-    → Fine h s l (task_turn h 0 s l k (asks.Read sector 1) (Some (Look 0)))
-look_fine h s l k sector x none low is =
-    let v : List ℕ = value s.past (sector + 0) in
-    let holds = look_holds h s l k sector (sector + 0) v x none is (x.holds.known.values (sector + 0)) in
-    let zero_looks : looks s.past 0 k ≡ 0 = ((x.holds.worked.progress k).fresh none).0 in
-    let may : MayLook h.capacity h.mode s.past 0 k (sector + 0) v = record {
-      request = asks.Read sector 1;
-      works = at_work h s l k (asks.Read sector 1) x is (read_served h sector low);
-      next = ap (look_at (asks.Read sector 1)) zero_looks;
+looks_more : (past : List Entry) (k s : ℕ) (v : List ℕ) → looks (entries.Look 0 k s v ∷ past) 0 k ≡ looks past 0 k + 1
+looks_more past k s v = grind (arith, nat_tests)
+
+pub seen_more : (past : List Entry) (k s : ℕ) (v : List ℕ) → seen (entries.Look 0 k s v ∷ past) 0 k ≡ seen past 0 k ++ v
+seen_more past k s v = grind (arith, nat_tests)
+
+-- a request that is worked on reads
+record IsReading (h : Header1) (s : Scene) (l : Lane) (k sector c : ℕ) : Type 0 where
+  pub left : IsLeft h s l k
+  pub wide : IsWideRead h.capacity sector c
+  pub is : asked s.past 0 k ≡ Some (asks.Read sector c)
+
+reading_to : (h : Header1) (s : Scene) (l : Lane) (k sector c : ℕ) → IsReading h s l k sector c → IsReadTo c (l.made k) (looks s.past 0 k) (seen s.past 0 k)
+reading_to h s l k sector c x = read_to sector c (l.made k) (looks s.past 0 k) (acts s.past 0 k) (seen s.past 0 k) (synced s.past 0 k) (asked s.past 0 k) x.is (x.left.holds.worked.progress k)
+
+look_worked : (h : Header1) (s : Scene) (l : Lane) (k sector c p place : ℕ) (v : List ℕ) → IsReading h s l k sector c → p < c → l.made k ≡ 2 * p → length v ≡ 512
+    → Worked (entries.Look 0 k place v ∷ s.past) l.phase l.batch l.completed (with_at l.made k (l.made k + 1))
+look_worked h s l k sector c p place v x low at long =
+    let later : List Entry = entries.Look 0 k place v ∷ s.past in
+    let to : IsReadTo c (l.made k) (looks s.past 0 k) (seen s.past 0 k) = reading_to h s l k sector c x in
+    let looked : looks s.past 0 k ≡ (l.made k + 1) / 2 = to.under (omega arith) in
+    let more : looks later 0 k ≡ looks s.past 0 k + 1 = looks_more s.past k place v in
+    let longer : length (seen later 0 k) ≡ length (seen s.past 0 k) + length v = ap (λ (xs : List ℕ). length xs) (seen_more s.past k place v) ∙ length-append (seen s.past 0 k) v in
+    let was : length (seen s.past 0 k) ≡ 512 * looks s.past 0 k = to.long in
+    let next : IsReadTo c (l.made k + 1) (looks later 0 k) (seen later 0 k) = record { under = λ e. omega (arith, looked, more, at); whole = λ e. omega (arith, looked, more, at, low); long = omega (arith, longer, was, more, long) } in
+    step_worked s.past later l.phase l.batch l.completed l.made k (look_follows s.past k place v x.left.started) x.left.is_open x.left.left
+    (subst (λ (o : Option Asked). IsBegun (l.made k + 1) (looks later 0 k) (acts later 0 k) (seen later 0 k) (synced later 0 k) o) (sym x.is) next)
+    (subst (λ (o : Option Asked). IsPending (l.made k + 1) o) (sym x.is) (omega arith)) x.left.holds.worked
+
+look_seen : (h : Header1) (s : Scene) (l : Lane) (k sector c p place : ℕ) (v : List ℕ) → IsReading h s l k sector c → p < c → l.made k ≡ 2 * p → SeenBefore s.past (entries.Look 0 k place v ∷ s.past) l.made k k
+look_seen h s l k sector c p place v x low at = λ i read kept.
+    let now : with_at l.made k (l.made k + 1) k ≡ l.made k + 1 = at_same l.made k (l.made k + 1) k refl in
+    let to : IsReadTo c (l.made k) (looks s.past 0 k) (seen s.past 0 k) = reading_to h s l k sector c x in
+    let looked : looks s.past 0 k ≡ (l.made k + 1) / 2 = to.under (omega arith) in
+    let was : length (seen s.past 0 k) ≡ 512 * looks s.past 0 k = to.long in
+    let upto : i < 512 * (with_at l.made k (l.made k + 1) k / 2) = kept.put in
+    let half : with_at l.made k (l.made k + 1) k / 2 ≡ p = omega (arith, now, at) in
+    let within : i < 512 * p = omega (arith, upto, half) in
+    let old : i < length (seen s.past 0 k) = omega (arith, within, was, looked, at) in (
+      record { small = kept.small; put = omega (arith, within, at); looked = old },
+      ap (λ (xs : List ℕ). slice_index xs i) (seen_more s.past k place v) ∙ get_or_append_left (seen s.past 0 k) v 0 i old,
+    )
+
+look_holds : (h : Header1) (s : Scene) (l : Lane) (k sector c p place : ℕ) (v : List ℕ) → IsReading h s l k sector c → p < c → l.made k ≡ 2 * p → length v ≡ 512 → Holds h (record s { past = entries.Look 0 k place v ∷ s.past }) (one_more k l)
+look_holds h s l k sector c p place v x low at long = record {
+  known = look_known h.size h.capacity s.past (s.heads 0) k place v x.left.holds.known;
+  ringed = record { avail_idx_is = x.left.holds.ringed.avail_idx_is; used_idx_is = x.left.holds.ringed.used_idx_is; avail_at = x.left.holds.ringed.avail_at; used_at = x.left.holds.ringed.used_at };
+  driven = driven_same h.size h.capacity h.base s.past (entries.Look 0 k place v ∷ s.past) (s.heads 0) l.driver (λ j o. record { below = o.below; kept = o.kept }) x.left.holds.driven;
+  worked = look_worked h s l k sector c p place v x low at long;
+  stored = step_stored s.past (entries.Look 0 k place v ∷ s.past) (s.heads 0) s.memory l.batch l.completed l.made k (look_follows s.past k place v x.left.started) (look_seen h s l k sector c p place v x low at) x.left.holds.stored;
+  built = built_same h.size h.base s.past (entries.Look 0 k place v ∷ s.past) (s.heads 0) s.memory l.batch l.phase refl (λ j. refl) x.left.holds.built;
+}
+
+look_fine : (h : Header1) (s : Scene) (l : Lane) (k sector c p : ℕ) → IsReading h s l k sector c → p < c → l.made k ≡ 2 * p → Fine h s l (task_turn h 0 s l k (asks.Read sector c) (Some (Look p)))
+look_fine h s l k sector c p x low at =
+    let v : List ℕ = value s.past (sector + p) in
+    let holds = look_holds h s l k sector c p (sector + p) v x low at (x.left.holds.known.values (sector + p)) in
+    let to : IsReadTo c (l.made k) (looks s.past 0 k) (seen s.past 0 k) = reading_to h s l k sector c x in
+    let looked : looks s.past 0 k ≡ (l.made k + 1) / 2 = to.under (omega arith) in
+    let place : looks s.past 0 k ≡ p = omega (arith, looked, at) in
+    let is_look : look_at (asks.Read sector c) p ≡ Some (sector + p) = look_is sector c p low in
+    let may : MayLook h.capacity h.mode s.past 0 k (sector + p) v = record {
+      request = asks.Read sector c;
+      works = at_work h s l k (asks.Read sector c) x.left x.is (wide_served h (asks.Read sector c) x.left.back x.wide);
+      next = ap (look_at (asks.Read sector c)) place ∙ is_look;
       held = refl;
     } in
-    record {
-      each = (inr (holds_track h (record s { past = entries.Look 0 k (sector + 0) v ∷ s.past }) (one_more k l) x.good holds), tt);
+    let whole : Fine h s l (record { items = look_items 0 k s.past (Some (sector + p)); lane = one_more k l }) = record {
+      each = (inr (holds_track h (record s { past = entries.Look 0 k (sector + p) v ∷ s.past }) (one_more k l) x.left.good holds), tt);
       holds = holds;
       legal = (may, tt);
-      runs = x.started;
+      runs = x.left.started;
       collects = refl;
-      falls = one_more_falls h s l k x (omega arith);
-    }
+      falls = one_more_falls h s l k x.left (omega (arith, at, low, x.wide.few));
+    } in
+    subst (λ (o : Option ℕ). Fine h s l (record { items = look_items 0 k s.past o; lane = one_more k l })) (sym is_look) whole
 
 -- ---- writing a sector
 
@@ -245,7 +317,7 @@ act_known n cap past heads k s v long a = record {
   fewer = a.fewer;
   room = a.room;
   good = a.good;
-  simple = a.simple;
+  wide = a.wide;
   unfaulted = a.unfaulted;
   values = λ t. let old : length (value past t) ≡ 512 = a.values t in elim (cases_eq s t) [
     | inl same ↦ ap length (let now : value (entries.Act 0 k s v ∷ past) t ≡ v = grind (arith, nat_tests) in now) ∙ long
@@ -253,88 +325,158 @@ act_known n cap past heads k s v long a = record {
   ];
 }
 
-act_worked : (past : List Entry) (phase : Phase) (batch completed : List ℕ) (made : ℕ → ℕ) (k s sector : ℕ) (v bytes : List ℕ) → started past 0 ≡ true → IsOpen past 0 k → is_among (completed ++ batch) k ≡ false → made k ≡ 0 → asked past 0 k ≡ Some (asks.Write sector bytes)
-    → Worked past phase batch completed made → Worked (entries.Act 0 k s v ∷ past) phase batch completed (with_at made k (made k + 1))
-act_worked past phase batch completed made k s sector v bytes run is_open left none is w = record {
-  distinct = w.distinct;
-  opens = λ j held. record { taken = (w.opens j held).taken; unpublished = (w.opens j held).unpublished };
-  untouched = λ j high. at_other made k (made k + 1) j (λ same. omega (arith, is_open.taken)) ∙ w.untouched j high;
-  progress = λ j. elim (cases_eq j k) [
-    | inl same ↦
-        let now : with_at made k (made k + 1) j ≡ made k + 1 = at_same made k (made k + 1) j same in
-        let acted : acts (entries.Act 0 k s v ∷ past) 0 j ≡ acts past 0 j + 1 = grind (arith, nat_tests) in
-        let zero_made : made j ≡ 0 = ap made same ∙ none in
-        let old : (looks past 0 j ≡ 0) × ((acts past 0 j ≡ 0) × (seen past 0 j ≡ [])) = (w.progress j).fresh zero_made in
-        let is_j : asked past 0 j ≡ Some (asks.Write sector bytes) = ap (asked past 0) same ∙ is in
-        record {
-          fresh = λ e. absurd (omega arith);
-          begun = λ some. subst (λ (o : Option Asked). IsBegun (looks past 0 j) (acts (entries.Act 0 k s v ∷ past) 0 j) (seen past 0 j) o) (sym is_j) (omega (arith, acted, old.1.0));
-        }
-    | inr apart ↦
-        let now : with_at made k (made k + 1) j ≡ made j = at_other made k (made k + 1) j apart in
-        let acted : acts (entries.Act 0 k s v ∷ past) 0 j ≡ acts past 0 j = grind (arith, nat_tests) in
-        let both : Progress (made j) (looks past 0 j) (acts (entries.Act 0 k s v ∷ past) 0 j) (seen past 0 j) (asked past 0 j) =
-        subst (λ (c : ℕ). Progress (made j) (looks past 0 j) c (seen past 0 j) (asked past 0 j)) (sym acted) (w.progress j) in
-        subst (λ (c : ℕ). Progress c (looks past 0 j) (acts (entries.Act 0 k s v ∷ past) 0 j) (seen past 0 j) (asked past 0 j)) (sym now) both
-  ];
-  full = λ j held. subst (λ (c : ℕ). IsFull c (asked past 0 j)) (sym (at_other made k (made k + 1) j (among_apart (completed ++ batch) j k held left))) (w.full j held);
-  pending = λ j is_open_j out. elim (cases_eq j k) [
-    | inl same ↦ subst (λ (o : Option Asked). IsPending (with_at made k (made k + 1) j) o) (sym (ap (asked past 0) same ∙ is)) (let now : with_at made k (made k + 1) j ≡ made k + 1 = at_same made k (made k + 1) j same in omega arith)
-    | inr apart ↦ subst (λ (c : ℕ). IsPending c (asked past 0 j)) (sym (at_other made k (made k + 1) j apart)) (w.pending j (record { taken = is_open_j.taken; unpublished = is_open_j.unpublished }) out)
-  ];
-  quiet = λ stopped. absurd (let fails : true ≡ false = sym run ∙ stopped in cc);
-  phase_is = w.phase_is;
+act_follows : (past : List Entry) (k s : ℕ) (v : List ℕ) → started past 0 ≡ true → Follows past (entries.Act 0 k s v ∷ past) k
+act_follows past k s v run = record {
+  accepts = refl;
+  publishes = refl;
+  asks_same = λ j. refl;
+  runs = run;
+  runs_on = run;
+  others = λ j apart.
+      let differs : k ≢ j = λ e. apart (sym e) in
+      let acted : acts (entries.Act 0 k s v ∷ past) 0 j ≡ acts past 0 j = grind (arith, nat_tests) in
+      (refl, (acted, (refl, refl)));
 }
 
-act_stored : (past : List Entry) (heads : List ℕ) (m : Bytes) (batch completed : List ℕ) (made : ℕ → ℕ) (k s : ℕ) (v : List ℕ) → made k ≡ 0 → Stored past heads m batch completed made → Stored (entries.Act 0 k s v ∷ past) heads m batch completed (with_at made k (made k + 1))
-act_stored past heads m batch completed made k s v none st = record {
-  sectors = λ j is_open far read. elim (cases_eq j k) [
-    | inl same ↦ absurd (let now : with_at made k (made k + 1) j ≡ made k + 1 = at_same made k (made k + 1) j same in omega arith)
-    | inr apart ↦
-        let now : with_at made k (made k + 1) j ≡ made j = at_other made k (made k + 1) j apart in
-        st.sectors j (record { taken = is_open.taken; unpublished = is_open.unpublished }) (subst (λ (c : ℕ). 2 ≤ c) now far) read
-  ];
-  status = st.status;
+acts_more : (past : List Entry) (k s : ℕ) (v : List ℕ) → acts (entries.Act 0 k s v ∷ past) 0 k ≡ acts past 0 k + 1
+acts_more past k s v = grind (arith, nat_tests)
+
+-- a request that is worked on writes
+record IsWriting (h : Header1) (s : Scene) (l : Lane) (k sector : ℕ) (bytes : List ℕ) : Type 0 where
+  pub left : IsLeft h s l k
+  pub wide : IsWideWrite h.capacity sector bytes
+  pub is : asked s.past 0 k ≡ Some (asks.Write sector bytes)
+
+writing_to : (h : Header1) (s : Scene) (l : Lane) (k sector : ℕ) (bytes : List ℕ) → IsWriting h s l k sector bytes → IsWrittenTo (length bytes / 512) (l.made k) (acts s.past 0 k)
+writing_to h s l k sector bytes x = written_to sector (l.made k) (looks s.past 0 k) (acts s.past 0 k) bytes (seen s.past 0 k) (synced s.past 0 k) (asked s.past 0 k) x.is (x.left.holds.worked.progress k)
+
+write_never : (sector : ℕ) (bytes : List ℕ) (o : Option Asked) → o ≡ Some (asks.Write sector bytes) → IsRead o → ⊥
+write_never sector bytes o is read = subst (λ (x : Option Asked). IsRead x) is read
+
+act_worked : (h : Header1) (s : Scene) (l : Lane) (k sector place : ℕ) (bytes v : List ℕ) → IsWriting h s l k sector bytes → l.made k < length bytes / 512 → Worked (entries.Act 0 k place v ∷ s.past) l.phase l.batch l.completed (with_at l.made k (l.made k + 1))
+act_worked h s l k sector place bytes v x low =
+    let later : List Entry = entries.Act 0 k place v ∷ s.past in
+    let acted : acts s.past 0 k ≡ l.made k = (writing_to h s l k sector bytes x).under (omega arith) in
+    let more : acts later 0 k ≡ acts s.past 0 k + 1 = acts_more s.past k place v in
+    let next : IsWrittenTo (length bytes / 512) (l.made k + 1) (acts later 0 k) = record { under = λ e. omega (arith, acted, more); whole = λ e. omega (arith, acted, more, low, e) } in
+    step_worked s.past later l.phase l.batch l.completed l.made k (act_follows s.past k place v x.left.started) x.left.is_open x.left.left
+    (subst (λ (o : Option Asked). IsBegun (l.made k + 1) (looks later 0 k) (acts later 0 k) (seen later 0 k) (synced later 0 k) o) (sym x.is) next)
+    (subst (λ (o : Option Asked). IsPending (l.made k + 1) o) (sym x.is) (omega (arith, low))) x.left.holds.worked
+
+act_holds : (h : Header1) (s : Scene) (l : Lane) (k sector place : ℕ) (bytes v : List ℕ) → IsWriting h s l k sector bytes → l.made k < length bytes / 512 → length v ≡ 512 → Holds h (record s { past = entries.Act 0 k place v ∷ s.past }) (one_more k l)
+act_holds h s l k sector place bytes v x low long = record {
+  known = act_known h.size h.capacity s.past (s.heads 0) k place v long x.left.holds.known;
+  ringed = record { avail_idx_is = x.left.holds.ringed.avail_idx_is; used_idx_is = x.left.holds.ringed.used_idx_is; avail_at = x.left.holds.ringed.avail_at; used_at = x.left.holds.ringed.used_at };
+  driven = driven_same h.size h.capacity h.base s.past (entries.Act 0 k place v ∷ s.past) (s.heads 0) l.driver (λ j o. record { below = o.below; kept = o.kept }) x.left.holds.driven;
+  worked = act_worked h s l k sector place bytes v x low;
+  stored = step_stored s.past (entries.Act 0 k place v ∷ s.past) (s.heads 0) s.memory l.batch l.completed l.made k (act_follows s.past k place v x.left.started) (seen_never s.past (entries.Act 0 k place v ∷ s.past) l.made k (write_never sector bytes (asked s.past 0 k) x.is)) x.left.holds.stored;
+  built = built_same h.size h.base s.past (entries.Act 0 k place v ∷ s.past) (s.heads 0) s.memory l.batch l.phase refl (λ j. refl) x.left.holds.built;
 }
 
-act_holds : (h : Header1) (s : Scene) (l : Lane) (k sector place : ℕ) (v bytes : List ℕ) → IsLeft h s l k → l.made k ≡ 0 → asked s.past 0 k ≡ Some (asks.Write sector bytes) → length v ≡ 512 → Holds h (record s { past = entries.Act 0 k place v ∷ s.past }) (one_more k l)
-act_holds h s l k sector place v bytes x none is long = record {
-  known = act_known h.size h.capacity s.past (s.heads 0) k place v long x.holds.known;
-  ringed = record { avail_idx_is = x.holds.ringed.avail_idx_is; used_idx_is = x.holds.ringed.used_idx_is; avail_at = x.holds.ringed.avail_at; used_at = x.holds.ringed.used_at };
-  driven = driven_same h.size h.capacity h.base s.past (entries.Act 0 k place v ∷ s.past) (s.heads 0) l.driver (λ j o. record { below = o.below; kept = o.kept }) x.holds.driven;
-  worked = act_worked s.past l.phase l.batch l.completed l.made k place sector v bytes x.started x.is_open x.left none is x.holds.worked;
-  stored = act_stored s.past (s.heads 0) s.memory l.batch l.completed l.made k place v none x.holds.stored;
-  built = built_same h.size h.base s.past (entries.Act 0 k place v ∷ s.past) (s.heads 0) s.memory l.batch l.phase refl (λ j. refl) x.holds.built;
-}
+-- a sector of some bytes
+pub sector_long : (xs : List ℕ) (p : ℕ) → 512 * p + 512 ≤ length xs → length (slice_range xs (512 * p) (512 * p + 512)) ≡ 512
+sector_long xs p fits =
+    let wide : 512 * p + 512 - 512 * p ≡ 512 = omega arith in
+    length-take-le (512 * p + 512 - 512 * p) (drop (512 * p) xs) (omega (arith, length-drop (512 * p) xs)) ∙ wide
 
-pub effect_is : (sector : ℕ) (bytes : List ℕ) → length bytes ≡ 512 → effect_at (asks.Write sector bytes) 0 ≡ Some (record { sector = sector + 0; value = slice_range bytes (512 * 0) (512 * 0 + 512) })
-effect_is sector bytes long =
-    let one : length bytes / 512 ≡ 1 = ap (λ (k : ℕ). k / 512) long in
-    ap (λ (k : ℕ). if nat_lt 0 k then Some (record { sector = sector + 0; value = slice_range bytes (512 * 0) (512 * 0 + 512) }) else None) one
+pub sector_few : (xs : List ℕ) (p : ℕ) → length (slice_range xs (512 * p) (512 * p + 512)) ≤ 512
+sector_few xs p = omega (arith, length-take (512 * p + 512 - 512 * p) (drop (512 * p) xs))
 
-act_fine : (h : Header1) (s : Scene) (l : Lane) (k sector : ℕ) (bytes : List ℕ) → IsLeft h s l k → l.made k ≡ 0 → sector < h.capacity → length bytes ≡ 512 → asked s.past 0 k ≡ Some (asks.Write sector bytes)
-    → Fine h s l (task_turn h 0 s l k (asks.Write sector bytes) (Some (Act 0)))
-act_fine h s l k sector bytes x none low long is =
-    let v : List ℕ = slice_range bytes (512 * 0) (512 * 0 + 512) in
-    let v_long : length v ≡ 512 = length-take-le 512 bytes (omega arith) in
-    let e : SectorValue = record { sector = sector + 0; value = v } in
-    let effect : effect_at (asks.Write sector bytes) 0 ≡ Some e = effect_is sector bytes long in
-    let holds = act_holds h s l k sector (sector + 0) v bytes x none is v_long in
-    let zero_acts : acts s.past 0 k ≡ 0 = ((x.holds.worked.progress k).fresh none).1.0 in
-    let may : MayAct h.capacity h.mode s.past 0 k (sector + 0) v = record {
+pub sector_byte : (xs : List ℕ) (p i : ℕ) → i < 512 → slice_index (slice_range xs (512 * p) (512 * p + 512)) i ≡ slice_index xs (512 * p + i)
+sector_byte xs p i low = get_or-take (512 * p + 512 - 512 * p) (drop (512 * p) xs) i 0 (omega arith) ∙ get_or-drop (512 * p) xs i 0
+
+act_fine : (h : Header1) (s : Scene) (l : Lane) (k sector p : ℕ) (bytes : List ℕ) → IsWriting h s l k sector bytes → l.made k ≡ p → p < length bytes / 512 → Fine h s l (task_turn h 0 s l k (asks.Write sector bytes) (Some (Act p)))
+act_fine h s l k sector p bytes x at low =
+    let v : List ℕ = slice_range bytes (512 * p) (512 * p + 512) in
+    let v_long : length v ≡ 512 = sector_long bytes p (omega arith) in
+    let effect : effect_at (asks.Write sector bytes) p ≡ Some (written sector bytes p) = effect_is sector bytes p low in
+    let holds = act_holds h s l k sector (sector + p) bytes v x (omega arith) v_long in
+    let acted : acts s.past 0 k ≡ p = (writing_to h s l k sector bytes x).under (omega arith) ∙ at in
+    let may : MayAct h.capacity h.mode s.past 0 k (sector + p) v = record {
       request = asks.Write sector bytes;
-      works = at_work h s l k (asks.Write sector bytes) x is (write_served h sector bytes x.back low long);
-      next = ap (effect_at (asks.Write sector bytes)) zero_acts ∙ effect;
+      works = at_work h s l k (asks.Write sector bytes) x.left x.is (wide_served h (asks.Write sector bytes) x.left.back x.wide);
+      next = ap (effect_at (asks.Write sector bytes)) acted ∙ effect;
     } in
-    let whole : Fine h s l (record { items = act_items 0 k (Some e); lane = one_more k l }) = record {
-      each = (inr (holds_track h (record s { past = entries.Act 0 k (sector + 0) v ∷ s.past }) (one_more k l) x.good holds), tt);
+    let whole : Fine h s l (record { items = act_items 0 k (Some (written sector bytes p)); lane = one_more k l }) = record {
+      each = (inr (holds_track h (record s { past = entries.Act 0 k (sector + p) v ∷ s.past }) (one_more k l) x.left.good holds), tt);
+      holds = holds;
+      legal = (may, tt);
+      runs = x.left.started;
+      collects = refl;
+      falls = one_more_falls h s l k x.left (omega (arith, at, low, x.wide.few));
+    } in
+    subst (λ (o : Option SectorValue). Fine h s l (record { items = act_items 0 k o; lane = one_more k l })) (sym effect) whole
+
+-- ---- making all stable
+
+sync_follows : (past : List Entry) (k : ℕ) → started past 0 ≡ true → Follows past (entries.Sync 0 k ∷ past) k
+sync_follows past k run = record {
+  accepts = refl;
+  publishes = refl;
+  asks_same = λ j. refl;
+  runs = run;
+  runs_on = run;
+  others = λ j apart.
+      let differs : k ≢ j = λ e. apart (sym e) in
+      let stable : synced (entries.Sync 0 k ∷ past) 0 j ≡ synced past 0 j = grind (arith, nat_tests) in
+      (refl, (refl, (refl, stable)));
+}
+
+sync_known : (n cap : ℕ) (past : List Entry) (heads : List ℕ) (k : ℕ) → Known n cap past heads → Known n cap (entries.Sync 0 k ∷ past) heads
+sync_known n cap past heads k a = record {
+  offers_are = a.offers_are;
+  offered = a.offered;
+  distinct = a.distinct;
+  below = a.below;
+  shown = a.shown;
+  fewer = a.fewer;
+  room = a.room;
+  good = a.good;
+  wide = a.wide;
+  unfaulted = a.unfaulted;
+  values = a.values;
+}
+
+flush_never : (o : Option Asked) → o ≡ Some asks.Flush → IsRead o → ⊥
+flush_never o is read = subst (λ (x : Option Asked). IsRead x) is read
+
+now_stable : (past : List Entry) (k : ℕ) → synced (entries.Sync 0 k ∷ past) 0 k ≡ true
+now_stable past k = grind (arith, nat_tests)
+
+sync_worked : (h : Header1) (s : Scene) (l : Lane) (k : ℕ) → IsLeft h s l k → asked s.past 0 k ≡ Some asks.Flush → l.made k ≡ 0 → Worked (entries.Sync 0 k ∷ s.past) l.phase l.batch l.completed (with_at l.made k (l.made k + 1))
+sync_worked h s l k x is none =
+    let later : List Entry = entries.Sync 0 k ∷ s.past in
+    step_worked s.past later l.phase l.batch l.completed l.made k (sync_follows s.past k x.started) x.is_open x.left
+    (subst (λ (o : Option Asked). IsBegun (l.made k + 1) (looks later 0 k) (acts later 0 k) (seen later 0 k) (synced later 0 k) o) (sym is) (now_stable s.past k))
+    (subst (λ (o : Option Asked). IsPending (l.made k + 1) o) (sym is) (omega arith)) x.holds.worked
+
+sync_holds : (h : Header1) (s : Scene) (l : Lane) (k : ℕ) → IsLeft h s l k → asked s.past 0 k ≡ Some asks.Flush → l.made k ≡ 0 → Holds h (record s { past = entries.Sync 0 k ∷ s.past }) (one_more k l)
+sync_holds h s l k x is none = record {
+  known = sync_known h.size h.capacity s.past (s.heads 0) k x.holds.known;
+  ringed = record { avail_idx_is = x.holds.ringed.avail_idx_is; used_idx_is = x.holds.ringed.used_idx_is; avail_at = x.holds.ringed.avail_at; used_at = x.holds.ringed.used_at };
+  driven = driven_same h.size h.capacity h.base s.past (entries.Sync 0 k ∷ s.past) (s.heads 0) l.driver (λ j o. record { below = o.below; kept = o.kept }) x.holds.driven;
+  worked = sync_worked h s l k x is none;
+  stored = step_stored s.past (entries.Sync 0 k ∷ s.past) (s.heads 0) s.memory l.batch l.completed l.made k (sync_follows s.past k x.started) (seen_never s.past (entries.Sync 0 k ∷ s.past) l.made k (flush_never (asked s.past 0 k) is)) x.holds.stored;
+  built = built_same h.size h.base s.past (entries.Sync 0 k ∷ s.past) (s.heads 0) s.memory l.batch l.phase refl (λ j. refl) x.holds.built;
+}
+
+sync_fine : (h : Header1) (s : Scene) (l : Lane) (k : ℕ) → IsLeft h s l k → asked s.past 0 k ≡ Some asks.Flush → l.made k ≡ 0 → Fine h s l (task_turn h 0 s l k asks.Flush (Some Sync))
+sync_fine h s l k x is none =
+    let holds = sync_holds h s l k x is none in
+    let may : MaySync h.capacity h.mode s.past 0 k = record {
+      request = asks.Flush;
+      works = at_work h s l k asks.Flush x is (wide_served h asks.Flush x.back tt);
+      first = ((x.holds.worked.progress k).fresh none).1.1.1;
+      due = tt;
+    } in
+    record {
+      each = (inr (holds_track h (record s { past = entries.Sync 0 k ∷ s.past }) (one_more k l) x.good holds), tt);
       holds = holds;
       legal = (may, tt);
       runs = x.started;
       collects = refl;
       falls = one_more_falls h s l k x (omega arith);
-    } in
-    subst (λ (o : Option SectorValue). Fine h s l (record { items = act_items 0 k o; lane = one_more k l })) (sym effect) whole
+    }
 
 -- ---- storing what was read
 
@@ -346,74 +488,78 @@ other_open h s l k j x is_open apart same =
 off_other : (h : Header1) (s : Scene) (l : Lane) (k j p : ℕ) (bs : List ℕ) → IsLeft h s l k → IsOpen s.past 0 j → j ≢ k → buffer (s.heads 0) k ≤ p → p + length bs ≤ buffer (s.heads 0) k + 8192 → OffBuffer (s.heads 0) j p bs
 off_other h s l k j p bs x is_open apart from upto = other_buffer (s.heads 0) j (slice_index (s.heads 0) k) p bs (other_open h s l k j x is_open apart) (omega arith) (omega arith)
 
-made_progress : (past : List Entry) (made : ℕ → ℕ) (k j : ℕ) → 0 < made k → Progress (made j) (looks past 0 j) (acts past 0 j) (seen past 0 j) (asked past 0 j)
-    → Progress (with_at made k (made k + 1) j) (looks past 0 j) (acts past 0 j) (seen past 0 j) (asked past 0 j)
-made_progress past made k j some p = elim (cases_eq j k) [
-  | inl same ↦
-      let now : with_at made k (made k + 1) j ≡ made k + 1 = at_same made k (made k + 1) j same in
-      let at_j : made j ≡ made k = ap made same in
-      record {
-        fresh = λ e. absurd (omega arith);
-        begun = λ more. p.begun (omega arith);
-      }
-  | inr apart ↦ subst (λ (c : ℕ). Progress c (looks past 0 j) (acts past 0 j) (seen past 0 j) (asked past 0 j)) (sym (at_other made k (made k + 1) j apart)) p
-]
+same_follows : (past : List Entry) (k : ℕ) → started past 0 ≡ true → Follows past past k
+same_follows past k run = record { accepts = refl; publishes = refl; asks_same = λ j. refl; runs = run; runs_on = run; others = λ j apart. (refl, (refl, (refl, refl))) }
 
-made_worked : (past : List Entry) (phase : Phase) (batch completed : List ℕ) (made : ℕ → ℕ) (k : ℕ) → started past 0 ≡ true → IsOpen past 0 k → is_among (completed ++ batch) k ≡ false → 0 < made k → IsPending (made k + 1) (asked past 0 k)
-    → Worked past phase batch completed made → Worked past phase batch completed (with_at made k (made k + 1))
-made_worked past phase batch completed made k run is_open left some next w = record {
-  distinct = w.distinct;
-  opens = w.opens;
-  untouched = λ j high. at_other made k (made k + 1) j (λ same. omega (arith, is_open.taken)) ∙ w.untouched j high;
-  progress = λ j. made_progress past made k j some (w.progress j);
-  full = λ j held. subst (λ (c : ℕ). IsFull c (asked past 0 j)) (sym (at_other made k (made k + 1) j (among_apart (completed ++ batch) j k held left))) (w.full j held);
-  pending = λ j is_open_j out. elim (cases_eq j k) [
-    | inl same ↦ subst (λ (c : ℕ). IsPending c (asked past 0 j)) (sym (at_same made k (made k + 1) j same)) (subst (λ (i : ℕ). IsPending (made k + 1) (asked past 0 i)) (sym same) next)
-    | inr apart ↦ subst (λ (c : ℕ). IsPending c (asked past 0 j)) (sym (at_other made k (made k + 1) j apart)) (w.pending j is_open_j out)
-  ];
-  quiet = λ stopped. absurd (let fails : true ≡ false = sym run ∙ stopped in cc);
-  phase_is = w.phase_is;
-}
+put_worked : (h : Header1) (s : Scene) (l : Lane) (k sector c p : ℕ) → IsReading h s l k sector c → p < c → l.made k ≡ 2 * p + 1 → Worked s.past l.phase l.batch l.completed (with_at l.made k (l.made k + 1))
+put_worked h s l k sector c p x low at =
+    let to : IsReadTo c (l.made k) (looks s.past 0 k) (seen s.past 0 k) = reading_to h s l k sector c x in
+    let looked : looks s.past 0 k ≡ (l.made k + 1) / 2 = to.under (omega arith) in
+    let next : IsReadTo c (l.made k + 1) (looks s.past 0 k) (seen s.past 0 k) = record { under = λ e. omega (arith, looked, at); whole = λ e. omega (arith, looked, at, low, e); long = to.long } in
+    step_worked s.past s.past l.phase l.batch l.completed l.made k (same_follows s.past k x.left.started) x.left.is_open x.left.left
+    (subst (λ (o : Option Asked). IsBegun (l.made k + 1) (looks s.past 0 k) (acts s.past 0 k) (seen s.past 0 k) (synced s.past 0 k) o) (sym x.is) next)
+    (subst (λ (o : Option Asked). IsPending (l.made k + 1) o) (sym x.is) (omega (arith, at, low))) x.left.holds.worked
 
-put_holds : (h : Header1) (s : Scene) (l : Lane) (k sector p : ℕ) (bs : List ℕ) → IsLeft h s l k → l.made k ≡ 1 → asked s.past 0 k ≡ Some (asks.Read sector 1) → p ≡ sectors_place (buffer (s.heads 0) k) → bs ≡ seen s.past 0 k → length bs ≡ 512
-    → Holds h (stored_at p bs s) (one_more k l)
-put_holds h s l k sector p bs x one is at what long = record {
-  known = x.holds.known;
-  ringed = ringed_elsewhere h.size h.base s.past (s.heads 0) s.memory p bs x.good.size (inr (omega arith)) x.holds.ringed;
-  driven = x.holds.driven;
-  worked = made_worked s.past l.phase l.batch l.completed l.made k x.started x.is_open x.left (omega arith) (subst (λ (o : Option Asked). IsPending (l.made k + 1) o) (sym is) (omega arith)) x.holds.worked;
-  stored = record {
-    sectors = λ j is_open far read. elim (cases_eq j k) [
-      | inl same ↦
-          let here : sectors_place (buffer (s.heads 0) j) ≡ p = ap (λ (i : ℕ). sectors_place (buffer (s.heads 0) i)) same ∙ sym at in
-          let stands : bytes_from (length bs) (put s.memory 0 p bs) 0 p ≡ bs = bytes_from-put_same bs s.memory 0 p in
-          ap (λ (q : ℕ). bytes_from 512 (put s.memory 0 p bs) 0 q) here ∙ ap (λ (w : ℕ). bytes_from w (put s.memory 0 p bs) 0 p) (sym long) ∙ stands ∙ what ∙ sym (ap (seen s.past 0) same)
-      | inr apart ↦
-          let now : with_at l.made k (l.made k + 1) j ≡ l.made j = at_other l.made k (l.made k + 1) j apart in
-          sectors_elsewhere (s.heads 0) j s.memory p bs (off_other h s l k j p bs x is_open apart (omega arith) (omega arith)) ∙ x.holds.stored.sectors j is_open (subst (λ (c : ℕ). 2 ≤ c) now far) read
-    ];
-    status = λ j held.
-        status_elsewhere (s.heads 0) j s.memory p bs (off_other h s l k j p bs x (x.holds.worked.opens j held) (among_apart (l.completed ++ l.batch) j k held x.left) (omega arith) (omega arith)) ∙ x.holds.stored.status j held;
-  };
-  built = built_elsewhere h.size h.base s.past (s.heads 0) s.memory p bs l.batch l.phase x.good.size (inr (omega arith)) x.holds.built;
-}
+-- a byte of a sector that was stored just now, or before
+put_byte : (m : Bytes) (start p i : ℕ) (read : List ℕ) → 512 * p + 512 ≤ length read → i < 512 * (p + 1) → (i < 512 * p → m 0 (start + i) ≡ slice_index read i)
+    → put m 0 (start + 512 * p) (slice_range read (512 * p) (512 * p + 512)) 0 (start + i) ≡ slice_index read i
+put_byte m start p i read fits low old =
+    let bs : List ℕ = slice_range read (512 * p) (512 * p + 512) in
+    let long : length bs ≡ 512 = sector_long read p fits in
+    elim (cases_lt i (512 * p)) [
+      | inl before ↦ put_other m 0 (start + 512 * p) bs 0 (start + i) (inr (inl (omega arith))) ∙ old before
+      | inr after ↦
+          let d : ℕ = i - 512 * p in
+          let at : start + i ≡ start + 512 * p + d = omega arith in
+          let back : 512 * p + d ≡ i = omega arith in
+          ap (λ (q : ℕ). put m 0 (start + 512 * p) bs 0 q) at ∙ put_inside m 0 (start + 512 * p) bs d (omega (arith, long)) ∙ sector_byte read p d (omega arith) ∙ ap (slice_index read) back
+    ]
 
-put_fine : (h : Header1) (s : Scene) (l : Lane) (k sector : ℕ) → IsLeft h s l k → l.made k ≡ 1 → asked s.past 0 k ≡ Some (asks.Read sector 1)
-    → Fine h s l (task_turn h 0 s l k (asks.Read sector 1) (Some (Put 0)))
-put_fine h s l k sector x one is =
-    let begun : IsBegun (looks s.past 0 k) (acts s.past 0 k) (seen s.past 0 k) (asked s.past 0 k) = (x.holds.worked.progress k).begun (omega arith) in
-    let read : (looks s.past 0 k ≡ 1) × (length (seen s.past 0 k) ≡ 512) = subst (λ (o : Option Asked). IsBegun (looks s.past 0 k) (acts s.past 0 k) (seen s.past 0 k) o) is begun in
-    let bs : List ℕ = slice_range (seen s.past 0 k) (512 * 0) (512 * 0 + 512) in
-    let what : bs ≡ seen s.past 0 k = take_all 512 (seen s.past 0 k) (omega (arith, read.1)) in
-    let p : ℕ = sectors_place (buffer (s.heads 0) k) + 512 * 0 in
-    let holds = put_holds h s l k sector p bs x one is (omega arith) what (ap length what ∙ read.1) in
+put_holds : (h : Header1) (s : Scene) (l : Lane) (k sector c p : ℕ) → IsReading h s l k sector c → p < c → l.made k ≡ 2 * p + 1
+    → Holds h (stored_at (sectors_place (buffer (s.heads 0) k) + 512 * p) (slice_range (seen s.past 0 k) (512 * p) (512 * p + 512)) s) (one_more k l)
+put_holds h s l k sector c p x low at =
+    let read : List ℕ = seen s.past 0 k in
+    let place : ℕ = sectors_place (buffer (s.heads 0) k) + 512 * p in
+    let bs : List ℕ = slice_range read (512 * p) (512 * p + 512) in
+    let few : c ≤ 8 = x.wide.few in
+    let to : IsReadTo c (l.made k) (looks s.past 0 k) read = reading_to h s l k sector c x in
+    let looked : looks s.past 0 k ≡ (l.made k + 1) / 2 = to.under (omega arith) in
+    let fits : 512 * p + 512 ≤ length read = omega (arith, looked, to.long, at) in
+    let long : length bs ≡ 512 = sector_long read p fits in record {
+      known = x.left.holds.known;
+      ringed = ringed_elsewhere h.size h.base s.past (s.heads 0) s.memory place bs x.left.good.size (inr (omega arith)) x.left.holds.ringed;
+      driven = x.left.holds.driven;
+      worked = put_worked h s l k sector c p x low at;
+      stored = record {
+        sectors = λ j i is_open kept reads. elim (cases_eq j k) [
+          | inl same ↦
+              let now : with_at l.made k (l.made k + 1) j ≡ l.made k + 1 = at_same l.made k (l.made k + 1) j same in
+              let upto : i < 512 * (with_at l.made k (l.made k + 1) j / 2) = kept.put in
+              let half : with_at l.made k (l.made k + 1) j / 2 ≡ p + 1 = omega (arith, now, at) in
+              let reads_k : IsRead (asked s.past 0 k) = subst (λ (n : ℕ). IsRead (asked s.past 0 n)) same reads in
+              subst (λ (n : ℕ). put s.memory 0 place bs 0 (sectors_place (buffer (s.heads 0) n) + i) ≡ slice_index (seen s.past 0 n) i) (sym same)
+              (put_byte s.memory (sectors_place (buffer (s.heads 0) k)) p i read fits (omega (arith, upto, half)) (λ before. x.left.holds.stored.sectors k i x.left.is_open (record { small = kept.small; put = omega (arith, before, at); looked = omega (arith, before, fits) }) reads_k))
+          | inr apart ↦
+              let now : with_at l.made k (l.made k + 1) j ≡ l.made j = at_other l.made k (l.made k + 1) j apart in
+              sector_elsewhere (s.heads 0) j i s.memory place bs kept.small (off_other h s l k j place bs x.left is_open apart (omega arith) (omega arith))
+              ∙ x.left.holds.stored.sectors j i is_open (subst (λ (n : ℕ). IsKept n (length (seen s.past 0 j)) i) now kept) reads
+        ];
+        status = λ j held.
+            status_elsewhere (s.heads 0) j s.memory place bs (off_other h s l k j place bs x.left (x.left.holds.worked.opens j held) (among_apart (l.completed ++ l.batch) j k held x.left.left) (omega arith) (omega arith)) ∙ x.left.holds.stored.status j held;
+      };
+      built = built_elsewhere h.size h.base s.past (s.heads 0) s.memory place bs l.batch l.phase x.left.good.size (inr (omega arith)) x.left.holds.built;
+    }
+
+put_fine : (h : Header1) (s : Scene) (l : Lane) (k sector c p : ℕ) → IsReading h s l k sector c → p < c → l.made k ≡ 2 * p + 1 → Fine h s l (task_turn h 0 s l k (asks.Read sector c) (Some (Put p)))
+put_fine h s l k sector c p x low at =
+    let holds = put_holds h s l k sector c p x low at in
     record {
-      each = (inr (holds_track h (stored_at p bs s) (one_more k l) x.good holds), tt);
+      each = (inr (holds_track h (stored_at (sectors_place (buffer (s.heads 0) k) + 512 * p) (slice_range (seen s.past 0 k) (512 * p) (512 * p + 512)) s) (one_more k l) x.left.good holds), tt);
       holds = holds;
       legal = tt;
-      runs = x.started;
+      runs = x.left.started;
       collects = refl;
-      falls = one_more_falls h s l k x (omega arith);
+      falls = one_more_falls h s l k x.left (omega (arith, at, low, x.wide.few));
     }
 
 -- ---- the status
@@ -452,16 +598,43 @@ distinct_more xs ys k d out =
     let inner : is_among (xs ++ k ∷ []) j ≡ (is_among xs j || is_among (k ∷ []) j) = is_among_append xs (k ∷ []) j in
     grind (arith, nat_tests))
 
-status_worked : (past : List Entry) (phase : Phase) (batch completed : List ℕ) (made : ℕ → ℕ) (k : ℕ) → started past 0 ≡ true → IsOpen past 0 k → is_among (completed ++ batch) k ≡ false → 0 < made k → IsFull (made k) (asked past 0 k)
+-- the status changes nothing of what a request has done
+full_begun : (past : List Entry) (made : ℕ → ℕ) (k : ℕ) (o : Option Asked) → asked past 0 k ≡ o → IsFull (made k) o → Progress (made k) (looks past 0 k) (acts past 0 k) (seen past 0 k) (synced past 0 k) o
+    → IsBegun (made k + 1) (looks past 0 k) (acts past 0 k) (seen past 0 k) (synced past 0 k) o
+full_begun past made k (Some (asks.Read s c)) is full p =
+    let to = read_to s c (made k) (looks past 0 k) (acts past 0 k) (seen past 0 k) (synced past 0 k) (Some (asks.Read s c)) refl p in
+    record { under = λ e. absurd (omega arith); whole = λ e. to.whole full; long = to.long }
+full_begun past made k (Some (asks.Write s bytes)) is full p =
+    let to = written_to s (made k) (looks past 0 k) (acts past 0 k) bytes (seen past 0 k) (synced past 0 k) (Some (asks.Write s bytes)) refl p in
+    record { under = λ e. absurd (omega arith); whole = λ e. to.whole full }
+full_begun past made k (Some asks.Flush) is full p = p.begun full
+full_begun past made k (Some asks.Id) is full p = tt
+full_begun past made k (Some (asks.Discard parts)) is full p = tt
+full_begun past made k (Some (asks.Zero parts)) is full p = tt
+full_begun past made k None is full p = tt
+
+full_more : (c : ℕ) (o : Option Asked) → IsFull c o → IsFull (c + 1) o
+full_more c (Some (asks.Read s n)) f = omega arith
+full_more c (Some (asks.Write s bytes)) f = omega arith
+full_more c (Some asks.Flush) f = omega arith
+full_more c (Some asks.Id) f = tt
+full_more c (Some (asks.Discard parts)) f = tt
+full_more c (Some (asks.Zero parts)) f = tt
+full_more c None f = tt
+
+status_worked : (past : List Entry) (phase : Phase) (batch completed : List ℕ) (made : ℕ → ℕ) (k : ℕ) → started past 0 ≡ true → IsOpen past 0 k → is_among (completed ++ batch) k ≡ false → IsFull (made k) (asked past 0 k)
     → Worked past phase batch completed made → Worked past phase batch (completed ++ k ∷ []) (with_at made k (made k + 1))
-status_worked past phase batch completed made k run is_open left some whole w = record {
+status_worked past phase batch completed made k run is_open left whole w = record {
   distinct = distinct_more completed batch k w.distinct left;
   opens = λ j held. elim (among_more completed batch k j held) [
     | inl same ↦ subst (λ (i : ℕ). IsOpen past 0 i) (sym same) is_open
     | inr old ↦ w.opens j old
   ];
   untouched = λ j high. at_other made k (made k + 1) j (λ same. omega (arith, is_open.taken)) ∙ w.untouched j high;
-  progress = λ j. made_progress past made k j some (w.progress j);
+  progress = λ j. elim (cases_eq j k) [
+    | inl same ↦ far_same past past made k j same (same_follows past k run) (full_begun past made k (asked past 0 k) refl whole (w.progress k))
+    | inr apart ↦ far_other past past made k j (same_follows past k run) apart (w.progress j)
+  ];
   full = λ j held. elim (among_more completed batch k j held) [
     | inl same ↦ subst (λ (i : ℕ). IsFull (with_at made k (made k + 1) i) (asked past 0 i)) (sym same)
         (subst (λ (c : ℕ). IsFull c (asked past 0 k)) (sym (at_same made k (made k + 1) k refl)) (full_more (made k) (asked past 0 k) whole))
@@ -473,34 +646,30 @@ status_worked past phase batch completed made k run is_open left some whole w = 
   quiet = λ stopped. absurd (let fails : true ≡ false = sym run ∙ stopped in cc);
   phase_is = w.phase_is;
 }
-  where
-    full_more : (c : ℕ) (o : Option Asked) → IsFull c o → IsFull (c + 1) o
-    full_more c (Some (asks.Read s n)) f = omega arith
-    full_more c (Some (asks.Write s bytes)) f = omega arith
-    full_more c (Some asks.Flush) f = tt
-    full_more c (Some asks.Id) f = tt
-    full_more c (Some (asks.Discard parts)) f = tt
-    full_more c (Some (asks.Zero parts)) f = tt
-    full_more c None f = tt
 
-status_holds : (h : Header1) (s : Scene) (l : Lane) (k p : ℕ) → IsLeft h s l k → 0 < l.made k → IsFull (l.made k) (asked s.past 0 k) → (IsRead (asked s.past 0 k) → 2 ≤ l.made k) → p ≡ status_place (buffer (s.heads 0) k)
+status_holds : (h : Header1) (s : Scene) (l : Lane) (k p : ℕ) → IsLeft h s l k → IsFull (l.made k) (asked s.past 0 k) → (IsRead (asked s.past 0 k) → (l.made k + 1) / 2 ≡ l.made k / 2) → p ≡ status_place (buffer (s.heads 0) k)
     → Holds h (stored_at p (0 ∷ []) s) (finished k l)
-status_holds h s l k p x some whole enough at = record {
+status_holds h s l k p x whole half at = record {
   known = x.holds.known;
   ringed = ringed_elsewhere h.size h.base s.past (s.heads 0) s.memory p (0 ∷ []) x.good.size (inr (omega arith)) x.holds.ringed;
   driven = x.holds.driven;
-  worked = status_worked s.past l.phase l.batch l.completed l.made k x.started x.is_open x.left some whole x.holds.worked;
+  worked = status_worked s.past l.phase l.batch l.completed l.made k x.started x.is_open x.left whole x.holds.worked;
   stored = record {
-    sectors = λ j is_open far read. elim (cases_eq j k) [
+    sectors = λ j i is_open kept read. elim (cases_eq j k) [
       | inl same ↦
-          let read_k : IsRead (asked s.past 0 k) = subst (λ (i : ℕ). IsRead (asked s.past 0 i)) same read in
-          let old : bytes_from 512 s.memory 0 (sectors_place (buffer (s.heads 0) k)) ≡ seen s.past 0 k = x.holds.stored.sectors k x.is_open (enough read_k) read_k in
-          let here : bytes_from 512 (put s.memory 0 p (0 ∷ [])) 0 (sectors_place (buffer (s.heads 0) k)) ≡ bytes_from 512 s.memory 0 (sectors_place (buffer (s.heads 0) k)) =
-          bytes_from-put_other 512 s.memory 0 p (0 ∷ []) 0 (sectors_place (buffer (s.heads 0) k)) (inr (inr (omega arith))) in
-          ap (λ (i : ℕ). bytes_from 512 (put s.memory 0 p (0 ∷ [])) 0 (sectors_place (buffer (s.heads 0) i))) same ∙ here ∙ old ∙ sym (ap (seen s.past 0) same)
+          let now : with_at l.made k (l.made k + 1) j ≡ l.made k + 1 = at_same l.made k (l.made k + 1) j same in
+          let read_k : IsRead (asked s.past 0 k) = subst (λ (n : ℕ). IsRead (asked s.past 0 n)) same read in
+          let halves : (l.made k + 1) / 2 ≡ l.made k / 2 = half read_k in
+          let upto : i < 512 * (with_at l.made k (l.made k + 1) j / 2) = kept.put in
+          let nows : with_at l.made k (l.made k + 1) j / 2 ≡ l.made k / 2 = ap (λ (n : ℕ). n / 2) now ∙ halves in
+          let kept_k : IsKept (l.made k) (length (seen s.past 0 k)) i = record { small = kept.small; put = omega (arith, upto, nows); looked = subst (λ (n : ℕ). i < length (seen s.past 0 n)) same kept.looked } in
+          let old : s.memory 0 (sectors_place (buffer (s.heads 0) k) + i) ≡ slice_index (seen s.past 0 k) i = x.holds.stored.sectors k i x.is_open kept_k read_k in
+          let here : put s.memory 0 p (0 ∷ []) 0 (sectors_place (buffer (s.heads 0) k) + i) ≡ s.memory 0 (sectors_place (buffer (s.heads 0) k) + i) =
+          put_other s.memory 0 p (0 ∷ []) 0 (sectors_place (buffer (s.heads 0) k) + i) (inr (inr (omega arith))) in
+          subst (λ (n : ℕ). put s.memory 0 p (0 ∷ []) 0 (sectors_place (buffer (s.heads 0) n) + i) ≡ slice_index (seen s.past 0 n) i) (sym same) (here ∙ old)
       | inr apart ↦
           let now : with_at l.made k (l.made k + 1) j ≡ l.made j = at_other l.made k (l.made k + 1) j apart in
-          sectors_elsewhere (s.heads 0) j s.memory p (0 ∷ []) (off_other h s l k j p (0 ∷ []) x is_open apart (omega arith) (omega arith)) ∙ x.holds.stored.sectors j is_open (subst (λ (c : ℕ). 2 ≤ c) now far) read
+          sector_elsewhere (s.heads 0) j i s.memory p (0 ∷ []) kept.small (off_other h s l k j p (0 ∷ []) x is_open apart (omega arith) (omega arith)) ∙ x.holds.stored.sectors j i is_open (subst (λ (n : ℕ). IsKept n (length (seen s.past 0 j)) i) now kept) read
     ];
     status = λ j held. elim (among_more l.completed l.batch k j held) [
       | inl same ↦
@@ -513,11 +682,11 @@ status_holds h s l k p x some whole enough at = record {
   built = built_elsewhere h.size h.base s.past (s.heads 0) s.memory p (0 ∷ []) l.batch l.phase x.good.size (inr (omega arith)) x.holds.built;
 }
 
-status_fine : (h : Header1) (s : Scene) (l : Lane) (k : ℕ) (r : Asked) → IsLeft h s l k → 0 < l.made k → refusal h.capacity h.mode r ≡ None → IsFull (l.made k) (asked s.past 0 k) → (IsRead (asked s.past 0 k) → 2 ≤ l.made k) → l.made k ≤ 2
+status_fine : (h : Header1) (s : Scene) (l : Lane) (k : ℕ) (r : Asked) → IsLeft h s l k → refusal h.capacity h.mode r ≡ None → IsFull (l.made k) (asked s.past 0 k) → (IsRead (asked s.past 0 k) → (l.made k + 1) / 2 ≡ l.made k / 2) → l.made k ≤ 16
     → Fine h s l (task_turn h 0 s l k r (Some Status))
-status_fine h s l k r x some served whole enough small =
+status_fine h s l k r x served whole half small =
     let p : ℕ = status_place (buffer (s.heads 0) k) in
-    let holds = status_holds h s l k p x some whole enough refl in
+    let holds = status_holds h s l k p x whole half refl in
     let zero_status : status_of h r ≡ 0 = ap (λ (o : Option ℕ). unwrap_or o 0) served in
     let fine : Fine h s l (record { items = items.Store T5 M p (0 ∷ []) ∷ []; lane = finished k l }) = record {
       each = (inr (holds_track h (stored_at p (0 ∷ []) s) (finished k l) x.good holds), tt);
@@ -531,36 +700,47 @@ status_fine h s l k r x some served whole enough small =
 
 -- ---- any step of a request
 
-full_read : (s c made : ℕ) (o : Option Asked) → o ≡ Some (asks.Read s c) → 2 ≤ made → IsFull made o
-full_read s c made o is enough = subst (λ (x : Option Asked). IsFull made x) (sym is) enough
+read_fine : (h : Header1) (s : Scene) (l : Lane) (k sector c : ℕ) → IsReading h s l k sector c → (o : Option TaskStep) → ReadAt 0 c (l.made k) o → Fine h s l (task_turn h 0 s l k (asks.Read sector c) o)
+read_fine h s l k sector c x o (ToLook p low at is) =
+    subst (λ (y : Option TaskStep). Fine h s l (task_turn h 0 s l k (asks.Read sector c) y)) (sym (is ∙ ap (λ (q : ℕ). Some (Look q)) (let same : 0 + p ≡ p = omega arith in same))) (look_fine h s l k sector c p x low at)
+read_fine h s l k sector c x o (ToPut p low at is) =
+    subst (λ (y : Option TaskStep). Fine h s l (task_turn h 0 s l k (asks.Read sector c) y)) (sym (is ∙ ap (λ (q : ℕ). Some (Put q)) (let same : 0 + p ≡ p = omega arith in same))) (put_fine h s l k sector c p x low at)
+read_fine h s l k sector c x o (ToReply at is) =
+    subst (λ (y : Option TaskStep). Fine h s l (task_turn h 0 s l k (asks.Read sector c) y)) (sym is)
+    (status_fine h s l k (asks.Read sector c) x.left (wide_served h (asks.Read sector c) x.left.back x.wide) (subst (λ (y : Option Asked). IsFull (l.made k) y) (sym x.is) (omega (arith, at))) (λ read. omega (arith, at)) (omega (arith, at, x.wide.few)))
 
-full_write : (s made : ℕ) (bytes : List ℕ) (o : Option Asked) → o ≡ Some (asks.Write s bytes) → 1 ≤ made → IsFull made o
-full_write s made bytes o is enough = subst (λ (x : Option Asked). IsFull made x) (sym is) enough
+write_fine : (h : Header1) (s : Scene) (l : Lane) (k sector : ℕ) (bytes : List ℕ) → IsWriting h s l k sector bytes → (o : Option TaskStep) → WriteAt 0 (length bytes / 512) (l.made k) o → Fine h s l (task_turn h 0 s l k (asks.Write sector bytes) o)
+write_fine h s l k sector bytes x o (ToAct low is) =
+    subst (λ (y : Option TaskStep). Fine h s l (task_turn h 0 s l k (asks.Write sector bytes) y)) (sym (is ∙ ap (λ (q : ℕ). Some (Act q)) (let same : 0 + l.made k ≡ l.made k = omega arith in same))) (act_fine h s l k sector (l.made k) bytes x refl low)
+write_fine h s l k sector bytes x o (ToEnd at is) =
+    subst (λ (y : Option TaskStep). Fine h s l (task_turn h 0 s l k (asks.Write sector bytes) y)) (sym is)
+    (status_fine h s l k (asks.Write sector bytes) x.left (wide_served h (asks.Write sector bytes) x.left.back x.wide) (subst (λ (y : Option Asked). IsFull (l.made k) y) (sym x.is) (omega (arith, at))) (λ read. absurd (write_never sector bytes (asked s.past 0 k) x.is read)) (omega (arith, at, x.wide.few)))
 
-never_read : (s made : ℕ) (bytes : List ℕ) (o : Option Asked) → o ≡ Some (asks.Write s bytes) → IsRead o → 2 ≤ made
-never_read s made bytes o is read = absurd (subst (λ (x : Option Asked). IsRead x) is read)
+flush_fine : (h : Header1) (s : Scene) (l : Lane) (k : ℕ) → IsLeft h s l k → asked s.past 0 k ≡ Some asks.Flush → l.made k ≤ 1 → (made : ℕ) → l.made k ≡ made → Fine h s l (task_turn h 0 s l k asks.Flush (slice_get (Sync ∷ Status ∷ []) made))
+flush_fine h s l k x is few zero at = sync_fine h s l k x is at
+flush_fine h s l k x is few (suc zero) at =
+    status_fine h s l k asks.Flush x (wide_served h asks.Flush x.back tt) (subst (λ (y : Option Asked). IsFull (l.made k) y) (sym is) (omega (arith, at))) (λ read. absurd (flush_never (asked s.past 0 k) is read)) (omega (arith, few))
+flush_fine h s l k x is few (suc (suc made)) at = absurd (omega (arith, few, at))
 
-read_turn : (h : Header1) (s : Scene) (l : Lane) (k sector : ℕ) → IsLeft h s l k → sector < h.capacity → asked s.past 0 k ≡ Some (asks.Read sector 1) → (made : ℕ) → l.made k ≡ made
-    → Fine h s l (task_turn h 0 s l k (asks.Read sector 1) (slice_get (Look 0 ∷ Put 0 ∷ Status ∷ []) made))
-read_turn h s l k sector x low is zero e = look_fine h s l k sector x e low is
-read_turn h s l k sector x low is (suc zero) e = put_fine h s l k sector x e is
-read_turn h s l k sector x low is (suc (suc zero)) e = status_fine h s l k (asks.Read sector 1) x (omega arith) (read_served h sector low) (full_read sector 1 (l.made k) (asked s.past 0 k) is (omega arith)) (λ r. omega arith) (omega arith)
-read_turn h s l k sector x low is (suc (suc (suc made))) e = absurd (let few : l.made k ≤ 2 = subst (λ (o : Option Asked). IsPending (l.made k) o) is (x.holds.worked.pending k x.is_open x.left) in omega arith)
-
-write_turn : (h : Header1) (s : Scene) (l : Lane) (k sector : ℕ) (bytes : List ℕ) → IsLeft h s l k → sector < h.capacity → length bytes ≡ 512 → asked s.past 0 k ≡ Some (asks.Write sector bytes) → (made : ℕ) → l.made k ≡ made
-    → Fine h s l (task_turn h 0 s l k (asks.Write sector bytes) (slice_get (Act 0 ∷ Status ∷ []) made))
-write_turn h s l k sector bytes x low long is zero e = act_fine h s l k sector bytes x e low long is
-write_turn h s l k sector bytes x low long is (suc zero) e =
-    status_fine h s l k (asks.Write sector bytes) x (omega arith) (write_served h sector bytes x.back low long) (full_write sector (l.made k) bytes (asked s.past 0 k) is (omega arith)) (never_read sector (l.made k) bytes (asked s.past 0 k) is) (omega arith)
-write_turn h s l k sector bytes x low long is (suc (suc made)) e = absurd (let few : l.made k ≤ 1 = subst (λ (o : Option Asked). IsPending (l.made k) o) is (x.holds.worked.pending k x.is_open x.left) in omega arith)
+-- the next step of a request, as those that aren't refused have it
+served_fine : (h : Header1) (s : Scene) (l : Lane) (k : ℕ) (r : Asked) → IsLeft h s l k → asked s.past 0 k ≡ Some r → IsWide h.capacity (Some r) → Fine h s l (task_turn h 0 s l k r (slice_get (disk_steps r ++ Status ∷ []) (l.made k))) → Fine h s l (request_turn h 0 s l k (asked s.past 0 k))
+served_fine h s l k r x is wide fine =
+    subst (λ (o : Option Asked). Fine h s l (request_turn h 0 s l k o)) (sym is)
+    (subst (λ (steps : List TaskStep). Fine h s l (task_turn h 0 s l k r (slice_get steps (l.made k)))) (sym (wide_steps h r x.back wide)) fine)
 
 pub request_fine : (h : Header1) (s : Scene) (l : Lane) (k : ℕ) → IsLeft h s l k → Fine h s l (request_turn h 0 s l k (asked s.past 0 k))
 request_fine h s l k x =
     let known : Known h.size h.capacity s.past (s.heads 0) = x.holds.known in
     let low : k < length (s.heads 0) = omega (arith, x.is_open.taken, known.offered) in
-    elim (simple_cases h.capacity (asked s.past 0 k) (known.simple k low)) [
-      | inl r ↦ subst (λ (o : Option Asked). Fine h s l (request_turn h 0 s l k o)) (sym r.2)
-          (subst (λ (steps : List TaskStep). Fine h s l (task_turn h 0 s l k (asks.Read r.0 1) (slice_get steps (l.made k)))) (sym (read_steps h r.0 r.1)) (read_turn h s l k r.0 x r.1 r.2 (l.made k) refl))
-      | inr r ↦ subst (λ (o : Option Asked). Fine h s l (request_turn h 0 s l k o)) (sym r.4)
-          (subst (λ (steps : List TaskStep). Fine h s l (task_turn h 0 s l k (asks.Write r.0 r.1) (slice_get steps (l.made k)))) (sym (write_steps h r.0 r.1 x.back r.2 r.3)) (write_turn h s l k r.0 r.1 x r.2 r.3 r.4 (l.made k) refl))
-    ]
+    go (wide_cases h.capacity (asked s.past 0 k) (known.wide k low)) (x.holds.worked.pending k x.is_open x.left)
+  where
+    go : WideCases h.capacity (asked s.past 0 k) → IsPending (l.made k) (asked s.past 0 k) → Fine h s l (request_turn h 0 s l k (asked s.past 0 k))
+    go (AtRead sector c wide is) pending =
+        let few : l.made k ≤ 2 * c = subst (λ (o : Option Asked). IsPending (l.made k) o) is pending in
+        served_fine h s l k (asks.Read sector c) x is wide (read_fine h s l k sector c (record { left = x; wide = wide; is = is }) (slice_get (look_steps 0 c ++ Status ∷ []) (l.made k)) (read_at 0 c (l.made k) few))
+    go (AtWrite sector bytes wide is) pending =
+        let few : l.made k ≤ length bytes / 512 = subst (λ (o : Option Asked). IsPending (l.made k) o) is pending in
+        served_fine h s l k (asks.Write sector bytes) x is wide (write_fine h s l k sector bytes (record { left = x; wide = wide; is = is }) (slice_get (act_steps 0 (length bytes / 512) ++ Status ∷ []) (l.made k)) (write_at 0 (length bytes / 512) (l.made k) few))
+    go (AtFlush is) pending =
+        let few : l.made k ≤ 1 = subst (λ (o : Option Asked). IsPending (l.made k) o) is pending in
+        served_fine h s l k asks.Flush x is tt (flush_fine h s l k x is few (l.made k) refl)

@@ -40,7 +40,7 @@ none_known n cap some = record {
   fewer = omega arith;
   room = omega arith;
   good = tt;
-  simple = λ k low. absurd (omega arith);
+  wide = λ k low. absurd (omega arith);
   unfaulted = λ k. refl;
   values = λ s. length_zeros;
 }
@@ -75,13 +75,13 @@ opening_holds h plain = record {
     distinct = refl;
     opens = λ k held. absurd (let fails : false ≡ true = held in cc);
     untouched = λ k high. refl;
-    progress = λ k. record { fresh = λ e. (refl, (refl, refl)); begun = λ some. absurd (omega arith) };
+    progress = λ k. record { fresh = λ e. (refl, (refl, (refl, refl))); begun = λ some. absurd (omega arith) };
     full = λ k held. absurd (let fails : false ≡ true = held in cc);
     pending = λ k is_open out. tt;
     quiet = λ e. (refl, (refl, λ k. refl));
     phase_is = refl;
   };
-  stored = record { sectors = λ k is_open far read. absurd (omega arith); status = λ k held. absurd (let fails : false ≡ true = held in cc) };
+  stored = record { sectors = λ k i is_open kept read. absurd (omega (arith, kept.put)); status = λ k held. absurd (let fails : false ≡ true = held in cc) };
   built = tt;
 }
 

@@ -1,5 +1,5 @@
 -- The step that is due of a request at work: which task makes it, and what memory means there.
-use Rattle.std.proofs.Common.{◌≡◌, ◌≤◌, ◌<◌, ◌⊎◌, ℕ, zero, suc, true, false, not, List, [], ◌∷◌, ◌++◌, length, refl, ap, sym, ◌∙◌, subst, inl, inr, arith}
+use Rattle.std.proofs.Common.{◌≡◌, ◌≤◌, ◌<◌, ◌⊎◌, ℕ, zero, suc, ◌+◌, ◌*◌, ◌/◌, true, false, not, List, [], ◌∷◌, ◌++◌, length, refl, ap, sym, ◌∙◌, subst, inl, inr, arith}
 use Rattle.std.specs.Prelude.{Option, Some, None, slice_index, slice_get, get_or}
 use Rattle.std.proofs.lemmas.Bool.Decides.{nat_tests}
 use Rattle.std.proofs.lemmas.Option.{slice_get-get_or}
@@ -20,108 +20,142 @@ use Rattle.vub_world.specs.Moments.{Lane, Moment, standing, unfinished}
 use Rattle.vub_world.specs.QueueAt.{QueueStands, IsMainRing, TaskAt}
 use Rattle.vub_world.specs.QueueState.{QueueState, IsDue}
 use Rattle.vub_world.specs.TaskState.{fresh_task, Making, IsBasic, IsNext, IsReady}
-use Rattle.vub_world.specs.Tasks.{TaskStep, Look, Put, Act, Status, task_steps}
+use Rattle.vub_world.specs.Tasks.{TaskStep, Look, Put, Act, Sync, Status, task_steps, disk_steps, look_steps, act_steps}
 use Rattle.vub_world.proofs.RunNumbers.{among_get, among_filter, missing-among}
-use Rattle.vub_world.proofs.RunGood.{IsSimple, IsOut, IsPending}
+use Rattle.vub_world.proofs.RunGood.{IsWideRead, IsWideWrite, IsWide, IsOut, IsPending}
 use Rattle.vub_world.proofs.RunFrames.{open_out}
-use Rattle.vub_world.proofs.RunWork.{simple_cases, read_served, write_served, read_steps, write_steps}
+use Rattle.vub_world.proofs.RunSteps.{WideCases, AtRead, AtWrite, AtFlush, wide_cases, wide_served, wide_steps, ReadAt, ToLook, ToPut, ToReply, read_at, WriteAt, ToAct, ToEnd, write_at}
 use Rattle.vub_world.proofs.RunTurns.{IsPlain, Good}
 use Rattle.vub_world.proofs.RunChainsEvents.{ChainedAt}
 use Rattle.vub_world.proofs.RunChainsMeaning.{work_means}
 
 -- ---- kinds of step
 
+-- a read looks at a sector
 pub record IsLook (h : Header1) (request : Asked) (made : ℕ) (step : TaskStep) : Type 0 where
   pub sector : ℕ
-  pub low : sector < h.capacity
-  pub is : request ≡ asks.Read sector 1
-  pub first : made ≡ 0
-  pub next : step ≡ Look 0
+  pub count : ℕ
+  pub wide : IsWideRead h.capacity sector count
+  pub is : request ≡ asks.Read sector count
+  pub place : ℕ
+  pub within : place < count
+  pub at : made ≡ 2 * place
+  pub next : step ≡ Look place
 
+-- and stores it
 pub record IsPut (h : Header1) (request : Asked) (made : ℕ) (step : TaskStep) : Type 0 where
   pub sector : ℕ
-  pub low : sector < h.capacity
-  pub is : request ≡ asks.Read sector 1
-  pub second : made ≡ 1
-  pub next : step ≡ Put 0
+  pub count : ℕ
+  pub wide : IsWideRead h.capacity sector count
+  pub is : request ≡ asks.Read sector count
+  pub place : ℕ
+  pub within : place < count
+  pub at : made ≡ 2 * place + 1
+  pub next : step ≡ Put place
 
+-- a write writes a sector
 pub record IsAct (h : Header1) (request : Asked) (made : ℕ) (step : TaskStep) : Type 0 where
   pub sector : ℕ
   pub bytes : List ℕ
-  pub low : sector < h.capacity
-  pub long : length bytes ≡ 512
+  pub wide : IsWideWrite h.capacity sector bytes
   pub is : request ≡ asks.Write sector bytes
-  pub first : made ≡ 0
-  pub next : step ≡ Act 0
+  pub place : ℕ
+  pub within : place < length bytes / 512
+  pub at : made ≡ place
+  pub next : step ≡ Act place
+
+-- a flush makes all stable
+pub record IsSync (h : Header1) (request : Asked) (made : ℕ) (step : TaskStep) : Type 0 where
+  pub is : request ≡ asks.Flush
+  pub at : made ≡ 0
+  pub next : step ≡ Sync
 
 pub record IsLast (h : Header1) (request : Asked) (made : ℕ) (step : TaskStep) : Type 0 where
   pub served : refusal h.capacity h.mode request ≡ None
   pub next : step ≡ Status
 
 abbrev pub Kind : Header1 → Asked → ℕ → TaskStep → Type 0
-Kind h request made step = IsLook h request made step ⊎ (IsPut h request made step ⊎ (IsAct h request made step ⊎ IsLast h request made step))
+Kind h request made step = IsLook h request made step ⊎ (IsPut h request made step ⊎ (IsAct h request made step ⊎ (IsSync h request made step ⊎ IsLast h request made step)))
 
-read_kind : (h : Header1) (request : Asked) (sector made : ℕ) (step : TaskStep) → sector < h.capacity → request ≡ asks.Read sector 1 → slice_get (Look 0 ∷ Put 0 ∷ Status ∷ []) made ≡ Some step → Kind h request made step
-read_kind h request sector zero step low is next = let step_is : step ≡ Look 0 = cc in inl (record { sector = sector; low = low; is = is; first = refl; next = step_is })
-read_kind h request sector (suc zero) step low is next = let step_is : step ≡ Put 0 = cc in inr (inl (record { sector = sector; low = low; is = is; second = refl; next = step_is }))
-read_kind h request sector (suc (suc zero)) step low is next =
-    let step_is : step ≡ Status = cc in
-    inr (inr (inr (record { served = ap (refusal h.capacity h.mode) is ∙ read_served h sector low; next = step_is })))
-read_kind h request sector (suc (suc (suc made))) step low is next = absurd (cc)
+is_some : {T : Type 0} (x y : T) → Some x ≡ Some y → x ≡ y
+is_some x y e = cc e
 
-write_kind : (h : Header1) (request : Asked) (sector : ℕ) (bytes : List ℕ) (made : ℕ) (step : TaskStep) → h.mode ≡ Back → sector < h.capacity → length bytes ≡ 512 → request ≡ asks.Write sector bytes → slice_get (Act 0 ∷ Status ∷ []) made ≡ Some step → Kind h request made step
-write_kind h request sector bytes zero step back low long is next = let step_is : step ≡ Act 0 = cc in inr (inr (inl (record { sector = sector; bytes = bytes; low = low; long = long; is = is; first = refl; next = step_is })))
-write_kind h request sector bytes (suc zero) step back low long is next =
-    let step_is : step ≡ Status = cc in
-    inr (inr (inr (record { served = ap (refusal h.capacity h.mode) is ∙ write_served h sector bytes back low long; next = step_is })))
-write_kind h request sector bytes (suc (suc made)) step back low long is next = absurd (cc)
+read_kind : (h : Header1) (request : Asked) (s c made : ℕ) (step : TaskStep) → h.mode ≡ Back → IsWideRead h.capacity s c → request ≡ asks.Read s c → ReadAt 0 c made (Some step) → Kind h request made step
+read_kind h request s c made step back wide is (ToLook p low at i) =
+    inl (record { sector = s; count = c; wide = wide; is = is; place = p; within = low; at = at; next = is_some step (Look (0 + p)) i ∙ ap (λ (q : ℕ). Look q) (let same : 0 + p ≡ p = omega arith in same) })
+read_kind h request s c made step back wide is (ToPut p low at i) =
+    inr (inl (record { sector = s; count = c; wide = wide; is = is; place = p; within = low; at = at; next = is_some step (Put (0 + p)) i ∙ ap (λ (q : ℕ). Put q) (let same : 0 + p ≡ p = omega arith in same) }))
+read_kind h request s c made step back wide is (ToReply at i) = inr (inr (inr (inr (record { served = ap (refusal h.capacity h.mode) is ∙ wide_served h (asks.Read s c) back wide; next = is_some step Status i }))))
+
+write_kind : (h : Header1) (request : Asked) (s : ℕ) (bytes : List ℕ) (made : ℕ) (step : TaskStep) → h.mode ≡ Back → IsWideWrite h.capacity s bytes → request ≡ asks.Write s bytes → WriteAt 0 (length bytes / 512) made (Some step) → Kind h request made step
+write_kind h request s bytes made step back wide is (ToAct low i) =
+    inr (inr (inl (record { sector = s; bytes = bytes; wide = wide; is = is; place = made; within = low; at = refl; next = is_some step (Act (0 + made)) i ∙ ap (λ (q : ℕ). Act q) (let same : 0 + made ≡ made = omega arith in same) })))
+write_kind h request s bytes made step back wide is (ToEnd at i) = inr (inr (inr (inr (record { served = ap (refusal h.capacity h.mode) is ∙ wide_served h (asks.Write s bytes) back wide; next = is_some step Status i }))))
+
+flush_kind : (h : Header1) (request : Asked) (made : ℕ) (step : TaskStep) → h.mode ≡ Back → request ≡ asks.Flush → slice_get (Sync ∷ Status ∷ []) made ≡ Some step → Kind h request made step
+flush_kind h request zero step back is next = inr (inr (inr (inl (record { is = is; at = refl; next = sym (is_some Sync step next) }))))
+flush_kind h request (suc zero) step back is next = inr (inr (inr (inr (record { served = ap (refusal h.capacity h.mode) is ∙ wide_served h asks.Flush back tt; next = sym (is_some Status step next) }))))
+flush_kind h request (suc (suc made)) step back is next = absurd (cc)
+
+steps_are : (h : Header1) (request r : Asked) (made : ℕ) → h.mode ≡ Back → IsWide h.capacity (Some r) → request ≡ r → slice_get (task_steps h request) made ≡ slice_get (disk_steps r ++ Status ∷ []) made
+steps_are h request r made back wide is = ap (λ (q : Asked). slice_get (task_steps h q) made) is ∙ ap (λ (xs : List TaskStep). slice_get xs made) (wide_steps h r back wide)
 
 -- of which kind a step is
-pub kind_of : (h : Header1) (request : Asked) (made : ℕ) (step : TaskStep) → h.mode ≡ Back → IsSimple h.capacity (Some request) → slice_get (task_steps h request) made ≡ Some step → Kind h request made step
-kind_of h request made step back simple next = elim (simple_cases h.capacity (Some request) simple) [
-  | inl r ↦
-      let is : request ≡ asks.Read r.0 1 = let e : Some request ≡ Some (asks.Read r.0 1) = r.2 in cc in
-      let steps : task_steps h request ≡ Look 0 ∷ Put 0 ∷ Status ∷ [] = ap (task_steps h) is ∙ read_steps h r.0 r.1 in
-      read_kind h request r.0 made step r.1 is (ap (λ (xs : List TaskStep). slice_get xs made) (sym steps) ∙ next)
-  | inr r ↦
-      let is : request ≡ asks.Write r.0 r.1 = let e : Some request ≡ Some (asks.Write r.0 r.1) = r.4 in cc in
-      let steps : task_steps h request ≡ Act 0 ∷ Status ∷ [] = ap (task_steps h) is ∙ write_steps h r.0 r.1 back r.2 r.3 in
-      write_kind h request r.0 r.1 made step back r.2 r.3 is (ap (λ (xs : List TaskStep). slice_get xs made) (sym steps) ∙ next)
-]
+pub kind_of : (h : Header1) (request : Asked) (made : ℕ) (step : TaskStep) → h.mode ≡ Back → IsWide h.capacity (Some request) → IsPending made (Some request) → slice_get (task_steps h request) made ≡ Some step → Kind h request made step
+kind_of h request made step back wide pending next = go (wide_cases h.capacity (Some request) wide)
+  where
+    go : WideCases h.capacity (Some request) → Kind h request made step
+    go (AtRead s c w is) =
+        let is_it : request ≡ asks.Read s c = is_some request (asks.Read s c) is in
+        let few : made ≤ 2 * c = subst (λ (o : Option Asked). IsPending made o) is pending in
+        read_kind h request s c made step back w is_it (subst (λ (o : Option TaskStep). ReadAt 0 c made o) (sym (steps_are h request (asks.Read s c) made back w is_it) ∙ next) (read_at 0 c made few))
+    go (AtWrite s bytes w is) =
+        let is_it : request ≡ asks.Write s bytes = is_some request (asks.Write s bytes) is in
+        let few : made ≤ length bytes / 512 = subst (λ (o : Option Asked). IsPending made o) is pending in
+        write_kind h request s bytes made step back w is_it (subst (λ (o : Option TaskStep). WriteAt 0 (length bytes / 512) made o) (sym (steps_are h request (asks.Write s bytes) made back w is_it) ∙ next) (write_at 0 (length bytes / 512) made few))
+    go (AtFlush is) =
+        let is_it : request ≡ asks.Flush = is_some request asks.Flush is in
+        flush_kind h request made step back is_it (sym (steps_are h request asks.Flush made back tt is_it) ∙ next)
 
-read_next : (made : ℕ) → made ≤ 2 → (step : TaskStep) × (slice_get (Look 0 ∷ Put 0 ∷ Status ∷ []) made ≡ Some step)
-read_next zero few = (Look 0, refl)
-read_next (suc zero) few = (Put 0, refl)
-read_next (suc (suc zero)) few = (Status, refl)
-read_next (suc (suc (suc made))) few = absurd (omega arith)
+read_next : (c made : ℕ) (o : Option TaskStep) → ReadAt 0 c made o → (step : TaskStep) × (o ≡ Some step)
+read_next c made o (ToLook p low at i) = (Look (0 + p), i)
+read_next c made o (ToPut p low at i) = (Put (0 + p), i)
+read_next c made o (ToReply at i) = (Status, i)
 
-write_next : (made : ℕ) → made ≤ 1 → (step : TaskStep) × (slice_get (Act 0 ∷ Status ∷ []) made ≡ Some step)
-write_next zero few = (Act 0, refl)
-write_next (suc zero) few = (Status, refl)
-write_next (suc (suc made)) few = absurd (omega arith)
+write_next : (n made : ℕ) (o : Option TaskStep) → WriteAt 0 n made o → (step : TaskStep) × (o ≡ Some step)
+write_next n made o (ToAct low i) = (Act (0 + made), i)
+write_next n made o (ToEnd at i) = (Status, i)
+
+flush_next : (made : ℕ) → made ≤ 1 → (step : TaskStep) × (slice_get (Sync ∷ Status ∷ []) made ≡ Some step)
+flush_next zero few = (Sync, refl)
+flush_next (suc zero) few = (Status, refl)
+flush_next (suc (suc made)) few = absurd (omega arith)
 
 -- a request of which a step is left has a next one
-pub some_step : (h : Header1) (request : Asked) (made : ℕ) → h.mode ≡ Back → IsSimple h.capacity (Some request) → IsPending made (Some request) → (step : TaskStep) × (slice_get (task_steps h request) made ≡ Some step)
-some_step h request made back simple pending = elim (simple_cases h.capacity (Some request) simple) [
-  | inl r ↦
-      let is : request ≡ asks.Read r.0 1 = let e : Some request ≡ Some (asks.Read r.0 1) = r.2 in cc in
-      let steps : task_steps h request ≡ Look 0 ∷ Put 0 ∷ Status ∷ [] = ap (task_steps h) is ∙ read_steps h r.0 r.1 in
-      let x = read_next made (subst (λ (o : Option Asked). IsPending made o) r.2 pending) in
-      (x.0, ap (λ (xs : List TaskStep). slice_get xs made) steps ∙ x.1)
-  | inr r ↦
-      let is : request ≡ asks.Write r.0 r.1 = let e : Some request ≡ Some (asks.Write r.0 r.1) = r.4 in cc in
-      let steps : task_steps h request ≡ Act 0 ∷ Status ∷ [] = ap (task_steps h) is ∙ write_steps h r.0 r.1 back r.2 r.3 in
-      let x = write_next made (subst (λ (o : Option Asked). IsPending made o) r.4 pending) in
-      (x.0, ap (λ (xs : List TaskStep). slice_get xs made) steps ∙ x.1)
-]
+pub some_step : (h : Header1) (request : Asked) (made : ℕ) → h.mode ≡ Back → IsWide h.capacity (Some request) → IsPending made (Some request) → (step : TaskStep) × (slice_get (task_steps h request) made ≡ Some step)
+some_step h request made back wide pending = go (wide_cases h.capacity (Some request) wide)
+  where
+    go : WideCases h.capacity (Some request) → (step : TaskStep) × (slice_get (task_steps h request) made ≡ Some step)
+    go (AtRead s c w is) =
+        let few : made ≤ 2 * c = subst (λ (o : Option Asked). IsPending made o) is pending in
+        let x = read_next c made (slice_get (look_steps 0 c ++ Status ∷ []) made) (read_at 0 c made few) in
+        (x.0, steps_are h request (asks.Read s c) made back w (is_some request (asks.Read s c) is) ∙ x.1)
+    go (AtWrite s bytes w is) =
+        let few : made ≤ length bytes / 512 = subst (λ (o : Option Asked). IsPending made o) is pending in
+        let x = write_next (length bytes / 512) made (slice_get (act_steps 0 (length bytes / 512) ++ Status ∷ []) made) (write_at 0 (length bytes / 512) made few) in
+        (x.0, steps_are h request (asks.Write s bytes) made back w (is_some request (asks.Write s bytes) is) ∙ x.1)
+    go (AtFlush is) =
+        let few : made ≤ 1 = subst (λ (o : Option Asked). IsPending made o) is pending in
+        let x = flush_next made few in
+        (x.0, steps_are h request asks.Flush made back tt (is_some request asks.Flush is) ∙ x.1)
 
-simple_basic : (cap : ℕ) (request : Asked) → IsSimple cap (Some request) → IsBasic request
-simple_basic cap (asks.Read s c) simple = tt
-simple_basic cap (asks.Write s bytes) simple = let long : length bytes ≡ 512 = simple.1 in omega (arith, long)
-simple_basic cap asks.Flush simple = absurd simple
-simple_basic cap asks.Id simple = absurd simple
-simple_basic cap (asks.Discard parts) simple = absurd simple
-simple_basic cap (asks.Zero parts) simple = absurd simple
+pub wide_basic : (cap : ℕ) (request : Asked) → IsWide cap (Some request) → IsBasic request
+wide_basic cap (asks.Read s c) wide = tt
+wide_basic cap (asks.Write s bytes) wide = wide.whole
+wide_basic cap asks.Flush wide = tt
+wide_basic cap asks.Id wide = absurd wide
+wide_basic cap (asks.Discard parts) wide = absurd wide
+wide_basic cap (asks.Zero parts) wide = absurd wide
 
 -- ---- the step that is due
 
@@ -173,15 +207,15 @@ due_at h m r sizes q place k task plain good chained main room a run is at =
     let is_out : IsOut m.scene.past (m.scene.heads 0) k = open_out h.size h.capacity m.scene.past (m.scene.heads 0) k good.holds.known where_open.0 in
     let meant : Meant sizes r m.scene.memory head (asked m.scene.past 0 k) = work_means h m sizes r place k plain good chained (first_ring sizes r h.size main room) is in
     let request : Asked = meant.request in
-    let simple : IsSimple h.capacity (Some request) = subst (λ (o : Option Asked). IsSimple h.capacity o) meant.is (good.holds.known.simple k is_out.below) in
+    let wide : IsWide h.capacity (Some request) = subst (λ (o : Option Asked). IsWide h.capacity o) meant.is (good.holds.known.wide k is_out.below) in
     let pending : IsPending (l.made k) (Some request) = subst (λ (o : Option Asked). IsPending (l.made k) o) meant.is (good.holds.worked.pending k where_open.0 where_open.1) in
-    let next = some_step h request (l.made k) plain.back simple pending in
+    let next = some_step h request (l.made k) plain.back wide pending in
     let stands : TaskAt h r m.scene.past (m.scene.heads 0) k (l.made k) task = a.tasks place k task is at in
     let n : Making = making_of h m k meant.links request next.0 in
     let low : head < h.size = good.holds.driven.below k is_out in
     let is_next : IsNext h.capacity sizes r m.scene.memory n = record {
       means = meant.means;
-      served = record { basic = simple_basic h.capacity request simple; capacity = refl; cached = plain.back };
+      served = record { basic = wide_basic h.capacity request wide; capacity = refl; cached = plain.back };
       next = next.1;
     } in
     let ready : IsReady r n task = (meant.at_head ∙ sym stands.head, stands.stands request meant.is) in

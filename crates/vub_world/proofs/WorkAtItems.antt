@@ -1,5 +1,5 @@
 -- What a step of work shows, what it leaves of memory, and what it leaves of the disk.
-use Rattle.std.proofs.Common.{◌≡◌, ◌≢◌, ◌≤◌, ℕ, ◌+◌, ◌*◌, List, [], ◌∷◌, ◌++◌, length, refl, ap, sym, ◌∙◌, subst, inl, inr, arith, length-take}
+use Rattle.std.proofs.Common.{◌≡◌, ◌≢◌, ◌≤◌, ◌<◌, ℕ, ◌+◌, ◌*◌, ◌/◌, List, [], ◌∷◌, ◌++◌, length, refl, ap, sym, ◌∙◌, subst, inl, inr, arith}
 use Rattle.std.specs.Prelude.{Option, Some, None, ⊤, slice_range}
 use Rattle.std.specs.List.{AllByRecursion}
 use Rattle.std.proofs.lemmas.Bool.Decides.{nat_tests}
@@ -24,7 +24,7 @@ use Rattle.vub_device.specs.declared.entry.Entry.TheVariants as entries
 use Rattle.vub_device.specs.declared.entry.SectorValue.{SectorValue}
 use Rattle.vub_device.specs.Crash.{value}
 use Rattle.vub_device.specs.Past.{seen}
-use Rattle.vub_device.specs.Requests.{effect_at}
+use Rattle.vub_device.specs.Requests.{look_at, effect_at}
 use Rattle.vub_world.specs.declared.queue.Stepped.{Stepped}
 use Rattle.vub_world.specs.declared.queue.Stepped.TheVariants as says
 use Rattle.vub_world.specs.declared.report.items.Item.{Item}
@@ -38,14 +38,15 @@ use Rattle.vub_world.specs.QueueAt.{QueueStands, IsMainRing, DiskAt}
 use Rattle.vub_world.specs.QueueState.{QueueState, said, sector_at, due_store}
 use Rattle.vub_world.specs.Run.{one_turn}
 use Rattle.vub_world.specs.TaskState.{Making, answer_in, memory_after, values_after, with_effect}
-use Rattle.vub_world.specs.Tasks.{TaskStep, Look, Put, Act, Status, task_items, act_items, status_of}
+use Rattle.vub_world.specs.Tasks.{TaskStep, Look, Put, Act, Status, task_items, look_items, act_items, status_of}
 use Rattle.vub_world.specs.Turns.{Turned, turned, work_turn, request_turn, task_turn, phase_turn, under_way, step_stores, row_items, entry_items}
 use Rattle.vub_world.proofs.RunNumbers.{among_get}
-use Rattle.vub_world.proofs.RunGood.{IsSimple, IsOut}
+use Rattle.vub_world.proofs.RunGood.{IsWide, IsOut, IsPending}
 use Rattle.vub_world.proofs.RunFrames.{open_out}
-use Rattle.vub_world.proofs.RunWork.{effect_is}
+use Rattle.vub_world.proofs.RunSteps.{look_is, effect_is}
+use Rattle.vub_world.proofs.RunWork.{sector_few}
 use Rattle.vub_world.proofs.RunTurns.{IsPlain, Good}
-use Rattle.vub_world.proofs.WorkAt.{WorkReady, making, making_of, Kind, kind_of}
+use Rattle.vub_world.proofs.WorkAt.{WorkReady, making, making_of, unfinished_open, Kind, kind_of}
 
 -- ---- items
 
@@ -61,6 +62,7 @@ pub record ShowsStore (tag : Tag) (q : QueueState) (task : Task) (n : Making) (i
 abbrev pub Shows : Values → QueueState → ℕ → Task → Making → List Item → Stepped → Type 0
 Shows v q k task n is (says.Looked head sector) = (head ≡ task.head) × (is ≡ items.Made (entries.Look 0 k sector (v sector)) ∷ [])
 Shows v q k task n is (says.Acted head sector) = (head ≡ task.head) × (is ≡ items.Made (entries.Act 0 k sector (values_after n.request n.step v sector)) ∷ [])
+Shows v q k task n is (says.Synced head) = (head ≡ task.head) × (is ≡ items.Made (entries.Sync 0 k) ∷ [])
 Shows v q k task n is (says.Stored tag) = (tag ≡ T2) × ShowsStore T2 q task n is
 Shows v q k task n is (says.Completed head) = (head ≡ task.head) × ShowsStore T5 q task n is
 Shows v q k task n is x = ⊥
@@ -77,39 +79,41 @@ work_turned h sizes m q place w =
 pub work_kind : (h : Header1) (sizes : ℕ → ℕ) (m : Moment) (q : QueueState) (place : ℕ) (w : WorkReady h sizes m q place) → IsPlain h → Good h m → Kind h w.request ((m.lanes 0).made w.k) w.step
 work_kind h sizes m q place w plain good =
     let is_out : IsOut m.scene.past (m.scene.heads 0) w.k = open_out h.size h.capacity m.scene.past (m.scene.heads 0) w.k good.holds.known w.is_open in
-    let simple : IsSimple h.capacity (Some w.request) = subst (λ (o : Option Asked). IsSimple h.capacity o) w.is (good.holds.known.simple w.k is_out.below) in
-    kind_of h w.request ((m.lanes 0).made w.k) w.step plain.back simple w.due.next.next
+    let where_open = unfinished_open m place w.k w.at in
+    let wide : IsWide h.capacity (Some w.request) = subst (λ (o : Option Asked). IsWide h.capacity o) w.is (good.holds.known.wide w.k is_out.below) in
+    let pending : IsPending ((m.lanes 0).made w.k) (Some w.request) = subst (λ (o : Option Asked). IsPending ((m.lanes 0).made w.k) o) w.is (good.holds.worked.pending w.k where_open.0 where_open.1) in
+    kind_of h w.request ((m.lanes 0).made w.k) w.step plain.back wide pending w.due.next.next
 
 abbrev ShowsAt : Header1 → Moment → QueueState → Values → ℕ → Task → Links → Asked → TaskStep → Type 0
 ShowsAt h m q v k task links request step =
     Shows v q k task (making_of h m k links request step) (task_items h 0 k (buffer_of 0 k m.scene) m.scene.past request step) (said task.head (answer_in (making_of h m k links request step)))
 
-show_look : (h : Header1) (m : Moment) (q : QueueState) (v : Values) (k : ℕ) (task : Task) (links : Links) (sector : ℕ) → v (sector + 0) ≡ value m.scene.past (sector + 0) → ShowsAt h m q v k task links (asks.Read sector 1) (Look 0)
-show_look h m q v k task links sector held = (refl, ap (λ (bs : List ℕ). items.Made (entries.Look 0 k (sector + 0) bs) ∷ []) (sym held))
+show_look : (h : Header1) (m : Moment) (q : QueueState) (v : Values) (k : ℕ) (task : Task) (links : Links) (sector c p : ℕ) → p < c → v (sector + p) ≡ value m.scene.past (sector + p) → ShowsAt h m q v k task links (asks.Read sector c) (Look p)
+show_look h m q v k task links sector c p low held = (refl, ap (look_items 0 k m.scene.past) (look_is sector c p low) ∙ ap (λ (bs : List ℕ). items.Made (entries.Look 0 k (sector + p) bs) ∷ []) (sym held))
 
-show_put : (h : Header1) (m : Moment) (q : QueueState) (v : Values) (k : ℕ) (task : Task) (links : Links) (sector : ℕ) → q.ring.desc.0.number ≡ 0 → sector_at q task.head ≡ slice_range (seen m.scene.past 0 k) (512 * 0) (512 * 0 + 512)
-    → ShowsAt h m q v k task links (asks.Read sector 1) (Put 0)
-show_put h m q v k task links sector space held =
-    let p : ℕ = sectors_place (buffer_of 0 k m.scene) + 512 * 0 in
-    let bs : List ℕ = slice_range (seen m.scene.past 0 k) (512 * 0) (512 * 0 + 512) in (
+show_put : (h : Header1) (m : Moment) (q : QueueState) (v : Values) (k : ℕ) (task : Task) (links : Links) (sector c p : ℕ) → q.ring.desc.0.number ≡ 0 → sector_at q task.head ≡ slice_range (seen m.scene.past 0 k) (512 * p) (512 * p + 512)
+    → ShowsAt h m q v k task links (asks.Read sector c) (Put p)
+show_put h m q v k task links sector c p space held =
+    let place : ℕ = sectors_place (buffer_of 0 k m.scene) + 512 * p in
+    let bs : List ℕ = slice_range (seen m.scene.past 0 k) (512 * p) (512 * p + 512) in (
       refl,
       record {
-        place = p;
+        place = place;
         bytes = bs;
-        few = omega (arith, length-take 512 (seen m.scene.past 0 k));
-        due = ap (λ (t : ℕ). Some (one_store t p (sector_at q task.head))) space ∙ ap (λ (xs : List ℕ). Some (one_store 0 p xs)) held;
+        few = sector_few (seen m.scene.past 0 k) p;
+        due = ap (λ (t : ℕ). Some (one_store t place (sector_at q task.head))) space ∙ ap (λ (xs : List ℕ). Some (one_store 0 place xs)) held;
         items = refl;
       },
     )
 
-show_act : (h : Header1) (m : Moment) (q : QueueState) (v : Values) (k : ℕ) (task : Task) (links : Links) (sector : ℕ) (bytes : List ℕ) → length bytes ≡ 512 → ShowsAt h m q v k task links (asks.Write sector bytes) (Act 0)
-show_act h m q v k task links sector bytes long =
-    let bs : List ℕ = slice_range bytes (512 * 0) (512 * 0 + 512) in
-    let x : SectorValue = record { sector = sector + 0; value = bs } in
-    let effect : effect_at (asks.Write sector bytes) 0 ≡ Some x = effect_is sector bytes long in
-    let new : with_effect (Some x) v (sector + 0) ≡ bs = grind (arith, nat_tests) in
-    let now : with_effect (effect_at (asks.Write sector bytes) 0) v (sector + 0) ≡ bs = ap (λ (o : Option SectorValue). with_effect o v (sector + 0)) effect ∙ new in
-    (refl, ap (act_items 0 k) effect ∙ ap (λ (xs : List ℕ). items.Made (entries.Act 0 k (sector + 0) xs) ∷ []) (sym now))
+show_act : (h : Header1) (m : Moment) (q : QueueState) (v : Values) (k : ℕ) (task : Task) (links : Links) (sector p : ℕ) (bytes : List ℕ) → p < length bytes / 512 → ShowsAt h m q v k task links (asks.Write sector bytes) (Act p)
+show_act h m q v k task links sector p bytes low =
+    let bs : List ℕ = slice_range bytes (512 * p) (512 * p + 512) in
+    let x : SectorValue = record { sector = sector + p; value = bs } in
+    let effect : effect_at (asks.Write sector bytes) p ≡ Some x = effect_is sector bytes p low in
+    let new : with_effect (Some x) v (sector + p) ≡ bs = grind (arith, nat_tests) in
+    let now : with_effect (effect_at (asks.Write sector bytes) p) v (sector + p) ≡ bs = ap (λ (o : Option SectorValue). with_effect o v (sector + p)) effect ∙ new in
+    (refl, ap (act_items 0 k) effect ∙ ap (λ (xs : List ℕ). items.Made (entries.Act 0 k (sector + p) xs) ∷ []) (sym now))
 
 show_status : (h : Header1) (m : Moment) (q : QueueState) (v : Values) (k : ℕ) (task : Task) (links : Links) (request : Asked) → q.ring.desc.0.number ≡ 0 → ShowsAt h m q v k task links request Status
 show_status h m q v k task links request space =
@@ -128,23 +132,24 @@ ring_space : (h : Header1) (m : Moment) (r : SplitRing) (q : QueueState) → IsM
 ring_space h m r q main a = ap (λ (x : SplitRing). x.desc.0.number) a.ring ∙ main.desc_space
 
 -- before its store, what was read stands in the queue
-held_sector : (h : Header1) (sizes : ℕ → ℕ) (m : Moment) (r : SplitRing) (q : QueueState) (place : ℕ) (w : WorkReady h sizes m q place) → QueueStands h r m q → w.step ≡ Put 0
-    → sector_at q w.task.head ≡ slice_range (seen m.scene.past 0 w.k) (512 * 0) (512 * 0 + 512)
-held_sector h sizes m r q place w a put =
-    ap (sector_at q) w.head ∙ a.sectors w.k 0 w.request (among_get (unfinished 0 m) place w.k w.at) w.is (w.due.next.next ∙ ap (λ (s : TaskStep). Some s) put)
+held_sector : (h : Header1) (sizes : ℕ → ℕ) (m : Moment) (r : SplitRing) (q : QueueState) (place p : ℕ) (w : WorkReady h sizes m q place) → QueueStands h r m q → w.step ≡ Put p
+    → sector_at q w.task.head ≡ slice_range (seen m.scene.past 0 w.k) (512 * p) (512 * p + 512)
+held_sector h sizes m r q place p w a put =
+    ap (sector_at q) w.head ∙ a.sectors w.k p w.request (among_get (unfinished 0 m) place w.k w.at) w.is (w.due.next.next ∙ ap (λ (s : TaskStep). Some s) put)
 
 show_step : (h : Header1) (sizes : ℕ → ℕ) (m : Moment) (r : SplitRing) (q : QueueState) (place : ℕ) (v : Values) (w : WorkReady h sizes m q place) → IsMainRing r h.size → QueueStands h r m q → DiskAt h.capacity m.scene.past v
     → Kind h w.request ((m.lanes 0).made w.k) w.step → ShowsAt h m q v w.k w.task w.links w.request w.step
 show_step h sizes m r q place v w main a disk (inl x) =
     subst (λ (s : TaskStep). ShowsAt h m q v w.k w.task w.links w.request s) (sym x.next)
-    (subst (λ (o : Asked). ShowsAt h m q v w.k w.task w.links o (Look 0)) (sym x.is) (show_look h m q v w.k w.task w.links x.sector (disk (x.sector + 0) (omega (arith, x.low)))))
+    (subst (λ (o : Asked). ShowsAt h m q v w.k w.task w.links o (Look x.place)) (sym x.is) (show_look h m q v w.k w.task w.links x.sector x.count x.place x.within (disk (x.sector + x.place) (omega (arith, x.within, x.wide.fits)))))
 show_step h sizes m r q place v w main a disk (inr (inl x)) =
     subst (λ (s : TaskStep). ShowsAt h m q v w.k w.task w.links w.request s) (sym x.next)
-    (subst (λ (o : Asked). ShowsAt h m q v w.k w.task w.links o (Put 0)) (sym x.is) (show_put h m q v w.k w.task w.links x.sector (ring_space h m r q main a) (held_sector h sizes m r q place w a x.next)))
+    (subst (λ (o : Asked). ShowsAt h m q v w.k w.task w.links o (Put x.place)) (sym x.is) (show_put h m q v w.k w.task w.links x.sector x.count x.place (ring_space h m r q main a) (held_sector h sizes m r q place x.place w a x.next)))
 show_step h sizes m r q place v w main a disk (inr (inr (inl x))) =
     subst (λ (s : TaskStep). ShowsAt h m q v w.k w.task w.links w.request s) (sym x.next)
-    (subst (λ (o : Asked). ShowsAt h m q v w.k w.task w.links o (Act 0)) (sym x.is) (show_act h m q v w.k w.task w.links x.sector x.bytes x.long))
-show_step h sizes m r q place v w main a disk (inr (inr (inr x))) =
+    (subst (λ (o : Asked). ShowsAt h m q v w.k w.task w.links o (Act x.place)) (sym x.is) (show_act h m q v w.k w.task w.links x.sector x.place x.bytes x.within))
+show_step h sizes m r q place v w main a disk (inr (inr (inr (inl x)))) = subst (λ (s : TaskStep). ShowsAt h m q v w.k w.task w.links w.request s) (sym x.next) (refl, refl)
+show_step h sizes m r q place v w main a disk (inr (inr (inr (inr x)))) =
     subst (λ (s : TaskStep). ShowsAt h m q v w.k w.task w.links w.request s) (sym x.next) (show_status h m q v w.k w.task w.links w.request (ring_space h m r q main a))
 
 -- what a turn of work shows, by what the queue says of it
@@ -168,17 +173,22 @@ acts_memory : (n k : ℕ) (s : Scene) (o : Option SectorValue) → (after_items 
 acts_memory n k s None = refl
 acts_memory n k s (Some x) = refl
 
+looks_memory : (n k : ℕ) (s : Scene) (o : Option ℕ) → (after_items n (look_items 0 k s.past o) s).memory ≡ s.memory
+looks_memory n k s None = refl
+looks_memory n k s (Some x) = refl
+
 memory_step : (h : Header1) (sizes : ℕ → ℕ) (m : Moment) (r : SplitRing) (q : QueueState) (place : ℕ) (w : WorkReady h sizes m q place) → IsMainRing r h.size → QueueStands h r m q
     → Kind h w.request ((m.lanes 0).made w.k) w.step → LeavesMemory h m q w.k w.task w.links w.request w.step
 memory_step h sizes m r q place w main a (inl x) =
-    subst (λ (s : TaskStep). LeavesMemory h m q w.k w.task w.links w.request s) (sym x.next) (subst (λ (o : Asked). LeavesMemory h m q w.k w.task w.links o (Look 0)) (sym x.is) refl)
+    subst (λ (s : TaskStep). LeavesMemory h m q w.k w.task w.links w.request s) (sym x.next) (looks_memory h.size w.k m.scene (look_at w.request x.place))
 memory_step h sizes m r q place w main a (inr (inl x)) =
     subst (λ (s : TaskStep). LeavesMemory h m q w.k w.task w.links w.request s) (sym x.next)
-    (subst (λ (o : Asked). LeavesMemory h m q w.k w.task w.links o (Put 0)) (sym x.is)
-    (stored_memory q m.scene.memory (sectors_place (buffer_of 0 w.k m.scene) + 512 * 0) (slice_range (seen m.scene.past 0 w.k) (512 * 0) (512 * 0 + 512)) (sector_at q w.task.head) (ring_space h m r q main a) (held_sector h sizes m r q place w a x.next)))
+    (subst (λ (o : Asked). LeavesMemory h m q w.k w.task w.links o (Put x.place)) (sym x.is)
+    (stored_memory q m.scene.memory (sectors_place (buffer_of 0 w.k m.scene) + 512 * x.place) (slice_range (seen m.scene.past 0 w.k) (512 * x.place) (512 * x.place + 512)) (sector_at q w.task.head) (ring_space h m r q main a) (held_sector h sizes m r q place x.place w a x.next)))
 memory_step h sizes m r q place w main a (inr (inr (inl x))) =
-    subst (λ (s : TaskStep). LeavesMemory h m q w.k w.task w.links w.request s) (sym x.next) (acts_memory h.size w.k m.scene (effect_at w.request 0))
-memory_step h sizes m r q place w main a (inr (inr (inr x))) =
+    subst (λ (s : TaskStep). LeavesMemory h m q w.k w.task w.links w.request s) (sym x.next) (acts_memory h.size w.k m.scene (effect_at w.request x.place))
+memory_step h sizes m r q place w main a (inr (inr (inr (inl x)))) = subst (λ (s : TaskStep). LeavesMemory h m q w.k w.task w.links w.request s) (sym x.next) refl
+memory_step h sizes m r q place w main a (inr (inr (inr (inr x)))) =
     subst (λ (s : TaskStep). LeavesMemory h m q w.k w.task w.links w.request s) (sym x.next)
     (stored_memory q m.scene.memory (status_place (buffer_of 0 w.k m.scene)) (status_of h w.request ∷ []) (status_of h w.request ∷ []) (ring_space h m r q main a) refl)
 
@@ -204,12 +214,16 @@ disk_act cap n k s v (Some x) disk = λ t low.
       | inr apart ↦ let turned : x.sector ≢ t = λ e. apart (sym e) in grind (arith, nat_tests)
     ]
 
+disk_look : (cap n k : ℕ) (s : Scene) (v : Values) (o : Option ℕ) → DiskAt cap s.past v → DiskAt cap (after_items n (look_items 0 k s.past o) s).past v
+disk_look cap n k s v None disk = disk
+disk_look cap n k s v (Some x) disk = λ t low. disk t low
+
 disk_step : (h : Header1) (m : Moment) (v : Values) (k made : ℕ) (request : Asked) (step : TaskStep) → DiskAt h.capacity m.scene.past v → Kind h request made step → LeavesDisk h m v k request step
-disk_step h m v k made request step disk (inl x) =
-    subst (λ (s : TaskStep). LeavesDisk h m v k request s) (sym x.next) (subst (λ (o : Asked). LeavesDisk h m v k o (Look 0)) (sym x.is) (λ t low. disk t low))
+disk_step h m v k made request step disk (inl x) = subst (λ (s : TaskStep). LeavesDisk h m v k request s) (sym x.next) (disk_look h.capacity h.size k m.scene v (look_at request x.place) disk)
 disk_step h m v k made request step disk (inr (inl x)) = subst (λ (s : TaskStep). LeavesDisk h m v k request s) (sym x.next) (λ t low. disk t low)
-disk_step h m v k made request step disk (inr (inr (inl x))) = subst (λ (s : TaskStep). LeavesDisk h m v k request s) (sym x.next) (disk_act h.capacity h.size k m.scene v (effect_at request 0) disk)
-disk_step h m v k made request step disk (inr (inr (inr x))) = subst (λ (s : TaskStep). LeavesDisk h m v k request s) (sym x.next) (λ t low. disk t low)
+disk_step h m v k made request step disk (inr (inr (inl x))) = subst (λ (s : TaskStep). LeavesDisk h m v k request s) (sym x.next) (disk_act h.capacity h.size k m.scene v (effect_at request x.place) disk)
+disk_step h m v k made request step disk (inr (inr (inr (inl x)))) = subst (λ (s : TaskStep). LeavesDisk h m v k request s) (sym x.next) (λ t low. disk t low)
+disk_step h m v k made request step disk (inr (inr (inr (inr x)))) = subst (λ (s : TaskStep). LeavesDisk h m v k request s) (sym x.next) (λ t low. disk t low)
 
 -- a turn of work changes the disk as the step that is due
 pub work_disk : (h : Header1) (sizes : ℕ → ℕ) (m : Moment) (q : QueueState) (place : ℕ) (v : Values) (w : WorkReady h sizes m q place) → IsPlain h → Good h m → DiskAt h.capacity m.scene.past v

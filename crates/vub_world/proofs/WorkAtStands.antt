@@ -1,12 +1,11 @@
 -- Where the queue stands after a turn of work.
-use Rattle.std.proofs.Common.{◌≡◌, ◌≢◌, ◌<◌, ℕ, suc, ◌+◌, ◌*◌, ◌%◌, true, false, not, List, [], ◌∷◌, ◌++◌, length, map, set, refl, ap, sym, ◌∙◌, subst, inl, inr, arith, length-set}
+use Rattle.std.proofs.Common.{◌≡◌, ◌≢◌, ◌<◌, ℕ, suc, ◌+◌, ◌*◌, ◌/◌, ◌%◌, true, false, not, List, [], ◌∷◌, ◌++◌, length, map, set, refl, ap, sym, ◌∙◌, subst, inl, inr, arith, length-set}
 use Rattle.std.specs.Prelude.{Option, Some, None, slice_index, slice_get, slice_range, get_or, filter, remove}
 use Rattle.std.proofs.lemmas.Bool.Decides.{nat_tests}
 use Rattle.std.proofs.lemmas.Bool.{cases_eq, cases_lt}
-use Rattle.std.proofs.lemmas.List.{get_or-set_same, get_or-set_other, map-append, take_all}
+use Rattle.std.proofs.lemmas.List.{get_or-set_same, get_or-set_other, map-append, length-append, ext_get_or, get_or-append-add}
 use Rattle.std.proofs.lemmas.List.Edits.{length-remove}
 use Rattle.std.proofs.lemmas.Option.{slice_get_within}
-use Rattle.vub_base.specs.declared.header.CacheMode.TheVariants.{Back}
 use Rattle.vub_base.specs.declared.header.Header1.{Header1}
 use Rattle.vub_disk.specs.Values.{Values}
 use Rattle.vub_ring.specs.declared.readiness.Turn.TheVariants as turns
@@ -17,9 +16,9 @@ use Rattle.vub_device.specs.declared.entry.Entry.{Entry}
 use Rattle.vub_device.specs.declared.entry.Entry.TheVariants as entries
 use Rattle.vub_device.specs.declared.entry.SectorValue.{SectorValue}
 use Rattle.vub_device.specs.Crash.{value}
-use Rattle.vub_device.specs.Past.{asked, accepted, published, missing_below, open_numbers, is_among, IsOpen, started, seen}
+use Rattle.vub_device.specs.Past.{asked, accepted, published, missing_below, open_numbers, is_among, IsOpen, started, looks, seen, acts, synced}
 use Rattle.vub_device.specs.Places.{are_distinct}
-use Rattle.vub_device.specs.Requests.{effect_at}
+use Rattle.vub_device.specs.Requests.{look_at, effect_at}
 use Rattle.vub_split.specs.declared.split.SplitRing.{SplitRing}
 use Rattle.vub_world.specs.declared.task.Task.{Task}
 use Rattle.vub_world.specs.Memory.{with_at, after_items}
@@ -29,14 +28,17 @@ use Rattle.vub_world.specs.QueueState.{QueueState, HasWorked, Advances, worked, 
 use Rattle.vub_world.specs.Run.{one_turn}
 use Rattle.vub_world.specs.ChainState.{sector_of}
 use Rattle.vub_world.specs.TaskState.{IsTaskAt, HasMade}
-use Rattle.vub_world.specs.Tasks.{TaskStep, Look, Put, Act, Status, task_steps, task_items, act_items, status_of, used_len}
+use Rattle.vub_world.specs.Tasks.{TaskStep, Look, Put, Act, Sync, Status, task_steps, task_items, look_items, act_items, status_of, used_len}
 use Rattle.vub_world.specs.Turns.{Turned, len_of, after_task_step}
 use Rattle.vub_world.proofs.RunNumbers.{among_filter, missing-among}
 use Rattle.vub_world.proofs.RunFrames.{open_out}
-use Rattle.vub_world.proofs.RunWork.{at_same, at_other, not_more, read_steps, write_steps}
+use Rattle.vub_world.proofs.RunGood.{IsReadTo}
+use Rattle.vub_world.proofs.RunSteps.{look_is, read_to}
+use Rattle.vub_world.proofs.StepLemmas.{Puts, Acts, OfRequest, step_of}
+use Rattle.vub_world.proofs.RunWork.{at_same, at_other, not_more, seen_more, sector_long, sector_byte}
 use Rattle.vub_world.proofs.RunEnds.{missing_distinct}
 use Rattle.vub_world.proofs.RunTurns.{IsPlain, Good}
-use Rattle.vub_world.proofs.WorkAt.{WorkReady, making, Kind, IsLook, IsPut, IsAct}
+use Rattle.vub_world.proofs.WorkAt.{WorkReady, making, Kind, IsLook, IsPut, IsAct, IsSync}
 use Rattle.vub_world.proofs.WorkAtItems.{work_turned, work_kind}
 use Rattle.vub_world.proofs.WorkAtLists.{slice_get-set_same, slice_get-set_other, slice_get-remove_below, slice_get-remove_above, filter_distinct, one_place, one_less, among_kept}
 
@@ -254,61 +256,88 @@ StandsAfter h r m k q request step =
     QueueAt h r (after_items h.size (task_items h 0 k (buffer_of 0 k m.scene) m.scene.past request step) m.scene).past ((after_items h.size (task_items h 0 k (buffer_of 0 k m.scene) m.scene.past request step) m.scene).heads 0)
     (after_task_step k step (m.lanes 0)).phase (after_task_step k step (m.lanes 0)).batch (after_task_step k step (m.lanes 0)).completed (after_task_step k step (m.lanes 0)).made q
 
-seen_first : (past : List Entry) (k s : ℕ) (v : List ℕ) → seen past 0 k ≡ [] → seen (entries.Look 0 k s v ∷ past) 0 k ≡ v
-seen_first past k s v none = let read : seen (entries.Look 0 k s v ∷ past) 0 k ≡ seen past 0 k ++ v = grind (arith, nat_tests) in read ∙ ap (λ (xs : List ℕ). xs ++ v) none
+-- the last sector of some
+last_sector : (xs v : List ℕ) (p : ℕ) → length xs ≡ 512 * p → length v ≡ 512 → slice_range (xs ++ v) (512 * p) (512 * p + 512) ≡ v
+last_sector xs v p long one =
+    let all : length (xs ++ v) ≡ 512 * p + 512 = length-append xs v ∙ omega (arith, long, one) in
+    let range : length (slice_range (xs ++ v) (512 * p) (512 * p + 512)) ≡ 512 = sector_long (xs ++ v) p (omega (arith, all)) in
+    ext_get_or 0 (slice_range (xs ++ v) (512 * p) (512 * p + 512)) v (range ∙ sym one) (λ i low.
+    let place : 512 * p + i ≡ length xs + i = omega (arith, long) in
+    sector_byte (xs ++ v) p i (omega (arith, low, range)) ∙ ap (slice_index (xs ++ v)) place ∙ get_or-append-add xs v i 0)
 
 seen_other : (past : List Entry) (k s j : ℕ) (v : List ℕ) → j ≢ k → seen (entries.Look 0 k s v ∷ past) 0 j ≡ seen past 0 j
 seen_other past k s j v apart = let differs : k ≢ j = λ e. apart (sym e) in grind (arith, nat_tests)
 
-put_first : (p : ℕ) → Some (Put 0) ≡ Some (Put p) → p ≡ 0
-put_first p e = cc
+put_place : (p q : ℕ) → Some (Put q) ≡ Some (Put p) → p ≡ q
+put_place p q e = cc
 
-look_stands : (h : Header1) (sizes : ℕ → ℕ) (m : Moment) (r : SplitRing) (q q' : QueueState) (place : ℕ) (v : Values) (w : WorkReady h sizes m q place) (x : IsLook h w.request ((m.lanes 0).made w.k) w.step) → Good h m → QueueStands h r m q → DiskAt h.capacity m.scene.past v
+-- what follows a step
+step_follows : (h : Header1) (sizes : ℕ → ℕ) (m : Moment) (q : QueueState) (place : ℕ) (w : WorkReady h sizes m q place) (step : TaskStep) → IsPlain h → w.step ≡ step
+    → OfRequest h.capacity w.request (slice_get (task_steps h w.request) (suc ((m.lanes 0).made w.k))) step
+step_follows h sizes m q place w step plain is =
+    subst (λ (s : TaskStep). OfRequest h.capacity w.request (slice_get (task_steps h w.request) (suc ((m.lanes 0).made w.k))) s) is
+    (step_of h w.request ((m.lanes 0).made w.k) w.step w.due.next.served.basic plain.back w.due.next.next)
+
+next_put : (h : Header1) (request : Asked) (c p : ℕ) → slice_get (task_steps h request) (c + 1) ≡ Some (Put p) → slice_get (task_steps h request) (suc c) ≡ Some (Put p)
+next_put h request c p next = ap (slice_get (task_steps h request)) (let same : suc c ≡ c + 1 = omega arith in same) ∙ next
+
+-- where the queue stands after a look, if any
+abbrev LookStands : Header1 → SplitRing → Moment → ℕ → QueueState → Option ℕ → Type 0
+LookStands h r m k q o =
+    QueueAt h r (after_items h.size (look_items 0 k m.scene.past o) m.scene).past ((after_items h.size (look_items 0 k m.scene.past o) m.scene).heads 0) (m.lanes 0).phase (m.lanes 0).batch (m.lanes 0).completed (with_at (m.lanes 0).made k ((m.lanes 0).made k + 1)) q
+
+look_stands : (h : Header1) (sizes : ℕ → ℕ) (m : Moment) (r : SplitRing) (q q' : QueueState) (place : ℕ) (v : Values) (w : WorkReady h sizes m q place) (x : IsLook h w.request ((m.lanes 0).made w.k) w.step) → IsPlain h → Good h m → QueueStands h r m q → DiskAt h.capacity m.scene.past v
     → HasWorked (Some v) place w.task (making w) q q' → StandsAfter h r m w.k q' w.request w.step
-look_stands h sizes m r q q' place v w x good a disk made =
+look_stands h sizes m r q q' place v w x plain good a disk made =
     let past : List Entry = m.scene.past in
-    let s : ℕ = x.sector + 0 in
+    let s : ℕ = x.sector + x.place in
     let read : List ℕ = value past s in
     let past' : List Entry = entries.Look 0 w.k s read ∷ past in
     let c : ℕ = (m.lanes 0).made w.k in
-    let goes : Advances place w.task (making w) made.sector (Look 0) q q' = subst (λ (y : TaskStep). Advances place w.task (making w) made.sector y q q') x.next made.state in
-    let none : seen past 0 w.k ≡ [] = ((good.holds.worked.progress w.k).fresh x.first).1.1 in
-    let now : seen past' 0 w.k ≡ read = seen_first past w.k s read none in
+    let goes : Advances place w.task (making w) made.sector (Look x.place) q q' = subst (λ (y : TaskStep). Advances place w.task (making w) made.sector y q q') x.next made.state in
+    let asks_it : asked past 0 w.k ≡ Some (asks.Read x.sector x.count) = w.is ∙ ap (λ (y : Asked). Some y) x.is in
+    let to : IsReadTo x.count c (looks past 0 w.k) (seen past 0 w.k) = read_to x.sector x.count c (looks past 0 w.k) (acts past 0 w.k) (seen past 0 w.k) (synced past 0 w.k) (asked past 0 w.k) asks_it (good.holds.worked.progress w.k) in
+    let looked : looks past 0 w.k ≡ (c + 1) / 2 = to.under (omega (arith, x.at, x.within)) in
+    let before : length (seen past 0 w.k) ≡ 512 * x.place = omega (arith, to.long, looked, x.at) in
+    let now : seen past' 0 w.k ≡ seen past 0 w.k ++ read = seen_more past w.k s read in
     let long : length read ≡ 512 = good.holds.known.values s in
     let where_sector : sector_of w.request ≡ x.sector = ap sector_of x.is in
-    let held : made.sector ≡ read = made.looks v refl 0 x.next ∙ ap (λ (n : ℕ). v (n + 0)) where_sector ∙ disk s (omega (arith, x.low)) in
+    let held : made.sector ≡ read = made.looks v refl x.place x.next ∙ ap (λ (n : ℕ). v (n + x.place)) where_sector ∙ disk s (omega (arith, x.within, x.wide.fits)) in
     let keeps : Keeps past past' w.k = record { runs = refl; accepts = refl; publishes = refl; requests = refl; sees = λ j apart. seen_other past w.k s j read apart } in
+    let whole : slice_range (seen past' 0 w.k) (512 * x.place) (512 * x.place + 512) ≡ read = ap (λ (xs : List ℕ). slice_range xs (512 * x.place) (512 * x.place + 512)) now ∙ last_sector (seen past 0 w.k) read x.place before long in
     let put : (p : ℕ) → slice_get (task_steps h w.request) (c + 1) ≡ Some (Put p) → made.sector ≡ slice_range (seen past' 0 w.k) (512 * p) (512 * p + 512) = λ p next.
-    let steps : task_steps h w.request ≡ Look 0 ∷ Put 0 ∷ Status ∷ [] = ap (task_steps h) x.is ∙ read_steps h x.sector x.low in
-    let one : c + 1 ≡ 1 = omega (arith, x.first) in
-    let first : p ≡ 0 = put_first p (sym (ap (λ (ys : List TaskStep). slice_get ys (c + 1)) steps ∙ ap (slice_get (Look 0 ∷ Put 0 ∷ Status ∷ [])) one) ∙ next) in
-    let whole : slice_range (seen past' 0 w.k) (512 * 0) (512 * 0 + 512) ≡ seen past' 0 w.k = take_all 512 (seen past' 0 w.k) (omega (arith, long, ap length now)) in
-    held ∙ sym now ∙ sym whole ∙ ap (λ (n : ℕ). slice_range (seen past' 0 w.k) (512 * n) (512 * n + 512)) (sym first) in
-    let stands : StandsAfter h r m w.k (worked place goes.0 made.sector q) (asks.Read x.sector 1) (Look 0) = goes_on h sizes m r q place w past' goes.0 made.sector good a keeps goes.1 goes.2 put in
+    let same : p ≡ x.place = put_place p x.place (sym (step_follows h sizes m q place w (Look x.place) plain x.next).0.next ∙ next_put h w.request c p next) in
+    held ∙ sym whole ∙ ap (λ (n : ℕ). slice_range (seen past' 0 w.k) (512 * n) (512 * n + 512)) (sym same) in
+    let stands : LookStands h r m w.k (worked place goes.0 made.sector q) (Some s) = goes_on h sizes m r q place w past' goes.0 made.sector good a keeps goes.1 goes.2 put in
+    let found : look_at w.request x.place ≡ Some s = ap (λ (y : Asked). look_at y x.place) x.is ∙ look_is x.sector x.count x.place x.within in
     subst (λ (y : TaskStep). StandsAfter h r m w.k q' w.request y) (sym x.next)
-    (subst (λ (o : Asked). StandsAfter h r m w.k q' o (Look 0)) (sym x.is)
-    (subst (λ (t : QueueState). StandsAfter h r m w.k t (asks.Read x.sector 1) (Look 0)) (sym goes.3) stands))
+    (subst (λ (o : Option ℕ). LookStands h r m w.k q' o) (sym found)
+    (subst (λ (t : QueueState). LookStands h r m w.k t (Some s)) (sym goes.3) stands))
 
-no_put_read : (h : Header1) (request : Asked) (sector c p : ℕ) → sector < h.capacity → request ≡ asks.Read sector 1 → c ≡ 2 → slice_get (task_steps h request) c ≡ Some (Put p) → ⊥
-no_put_read h request sector c p low is at next =
-    let steps : task_steps h request ≡ Look 0 ∷ Put 0 ∷ Status ∷ [] = ap (task_steps h) is ∙ read_steps h sector low in
-    let both : Some Status ≡ Some (Put p) = sym (ap (λ (ys : List TaskStep). slice_get ys c) steps ∙ ap (slice_get (Look 0 ∷ Put 0 ∷ Status ∷ [])) at) ∙ next in
-    cc
+-- no store of what was read comes after these
+no_put : (end q : ℕ) (after : Option TaskStep) (p : ℕ) → Puts end q after → after ≡ Some (Put p) → ⊥
+no_put end q after p x next = elim (cases_lt (q + 1) end) [
+  | inl more ↦ (let both : Some (Look (q + 1)) ≡ Some (Put p) = sym (x.more more) ∙ next in cc)
+  | inr last ↦ (let both : Some Status ≡ Some (Put p) = sym (x.last (omega arith)) ∙ next in cc)
+]
 
-no_put_write : (h : Header1) (request : Asked) (sector c p : ℕ) (bytes : List ℕ) → h.mode ≡ Back → sector < h.capacity → length bytes ≡ 512 → request ≡ asks.Write sector bytes → c ≡ 1 → slice_get (task_steps h request) c ≡ Some (Put p) → ⊥
-no_put_write h request sector c p bytes back low long is at next =
-    let steps : task_steps h request ≡ Act 0 ∷ Status ∷ [] = ap (task_steps h) is ∙ write_steps h sector bytes back low long in
-    let both : Some Status ≡ Some (Put p) = sym (ap (λ (ys : List TaskStep). slice_get ys c) steps ∙ ap (slice_get (Act 0 ∷ Status ∷ [])) at) ∙ next in
-    cc
+no_put_act : (end q : ℕ) (after : Option TaskStep) (p : ℕ) → Acts end q after → after ≡ Some (Put p) → ⊥
+no_put_act end q after p x next = elim (cases_lt (q + 1) end) [
+  | inl more ↦ (let both : Some (Act (q + 1)) ≡ Some (Put p) = sym (x.more more) ∙ next in cc)
+  | inr last ↦ (let both : Some Status ≡ Some (Put p) = sym (x.last (omega arith)) ∙ next in cc)
+]
 
-put_stands : (h : Header1) (sizes : ℕ → ℕ) (m : Moment) (r : SplitRing) (q q' : QueueState) (place : ℕ) (v : Values) (w : WorkReady h sizes m q place) (x : IsPut h w.request ((m.lanes 0).made w.k) w.step) → Good h m → QueueStands h r m q
+no_put_sync : (after : Option TaskStep) (p : ℕ) → after ≡ Some Status → after ≡ Some (Put p) → ⊥
+no_put_sync after p x next = let both : Some Status ≡ Some (Put p) = sym x ∙ next in cc
+
+put_stands : (h : Header1) (sizes : ℕ → ℕ) (m : Moment) (r : SplitRing) (q q' : QueueState) (place : ℕ) (v : Values) (w : WorkReady h sizes m q place) (x : IsPut h w.request ((m.lanes 0).made w.k) w.step) → IsPlain h → Good h m → QueueStands h r m q
     → HasWorked (Some v) place w.task (making w) q q' → StandsAfter h r m w.k q' w.request w.step
-put_stands h sizes m r q q' place v w x good a made =
-    let goes : Advances place w.task (making w) made.sector (Put 0) q q' = subst (λ (y : TaskStep). Advances place w.task (making w) made.sector y q q') x.next made.state in
+put_stands h sizes m r q q' place v w x plain good a made =
+    let goes : Advances place w.task (making w) made.sector (Put x.place) q q' = subst (λ (y : TaskStep). Advances place w.task (making w) made.sector y q q') x.next made.state in
     let keeps : Keeps m.scene.past m.scene.past w.k = record { runs = refl; accepts = refl; publishes = refl; requests = refl; sees = λ j apart. refl } in
-    let stands : StandsAfter h r m w.k (worked place goes.0 made.sector q) w.request (Put 0) =
-    goes_on h sizes m r q place w m.scene.past goes.0 made.sector good a keeps goes.1 goes.2 (λ p next. absurd (no_put_read h w.request x.sector ((m.lanes 0).made w.k + 1) p x.low x.is (omega (arith, x.second)) next)) in
-    subst (λ (y : TaskStep). StandsAfter h r m w.k q' w.request y) (sym x.next) (subst (λ (t : QueueState). StandsAfter h r m w.k t w.request (Put 0)) (sym goes.3) stands)
+    let stands : StandsAfter h r m w.k (worked place goes.0 made.sector q) w.request (Put x.place) =
+    goes_on h sizes m r q place w m.scene.past goes.0 made.sector good a keeps goes.1 goes.2 (λ p next. absurd (no_put _ x.place _ p (step_follows h sizes m q place w (Put x.place) plain x.next) (next_put h w.request ((m.lanes 0).made w.k) p next))) in
+    subst (λ (y : TaskStep). StandsAfter h r m w.k q' w.request y) (sym x.next) (subst (λ (t : QueueState). StandsAfter h r m w.k t w.request (Put x.place)) (sym goes.3) stands)
 
 -- where the queue stands after an act, if any
 abbrev ActStands : Header1 → SplitRing → Moment → ℕ → QueueState → Option SectorValue → Type 0
@@ -318,8 +347,8 @@ ActStands h r m k q o =
 act_stands : (h : Header1) (sizes : ℕ → ℕ) (m : Moment) (r : SplitRing) (q q' : QueueState) (place : ℕ) (v : Values) (w : WorkReady h sizes m q place) (x : IsAct h w.request ((m.lanes 0).made w.k) w.step) → IsPlain h → Good h m → QueueStands h r m q
     → HasWorked (Some v) place w.task (making w) q q' → StandsAfter h r m w.k q' w.request w.step
 act_stands h sizes m r q q' place v w x plain good a made =
-    let goes : Advances place w.task (making w) made.sector (Act 0) q q' = subst (λ (y : TaskStep). Advances place w.task (making w) made.sector y q q') x.next made.state in
-    let none : (p : ℕ) → slice_get (task_steps h w.request) ((m.lanes 0).made w.k + 1) ≡ Some (Put p) → ⊥ = λ p next. no_put_write h w.request x.sector ((m.lanes 0).made w.k + 1) p x.bytes plain.back x.low x.long x.is (omega (arith, x.first)) next in
+    let goes : Advances place w.task (making w) made.sector (Act x.place) q q' = subst (λ (y : TaskStep). Advances place w.task (making w) made.sector y q q') x.next made.state in
+    let none : (p : ℕ) → slice_get (task_steps h w.request) ((m.lanes 0).made w.k + 1) ≡ Some (Put p) → ⊥ = λ p next. no_put_act _ x.place _ p (step_follows h sizes m q place w (Act x.place) plain x.next).0 (next_put h w.request ((m.lanes 0).made w.k) p next) in
     let each : (o : Option SectorValue) → ActStands h r m w.k (worked place goes.0 made.sector q) o = elim [
       | None ↦
           let keeps : Keeps m.scene.past m.scene.past w.k = record { runs = refl; accepts = refl; publishes = refl; requests = refl; sees = λ j apart. refl } in
@@ -329,7 +358,17 @@ act_stands h sizes m r q q' place v w x plain good a made =
           let keeps : Keeps m.scene.past past' w.k = record { runs = refl; accepts = refl; publishes = refl; requests = refl; sees = λ j apart. refl } in
           goes_on h sizes m r q place w past' goes.0 made.sector good a keeps goes.1 goes.2 (λ p next. absurd (none p next))
     ] in
-    subst (λ (y : TaskStep). StandsAfter h r m w.k q' w.request y) (sym x.next) (subst (λ (t : QueueState). ActStands h r m w.k t (effect_at w.request 0)) (sym goes.3) (each (effect_at w.request 0)))
+    subst (λ (y : TaskStep). StandsAfter h r m w.k q' w.request y) (sym x.next) (subst (λ (t : QueueState). ActStands h r m w.k t (effect_at w.request x.place)) (sym goes.3) (each (effect_at w.request x.place)))
+
+sync_stands : (h : Header1) (sizes : ℕ → ℕ) (m : Moment) (r : SplitRing) (q q' : QueueState) (place : ℕ) (v : Values) (w : WorkReady h sizes m q place) (x : IsSync h w.request ((m.lanes 0).made w.k) w.step) → IsPlain h → Good h m → QueueStands h r m q
+    → HasWorked (Some v) place w.task (making w) q q' → StandsAfter h r m w.k q' w.request w.step
+sync_stands h sizes m r q q' place v w x plain good a made =
+    let goes : Advances place w.task (making w) made.sector Sync q q' = subst (λ (y : TaskStep). Advances place w.task (making w) made.sector y q q') x.next made.state in
+    let past' : List Entry = entries.Sync 0 w.k ∷ m.scene.past in
+    let keeps : Keeps m.scene.past past' w.k = record { runs = refl; accepts = refl; publishes = refl; requests = refl; sees = λ j apart. refl } in
+    let stands : StandsAfter h r m w.k (worked place goes.0 made.sector q) w.request Sync =
+    goes_on h sizes m r q place w past' goes.0 made.sector good a keeps goes.1 goes.2 (λ p next. absurd (no_put_sync _ p (step_follows h sizes m q place w Sync plain x.next) (next_put h w.request ((m.lanes 0).made w.k) p next))) in
+    subst (λ (y : TaskStep). StandsAfter h r m w.k q' w.request y) (sym x.next) (subst (λ (t : QueueState). StandsAfter h r m w.k t w.request Sync) (sym goes.3) stands)
 
 last_stands : (h : Header1) (sizes : ℕ → ℕ) (m : Moment) (r : SplitRing) (q q' : QueueState) (place : ℕ) (v : Values) (w : WorkReady h sizes m q place) → w.step ≡ Status → Good h m → QueueStands h r m q
     → HasWorked (Some v) place w.task (making w) q q' → StandsAfter h r m w.k q' w.request w.step
@@ -340,10 +379,11 @@ last_stands h sizes m r q q' place v w last good a made =
 
 step_stands : (h : Header1) (sizes : ℕ → ℕ) (m : Moment) (r : SplitRing) (q q' : QueueState) (place : ℕ) (v : Values) (w : WorkReady h sizes m q place) → IsPlain h → Good h m → QueueStands h r m q → DiskAt h.capacity m.scene.past v
     → HasWorked (Some v) place w.task (making w) q q' → Kind h w.request ((m.lanes 0).made w.k) w.step → StandsAfter h r m w.k q' w.request w.step
-step_stands h sizes m r q q' place v w plain good a disk made (inl x) = look_stands h sizes m r q q' place v w x good a disk made
-step_stands h sizes m r q q' place v w plain good a disk made (inr (inl x)) = put_stands h sizes m r q q' place v w x good a made
+step_stands h sizes m r q q' place v w plain good a disk made (inl x) = look_stands h sizes m r q q' place v w x plain good a disk made
+step_stands h sizes m r q q' place v w plain good a disk made (inr (inl x)) = put_stands h sizes m r q q' place v w x plain good a made
 step_stands h sizes m r q q' place v w plain good a disk made (inr (inr (inl x))) = act_stands h sizes m r q q' place v w x plain good a made
-step_stands h sizes m r q q' place v w plain good a disk made (inr (inr (inr x))) = last_stands h sizes m r q q' place v w x.next good a made
+step_stands h sizes m r q q' place v w plain good a disk made (inr (inr (inr (inl x)))) = sync_stands h sizes m r q q' place v w x plain good a made
+step_stands h sizes m r q q' place v w plain good a disk made (inr (inr (inr (inr x)))) = last_stands h sizes m r q q' place v w x.next good a made
 
 -- where the queue stands after a turn of work
 pub work_stands : (h : Header1) (sizes : ℕ → ℕ) (m : Moment) (r : SplitRing) (q q' : QueueState) (place : ℕ) (v : Values) (w : WorkReady h sizes m q place) → IsPlain h → Good h m → QueueStands h r m q → DiskAt h.capacity m.scene.past v

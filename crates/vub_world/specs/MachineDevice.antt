@@ -184,6 +184,6 @@ abbrev pub is_joining : Option Life → Bool
 is_joining None = false
 is_joining (Some l) = not (has_queue l.queue)
 
--- each head of a batch has a buffer, and its request reads one sector at most
+-- each head of a batch has a buffer, and its request reads eight sectors at most
 abbrev pub BatchFits : Log → List (ℕ × ℕ) → Type 0
-BatchFits log batch = (i : ℕ) (x : ℕ × ℕ) → slice_get batch i ≡ Some x → (x.0 < 64) × ((slot_in log x.0).reads ≤ 1)
+BatchFits log batch = (i : ℕ) (x : ℕ × ℕ) → slice_get batch i ≡ Some x → (x.0 < 64) × ((slot_in log x.0).reads ≤ 8)

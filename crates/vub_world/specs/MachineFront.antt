@@ -1,8 +1,6 @@
 -- What a step of the driver leaves in the machine, and which items it notes.
 use Rattle.std.specs.Prelude.{◌≡◌, ◌<◌, ◌≤◌, ℕ, Bool, false, nat_lt, List, [], ◌∷◌, ◌++◌, length, Option, Some, None, ⊤}
 use Rattle.std.specs.List.{AllByRecursion}
-use Rattle.vub_base.specs.declared.request.Ask.{Ask}
-use Rattle.vub_base.specs.declared.request.Ask.TheVariants as asks
 use Rattle.vub_base.specs.declared.store.Tag.{Tag}
 use Rattle.vub_base.specs.declared.store.Area.TheVariants.{M}
 use Rattle.vub_shared.specs.Stores.{Store}
@@ -19,25 +17,19 @@ use Rattle.vub_world.specs.Moments.{Moment}
 use Rattle.vub_world.specs.Run.{guest_stores}
 use Rattle.vub_world.specs.MachineAt.{AskAt, FrontAt}
 
--- a store into guest memory of one sector at most
+-- a store into guest memory of eight sectors at most
 pub record IsSmall (st : Store) : Type 0 where
   pub space : st.space ≡ 0
-  pub few : length st.bytes ≤ 512
+  pub few : length st.bytes ≤ 4096
 
 abbrev pub AreSmall : Option Waiting → Type 0
 AreSmall None = ⊤
 AreSmall (Some w) = AllByRecursion IsSmall w.left
 
--- a write of one sector, if it is one
-abbrev pub AskFits : Option Ask → Type 0
-AskFits (Some (asks.Write s fills)) = length fills.items ≡ 1
-AskFits a = ⊤
-
 -- the request that waits is kept, and all that is noted of it has room
 pub record FrontFits (w : Machine) : Type 0 where
   pub stores : AreSmall (driver_in w.guest).waiting
   pub kept : AskAt (driver_in w.guest).waiting w.asked
-  pub ask : AskFits w.asked
 
 abbrev pub store_item : Tag → Store → Item
 store_item tag st = items.Store tag M st.place st.bytes

@@ -62,7 +62,7 @@ pub record SpendsStep (shown : ℕ) (r now : RoomState) : Type 0 where
 
 -- there is room for a drain: for two items and a list of each turn, and for the answers
 pub record HasDrainRoom (undone : ℕ) (r : RoomState) : Type 0 where
-  pub items : 14 * undone + 6 ≤ r.item_room
-  pub lists : 8 * undone + 3 ≤ r.lists
+  pub items : 42 * undone + 6 ≤ r.item_room
+  pub lists : 22 * undone + 3 ≤ r.lists
   pub answer_lists : undone + 1 ≤ r.answer_lists
   pub answers : undone ≤ r.answers

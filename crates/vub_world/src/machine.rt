@@ -3,7 +3,6 @@ ghost use Rattle.std.specs.Prelude.{◌≡◌, ◌<◌, ◌≤◌, ◌+◌, ◌-
 ghost use Rattle.vub_shared.specs.Watched.{bytes_in, stores_in, sizes_in};
 ghost use Rattle.vub_driver.specs.Layout.{ring_of as main_ring};
 ghost use Rattle.vub_schedule.specs.Spelling.{IsHeader, IsEvent};
-ghost use Rattle.vub_world.specs.MachineFront.{AskFits};
 ghost use Rattle.vub_world.specs.Rooms.{SpendsLists};
 ghost use Rattle.vub_world.specs.Run.{request_of};
 
@@ -11,7 +10,7 @@ use crate::drain::next_turn;
 use crate::log::Log;
 use crate::queue::{Queue, QueueSetup, Stepped};
 use crate::report::{Item, Items, Record};
-use crate::room::Room;
+use crate::room::{Room, Spare};
 use std::alloc::Global;
 use vub_base::{Area, Ask, Header1, Memory, Shape, Space, Tag};
 use vub_device::{AnswerList, Answered, Asked, Entry, NumberList};
@@ -47,12 +46,12 @@ pub struct Machine {
     disk: MemDisk,
     log: Log,
     last: Record,
+    spare: Spare,
 }
 
 /// A request as the history has it.
 fn asked_of(ask: Ask, room: &mut Room) -> Asked
-    requires fits { AskFits (Some ask) }
-    requires lists { 1 ≤ room.old.lists }
+    requires { 1 ≤ room.old.lists }
     ensures asked { result ≡ request_of ask }
     ensures room { SpendsLists 1 room.old room.new }
 {
@@ -60,7 +59,7 @@ fn asked_of(ask: Ask, room: &mut Room) -> Asked
         Ask::Read { sector, count } => Asked::Read { sector, count },
         Ask::Write { sector, fills } => Asked::Write {
             sector,
-            bytes: room.filled(fills[0]),
+            bytes: room.filled(&fills),
         },
         Ask::Flush => Asked::Flush,
         Ask::Id => Asked::Id,
@@ -129,6 +128,7 @@ impl Machine {
                 event: Event::Boot,
                 items: Items::new(Vec::new(alloc)),
             },
+            spare: Spare::new(alloc),
         })
     }
 
@@ -152,7 +152,7 @@ impl Machine {
     fn idle(&self) -> Result<Items, Memory>
         ensures { IfOk result (λ is. is ≡ items.Idle ∷ []) }
     {
-        let mut room = Room::new(self.alloc, 1, 0, 0, 0)?;
+        let mut room = Room::of_items(self.alloc, 1)?;
         room.note(Item::Idle);
         Ok(room.into_items())
     }
@@ -202,7 +202,6 @@ impl Machine {
     /// Notes that the waiting request is offered.
     fn note_offer(&mut self, room: &mut Room)
         requires sound { IsSound self.old }
-        requires fits { AskFits self.old.asked }
         requires items { 1 ≤ room.old.item_room }
         requires lists { 1 ≤ room.old.lists }
         ensures frame { self.new ≡ record self.old { asked = None; log = self.new.log } }
@@ -295,9 +294,9 @@ impl Machine {
         }
         let most = stores.min(MOST_STORES);
         let noted = usize::from(most) + 1;
-        let mut room = Room::new(self.alloc, noted, noted, 0, 0)?;
+        let mut room = Room::new(self.alloc, &mut self.spare, noted, noted, 0, 0)?;
         self.guest_stores(most, &mut room);
-        Ok(room.into_items())
+        Ok(room.finish(&mut self.spare))
     }
 
     fn ask(&mut self, shape: Shape, ask: &Ask) -> Result<Items, Memory>
@@ -337,7 +336,7 @@ impl Machine {
         ensures kept { OnErr result (self.new ≡ self.old) }
         ensures performs { IfOk result (λ is. Performs self.old self.new (events.Collect 0) is) }
     {
-        let mut room = Room::new(self.alloc, 1, 0, 0, 0)?;
+        let mut room = Room::of_items(self.alloc, 1)?;
         match self.take_element() {
             Collected::Nothing | Collected::Failed => room.note(Item::Idle),
             Collected::Head(head) => {
@@ -396,7 +395,7 @@ impl Machine {
     fn answer(&self, head: u16, room: &mut Room) -> Answered
         requires sound { IsSound self.now }
         requires fits { head < 64 }
-        requires few { (slot_in self.now.log head).reads ≤ 1 }
+        requires few { (slot_in self.now.log head).reads ≤ 8 }
         requires lists { 1 ≤ room.old.lists }
         ensures answer { result ≡ answer_for (slot_in self.now.log head) (bytes_in self.now.memory) head }
         ensures room { SpendsLists 1 room.old room.new }
@@ -577,20 +576,21 @@ impl Machine {
         ensures kept { OnErr result (self.new ≡ self.old) }
         ensures performs { IfOk result (λ is. Performs self.old self.new (events.Drain 0) is) }
     {
-        // At most seven turns are left for each of these requests, and two besides. A turn has two
+        // At most 21 turns are left for each of these requests, and two besides. A turn has two
         // items at most and one list of bytes; each answer takes a list more.
         let undone = self.log.outstanding().min(64) as usize;
         let mut room = Room::new(
             self.alloc,
-            14 * undone + 6,
-            8 * undone + 3,
+            &mut self.spare,
+            42 * undone + 6,
+            22 * undone + 3,
             undone + 1,
             undone,
         )?;
         if !self.drain_steps(&mut room) {
             room.note(Item::Idle);
         }
-        Ok(room.into_items())
+        Ok(room.finish(&mut self.spare))
     }
 
     fn items_of(&mut self, event: &Event) -> Result<Items, Memory>

@@ -4,20 +4,60 @@ ghost use Rattle.std.specs.Prelude.{◌≡◌, ◌<◌, ◌≤◌, ◌+◌, ◌-
 use crate::report::{Item, Items};
 use std::alloc::Global;
 use std::marker::Model;
+use std::mem;
 use vub_base::{Bytes, Memory};
 use vub_device::Answered;
 
-/// The bytes that a list has room for: a sector.
-const LIST: usize = 512;
+/// The bytes that a list has room for: eight sectors.
+const LIST: usize = 4096;
 
-/// Items so far, with room for so many more, for so many lists of bytes of a sector, and for so
+/// Memory that is kept from one event for the next. Contracts see nothing of it.
+#[derive(Drop)]
+pub struct Spare {
+    // Each empty, with room for eight sectors.
+    lists: Vec<Vec<u8>>,
+}
+
+impl Model for Spare {
+    ghost use Rattle.std.specs.Prelude.{◌≡◌, ◌≤◌, [], All, vec_capacity, ⊤};
+
+    ghost Value = { ⊤ };
+
+    ghost view = { λ _. tt };
+
+    ghost invariant = { λ s. All (λ l. (l.items ≡ []) × (4096 ≤ vec_capacity l)) s.lists.items };
+}
+
+impl Spare {
+    /// No memory.
+    pub fn new(alloc: Global) -> Spare {
+        Spare {
+            lists: Vec::new(alloc),
+        }
+    }
+
+    /// At least so many lists of bytes.
+    fn take(&mut self, alloc: Global, count: usize) -> Result<Vec<Vec<u8>>, Memory>
+        ensures count { IfOk result (λ v. count ≤ length v.items) }
+        ensures room { IfOk result (λ v. All (λ l. (l.items ≡ []) × (4096 ≤ vec_capacity l)) v.items) }
+    {
+        let mut lists = mem::replace(&mut self.lists, Vec::new(alloc));
+        for _made in lists.len()..count {
+            add_list(alloc, &mut lists)?;
+        }
+        Ok(lists)
+    }
+}
+
+/// Items so far, with room for so many more, for so many lists of bytes of eight sectors, and for so
 /// many lists of answers.
 #[derive(Drop)]
 pub struct Room {
     items: Vec<Item>,
     item_room: usize,
-    // Each empty, with room for a sector.
+    // Each empty, with room for eight sectors; there may be more than may be used.
     lists: Vec<Vec<u8>>,
+    list_room: usize,
     // Each empty, with room for so many answers.
     answer_lists: Vec<Vec<Answered>>,
     answers: usize,
@@ -29,27 +69,15 @@ impl Model for Room {
 
     ghost Value = { RoomState };
 
-    ghost view = { λ r. record { items = r.items.items; item_room = r.item_room; lists = length r.lists.items; answer_lists = length r.answer_lists.items; answers = r.answers } };
+    ghost view = { λ r. record { items = r.items.items; item_room = r.item_room; lists = r.list_room; answer_lists = length r.answer_lists.items; answers = r.answers } };
 
-    ghost invariant = { λ r. (vec_len r.items + r.item_room ≤ vec_capacity r.items) × All (λ l. (l.items ≡ []) × (512 ≤ vec_capacity l)) r.lists.items × All (λ l. (l.items ≡ []) × (r.answers ≤ vec_capacity l)) r.answer_lists.items };
-}
-
-/// So many lists of bytes.
-fn byte_lists(alloc: Global, count: usize) -> Result<Vec<Vec<u8>>, Memory>
-    ensures count { IfOk result (λ v. length v.items ≡ count) }
-    ensures room { IfOk result (λ v. All (λ l. (l.items ≡ []) × (512 ≤ vec_capacity l)) v.items) }
-{
-    let mut lists = Vec::with_capacity(alloc, count).map_err(|_| Memory)?;
-    for _made in 0..count {
-        add_list(alloc, &mut lists)?;
-    }
-    Ok(lists)
+    ghost invariant = { λ r. (vec_len r.items + r.item_room ≤ vec_capacity r.items) × (r.list_room ≤ length r.lists.items) × All (λ l. (l.items ≡ []) × (4096 ≤ vec_capacity l)) r.lists.items × All (λ l. (l.items ≡ []) × (r.answers ≤ vec_capacity l)) r.answer_lists.items };
 }
 
 fn add_list(alloc: Global, lists: &mut Vec<Vec<u8>>) -> Result<(), Memory>
-    requires { All (λ l. (l.items ≡ []) × (512 ≤ vec_capacity l)) lists.old.items }
+    requires { All (λ l. (l.items ≡ []) × (4096 ≤ vec_capacity l)) lists.old.items }
     ensures count { OnOk result (length lists.new.items ≡ length lists.old.items + 1) }
-    ensures room { OnOk result (All (λ l. (l.items ≡ []) × (512 ≤ vec_capacity l)) lists.new.items) }
+    ensures room { OnOk result (All (λ l. (l.items ≡ []) × (4096 ≤ vec_capacity l)) lists.new.items) }
 {
     let list = Vec::with_capacity(alloc, LIST).map_err(|_| Memory)?;
     lists.push(list).map_err(|_| Memory)?;
@@ -83,9 +111,10 @@ fn add_answer_list(
 }
 
 impl Room {
-    /// Room for so many items, lists of bytes, and lists of so many answers.
+    /// Room for so many items, lists of bytes, and lists of so many answers. It takes what is spare.
     pub fn new(
         alloc: Global,
+        spare: &mut Spare,
         items: usize,
         lists: usize,
         answer_lists: usize,
@@ -96,29 +125,45 @@ impl Room {
         Ok(Room {
             items: Vec::with_capacity(alloc, items).map_err(|_| Memory)?,
             item_room: items,
-            lists: byte_lists(alloc, lists)?,
+            lists: spare.take(alloc, lists)?,
+            list_room: lists,
             answer_lists: self::answer_lists(alloc, answer_lists, answers)?,
             answers,
         })
     }
 
-    /// A list of bytes that has room for a sector.
+    /// Room for so many items that have no bytes.
+    pub fn of_items(alloc: Global, items: usize) -> Result<Room, Memory>
+        ensures { IfOk result (λ r. r ≡ record { items = []; item_room = items; lists = 0; answer_lists = 0; answers = 0 }) }
+    {
+        Ok(Room {
+            items: Vec::with_capacity(alloc, items).map_err(|_| Memory)?,
+            item_room: items,
+            lists: Vec::new(alloc),
+            list_room: 0,
+            answer_lists: Vec::new(alloc),
+            answers: 0,
+        })
+    }
+
+    /// A list of bytes that has room for eight sectors.
     fn list(&mut self) -> Vec<u8>
         requires { 1 ≤ self.old.lists }
         ensures empty { result.items ≡ [] }
-        ensures room { 512 ≤ vec_capacity result }
+        ensures room { 4096 ≤ vec_capacity result }
         ensures spent { self.new ≡ record self.old { lists = self.old.lists - 1 } }
     {
+        self.list_room -= 1;
         match self.lists.pop() {
             Some(list) => list,
             None => unreachable!(),
         }
     }
 
-    /// The same bytes, of a sector at most. Takes no memory.
+    /// The same bytes, of eight sectors at most. Takes no memory.
     pub fn copy(&mut self, bytes: &[u8]) -> Bytes
         requires some { 1 ≤ self.old.lists }
-        requires few { length bytes.now ≤ 512 }
+        requires few { length bytes.now ≤ 4096 }
         ensures bytes { result ≡ bytes.now }
         ensures spent { self.new ≡ record self.old { lists = self.old.lists - 1 } }
     {
@@ -127,13 +172,18 @@ impl Room {
         Bytes::new(list)
     }
 
-    /// A sector of this byte. Takes no memory.
-    pub fn filled(&mut self, fill: u8) -> Bytes
-        requires { 1 ≤ self.old.lists }
-        ensures bytes { result ≡ replicate 512 fill }
+    /// A sector for each of these bytes, filled with it. Takes no memory.
+    pub fn filled(&mut self, fills: &[u8]) -> Bytes
+        requires lists { 1 ≤ self.old.lists }
+        requires few { length fills.now ≤ 8 }
+        ensures bytes { result ≡ flat_map (λ b. replicate 512 b) fills.now }
         ensures spent { self.new ≡ record self.old { lists = self.old.lists - 1 } }
     {
-        self.copy(&[fill; 512])
+        let mut list = self.list();
+        for fill in fills {
+            append(&mut list, &[*fill; 512]);
+        }
+        Bytes::new(list)
     }
 
     /// A list of answers that is empty.
@@ -164,12 +214,21 @@ impl Room {
     {
         Items::new(self.items)
     }
+
+    /// The same, and what is left is spare.
+    pub fn finish(self, spare: &mut Spare) -> Items
+        ensures { result ≡ self.items }
+    {
+        spare.lists = self.lists;
+        Items::new(self.items)
+    }
 }
 
 /// Appends bytes for which there is room.
 fn append(list: &mut Vec<u8>, bytes: &[u8])
     requires { vec_len list.old + length bytes.now ≤ vec_capacity list.old }
-    ensures { list.new.items ≡ list.old.items ++ bytes.now }
+    ensures items { list.new.items ≡ list.old.items ++ bytes.now }
+    ensures room { vec_capacity list.old ≤ vec_capacity list.new }
 {
     if list.extend_from_slice(bytes).is_err() {
         unreachable!();

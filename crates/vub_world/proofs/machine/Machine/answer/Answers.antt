@@ -7,7 +7,7 @@ use Rattle.vub_world.proofs.machine.Machine.answer.Goals.{then-status-eq0, else-
 
 pub copy-requires-clause-few : goal.copy-requires-clause-few
 copy-requires-clause-few c =
-    let reads : c.at-outstanding.result.reads ≤ 1 = subst (λ (o : Outstanding). o.reads ≤ 1) (sym c.at-outstanding.ensures) c.requires.few in
-    let few : c.if-status-eq0.read ≤ 512 = elim c.if-status-eq0.branch [ then-status-eq0 w ↦ omega (arith, w.read-is, w.from.ensures, reads) | else-status-eq0 w ↦ omega (arith, w.read-is) ] in
+    let reads : c.at-outstanding.result.reads ≤ 8 = subst (λ (o : Outstanding). o.reads ≤ 8) (sym c.at-outstanding.ensures) c.requires.few in
+    let few : c.if-status-eq0.read ≤ 4096 = elim c.if-status-eq0.branch [ then-status-eq0 w ↦ omega (arith, w.read-is, w.from.ensures, reads) | else-status-eq0 w ↦ omega (arith, w.read-is) ] in
     let long : length c.bytes-bytes.result.now ≡ c.if-status-eq0.read = ap (λ (xs : List ℕ). length xs) c.bytes-bytes.ensures ∙ length-bytes_from c.if-status-eq0.read (bytes_in c.args.self.now.memory) _ _ in
     omega (arith, few, long)

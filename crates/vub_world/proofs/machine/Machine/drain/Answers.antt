@@ -31,9 +31,9 @@ returns-clause-performs c es rs m stands at =
     let after = c.drain_steps.new.room.items in
     elim c.if-not-drain_steps.branch [
       | then-not-drain_steps w' ↦
-          drain_idle w now m after c.into_items.result (subst (λ (b : Bool). DrainGoes b w now m [] after) w'.if-not-drain_steps.true (subst (λ (xs : List Item). DrainGoes c.drain_steps.result w now m xs after) start goes))
-          (c.into_items.ensures ∙ ap (λ (r : RoomState). r.items) (w'.room-is ∙ w'.note.ensures))
+          drain_idle w now m after c.finish.result (subst (λ (b : Bool). DrainGoes b w now m [] after) w'.if-not-drain_steps.true (subst (λ (xs : List Item). DrainGoes c.drain_steps.result w now m xs after) start goes))
+          (c.finish.ensures ∙ ap (λ (r : RoomState). r.items) (w'.room-is ∙ w'.note.ensures))
       | else-not-drain_steps w' ↦
-          drain_made w now m after c.into_items.result (subst (λ (b : Bool). DrainGoes b w now m [] after) w'.if-not-drain_steps.false (subst (λ (xs : List Item). DrainGoes c.drain_steps.result w now m xs after) start goes))
-          (c.into_items.ensures ∙ ap (λ (r : RoomState). r.items) w'.room-is)
+          drain_made w now m after c.finish.result (subst (λ (b : Bool). DrainGoes b w now m [] after) w'.if-not-drain_steps.false (subst (λ (xs : List Item). DrainGoes c.drain_steps.result w now m xs after) start goes))
+          (c.finish.ensures ∙ ap (λ (r : RoomState). r.items) w'.room-is)
     ]

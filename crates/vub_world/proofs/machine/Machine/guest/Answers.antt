@@ -28,7 +28,7 @@ returns-clause-performs c sixteen es rs m s at = go (m.lanes 0).driver.waiting r
     now = c.guest_stores.new.self
 
     is : List Item
-    is = c.into_items.result
+    is = c.finish.result
 
     go : (o : Option Waiting) → (m.lanes 0).driver.waiting ≡ o → (next : Moment) × (played is next ≡ guest w.header 0 c.args.stores m) × MachineAt now next
     go None e =
@@ -39,7 +39,7 @@ returns-clause-performs c sixteen es rs m s at = go (m.lanes 0).driver.waiting r
         let goes = c.guest_stores.ensures.goes m x at.front e in
         let begins : c.in_ok-room.room.items ≡ [] = ap (λ r. r.items) c.in_ok-room.ensures in
         let eight : c.min-most.result ≡ 8 = omega (arith, sixteen, c.min-most.ensures) in
-        let all : GuestGoes 8 x w now m [] is = subst (λ (js : List Item). GuestGoes 8 x w now m [] js) (sym c.into_items.ensures)
+        let all : GuestGoes 8 x w now m [] is = subst (λ (js : List Item). GuestGoes 8 x w now m [] js) (sym c.finish.ensures)
         (subst (λ (js : List Item). GuestGoes 8 x w now m js c.guest_stores.new.room.items) begins (subst (λ (k : ℕ). GuestGoes k x w now m c.in_ok-room.room.items c.guest_stores.new.room.items) eight goes)) in
         let waits : (driver_in w.guest).waiting ≡ Some x = ap (λ (v : Driver). v.waiting) at.front.driver ∙ e in
         let here : GuestGoes 16 x w now m [] is = all_gone 8 16 x w now m [] is (left_few w.guest x waits) (omega arith) all in

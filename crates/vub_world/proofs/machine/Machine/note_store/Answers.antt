@@ -12,7 +12,7 @@ pub copy-bytes-requires-clause-few : goal.copy-bytes-requires-clause-few
 copy-bytes-requires-clause-few c =
     let one = one_of (stores_in c.args.self.now.memory) c.requires.one in
     let same : one_store c.in-Some.space.number c.in-Some.place c.in-Some.bytes.now ≡ one.st = c.in-Some.ensures.last [] one.st one.is in
-    subst (λ (st : Store). length st.bytes ≤ 512) (sym same) one.small.few
+    subst (λ (st : Store). length st.bytes ≤ 4096) (sym same) one.small.few
 
 pub returns-after-eq-clause-items : goal.returns-after-eq-clause-items
 returns-after-eq-clause-items c =
