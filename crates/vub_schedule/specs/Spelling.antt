@@ -1,5 +1,5 @@
 -- The text of a schedule, and which schedules are of the grammar.
-use Rattle.std.specs.Prelude.{◌≡◌, ℕ, ◌<◌, ◌≤◌, ◌/◌, ◌%◌, true, false, Bool, ◌==◌, ◌||◌, List, [], ◌∷◌, ◌++◌, length, codes}
+use Rattle.std.specs.Prelude.{◌≡◌, ℕ, ◌+◌, ◌<◌, ◌≤◌, ◌/◌, ◌%◌, true, false, Bool, ◌==◌, ◌||◌, List, [], ◌∷◌, ◌++◌, length, codes}
 use Rattle.std.specs.List.{flat_map, AllByRecursion}
 use Rattle.std.specs.Fmt.{decimal, digit_glyph}
 use Rattle.vub_base.specs.declared.header.Format.{Format}
@@ -81,6 +81,11 @@ event_text (events.Guest q k) = codes "guest " ++ decimal q ++ codes " " ++ deci
 event_text (events.Collect q) = codes "collect " ++ decimal q
 event_text events.Boot = codes "boot"
 event_text events.Join = codes "join"
+event_text (events.Start q) = codes "start " ++ decimal q
+event_text (events.Fetch q) = codes "fetch " ++ decimal q
+event_text (events.Work q j) = codes "work " ++ decimal q ++ codes " " ++ decimal j
+event_text (events.Publish q m) = codes "publish " ++ decimal q ++ codes " " ++ decimal m
+event_text (events.Turn q k) = codes "turn " ++ decimal q ++ codes " " ++ decimal k
 event_text (events.Drain q) = codes "drain " ++ decimal q
 
 unfoldable pub event_line : Event → List ℕ
@@ -106,22 +111,28 @@ pub record IsHeader (h : Header1) : Type 0 where
   pub begins : h.base ≡ 0
   pub back : h.mode ≡ Back
 
--- reads and writes of one sector of the disk
+-- reads and writes of one to eight sectors up to the end of the disk, and flushes
 abbrev pub IsAsk : Header1 → Ask → Type 0
-IsAsk h (Read s n) = (s < h.capacity) × (n ≡ 1)
-IsAsk h (Write s fills) = (s < h.capacity) × (length fills.items ≡ 1) × AllByRecursion (λ b. b < 256) fills.items
-IsAsk h Flush = ⊥
+IsAsk h (Read s n) = (s + n ≤ h.capacity) × (1 ≤ n) × (n ≤ 8)
+IsAsk h (Write s fills) = (s + length fills.items ≤ h.capacity) × (1 ≤ length fills.items) × (length fills.items ≤ 8) × AllByRecursion (λ b. b < 256) fills.items
+IsAsk h Flush = Unit {0}
 IsAsk h Id = ⊥
 IsAsk h (Discard parts) = ⊥
 IsAsk h (Zero parts) = ⊥
 
--- on queue 0, with requests placed in the ring and the driver's stores by up to 16
+-- on queue 0, with requests placed in the ring: 1 to 65535 stores of the driver, work in the places 0 to 63, batches of
+-- 1 to 64, and 1 to 65535 turns
 abbrev pub IsEvent : Header1 → Event → Type 0
 IsEvent h (events.Ask q shape ask) = (q ≡ 0) × (shape ≡ Direct) × IsAsk h ask
-IsEvent h (events.Guest q k) = (q ≡ 0) × (k ≡ 16)
+IsEvent h (events.Guest q k) = (q ≡ 0) × (1 ≤ k) × (k < 65536)
 IsEvent h (events.Collect q) = q ≡ 0
 IsEvent h events.Boot = Unit {0}
 IsEvent h events.Join = Unit {0}
+IsEvent h (events.Start q) = q ≡ 0
+IsEvent h (events.Fetch q) = q ≡ 0
+IsEvent h (events.Work q j) = (q ≡ 0) × (j < 64)
+IsEvent h (events.Publish q m) = (q ≡ 0) × (1 ≤ m) × (m ≤ 64)
+IsEvent h (events.Turn q k) = (q ≡ 0) × (1 ≤ k) × (k < 65536)
 IsEvent h (events.Drain q) = q ≡ 0
 
 -- its header and each of its events are of the grammar

@@ -18,6 +18,19 @@ pub enum Event {
     Boot,
     /// `join`: hands on all messages of the script.
     Join,
+    /// `start`: a step of the queue's start.
+    Start(u16),
+    /// `fetch`: a step of a fetch, which accepts the request that waits longest.
+    Fetch(u16),
+    /// `work`: the next step of the request in that place among the accepted ones that aren't
+    /// completed, from 0.
+    Work(u16, u16),
+    /// `publish`: a step of a publication, of at most so many of the completed requests if it begins
+    /// one.
+    Publish(u16, u16),
+    /// `turn`: up to so many steps, each the first that is ready of start, the phase under way, fetch,
+    /// work on the oldest request and publication of all.
+    Turn(u16, u16),
     /// `drain`: the device serves the queue until nothing waits there.
     Drain(u16),
 }

@@ -4,7 +4,7 @@
 ghost use Rattle.std.specs.Prelude.{◌≡◌, ◌++◌, ◌∷◌, ◌<◌, false, length, codes, OnOk, IfOk};
 ghost use Rattle.std.specs.Fmt.{decimal, digit_glyph};
 ghost use Rattle.std.specs.List.{flat_map};
-ghost use Rattle.vub_schedule.specs.Spelling.{line, commas, hex_pair, format_text, mode_text, header_numbers, header_text, shape_text, part_text, ask_text, event_line, spelling};
+ghost use Rattle.vub_schedule.specs.Spelling.{line, commas, hex_pair, format_text, mode_text, header_numbers, header_text, shape_text, part_text, ask_text, event_text, event_line, spelling};
 
 use crate::{Event, Schedule};
 use itoa::Buffer;
@@ -144,37 +144,62 @@ fn shape_word(shape: Shape) -> &'static [u8]
     }
 }
 
-/// The whole line of an event, its newline included.
-#[tactic(auto, unfolding(crate::specs::Spelling::event_line, crate::specs::Spelling::event_text))]
-pub fn put_event(out: &mut Vec<u8>, event: &Event) -> Result<(), Memory>
-    ensures { OnOk result (out.new.items ≡ out.old.items ++ event_line event.now) }
+/// A number behind a space.
+fn put_spaced(out: &mut Vec<u8>, number: u16) -> Result<(), Memory>
+    ensures { OnOk result (out.new.items ≡ out.old.items ++ codes " " ++ decimal number) }
+{
+    put_text(out, b" ")?;
+    put_number(out, u64::from(number))
+}
+
+/// An event that has the number of its queue alone: its word, with a space behind it, and the queue.
+fn put_on_queue(out: &mut Vec<u8>, word: &[u8], queue: u16) -> Result<(), Memory>
+    ensures { OnOk result (out.new.items ≡ out.old.items ++ word.now ++ decimal queue) }
+{
+    put_text(out, word)?;
+    put_number(out, u64::from(queue))
+}
+
+/// An event that has one number more.
+fn put_counted(out: &mut Vec<u8>, word: &[u8], queue: u16, count: u16) -> Result<(), Memory>
+    ensures { OnOk result (out.new.items ≡ out.old.items ++ word.now ++ decimal queue ++ codes " " ++ decimal count) }
+{
+    put_on_queue(out, word, queue)?;
+    put_spaced(out, count)
+}
+
+/// An event without the end of its line: its word, and then its numbers and words.
+#[tactic(auto, unfolding(crate::specs::Spelling::event_text))]
+fn put_event_text(out: &mut Vec<u8>, event: &Event) -> Result<(), Memory>
+    ensures { OnOk result (out.new.items ≡ out.old.items ++ event_text event.now) }
 {
     match event {
         Event::Ask(queue, shape, ask) => {
-            put_text(out, b"ask ")?;
-            put_number(out, u64::from(*queue))?;
+            put_on_queue(out, b"ask ", *queue)?;
             put_text(out, b" ")?;
             put_text(out, shape_word(*shape))?;
             put_text(out, b" ")?;
-            put_ask(out, ask)?;
+            put_ask(out, ask)
         }
-        Event::Guest(queue, stores) => {
-            put_text(out, b"guest ")?;
-            put_number(out, u64::from(*queue))?;
-            put_text(out, b" ")?;
-            put_number(out, u64::from(*stores))?;
-        }
-        Event::Collect(queue) => {
-            put_text(out, b"collect ")?;
-            put_number(out, u64::from(*queue))?;
-        }
-        Event::Boot => put_text(out, b"boot")?,
-        Event::Join => put_text(out, b"join")?,
-        Event::Drain(queue) => {
-            put_text(out, b"drain ")?;
-            put_number(out, u64::from(*queue))?;
-        }
+        Event::Guest(queue, stores) => put_counted(out, b"guest ", *queue, *stores),
+        Event::Collect(queue) => put_on_queue(out, b"collect ", *queue),
+        Event::Boot => put_text(out, b"boot"),
+        Event::Join => put_text(out, b"join"),
+        Event::Start(queue) => put_on_queue(out, b"start ", *queue),
+        Event::Fetch(queue) => put_on_queue(out, b"fetch ", *queue),
+        Event::Work(queue, place) => put_counted(out, b"work ", *queue, *place),
+        Event::Publish(queue, most) => put_counted(out, b"publish ", *queue, *most),
+        Event::Turn(queue, turns) => put_counted(out, b"turn ", *queue, *turns),
+        Event::Drain(queue) => put_on_queue(out, b"drain ", *queue),
     }
+}
+
+/// The whole line of an event, its newline included.
+#[tactic(auto, unfolding(crate::specs::Spelling::event_line))]
+pub fn put_event(out: &mut Vec<u8>, event: &Event) -> Result<(), Memory>
+    ensures { OnOk result (out.new.items ≡ out.old.items ++ event_line event.now) }
+{
+    put_event_text(out, event)?;
     put_text(out, b"\n")
 }
 

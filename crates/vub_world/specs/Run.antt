@@ -9,7 +9,8 @@ use Rattle.vub_base.specs.declared.store.Area.TheVariants.{M}
 use Rattle.vub_shared.specs.Stores.{Store}
 use Rattle.vub_ring.specs.declared.readiness.Turn.{Turn}
 use Rattle.vub_ring.specs.Ring.{seen}
-use Rattle.vub_ring.specs.Readiness.{is_ready, drain_turn}
+use Rattle.vub_ring.specs.declared.readiness.Turn.TheVariants.{Start, Fetch, Work, Publish}
+use Rattle.vub_ring.specs.Readiness.{is_ready, any_turn, drain_turn}
 use Rattle.vub_driver.specs.Layout.{ring_of}
 use Rattle.vub_driver.specs.Drivers.{Driver, Waiting, can_take, after_ask, after_stores, after_collect}
 use Rattle.vub_device.specs.declared.entry.Asked.{Asked}
@@ -126,6 +127,18 @@ turns (suc count) choose h q m =
     then then_played (one_turn h q (choose m) m) (turns count choose h q (one_turn h q (choose m) m).next)
     else played [] m
 
+-- a single turn
+abbrev pub single : Header1 → ℕ → Turn → Moment → Played
+single h q t m = if_ready (is_due h q t m) (one_turn h q t m) m
+
+-- up to so many turns, if the first is ready
+abbrev pub up_to : ℕ → (Moment → Turn) → Header1 → ℕ → Moment → Played
+up_to count choose h q m = if_ready (is_due h q (choose m) m) (turns count choose h q m) m
+
+-- the first that is ready of start, the phase under way, fetch, work on the oldest request and publication of all
+abbrev pub any_choice : Header1 → ℕ → Moment → Turn
+any_choice h q m = any_turn h.size (standing h q m)
+
 -- the next turn of a drain that began when so many requests were accepted
 abbrev pub drain_choice : Header1 → ℕ → ℕ → Moment → Turn
 drain_choice h q before m = drain_turn h.size (accepted m.scene.past q - before) (standing h q m)
@@ -151,6 +164,11 @@ Plays h m (events.Guest q count) is next = played is next ≡ guest h q count m
 Plays h m (events.Collect q) is next = played is next ≡ collect h q m
 Plays h m events.Boot is next = played is next ≡ boot m
 Plays h m events.Join is next = played is next ≡ join m
+Plays h m (events.Start q) is next = played is next ≡ single h q Start m
+Plays h m (events.Fetch q) is next = played is next ≡ single h q Fetch m
+Plays h m (events.Work q place) is next = played is next ≡ single h q (Work place) m
+Plays h m (events.Publish q most) is next = played is next ≡ single h q (Publish most) m
+Plays h m (events.Turn q count) is next = played is next ≡ up_to count (any_choice h q) h q m
 Plays h m (events.Drain q) is next = Drains h q m (drain_choice h q (accepted m.scene.past q)) is next
 
 -- the records' events are these in order, and each has the items that it has where the ones before lead
