@@ -5,10 +5,11 @@ use Rattle.std.specs.Int.{◌∣◌}
 use Rattle.std.specs.List.{AllByRecursion}
 use Rattle.vub_base.specs.declared.header.Header1.{Header1}
 use Rattle.vub_shared.specs.Bytes.{Bytes, word}
-use Rattle.vub_shared.specs.Stores.{Store}
+use Rattle.byteorder.specs.Endian.{little_bytes}
+use Rattle.vub_shared.specs.Stores.{Store, one_store}
 use Rattle.vub_ring.specs.declared.steps.Phase.{Phase}
 use Rattle.vub_ring.specs.declared.steps.Phase.TheVariants as phases
-use Rattle.vub_ring.specs.Ring.{Ring, avail_idx, used_idx, head_at, element_at, used_id_place, used_len_place}
+use Rattle.vub_ring.specs.Ring.{Ring, avail_idx, avail_idx_place, used_idx, head_at, element_at, used_id_place, used_len_place}
 use Rattle.vub_driver.specs.Layout.{ring_of, area_place, buffer_place, status_place, sectors_place}
 use Rattle.vub_driver.specs.Drivers.{Driver, Waiting}
 use Rattle.vub_driver.specs.Stores.{offer_stores}
@@ -20,7 +21,7 @@ use Rattle.vub_device.specs.Crash.{value}
 use Rattle.vub_device.specs.Past.{offers, asked, accepted, published, collected, is_among, IsOpen, started, looks, seen, acts, synced, faulted}
 use Rattle.vub_device.specs.Places.{are_distinct}
 use Rattle.vub_world.specs.Memory.{Scene}
-use Rattle.vub_world.specs.Moments.{Lane}
+use Rattle.vub_world.specs.Moments.{Lane, Moment}
 use Rattle.vub_world.specs.Run.{request_of}
 use Rattle.vub_world.specs.Tracking.{answers, answered_len}
 
@@ -87,6 +88,10 @@ pub record IsOut (past : List Entry) (heads : List ℕ) (k : ℕ) : Type 0 where
   pub below : k < length heads
   pub kept : is_among (take (collected past 0) (published past 0)) k ≡ false
 
+-- the store of avail.idx, which offers
+abbrev pub index_store : Ring → ℕ → Store
+index_store r index = one_store r.space (avail_idx_place r) (little_bytes 2 ((index + 1) % 65536))
+
 -- a store into the descriptor table, or into the buffer of that head
 pub record IsHarmless (head : ℕ) (st : Store) : Type 0 where
   pub space : st.space ≡ 0
@@ -99,12 +104,20 @@ pub record IsPlan (n index head : ℕ) (left : List Store) : Type 0 where
   pub harmless : AllByRecursion (IsHarmless head) first
   pub whole : left ≡ first ++ offer_stores (the_ring n) index head
 
+-- the store of avail.idx alone is left
+abbrev pub IsLast : ℕ → ℕ → List Store → Type 0
+IsLast n index left = left ≡ index_store (the_ring n) index ∷ []
+
+-- what is left of a request's stores: some before the offer's two and these, or the last alone
+abbrev pub IsLeft : ℕ → ℕ → ℕ → List Store → Type 0
+IsLeft n index head left = IsPlan n index head left ⊎ IsLast n index left
+
 pub record IsWaiting (n cap : ℕ) (past : List Entry) (heads : List ℕ) (v : Driver) (w : Waiting) : Type 0 where
   pub wide : IsWide cap (Some (request_of w.ask))
   pub below : w.head < n
   pub mine : v.owner w.head ≡ Some w.head
   pub apart : (k : ℕ) → IsOut past heads k → slice_index heads k ≢ w.head
-  pub plan : IsPlan n v.avail_idx w.head w.left
+  pub plan : IsLeft n v.avail_idx w.head w.left
 
 abbrev pub WaitsWell : ℕ → ℕ → List Entry → List ℕ → Driver → Option Waiting → Type 0
 WaitsWell n cap past heads v None = ⊤
@@ -116,6 +129,11 @@ pub record Driven (n cap base : ℕ) (past : List Entry) (heads : List ℕ) (v :
   pub owned : (k : ℕ) → IsOut past heads k → v.owner (slice_index heads k) ≡ Some (slice_index heads k)
   pub apart : (j k : ℕ) → IsOut past heads j → IsOut past heads k → slice_index heads j ≡ slice_index heads k → j ≡ k
   pub waits : WaitsWell n cap past heads v v.waiting
+
+-- where avail.idx alone is left to store, the entry before it names the head
+abbrev pub EntryWell : ℕ → ℕ → Bytes → Option Waiting → Type 0
+EntryWell n index m None = ⊤
+EntryWell n index m (Some w) = length w.left ≡ 1 → head_at (the_ring n) m index ≡ w.head
 
 -- ---- the device
 
@@ -208,3 +226,7 @@ pub record Holds (h : Header1) (s : Scene) (l : Lane) : Type 0 where
   pub worked : Worked s.past l.phase l.batch l.completed l.made
   pub stored : Stored s.past (s.heads 0) s.memory l.batch l.completed l.made
   pub built : Built h.size h.base s.past (s.heads 0) s.memory l.batch l.phase
+
+-- the entry of the next offer, at a moment
+abbrev pub EntryStands : Header1 → Moment → Type 0
+EntryStands h m = EntryWell h.size (h.base + length (m.scene.heads 0)) m.scene.memory (m.lanes 0).driver.waiting
