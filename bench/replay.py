@@ -1,13 +1,18 @@
 #!/usr/bin/env python3
-"""Times `vublk replay` on a schedule of just under 16 MiB.
+"""Times `vublk replay` on schedules of just under 16 MiB each.
 
 usage: bench/replay.py [PROGRAM [OTHER]]
 
-PROGRAM is the built program, crates/vublk/out/vublk by default. The schedule writes one sector after
-another: some 330,000 requests, each asked for, handed over, served and collected. The program runs
-on it with its output in a file, and `sha256sum` runs over that output, each three times in turn; the
+PROGRAM is the built program, crates/vublk/out/vublk by default. It replays, on a queue of 64 places:
+
+  single   one write of a sector after another, each asked for, handed over, drained and collected
+  batches  32 flushes open at once, as many as the queue has descriptors for, drained in one batch of
+           32 and then collected
+  steps    the same batches, but each step of the device is an event of its own
+
+Each time the output goes to a file, and `sha256sum` runs over that file, each three times in turn; the
 best time of each counts. Prints both, their ratio, which may be at most 6, and how much memory the
-program took at most beyond the input, which may be 200 MB. Ends with status 1 where either is more.
+program took at most beyond the input, which may be 200 MB. Ends with status 1 where one is more.
 
 Where a second program OTHER is given, it runs in the same turns, and the time that PROGRAM computes
 is printed as a part of that of OTHER, the best of each: 1.02 says that PROGRAM is slower by 2%.
@@ -25,19 +30,38 @@ RUNS = 3
 MOST_RATIO = 6.0
 MOST_MEMORY = 200_000_000
 CAPACITY = 4096
+BATCH = 32
 
 
-def schedule():
-    """The text of the schedule, and how many requests it has."""
-    text = bytearray(b"vub 1 split 1 64 %d 0 back\nboot\njoin\n" % CAPACITY)
-    requests = 0
+def single(number):
+    """One write, from its request to its collection, and how many requests it is."""
+    sector = number * 7 % CAPACITY
+    return b"ask 0 d write %d %02x\nguest 0 16\ndrain 0\ncollect 0\n" % (sector, number % 256), 1
+
+
+def batches(number):
+    """A batch of flushes."""
+    return b"ask 0 d flush\nguest 0 16\n" * BATCH + b"drain 0\n" + b"collect 0\n" * BATCH, BATCH
+
+
+def steps(number):
+    """A batch of flushes, each step of the device for itself."""
+    asks = b"ask 0 d flush\nguest 0 16\n" * BATCH
+    work = b"fetch 0\n" * BATCH + b"work 0 0\n" * (2 * BATCH) + b"publish 0 64\n" * (2 * BATCH + 1)
+    return asks + work + b"collect 0\n" * BATCH, BATCH
+
+
+def schedule(group):
+    """The text of a schedule of such groups, and how many requests it has."""
+    text = bytearray(b"vub 1 split 1 64 %d 0 back\nboot\njoin\nstart 0\n" % CAPACITY)
+    groups = requests = 0
     while True:
-        sector = requests * 7 % CAPACITY
-        group = b"ask 0 d write %d %02x\nguest 0 16\ndrain 0\ncollect 0\n" % (sector, requests % 256)
-        if len(text) + len(group) > LIMIT:
+        lines, more = group(groups)
+        if len(text) + len(lines) > LIMIT:
             return bytes(text), requests
-        text += group
-        requests += 1
+        text += lines
+        groups += 1
+        requests += more
 
 
 def timed(command, source, target):
@@ -52,37 +76,43 @@ def timed(command, source, target):
     return seconds, usage.ru_utime, usage.ru_maxrss * 1024
 
 
+def measure(name, group, program, other, folder):
+    """Runs one schedule and prints what it took; whether it stayed within the limits."""
+    source = os.path.join(folder, "schedule")
+    records = os.path.join(folder, "records")
+    digest = os.path.join(folder, "digest")
+    text, requests = schedule(group)
+    with open(source, "wb") as file:
+        file.write(text)
+    runs, computed, others, sums, memory = [], [], [], [], 0
+    for _ in range(RUNS):
+        if other is not None:
+            others.append(timed([other, "replay"], source, records)[1])
+        seconds, computes, held = timed([program, "replay"], source, records)
+        runs.append(seconds)
+        computed.append(computes)
+        memory = max(memory, held - len(text))
+        sums.append(timed(["sha256sum"], records, digest)[0])
+    ratio = min(runs) / min(sums)
+    print(f"{name}: {len(text):,} bytes, {requests:,} requests")
+    print(f"  records    {os.path.getsize(records):>12,} bytes")
+    print(f"  replay     {min(runs):>12.3f} s")
+    print(f"  sha256sum  {min(sums):>12.3f} s")
+    print(f"  ratio      {ratio:>12.2f}   (at most {MOST_RATIO})")
+    print(f"  memory     {memory / 1e6:>12.1f} MB beyond the input (at most {MOST_MEMORY / 1e6:.0f})")
+    if other is not None:
+        print(f"  computes   {min(computed):>12.3f} s")
+        print(f"  other      {min(others):>12.3f} s")
+        print(f"  part       {min(computed) / min(others):>12.3f}")
+    return ratio <= MOST_RATIO and memory <= MOST_MEMORY
+
+
 def main():
     program = sys.argv[1] if len(sys.argv) > 1 else os.path.join(ROOT, "crates/vublk/out/vublk")
     other = sys.argv[2] if len(sys.argv) > 2 else None
     with tempfile.TemporaryDirectory() as folder:
-        source = os.path.join(folder, "schedule")
-        records = os.path.join(folder, "records")
-        digest = os.path.join(folder, "digest")
-        text, requests = schedule()
-        with open(source, "wb") as file:
-            file.write(text)
-        runs, computed, others, sums, memory = [], [], [], [], 0
-        for _ in range(RUNS):
-            if other is not None:
-                others.append(timed([other, "replay"], source, records)[1])
-            seconds, computes, held = timed([program, "replay"], source, records)
-            runs.append(seconds)
-            computed.append(computes)
-            memory = max(memory, held - len(text))
-            sums.append(timed(["sha256sum"], records, digest)[0])
-        ratio = min(runs) / min(sums)
-        print(f"schedule   {len(text):>12,} bytes, {requests:,} requests")
-        print(f"records    {os.path.getsize(records):>12,} bytes")
-        print(f"replay     {min(runs):>12.3f} s")
-        print(f"sha256sum  {min(sums):>12.3f} s")
-        print(f"ratio      {ratio:>12.2f}   (at most {MOST_RATIO})")
-        print(f"memory     {memory / 1e6:>12.1f} MB beyond the input (at most {MOST_MEMORY / 1e6:.0f})")
-        if other is not None:
-            print(f"computes   {min(computed):>12.3f} s")
-            print(f"other      {min(others):>12.3f} s")
-            print(f"part       {min(computed) / min(others):>12.3f}")
-        sys.exit(1 if ratio > MOST_RATIO or memory > MOST_MEMORY else 0)
+        good = [measure(group.__name__, group, program, other, folder) for group in (single, batches, steps)]
+    sys.exit(0 if all(good) else 1)
 
 
 if __name__ == "__main__":

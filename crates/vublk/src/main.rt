@@ -4,6 +4,8 @@
 
 mod command;
 mod edge;
+#[cfg(test)]
+mod interleavings;
 mod printing;
 mod reading;
 mod replay;

@@ -138,7 +138,7 @@ fn run_on(
 }
 
 /// One worked row, with what the source has given whole and in single bytes.
-fn check_row(
+pub fn check_row(
     rt: &impl Abort,
     alloc: Global,
     words: &str,
