@@ -14,8 +14,9 @@ Each time the output goes to a file, and `sha256sum` runs over that file, each t
 best time of each counts. Prints both, their ratio, which may be at most 6, and how much memory the
 program took at most beyond the input, which may be 200 MB. Ends with status 1 where one is more.
 
-Where a second program OTHER is given, it runs in the same turns, and the time that PROGRAM computes
-is printed as a part of that of OTHER, the best of each: 1.02 says that PROGRAM is slower by 2%.
+Where a second program OTHER is given, it runs in the same turns on each schedule that it accepts, and
+the time that PROGRAM computes is printed as a part of that of OTHER, the best of each: 1.02 says that
+PROGRAM is slower by 2%.
 """
 import os
 import resource
@@ -46,14 +47,15 @@ def batches(number):
 
 def steps(number):
     """A batch of flushes, each step of the device for itself."""
+    start = b"start 0\n" if number == 0 else b""
     asks = b"ask 0 d flush\nguest 0 16\n" * BATCH
     work = b"fetch 0\n" * BATCH + b"work 0 0\n" * (2 * BATCH) + b"publish 0 64\n" * (2 * BATCH + 1)
-    return asks + work + b"collect 0\n" * BATCH, BATCH
+    return start + asks + work + b"collect 0\n" * BATCH, BATCH
 
 
 def schedule(group):
     """The text of a schedule of such groups, and how many requests it has."""
-    text = bytearray(b"vub 1 split 1 64 %d 0 back\nboot\njoin\nstart 0\n" % CAPACITY)
+    text = bytearray(b"vub 1 split 1 64 %d 0 back\nboot\njoin\n" % CAPACITY)
     groups = requests = 0
     while True:
         lines, more = group(groups)
@@ -76,6 +78,12 @@ def timed(command, source, target):
     return seconds, usage.ru_utime, usage.ru_maxrss * 1024
 
 
+def accepts(program, source):
+    """Whether a program knows all lines of a schedule."""
+    with open(source, "rb") as stdin:
+        return subprocess.run([program, "replay"], stdin=stdin, stdout=subprocess.DEVNULL).returncode == 0
+
+
 def measure(name, group, program, other, folder):
     """Runs one schedule and prints what it took; whether it stayed within the limits."""
     source = os.path.join(folder, "schedule")
@@ -84,9 +92,10 @@ def measure(name, group, program, other, folder):
     text, requests = schedule(group)
     with open(source, "wb") as file:
         file.write(text)
+    compares = other is not None and accepts(other, source)
     runs, computed, others, sums, memory = [], [], [], [], 0
     for _ in range(RUNS):
-        if other is not None:
+        if compares:
             others.append(timed([other, "replay"], source, records)[1])
         seconds, computes, held = timed([program, "replay"], source, records)
         runs.append(seconds)
@@ -100,7 +109,7 @@ def measure(name, group, program, other, folder):
     print(f"  sha256sum  {min(sums):>12.3f} s")
     print(f"  ratio      {ratio:>12.2f}   (at most {MOST_RATIO})")
     print(f"  memory     {memory / 1e6:>12.1f} MB beyond the input (at most {MOST_MEMORY / 1e6:.0f})")
-    if other is not None:
+    if compares:
         print(f"  computes   {min(computed):>12.3f} s")
         print(f"  other      {min(others):>12.3f} s")
         print(f"  part       {min(computed) / min(others):>12.3f}")
