@@ -67,11 +67,11 @@ abbrev pub IsPlainAsk : ℕ → Ask → Type 0
 IsPlainAsk cap a = IsWide cap (Some (request_of a))
 
 pub plain_ask : (h : Header1) (a : Ask) → IsAsk h a → IsPlainAsk h.capacity a
-plain_ask h (asks.Read s n) is = record { fits = omega (arith, is.0, is.1); some = omega (arith, is.1); few = omega (arith, is.1) }
+plain_ask h (asks.Read s n) is = record { fits = is.0; some = is.1; few = is.2 }
 plain_ask h (asks.Write s fills) is =
-    let one : length (written_bytes (asks.Write s fills)) ≡ 512 = length-fills fills.items ∙ ap (λ (k : ℕ). 512 * k) is.1 in
-    record { fits = omega (arith, one, is.0); whole = omega (arith, one); some = omega (arith, one); few = omega (arith, one) }
-plain_ask h asks.Flush is = absurd is
+    let long : length (written_bytes (asks.Write s fills)) ≡ 512 * length fills.items = length-fills fills.items in
+    record { fits = omega (arith, long, is.0); whole = omega (arith, long); some = omega (arith, long, is.1); few = omega (arith, long, is.2) }
+plain_ask h asks.Flush is = tt
 plain_ask h asks.Id is = absurd is
 plain_ask h (asks.Discard parts) is = absurd is
 plain_ask h (asks.Zero parts) is = absurd is
@@ -163,7 +163,7 @@ ask_driven n cap base past heads a v (head ∷ ds) small plain some few all d = 
         let none : v.owner (slice_index heads k) ≡ None = ap v.owner same ∙ all.0.1 in
         let fails : None ≡ Some (slice_index heads k) = sym none ∙ d.owned k out in
         absurd (cc);
-    plan = plan_of n cap v.avail_idx head v.owner a ds small plain (omega arith) all;
+    plan = inl (plan_of n cap v.avail_idx head v.owner a ds small plain (omega arith) all);
   };
 }
 
