@@ -41,6 +41,7 @@ pub mod RunExists
 pub mod RunFrames
 pub mod RunGood
 pub mod RunGuests
+pub mod RunItems
 pub mod RunNumbers
 pub mod RunOffers
 pub mod RunPhases
@@ -51,6 +52,7 @@ pub mod RunTracks
 pub mod RunTurns
 pub mod RunWork
 pub mod Runs
+pub mod RunsLegal
 pub mod RunsTo
 pub mod StepLemmas
 pub mod TaskLemmas

@@ -15,8 +15,7 @@ use Rattle.vub_world.specs.LegalRuns.{IsLegalRun, IsServed, past_of}
 use Rattle.vub_world.specs.MachineAt.{MachineAt, LifeAt, AttachedAt, IsStanding, Performs, StandsOn, ServesAll, is_attached, has_queue}
 use Rattle.vub_world.specs.Moments.{Moment, opening}
 use Rattle.vub_world.specs.Run.{Stands, Plays}
-use Rattle.vub_world.proofs.Runs.{plain_header, opening_good}
-use Rattle.vub_world.proofs.RunsTo.{run_of, run_past, stands_more, stands_true, stands_drained}
+use Rattle.vub_world.proofs.RunsTo.{run_of, stands_more, stands_true, stands_past, stands_drained}
 
 pub ok_then : {T E : Type 0} (P Q : T → Type 0) (r : Result T E) → ((x : T) → P x → Q x) → IfOk r P → IfOk r Q
 ok_then P Q (Ok x) f p = f x p
@@ -55,7 +54,7 @@ attached_at w m at is = go w.life at.life is
 served : (h : Header1) (es : List Event) (rs : List Record) (m k : Moment) (r : Record) → Stands h es rs m → Stands h (es ++ events.Drain 0 ∷ []) (rs ++ r ∷ []) k → (m.lanes 0).attached ≡ true → Plays h m (events.Drain 0) r.items k → IsServed (rs ++ r ∷ [])
 served h es rs m k r stands next attached plays =
     let both = stands_drained h es rs m k r.items stands attached plays in
-    let past : k.scene.past ≡ past_of (rs ++ r ∷ []) = run_past h (opening h) (es ++ events.Drain 0 ∷ []) (rs ++ r ∷ []) k (plain_header h next.header) (opening_good h (plain_header h next.header)) next.events next.run in
+    let past : k.scene.past ≡ past_of (rs ++ r ∷ []) = stands_past h (es ++ events.Drain 0 ∷ []) (rs ++ r ∷ []) k next in
     record {
       none_open = subst (λ (p : List Entry). open_numbers p 0 ≡ []) past both.0;
       all_accepted = subst (λ (p : List Entry). accepted p 0 ≡ offers p 0) past both.1;
@@ -69,6 +68,11 @@ serves_all w (events.Guest q n) es rs m k r fits at stands next plays = tt
 serves_all w (events.Collect q) es rs m k r fits at stands next plays = tt
 serves_all w events.Boot es rs m k r fits at stands next plays = tt
 serves_all w events.Join es rs m k r fits at stands next plays = tt
+serves_all w (events.Start q) es rs m k r fits at stands next plays = tt
+serves_all w (events.Fetch q) es rs m k r fits at stands next plays = tt
+serves_all w (events.Work q place) es rs m k r fits at stands next plays = tt
+serves_all w (events.Publish q most) es rs m k r fits at stands next plays = tt
+serves_all w (events.Turn q n) es rs m k r fits at stands next plays = tt
 
 pub stands_on : (w now : Machine) (e : Event) (r : Record) → IsEvent w.header e → now.header ≡ w.header → r.event ≡ e → Performs w now e r.items → StandsOn w (with_record r now) e r
 stands_on w now e r fits same is goes es rs stood =

@@ -21,9 +21,9 @@ use Rattle.vub_world.proofs.RunFrames.{length_little}
 use Rattle.vub_world.proofs.RunChains.{buffer_at, chain_of, desc_long}
 use Rattle.vub_world.proofs.RunChainsStores.{header_long, linked, linked_two}
 use Rattle.vub_world.proofs.RunChainsTurns.{IsPrepared, PreparedWell}
-use Rattle.vub_world.proofs.RunChainsEvents.{ChainedAt, stands_chained}
+use Rattle.vub_world.proofs.RunChainsEvents.{ChainedAt}
 use Rattle.vub_world.proofs.RunTurns.{Good}
-use Rattle.vub_world.proofs.RunsTo.{stands_good}
+use Rattle.vub_world.proofs.RunsTo.{stands_good, stands_chained}
 
 -- ---- the stores
 

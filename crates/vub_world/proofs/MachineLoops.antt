@@ -26,12 +26,11 @@ use Rattle.vub_world.specs.QueueAt.{QueueStands, spot_of}
 use Rattle.vub_world.specs.QueueState.{state_of}
 use Rattle.vub_world.specs.Run.{Stands, Played, played, turns, one_turn, is_due, then_played, IsDrained, Drains}
 use Rattle.vub_world.proofs.MachineDrains.{shown_by, drain_shows, undone, effort_bound, batch_undone}
-use Rattle.vub_world.proofs.RunChainsEvents.{stands_turns}
 use Rattle.vub_world.proofs.RunChainsTurns.{turn_gentle}
 use Rattle.vub_world.proofs.RunEnds.{effort_at, turn_falls, turns_more}
 use Rattle.vub_world.proofs.RunTurns.{IsPlain, Good}
 use Rattle.vub_world.proofs.Runs.{plain_header}
-use Rattle.vub_world.proofs.RunsTo.{stands_good}
+use Rattle.vub_world.proofs.RunsTo.{stands_good, stands_turns}
 
 -- ---- what a life shows, and what its lane shows
 

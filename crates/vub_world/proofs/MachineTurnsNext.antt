@@ -25,7 +25,8 @@ use Rattle.vub_world.specs.QueueState.{QueueState, standing_at, waiting, turn_at
 use Rattle.vub_world.specs.TaskState.{GainsOne}
 use Rattle.vub_world.proofs.Runs.{plain_header}
 use Rattle.vub_world.proofs.RunTurns.{IsPlain, Good}
-use Rattle.vub_world.proofs.RunChainsEvents.{ChainedAt, stands_turns}
+use Rattle.vub_world.proofs.RunChainsEvents.{ChainedAt}
+use Rattle.vub_world.proofs.RunsTo.{stands_turns}
 use Rattle.vub_world.proofs.QueueAtTurns.{standings}
 use Rattle.vub_world.proofs.MachineTurns.{IsServed, some_is}
 

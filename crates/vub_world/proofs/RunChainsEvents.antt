@@ -1,7 +1,6 @@
--- Along every run the chain of each request that is offered and not collected stands in memory.
+-- Through every event the chain of each request that is offered and not collected stands in memory.
 use Rattle.std.proofs.Common.{◌≡◌, ◌≤◌, ℕ, zero, suc, ◌+◌, Bool, true, false, not, cond, List, [], ◌∷◌, length, drop, refl, ap, sym, ◌∙◌, subst, inl, inr, arith}
 use Rattle.std.specs.Prelude.{Option, Some, None, is_some, ◌&&◌}
-use Rattle.std.specs.List.{AllByRecursion}
 use Rattle.std.proofs.lemmas.List.{length-append, drop_all}
 use Rattle.vub_base.specs.declared.header.Header1.{Header1}
 use Rattle.vub_base.specs.declared.request.Ask.{Ask}
@@ -18,7 +17,6 @@ use Rattle.vub_schedule.specs.declared.types.Event.{Event}
 use Rattle.vub_schedule.specs.declared.types.Event.TheVariants as events
 use Rattle.vub_schedule.specs.Spelling.{IsAsk, IsEvent}
 use Rattle.vub_world.specs.declared.report.items.Item.{Item}
-use Rattle.vub_world.specs.declared.report.items.Record.{Record}
 use Rattle.vub_world.specs.Memory.{Scene, after_items}
 use Rattle.vub_world.specs.Moments.{Lane, Moment, opening}
 use Rattle.vub_world.specs.Run.{Played, played, if_ready, guest_items, guest, guest_stores, ask, collect, take_first, boot, join, one_turn, is_due, then_played, turns, drain_choice, Drains, Plays}
@@ -26,10 +24,8 @@ use Rattle.vub_world.specs.Turns.{turned}
 use Rattle.vub_world.proofs.RunGood.{the_ring, IsPlan, IsWaiting, WaitsWell}
 use Rattle.vub_world.proofs.RunCollects.{IsTaken, next_number, after_taken, first_seen}
 use Rattle.vub_world.proofs.RunTurns.{IsPlain, Good}
-use Rattle.vub_world.proofs.RunEvents.{Right, turn_right, event_right}
-use Rattle.vub_world.proofs.Runs.{opening_good, plain_header, none_out}
-use Rattle.vub_world.proofs.RunsTo.{stands_good}
-use Rattle.vub_world.specs.Run.{RunTo, Stands}
+use Rattle.vub_world.proofs.RunEvents.{turn_right}
+use Rattle.vub_world.proofs.Runs.{none_out}
 use Rattle.vub_world.proofs.RunChainsTurns.{IsPrepared, PreparedWell, Chained, gentle_chained, turn_gentle, turn_driver}
 use Rattle.vub_world.proofs.RunChainsOffers.{ask_chained, collect_chained}
 use Rattle.vub_world.proofs.RunChainsGuests.{guest_chained}
@@ -129,22 +125,6 @@ event_chained h m (events.Drain q) is next plain few good c fits plays =
     let here : Plays h m (events.Drain 0) is next = subst (λ (p : ℕ). Plays h m (events.Drain p) is next) fits plays in
     drain_chained h m (drain_choice h 0 (accepted m.scene.past 0)) is next plain good c here
 
--- ---- the run
-
-pub run_chained : (h : Header1) (m : Moment) (es : List Event) (rs : List Record) (n : Moment) → IsPlain h → h.capacity ≤ 4096 → Good h m → ChainedAt h m → AllByRecursion (IsEvent h) es → RunTo h m es rs n → ChainedAt h n
-run_chained h m [] [] n plain few good c fits run = subst (λ (x : Moment). ChainedAt h x) (sym run) c
-run_chained h m [] (r ∷ rs) n plain few good c fits run = absurd run
-run_chained h m (e ∷ es) [] n plain few good c fits run = absurd run
-run_chained h m (e ∷ es) (r ∷ rs) n plain few good c fits run =
-    let right : Right h m r.items run.1.0 = event_right h m e r.items run.1.0 plain good fits.0 run.1.1 in
-    run_chained h run.1.0 es rs n plain few right.good (event_chained h m e r.items run.1.0 plain few good c fits.0 run.1.1) fits.1 run.1.2
-
-opening_chained : (h : Header1) → ChainedAt h (opening h)
+-- where every run begins
+pub opening_chained : (h : Header1) → ChainedAt h (opening h)
 opening_chained h = record { linked = λ k out. absurd (none_out k out); waits = tt }
-
-pub stands_chained : (h : Header1) (es : List Event) (rs : List Record) (n : Moment) → Stands h es rs n → ChainedAt h n
-stands_chained h es rs n s = run_chained h (opening h) es rs n (plain_header h s.header) s.header.few (opening_good h (plain_header h s.header)) (opening_chained h) s.events s.run
-
--- also after any number of turns from there on, as in the middle of a drain
-pub stands_turns : (h : Header1) (es : List Event) (rs : List Record) (n : Moment) (count : ℕ) (choose : Moment → Turn) → Stands h es rs n → Good h (turns count choose h 0 n).next × ChainedAt h (turns count choose h 0 n).next
-stands_turns h es rs n count choose s = turns_chained count choose h n (plain_header h s.header) (stands_good h es rs n s) (stands_chained h es rs n s)

@@ -19,12 +19,12 @@ use Rattle.vub_world.proofs.RunFrames.{open_out}
 use Rattle.vub_world.proofs.RunGood.{IsSize, IsWide, IsOut}
 use Rattle.vub_world.proofs.Runs.{plain_header}
 use Rattle.vub_world.proofs.RunTurns.{IsPlain, Good}
-use Rattle.vub_world.proofs.RunsTo.{stands_good}
+use Rattle.vub_world.proofs.RunsTo.{stands_good, stands_chained}
 use Rattle.vub_world.specs.Run.{Stands}
 use Rattle.vub_world.proofs.RunChains.{table_place, buffer_at, has_body, HasDesc}
 use Rattle.vub_world.proofs.RunChainsStores.{handed_fits}
 use Rattle.vub_world.proofs.RunChainsTurns.{IsLinked}
-use Rattle.vub_world.proofs.RunChainsEvents.{ChainedAt, stands_chained}
+use Rattle.vub_world.proofs.RunChainsEvents.{ChainedAt}
 use Rattle.vub_world.proofs.ChainReading.{make}
 
 desc_found : (r : SplitRing) (m : Bytes) (d : ℕ) (x : Desc) → r.desc.0.number ≡ 0 → r.desc.1 ≡ 0 → HasDesc m d x → desc_in r m d ≡ make x.addr x.len x.flags x.next

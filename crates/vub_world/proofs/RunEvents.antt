@@ -1,21 +1,24 @@
 -- Every event keeps what holds; its entries are legal, and memory tracks them.
-use Rattle.std.proofs.Common.{◌≡◌, ◌≤◌, ℕ, zero, suc, ◌+◌, Bool, true, false, not, cond, List, [], ◌∷◌, ◌++◌, length, drop, refl, ap, sym, ◌∙◌, subst, inl, inr, arith}
+use Rattle.std.proofs.Common.{◌≡◌, ◌≤◌, ◌<◌, ℕ, zero, suc, ◌+◌, Bool, true, false, not, cond, List, [], ◌∷◌, ◌++◌, length, drop, refl, ap, sym, ◌∙◌, subst, inl, inr, arith}
 use Rattle.std.specs.Prelude.{Option, Some, None, is_some, ◌&&◌}
+use Rattle.std.specs.List.{AllByRecursion}
 use Rattle.std.proofs.lemmas.Bool.Decides.{nat_tests}
+use Rattle.std.proofs.lemmas.Bool.{cases_lt}
 use Rattle.std.proofs.lemmas.List.{length-append, drop_all}
-use Rattle.vub_base.specs.declared.header.CacheMode.{CacheMode}
 use Rattle.vub_base.specs.declared.header.Header1.{Header1}
 use Rattle.vub_base.specs.declared.request.Ask.{Ask}
 use Rattle.vub_base.specs.declared.request.Shape.{Shape}
 use Rattle.vub_base.specs.declared.request.Shape.TheVariants.{Direct}
 use Rattle.vub_shared.specs.Stores.{Store}
 use Rattle.vub_ring.specs.declared.readiness.Turn.{Turn}
+use Rattle.vub_ring.specs.declared.readiness.Turn.TheVariants.{Start, Fetch, Work, Publish}
 use Rattle.vub_ring.specs.declared.steps.Phase.{Phase}
 use Rattle.vub_ring.specs.declared.steps.Phase.TheVariants as phases
 use Rattle.vub_ring.specs.Ring.{seen}
 use Rattle.vub_ring.specs.Readiness.{is_ready}
-use Rattle.vub_driver.specs.Drivers.{Driver, Waiting, can_take, after_ask, after_stores, with_left, without_owner}
+use Rattle.vub_driver.specs.Drivers.{Driver, Waiting, can_take, after_ask, with_left, without_owner}
 use Rattle.vub_driver.specs.Stores.{offer_stores}
+use Rattle.vub_device.specs.declared.entry.Asked.{Asked}
 use Rattle.vub_device.specs.declared.entry.Entry.{Entry}
 use Rattle.vub_device.specs.declared.entry.Entry.TheVariants as entries
 use Rattle.vub_device.specs.Legal.{LegalFrom, after}
@@ -25,14 +28,15 @@ use Rattle.vub_schedule.specs.declared.types.Event.TheVariants as events
 use Rattle.vub_schedule.specs.Spelling.{IsAsk, IsEvent}
 use Rattle.vub_world.specs.declared.report.items.Item.{Item}
 use Rattle.vub_world.specs.declared.report.items.Item.TheVariants as items
-use Rattle.vub_world.specs.Memory.{Scene, after_item, after_items}
+use Rattle.vub_world.specs.Memory.{Scene, after_items}
 use Rattle.vub_world.specs.Moments.{Lane, Moment, fresh, standing}
-use Rattle.vub_world.specs.Run.{Played, played, if_ready, with_lane, comes_about, with_driver, ask, guest, guest_items, guest_stores, take_first, collect, boot, join, one_turn, is_due, then_played, turns, drain_choice, Drains, Plays, request_of}
-use Rattle.vub_world.specs.Tracking.{EveryTracks, GoesOn, AfterEach, entries_of}
+use Rattle.vub_world.specs.Run.{Played, played, if_ready, with_lane, comes_about, with_driver, ask, guest, guest_items, guest_stores, take_first, collect, boot, join, one_turn, is_due, then_played, turns, single, up_to, any_choice, drain_choice, Drains, Plays, request_of}
+use Rattle.vub_world.specs.Tracking.{EveryTracks, AfterEach, entries_of}
 use Rattle.vub_world.specs.Turns.{turned}
-use Rattle.vub_world.proofs.RunGood.{the_ring, IsPlan, IsWaiting, WaitsWell, IsPending, PhaseIs, Worked}
-use Rattle.vub_world.proofs.RunGuests.{holds_track, Offered, guest_holds}
+use Rattle.vub_world.proofs.RunGood.{the_ring, index_store, IsHarmless, IsLeft, IsWaiting, EntryWell, EntryStands, IsPending, PhaseIs, Worked}
+use Rattle.vub_world.proofs.RunGuests.{holds_track, offered, Offered, guest_holds, last_holds, Unoffered, part_holds, left_after, left_some, left_waits, rest_waits, waits_well}
 use Rattle.vub_world.proofs.RunWork.{Fine}
+use Rattle.vub_world.proofs.RunItems.{after-append, each-append, entries-append, legal-append, past_after}
 use Rattle.vub_world.proofs.RunTurns.{IsPlain, Good, turn_fine}
 use Rattle.vub_world.proofs.RunAsks.{plain_ask, ask_holds}
 use Rattle.vub_world.proofs.RunCollects.{IsTaken, next_number, after_taken, taken_holds, taken_legal, first_seen}
@@ -47,70 +51,7 @@ pub record Right (h : Header1) (m : Moment) (is : List Item) (next : Moment) : T
 abbrev pub Leads : Header1 → Moment → Played → Type 0
 Leads h m p = Right h m p.items p.next
 
--- ---- one after another
-
-goes_on-append : (i : Item) (is js : List Item) → GoesOn i is → GoesOn i (is ++ js)
-goes_on-append (items.Store tag area place bytes) [] js g = absurd g
-goes_on-append (items.Store tag area place bytes) (items.Made (entries.Offer q r) ∷ is) js g = tt
-goes_on-append (items.Store tag area place bytes) (items.Made (entries.Publish q list) ∷ is) js g = tt
-goes_on-append (items.Store tag area place bytes) (items.Made (entries.Accept q k) ∷ is) js g = absurd g
-goes_on-append (items.Store tag area place bytes) (items.Made (entries.Look q k s v) ∷ is) js g = absurd g
-goes_on-append (items.Store tag area place bytes) (items.Made (entries.Act q k s v) ∷ is) js g = absurd g
-goes_on-append (items.Store tag area place bytes) (items.Made (entries.Sync q k) ∷ is) js g = absurd g
-goes_on-append (items.Store tag area place bytes) (items.Made (entries.Fault q k) ∷ is) js g = absurd g
-goes_on-append (items.Store tag area place bytes) (items.Made entries.Kill ∷ is) js g = absurd g
-goes_on-append (items.Store tag area place bytes) (items.Made (entries.Start q list) ∷ is) js g = absurd g
-goes_on-append (items.Store tag area place bytes) (items.Made (entries.Collect q k) ∷ is) js g = absurd g
-goes_on-append (items.Store tag area place bytes) (items.Made (entries.Power image) ∷ is) js g = absurd g
-goes_on-append (items.Store tag area place bytes) (items.Store t a p b ∷ is) js g = absurd g
-goes_on-append (items.Store tag area place bytes) (items.Idle ∷ is) js g = absurd g
-goes_on-append (items.Made e) is js g = absurd g
-goes_on-append items.Idle is js g = absurd g
-
-pub after-append : (size : ℕ) (xs ys : List Item) (s : Scene) → after_items size (xs ++ ys) s ≡ after_items size ys (after_items size xs s)
-after-append size [] ys s = refl
-after-append size (x ∷ xs) ys s = after-append size xs ys (after_item size x s)
-
-pub each-append : (size : ℕ) (P : Scene → Type 0) (s : Scene) (xs ys : List Item) → AfterEach size P s xs → AfterEach size P (after_items size xs s) ys → AfterEach size P s (xs ++ ys)
-each-append size P s [] ys p q = q
-each-append size P s (x ∷ xs) ys p q = (
-  elim p.0 [
-    | inl goes ↦ inl (goes_on-append x xs ys goes)
-    | inr holds ↦ inr holds
-  ],
-  each-append size P (after_item size x s) xs ys p.1 q,
-)
-
-pub entries-append : (xs ys : List Item) → entries_of (xs ++ ys) ≡ entries_of xs ++ entries_of ys
-entries-append [] ys = refl
-entries-append (items.Made e ∷ xs) ys = ap (λ es. e ∷ es) (entries-append xs ys)
-entries-append (items.Store tag area place bytes ∷ xs) ys = entries-append xs ys
-entries-append (items.Idle ∷ xs) ys = entries-append xs ys
-
-pub legal-append : (capacity : ℕ) (mode : CacheMode) (past es fs : List Entry) → LegalFrom capacity mode past es → LegalFrom capacity mode (after past es) fs → LegalFrom capacity mode past (es ++ fs)
-legal-append capacity mode past [] fs p q = q
-legal-append capacity mode past (e ∷ es) fs p q = (p.0, legal-append capacity mode (e ∷ past) es fs p.1 q)
-
-entry_past : (size : ℕ) (e : Entry) (s : Scene) → (after_item size (items.Made e) s).past ≡ e ∷ s.past
-entry_past size (entries.Offer q r) s = refl
-entry_past size (entries.Accept q k) s = refl
-entry_past size (entries.Look q k t v) s = refl
-entry_past size (entries.Act q k t v) s = refl
-entry_past size (entries.Sync q k) s = refl
-entry_past size (entries.Fault q k) s = refl
-entry_past size (entries.Publish q list) s = refl
-entry_past size entries.Kill s = refl
-entry_past size (entries.Start q list) s = refl
-entry_past size (entries.Collect q k) s = refl
-entry_past size (entries.Power image) s = refl
-
--- the past of a scene is that of its entries
-pub past_after : (size : ℕ) (is : List Item) (s : Scene) → (after_items size is s).past ≡ after s.past (entries_of is)
-past_after size [] s = refl
-past_after size (items.Made e ∷ is) s = past_after size is (after_item size (items.Made e) s) ∙ ap (λ (past : List Entry). after past (entries_of is)) (entry_past size e s)
-past_after size (items.Store tag area place bytes ∷ is) s = past_after size is (after_item size (items.Store tag area place bytes) s)
-past_after size (items.Idle ∷ is) s = past_after size is s
-
+-- one after another
 pub right-append : (h : Header1) (m n k : Moment) (xs ys : List Item) → Right h m xs n → Right h n ys k → Right h m (xs ++ ys) k
 right-append h m n k xs ys p q =
     let legal_next : LegalFrom h.capacity h.mode (after m.scene.past (entries_of xs)) (entries_of ys) =
@@ -149,38 +90,78 @@ ask_right h m a plain good is = tested h m (can_take h.size Direct a (m.lanes 0)
   legal = tt;
 })
 
--- all the stores of a request
-guest_some : (h : Header1) (m : Moment) (w : Waiting) → IsPlain h → Good h m → (m.lanes 0).driver.waiting ≡ Some w → Leads h m (guest_stores h 0 16 (Some w) m)
-guest_some h m w plain good waiting =
-    let l : Lane = m.lanes 0 in
-    let waits : IsWaiting h.size h.capacity m.scene.past (m.scene.heads 0) l.driver w = subst (λ (o : Option Waiting). WaitsWell h.size h.capacity m.scene.past (m.scene.heads 0) l.driver o) waiting good.holds.driven.waits in
-    let plan : IsPlan h.size l.driver.avail_idx w.head w.left = waits.plan in
-    let stores : List Store = plan.first ++ offer_stores (the_ring h.size) l.driver.avail_idx w.head in
-    let long : length stores ≡ length plan.first + 2 = length-append plan.first (offer_stores (the_ring h.size) l.driver.avail_idx w.head) in
-    let few : length plan.first ≤ 14 = plan.few in
-    let all : Offered h h.mode m.scene l (request_of w.ask) (guest_items 16 0 w.ask stores) = guest_holds h h.mode m.scene l w 16 plan.first plain.good waits plan.harmless (omega arith) good.holds in
-    let none : drop 16 stores ≡ [] = drop_all 16 stores (omega arith) in
-    let past : (after_items h.size (guest_items 16 0 w.ask stores) m.scene).past ≡ entries.Offer 0 (request_of w.ask) ∷ m.scene.past = all.past in
-    let P : List Store → Type 0 = λ left. Leads h m (comes_about h 0 (guest_items 16 0 w.ask left) (with_driver (after_stores 16 (record w { left = left }) l.driver) l) m) in
-    let whole : P stores =
-    subst (λ (rest : List Store). Leads h m (comes_about h 0 (guest_items 16 0 w.ask stores) (with_driver (with_left (record w { left = stores }) rest l.driver) l) m)) (sym none) (record {
-      good = record {
-        holds = all.holds;
-        asleep = λ dead. (((good.asleep dead).0), (ap (λ (p : List Entry). started p 0) past ∙ (good.asleep dead).1));
-        idle = λ stopped. ap (λ (p : List Entry). accepted p 0) past ∙ good.idle (sym (ap (λ (p : List Entry). started p 0) past) ∙ stopped);
-      };
-      each = all.each;
-      scene = refl;
-      legal = all.legal;
-    }) in
-    subst P (sym plan.whole) whole
+-- after these stores the request is offered
+offers_right : (h : Header1) (m : Moment) (r : Asked) (is : List Item) → Good h m → Offered h h.mode m.scene (m.lanes 0) r is → Leads h m (comes_about h 0 is (offered (m.lanes 0)) m)
+offers_right h m r is good all = record {
+  good = record {
+    holds = all.holds;
+    asleep = λ dead. ((good.asleep dead).0, ap (λ (p : List Entry). started p 0) all.past ∙ (good.asleep dead).1);
+    idle = λ stopped. ap (λ (p : List Entry). accepted p 0) all.past ∙ good.idle (sym (ap (λ (p : List Entry). started p 0) all.past) ∙ stopped);
+  };
+  each = all.each;
+  scene = refl;
+  legal = all.legal;
+}
 
-guest_right : (h : Header1) (m : Moment) → IsPlain h → Good h m → Leads h m (guest h 0 16 m)
-guest_right h m plain good = tested h m (is_some (m.lanes 0).driver.waiting) (guest_stores h 0 16 (m.lanes 0).driver.waiting m) plain good (λ ready. go (m.lanes 0).driver.waiting refl)
+-- the queue after so many stores, where these are left
+abbrev StoresRight : Header1 → Moment → Waiting → ℕ → List Store → Type 0
+StoresRight h m w count left = Leads h m (comes_about h 0 (guest_items count 0 w.ask left) (with_driver (with_left w (drop count left) (m.lanes 0).driver) (m.lanes 0)) m)
+
+-- with none left
+nothing_left : (h : Header1) (m : Moment) (w : Waiting) (count : ℕ) (left : List Store) → length left ≤ count → Leads h m (comes_about h 0 (guest_items count 0 w.ask left) (offered (m.lanes 0)) m) → StoresRight h m w count left
+nothing_left h m w count left enough all = subst (λ (rest : List Store). Leads h m (comes_about h 0 (guest_items count 0 w.ask left) (with_driver (with_left w rest (m.lanes 0).driver) (m.lanes 0)) m)) (sym (drop_all count left enough)) all
+
+-- fewer stores of a plan than are left: nothing is offered
+guest_part : (h : Header1) (m : Moment) (w : Waiting) (count : ℕ) (first : List Store) → IsPlain h → Good h m → (m.lanes 0).driver.waiting ≡ Some w → AllByRecursion (IsHarmless w.head) first → length first ≤ 14 → count < length first + 2
+    → StoresRight h m w count (first ++ offer_stores (the_ring h.size) (m.lanes 0).driver.avail_idx w.head)
+guest_part h m w count first plain good waiting harmless few less =
+    let l : Lane = m.lanes 0 in
+    let stores : List Store = first ++ offer_stores (the_ring h.size) l.driver.avail_idx w.head in
+    let is : List Item = guest_items count 0 w.ask stores in
+    let part : Unoffered h m.scene l is = part_holds h m.scene l w count first plain.good (waits_well h m.scene l w waiting good.holds) harmless less good.holds in
+    let s' : Scene = after_items h.size is m.scene in
+    let rest : IsLeft h.size l.driver.avail_idx w.head (drop count stores) = left_after h.size l.driver.avail_idx w.head count first harmless few less in
+    let v' : Driver = record (l.driver) { waiting = Some (record w { left = drop count stores }) } in
+    let next : Leads h m (comes_about h 0 is (with_driver v' l) m) = record {
+      good = record {
+        holds = rest_waits h s' l w (drop count stores) (waits_well h s' l w waiting part.holds) rest part.holds;
+        asleep = λ dead. ((good.asleep dead).0, ap (λ (p : List Entry). started p 0) part.past ∙ (good.asleep dead).1);
+        idle = λ stopped. ap (λ (p : List Entry). accepted p 0) part.past ∙ good.idle (sym (ap (λ (p : List Entry). started p 0) part.past) ∙ stopped);
+      };
+      each = part.each;
+      scene = refl;
+      legal = subst (λ (es : List Entry). LegalFrom h.capacity h.mode m.scene.past es) (sym part.none) tt;
+    } in
+    subst (λ (v : Driver). Leads h m (comes_about h 0 is (with_driver v l) m)) (sym (left_waits w (drop count stores) l.driver (left_some h.size l.driver.avail_idx w.head (drop count stores) rest))) next
+
+-- the next stores of the request that waits
+guest_some : (h : Header1) (m : Moment) (w : Waiting) (count : ℕ) → IsPlain h → Good h m → EntryStands h m → 1 ≤ count → (m.lanes 0).driver.waiting ≡ Some w → StoresRight h m w count w.left
+guest_some h m w count plain good entry some waiting =
+    let l : Lane = m.lanes 0 in
+    let waits : IsWaiting h.size h.capacity m.scene.past (m.scene.heads 0) l.driver w = waits_well h m.scene l w waiting good.holds in
+    elim waits.plan [
+      | inl plan ↦
+          let stores : List Store = plan.first ++ offer_stores (the_ring h.size) l.driver.avail_idx w.head in
+          let long : length stores ≡ length plan.first + 2 = length-append plan.first (offer_stores (the_ring h.size) l.driver.avail_idx w.head) in
+          let here : StoresRight h m w count stores = elim (cases_lt count (length plan.first + 2)) [
+            | inl less ↦ guest_part h m w count plan.first plain good waiting plan.harmless plan.few less
+            | inr enough ↦
+                nothing_left h m w count stores (omega (arith, long)) (offers_right h m (request_of w.ask) (guest_items count 0 w.ask stores) good (guest_holds h h.mode m.scene l w count plan.first plain.good waits plan.harmless enough good.holds))
+          ] in
+          subst (λ (left : List Store). StoresRight h m w count left) (sym plan.whole) here
+      | inr last ↦
+          let stores : List Store = index_store (the_ring h.size) l.driver.avail_idx ∷ [] in
+          let well : EntryWell h.size (h.base + length (m.scene.heads 0)) m.scene.memory (Some w) = subst (λ (o : Option Waiting). EntryWell h.size (h.base + length (m.scene.heads 0)) m.scene.memory o) waiting entry in
+          let here : StoresRight h m w count stores = nothing_left h m w count stores (omega (arith, some)) (offers_right h m (request_of w.ask) (guest_items count 0 w.ask stores) good (last_holds h h.mode m.scene l w count plain.good waits (omega (arith, some)) good.holds (well (ap length last)))) in
+          subst (λ (left : List Store). StoresRight h m w count left) (sym last) here
+    ]
+
+guest_right : (h : Header1) (m : Moment) (count : ℕ) → IsPlain h → Good h m → EntryStands h m → 1 ≤ count → Leads h m (guest h 0 count m)
+guest_right h m count plain good entry some = tested h m (is_some (m.lanes 0).driver.waiting) (guest_stores h 0 count (m.lanes 0).driver.waiting m) plain good (λ ready. go (m.lanes 0).driver.waiting refl)
   where
-    go : (o : Option Waiting) → (m.lanes 0).driver.waiting ≡ o → Leads h m (guest_stores h 0 16 o m)
+    go : (o : Option Waiting) → (m.lanes 0).driver.waiting ≡ o → Leads h m (guest_stores h 0 count o m)
     go None e = nothing_right h m good
-    go (Some w) e = guest_some h m w plain good e
+    go (Some w) e = guest_some h m w count plain good entry some e
 
 collect_right : (h : Header1) (m : Moment) → IsPlain h → Good h m → Leads h m (collect h 0 m)
 collect_right h m plain good = go (seen (the_ring h.size) m.scene.memory (h.base + collected m.scene.past 0)) refl
@@ -285,22 +266,43 @@ pub drain_right : (h : Header1) (m : Moment) (choose : Moment → Turn) (is : Li
 drain_right h m choose is next plain good (inl none) = made_right h m is next (played (items.Idle ∷ []) m) none.1 (idle_right h m plain good)
 drain_right h m choose is next plain good (inr some) = made_right h m is next (turns some.1.count choose h 0 m) some.1.made (turns_right some.1.count choose h m plain good)
 
+-- a single turn, and up to so many
+single_right : (h : Header1) (t : Turn) (m : Moment) → IsPlain h → Good h m → Leads h m (single h 0 t m)
+single_right h t m plain good = tested h m (is_due h 0 t m) (one_turn h 0 t m) plain good (λ due. turn_right h t m plain good due)
+
+up_to_right : (count : ℕ) (choose : Moment → Turn) (h : Header1) (m : Moment) → IsPlain h → Good h m → Leads h m (up_to count choose h 0 m)
+up_to_right count choose h m plain good = tested h m (is_due h 0 (choose m) m) (turns count choose h 0 m) plain good (λ due. turns_right count choose h m plain good)
+
 -- ---- any event
 
-pub event_right : (h : Header1) (m : Moment) (e : Event) (is : List Item) (next : Moment) → IsPlain h → Good h m → IsEvent h e → Plays h m e is next → Right h m is next
-event_right h m (events.Ask q shape a) is next plain good fits plays =
+pub event_right : (h : Header1) (m : Moment) (e : Event) (is : List Item) (next : Moment) → IsPlain h → Good h m → EntryStands h m → IsEvent h e → Plays h m e is next → Right h m is next
+event_right h m (events.Ask q shape a) is next plain good entry fits plays =
     let P : ℕ → Shape → Type 0 = λ p sh. Plays h m (events.Ask p sh a) is next in
     let here : P 0 Direct = subst (λ (sh : Shape). P 0 sh) fits.1 (subst (λ (p : ℕ). P p shape) fits.0 plays) in
     made_right h m is next (ask h 0 Direct a m) here (ask_right h m a plain good fits.2)
-event_right h m (events.Guest q k) is next plain good fits plays =
-    let P : ℕ → ℕ → Type 0 = λ p c. Plays h m (events.Guest p c) is next in
-    let here : P 0 16 = subst (λ (c : ℕ). P 0 c) fits.1 (subst (λ (p : ℕ). P p k) fits.0 plays) in
-    made_right h m is next (guest h 0 16 m) here (guest_right h m plain good)
-event_right h m (events.Collect q) is next plain good fits plays =
+event_right h m (events.Guest q k) is next plain good entry fits plays =
+    let here : Plays h m (events.Guest 0 k) is next = subst (λ (p : ℕ). Plays h m (events.Guest p k) is next) fits.0 plays in
+    made_right h m is next (guest h 0 k m) here (guest_right h m k plain good entry fits.1)
+event_right h m (events.Collect q) is next plain good entry fits plays =
     let here : Plays h m (events.Collect 0) is next = subst (λ (p : ℕ). Plays h m (events.Collect p) is next) fits plays in
     made_right h m is next (collect h 0 m) here (collect_right h m plain good)
-event_right h m events.Boot is next plain good fits plays = made_right h m is next (boot m) plays (boot_right h m plain good)
-event_right h m events.Join is next plain good fits plays = made_right h m is next (join m) plays (join_right h m plain good)
-event_right h m (events.Drain q) is next plain good fits plays =
+event_right h m events.Boot is next plain good entry fits plays = made_right h m is next (boot m) plays (boot_right h m plain good)
+event_right h m events.Join is next plain good entry fits plays = made_right h m is next (join m) plays (join_right h m plain good)
+event_right h m (events.Start q) is next plain good entry fits plays =
+    let here : Plays h m (events.Start 0) is next = subst (λ (p : ℕ). Plays h m (events.Start p) is next) fits plays in
+    made_right h m is next (single h 0 Start m) here (single_right h Start m plain good)
+event_right h m (events.Fetch q) is next plain good entry fits plays =
+    let here : Plays h m (events.Fetch 0) is next = subst (λ (p : ℕ). Plays h m (events.Fetch p) is next) fits plays in
+    made_right h m is next (single h 0 Fetch m) here (single_right h Fetch m plain good)
+event_right h m (events.Work q place) is next plain good entry fits plays =
+    let here : Plays h m (events.Work 0 place) is next = subst (λ (p : ℕ). Plays h m (events.Work p place) is next) fits.0 plays in
+    made_right h m is next (single h 0 (Work place) m) here (single_right h (Work place) m plain good)
+event_right h m (events.Publish q most) is next plain good entry fits plays =
+    let here : Plays h m (events.Publish 0 most) is next = subst (λ (p : ℕ). Plays h m (events.Publish p most) is next) fits.0 plays in
+    made_right h m is next (single h 0 (Publish most) m) here (single_right h (Publish most) m plain good)
+event_right h m (events.Turn q count) is next plain good entry fits plays =
+    let here : Plays h m (events.Turn 0 count) is next = subst (λ (p : ℕ). Plays h m (events.Turn p count) is next) fits.0 plays in
+    made_right h m is next (up_to count (any_choice h 0) h 0 m) here (up_to_right count (any_choice h 0) h m plain good)
+event_right h m (events.Drain q) is next plain good entry fits plays =
     let here : Plays h m (events.Drain 0) is next = subst (λ (p : ℕ). Plays h m (events.Drain p) is next) fits plays in
     drain_right h m (drain_choice h 0 (accepted m.scene.past 0)) is next plain good here

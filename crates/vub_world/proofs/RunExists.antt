@@ -3,20 +3,22 @@ use Rattle.std.proofs.Common.{◌≡◌, ◌≤◌, ℕ, zero, suc, Bool, true, 
 use Rattle.std.specs.List.{AllByRecursion}
 use Rattle.vub_base.specs.declared.header.Header1.{Header1}
 use Rattle.vub_ring.specs.declared.readiness.Turn.{Turn}
+use Rattle.vub_ring.specs.declared.readiness.Turn.TheVariants.{Start, Fetch, Work, Publish}
 use Rattle.vub_device.specs.Past.{accepted}
 use Rattle.vub_schedule.specs.declared.types.Event.{Event}
 use Rattle.vub_schedule.specs.declared.types.Event.TheVariants as events
 use Rattle.vub_schedule.specs.declared.types.Schedule.{Schedule}
-use Rattle.vub_schedule.specs.Spelling.{IsEvent, IsSchedule}
+use Rattle.vub_schedule.specs.Spelling.{IsHeader, IsEvent, IsSchedule}
 use Rattle.vub_world.specs.declared.report.items.Item.{Item}
 use Rattle.vub_world.specs.declared.report.items.Item.TheVariants as items
 use Rattle.vub_world.specs.declared.report.items.Record.{Record}
 use Rattle.vub_world.specs.Moments.{Moment, opening}
-use Rattle.vub_world.specs.Run.{Played, played, ask, guest, collect, boot, join, one_turn, is_due, then_played, turns, drain_choice, Drains, Plays, RunFrom, Run}
+use Rattle.vub_world.specs.Run.{Played, played, ask, guest, collect, boot, join, one_turn, is_due, then_played, turns, single, up_to, any_choice, drain_choice, Drains, Plays, RunFrom, Run}
 use Rattle.vub_world.proofs.RunTurns.{IsPlain, Good}
-use Rattle.vub_world.proofs.RunEvents.{Right, turn_right, event_right}
+use Rattle.vub_world.proofs.RunEvents.{turn_right}
 use Rattle.vub_world.proofs.RunEnds.{effort_at, turn_falls}
-use Rattle.vub_world.proofs.Runs.{opening_good, plain_header}
+use Rattle.vub_world.proofs.Runs.{plain_header}
+use Rattle.vub_world.proofs.RunsLegal.{IsHeld, opening_held, held_next}
 
 -- turns end
 pub turns_end : (fuel : ℕ) (choose : Moment → Turn) (h : Header1) (m : Moment) → IsPlain h → Good h m → effort_at m ≤ fuel
@@ -60,18 +62,22 @@ event_plays h m (events.Guest q k) plain good fits = record { items = (guest h q
 event_plays h m (events.Collect q) plain good fits = record { items = (collect h q m).items; next = (collect h q m).next; plays = refl }
 event_plays h m events.Boot plain good fits = record { items = (boot m).items; next = (boot m).next; plays = refl }
 event_plays h m events.Join plain good fits = record { items = (join m).items; next = (join m).next; plays = refl }
+event_plays h m (events.Start q) plain good fits = record { items = (single h q Start m).items; next = (single h q Start m).next; plays = refl }
+event_plays h m (events.Fetch q) plain good fits = record { items = (single h q Fetch m).items; next = (single h q Fetch m).next; plays = refl }
+event_plays h m (events.Work q place) plain good fits = record { items = (single h q (Work place) m).items; next = (single h q (Work place) m).next; plays = refl }
+event_plays h m (events.Publish q most) plain good fits = record { items = (single h q (Publish most) m).items; next = (single h q (Publish most) m).next; plays = refl }
+event_plays h m (events.Turn q count) plain good fits = record { items = (up_to count (any_choice h q) h q m).items; next = (up_to count (any_choice h q) h q m).next; plays = refl }
 event_plays h m (events.Drain q) plain good fits =
     let d = drain_plays h m (drain_choice h 0 (accepted m.scene.past 0)) plain good in
     record { items = d.0; next = d.1; plays = subst (λ (p : ℕ). Plays h m (events.Drain p) d.0 d.1) (sym fits) d.2 }
 
-pub run_from_some : (h : Header1) (m : Moment) (es : List Event) → IsPlain h → Good h m → AllByRecursion (IsEvent h) es → (rs : List Record) × RunFrom h m es rs
-run_from_some h m [] plain good fits = ([], tt)
-run_from_some h m (e ∷ es) plain good fits =
-    let o : Outcome h m e = event_plays h m e plain good fits.0 in
-    let right : Right h m o.items o.next = event_right h m e o.items o.next plain good fits.0 o.plays in
-    let rest = run_from_some h o.next es plain right.good fits.1 in
+pub run_from_some : (h : Header1) (m : Moment) (es : List Event) → IsHeader h → IsHeld h m → AllByRecursion (IsEvent h) es → (rs : List Record) × RunFrom h m es rs
+run_from_some h m [] header held fits = ([], tt)
+run_from_some h m (e ∷ es) header held fits =
+    let o : Outcome h m e = event_plays h m e (plain_header h header) held.0 fits.0 in
+    let rest = run_from_some h o.next es header (held_next h m e o.items o.next header held fits.0 o.plays) fits.1 in
     (record { event = e; items = o.items } ∷ rest.0, (refl, (o.next, o.plays, rest.1)))
 
 -- every schedule of the grammar has a run
 pub run_some : (s : Schedule) → IsSchedule s → (records : List Record) × Run s records
-run_some s is = let plain : IsPlain s.header = plain_header s.header is.header in run_from_some s.header (opening s.header) s.events plain (opening_good s.header plain) is.events
+run_some s is = run_from_some s.header (opening s.header) s.events is.header (opening_held s.header is.header) is.events

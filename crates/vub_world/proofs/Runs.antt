@@ -1,30 +1,19 @@
--- Every run of a schedule is a legal history, and memory tracks it.
-use Rattle.std.proofs.Common.{◌≡◌, ◌<◌, ℕ, true, false, List, [], ◌∷◌, length, refl, ap, sym, ◌∙◌, subst, inl, arith}
-use Rattle.std.specs.List.{AllByRecursion}
+-- Where every run begins.
+use Rattle.std.proofs.Common.{◌≡◌, ◌<◌, ℕ, true, false, List, [], length, refl, sym, ◌∙◌, subst, inl, arith}
 use Rattle.byteorder.specs.Endian.{little_bytes}
 use Rattle.std.proofs.lemmas.List.{length-replicate}
 use Rattle.vub_base.specs.declared.header.Header1.{Header1}
 use Rattle.vub_shared.specs.Bytes.{Bytes, put}
 use Rattle.vub_shared.proofs.BytesLemmas.{word-put_same}
 use Rattle.vub_ring.specs.Ring.{avail_idx_place, used_idx_place}
-use Rattle.vub_device.specs.declared.entry.Entry.{Entry}
-use Rattle.vub_device.specs.Legal.{Legal, LegalFrom, after}
 use Rattle.vub_device.specs.Requests.{zeros}
-use Rattle.vub_schedule.specs.declared.types.Event.{Event}
-use Rattle.vub_schedule.specs.declared.types.Schedule.{Schedule}
-use Rattle.vub_schedule.specs.Spelling.{IsHeader, IsEvent, IsSchedule}
-use Rattle.vub_world.specs.declared.report.items.Record.{Record}
-use Rattle.vub_world.specs.Memory.{Scene, opening_scene, opened}
-use Rattle.vub_world.specs.Moments.{Moment, opening, opening_lane}
-use Rattle.vub_world.specs.Run.{RunFrom, Run}
-use Rattle.vub_world.specs.Tracking.{TracksFrom, TracksAlways, entries_of, history_of}
+use Rattle.vub_schedule.specs.Spelling.{IsHeader}
+use Rattle.vub_world.specs.Memory.{opening_scene, opened}
+use Rattle.vub_world.specs.Moments.{opening, opening_lane}
 use Rattle.vub_world.proofs.MachineLemmas.{size_laps}
 use Rattle.vub_world.proofs.RunGood.{the_ring, Known, Ringed, IsOut, Holds}
 use Rattle.vub_world.proofs.RunFrames.{keeps, length_little}
 use Rattle.vub_world.proofs.RunTurns.{IsPlain, Good}
-use Rattle.vub_world.proofs.RunEvents.{Right, event_right, legal-append, past_after}
-
--- ---- the opening
 
 length_zeros : length zeros ≡ 512
 unfolding zeros
@@ -100,27 +89,3 @@ plain_header h is =
       };
       back = is.back;
     }
-
--- ---- the run
-
--- from a moment on: legal, and tracked after each item with its entry
-pub run_from : (h : Header1) (m : Moment) (es : List Event) (rs : List Record) → IsPlain h → Good h m → AllByRecursion (IsEvent h) es → RunFrom h m es rs
-    → LegalFrom h.capacity h.mode m.scene.past (history_of rs) × TracksFrom h m.scene rs
-run_from h m [] [] plain good fits run = (tt, tt)
-run_from h m [] (r ∷ rs) plain good fits run = absurd run
-run_from h m (e ∷ es) [] plain good fits run = absurd run
-run_from h m (e ∷ es) (r ∷ rs) plain good fits run =
-    let next : Moment = run.1.0 in
-    let right : Right h m r.items next = event_right h m e r.items next plain good fits.0 run.1.1 in
-    let rest = run_from h next es rs plain right.good fits.1 run.1.2 in
-    let past : next.scene.past ≡ after m.scene.past (entries_of r.items) = ap (λ (s : Scene). s.past) right.scene ∙ past_after h.size r.items m.scene in (
-      legal-append h.capacity h.mode m.scene.past (entries_of r.items) (history_of rs) right.legal (subst (λ (p : List Entry). LegalFrom h.capacity h.mode p (history_of rs)) past rest.0),
-      (right.each, subst (λ (s : Scene). TracksFrom h s rs) right.scene rest.1),
-    )
-
--- every run of a schedule of the grammar is a legal history of its disk, and memory and history agree after each item,
--- a store and the entry that it makes taken together
-pub run_true : (s : Schedule) (records : List Record) → IsSchedule s → Run s records → Legal s.header.capacity s.header.mode (history_of records) × TracksAlways s.header records
-run_true s records is run =
-    let plain : IsPlain s.header = plain_header s.header is.header in
-    run_from s.header (opening s.header) s.events records plain (opening_good s.header plain) is.events run

@@ -1,4 +1,4 @@
-use Rattle.vub_world.proofs.Runs.{run_true}
+use Rattle.vub_world.proofs.RunsLegal.{run_true}
 use Rattle.vub_world.proofs.laws.every_run_is_legal.Goals as goal
 
 pub returns-clause-legal : goal.returns-clause-legal

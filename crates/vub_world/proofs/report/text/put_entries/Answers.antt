@@ -4,7 +4,7 @@ use Rattle.std.proofs.lemmas.Grind.{flat_map-append}
 use Rattle.vub_world.specs.declared.report.items.Item.{Item}
 use Rattle.vub_world.specs.RecordText.{entry_line, entries_spelling}
 use Rattle.vub_world.specs.Tracking.{entries_of}
-use Rattle.vub_world.proofs.RunEvents.{entries-append}
+use Rattle.vub_world.proofs.RunItems.{entries-append}
 use Rattle.vub_world.proofs.report.text.put_entries.Goals as goal
 
 abbrev text_of : List Item → List ℕ
