@@ -3,7 +3,7 @@ use Rattle.std.proofs.Common.{◌≡◌, ◌≢◌, ◌≤◌, ◌<◌, ℕ, zer
 use Rattle.std.specs.Prelude.{Option, Some, None, slice_index, is_some, ◌==◌, ◌&&◌, nat_lt}
 use Rattle.std.proofs.lemmas.Bool.Decides.{nat_tests}
 use Rattle.std.proofs.lemmas.Bool.{cases_Bool, cases_lt}
-use Rattle.std.proofs.lemmas.List.{length-append, length_push}
+use Rattle.std.proofs.lemmas.List.{length_push}
 use Rattle.vub_base.specs.MemForms.{next_count}
 use Rattle.vub_base.specs.declared.header.Header1.{Header1}
 use Rattle.vub_base.specs.declared.request.Ask.{Ask}
@@ -12,7 +12,6 @@ use Rattle.vub_shared.specs.Bytes.{Bytes}
 use Rattle.vub_shared.specs.declared.watched_shared.WatchedShared.{WatchedShared}
 use Rattle.vub_ring.specs.Ring.{last_head}
 use Rattle.vub_driver.specs.Drivers.{Driver, Waiting, after_stores}
-use Rattle.vub_driver.specs.Stores.{offer_stores}
 use Rattle.vub_device.specs.declared.entry.Asked.{Asked}
 use Rattle.vub_device.specs.declared.entry.Entry.{Entry}
 use Rattle.vub_device.specs.declared.entry.Entry.TheVariants as entries
@@ -37,14 +36,12 @@ use Rattle.vub_world.specs.Memory.{Scene, after_item, after_items}
 use Rattle.vub_world.specs.Moments.{Lane, Moment}
 use Rattle.vub_world.specs.QueueState.{state_of}
 use Rattle.vub_world.specs.Run.{Stands, played, if_ready, with_lane, with_driver, request_of, guest_items, guest_stores, guest}
-use Rattle.vub_world.proofs.RunGood.{the_ring, Known, IsOut, IsPlan, IsWaiting, WaitsWell, Driven}
-use Rattle.vub_world.proofs.RunEvents.{Right, event_right}
+use Rattle.vub_world.proofs.RunGood.{the_ring, Known, IsOut, Driven}
 use Rattle.vub_world.proofs.RunOffers.{same_head, new_head, same_asked, new_asked}
-use Rattle.vub_world.proofs.RunTurns.{IsPlain, Good}
-use Rattle.vub_world.proofs.Runs.{plain_header}
-use Rattle.vub_world.proofs.RunsTo.{stands_good}
+use Rattle.vub_world.proofs.RunTurns.{Good}
+use Rattle.vub_world.proofs.RunsTo.{stands_good, stands_more}
 use Rattle.vub_world.proofs.RunChainsStores.{put_all}
-use Rattle.vub_world.proofs.RunChainsGuests.{guest_scene}
+use Rattle.vub_world.proofs.RunChainsGuests.{guest_scene, part_scene}
 use Rattle.vub_world.proofs.QueueAtMoves.{at_offer}
 
 -- ---- the log
@@ -116,68 +113,100 @@ offered_log n cap base past heads a head v l now at known driven more offers =
 
 -- ---- the moment
 
--- the lane after all of the stores
-abbrev pub offered_lane : Waiting → Moment → Lane
-offered_lane x m = with_driver (after_stores 16 x (m.lanes 0).driver) (m.lanes 0)
+-- the lane after so many of the stores
+abbrev pub stored_lane : ℕ → Waiting → Moment → Lane
+stored_lane count x m = with_driver (after_stores count x (m.lanes 0).driver) (m.lanes 0)
 
 -- the scene after the offer, where memory is that
 abbrev pub offered_scene : ℕ → Asked → Bytes → Scene → Scene
 offered_scene size r b s = after_item size (items.Made (entries.Offer 0 r)) (record s { memory = b })
 
-abbrev pub moment_with : Waiting → Moment → Scene → Moment
-moment_with x m s = with_lane 0 (offered_lane x m) (record m { scene = s })
+abbrev pub moment_with : ℕ → Waiting → Moment → Scene → Moment
+moment_with count x m s = with_lane 0 (stored_lane count x m) (record m { scene = s })
 
-offered_life : (h : Header1) (ring : SplitRing) (m : Moment) (x : Waiting) (r : Asked) (b : Bytes) (life : Option Life) → Good h m → LifeAt h ring m life → LifeAt h ring (moment_with x m (offered_scene h.size r b m.scene)) life
-offered_life h ring m x r b None good at = at
-offered_life h ring m x r b (Some l) good at = (at.0, attached l.queue at.1)
+offered_life : (h : Header1) (ring : SplitRing) (count : ℕ) (m : Moment) (x : Waiting) (r : Asked) (b : Bytes) (life : Option Life) → Good h m → LifeAt h ring m life → LifeAt h ring (moment_with count x m (offered_scene h.size r b m.scene)) life
+offered_life h ring count m x r b None good at = at
+offered_life h ring count m x r b (Some l) good at = (at.0, attached l.queue at.1)
   where
-    attached : (o : Option Queue) → AttachedAt h ring m o → AttachedAt h ring (moment_with x m (offered_scene h.size r b m.scene)) o
+    attached : (o : Option Queue) → AttachedAt h ring m o → AttachedAt h ring (moment_with count x m (offered_scene h.size r b m.scene)) o
     attached None a = a
     attached (Some q) a = (a.0, a.1, at_offer h ring m.scene.past (m.scene.heads 0) (m.lanes 0).phase (m.lanes 0).batch (m.lanes 0).completed (m.lanes 0).made (state_of q) r (last_head (the_ring h.size) b) good.holds.known good.holds.worked a.2)
+
+-- stores that offer nothing are nothing to the device
+stored_life : (h : Header1) (ring : SplitRing) (count : ℕ) (m : Moment) (x : Waiting) (b : Bytes) (life : Option Life) → LifeAt h ring m life → LifeAt h ring (moment_with count x m (record m.scene { memory = b })) life
+stored_life h ring count m x b None at = at
+stored_life h ring count m x b (Some l) at = (at.0, attached l.queue at.1)
+  where
+    attached : (o : Option Queue) → AttachedAt h ring m o → AttachedAt h ring (moment_with count x m (record m.scene { memory = b })) o
+    attached None a = a
+    attached (Some q) a = a
 
 -- the machine with other parts of the front
 abbrev pub with_front : Machine → WatchedShared → Guest → Option Ask → Log → Machine
 with_front w memory guest asked log = record w { memory = memory; guest = guest; asked = asked; log = log }
 
-offered_at : (w : Machine) (memory : WatchedShared) (guest' : Guest) (asked' : Option Ask) (log : Log) (es : List Event) (rs : List Record) (m : Moment) (x : Waiting) (is : List Item)
-    → seen_in guest' ≡ seen_in w.guest → next_count (offered_in w.log) ≡ offered_in w.log + 1 → Stands w.header es rs m → MachineAt w m → (m.lanes 0).driver.waiting ≡ Some x
-    → GuestGoes 16 x w (with_front w memory guest' asked' log) m [] is
-    → (next : Moment) × (played is next ≡ guest w.header 0 16 m) × MachineAt (with_front w memory guest' asked' log) next
-offered_at w memory guest' asked' log es rs m x is position more s at waits goes =
+-- the moment that so many stores of a request lead to
+abbrev pub stored_moment : Header1 → ℕ → Waiting → Moment → Moment
+stored_moment h count x m = (guest_stores h 0 count (Some x) m).next
+
+-- where these are all that were left
+offered_at : (w : Machine) (memory : WatchedShared) (guest' : Guest) (asked' : Option Ask) (log : Log) (es : List Event) (rs : List Record) (m : Moment) (x : Waiting) (is : List Item) (count : ℕ)
+    → seen_in guest' ≡ seen_in w.guest → next_count (offered_in w.log) ≡ offered_in w.log + 1 → Stands w.header es rs m → MachineAt w m → count < 65536 → 0 < length x.left → length x.left ≤ count
+    → played is (stored_moment w.header count x m) ≡ guest w.header 0 count m → GuestGoes count x w (with_front w memory guest' asked' log) m [] is
+    → MachineAt (with_front w memory guest' asked' log) (stored_moment w.header count x m)
+offered_at w memory guest' asked' log es rs m x is count position more s at fits some few plays goes =
     let h : Header1 = w.header in
     let now : Machine = with_front w memory guest' asked' log in
-    let plain : IsPlain h = plain_header h s.header in
     let good : Good h m = stands_good h es rs m s in
-    let v : Driver = (m.lanes 0).driver in
     let r : Asked = request_of x.ask in
-    let next : Moment = (guest_stores h 0 16 (Some x) m).next in
-    let plays : played is next ≡ guest h 0 16 m = ap (λ (js : List Item). played js next) goes.items ∙ ap (λ (o : Option Waiting). if_ready (is_some o) (guest_stores h 0 16 o m) m) (sym waits) in
-    let right : Right h m is next = event_right h m (events.Guest 0 16) is next plain good (refl, refl) plays in
-    let waiting : IsWaiting h.size h.capacity m.scene.past (m.scene.heads 0) v x = subst (λ (o : Option Waiting). WaitsWell h.size h.capacity m.scene.past (m.scene.heads 0) v o) waits good.holds.driven.waits in
-    let plan : IsPlan h.size v.avail_idx x.head x.left = waiting.plan in
-    let long : length x.left ≡ length plan.first + 2 = ap length plan.whole ∙ length-append plan.first (offer_stores (the_ring h.size) v.avail_idx x.head) in
-    let few : length x.left ≤ 16 = omega (arith, long, plan.few) in
+    let next : Moment = stored_moment h count x m in
+    let record_of : Record = record { event = events.Guest 0 count; items = is } in
+    let later : Good h next = stands_good h (es ++ events.Guest 0 count ∷ []) (rs ++ record_of ∷ []) next (stands_more h es rs m next (events.Guest 0 count) record_of s (refl, omega (arith, some, few), fits) refl plays) in
     let b : Bytes = put_all x.left m.scene.memory in
-    let scene : after_items h.size (guest_items 16 0 x.ask x.left) m.scene ≡ offered_scene h.size r b m.scene = guest_scene h.size 16 x.ask x.left m.scene (omega (arith, long)) few in
-    let whole : next ≡ moment_with x m (offered_scene h.size r b m.scene) = ap (moment_with x m) scene in
-    let front : FrontAt now (moment_with x m (offered_scene h.size r b m.scene)) = subst (λ (n : Moment). FrontAt now n) whole goes.front in
-    let good_next : Good h (moment_with x m (offered_scene h.size r b m.scene)) = subst (λ (n : Moment). Good h n) whole right.good in
+    let scene : after_items h.size (guest_items count 0 x.ask x.left) m.scene ≡ offered_scene h.size r b m.scene = guest_scene h.size count x.ask x.left m.scene some few in
+    let whole : next ≡ moment_with count x m (offered_scene h.size r b m.scene) = ap (moment_with count x m) scene in
+    let front : FrontAt now (moment_with count x m (offered_scene h.size r b m.scene)) = subst (λ (n : Moment). FrontAt now n) whole goes.front in
+    let good_next : Good h (moment_with count x m (offered_scene h.size r b m.scene)) = subst (λ (n : Moment). Good h n) whole later in
     let shown : head_shown now ≡ last_head (the_ring h.size) b = ap (λ (bs : Bytes). last_head (the_ring h.size) bs) front.memory in
     let offers : Offers w.log log (last_head (the_ring h.size) b) x.ask = subst (λ (d : ℕ). Offers w.log log d x.ask) shown (goes.log.offers few) in
-    let stands : MachineAt now (moment_with x m (offered_scene h.size r b m.scene)) = record {
+    let stands : MachineAt now (moment_with count x m (offered_scene h.size r b m.scene)) = record {
       front = front;
       position = position ∙ at.position;
-      life = offered_life h w.ring m x r b w.life good at.life;
+      life = offered_life h w.ring count m x r b w.life good at.life;
       disk = at.disk;
-      log = offered_log h.size h.capacity h.base m.scene.past (m.scene.heads 0) x.ask (last_head (the_ring h.size) b) (offered_lane x m).driver w.log log at.log good.holds.known good_next.holds.driven more offers;
+      log = offered_log h.size h.capacity h.base m.scene.past (m.scene.heads 0) x.ask (last_head (the_ring h.size) b) (stored_lane count x m).driver w.log log at.log good.holds.known good_next.holds.driven more offers;
     } in
-    (next, plays, subst (λ (n : Moment). MachineAt now n) (sym whole) stands)
+    subst (λ (n : Moment). MachineAt now n) (sym whole) stands
+
+-- where some are left
+partly_at : (w : Machine) (memory : WatchedShared) (guest' : Guest) (asked' : Option Ask) (log : Log) (m : Moment) (x : Waiting) (is : List Item) (count : ℕ) → seen_in guest' ≡ seen_in w.guest → MachineAt w m → count < length x.left
+    → GuestGoes count x w (with_front w memory guest' asked' log) m [] is → MachineAt (with_front w memory guest' asked' log) (stored_moment w.header count x m)
+partly_at w memory guest' asked' log m x is count position at part goes =
+    let h : Header1 = w.header in
+    let now : Machine = with_front w memory guest' asked' log in
+    let b : Bytes = put_all (take count x.left) m.scene.memory in
+    let scene : after_items h.size (guest_items count 0 x.ask x.left) m.scene ≡ record m.scene { memory = b } = part_scene h.size count x.ask x.left m.scene part in
+    let whole : stored_moment h count x m ≡ moment_with count x m (record m.scene { memory = b }) = ap (moment_with count x m) scene in
+    let stands : MachineAt now (moment_with count x m (record m.scene { memory = b })) = record {
+      front = subst (λ (n : Moment). FrontAt now n) whole goes.front;
+      position = position ∙ at.position;
+      life = stored_life h w.ring count m x b w.life at.life;
+      disk = at.disk;
+      log = subst (λ (l : Log). LogAt h.size m.scene.past (m.scene.heads 0) l) (sym (goes.log.before part)) at.log;
+    } in
+    subst (λ (n : Moment). MachineAt now n) (sym whole) stands
 
 -- the event is played
-pub guest_performs : (w now : Machine) (es : List Event) (rs : List Record) (m : Moment) (x : Waiting) (is : List Item) → now ≡ record w { memory = now.memory; guest = now.guest; asked = now.asked; log = now.log }
-    → seen_in now.guest ≡ seen_in w.guest → next_count (offered_in w.log) ≡ offered_in w.log + 1 → Stands w.header es rs m → MachineAt w m → (m.lanes 0).driver.waiting ≡ Some x
-    → GuestGoes 16 x w now m [] is
-    → (next : Moment) × (played is next ≡ guest w.header 0 16 m) × MachineAt now next
-guest_performs w now es rs m x is frame position more s at waits goes =
-    let done = offered_at w now.memory now.guest now.asked now.log es rs m x is position more s at waits (subst (λ (u : Machine). GuestGoes 16 x w u m [] is) frame goes) in
-    (done.0, done.1, subst (λ (u : Machine). MachineAt u done.0) (sym frame) done.2)
+pub guest_performs : (w now : Machine) (es : List Event) (rs : List Record) (m : Moment) (x : Waiting) (is : List Item) (count : ℕ) → now ≡ record w { memory = now.memory; guest = now.guest; asked = now.asked; log = now.log }
+    → seen_in now.guest ≡ seen_in w.guest → next_count (offered_in w.log) ≡ offered_in w.log + 1 → Stands w.header es rs m → MachineAt w m → count < 65536 → 0 < length x.left → (m.lanes 0).driver.waiting ≡ Some x
+    → GuestGoes count x w now m [] is → (next : Moment) × (played is next ≡ guest w.header 0 count m) × MachineAt now next
+guest_performs w now es rs m x is count frame position more s at fits some waits goes =
+    let h : Header1 = w.header in
+    let next : Moment = stored_moment h count x m in
+    let plays : played is next ≡ guest h 0 count m = ap (λ (js : List Item). played js next) goes.items ∙ ap (λ (o : Option Waiting). if_ready (is_some o) (guest_stores h 0 count o m) m) (sym waits) in
+    let here : GuestGoes count x w (with_front w now.memory now.guest now.asked now.log) m [] is = subst (λ (u : Machine). GuestGoes count x w u m [] is) frame goes in
+    let stands : MachineAt (with_front w now.memory now.guest now.asked now.log) next = elim (cases_lt count (length x.left)) [
+      | inl part ↦ partly_at w now.memory now.guest now.asked now.log m x is count position at part here
+      | inr all ↦ offered_at w now.memory now.guest now.asked now.log es rs m x is count position more s at fits some (omega arith) plays here
+    ] in
+    (next, plays, subst (λ (u : Machine). MachineAt u next) (sym frame) stands)

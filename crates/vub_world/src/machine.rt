@@ -284,7 +284,7 @@ impl Machine {
         ensures header { self.new.header ≡ self.old.header }
         ensures sound { IsSound self.new }
         ensures kept { OnErr result (self.new ≡ self.old) }
-        ensures performs { IfOk result (λ is. stores ≡ 16 → Performs self.old self.new (events.Guest 0 stores) is) }
+        ensures performs { IfOk result (λ is. Performs self.old self.new (events.Guest 0 stores) is) }
     {
         if self.asked.is_none() {
             return self.idle();

@@ -1,4 +1,5 @@
-use Rattle.std.proofs.Common.{◌≡◌, ℕ, List, [], refl, sym, ap, subst, ◌∙◌, true, false, arith}
+use Rattle.std.proofs.Common.{◌≡◌, ◌≤◌, ◌<◌, ℕ, List, [], length, refl, sym, ap, subst, ◌∙◌, true, false, inl, inr, arith}
+use Rattle.std.proofs.lemmas.Bool.{cases_lt}
 use Rattle.std.specs.Prelude.{Option, Some, None, is_some, not}
 use Rattle.vub_base.specs.declared.request.Ask.{Ask}
 use Rattle.vub_driver.specs.Drivers.{Driver, Waiting}
@@ -11,7 +12,7 @@ use Rattle.vub_world.specs.Moments.{Moment}
 use Rattle.vub_world.specs.Run.{played, guest}
 use Rattle.vub_world.proofs.MachineGuestFits.{front_fits}
 use Rattle.vub_world.proofs.MachineGuestOffers.{guest_performs}
-use Rattle.vub_guest.proofs.GuestLemmas.{left_few}
+use Rattle.vub_guest.proofs.GuestLemmas.{left_few, left_some}
 use Rattle.vub_world.proofs.MachineGuests.{all_gone}
 use Rattle.vub_world.proofs.machine.Machine.guest.Goals as goal
 
@@ -19,7 +20,7 @@ pub guest_stores-requires-clause-fits : goal.guest_stores-requires-clause-fits
 guest_stores-requires-clause-fits c = front_fits c.args.self.now c.requires.stands
 
 pub returns-clause-performs : goal.returns-clause-performs
-returns-clause-performs c sixteen es rs m s at = go (m.lanes 0).driver.waiting refl
+returns-clause-performs c es rs m s at = go (m.lanes 0).driver.waiting refl
   where
     w : Machine
     w = c.args.self.now
@@ -38,10 +39,13 @@ returns-clause-performs c sixteen es rs m s at = go (m.lanes 0).driver.waiting r
     go (Some x) e =
         let goes = c.guest_stores.ensures.goes m x at.front e in
         let begins : c.in_ok-room.room.items ≡ [] = ap (λ r. r.items) c.in_ok-room.ensures in
-        let eight : c.min-most.result ≡ 8 = omega (arith, sixteen, c.min-most.ensures) in
-        let all : GuestGoes 8 x w now m [] is = subst (λ (js : List Item). GuestGoes 8 x w now m [] js) (sym c.finish.ensures)
-        (subst (λ (js : List Item). GuestGoes 8 x w now m js c.guest_stores.new.room.items) begins (subst (λ (k : ℕ). GuestGoes k x w now m c.in_ok-room.room.items c.guest_stores.new.room.items) eight goes)) in
+        let most : ℕ = c.min-most.result in
+        let made : GuestGoes most x w now m [] is = subst (λ (js : List Item). GuestGoes most x w now m [] js) (sym c.finish.ensures)
+        (subst (λ (js : List Item). GuestGoes most x w now m js c.guest_stores.new.room.items) begins goes) in
         let waits : (driver_in w.guest).waiting ≡ Some x = ap (λ (v : Driver). v.waiting) at.front.driver ∙ e in
-        let here : GuestGoes 16 x w now m [] is = all_gone 8 16 x w now m [] is (left_few w.guest x waits) (omega arith) all in
-        subst (λ (k : ℕ). (next : Moment) × (played is next ≡ guest w.header 0 k m) × MachineAt now next) (sym sixteen)
-        (guest_performs w now es rs m x is c.guest_stores.ensures.frame c.guest_stores.ensures.position (c.is_full.ensures.more c.if-is_full.false) s at e here)
+        let few : length x.left ≤ 8 = left_few w.guest x waits in
+        let here : GuestGoes c.args.stores x w now m [] is = elim (cases_lt 8 c.args.stores) [
+          | inl more ↦ all_gone most c.args.stores x w now m [] is (omega (arith, few, more, c.min-most.ensures)) (omega (arith, more, c.min-most.ensures)) made
+          | inr less ↦ subst (λ (k : ℕ). GuestGoes k x w now m [] is) (omega (arith, less, c.min-most.ensures)) made
+        ] in
+        guest_performs w now es rs m x is c.args.stores c.guest_stores.ensures.frame c.guest_stores.ensures.position (c.is_full.ensures.more c.if-is_full.false) s at (omega (arith, c.ranges.stores.fits)) (left_some w.guest x waits) e here
