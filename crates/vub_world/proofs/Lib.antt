@@ -26,7 +26,9 @@ pub mod RecordTextLemmas
 pub mod RunAsks
 pub mod RunChains
 pub mod RunChainsEvents
+pub mod RunChainsGentle
 pub mod RunChainsGuests
+pub mod RunChainsMade
 pub mod RunChainsMeaning
 pub mod RunChainsOffers
 pub mod RunChainsStores

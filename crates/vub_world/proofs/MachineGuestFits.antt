@@ -20,6 +20,7 @@ use Rattle.vub_world.proofs.RunGood.{the_ring, IsWide, IsWaiting, WaitsWell}
 use Rattle.vub_world.proofs.RunFrames.{length_little}
 use Rattle.vub_world.proofs.RunChains.{buffer_at, chain_of, desc_long}
 use Rattle.vub_world.proofs.RunChainsStores.{header_long, linked, linked_two}
+use Rattle.vub_world.proofs.RunChainsMade.{all_append, all_last}
 use Rattle.vub_world.proofs.RunChainsTurns.{IsPrepared, PreparedWell}
 use Rattle.vub_world.proofs.RunChainsEvents.{ChainedAt}
 use Rattle.vub_world.proofs.RunTurns.{Good}
@@ -29,10 +30,6 @@ use Rattle.vub_world.proofs.RunsTo.{stands_good, stands_chained}
 
 abbrev Small : List Store → Type 0
 Small sts = AllByRecursion IsSmall sts
-
-small_append : (xs ys : List Store) → Small xs → Small ys → Small (xs ++ ys)
-small_append [] ys p q = q
-small_append (x ∷ xs) ys p q = (p.0, small_append xs ys p.1 q)
 
 some_small : (p : ℕ) (bytes : List ℕ) → length bytes ≤ 4096 → Small (store_of_some 0 p bytes)
 some_small p [] few = tt
@@ -74,8 +71,8 @@ stores_small n cap index head body status (wants.Write s fills) wide =
     let last : List Store = one_store 0 (status_place (buffer_at head)) (255 ∷ []) ∷ [] in
     let rest : List Store = linked n index head body status (data_of (buffer_at head) (request_of (wants.Write s fills))) in (
       record { space = refl; few = omega (arith, header_long 1 s) },
-      small_append (front ++ last) rest
-          (small_append front last (some_small (sectors_place (buffer_at head)) bytes wide.few) (record { space = refl; few = omega arith }, tt))
+      all_append IsSmall (front ++ last) rest
+          (all_append IsSmall front last (some_small (sectors_place (buffer_at head)) bytes wide.few) (record { space = refl; few = omega arith }, tt))
           (linked_small n index head body status (data_of (buffer_at head) (request_of (wants.Write s fills)))),
     )
 stores_small n cap index head body status wants.Flush wide = (
@@ -117,5 +114,5 @@ front_fits w standing = record {
     smalls (Some x) e =
         let v : Driver = (m.lanes 0).driver in
         let waits : IsWaiting h.size h.capacity m.scene.past (m.scene.heads 0) v x = subst (λ (o : Option Waiting). WaitsWell h.size h.capacity m.scene.past (m.scene.heads 0) v o) e good.holds.driven.waits in
-        let ready : IsPrepared h.size v x = subst (λ (o : Option Waiting). PreparedWell h.size v o) e chained.waits in
-        subst (λ (sts : List Store). Small sts) (sym ready.stores) (stores_small h.size h.capacity v.avail_idx x.head ready.body ready.status x.ask waits.wide)
+        let ready : IsPrepared h.size m.scene.memory v x = subst (λ (o : Option Waiting). PreparedWell h.size m.scene.memory v o) e chained.waits in
+        all_last IsSmall ready.made x.left (subst (λ (sts : List Store). Small sts) (sym ready.stores) (stores_small h.size h.capacity v.avail_idx x.head ready.body ready.status x.ask waits.wide))

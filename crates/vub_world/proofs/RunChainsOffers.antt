@@ -77,12 +77,12 @@ linked_still n owner owner' m head o still was = record {
   stands = was.stands;
 }
 
-prepared_three : (n : ℕ) (a : Ask) (v : Driver) (ds : List ℕ) → has_data a ≡ true → length ds ≡ 3 → IsFreeFrom n v.owner 0 ds
-    → IsPrepared n (record v { owner = owned_by (first_or_zero ds) ds v.owner; waiting = Some (waits_on (the_ring n) a ds v.avail_idx) }) (waits_on (the_ring n) a ds v.avail_idx)
-prepared_three n a v [] some three all = absurd (omega arith)
-prepared_three n a v (x ∷ []) some three all = absurd (omega arith)
-prepared_three n a v (x ∷ y ∷ []) some three all = absurd (omega arith)
-prepared_three n a v (x ∷ y ∷ z ∷ []) some three all = record {
+prepared_three : (n : ℕ) (m : Bytes) (a : Ask) (v : Driver) (ds : List ℕ) → has_data a ≡ true → length ds ≡ 3 → IsFreeFrom n v.owner 0 ds
+    → IsPrepared n m (record v { owner = owned_by (first_or_zero ds) ds v.owner; waiting = Some (waits_on (the_ring n) a ds v.avail_idx) }) (waits_on (the_ring n) a ds v.avail_idx)
+prepared_three n m a v [] some three all = absurd (omega arith)
+prepared_three n m a v (x ∷ []) some three all = absurd (omega arith)
+prepared_three n m a v (x ∷ y ∷ []) some three all = absurd (omega arith)
+prepared_three n m a v (x ∷ y ∷ z ∷ []) some three all = record {
   body = y;
   status = z;
   up = omega (arith, all.1.1.1.0);
@@ -92,15 +92,18 @@ prepared_three n a v (x ∷ y ∷ z ∷ []) some three all = record {
   fits = all.1.1.1.1.1.1.1.0;
   body_mine = grind (arith, nat_tests);
   status_mine = grind (arith, nat_tests);
+  made = [];
   stores = ap (λ (b : Bool). request_stores (the_ring n) v.avail_idx a (chain_of b x y z)) (sym some);
+  some = omega arith;
+  stand = refl;
 }
-prepared_three n a v (x ∷ y ∷ z ∷ t ∷ ts) some three all = absurd (omega arith)
+prepared_three n m a v (x ∷ y ∷ z ∷ t ∷ ts) some three all = absurd (omega arith)
 
-prepared_two : (n : ℕ) (a : Ask) (v : Driver) (ds : List ℕ) → has_data a ≡ false → length ds ≡ 2 → IsFreeFrom n v.owner 0 ds
-    → IsPrepared n (record v { owner = owned_by (first_or_zero ds) ds v.owner; waiting = Some (waits_on (the_ring n) a ds v.avail_idx) }) (waits_on (the_ring n) a ds v.avail_idx)
-prepared_two n a v [] none two all = absurd (omega arith)
-prepared_two n a v (x ∷ []) none two all = absurd (omega arith)
-prepared_two n a v (x ∷ y ∷ []) none two all = record {
+prepared_two : (n : ℕ) (m : Bytes) (a : Ask) (v : Driver) (ds : List ℕ) → has_data a ≡ false → length ds ≡ 2 → IsFreeFrom n v.owner 0 ds
+    → IsPrepared n m (record v { owner = owned_by (first_or_zero ds) ds v.owner; waiting = Some (waits_on (the_ring n) a ds v.avail_idx) }) (waits_on (the_ring n) a ds v.avail_idx)
+prepared_two n m a v [] none two all = absurd (omega arith)
+prepared_two n m a v (x ∷ []) none two all = absurd (omega arith)
+prepared_two n m a v (x ∷ y ∷ []) none two all = record {
   body = y;
   status = y;
   up = omega (arith, all.1.1.1.0);
@@ -110,14 +113,17 @@ prepared_two n a v (x ∷ y ∷ []) none two all = record {
   fits = all.1.1.1.1.0;
   body_mine = grind (arith, nat_tests);
   status_mine = grind (arith, nat_tests);
+  made = [];
   stores = ap (λ (b : Bool). request_stores (the_ring n) v.avail_idx a (chain_of b x y y)) (sym none);
+  some = omega arith;
+  stand = refl;
 }
-prepared_two n a v (x ∷ y ∷ z ∷ ds) none two all = absurd (omega arith)
+prepared_two n m a v (x ∷ y ∷ z ∷ ds) none two all = absurd (omega arith)
 
-prepared : (n : ℕ) (a : Ask) (v : Driver) (ds : List ℕ) (b : Bool) → has_data a ≡ b → length ds ≡ cond b 3 2 → IsFreeFrom n v.owner 0 ds
-    → IsPrepared n (record v { owner = owned_by (first_or_zero ds) ds v.owner; waiting = Some (waits_on (the_ring n) a ds v.avail_idx) }) (waits_on (the_ring n) a ds v.avail_idx)
-prepared n a v ds true is many all = prepared_three n a v ds is many all
-prepared n a v ds false is many all = prepared_two n a v ds is many all
+prepared : (n : ℕ) (m : Bytes) (a : Ask) (v : Driver) (ds : List ℕ) (b : Bool) → has_data a ≡ b → length ds ≡ cond b 3 2 → IsFreeFrom n v.owner 0 ds
+    → IsPrepared n m (record v { owner = owned_by (first_or_zero ds) ds v.owner; waiting = Some (waits_on (the_ring n) a ds v.avail_idx) }) (waits_on (the_ring n) a ds v.avail_idx)
+prepared n m a v ds true is many all = prepared_three n m a v ds is many all
+prepared n m a v ds false is many all = prepared_two n m a v ds is many all
 
 pub ask_chained : (h : Header1) (s : Scene) (v : Driver) (a : Ask) → can_take h.size Direct a v ≡ true → Chained h.size s v → Chained h.size s (after_ask (the_ring h.size) a v)
 ask_chained h s v a ready c =
@@ -129,7 +135,7 @@ ask_chained h s v a ready c =
     record {
       linked = λ k out. linked_still h.size v.owner (owned_by (first_or_zero ds) ds v.owner) s.memory (slice_index (s.heads 0) k) (asked s.past 0 k)
           (λ d is. owned_still h.size (first_or_zero ds) 0 ds v.owner d (slice_index (s.heads 0) k) all is) (c.linked k out);
-      waits = prepared h.size a v ds (has_data a) refl many all;
+      waits = prepared h.size s.memory a v ds (has_data a) refl many all;
     }
 
 -- ---- a collection
@@ -139,7 +145,7 @@ kept_owner owner x e d apart is =
     let other : (e == x) ≡ false = grind (arith, nat_tests) in
     ap (λ (o : Option ℕ). cond (is_that x o) None o) is ∙ ap (λ (b : Bool). cond {A = Option ℕ} b None (Some e)) other
 
-prepared_still : (h : Header1) (s : Scene) (l : Lane) (x : ℕ) (o : Option Waiting) → IsTaken h s l x → PreparedWell h.size l.driver o → ((w : Waiting) → o ≡ Some w → w.head ≢ x) → PreparedWell h.size (record l.driver { owner = without_owner x l.driver.owner }) o
+prepared_still : (h : Header1) (s : Scene) (l : Lane) (x : ℕ) (o : Option Waiting) → IsTaken h s l x → PreparedWell h.size s.memory l.driver o → ((w : Waiting) → o ≡ Some w → w.head ≢ x) → PreparedWell h.size s.memory (record l.driver { owner = without_owner x l.driver.owner }) o
 prepared_still h s l x None t p apart = tt
 prepared_still h s l x (Some w) t p apart = record {
   body = p.body;
@@ -151,7 +157,10 @@ prepared_still h s l x (Some w) t p apart = record {
   fits = p.fits;
   body_mine = kept_owner l.driver.owner x w.head p.body (apart w refl) p.body_mine;
   status_mine = kept_owner l.driver.owner x w.head p.status (apart w refl) p.status_mine;
+  made = p.made;
   stores = p.stores;
+  some = p.some;
+  stand = p.stand;
 }
 
 pub collect_chained : (h : Header1) (s : Scene) (l : Lane) (x k : ℕ) → IsTaken h s l x → Chained h.size s l.driver → Chained h.size (record s { past = entries.Collect 0 k ∷ s.past }) (record l.driver { owner = without_owner x l.driver.owner })

@@ -27,7 +27,7 @@ abbrev pub put_all : List Store → Bytes → Bytes
 put_all [] m = m
 put_all (st ∷ sts) m = put_all sts (put m 0 st.place st.bytes)
 
-abbrev AreOff : ℕ → ℕ → List Store → Type 0
+abbrev pub AreOff : ℕ → ℕ → List Store → Type 0
 AreOff q v sts = AllByRecursion (λ (st : Store). IsOff st.place st.bytes q v) sts
 
 desc_stays : (sts : List Store) (m : Bytes) (d q : ℕ) (x : Desc) → q ≡ table_place d → AreOff q 16 sts → HasDesc m d x → HasDesc (put_all sts m) d x

@@ -1,5 +1,5 @@
 -- A turn leaves the chain of each offered request.
-use Rattle.std.proofs.Common.{◌≡◌, ◌≢◌, ◌≤◌, ◌<◌, ℕ, zero, suc, ◌+◌, ◌*◌, ◌/◌, ◌%◌, Bool, true, false, not, cond, List, [], ◌∷◌, ◌++◌, length, map, refl, ap, sym, ◌∙◌, subst, inl, inr, arith}
+use Rattle.std.proofs.Common.{◌≡◌, ◌≤◌, ◌<◌, ℕ, zero, suc, ◌+◌, ◌*◌, ◌/◌, ◌%◌, Bool, true, false, not, cond, List, [], ◌∷◌, ◌++◌, length, map, refl, ap, sym, ◌∙◌, subst, inl, inr, arith}
 use Rattle.std.specs.Prelude.{Option, Some, None, ⊤, slice_index, slice_get, slice_range, option_map}
 use Rattle.byteorder.specs.Endian.{little_bytes}
 use Rattle.std.proofs.lemmas.Bool.{cases_lt, cases_eq}
@@ -7,6 +7,7 @@ use Rattle.std.proofs.lemmas.List.{take-append-le}
 use Rattle.vub_base.specs.declared.header.Header1.{Header1}
 use Rattle.vub_base.specs.declared.store.Tag.TheVariants.{SP1, SP2}
 use Rattle.vub_shared.specs.Bytes.{Bytes}
+use Rattle.vub_shared.specs.Stores.{Store}
 use Rattle.vub_ring.specs.declared.steps.Step.{Step}
 use Rattle.vub_ring.specs.declared.steps.Step.TheVariants as steps
 use Rattle.vub_ring.specs.declared.readiness.Turn.{Turn}
@@ -31,14 +32,16 @@ use Rattle.vub_device.specs.Requests.{look_at, effect_at}
 use Rattle.vub_world.specs.Tasks.{TaskStep, Look, Put, Act, Sync, Status, task_steps, disk_steps, look_steps, act_steps, look_items, act_items, status_of}
 use Rattle.vub_world.specs.Turns.{turned, work_turn, request_turn, task_turn, phase_turn, phase_goes_on, under_way, begun, is_rest, step_items, row_items, element_of, answer_at}
 use Rattle.vub_world.proofs.RunNumbers.{among_get, among_filter, missing-among}
-use Rattle.vub_world.proofs.RunGood.{the_ring, IsWide, IsOut, Holds, buffer}
+use Rattle.vub_world.proofs.RunGood.{the_ring, IsSize, IsWide, IsOut, WaitsWell, Holds, buffer}
 use Rattle.vub_world.proofs.RunFrames.{entry_small, open_out, length_little}
 use Rattle.vub_world.proofs.RunGuests.{IsGood, stored_at}
 use Rattle.vub_world.proofs.RunSteps.{WideCases, AtRead, AtWrite, AtFlush, wide_cases, wide_steps, ReadAt, ToLook, ToPut, ToReply, read_at, read_over, WriteAt, ToAct, ToEnd, write_at, write_over}
 use Rattle.vub_world.proofs.RunWork.{sector_few}
 use Rattle.vub_world.proofs.RunTurns.{IsPlain, Good}
-use Rattle.vub_world.proofs.RunChains.{buffer_at, chain_of, HasChain, Spares, chain_kept}
+use Rattle.vub_world.proofs.RunChains.{buffer_at, chain_of, HasChain, Spares}
 use Rattle.vub_world.proofs.RunChainsStores.{handed_fits}
+use Rattle.vub_world.proofs.RunChainsMade.{Stand, all_first, IsMine, AreMine, stores_mine, all_serve}
+use Rattle.vub_world.proofs.RunChainsGentle.{IsGentle, gentle_none, store_gentle, buffer_spares, offered_away, ring_gentle}
 
 -- the chain of an offered request stands in memory, and its descriptors belong to its head
 pub record IsLinked (n : ℕ) (owner : ℕ → Option ℕ) (m : Bytes) (head : ℕ) (o : Option Asked) : Type 0 where
@@ -52,8 +55,9 @@ pub record IsLinked (n : ℕ) (owner : ℕ → Option ℕ) (m : Bytes) (head : �
   pub is : o ≡ Some request
   pub stands : HasChain m head body status request
 
--- a request that waits has all of its stores to make, for descriptors that belong to its head
-pub record IsPrepared (n : ℕ) (v : Driver) (w : Waiting) : Type 0 where
+-- of the stores of a request that waits some were made and stand in memory, and one or more are left, for descriptors
+-- that belong to its head
+pub record IsPrepared (n : ℕ) (m : Bytes) (v : Driver) (w : Waiting) : Type 0 where
   pub body : ℕ
   pub status : ℕ
   pub up : w.head < body
@@ -63,28 +67,49 @@ pub record IsPrepared (n : ℕ) (v : Driver) (w : Waiting) : Type 0 where
   pub fits : status < n
   pub body_mine : v.owner body ≡ Some w.head
   pub status_mine : v.owner status ≡ Some w.head
-  pub stores : w.left ≡ request_stores (the_ring n) v.avail_idx w.ask (chain_of (has_data w.ask) w.head body status)
+  pub made : List Store
+  pub stores : made ++ w.left ≡ request_stores (the_ring n) v.avail_idx w.ask (chain_of (has_data w.ask) w.head body status)
+  pub some : 0 < length w.left
+  pub stand : Stand made m
 
-abbrev pub PreparedWell : ℕ → Driver → Option Waiting → Type 0
-PreparedWell n v None = ⊤
-PreparedWell n v (Some w) = IsPrepared n v w
+abbrev pub PreparedWell : ℕ → Bytes → Driver → Option Waiting → Type 0
+PreparedWell n m v None = ⊤
+PreparedWell n m v (Some w) = IsPrepared n m v w
 
 -- the chain of each request that is offered and not collected stands in memory
 pub record Chained (n : ℕ) (s : Scene) (v : Driver) : Type 0 where
   pub linked : (k : ℕ) → IsOut s.past (s.heads 0) k → IsLinked n v.owner s.memory (slice_index (s.heads 0) k) (asked s.past 0 k)
-  pub waits : PreparedWell n v v.waiting
+  pub waits : PreparedWell n s.memory v v.waiting
 
 -- ---- what leaves the chains
 
-pub record IsGentle (n : ℕ) (s s' : Scene) : Type 0 where
-  pub heads : s'.heads 0 ≡ s.heads 0
-  pub same : (k : ℕ) → asked s'.past 0 k ≡ asked s.past 0 k
-  pub out : (k : ℕ) → IsOut s'.past (s.heads 0) k → IsOut s.past (s.heads 0) k
-  pub chain : (k body status : ℕ) (r : Asked) → IsOut s.past (s.heads 0) k → body < n → status < n → asked s.past 0 k ≡ Some r
-      → HasChain s.memory (slice_index (s.heads 0) k) body status r → HasChain s'.memory (slice_index (s.heads 0) k) body status r
+-- what was made of the request that waits still stands
+prepared_kept : (n cap : ℕ) (s s' : Scene) (v : Driver) (o : Option Waiting) → IsSize n → WaitsWell n cap s.past (s.heads 0) v o → IsGentle n s s' → PreparedWell n s.memory v o → PreparedWell n s'.memory v o
+prepared_kept n cap s s' v None size waits g p = tt
+prepared_kept n cap s s' v (Some w) size waits g p =
+    let up : w.head < p.body = p.up in
+    let within : p.body ≤ p.status = p.within in
+    let mine : AreMine v.owner w.head (p.made ++ w.left) = subst (λ (sts : List Store). AreMine v.owner w.head sts) (sym p.stores)
+    (stores_mine n cap v.avail_idx v.owner w.head p.body p.status w.ask size waits.wide waits.below (omega (arith, p.fits)) p.fits waits.mine p.body_mine p.status_mine) in
+    let first : AreMine v.owner w.head p.made = all_first (λ (st : Store). IsMine v.owner w.head st.place st.bytes) p.made w.left mine in
+    record {
+      body = p.body;
+      status = p.status;
+      up = p.up;
+      within = p.within;
+      upper = p.upper;
+      none = p.none;
+      fits = p.fits;
+      body_mine = p.body_mine;
+      status_mine = p.status_mine;
+      made = p.made;
+      stores = p.stores;
+      some = p.some;
+      stand = g.made w.head p.made waits.apart (all_serve v.owner w.head p.made first) p.stand;
+    }
 
-pub gentle_chained : (n : ℕ) (s s' : Scene) (v : Driver) → IsGentle n s s' → Chained n s v → Chained n s' v
-gentle_chained n s s' v g c = record {
+pub gentle_chained : (n cap : ℕ) (s s' : Scene) (v : Driver) → IsSize n → WaitsWell n cap s.past (s.heads 0) v v.waiting → IsGentle n s s' → Chained n s v → Chained n s' v
+gentle_chained n cap s s' v size waits g c = record {
   linked = λ k out'.
       let out : IsOut s.past (s.heads 0) k = g.out k (subst (λ (hs : List ℕ). IsOut s'.past hs k) g.heads out') in
       let was : IsLinked n v.owner s.memory (slice_index (s.heads 0) k) (asked s.past 0 k) = c.linked k out in
@@ -99,57 +124,8 @@ gentle_chained n s s' v g c = record {
         is = g.same k ∙ was.is;
         stands = g.chain k was.body was.status was.request out was.body_fits was.status_fits was.is was.stands;
       });
-  waits = c.waits;
+  waits = prepared_kept n cap s s' v v.waiting size waits g c.waits;
 }
-
-gentle_none : (n : ℕ) (s : Scene) → IsGentle n s s
-gentle_none n s = record { heads = refl; same = λ k. refl; out = λ k o. o; chain = λ k body status r out fb fs is c. c }
-
--- a store that spares each chain
-pub store_gentle : (h : Header1) (s : Scene) (l : Lane) (p : ℕ) (bs : List ℕ) → Holds h s l
-    → ((k body status : ℕ) (r : Asked) → IsOut s.past (s.heads 0) k → slice_index (s.heads 0) k < h.size → body < h.size → status < h.size → asked s.past 0 k ≡ Some r → IsWide h.capacity (Some r) → Spares (slice_index (s.heads 0) k) body status r p bs)
-    → IsGentle h.size s (stored_at p bs s)
-store_gentle h s l p bs x spares = record {
-  heads = refl;
-  same = λ k. refl;
-  out = λ k o. o;
-  chain = λ k body status r out fb fs is held.
-      let simple : IsWide h.capacity (Some r) = subst (λ (o : Option Asked). IsWide h.capacity o) is (x.known.wide k out.below) in
-      chain_kept s.memory (slice_index (s.heads 0) k) body status r p bs (spares k body status r out (x.driven.below k out) fb fs is simple) held;
-}
-
--- between table and buffers
-pub ring_spares : (cap head body status : ℕ) (r : Asked) (p : ℕ) (bs : List ℕ) → head < 64 → body < 64 → status < 64 → IsWide cap (Some r) → 4096 ≤ p → p + length bs ≤ 65536 → Spares head body status r p bs
-ring_spares cap head body status r p bs fh fb fs simple from upto =
-    let at = handed_fits cap (buffer_at head) r simple in record {
-      first = inl (omega arith);
-      middle = inl (omega arith);
-      last = inl (omega arith);
-      header = inr (omega arith);
-      handed = inr (omega (arith, at.0));
-    }
-
--- in the buffer of another head
-pub buffer_spares : (cap head body status other : ℕ) (r : Asked) (p : ℕ) (bs : List ℕ) → head < 64 → body < 64 → status < 64 → IsWide cap (Some r) → head ≢ other → 65536 + 8192 * other ≤ p → p + length bs ≤ 65536 + 8192 * other + 8192 → Spares head body status r p bs
-buffer_spares cap head body status other r p bs fh fb fs simple apart from upto =
-    let at = handed_fits cap (buffer_at head) r simple in record {
-      first = inl (omega arith);
-      middle = inl (omega arith);
-      last = inl (omega arith);
-      header = elim (cases_lt head other) [
-        | inl less ↦ inl (omega arith)
-        | inr more ↦ inr (let above : other < head = omega arith in omega arith)
-      ];
-      handed = elim (cases_lt head other) [
-        | inl less ↦ inl (omega (arith, at.0, at.1.0))
-        | inr more ↦ inr (let above : other < head = omega arith in omega (arith, at.0))
-      ];
-    }
-
-ring_gentle : (h : Header1) (s : Scene) (l : Lane) (p : ℕ) (bs : List ℕ) → IsGood h → Holds h s l → 4096 ≤ p → p + length bs ≤ 65536 → IsGentle h.size s (stored_at p bs s)
-ring_gentle h s l p bs good x from upto =
-    let small : h.size ≤ 64 = good.size.small in
-    store_gentle h s l p bs x (λ k body status r out fh fb fs is simple. ring_spares h.capacity (slice_index (s.heads 0) k) body status r p bs (omega arith) (omega arith) (omega arith) simple from upto)
 
 -- ---- start, fetch and publication
 
@@ -159,11 +135,12 @@ publish_gentle n s list shown = record {
   same = λ k. refl;
   out = λ k o. record { below = o.below; kept = ap (λ (ks : List ℕ). is_among ks k) (sym (take-append-le (collected s.past 0) (published s.past 0) (numbers list) shown)) ∙ o.kept };
   chain = λ k body status r out fb fs is c. c;
+  made = λ head sts unused serve stand. stand;
 }
 
 step_gentle : (h : Header1) (s : Scene) (l : Lane) (batch : List ℕ) (step : Step) → IsGood h → Holds h s l → IsGentle h.size s (after_items h.size (step_items h 0 batch step s) s)
-step_gentle h s l batch steps.Start good x = record { heads = refl; same = λ k. refl; out = λ k o. record { below = o.below; kept = o.kept }; chain = λ k body status r out fb fs is c. c }
-step_gentle h s l batch steps.Accept good x = record { heads = refl; same = λ k. refl; out = λ k o. record { below = o.below; kept = o.kept }; chain = λ k body status r out fb fs is c. c }
+step_gentle h s l batch steps.Start good x = record { heads = refl; same = λ k. refl; out = λ k o. record { below = o.below; kept = o.kept }; chain = λ k body status r out fb fs is c. c; made = λ head sts unused serve stand. stand }
+step_gentle h s l batch steps.Accept good x = record { heads = refl; same = λ k. refl; out = λ k o. record { below = o.below; kept = o.kept }; chain = λ k body status r out fb fs is c. c; made = λ head sts unused serve stand. stand }
 step_gentle h s l batch (steps.Id e) good x = go (slice_get (map (element_of h 0 s) batch) e)
   where
     i : ℕ
@@ -187,7 +164,7 @@ step_gentle h s l batch steps.Index good x =
     let s' : Scene = stored_at p bs s in
     let ring : IsGentle h.size s s' = ring_gentle h s l p bs good x (omega arith) (omega (arith, length_little 2 v)) in
     let shows = publish_gentle h.size s (map (answer_at 0 s') batch) x.known.shown in
-    record { heads = refl; same = λ k. refl; out = shows.out; chain = ring.chain }
+    record { heads = refl; same = λ k. refl; out = shows.out; chain = ring.chain; made = ring.made }
 
 phase_gentle : (h : Header1) (s : Scene) (l l' : Lane) (o : Option Step) → IsGood h → Holds h s l → IsGentle h.size s (after_items h.size (phase_turn h 0 s l' o).items s)
 phase_gentle h s l l' None good x = gentle_none h.size s
@@ -216,7 +193,7 @@ put_gentle h s l k sector c q good x is_open is_k low =
     let p : ℕ = sectors_place (buffer (s.heads 0) k) + 512 * q in
     let few : length bs ≤ 512 = sector_few (seen s.past 0 k) q in
     let out_k = open_out h.size h.capacity s.past (s.heads 0) k x.known is_open in
-    store_gentle h s l p bs x (λ j body status r out fh fb fs is simple. elim (cases_eq j k) [
+    store_gentle h s l p bs x (omega arith) (offered_away s k p bs out_k (omega arith) (omega arith)) (λ j body status r out fh fb fs is simple. elim (cases_eq j k) [
       | inl same ↦
           let both : Some r ≡ Some (asks.Read sector c) = sym is ∙ ap (asked s.past 0) same ∙ is_k in
           let is_r : r ≡ asks.Read sector c = cc in
@@ -230,20 +207,20 @@ status_gentle h s l k byte good x is_open =
     let small : h.size ≤ 64 = good.size.small in
     let p : ℕ = status_place (buffer (s.heads 0) k) in
     let out_k = open_out h.size h.capacity s.past (s.heads 0) k x.known is_open in
-    store_gentle h s l p (byte ∷ []) x (λ j body status r out fh fb fs is simple. elim (cases_eq j k) [
+    store_gentle h s l p (byte ∷ []) x (omega arith) (offered_away s k p (byte ∷ []) out_k (omega arith) (omega arith)) (λ j body status r out fh fb fs is simple. elim (cases_eq j k) [
       | inl same ↦
           subst (λ (i : ℕ). Spares (slice_index (s.heads 0) j) body status r (status_place (buffer (s.heads 0) i)) (byte ∷ [])) same (own_status h.capacity (slice_index (s.heads 0) j) body status r byte (omega arith) (omega arith) (omega arith) simple)
       | inr apart ↦ buffer_spares h.capacity (slice_index (s.heads 0) j) body status (slice_index (s.heads 0) k) r p (byte ∷ []) (omega arith) (omega arith) (omega arith) simple (λ same. apart (x.driven.apart j k out out_k same)) (omega arith) (omega arith)
     ])
 
 look_gentle : (n : ℕ) (s : Scene) (k sector : ℕ) (v : List ℕ) → IsGentle n s (record s { past = entries.Look 0 k sector v ∷ s.past })
-look_gentle n s k sector v = record { heads = refl; same = λ j. refl; out = λ j o. record { below = o.below; kept = o.kept }; chain = λ j body status r out fb fs is c. c }
+look_gentle n s k sector v = record { heads = refl; same = λ j. refl; out = λ j o. record { below = o.below; kept = o.kept }; chain = λ j body status r out fb fs is c. c; made = λ head sts unused serve stand. stand }
 
 act_gentle : (n : ℕ) (s : Scene) (k sector : ℕ) (v : List ℕ) → IsGentle n s (record s { past = entries.Act 0 k sector v ∷ s.past })
-act_gentle n s k sector v = record { heads = refl; same = λ j. refl; out = λ j o. record { below = o.below; kept = o.kept }; chain = λ j body status r out fb fs is c. c }
+act_gentle n s k sector v = record { heads = refl; same = λ j. refl; out = λ j o. record { below = o.below; kept = o.kept }; chain = λ j body status r out fb fs is c. c; made = λ head sts unused serve stand. stand }
 
 sync_gentle : (n : ℕ) (s : Scene) (k : ℕ) → IsGentle n s (record s { past = entries.Sync 0 k ∷ s.past })
-sync_gentle n s k = record { heads = refl; same = λ j. refl; out = λ j o. record { below = o.below; kept = o.kept }; chain = λ j body status r out fb fs is c. c }
+sync_gentle n s k = record { heads = refl; same = λ j. refl; out = λ j o. record { below = o.below; kept = o.kept }; chain = λ j body status r out fb fs is c. c; made = λ head sts unused serve stand. stand }
 
 -- any step of a request at work
 request_gentle : (h : Header1) (s : Scene) (l : Lane) (k : ℕ) → IsPlain h → Holds h s l → IsOpen s.past 0 k → IsGentle h.size s (after_items h.size (request_turn h 0 s l k (asked s.past 0 k)).items s)
