@@ -27,9 +27,9 @@ use Rattle.vub_world.proofs.RunGuests.{IsGood}
 use Rattle.vub_world.proofs.RunOffers.{same_head, new_head, same_asked, new_asked}
 use Rattle.vub_world.proofs.RunChains.{table_place, buffer_at, chain_of, HasChain, IsOff, Spares, chain_kept}
 use Rattle.vub_world.proofs.RunChainsStores.{put_all, handed_fits, stores_make}
-use Rattle.vub_world.proofs.RunChainsMade.{all_first, all_last, put_append, stand_append, IsMine, AreMine, stores_mine}
+use Rattle.vub_world.proofs.RunChainsMade.{all_first, all_last, put_append, stand_append, IsMine, AreMine}
 use Rattle.vub_world.proofs.RunChainsGentle.{ring_spares, buffer_spares}
-use Rattle.vub_world.proofs.RunChainsTurns.{IsLinked, IsPrepared, Chained}
+use Rattle.vub_world.proofs.RunChainsTurns.{IsLinked, IsPrepared, Chained, all_mine}
 
 -- ---- they leave the chains of others
 
@@ -123,14 +123,6 @@ other_linked h s v w sts k good known driven waits mine out was =
       stands = chain_stays h.capacity v.owner w.head (slice_index (s.heads 0) k) was.body was.status was.request sts s.memory simple (omega arith) (omega arith) (omega arith) (waits.apart k out) (driven.owned k out) was.body_mine was.status_mine mine was.stands;
     }
 
--- those that were made, and those that are left
-all_mine : (h : Header1) (s : Scene) (v : Driver) (w : Waiting) → IsGood h → IsWaiting h.size h.capacity s.past (s.heads 0) v w → (ready : IsPrepared h.size s.memory v w) → AreMine v.owner w.head (ready.made ++ w.left)
-all_mine h s v w good waits ready =
-    let up : w.head < ready.body = ready.up in
-    let within : ready.body ≤ ready.status = ready.within in
-    subst (λ (sts : List Store). AreMine v.owner w.head sts) (sym ready.stores)
-    (stores_mine h.size h.capacity v.avail_idx v.owner w.head ready.body ready.status w.ask good.size waits.wide waits.below (omega (arith, ready.fits)) ready.fits waits.mine ready.body_mine ready.status_mine)
-
 -- ---- some of the stores
 
 pub part_chained : (h : Header1) (s : Scene) (v : Driver) (w : Waiting) (count : ℕ) → IsGood h → Known h.size h.capacity s.past (s.heads 0) → Driven h.size h.capacity h.base s.past (s.heads 0) v
@@ -146,7 +138,7 @@ part_chained h s v w count good known driven waits part ready c = go (drop count
     mine : AreMine v.owner w.head done
     mine =
         let P : Store → Type 0 = λ st. IsMine v.owner w.head st.place st.bytes in
-        let left : AllByRecursion P w.left = all_last P ready.made w.left (all_mine h s v w good waits ready) in
+        let left : AllByRecursion P w.left = all_last P ready.made w.left (all_mine h.size h.capacity s.past (s.heads 0) s.memory v w good.size waits ready) in
         all_first P done (drop count w.left) (subst (λ (sts : List Store). AllByRecursion P sts) (sym (take-append-drop count w.left)) left)
 
     go : (rest : List Store) → drop count w.left ≡ rest → Chained h.size (record s { memory = m }) (with_left w rest v)
@@ -175,6 +167,7 @@ part_chained h s v w count good known driven waits part ready c = go (drop count
 abbrev offered_driver : Driver → Driver
 offered_driver v = record v { avail_idx = (v.avail_idx + 1) % 65536; waiting = None }
 
+-- those of the buffer and of the chain, and then these
 split : (n index head : ℕ) (a : Ask) (ds : List ℕ) → (front : List Store) × (stores_with (the_ring n) index head a ds ≡ front ++ offer_stores (the_ring n) index head)
 split n index head a ds =
     let front : List Store = buffer_stores (the_ring n) (buffer_at head) a in
@@ -202,7 +195,7 @@ guest_chained h s v w count good few known driven waits whole ready c =
     let index : v.avail_idx < 65536 = omega (arith, driven.index) in
     let small : n ≤ 64 = good.size.small in
     let shows : last_head (the_ring n) m ≡ w.head = ap (last_head (the_ring n)) from_offer ∙ offered_head n v.avail_idx w.head (put_all ends.0 s.memory) good.size index (omega (arith, waits.below)) in
-    let mine : AreMine v.owner w.head w.left = all_last (λ (st : Store). IsMine v.owner w.head st.place st.bytes) ready.made w.left (all_mine h s v w good waits ready) in
+    let mine : AreMine v.owner w.head w.left = all_last (λ (st : Store). IsMine v.owner w.head st.place st.bytes) ready.made w.left (all_mine h.size h.capacity s.past (s.heads 0) s.memory v w good.size waits ready) in
     let made : HasChain m w.head ready.body ready.status r = subst (λ (x : Bytes). HasChain x w.head ready.body ready.status r) (sym from_all)
     (stores_make n h.capacity v.avail_idx w.head ready.body ready.status w.ask s.memory good.size few waits.wide up ready.upper ready.none ready.fits) in
     let past : List Entry = entries.Offer 0 r ∷ s.past in

@@ -22,6 +22,7 @@ use Rattle.vub_driver.specs.Stores.{request_stores}
 use Rattle.vub_device.specs.declared.entry.Answered.{Answered}
 use Rattle.vub_device.specs.declared.entry.Asked.{Asked}
 use Rattle.vub_device.specs.declared.entry.Asked.TheVariants as asks
+use Rattle.vub_device.specs.declared.entry.Entry.{Entry}
 use Rattle.vub_device.specs.declared.entry.Entry.TheVariants as entries
 use Rattle.vub_device.specs.Past.{asked, accepted, published, collected, is_among, IsOpen, open_numbers, seen, numbers}
 use Rattle.vub_world.specs.Memory.{Scene, after_items}
@@ -32,7 +33,7 @@ use Rattle.vub_device.specs.Requests.{look_at, effect_at}
 use Rattle.vub_world.specs.Tasks.{TaskStep, Look, Put, Act, Sync, Status, task_steps, disk_steps, look_steps, act_steps, look_items, act_items, status_of}
 use Rattle.vub_world.specs.Turns.{turned, work_turn, request_turn, task_turn, phase_turn, phase_goes_on, under_way, begun, is_rest, step_items, row_items, element_of, answer_at}
 use Rattle.vub_world.proofs.RunNumbers.{among_get, among_filter, missing-among}
-use Rattle.vub_world.proofs.RunGood.{the_ring, IsSize, IsWide, IsOut, WaitsWell, Holds, buffer}
+use Rattle.vub_world.proofs.RunGood.{the_ring, IsSize, IsWide, IsOut, IsWaiting, WaitsWell, Holds, buffer}
 use Rattle.vub_world.proofs.RunFrames.{entry_small, open_out, length_little}
 use Rattle.vub_world.proofs.RunGuests.{IsGood, stored_at}
 use Rattle.vub_world.proofs.RunSteps.{WideCases, AtRead, AtWrite, AtFlush, wide_cases, wide_steps, ReadAt, ToLook, ToPut, ToReply, read_at, read_over, WriteAt, ToAct, ToEnd, write_at, write_over}
@@ -83,15 +84,19 @@ pub record Chained (n : ℕ) (s : Scene) (v : Driver) : Type 0 where
 
 -- ---- what leaves the chains
 
+-- where the stores of the request that waits are, those that were made and those that are left
+pub all_mine : (n cap : ℕ) (past : List Entry) (heads : List ℕ) (m : Bytes) (v : Driver) (w : Waiting) → IsSize n → IsWaiting n cap past heads v w → (p : IsPrepared n m v w) → AreMine v.owner w.head (p.made ++ w.left)
+all_mine n cap past heads m v w size waits p =
+    let up : w.head < p.body = p.up in
+    let within : p.body ≤ p.status = p.within in
+    subst (λ (sts : List Store). AreMine v.owner w.head sts) (sym p.stores)
+    (stores_mine n cap v.avail_idx v.owner w.head p.body p.status w.ask size waits.wide waits.below (omega (arith, p.fits)) p.fits waits.mine p.body_mine p.status_mine)
+
 -- what was made of the request that waits still stands
 prepared_kept : (n cap : ℕ) (s s' : Scene) (v : Driver) (o : Option Waiting) → IsSize n → WaitsWell n cap s.past (s.heads 0) v o → IsGentle n s s' → PreparedWell n s.memory v o → PreparedWell n s'.memory v o
 prepared_kept n cap s s' v None size waits g p = tt
 prepared_kept n cap s s' v (Some w) size waits g p =
-    let up : w.head < p.body = p.up in
-    let within : p.body ≤ p.status = p.within in
-    let mine : AreMine v.owner w.head (p.made ++ w.left) = subst (λ (sts : List Store). AreMine v.owner w.head sts) (sym p.stores)
-    (stores_mine n cap v.avail_idx v.owner w.head p.body p.status w.ask size waits.wide waits.below (omega (arith, p.fits)) p.fits waits.mine p.body_mine p.status_mine) in
-    let first : AreMine v.owner w.head p.made = all_first (λ (st : Store). IsMine v.owner w.head st.place st.bytes) p.made w.left mine in
+    let first : AreMine v.owner w.head p.made = all_first (λ (st : Store). IsMine v.owner w.head st.place st.bytes) p.made w.left (all_mine n cap s.past (s.heads 0) s.memory v w size waits p) in
     record {
       body = p.body;
       status = p.status;
