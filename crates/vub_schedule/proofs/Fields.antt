@@ -1,5 +1,5 @@
 -- A field that is read is the field that was written, and what was written is read again.
-use Rattle.std.proofs.Common.{◌≡◌, ℕ, zero, suc, ◌+◌, ◌*◌, ◌/◌, ◌%◌, ◌^◌, ◌<◌, ◌≤◌, Bool, true, false, ltb, List, [], ◌∷◌, ◌++◌, length, get_or, take, drop, Option, Some, None, refl, sym, ap, subst, ◌∙◌, arith}
+use Rattle.std.proofs.Common.{◌≡◌, ℕ, zero, suc, ◌+◌, ◌*◌, ◌/◌, ◌%◌, ◌^◌, ◌<◌, ◌≤◌, Bool, true, false, ltb, cond, List, [], ◌∷◌, ◌++◌, length, get_or, take, drop, Option, Some, None, refl, sym, ap, subst, ◌∙◌, arith}
 use Rattle.std.specs.Prelude.{nat_eq, ◌&&◌}
 use Rattle.std.proofs.Math.Seq.{take-append_seam, drop-append_seam}
 use Rattle.std.proofs.lemmas.Bool.{ltb-true, lt-ltb}
@@ -17,8 +17,21 @@ use Rattle.std.specs.List.{take_while}
 use Rattle.std.specs.Fmt.{decimal, digit_glyph}
 use Rattle.std.specs.Str.Parse.{digits_value, AllDigits}
 use Rattle.vub_schedule.specs.Spelling.{hex_pair}
-use Rattle.vub_schedule.specs.Reading.{◌>>=◌, tag, is_canonical, number_at, hex_value, pair_at}
+use Rattle.vub_schedule.specs.Reading.{◌>>=◌, tag, is_canonical, number_at, count_at, hex_value, pair_at}
 use Rattle.vub_schedule.proofs.Digits.{AllDigits-front}
+
+-- ---- steps
+
+abbrev given : {A : Type 0} → A → Option A
+given x = Some x
+
+pub some_is : {A : Type 0} (x y : A) → given x ≡ given y → x ≡ y
+some_is x y e = cc
+
+-- a step that did not fail
+pub bind_some : {A B : Type 0} (o : Option A) (f : A → Option B) (y : B) → (o >>= f) ≡ Some y → (x : A) × (o ≡ Some x) × (f x ≡ Some y)
+bind_some (Some x) f y e = (x, refl, e)
+bind_some None f y e = absurd cc
 
 -- ---- texts
 
@@ -96,6 +109,18 @@ number_takes limit bytes n rest fits e =
     let text : decimal n ≡ ds = rw (← n-is) (decimal-digits_value own ds all canonical.0 canonical.1 (omega arith)) in
     (rw (text, ← rest-is) (sym (take-append-drop (length ds) bytes) ∙ ap (λ (t : List ℕ). t ++ drop (length ds) bytes) same), rw (← n-is) below)
 
+pub count_again : (most n : ℕ) (rest : List ℕ) → most < 2 ^ 64 → 1 ≤ n → n ≤ most → NoDigit rest → count_at most (decimal n ++ rest) ≡ Some (n, rest)
+unfolding count_at
+count_again most n rest fits some few h = rw (number_again (most + 1) n rest (omega arith) (omega arith) h, lt-ltb 0 n some) refl
+
+pub count_takes : (most : ℕ) (bytes : List ℕ) (n : ℕ) (rest : List ℕ) → most < 2 ^ 64 → count_at most bytes ≡ Some (n, rest) → (bytes ≡ decimal n ++ rest) × (1 ≤ n) × (n ≤ most)
+unfolding count_at
+count_takes most bytes n rest fits e =
+    let c = bind_some (number_at (most + 1) bytes) (λ count. cond (ltb 0 count.0) (Some count) None) (n, rest) e in
+    let p = cond_some (ltb 0 c.0.0) c.0 (n, rest) c.2 in
+    let number = number_takes (most + 1) bytes c.0.0 c.0.1 (omega arith) c.1 in
+    subst (λ (x : ℕ × List ℕ). (bytes ≡ decimal x.0 ++ x.1) × (1 ≤ x.0) × (x.0 ≤ most)) p.1 (number.0, ltb-true 0 c.0.0 p.0, omega (arith, number.1))
+
 -- ---- bytes
 
 -- a digit that was read is the glyph of its value
@@ -114,17 +139,6 @@ unfolding pair_at
 pair_again n rest lt =
     let sum : 16 * (n / 16) + n % 16 ≡ n = omega arith in
     rw (hex_again (n / 16) (omega arith), hex_again (n % 16) (omega arith), sum) refl
-
-abbrev given : {A : Type 0} → A → Option A
-given x = Some x
-
-pub some_is : {A : Type 0} (x y : A) → given x ≡ given y → x ≡ y
-some_is x y e = cc
-
--- a step that did not fail
-pub bind_some : {A B : Type 0} (o : Option A) (f : A → Option B) (y : B) → (o >>= f) ≡ Some y → (x : A) × (o ≡ Some x) × (f x ≡ Some y)
-bind_some (Some x) f y e = (x, refl, e)
-bind_some None f y e = absurd cc
 
 pair_from : (a b x y n : ℕ) → HexDigit a x → HexDigit b y → 16 * x + y ≡ n → (n / 16 ≡ x) × (n % 16 ≡ y) × (n < 256)
 pair_from a b x y n p q e = (omega (arith, p.small, q.small), omega (arith, p.small, q.small), omega (arith, p.small, q.small))

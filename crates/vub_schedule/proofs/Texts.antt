@@ -11,7 +11,7 @@ use Rattle.vub_schedule.specs.declared.types.Event.{Event}
 use Rattle.vub_schedule.specs.declared.types.Schedule.{Schedule}
 use Rattle.vub_schedule.specs.Spelling.{header_line, event_line, event_text, spelling, IsHeader, IsEvent, IsSchedule}
 use Rattle.vub_schedule.specs.Faults.{NoHeader, NoEvent, IsFirstBad, LinesStop, Causes, LinesCause}
-use Rattle.vub_schedule.specs.Reading.{tag, event_at, event_text_at, header_at}
+use Rattle.vub_schedule.specs.Reading.{tag, event_at, event_text_at, asked_at, numbered_at, word_at, header_at}
 use Rattle.vub_schedule.proofs.Fields.{some_is}
 use Rattle.vub_schedule.proofs.Lines.{event_again, event_takes, header_again}
 
@@ -29,7 +29,7 @@ pub no_header : (bytes : List ℕ) → header_at bytes ≡ None → NoHeader byt
 no_header bytes none = λ h more is eq. let again = header_again h more is in let same = ap header_at eq in absurd cc
 
 empty_none : (h : Header1) → event_at h [] ≡ None
-unfolding event_at event_text_at tag
+unfolding event_at event_text_at asked_at numbered_at word_at tag
 empty_none h = refl
 
 -- two texts that begin with an event of each begin with the same one

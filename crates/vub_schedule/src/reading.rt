@@ -1,21 +1,24 @@
 //! The lines of a schedule from their text. Each reader answers what stands at the front of the
 //! bytes and the bytes behind it, or `None` where the front is outside the grammar.
-ghost use Rattle.std.specs.Prelude.{◌≡◌, ◌+◌, ◌<◌, ◌≤◌, ◌^◌, ◌++◌, ℕ, List, length, take, drop, Option, Some, None, nat_lt, if◌then◌else◌, IfSome};
+ghost use Rattle.std.specs.Prelude.{◌≡◌, ◌+◌, ◌<◌, ◌≤◌, ◌^◌, ◌++◌, ℕ, List, length, take, drop, Option, Some, None, nat_lt, nat_le, if◌then◌else◌, IfSome};
 ghost use Rattle.std.specs.Option.{option_copied};
 ghost use Rattle.std.specs.List.{take_while};
 ghost use Rattle.std.specs.Char.{is_ascii_digit};
 ghost use Rattle.std.specs.Str.Parse.{digits_value, AllDigits};
-ghost use Rattle.vub_schedule.specs.Reading.{Reads, tag, number_at, hex_value, pair_at, read_at, write_at, ask_at, event_text_at, event_at, header_of, header_at};
+ghost use Rattle.vub_schedule.specs.Reading.{Reads, tag, number_at, count_at, hex_value, pair_at, read_at, write_at, more_fills, fills_at, ask_at, asked_at, numbered_at, word_at, event_text_at, event_at, header_of, header_at};
 
 use crate::Event;
 use arrayvec::ArrayVec;
 use vub_base::{Ask, CacheMode, Format, Header1, Shape};
 
-/// The largest size of a queue.
-const LARGEST_SIZE: u64 = 64;
+/// The largest size of a queue, and so the most requests that are accepted and not completed.
+const LARGEST_SIZE: u16 = 64;
 
 /// The largest capacity of a disk, in sectors of 512 bytes.
 const LARGEST_CAPACITY: u64 = 4096;
+
+/// The most sectors that a request reads or writes.
+const MOST_SECTORS: usize = 8;
 
 /// What stands behind the text at the front.
 #[tactic(auto, unfolding(crate::specs::Reading::tag))]
@@ -49,7 +52,8 @@ fn digit_count(bytes: &[u8]) -> usize
 /// A decimal number below the limit, without leading zeros.
 #[tactic(auto, unfolding(crate::specs::Reading::number_at))]
 fn number_at(limit: u64, bytes: &[u8]) -> Option<(u64, &[u8])>
-    ensures { Reads result (number_at limit bytes.now) }
+    ensures number { Reads result (number_at limit bytes.now) }
+    ensures below { IfSome result (λ x. x.0 < limit) }
 {
     let (digits, rest) = bytes.split_at(digit_count(bytes));
     if digits.is_empty() || digits[0] == b'0' && digits.len() != 1 {
@@ -60,6 +64,26 @@ fn number_at(limit: u64, bytes: &[u8]) -> Option<(u64, &[u8])>
         return None;
     }
     Some((value, rest))
+}
+
+/// A number from 1 to the most.
+#[tactic(auto, unfolding(crate::specs::Reading::count_at))]
+fn count_at(most: u16, bytes: &[u8]) -> Option<(u16, &[u8])>
+    ensures { Reads result (count_at most bytes.now) }
+{
+    let (count, rest) = number_at(u64::from(most) + 1, bytes)?;
+    if count == 0 {
+        return None;
+    }
+    Some((count as u16, rest))
+}
+
+/// The place of an accepted request.
+fn place_at(bytes: &[u8]) -> Option<(u16, &[u8])>
+    ensures { Reads result (number_at 64 bytes.now) }
+{
+    let (place, rest) = number_at(u64::from(LARGEST_SIZE), bytes)?;
+    Some((place as u16, rest))
 }
 
 /// The value of a lower-case hexadecimal digit.
@@ -87,26 +111,59 @@ fn pair_at(bytes: &[u8]) -> Option<(u8, &[u8])>
     Some((16 * high + low, rest))
 }
 
-/// A read, behind its word: the sector, below the capacity, and the count of 1.
+/// The bytes that fill the sectors of a write: one to eight, with a comma between them. A ninth is
+/// left behind, and so is its comma.
+#[tactic(auto, unfolding(crate::specs::Reading::fills_at))]
+fn fills_at(bytes: &[u8]) -> Option<(ArrayVec<u8, MOST_SECTORS>, &[u8])>
+    ensures { Reads result (fills_at bytes.now) }
+{
+    let (first, mut rest) = pair_at(bytes)?;
+    let mut fills = ArrayVec::new();
+    fills.push(first);
+    while !fills.is_full() {
+        let Some(after) = tag(rest, b",") else {
+            break;
+        };
+        let (fill, after) = pair_at(after)?;
+        fills.push(fill);
+        rest = after;
+    }
+    Some((fills, rest))
+}
+
+/// Whether so many sectors from one on lie on a disk of that capacity.
+fn is_on_disk(capacity: u64, sector: u64, count: u64) -> bool
+    requires { sector < capacity }
+    ensures { result ≡ nat_le (sector + count) capacity }
+{
+    count <= capacity - sector
+}
+
+/// A read, behind its word: the sector and the count.
 #[tactic(auto, unfolding(crate::specs::Reading::read_at))]
 fn read_at(capacity: u64, bytes: &[u8]) -> Option<(Ask, &[u8])>
     ensures { Reads result (read_at capacity bytes.now) }
 {
     let (sector, rest) = number_at(capacity, bytes)?;
-    let rest = tag(rest, b" 1")?;
-    Some((Ask::Read { sector, count: 1 }, rest))
+    let rest = tag(rest, b" ")?;
+    let (count, rest) = count_at(MOST_SECTORS as u16, rest)?;
+    if !is_on_disk(capacity, sector, u64::from(count)) {
+        return None;
+    }
+    Some((Ask::Read { sector, count }, rest))
 }
 
-/// A write, behind its word: the sector, below the capacity, and the byte that fills it.
+/// A write, behind its word: the sector and the bytes that fill the sectors from it on.
 #[tactic(auto, unfolding(crate::specs::Reading::write_at))]
 fn write_at(capacity: u64, bytes: &[u8]) -> Option<(Ask, &[u8])>
     ensures { Reads result (write_at capacity bytes.now) }
 {
     let (sector, rest) = number_at(capacity, bytes)?;
     let rest = tag(rest, b" ")?;
-    let (fill, rest) = pair_at(rest)?;
-    let mut fills = ArrayVec::new();
-    fills.push(fill);
+    let (fills, rest) = fills_at(rest)?;
+    if !is_on_disk(capacity, sector, fills.len() as u64) {
+        return None;
+    }
     Some((Ask::Write { sector, fills }, rest))
 }
 
@@ -118,20 +175,54 @@ fn ask_at(capacity: u64, bytes: &[u8]) -> Option<(Ask, &[u8])>
     if let Some(rest) = tag(bytes, b"write ") {
         return write_at(capacity, rest);
     }
-    read_at(capacity, tag(bytes, b"read ")?)
+    if let Some(rest) = tag(bytes, b"read ") {
+        return read_at(capacity, rest);
+    }
+    Some((Ask::Flush, tag(bytes, b"flush")?))
 }
 
-/// An event, up to the end of its line.
-#[tactic(auto, unfolding(crate::specs::Reading::event_text_at))]
-fn event_text_at<'a>(header: &Header1, bytes: &'a [u8]) -> Option<(Event, &'a [u8])>
-    ensures { Reads result (event_text_at header.now bytes.now) }
+/// A request with its word, on queue 0 and placed in the ring.
+#[tactic(auto, unfolding(crate::specs::Reading::asked_at))]
+fn asked_at<'a>(header: &Header1, bytes: &'a [u8]) -> Option<(Event, &'a [u8])>
+    ensures { Reads result (asked_at header.now bytes.now) }
 {
-    if let Some(rest) = tag(bytes, b"ask 0 d ") {
-        let (ask, rest) = ask_at(header.capacity, rest)?;
-        return Some((Event::Ask(0, Shape::Direct, ask), rest));
+    let rest = tag(bytes, b"ask 0 d ")?;
+    let (ask, rest) = ask_at(header.capacity, rest)?;
+    Some((Event::Ask(0, Shape::Direct, ask), rest))
+}
+
+/// An event that has a number more than that of its queue.
+#[tactic(auto, unfolding(crate::specs::Reading::numbered_at))]
+fn numbered_at(bytes: &[u8]) -> Option<(Event, &[u8])>
+    ensures { Reads result (numbered_at bytes.now) }
+{
+    if let Some(rest) = tag(bytes, b"guest 0 ") {
+        let (stores, rest) = count_at(u16::MAX, rest)?;
+        return Some((Event::Guest(0, stores), rest));
     }
-    if let Some(rest) = tag(bytes, b"guest 0 16") {
-        return Some((Event::Guest(0, 16), rest));
+    if let Some(rest) = tag(bytes, b"work 0 ") {
+        let (place, rest) = place_at(rest)?;
+        return Some((Event::Work(0, place), rest));
+    }
+    if let Some(rest) = tag(bytes, b"publish 0 ") {
+        let (most, rest) = count_at(LARGEST_SIZE, rest)?;
+        return Some((Event::Publish(0, most), rest));
+    }
+    let rest = tag(bytes, b"turn 0 ")?;
+    let (turns, rest) = count_at(u16::MAX, rest)?;
+    Some((Event::Turn(0, turns), rest))
+}
+
+/// An event that is always the same text.
+#[tactic(auto, unfolding(crate::specs::Reading::word_at))]
+fn word_at(bytes: &[u8]) -> Option<(Event, &[u8])>
+    ensures { Reads result (word_at bytes.now) }
+{
+    if let Some(rest) = tag(bytes, b"start 0") {
+        return Some((Event::Start(0), rest));
+    }
+    if let Some(rest) = tag(bytes, b"fetch 0") {
+        return Some((Event::Fetch(0), rest));
     }
     if let Some(rest) = tag(bytes, b"drain 0") {
         return Some((Event::Drain(0), rest));
@@ -144,6 +235,16 @@ fn event_text_at<'a>(header: &Header1, bytes: &'a [u8]) -> Option<(Event, &'a [u
     }
     let rest = tag(bytes, b"join")?;
     Some((Event::Join, rest))
+}
+
+/// An event, up to the end of its line.
+#[tactic(auto, unfolding(crate::specs::Reading::event_text_at))]
+fn event_text_at<'a>(header: &Header1, bytes: &'a [u8]) -> Option<(Event, &'a [u8])>
+    ensures { Reads result (event_text_at header.now bytes.now) }
+{
+    asked_at(header, bytes)
+        .or_else(|| numbered_at(bytes))
+        .or_else(|| word_at(bytes))
 }
 
 /// The event of the line at the front, its newline included.
@@ -181,7 +282,7 @@ pub fn header_at(bytes: &[u8]) -> Option<(Header1, &[u8])>
     ensures { Reads result (header_at bytes.now) }
 {
     let front = tag(bytes, b"vub 1 split 1 ")?;
-    let (size, middle) = number_at(LARGEST_SIZE + 1, front)?;
+    let (size, middle) = number_at(u64::from(LARGEST_SIZE) + 1, front)?;
     let middle = tag(middle, b" ")?;
     let (capacity, back) = number_at(LARGEST_CAPACITY + 1, middle)?;
     let rest = tag(back, b" 0 back\n")?;

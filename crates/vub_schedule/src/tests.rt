@@ -37,8 +37,32 @@ fn fault_of(alloc: Global, bytes: &[u8]) -> Option<ScheduleFault> {
     }
 }
 
-const ONE_WRITE: &[u8] =
-    b"vub 1 split 1 4 8 0 back\nboot\njoin\nask 0 d write 7 aa\nguest 0 16\ndrain 0\ncollect 0\nask 0 d read 0 1\n";
+const EVERY_EVENT: &[u8] = b"vub 1 split 1 4 8 0 back
+boot
+join
+start 0
+ask 0 d write 6 aa,0f
+ask 0 d read 0 8
+ask 0 d flush
+guest 0 65535
+fetch 0
+work 0 63
+publish 0 64
+turn 0 1
+drain 0
+collect 0
+";
+
+// The longest requests and the least and largest numbers.
+const ENDS: &[u8] = b"vub 1 split 1 4 8 0 back
+ask 0 d write 0 00,11,22,33,44,55,66,77
+ask 0 d write 7 99
+ask 0 d read 7 1
+guest 0 1
+work 0 0
+publish 0 1
+turn 0 65535
+";
 
 const PLAIN: Header1 = Header1 {
     format: Format::Split,
@@ -49,41 +73,49 @@ const PLAIN: Header1 = Header1 {
     mode: CacheMode::Back,
 };
 
-fn write_of(sector: u64, fill: u8) -> Ask {
+fn write_of(sector: u64, first: u8, second: u8) -> Ask {
     let mut fills = ArrayVec::new();
-    fills.push(fill);
+    fills.push(first);
+    fills.push(second);
     Ask::Write { sector, fills }
 }
 
 #[test]
 fn a_text_is_parsed_and_written(rt: HostRuntime) -> Result<(), Fail> {
-    let schedule = parse_schedule(rt.alloc(), ONE_WRITE).ok().ok_or("parsed")?;
+    let schedule = parse_schedule(rt.alloc(), EVERY_EVENT)
+        .ok()
+        .ok_or("parsed")?;
+    let read = Ask::Read {
+        sector: 0,
+        count: 8,
+    };
     let events = [
         Event::Boot,
         Event::Join,
-        Event::Ask(0, Shape::Direct, write_of(7, 0xaa)),
-        Event::Guest(0, 16),
+        Event::Start(0),
+        Event::Ask(0, Shape::Direct, write_of(6, 0xaa, 0x0f)),
+        Event::Ask(0, Shape::Direct, read),
+        Event::Ask(0, Shape::Direct, Ask::Flush),
+        Event::Guest(0, 65_535),
+        Event::Fetch(0),
+        Event::Work(0, 63),
+        Event::Publish(0, 64),
+        Event::Turn(0, 1),
         Event::Drain(0),
         Event::Collect(0),
-        Event::Ask(
-            0,
-            Shape::Direct,
-            Ask::Read {
-                sector: 0,
-                count: 1,
-            },
-        ),
     ];
     assert_eq!(rt; schedule.header, PLAIN);
     assert_eq!(rt; schedule.events.items(), events.as_slice());
-    let text = written_again(rt.alloc(), ONE_WRITE).ok().ok_or("written")?;
-    assert_eq!(rt; text.as_slice(), ONE_WRITE);
+    for text in [EVERY_EVENT, ENDS] {
+        let again = written_again(rt.alloc(), text).ok().ok_or("written")?;
+        assert_eq!(rt; again.as_slice(), text);
+    }
     Ok(())
 }
 
 #[test]
 fn a_schedule_is_written_and_parsed(rt: HostRuntime) -> Result<(), Fail> {
-    let event = Event::Ask(0, Shape::Direct, write_of(7, 0x0f));
+    let event = Event::Ask(0, Shape::Direct, write_of(6, 0xc0, 0x0f));
     let copy = event.copy().ok().ok_or("copied")?;
     let events = Events::new(vec![in rt.alloc(); copy, Event::Drain(0)]?);
     let schedule = Schedule {
@@ -91,7 +123,7 @@ fn a_schedule_is_written_and_parsed(rt: HostRuntime) -> Result<(), Fail> {
         events,
     };
     let text = write_schedule(rt.alloc(), &schedule).ok().ok_or("written")?;
-    let wanted = b"vub 1 split 1 4 8 0 back\nask 0 d write 7 0f\ndrain 0\n";
+    let wanted = b"vub 1 split 1 4 8 0 back\nask 0 d write 6 c0,0f\ndrain 0\n";
     assert_eq!(rt; text.as_slice(), wanted.as_slice());
     let again = parse_schedule(rt.alloc(), &text).ok().ok_or("parsed")?;
     assert_eq!(rt; again.events.items(), schedule.events.items());
@@ -164,7 +196,7 @@ flush;id;discard 9223372036854775807:10:0,0:4294967295:1;1234567c0record 1 packe
 }
 
 // Texts outside the grammar, with the number of the first line that is.
-const MALFORMED: [(&[u8], u64); 55] = [
+const MALFORMED: [(&[u8], u64); 67] = [
     (b"", 1),
     (b"\n", 1),
     (b"vub 1 split 1 4 8 0 back", 1),
@@ -204,9 +236,19 @@ const MALFORMED: [(&[u8], u64); 55] = [
     (b"vub 1 split 1 4 8 0 back\ncollect 00\n", 2),
     (b"vub 1 split 1 4 8 0 back\ndrain\n", 2),
     (b"vub 1 split 1 4 8 0 back\ndrain  0\n", 2),
-    (b"vub 1 split 1 4 8 0 back\nguest 0 15\n", 2),
+    (b"vub 1 split 1 4 8 0 back\nstart 1\n", 2),
+    (b"vub 1 split 1 4 8 0 back\nguest 0 0\n", 2),
     (b"vub 1 split 1 4 8 0 back\nguest 0 016\n", 2),
-    (b"vub 1 split 1 4 8 0 back\nguest 0 160\n", 2),
+    (b"vub 1 split 1 4 8 0 back\nguest 0 65536\n", 2),
+    (b"vub 1 split 1 4 8 0 back\nwork 0 64\n", 2),
+    (b"vub 1 split 1 4 8 0 back\nwork 0 00\n", 2),
+    (b"vub 1 split 1 4 8 0 back\npublish 0 0\n", 2),
+    (b"vub 1 split 1 4 8 0 back\npublish 0 65\n", 2),
+    (b"vub 1 split 1 4 8 0 back\nturn 0 0\n", 2),
+    (b"vub 1 split 1 4 8 0 back\nturn 0 65536\n", 2),
+    (b"vub 1 split 1 4 8 0 back\nask 0 d flush 0\n", 2),
+    (b"vub 1 split 1 4 8 0 back\nask 0 d read 0 0\n", 2),
+    (b"vub 1 split 1 4 4096 0 back\nask 0 d read 0 9\n", 2),
     (b"vub 1 split 1 4 8 0 back\nboot\nask 0 d read 8 1\n", 3),
     (b"vub 1 split 1 4 8 0 back\nask 0 d read 07 1\n", 2),
     (b"vub 1 split 1 4 8 0 back\nask 0 d read 7 2\n", 2),
@@ -221,6 +263,11 @@ const MALFORMED: [(&[u8], u64); 55] = [
     (b"vub 1 split 1 4 8 0 back\nask 0 d write 7 aaa\n", 2),
     (b"vub 1 split 1 4 8 0 back\nask 0 d write 7 aa,aa\n", 2),
     (b"vub 1 split 1 4 8 0 back\nask 0 d write 7 ag\n", 2),
+    (b"vub 1 split 1 4 8 0 back\nask 0 d write 0 aa,\n", 2),
+    (
+        b"vub 1 split 1 4 4096 0 back\nask 0 d write 0 00,11,22,33,44,55,66,77,88\n",
+        2,
+    ),
     (b"vub 1 split 1 4 8 0 back\nask 0 d write 7\n", 2),
     (b"vub 1 split 1 4 8 0 back\nask 0 i write 7 aa\n", 2),
     (b"vub 1 split 1 4 8 0 back\nask 1 d write 7 aa\n", 2),
