@@ -1,7 +1,7 @@
 pub mod ArmLemmas
 pub mod ChainReading
 pub mod MachineBatches
-pub mod MachineDrains
+pub mod MachineRooms
 pub mod MachineEvents
 pub mod MachineGuestAsks
 pub mod MachineGuestCollects
@@ -15,7 +15,7 @@ pub mod MachineNotes
 pub mod MachineOpening
 pub mod MachineTurns
 pub mod MachineTurnsAt
-pub mod MachineTurnsDrain
+pub mod MachineTurnsSteps
 pub mod MachineTurnsNext
 pub mod MachineTurnsWork
 pub mod QueueAtMoves

@@ -39,7 +39,7 @@ use Rattle.vub_split.specs.Split.{RingLies}
 use Rattle.vub_world.specs.Logs.{slot_in}
 use Rattle.vub_world.specs.MachineAt.{AskAt, AttachedAt, LifeAt, LogAt, MachineAt, reads_of}
 use Rattle.vub_world.specs.MachineDevice.{Device, device, DeviceAt, TurnMade, DeviceTurns, noted, stored_items, shown_of, answers_shown}
-use Rattle.vub_world.specs.MachineDrain.{TurnGoes}
+use Rattle.vub_world.specs.MachineSteps.{TurnGoes}
 use Rattle.vub_world.specs.Memory.{Scene, after_items}
 use Rattle.vub_world.specs.Moments.{Moment, standing}
 use Rattle.vub_world.specs.QueueState.{state_of}
@@ -122,7 +122,7 @@ pub record HasQueue (w : Machine) (m : Moment) (q : Queue) : Type 0 where
   pub at : MachineAt w m
   pub life_is : w.life ≡ with_queue q
 
-life_at : (w : Machine) (m : Moment) (q : Queue) → HasQueue w m q → LifeAt w.header w.ring m (with_queue q)
+pub life_at : (w : Machine) (m : Moment) (q : Queue) → HasQueue w m q → LifeAt w.header w.ring m (with_queue q)
 life_at w m q has = subst (λ (l : Option Life). LifeAt w.header w.ring m l) has.life_is has.at.life
 
 abbrev after_turn : Machine → Turn → Moment → Moment

@@ -1,4 +1,4 @@
--- A turn of a drain: no call fails in it, and its kind is the one that is chosen at the moment.
+-- A turn: no call fails in it, and its kind is the one that is asked for or chosen at the moment.
 use Rattle.std.proofs.Common.{◌≡◌, ◌≤◌, ◌<◌, ℕ, false, List, [], ◌∷◌, length, refl, ap, sym, ◌∙◌, subst, inl, inr, arith}
 use Rattle.std.specs.Prelude.{Option, Some, None, Result, Ok, Err}
 use Rattle.vub_base.specs.Causes.{HasCause}
@@ -11,14 +11,15 @@ use Rattle.vub_shared.proofs.WatchedLemmas.{no_fault}
 use Rattle.vub_ring.specs.declared.readiness.Standing.{Standing}
 use Rattle.vub_ring.specs.declared.readiness.Turn.{Turn}
 use Rattle.vub_ring.specs.declared.readiness.Turn.TheVariants as turns
-use Rattle.vub_ring.specs.Readiness.{drain_turn}
 use Rattle.vub_ring.specs.Rows.{Row}
 use Rattle.vub_world.specs.declared.queue.Stepped.{Stepped}
 use Rattle.vub_world.specs.declared.queue.Stepped.TheVariants as says
 use Rattle.vub_world.specs.declared.queue.Turn as asked
 use Rattle.vub_split.specs.declared.split.SplitRing.{SplitRing}
+use Rattle.vub_world.specs.declared.device.Choice.{Choice}
+use Rattle.vub_world.specs.Choices.{choose, next_turn}
 use Rattle.vub_world.specs.MachineAt.{IsReached}
-use Rattle.vub_world.specs.MachineDrain.{next_turn}
+use Rattle.vub_world.specs.MachineDevice.{turn_here}
 use Rattle.vub_world.specs.Moments.{Moment, standing}
 use Rattle.vub_world.specs.QueueAt.{QueueStands, IsMainRing}
 use Rattle.vub_world.specs.QueueState.{QueueState, standing_at, waiting, turn_at, publish_row, TrailsRow, DoesTrail, outcome, disk_outcome, is_fault}
@@ -98,9 +99,27 @@ served_is (says.Broken fault) cause = tt
 
 -- ---- which turn it is
 
-pub turn_same : (h : Header1) (r : SplitRing) (m : Moment) (q : QueueState) (b : Bytes) (taken : ℕ) (t : asked.Turn) → IsMainRing r h.size → QueueStands h r m q → b ≡ m.scene.memory
-    → ((n : ℕ) → turn_at q.ring.size (standing_at q n) t ≡ drain_turn q.ring.size taken (standing_at q n)) → turn_at q.ring.size (standing_at q (waiting q b)) t ≡ next_turn h taken m
-turn_same h r m q b taken t main z memory chosen =
-    let sized : q.ring.size ≡ h.size = ap (λ (y : SplitRing). y.size) z.ring ∙ main.size in
-    let stands : standing_at q (waiting q b) ≡ standing h 0 m = ap (λ (c : Bytes). standing_at q (waiting q c)) memory ∙ standings h r m q main z in
-    chosen (waiting q b) ∙ ap (λ (n : ℕ). drain_turn n taken (standing_at q (waiting q b))) sized ∙ ap (λ (s : Standing). drain_turn h.size taken s) stands
+-- readiness depends on the same in the queue and at the moment
+pub record IsAsHere (h : Header1) (m : Moment) (q : QueueState) (b : Bytes) : Type 0 where
+  pub size : q.ring.size ≡ h.size
+  pub standing_is : standing_at q (waiting q b) ≡ standing h 0 m
+
+pub as_here : (h : Header1) (r : SplitRing) (m : Moment) (q : QueueState) (b : Bytes) → IsMainRing r h.size → QueueStands h r m q → b ≡ m.scene.memory → IsAsHere h m q b
+as_here h r m q b main z memory = record {
+  size = ap (λ (y : SplitRing). y.size) z.ring ∙ main.size;
+  standing_is = ap (λ (c : Bytes). standing_at q (waiting q c)) memory ∙ standings h r m q main z;
+}
+
+pub turn_same : (h : Header1) (r : SplitRing) (m : Moment) (q : QueueState) (b : Bytes) (t : asked.Turn) → IsMainRing r h.size → QueueStands h r m q → b ≡ m.scene.memory
+    → turn_at q.ring.size (standing_at q (waiting q b)) t ≡ turn_here h t m
+turn_same h r m q b t main z memory =
+    let here = as_here h r m q b main z memory in
+    ap (λ (n : ℕ). turn_at n (standing_at q (waiting q b)) t) here.size ∙ ap (λ (s : Standing). turn_at h.size s t) here.standing_is
+
+-- the turn that a queue chooses is the one that is chosen at the moment
+pub choice_same : (h : Header1) (r : SplitRing) (m : Moment) (q : QueueState) (choice : Choice) (taken : ℕ) (t : asked.Turn) → IsMainRing r h.size → QueueStands h r m q
+    → ((n : ℕ) → turn_at q.ring.size (standing_at q n) t ≡ choose choice q.ring.size taken (standing_at q n)) → turn_here h t m ≡ next_turn h choice taken m
+choice_same h r m q choice taken t main z chosen =
+    let here = as_here h r m q m.scene.memory main z refl in
+    sym (turn_same h r m q m.scene.memory t main z refl) ∙ chosen (waiting q m.scene.memory)
+    ∙ ap (λ (n : ℕ). choose choice n taken (standing_at q (waiting q m.scene.memory))) here.size ∙ ap (λ (s : Standing). choose choice h.size taken s) here.standing_is

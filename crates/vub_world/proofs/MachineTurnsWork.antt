@@ -1,5 +1,5 @@
--- A turn of the device at a moment of a run: work on a request, and any turn of a drain.
-use Rattle.std.proofs.Common.{◌≡◌, ◌≤◌, ℕ, ◌+◌, true, false, List, [], ◌∷◌, ◌++◌, length, filter, not, refl, ap, sym, ◌∙◌, subst, inl, inr, arith}
+-- A turn of the device at a moment of a run: work on a request, and any turn.
+use Rattle.std.proofs.Common.{◌≡◌, ◌≤◌, ℕ, ◌+◌, true, false, List, [], ◌∷◌, ◌++◌, length, refl, ap, sym, ◌∙◌, subst, inl, inr, arith}
 use Rattle.std.specs.Prelude.{Option, Some, option_map, nat_lt}
 use Rattle.std.proofs.lemmas.Bool.{cases_Bool}
 use Rattle.std.proofs.lemmas.Bool.Decides.{nat_tests}
@@ -12,36 +12,37 @@ use Rattle.vub_disk.specs.Values.{Values}
 use Rattle.vub_ring.specs.declared.readiness.Standing.{Standing}
 use Rattle.vub_ring.specs.declared.readiness.Turn.{Turn}
 use Rattle.vub_ring.specs.declared.readiness.Turn.TheVariants as turns
-use Rattle.vub_ring.specs.Readiness.{is_ready, is_publication, work_or_publish, drain_turn}
+use Rattle.vub_ring.specs.Readiness.{is_ready, is_publication, any_turn}
 use Rattle.vub_device.specs.declared.entry.Asked.{Asked}
 use Rattle.vub_device.specs.declared.entry.Entry.{Entry}
 use Rattle.vub_device.specs.declared.entry.Entry.TheVariants as entries
-use Rattle.vub_device.specs.Past.{accepted, published, is_among, missing_below, open_numbers, started}
+use Rattle.vub_device.specs.Past.{accepted}
 use Rattle.vub_world.specs.declared.log.Log.{Log}
 use Rattle.vub_world.specs.declared.log.Outstanding.{Outstanding}
 use Rattle.vub_world.specs.declared.report.items.Item.{Item}
 use Rattle.vub_world.specs.declared.report.items.Item.TheVariants as items
 use Rattle.vub_world.specs.declared.queue.Stepped.{Stepped}
 use Rattle.vub_world.specs.declared.queue.Stepped.TheVariants as says
+use Rattle.vub_world.specs.declared.queue.Turn as asked
+use Rattle.vub_world.specs.declared.queue.Turn.TheVariants as asks
 use Rattle.vub_split.specs.declared.split.SplitRing.{SplitRing}
 use Rattle.vub_world.specs.declared.task.Task.{Task}
-use Rattle.vub_world.specs.MachineDevice.{Device, TurnMade, DeviceTurns, StoreFits, SectorFits, noted, stored_items, shown_of, accepts, number_at}
+use Rattle.vub_world.specs.MachineDevice.{Device, DeviceAt, TurnMade, DeviceTurns, StoreFits, SectorFits, noted, stored_items, shown_of, accepts, number_at}
 use Rattle.vub_world.specs.MachineFront.{OneSmall}
 use Rattle.vub_world.specs.Memory.{after_items}
 use Rattle.vub_world.specs.Moments.{Moment, standing}
-use Rattle.vub_world.specs.QueueAt.{DiskAt}
-use Rattle.vub_world.specs.QueueState.{QueueState, IsDue, IfStepped, WorksOut, due_store, sector_at, said, is_idle, is_fault}
+use Rattle.vub_world.specs.QueueAt.{QueueStands, DiskAt}
+use Rattle.vub_world.specs.QueueState.{QueueState, IsDue, IfStepped, WorksOut, due_store, sector_at, said, is_idle, is_fault, turn_at, Rests}
 use Rattle.vub_world.specs.Run.{one_turn}
 use Rattle.vub_world.specs.TaskState.{Making, answer_in, answer_to, memory_after, values_after, with_maybe}
 use Rattle.vub_world.specs.Tasks.{TaskStep, Look, Act}
 use Rattle.vub_world.specs.Turns.{turned}
 use Rattle.vub_world.proofs.RunFrames.{open_out}
 use Rattle.vub_world.proofs.RunGood.{IsOut}
-use Rattle.vub_world.proofs.RunTurns.{Good}
 use Rattle.vub_world.proofs.WorkAt.{WorkReady, making, Kind, work_ready}
 use Rattle.vub_world.proofs.WorkAtItems.{Shows, ShowsStore, work_items, work_memory, work_disk, work_kind}
 use Rattle.vub_world.proofs.WorkAtStands.{work_stands}
-use Rattle.vub_world.proofs.MachineTurns.{TurnAt, DeviceDoes, IsServed, some_is, start_made, fetch_made, publish_made, idle_made}
+use Rattle.vub_world.proofs.MachineTurns.{TurnAt, DeviceDoes, IsServed, some_is, disk_same, start_made, fetch_made, publish_made, idle_made}
 
 -- what a call made that failed nowhere
 stepped_out : (x : Stepped) (P : Type 0) → is_fault x ≡ false → IsServed x → IfStepped x P → P
@@ -188,50 +189,54 @@ work_made h r m log sizes place d now x a room ready does =
       taken = omega (arith, notes.none, notes.same);
     }
 
--- ---- the turns of a drain
+-- ---- work that isn't ready
 
--- a turn of work that a drain chooses is due
-pub work_chosen : (h : Header1) (m : Moment) (taken : ℕ) (place : ℕ) → Good h m → drain_turn h.size taken (standing h 0 m) ≡ turns.Work place → is_ready (standing h 0 m) (turns.Work place) ≡ true
-work_chosen h m taken place good is = chosen h.size taken place (standing h 0 m) (λ stopped. none_unfinished h m good stopped) is
-  where
-    none_open : (past : List Entry) → accepted past 0 ≡ 0 → open_numbers past 0 ≡ []
-    none_open past none = ap (missing_below (published past 0)) none
-
-    none_unfinished : (g : Header1) (n : Moment) → Good g n → started n.scene.past 0 ≡ false → (standing g 0 n).unfinished ≡ 0
-    none_unfinished g n ok stopped = ap (λ (ks : List ℕ). length (filter (λ k. not (is_among ((n.lanes 0).completed ++ (n.lanes 0).batch) k)) ks)) (none_open n.scene.past (ok.idle stopped))
-
-    work_or : (size j : ℕ) (s : Standing) → s.started ≡ true → work_or_publish size s ≡ turns.Work j → is_ready s (turns.Work j) ≡ true
-    work_or size j s run e = elim (cases_Bool (nat_lt 0 s.unfinished)) [
-      | inl some ↦ let same : turns.Work 0 ≡ turns.Work j = grind (arith, nat_tests) in let zero_is : j ≡ 0 = cc in grind (arith, nat_tests)
-      | inr none ↦ absurd (let fails : turns.Publish size ≡ turns.Work j = grind (arith, nat_tests) in cc)
-    ]
-
-    chosen : (size n j : ℕ) (s : Standing) → (s.started ≡ false → s.unfinished ≡ 0) → drain_turn size n s ≡ turns.Work j → is_ready s (turns.Work j) ≡ true
-    chosen size n j s quiet e = elim (cases_Bool s.started) [
-      | inl run ↦ elim (cases_Bool (is_publication s.phase)) [
-        | inl shows ↦ absurd (let fails : turns.Publish size ≡ turns.Work j = grind (arith, nat_tests) in cc)
-        | inr rests ↦ elim (cases_Bool (nat_lt n size)) [
-          | inl few ↦ elim (cases_Bool (is_ready s turns.Fetch)) [
-            | inl fetches ↦ absurd (let fails : turns.Fetch ≡ turns.Work j = grind (arith, nat_tests) in cc)
-            | inr none ↦ work_or size j s run (grind (arith, nat_tests))
-          ]
-          | inr many ↦ work_or size j s run (grind (arith, nat_tests))
-        ]
+-- work that is chosen is ready
+any_works : (size j : ℕ) (s : Standing) → any_turn size s ≡ turns.Work j → is_ready s (turns.Work j) ≡ true
+any_works size j s e = elim (cases_Bool s.started) [
+  | inl run ↦ elim (cases_Bool (is_publication s.phase)) [
+    | inl shows ↦ absurd (let fails : turns.Publish size ≡ turns.Work j = grind (arith, nat_tests) in cc)
+    | inr rests ↦ elim (cases_Bool (is_ready s turns.Fetch)) [
+      | inl fetches ↦ absurd (let fails : turns.Fetch ≡ turns.Work j = grind (arith, nat_tests) in cc)
+      | inr none ↦ elim (cases_Bool (nat_lt 0 s.unfinished)) [
+        | inl some ↦ let same : turns.Work 0 ≡ turns.Work j = grind (arith, nat_tests) in let zero_is : j ≡ 0 = cc in grind (arith, nat_tests)
+        | inr none ↦ absurd (let fails : turns.Publish size ≡ turns.Work j = grind (arith, nat_tests) in cc)
       ]
-      | inr stopped ↦ absurd (
-          let none : s.unfinished ≡ 0 = quiet stopped in
-          elim (cases_Bool (nat_lt n size)) [
-            | inl few ↦ (let fails : turns.Start ≡ turns.Work j = grind (arith, nat_tests) in cc)
-            | inr many ↦ (let fails : turns.Publish size ≡ turns.Work j = grind (arith, nat_tests) in cc)
-          ])
     ]
+  ]
+  | inr stopped ↦ absurd (let fails : turns.Start ≡ turns.Work j = grind (arith, nat_tests) in cc)
+]
 
--- any turn: it is made where it is due, and else nothing is
-pub device_turns : (h : Header1) (r : SplitRing) (m : Moment) (log : Log) (sizes : ℕ → ℕ) (t : Turn) (d now : Device) (x : Stepped) → TurnAt h r m log d → 1048576 ≤ sizes 0 → ((place : ℕ) → t ≡ turns.Work place → is_ready (standing h 0 m) t ≡ true)
-    → DeviceDoes t h.capacity sizes d now x → DeviceTurns h r m t log d now x
-device_turns h r m log sizes turns.Start d now x a room due does = (λ ready. start_made h r m log h.capacity sizes d now x a ready does, λ unready. idle_made h r m log h.capacity sizes turns.Start d now x a tt unready does)
-device_turns h r m log sizes turns.Fetch d now x a room due does = (λ ready. fetch_made h r m log h.capacity sizes d now x a ready does, λ unready. idle_made h r m log h.capacity sizes turns.Fetch d now x a tt unready does)
-device_turns h r m log sizes (turns.Publish most) d now x a room due does =
+-- so work that isn't ready was asked for
+pub work_asked : (size : ℕ) (s : Standing) (t : asked.Turn) (place : ℕ) → turn_at size s t ≡ turns.Work place → is_ready s (turns.Work place) ≡ false → t ≡ asks.Work place
+work_asked size s asks.Start place is unready = absurd (let fails : turns.Start ≡ turns.Work place = is in cc)
+work_asked size s asks.Fetch place is unready = absurd (let fails : turns.Fetch ≡ turns.Work place = is in cc)
+work_asked size s (asks.Work j) place is unready = let same : j ≡ place = cc in ap asks.Work same
+work_asked size s (asks.Publish most) place is unready = absurd (let fails : turns.Publish most ≡ turns.Work place = is in cc)
+work_asked size s asks.Any place is unready = absurd (let fails : true ≡ false = sym (any_works size place s is) ∙ unready in cc)
+
+-- nothing was made
+abbrev pub RestsAt : Device → Device → Stepped → Type 0
+RestsAt d now x = Rests (Some d.memory) (Some now.memory) (Some d.stores) (Some now.stores) (Some d.values) (Some now.values) x d.queue now.queue
+
+rests_at : (h : Header1) (r : SplitRing) (m : Moment) (log : Log) (d now : Device) (x : Stepped) → TurnAt h r m log d → RestsAt d now x → (x ≡ says.Idle) × DeviceAt h r m now
+rests_at h r m log d now x a rests = (
+  rests.idle,
+  record {
+    stands = subst (λ (q : QueueState). QueueStands h r m q) (sym rests.state) a.at.stands;
+    memory_is = some_is now.memory d.memory rests.stores ∙ a.at.memory_is;
+    disk = disk_same h.capacity m.scene.past d.values now.values (some_is now.values d.values rests.values) a.at.disk;
+  },
+)
+
+-- ---- any turn
+
+-- it is made where it is due, and else nothing is
+pub device_turns : (h : Header1) (r : SplitRing) (m : Moment) (log : Log) (sizes : ℕ → ℕ) (t : Turn) (d now : Device) (x : Stepped) → TurnAt h r m log d → 1048576 ≤ sizes 0
+    → ((place : ℕ) → t ≡ turns.Work place → is_ready (standing h 0 m) (turns.Work place) ≡ false → RestsAt d now x) → DeviceDoes t h.capacity sizes d now x → DeviceTurns h r m t log d now x
+device_turns h r m log sizes turns.Start d now x a room rests does = (λ ready. start_made h r m log h.capacity sizes d now x a ready does, λ unready. idle_made h r m log h.capacity sizes turns.Start d now x a tt unready does)
+device_turns h r m log sizes turns.Fetch d now x a room rests does = (λ ready. fetch_made h r m log h.capacity sizes d now x a ready does, λ unready. idle_made h r m log h.capacity sizes turns.Fetch d now x a tt unready does)
+device_turns h r m log sizes (turns.Publish most) d now x a room rests does =
     (λ ready. publish_made h r m log h.capacity sizes most d now x a ready does, λ unready. idle_made h r m log h.capacity sizes (turns.Publish most) d now x a tt unready does)
-device_turns h r m log sizes (turns.Work place) d now x a room due does =
-    (λ ready. work_made h r m log sizes place d now x a room ready does, λ unready. absurd (let fails : true ≡ false = sym (due place refl) ∙ unready in cc))
+device_turns h r m log sizes (turns.Work place) d now x a room rests does =
+    (λ ready. work_made h r m log sizes place d now x a room ready does, λ unready. rests_at h r m log d now x a (rests place refl unready))

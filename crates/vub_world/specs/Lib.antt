@@ -1,12 +1,13 @@
 pub mod ChainState
+pub mod Choices
 pub mod LegalRuns
 pub mod Lives
 pub mod Logs
 pub mod Machine
 pub mod MachineAt
 pub mod MachineDevice
-pub mod MachineDrain
 pub mod MachineFront
+pub mod MachineSteps
 pub mod Memory
 pub mod Moments
 pub mod Queue

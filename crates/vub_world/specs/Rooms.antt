@@ -53,16 +53,17 @@ pub record SpendsTurn (r now : RoomState) : Type 0 where
   pub answer_lists : now.answer_lists ≡ r.answer_lists
   pub answers : now.answers ≡ r.answers
 
--- a step of a drain that shows so many answers
+-- a step that shows so many answers
 pub record SpendsStep (shown : ℕ) (r now : RoomState) : Type 0 where
   pub item_room : r.item_room ≤ now.item_room + 2
   pub lists_left : r.lists ≤ now.lists + (1 + shown)
   pub answer_lists : r.answer_lists ≤ now.answer_lists + min shown 1
   pub answers : now.answers ≡ r.answers
 
--- there is room for a drain: for two items and a list of each turn, and for the answers
-pub record HasDrainRoom (undone : ℕ) (r : RoomState) : Type 0 where
-  pub items : 42 * undone + 6 ≤ r.item_room
-  pub lists : 22 * undone + 3 ≤ r.lists
-  pub answer_lists : undone + 1 ≤ r.answer_lists
+-- there is room for so many turns, which show at most so many answers in all: for two items and a list of each turn,
+-- and for the answers
+pub record HasRoom (turns undone : ℕ) (r : RoomState) : Type 0 where
+  pub items : 2 * turns ≤ r.item_room
+  pub lists : turns + undone ≤ r.lists
+  pub answer_lists : min turns (undone + 1) ≤ r.answer_lists
   pub answers : undone ≤ r.answers

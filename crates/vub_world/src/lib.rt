@@ -3,7 +3,7 @@
 #![tactic(auto)]
 
 mod chain;
-mod drain;
+mod device;
 pub mod laws;
 mod log;
 mod machine;

@@ -1,14 +1,14 @@
 //! The parts of a world, and what each event does with them.
-ghost use Rattle.std.specs.Prelude.{◌≡◌, ◌<◌, ◌≤◌, ◌+◌, ◌-◌, ◌++◌, ◌∷◌, [], ℕ, List, IfOk, OnOk, OnErr, length, true, false, Some, None};
+ghost use Rattle.std.specs.Prelude.{◌≡◌, ◌<◌, ◌≤◌, ◌+◌, ◌-◌, ◌*◌, ◌++◌, ◌∷◌, [], ℕ, min, not, List, IfOk, OnOk, OnErr, length, true, false, Some, None};
 ghost use Rattle.vub_shared.specs.Watched.{bytes_in, stores_in, sizes_in};
 ghost use Rattle.vub_driver.specs.Layout.{ring_of as main_ring};
 ghost use Rattle.vub_schedule.specs.Spelling.{IsHeader, IsEvent};
 ghost use Rattle.vub_world.specs.Rooms.{SpendsLists};
 ghost use Rattle.vub_world.specs.Run.{request_of};
 
-use crate::drain::next_turn;
+use crate::device::{Choice, turn_queue};
 use crate::log::Log;
-use crate::queue::{Queue, QueueSetup, Stepped};
+use crate::queue::{Queue, QueueSetup, Stepped, Turn};
 use crate::report::{Item, Items, Record};
 use crate::room::{Room, Spare};
 use std::alloc::Global;
@@ -96,12 +96,13 @@ impl Machine {
     ghost use Rattle.vub_world.specs.Logs.{offered_in, collected_in, slot_in, Offers};
     ghost use Rattle.vub_world.specs.Machine.{IsSound, LendsSound};
     ghost use Rattle.vub_world.specs.MachineAt.{FrontAt, MachineAt, IsReached, IsStanding, Performs, StandsOn};
-    ghost use Rattle.vub_world.specs.MachineDevice.{BatchFits, ShowsSome, StoreFits, SectorFits, IsEntry, stored_items, is_joining, answer_for, answers_for, answers_shown, batch_in, shown_in, noted};
-    ghost use Rattle.vub_world.specs.MachineDrain.{TurnGoes, DrainSteps, DrainGoes, next_turn};
+    ghost use Rattle.vub_world.specs.MachineDevice.{BatchFits, ShowsSome, StoreFits, SectorFits, IsEntry, stored_items, is_joining, answer_for, answers_for, answers_shown, batch_in, shown_in, noted, accepts, turn_here};
+    ghost use Rattle.vub_world.specs.MachineSteps.{TurnGoes, StepGoes, TurnsGo, PlaysSingle, PlaysTurns};
     ghost use Rattle.vub_world.specs.MachineFront.{FrontFits, OneSmall, GuestSteps, GuestGoes, head_shown};
-    ghost use Rattle.vub_world.specs.Rooms.{HasTurnRoom, HasDrainRoom, Spends, SpendsAnswers, SpendsUpTo, SpendsTurn, SpendsStep};
+    ghost use Rattle.vub_world.specs.Rooms.{HasTurnRoom, HasRoom, Spends, SpendsAnswers, SpendsUpTo, SpendsTurn, SpendsStep};
     ghost use Rattle.vub_world.specs.Moments.{Moment, opening};
-    ghost use Rattle.vub_world.specs.QueueState.{state_of};
+    ghost use Rattle.vub_world.specs.Choices.{next_turn};
+    ghost use Rattle.vub_world.specs.QueueState.{state_of, is_idle};
     ghost use Rattle.vub_world.specs.Run.{Stands};
     ghost use Rattle.vub_world.specs.TaskState.{after_maybe, with_maybe};
 
@@ -451,18 +452,18 @@ impl Machine {
         }
     }
 
-    /// The next turn of a drain in which so many requests were accepted.
-    fn turn(&mut self, accepted: u16) -> Stepped
+    /// A turn of the device; idle where no queue is attached.
+    fn turn(&mut self, turn: Turn) -> Stepped
         requires sound { IsSound self.old }
         requires stands { (m : Moment) × IsReached self.old.header m × MachineAt self.old m }
         ensures frame { self.new ≡ record self.old { memory = self.new.memory; life = self.new.life; disk = self.new.disk } }
         ensures sound { IsSound self.new }
-        ensures turns { (m : Moment) → IsReached self.old.header m → MachineAt self.old m → TurnGoes (next_turn self.old.header accepted m) self.old self.new m result }
+        ensures turns { (m : Moment) → IsReached self.old.header m → MachineAt self.old m → TurnGoes (turn_here self.old.header turn m) self.old self.new m result }
     {
         self.memory.restart();
         match &mut self.life {
             Some(Life { queue: Some(queue) }) => {
-                next_turn(queue, accepted, &mut self.memory, &mut self.disk)
+                turn_queue(queue, turn, &mut self.memory, &mut self.disk)
             }
             _ => Stepped::Idle,
         }
@@ -525,49 +526,143 @@ impl Machine {
         }
     }
 
-    /// One step of a drain with its items; false where none was made.
-    fn drain_step(&mut self, accepted: &mut u16, room: &mut Room) -> bool
+    /// A turn with its items.
+    fn step(&mut self, turn: Turn, room: &mut Room) -> Stepped
         requires sound { IsSound self.old }
         requires stands { (m : Moment) × IsReached self.old.header m × MachineAt self.old m }
         requires room { HasTurnRoom (length (batch_in self.old.life)) room.old }
         ensures frame { self.new ≡ record self.old { memory = self.new.memory; life = self.new.life; disk = self.new.disk } }
         ensures sound { IsSound self.new }
-        ensures goes { (m : Moment) → IsReached self.old.header m → MachineAt self.old m → accepted.old < 65535 → DrainSteps result (next_turn self.old.header accepted.old m) self.old self.new m room.old.items room.new.items accepted.old accepted.new }
+        ensures goes { (m : Moment) → IsReached self.old.header m → MachineAt self.old m → StepGoes (not (is_idle result)) (turn_here self.old.header turn m) self.old self.new m room.old.items room.new.items 0 (accepts result) }
+        ensures spent { SpendsStep (shown_in self.old.life) room.old room.new }
+        ensures idle { is_idle result ≡ true → room.new.item_room ≡ room.old.item_room }
+    {
+        let answers = self.answers(room);
+        let stepped = self.turn(turn);
+        if stepped.is_idle() {
+            return stepped;
+        }
+        self.note_turn(stepped, answers, room);
+        stepped
+    }
+
+    /// The turn that comes next, after so many requests were accepted.
+    fn next_turn(&self, choice: Choice, accepted: u16) -> Turn
+        requires sound { IsSound self.now }
+        ensures next { (m : Moment) → IsReached self.now.header m → MachineAt self.now m → (m.lanes 0).attached ≡ true → turn_here self.now.header result m ≡ next_turn self.now.header choice accepted m }
+    {
+        match &self.life {
+            Some(Life { queue: Some(queue) }) => choice.turn(queue, accepted),
+            _ => Turn::Any,
+        }
+    }
+
+    /// The step that comes next with its items; false where none was made.
+    fn next_step(&mut self, choice: Choice, accepted: &mut u16, room: &mut Room) -> bool
+        requires sound { IsSound self.old }
+        requires stands { (m : Moment) × IsReached self.old.header m × MachineAt self.old m }
+        requires room { HasTurnRoom (length (batch_in self.old.life)) room.old }
+        ensures frame { self.new ≡ record self.old { memory = self.new.memory; life = self.new.life; disk = self.new.disk } }
+        ensures sound { IsSound self.new }
+        ensures goes { (m : Moment) → IsReached self.old.header m → MachineAt self.old m → accepted.old < 65535 → StepGoes result (next_turn self.old.header choice accepted.old m) self.old self.new m room.old.items room.new.items accepted.old accepted.new }
         ensures spent { SpendsStep (shown_in self.old.life) room.old room.new }
         ensures idle { result ≡ false → room.new.item_room ≡ room.old.item_room }
     {
-        let answers = self.answers(room);
-        let stepped = self.turn(*accepted);
-        if stepped.is_idle() {
-            return false;
-        }
+        let turn = self.next_turn(choice, *accepted);
+        let stepped = self.step(turn, room);
         if matches!(stepped, Stepped::Accepted(_)) {
             *accepted = accepted.saturating_add(1);
         }
-        self.note_turn(stepped, answers, room);
-        true
+        !stepped.is_idle()
     }
 
-    /// Steps until none is ready; false where none was. The loop's bound is one that no run
-    /// reaches.
-    fn drain_steps(&mut self, room: &mut Room) -> bool
+    /// At most so many steps, as long as one is ready; false where none was made.
+    fn turns(&mut self, choice: Choice, count: u64, room: &mut Room) -> bool
         requires sound { IsSound self.old }
-        requires room { HasDrainRoom (offered_in self.old.log - collected_in self.old.log) room.old }
+        requires some { 1 ≤ count }
+        requires room { HasRoom (min count (21 * (offered_in self.old.log - collected_in self.old.log) + 3)) (offered_in self.old.log - collected_in self.old.log) room.old }
         requires stands { IsStanding self.old }
         ensures frame { self.new ≡ record self.old { memory = self.new.memory; life = self.new.life; disk = self.new.disk } }
         ensures sound { IsSound self.new }
-        ensures drains { (es : List Event) (rs : List Record) (m : Moment) → Stands self.old.header es rs m → MachineAt self.old m → DrainGoes result self.old self.new m room.old.items room.new.items }
+        ensures turns { (es : List Event) (rs : List Record) (m : Moment) → Stands self.old.header es rs m → MachineAt self.old m → TurnsGo result choice count self.old self.new m room.old.items room.new.items }
         ensures idle { result ≡ false → room.new.item_room ≡ room.old.item_room }
     {
         let mut accepted: u16 = 0;
-        for done in 0..u64::MAX {
-            if !self.drain_step(&mut accepted, room) {
+        for done in 0..count {
+            if !self.next_step(choice, &mut accepted, room) {
                 return done > 0;
             }
         }
         true
     }
 
+    /// Room for the items of so many turns, or of all that can follow one another: there are 21 at
+    /// most for each request that is offered and not published, and two besides. A turn has two items
+    /// at most and one list of bytes; each answer takes a list more.
+    fn room_for(&mut self, turns: u64) -> Result<Room, Memory>
+        requires few { offered_in self.old.log - collected_in self.old.log ≤ 64 }
+        ensures frame { self.new ≡ self.old }
+        ensures empty { IfOk result (λ r. r.items ≡ []) }
+        ensures room { IfOk result (HasRoom (min turns (21 * (offered_in self.old.log - collected_in self.old.log) + 3)) (offered_in self.old.log - collected_in self.old.log)) }
+    {
+        let undone = self.log.outstanding().min(64) as usize;
+        let turns = turns.min(21 * undone as u64 + 3) as usize;
+        Room::new(
+            self.alloc,
+            &mut self.spare,
+            2 * turns,
+            turns + undone,
+            turns.min(undone + 1),
+            undone,
+        )
+    }
+
+    /// A single turn.
+    fn single(&mut self, turn: Turn) -> Result<Items, Memory>
+        requires sound { IsSound self.old }
+        requires stands { IsStanding self.old }
+        ensures header { self.new.header ≡ self.old.header }
+        ensures sound { IsSound self.new }
+        ensures kept { OnErr result (self.new ≡ self.old) }
+        ensures plays { IfOk result (λ is. PlaysSingle self.old self.new turn is) }
+    {
+        let mut room = self.room_for(1)?;
+        if self.step(turn, &mut room).is_idle() {
+            room.note(Item::Idle);
+        }
+        Ok(room.finish(&mut self.spare))
+    }
+
+    /// At most so many turns, as long as one is ready.
+    fn several(&mut self, choice: Choice, count: u64) -> Result<Items, Memory>
+        requires some { 1 ≤ count }
+        requires sound { IsSound self.old }
+        requires stands { IsStanding self.old }
+        ensures header { self.new.header ≡ self.old.header }
+        ensures sound { IsSound self.new }
+        ensures kept { OnErr result (self.new ≡ self.old) }
+        ensures plays { IfOk result (λ is. PlaysTurns self.old self.new choice count is) }
+    {
+        let mut room = self.room_for(count)?;
+        if !self.turns(choice, count, &mut room) {
+            room.note(Item::Idle);
+        }
+        Ok(room.finish(&mut self.spare))
+    }
+
+    fn up_to(&mut self, count: u16) -> Result<Items, Memory>
+        requires some { 1 ≤ count }
+        requires sound { IsSound self.old }
+        requires stands { IsStanding self.old }
+        ensures header { self.new.header ≡ self.old.header }
+        ensures sound { IsSound self.new }
+        ensures kept { OnErr result (self.new ≡ self.old) }
+        ensures performs { IfOk result (λ is. Performs self.old self.new (events.Turn 0 count) is) }
+    {
+        self.several(Choice::Any, u64::from(count))
+    }
+
+    /// Turns until none is ready. The bound is one that no run reaches.
     fn drain(&mut self) -> Result<Items, Memory>
         requires sound { IsSound self.old }
         requires stands { IsStanding self.old }
@@ -576,21 +671,7 @@ impl Machine {
         ensures kept { OnErr result (self.new ≡ self.old) }
         ensures performs { IfOk result (λ is. Performs self.old self.new (events.Drain 0) is) }
     {
-        // At most 21 turns are left for each of these requests, and two besides. A turn has two
-        // items at most and one list of bytes; each answer takes a list more.
-        let undone = self.log.outstanding().min(64) as usize;
-        let mut room = Room::new(
-            self.alloc,
-            &mut self.spare,
-            42 * undone + 6,
-            22 * undone + 3,
-            undone + 1,
-            undone,
-        )?;
-        if !self.drain_steps(&mut room) {
-            room.note(Item::Idle);
-        }
-        Ok(room.finish(&mut self.spare))
+        self.several(Choice::Drain, u64::MAX)
     }
 
     fn items_of(&mut self, event: &Event) -> Result<Items, Memory>
@@ -608,6 +689,11 @@ impl Machine {
             Event::Collect(_) => self.collect(),
             Event::Boot => self.boot(),
             Event::Join => self.join(),
+            Event::Start(_) => self.single(Turn::Start),
+            Event::Fetch(_) => self.single(Turn::Fetch),
+            Event::Work(_, place) => self.single(Turn::Work(*place)),
+            Event::Publish(_, most) => self.single(Turn::Publish(*most)),
+            Event::Turn(_, count) => self.up_to(*count),
             Event::Drain(_) => self.drain(),
         }
     }

@@ -1,13 +1,13 @@
 use Rattle.std.proofs.Common.{◌≡◌, ap, sym, ◌∙◌, subst, Some}
 use Rattle.vub_world.specs.declared.machine.Machine.{Machine}
 use Rattle.vub_world.specs.declared.queue.Queue.{Queue}
-use Rattle.vub_world.specs.MachineDrain.{next_turn}
+use Rattle.vub_world.specs.MachineDevice.{turn_here}
 use Rattle.vub_world.proofs.MachineTurnsNext.{reached_holds}
 use Rattle.vub_world.proofs.MachineTurnsAt.{with_queue, has_no_queue, HasQueue, turn_goes, turn_none, queue_lies_still, kept_room, kept_bytes}
 use Rattle.vub_world.proofs.machine.Machine.turn.Goals as goal
 
-pub next_turn-requires-clause-lies : goal.next_turn-requires-clause-lies
-next_turn-requires-clause-lies c =
+pub turn_queue-requires-clause-lies : goal.turn_queue-requires-clause-lies
+turn_queue-requires-clause-lies c =
     let w : Machine = c.args.self.now in
     let q : Queue = c.in-Some-Some.queue in
     let queue_is : c.in-Some-Some.field-0.queue ≡ Some q = search in
@@ -22,10 +22,10 @@ returns-in-Some-Some-clause-turns c m reached at =
     let life_is : w.life ≡ with_queue q = c.in-Some-Some.is ∙ ap (λ o. Some (record { queue = o })) queue_is in
     let same = c.restart.ensures.memory in
     let has : HasQueue w m q = record { good = (reached_holds w.header m reached).0; at = at; life_is = life_is } in
-    turn_goes w m q c.next_turn.new.queue (next_turn w.header c.args.accepted m) c.restart.new.self c.next_turn.new.memory c.next_turn.new.disk c.next_turn.result has (kept_bytes w c.restart.new.self same)
-    (λ d. c.next_turn.ensures.turns w.header w.ring m w.log reached c.requires.sound.disk c.requires.sound.ring (kept_room w c.restart.new.self c.requires.sound same) d at.log)
+    turn_goes w m q c.turn_queue.new.queue (turn_here w.header c.args.turn m) c.restart.new.self c.turn_queue.new.memory c.turn_queue.new.disk c.turn_queue.result has (kept_bytes w c.restart.new.self same)
+    (λ d. c.turn_queue.ensures.turns w.header w.ring m w.log reached c.requires.sound.disk c.requires.sound.ring (kept_room w c.restart.new.self c.requires.sound same) d at.log)
 
 pub returns-in_default-2-clause-turns : goal.returns-in_default-2-clause-turns
 returns-in_default-2-clause-turns c m reached at =
     let w : Machine = c.args.self.now in
-    turn_none w m (next_turn w.header c.args.accepted m) c.restart.new.self (reached_holds w.header m reached).0 at (subst (λ l. has_no_queue l) (sym c.in_default.is) tt) (kept_bytes w c.restart.new.self c.restart.ensures.memory)
+    turn_none w m (turn_here w.header c.args.turn m) c.restart.new.self (reached_holds w.header m reached).0 at (subst (λ l. has_no_queue l) (sym c.in_default.is) tt) (kept_bytes w c.restart.new.self c.restart.ensures.memory)

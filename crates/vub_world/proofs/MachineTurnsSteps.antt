@@ -1,6 +1,8 @@
--- A step of a drain: what its turn leaves.
-use Rattle.std.proofs.Common.{◌≡◌, ◌<◌, ℕ, zero, suc, ◌+◌, true, false, List, ◌++◌, refl, ap, sym, ◌∙◌, inl, inr, arith, min}
+-- A step: what its turn leaves.
+use Rattle.std.proofs.Common.{◌≡◌, ◌<◌, ℕ, zero, suc, ◌+◌, Bool, true, false, List, ◌++◌, refl, ap, sym, ◌∙◌, subst, inl, inr, arith, min}
 use Rattle.std.proofs.lemmas.Bool.{cases_Bool}
+use Rattle.std.proofs.lemmas.Bool.Decides.{nat_tests}
+use Rattle.vub_base.specs.declared.header.Header1.{Header1}
 use Rattle.vub_shared.specs.Watched.{bytes_in, stores_in}
 use Rattle.vub_memdisk.specs.MemDisks.{values_of}
 use Rattle.vub_ring.specs.declared.readiness.Turn.{Turn}
@@ -11,7 +13,7 @@ use Rattle.vub_world.specs.declared.queue.Stepped.TheVariants as says
 use Rattle.vub_world.specs.declared.report.items.Item.{Item}
 use Rattle.vub_world.specs.MachineAt.{MachineAt}
 use Rattle.vub_world.specs.MachineDevice.{noted, answers_shown, accepts}
-use Rattle.vub_world.specs.MachineDrain.{TurnGoes, MachineTurns, DrainSteps}
+use Rattle.vub_world.specs.MachineSteps.{TurnGoes, MachineTurns, StepGoes}
 use Rattle.vub_world.specs.Rooms.{SpendsUpTo, RoomState}
 use Rattle.vub_world.specs.Moments.{Moment}
 use Rattle.vub_world.specs.QueueState.{is_idle}
@@ -38,15 +40,15 @@ step_goes t w now m x other goes = elim (cases_Bool (is_due w.header 0 t m)) [
   | inr undue ↦ absurd (let fails : true ≡ false = sym (ap is_idle (goes.1 undue).0) ∙ other in cc)
 ]
 
--- the items that are noted of it, and how many requests were accepted
-pub step_made : (t : Turn) (w now : Machine) (m : Moment) (x : Stepped) (before noted_items : List Item) (taken taken_after : ℕ) (answers : List Answered) → is_idle x ≡ false → TurnGoes t w now m x → answers ≡ answers_shown w.log (bytes_in w.memory) w.life
-    → noted_items ≡ before ++ noted now.log (values_of now.disk) (stores_in now.memory) answers x → taken_after ≡ taken + accepts x → DrainSteps true t w now m before noted_items taken taken_after
-step_made t w now m x before noted_items taken taken_after answers other goes shown notes counts =
+-- the items that are noted of it
+pub step_made : (t : Turn) (w now : Machine) (m : Moment) (x : Stepped) (before noted_items : List Item) (answers : List Answered) → is_idle x ≡ false → TurnGoes t w now m x → answers ≡ answers_shown w.log (bytes_in w.memory) w.life
+    → noted_items ≡ before ++ noted now.log (values_of now.disk) (stores_in now.memory) answers x → StepGoes true t w now m before noted_items 0 (accepts x)
+step_made t w now m x before noted_items answers other goes shown notes =
     let made = step_goes t w now m x other goes in (
       made.0,
       made.1.at,
       notes ∙ ap (λ (l : List Answered). before ++ noted now.log (values_of now.disk) (stores_in now.memory) l x) shown ∙ ap (λ (l : List Item). before ++ l) (sym made.1.items_are),
-      omega (arith, counts, made.1.taken),
+      omega (arith, made.1.taken),
     )
 
 -- how many requests are accepted in all, where the count has room
@@ -69,3 +71,21 @@ count_same x taken other = go x other
     go says.Started o = omega arith
     go says.SharedFault o = omega arith
     go (says.Broken fault) o = omega arith
+
+-- ---- the step that comes next
+
+-- where two turns are the same on an attached queue, both are due or none
+due_same : (h : Header1) (m : Moment) (t u : Turn) → ((m.lanes 0).attached ≡ true → t ≡ u) → is_due h 0 t m ≡ is_due h 0 u m
+due_same h m t u same = elim (cases_Bool (m.lanes 0).attached) [
+  | inl there ↦ ap (λ (v : Turn). is_due h 0 v m) (same there)
+  | inr none ↦ grind (arith, nat_tests)
+]
+
+-- a step of the turn that comes next
+pub step_chosen : (made : Bool) (t u : Turn) (w now : Machine) (m : Moment) (before after : List Item) (taken taken_after more : ℕ) → ((m.lanes 0).attached ≡ true → t ≡ u) → taken_after ≡ taken + more
+    → StepGoes made t w now m before after 0 more → StepGoes made u w now m before after taken taken_after
+step_chosen false t u w now m before after taken taken_after more same counts goes = (sym (due_same w.header m t u same) ∙ goes.0, goes.1, goes.2)
+step_chosen true t u w now m before after taken taken_after more same counts goes =
+    let attached : (m.lanes 0).attached ≡ true = grind (arith, nat_tests, goes.0) in
+    let went : StepGoes true u w now m before after 0 more = subst (λ (v : Turn). StepGoes true v w now m before after 0 more) (same attached) goes in
+    (went.0, went.1, went.2, omega (arith, counts, went.3))

@@ -1,17 +1,20 @@
-use Rattle.std.proofs.Common.{◌≡◌, List}
+use Rattle.std.proofs.Common.{◌≡◌, List, ◌-◌, ◌+◌, ◌*◌}
+use Rattle.std.specs.Prelude.{min}
 use Rattle.vub_schedule.specs.declared.types.Event.{Event}
 use Rattle.vub_world.specs.declared.report.items.Record.{Record}
+use Rattle.vub_world.specs.Logs.{offered_in, collected_in}
 use Rattle.vub_world.specs.Machine.{IsSound}
 use Rattle.vub_world.specs.MachineAt.{MachineAt}
 use Rattle.vub_world.specs.Moments.{Moment}
 use Rattle.vub_world.specs.Run.{Stands}
-use Rattle.vub_world.proofs.MachineLoops.{DrainAt}
-use Rattle.vub_world.proofs.machine.Machine.drain_steps.Given as goal
+use Rattle.vub_world.proofs.MachineLoops.{TurnsAt, room_of}
+use Rattle.vub_world.proofs.machine.Machine.turns.Given as goal
 
 abbrev pub invariant-loop-done : goal.invariant-loop-done
 invariant-loop-done l = record {
   frame : l.self ≡ record l.fn.self { memory = l.self.memory; life = l.self.life; disk = l.self.disk };
   sound : IsSound l.self;
-  goes : (es : List Event) (rs : List Record) (m : Moment) → Stands l.fn.self.header es rs m → MachineAt l.fn.self m → DrainAt l.fn.self.header m l.done l.self l.fn.room.items l.room.items l.accepted l.room;
+  goes : (es : List Event) (rs : List Record) (m : Moment) → Stands l.fn.self.header es rs m → MachineAt l.fn.self m
+      → TurnsAt l.fn.self.header l.fn.choice m (room_of l.fn.count l.fn.self) l.done l.self l.fn.room.items l.room.items l.accepted l.room;
   idle : l.done ≡ 0 → l.room.item_room ≡ l.fn.room.item_room;
 }

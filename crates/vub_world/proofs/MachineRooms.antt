@@ -1,4 +1,4 @@
--- How much a drain publishes, and how much room its items need.
+-- How much turns publish, and how much room their items need.
 use Rattle.std.proofs.Common.{◌≡◌, ◌≤◌, ℕ, zero, suc, ◌+◌, ◌-◌, ◌*◌, Bool, true, false, not, List, [], ◌∷◌, ◌++◌, length, map, refl, ap, sym, ◌∙◌, subst, inl, inr, arith, length-append}
 use Rattle.std.specs.Prelude.{◌||◌, if◌then◌else◌, Option, Some, None, take, slice_get, nat_lt, ⊤}
 use Rattle.std.proofs.lemmas.Bool.Decides.{nat_tests}
@@ -11,7 +11,7 @@ use Rattle.vub_ring.specs.declared.steps.Step.TheVariants as steps
 use Rattle.vub_ring.specs.declared.readiness.Standing.{Standing}
 use Rattle.vub_ring.specs.declared.readiness.Turn.{Turn}
 use Rattle.vub_ring.specs.declared.readiness.Turn.TheVariants as turns
-use Rattle.vub_ring.specs.Readiness.{is_publication, any_turn, drain_turn}
+use Rattle.vub_ring.specs.Readiness.{is_publication, any_turn}
 use Rattle.vub_ring.specs.Rows.{Row, row_of}
 use Rattle.vub_ring.specs.Ring.{used_idx}
 use Rattle.vub_ring.specs.Steps.{next_step}
@@ -23,6 +23,9 @@ use Rattle.vub_device.specs.Past.{asked, accepted, published, is_among, missing_
 use Rattle.vub_device.specs.Places.{are_distinct}
 use Rattle.vub_device.specs.Requests.{look_at, effect_at}
 use Rattle.vub_device.proofs.Numbers.{is_among_append}
+use Rattle.vub_world.specs.declared.device.Choice.{Choice}
+use Rattle.vub_world.specs.declared.device.Choice.TheVariants as choices
+use Rattle.vub_world.specs.Choices.{choose, next_turn}
 use Rattle.vub_world.specs.MachineDevice.{is_index}
 use Rattle.vub_world.specs.Memory.{Scene, after_items}
 use Rattle.vub_world.specs.Moments.{Lane, Moment, standing, unfinished}
@@ -120,22 +123,24 @@ either : (P : Turn → Type 0) (b : Bool) (t u : Turn) → P t → P u → P (if
 either P true t u p q = p
 either P false t u p q = q
 
--- while a batch is published a drain works on no request
-publishing_turn : (size taken : ℕ) (st : Standing) → is_publication st.phase ≡ true → IsOfQueue (drain_turn size taken st)
-publishing_turn size taken st publishes =
-    let rest : (n : Turn) → IsOfQueue (if is_publication st.phase then turns.Publish size else n) =
-    λ n. subst (λ (b : Bool). IsOfQueue (if b then turns.Publish size else n)) (sym publishes) tt in
-    either IsOfQueue (nat_lt taken size) (any_turn size st) _ (either IsOfQueue (not st.started) turns.Start _ tt (rest _)) (rest _)
+-- while a batch is published no work on a request is chosen
+publishing : (size : ℕ) (st : Standing) (n : Turn) → is_publication st.phase ≡ true → IsOfQueue (if is_publication st.phase then turns.Publish size else n)
+publishing size st n publishes = subst (λ (b : Bool). IsOfQueue (if b then turns.Publish size else n)) (sym publishes) tt
 
--- the turn of a drain publishes as many as its next step shows
-pub drain_shows : (h : Header1) (m : Moment) (taken : ℕ) → Good h m → (t : Turn) → t ≡ drain_turn h.size taken (standing h 0 m)
+publishing_turn : (choice : Choice) (size taken : ℕ) (st : Standing) → is_publication st.phase ≡ true → IsOfQueue (choose choice size taken st)
+publishing_turn choices.Any size taken st publishes = either IsOfQueue (not st.started) turns.Start _ tt (publishing size st _ publishes)
+publishing_turn choices.Drain size taken st publishes =
+    either IsOfQueue (nat_lt taken size) (any_turn size st) _ (either IsOfQueue (not st.started) turns.Start _ tt (publishing size st _ publishes)) (publishing size st _ publishes)
+
+-- the turn that comes next publishes as many as its step shows
+pub chosen_shows : (h : Header1) (m : Moment) (choice : Choice) (taken : ℕ) → Good h m → (t : Turn) → t ≡ next_turn h choice taken m
     → length (published (one_turn h 0 t m).next.scene.past 0) ≡ length (published m.scene.past 0) + shown_by (length (m.lanes 0).batch) (m.lanes 0).phase
-drain_shows h m taken good t is = elim (phase_cases l.batch l.phase good.holds.worked.phase_is) [
+chosen_shows h m choice taken good t is = elim (phase_cases l.batch l.phase good.holds.worked.phase_is) [
   | inl rest ↦
       let none : shown_by (length l.batch) l.phase ≡ 0 = ap (λ (p : Phase). shown_by (length l.batch) p) rest.0 in
       let same : count_in (after_items h.size (turned h 0 t m).items s) ≡ count_in s = resting t (ap is_rest rest.0) rest.1 in
       omega (arith, none, same)
-  | inr shows ↦ publishes t (subst IsOfQueue (sym is) (publishing_turn h.size taken (standing h 0 m) (ap is_publication shows.1))) (ap is_rest shows.1)
+  | inr shows ↦ publishes t (subst IsOfQueue (sym is) (publishing_turn choice h.size taken (standing h 0 m) (ap is_publication shows.1))) (ap is_rest shows.1)
 ]
   where
     s : Scene

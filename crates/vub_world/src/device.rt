@@ -1,4 +1,4 @@
-//! The device's turns in a drain.
+//! The device's turns, and which of them comes next.
 ghost use Rattle.std.specs.Prelude.{◌≡◌, ◌≤◌, ℕ, []};
 ghost use Rattle.vub_base.specs.declared.header.Header1.{Header1};
 ghost use Rattle.vub_memdisk.specs.MemDisks.{capacity_of};
@@ -6,22 +6,44 @@ ghost use Rattle.vub_shared.specs.Watched.{stores_in, sizes_in};
 ghost use Rattle.vub_world.specs.declared.log.Log.{Log};
 ghost use Rattle.vub_split.specs.declared.split.SplitRing.{SplitRing};
 ghost use Rattle.vub_world.specs.MachineAt.{IsReached, LogAt};
-ghost use Rattle.vub_world.specs.MachineDevice.{DeviceAt, DeviceTurns, device};
-ghost use Rattle.vub_world.specs.MachineDrain.{next_turn};
+ghost use Rattle.vub_world.specs.MachineDevice.{DeviceAt, DeviceTurns, device, turn_here};
 ghost use Rattle.vub_world.specs.Moments.{Moment};
 ghost use Rattle.vub_world.specs.Queue.{ring_in};
 ghost use Rattle.vub_world.specs.QueueAt.{IsMainRing};
 ghost use Rattle.vub_split.specs.Split.{RingLies};
 
-use crate::queue::{Queue, Stepped};
+use crate::queue::{Queue, Stepped, Turn};
 use vub_memdisk::MemDisk;
 use vub_shared::WatchedShared;
 
-/// The next turn of a drain in which so many requests were accepted. Where memory keeps no store
-/// yet, nothing fails in it.
-pub fn next_turn(
+/// Which turn of several comes next.
+#[derive(Clone, Copy, Debug, PartialEq, Eq)]
+pub enum Choice {
+    /// The first that is ready.
+    Any,
+    /// The next one of a drain, which accepts no more requests than the queue has places.
+    Drain,
+}
+
+impl Choice {
+    ghost use Rattle.vub_world.specs.Choices.{choose};
+    ghost use Rattle.vub_world.specs.QueueState.{state_of, standing_at, turn_at};
+
+    /// The turn that comes next, after so many requests were accepted.
+    pub fn turn(self, queue: &Queue, accepted: u16) -> Turn
+        ensures { (waiting : ℕ) → turn_at (ring_in queue.now).size (standing_at (state_of queue.now) waiting) result ≡ choose self (ring_in queue.now).size accepted (standing_at (state_of queue.now) waiting) }
+    {
+        match self {
+            Choice::Any => Turn::Any,
+            Choice::Drain => queue.draining(accepted),
+        }
+    }
+}
+
+/// A turn of a queue. Where memory keeps no store yet, nothing fails in it.
+pub fn turn_queue(
     queue: &mut Queue,
-    accepted: u16,
+    turn: Turn,
     memory: &mut WatchedShared,
     disk: &mut MemDisk,
 ) -> Stepped
@@ -32,8 +54,7 @@ pub fn next_turn(
     ensures capacity { capacity_of disk.new ≡ capacity_of disk.old }
     ensures turns { (h : Header1) (r : SplitRing) (m : Moment) (log : Log) → IsReached h m → capacity_of disk.old ≡ h.capacity → IsMainRing r h.size → 1048576 ≤ sizes_in memory.old 0
         → DeviceAt h r m (device queue.old memory.old disk.old) → LogAt h.size m.scene.past (m.scene.heads 0) log
-        → DeviceTurns h r m (next_turn h accepted m) log (device queue.old memory.old disk.old) (device queue.new memory.new disk.new) result }
+        → DeviceTurns h r m (turn_here h turn m) log (device queue.old memory.old disk.old) (device queue.new memory.new disk.new) result }
 {
-    let turn = queue.draining(accepted);
     queue.turn(turn, memory, disk)
 }

@@ -1,7 +1,7 @@
 use Rattle.std.proofs.Common.{◌≡◌, [], List, ap, ◌∙◌, sym, subst, Bool, ◌≤◌, ◌-◌, arith}
 use Rattle.vub_world.specs.declared.report.items.Item.{Item}
 use Rattle.vub_world.specs.Logs.{offered_in, collected_in}
-use Rattle.vub_world.specs.MachineDrain.{DrainGoes}
+use Rattle.vub_world.specs.MachineSteps.{DrainGoes}
 use Rattle.vub_world.specs.Rooms.{HasDrainRoom, RoomState}
 use Rattle.vub_world.proofs.MachineLoops.{drain_idle, drain_made, outstanding_few}
 use Rattle.vub_world.proofs.Runs.{plain_header}

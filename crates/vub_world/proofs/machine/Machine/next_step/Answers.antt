@@ -1,0 +1,32 @@
+use Rattle.std.proofs.Common.{◌≡◌, sym, ◌∙◌, true, false, not, Bool, ◌+◌, ℕ, subst}
+use Rattle.vub_ring.specs.declared.readiness.Turn.{Turn}
+use Rattle.vub_world.specs.declared.machine.Machine.{Machine}
+use Rattle.vub_world.specs.declared.queue.Stepped.{Stepped}
+use Rattle.vub_world.specs.Choices.{next_turn}
+use Rattle.vub_world.specs.MachineDevice.{accepts, turn_here}
+use Rattle.vub_world.specs.MachineSteps.{StepGoes}
+use Rattle.vub_world.specs.QueueState.{is_idle}
+use Rattle.vub_world.proofs.MachineTurnsSteps.{step_chosen, count_more, count_same}
+use Rattle.vub_world.proofs.machine.Machine.next_step.Goals as goal
+use Rattle.vub_world.proofs.machine.Machine.next_step.Goals.{then-matches, else-matches, in-Accepted, in_default}
+
+pub returns-clause-goes : goal.returns-clause-goes
+returns-clause-goes c m reached at small =
+    let w : Machine = c.args.self.now in
+    let now : Machine = c.step-stepped.new.self in
+    let x : Stepped = c.step-stepped.result in
+    let taken : ℕ = c.args.accepted.now in
+    let t : Turn = turn_here w.header c.next_turn-turn.result m in
+    let u : Turn = next_turn w.header c.args.choice taken m in
+    let counts : c.if-matches.accepted ≡ taken + accepts x = elim c.if-matches.branch [
+      | then-matches i ↦ elim c.match-matches.branch [
+        | in-Accepted b ↦ i.accepted-is ∙ i.saturating_add.ensures ∙ count_more x b.in-Accepted.field-0 taken b.in-Accepted.is small
+        | in_default b ↦ absurd (let fails : true ≡ false = sym i.if-matches.true ∙ b.matches-is in cc)
+      ]
+      | else-matches i ↦ elim c.match-matches.branch [
+        | in-Accepted b ↦ absurd (let fails : true ≡ false = sym b.matches-is ∙ i.if-matches.false in cc)
+        | in_default b ↦ i.accepted-is ∙ count_same x taken b.in_default.not-Accepted
+      ]
+    ] in
+    step_chosen (not c.is_idle.result) t u w now m c.args.room.now.items c.step-stepped.new.room.items taken c.if-matches.accepted (accepts x) (c.next_turn-turn.ensures.next m reached at) counts
+    (subst (λ (b : Bool). StepGoes (not b) t w now m c.args.room.now.items c.step-stepped.new.room.items 0 (accepts x)) (sym c.is_idle.ensures) (c.step-stepped.ensures.goes m reached at))
