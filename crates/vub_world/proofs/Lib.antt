@@ -1,7 +1,6 @@
 pub mod ArmLemmas
 pub mod ChainReading
 pub mod MachineBatches
-pub mod MachineRooms
 pub mod MachineEvents
 pub mod MachineGuestAsks
 pub mod MachineGuestCollects
@@ -13,10 +12,12 @@ pub mod MachineLives
 pub mod MachineLoops
 pub mod MachineNotes
 pub mod MachineOpening
+pub mod MachineRooms
+pub mod MachineTurnEvents
 pub mod MachineTurns
 pub mod MachineTurnsAt
-pub mod MachineTurnsSteps
 pub mod MachineTurnsNext
+pub mod MachineTurnsSteps
 pub mod MachineTurnsWork
 pub mod QueueAtMoves
 pub mod QueueAtRows

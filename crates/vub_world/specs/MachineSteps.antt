@@ -64,8 +64,12 @@ TurnsGo true choice most w now m before after = (is_due w.header 0 (choices_from
 abbrev pub PlaysSingle : Machine → Machine → asked.Turn → List Item → Type 0
 PlaysSingle w now turn is = (es : List Event) (rs : List Record) (m : Moment) → Stands w.header es rs m → MachineAt w m → (next : Moment) × (played is next ≡ single w.header 0 (turn_here w.header turn m) m) × MachineAt now next
 
--- and so with turns; they are idle where the first isn't due
-abbrev pub PlaysTurns : Machine → Machine → Choice → ℕ → List Item → Type 0
-PlaysTurns w now choice most is = (es : List Event) (rs : List Record) (m : Moment) → Stands w.header es rs m → MachineAt w m
-    → ((is_due w.header 0 (choices_from w.header choice m m) m ≡ false) × MachineAt now m × (is ≡ items.Idle ∷ []))
+-- the event of at most so many turns, at a moment; it is idle where the first isn't due
+abbrev pub TurnsEvent : Machine → Machine → Choice → ℕ → Moment → List Item → Type 0
+TurnsEvent w now choice most m is =
+    ((is_due w.header 0 (choices_from w.header choice m m) m ≡ false) × MachineAt now m × (is ≡ items.Idle ∷ []))
     ⊎ ((is_due w.header 0 (choices_from w.header choice m m) m ≡ true) × TurnsMade w.header (choices_from w.header choice m) most now m [] is)
+
+-- wherever the machine stood, the event of turns has these items, and leads to where the machine stands now
+abbrev pub PlaysTurns : Machine → Machine → Choice → ℕ → List Item → Type 0
+PlaysTurns w now choice most is = (es : List Event) (rs : List Record) (m : Moment) → Stands w.header es rs m → MachineAt w m → TurnsEvent w now choice most m is

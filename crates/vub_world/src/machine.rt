@@ -596,27 +596,6 @@ impl Machine {
         true
     }
 
-    /// Room for the items of so many turns, or of all that can follow one another: there are 21 at
-    /// most for each request that is offered and not published, and two besides. A turn has two items
-    /// at most and one list of bytes; each answer takes a list more.
-    fn room_for(&mut self, turns: u64) -> Result<Room, Memory>
-        requires few { offered_in self.old.log - collected_in self.old.log ≤ 64 }
-        ensures frame { self.new ≡ self.old }
-        ensures empty { IfOk result (λ r. r.items ≡ []) }
-        ensures room { IfOk result (HasRoom (min turns (21 * (offered_in self.old.log - collected_in self.old.log) + 3)) (offered_in self.old.log - collected_in self.old.log)) }
-    {
-        let undone = self.log.outstanding().min(64) as usize;
-        let turns = turns.min(21 * undone as u64 + 3) as usize;
-        Room::new(
-            self.alloc,
-            &mut self.spare,
-            2 * turns,
-            turns + undone,
-            turns.min(undone + 1),
-            undone,
-        )
-    }
-
     /// A single turn.
     fn single(&mut self, turn: Turn) -> Result<Items, Memory>
         requires sound { IsSound self.old }
@@ -626,7 +605,8 @@ impl Machine {
         ensures kept { OnErr result (self.new ≡ self.old) }
         ensures plays { IfOk result (λ is. PlaysSingle self.old self.new turn is) }
     {
-        let mut room = self.room_for(1)?;
+        let undone = self.log.outstanding();
+        let mut room = Room::for_turns(self.alloc, &mut self.spare, 1, undone)?;
         if self.step(turn, &mut room).is_idle() {
             room.note(Item::Idle);
         }
@@ -643,7 +623,8 @@ impl Machine {
         ensures kept { OnErr result (self.new ≡ self.old) }
         ensures plays { IfOk result (λ is. PlaysTurns self.old self.new choice count is) }
     {
-        let mut room = self.room_for(count)?;
+        let undone = self.log.outstanding();
+        let mut room = Room::for_turns(self.alloc, &mut self.spare, count, undone)?;
         if !self.turns(choice, count, &mut room) {
             room.note(Item::Idle);
         }

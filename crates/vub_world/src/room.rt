@@ -1,5 +1,5 @@
 //! Memory that is reserved for the items of an event before it changes anything.
-ghost use Rattle.std.specs.Prelude.{◌≡◌, ◌<◌, ◌≤◌, ◌+◌, ◌-◌, ◌*◌, ◌++◌, ◌∷◌, [], All, IfOk, OnOk, length, replicate, flat_map, vec_len, vec_capacity};
+ghost use Rattle.std.specs.Prelude.{◌≡◌, ◌<◌, ◌≤◌, ◌+◌, ◌-◌, ◌*◌, ◌++◌, ◌∷◌, [], All, IfOk, OnOk, length, min, replicate, flat_map, vec_len, vec_capacity};
 
 use crate::report::{Item, Items};
 use std::alloc::Global;
@@ -111,6 +111,8 @@ fn add_answer_list(
 }
 
 impl Room {
+    ghost use Rattle.vub_world.specs.Rooms.{HasRoom};
+
     /// Room for so many items, lists of bytes, and lists of so many answers. It takes what is spare.
     pub fn new(
         alloc: Global,
@@ -144,6 +146,32 @@ impl Room {
             answer_lists: Vec::new(alloc),
             answers: 0,
         })
+    }
+
+    /// Room for the items of so many turns, or of all that can follow one another where so many
+    /// requests are offered and not published: at most 21 for each of these, and two besides. A turn
+    /// has two items at most and one list of bytes; each answer takes a list more.
+    pub fn for_turns(
+        alloc: Global,
+        spare: &mut Spare,
+        turns: u64,
+        undone: u64,
+    ) -> Result<Room, Memory>
+        requires few { undone ≤ 64 }
+        ensures empty { IfOk result (λ r. r.items ≡ []) }
+        ensures room { IfOk result (HasRoom (min turns (21 * undone + 3)) undone) }
+    {
+        let turns = turns.min(21 * undone + 3) as usize;
+        let undone = undone as usize;
+        let answer_lists = turns.min(undone + 1);
+        Room::new(
+            alloc,
+            spare,
+            2 * turns,
+            turns + undone,
+            answer_lists,
+            undone,
+        )
     }
 
     /// A list of bytes that has room for eight sectors.

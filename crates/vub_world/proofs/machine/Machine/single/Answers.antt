@@ -1,0 +1,40 @@
+use Rattle.std.proofs.Common.{◌≡◌, [], List, ap, ◌∙◌, sym, subst, Bool, not, true, false, ℕ, ◌≤◌, ◌+◌, ◌*◌, min}
+use Rattle.vub_ring.specs.declared.readiness.Turn.{Turn}
+use Rattle.vub_world.specs.declared.machine.Machine.{Machine}
+use Rattle.vub_world.specs.declared.queue.Stepped.{Stepped}
+use Rattle.vub_world.specs.declared.report.items.Item.{Item}
+use Rattle.vub_world.specs.MachineDevice.{accepts, turn_here}
+use Rattle.vub_world.specs.MachineSteps.{StepGoes}
+use Rattle.vub_world.specs.QueueState.{is_idle}
+use Rattle.vub_world.specs.Rooms.{RoomState, HasRoom}
+use Rattle.vub_world.proofs.MachineTurnEvents.{standing_few, single_room, standing_reached, reached_now, single_idle, single_made}
+use Rattle.vub_world.proofs.machine.Machine.single.Goals.{then-is_idle, else-is_idle}
+use Rattle.vub_world.proofs.machine.Machine.single.Goals as goal
+
+pub for_turns-requires : goal.for_turns-requires
+for_turns-requires c = record { few = subst (λ (n : ℕ). n ≤ 64) (sym c.outstanding-undone.ensures) (standing_few c.args.self.now c.requires.stands) }
+
+pub step-requires-clause-stands : goal.step-requires-clause-stands
+step-requires-clause-stands c = standing_reached c.args.self.now c.requires.stands
+
+pub step-requires-clause-room : goal.step-requires-clause-room
+step-requires-clause-room c =
+    single_room c.args.self.now c.in_ok-room.room c.requires.stands (subst (λ (n : ℕ). HasRoom (min 1 (21 * n + 3)) n c.in_ok-room.room) c.outstanding-undone.ensures c.in_ok-room.ensures.room)
+
+pub returns-clause-plays : goal.returns-clause-plays
+returns-clause-plays c es rs m stands at =
+    let w : Machine = c.args.self.now in
+    let now : Machine = c.step.new.self in
+    let x : Stepped = c.step.result in
+    let t : Turn = turn_here w.header c.args.turn m in
+    let after : List Item = c.step.new.room.items in
+    let goes : StepGoes (not (is_idle x)) t w now m [] after 0 (accepts x) =
+    subst (λ (xs : List Item). StepGoes (not (is_idle x)) t w now m xs after 0 (accepts x)) c.in_ok-room.ensures.empty (c.step.ensures.goes m (reached_now w.header es rs m stands) at) in
+    elim c.if-is_idle.branch [
+      | then-is_idle b ↦
+          single_idle t w now m after c.finish.result (accepts x) (subst (λ (i : Bool). StepGoes (not i) t w now m [] after 0 (accepts x)) (sym c.is_idle.ensures ∙ b.if-is_idle.true) goes)
+          (c.finish.ensures ∙ ap (λ (r : RoomState). r.items) (b.room-is ∙ b.note.ensures))
+      | else-is_idle b ↦
+          single_made t w now m after c.finish.result (accepts x) (subst (λ (i : Bool). StepGoes (not i) t w now m [] after 0 (accepts x)) (sym c.is_idle.ensures ∙ b.if-is_idle.false) goes)
+          (c.finish.ensures ∙ ap (λ (r : RoomState). r.items) b.room-is)
+    ]
