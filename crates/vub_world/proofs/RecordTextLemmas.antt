@@ -1,8 +1,9 @@
-use Rattle.std.proofs.Common.{◌≡◌, ℕ, suc, ◌+◌, ◌<◌, ◌==◌, List, [], ◌∷◌, ◌++◌, length, take, drop, refl, ap, sym, ◌∙◌, arith, Bool, true, false, append_assoc, cond}
+use Rattle.std.proofs.Common.{◌≡◌, ℕ, zero, suc, ◌+◌, ◌*◌, ◌<◌, ◌==◌, List, [], ◌∷◌, ◌++◌, length, take, drop, refl, ap, sym, ◌∙◌, arith, Bool, true, false, append_assoc, cond}
 use Rattle.std.proofs.lemmas.Bool.Decides.{nat_tests}
 use Rattle.std.proofs.lemmas.List.{append-nil}
 use Rattle.std.specs.List.{take_while, prefix_len}
-use Rattle.vub_world.specs.RecordText.{repeated_text, joint_text, text_after, bytes_text}
+use Rattle.std.specs.Prelude.{codes, slice_range}
+use Rattle.vub_world.specs.RecordText.{repeated_text, joint_text, text_after, bytes_text, before_sector, written_text}
 
 -- how many bytes at the front are b
 abbrev pub leading : ℕ → List ℕ → ℕ
@@ -51,3 +52,20 @@ run_written b k old repeated new bytes rest xs is many left first second =
     let joined : new ≡ (old ++ repeated_text b k) ++ joint_text k rest = second ∙ ap (λ l. l ++ joint_text k rest) first in
     let parts : bytes_text bytes ≡ repeated_text b k ++ (joint_text k rest ++ bytes_text rest) = bytes_text-run b k xs bytes is many ∙ ap (λ r. repeated_text b k ++ (joint_text k r ++ bytes_text r)) (sym left) in
     ap (λ l. l ++ bytes_text rest) joined ∙ append_assoc (old ++ repeated_text b k) (joint_text k rest) (bytes_text rest) ∙ append_assoc old (repeated_text b k) (joint_text k rest ++ bytes_text rest) ∙ ap (λ l. old ++ l) (sym parts)
+
+-- ---- the sectors of a write
+
+pub comma_before : (place : ℕ) → 0 < place → before_sector place ≡ codes ","
+comma_before zero some = absurd (omega arith)
+comma_before (suc n) some = refl
+
+pub none_before : (place : ℕ) → place < 1 → before_sector place ≡ []
+none_before zero none = refl
+none_before (suc n) none = absurd (omega arith)
+
+-- one sector more
+pub written_more : (place : ℕ) (bytes old before mid now : List ℕ) → before ≡ old ++ written_text place bytes → mid ≡ before ++ before_sector place → now ≡ mid ++ bytes_text (slice_range bytes (512 * place) (512 * place + 512)) → now ≡ old ++ written_text (suc place) bytes
+written_more place bytes old before mid now so joint more =
+    let here : List ℕ = bytes_text (slice_range bytes (512 * place) (512 * place + 512)) in
+    more ∙ ap (λ l. l ++ here) (joint ∙ ap (λ l. l ++ before_sector place) so ∙ append_assoc old (written_text place bytes) (before_sector place)) ∙ append_assoc old (written_text place bytes ++ before_sector place) here
+    ∙ ap (λ l. old ++ l) (append_assoc (written_text place bytes) (before_sector place) here)

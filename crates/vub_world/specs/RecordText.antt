@@ -1,5 +1,5 @@
 -- How records are spelled.
-use Rattle.std.specs.Prelude.{ℕ, ◌+◌, false, ◌==◌, nat_le, if◌then◌else◌, List, [], ◌∷◌, ◌++◌, codes, replicate}
+use Rattle.std.specs.Prelude.{ℕ, zero, suc, ◌+◌, ◌*◌, ◌/◌, length, slice_range, false, ◌==◌, nat_le, if◌then◌else◌, List, [], ◌∷◌, ◌++◌, codes, replicate}
 use Rattle.std.specs.List.{flat_map}
 use Rattle.std.specs.Fmt.{decimal, digits}
 use Rattle.vub_base.specs.declared.header.Header1.{Header1}
@@ -111,9 +111,20 @@ listed text (x ∷ xs) = text x ++ each_after 44 text xs
 
 -- ---- entries
 
+-- what stands before the sector in this place
+abbrev pub before_sector : ℕ → List ℕ
+before_sector zero = []
+before_sector (suc n) = codes ","
+
+-- the first so many sectors of some bytes, with a comma between them
+abbrev pub written_text : ℕ → List ℕ → List ℕ
+written_text zero bytes = []
+written_text (suc n) bytes = written_text n bytes ++ (before_sector n ++ bytes_text (slice_range bytes (512 * n) (512 * n + 512)))
+
+-- a request: of a write stand the sectors
 abbrev pub asked_text : Asked → List ℕ
 asked_text (asked.Read s n) = codes "read " ++ decimal s ++ codes " " ++ decimal n
-asked_text (asked.Write s bytes) = codes "write " ++ decimal s ++ codes " " ++ bytes_text bytes
+asked_text (asked.Write s bytes) = codes "write " ++ decimal s ++ codes " " ++ written_text (length bytes / 512) bytes
 asked_text asked.Flush = codes "flush"
 asked_text asked.Id = codes "id"
 asked_text (asked.Discard parts) = codes "discard " ++ commas part_text parts.items

@@ -1,8 +1,8 @@
 //! Records as text.
-ghost use Rattle.std.specs.Prelude.{◌≡◌, ◌+◌, ◌<◌, ◌≤◌, ◌++◌, ◌∷◌, ◌==◌, [], ℕ, List, length, IfOk, OnOk};
+ghost use Rattle.std.specs.Prelude.{◌≡◌, ◌+◌, ◌/◌, ◌<◌, ◌≤◌, ◌++◌, ◌∷◌, ◌==◌, [], ℕ, List, length, IfOk, OnOk};
 ghost use Rattle.std.specs.Fmt.{decimal};
 ghost use Rattle.std.specs.List.{take_while};
-ghost use Rattle.vub_world.specs.RecordText.{repeated_text, joint_text, bytes_text, tag_text, area_text, place_text, each_after, listed, asked_text, answer_bytes_text, answered_text, sector_text, entry_text, entry_line, entries_spelling, item_text, item_line, record_spelling, head_spelling};
+ghost use Rattle.vub_world.specs.RecordText.{repeated_text, joint_text, bytes_text, tag_text, area_text, place_text, each_after, listed, written_text, asked_text, answer_bytes_text, answered_text, sector_text, entry_text, entry_line, entries_spelling, item_text, item_line, record_spelling, head_spelling};
 ghost use Rattle.vub_world.specs.Tracking.{entries_of};
 
 use crate::report::items::{Item, Record};
@@ -139,6 +139,19 @@ fn put_place(alloc: Global, out: &mut Vec<u8>, place: u64) -> Result<(), Memory>
     put_text(out, text.as_bytes())
 }
 
+/// The sectors of a write, with a comma between them.
+fn put_written(out: &mut Vec<u8>, bytes: &[u8]) -> Result<(), Memory>
+    ensures { OnOk result (out.new.items ≡ out.old.items ++ written_text (length bytes.now / 512) bytes.now) }
+{
+    for place in 0..bytes.len() / 512 {
+        if place > 0 {
+            put_text(out, b",")?;
+        }
+        put_bytes(out, &bytes[512 * place..512 * place + 512])?;
+    }
+    Ok(())
+}
+
 fn put_asked(out: &mut Vec<u8>, asked: &Asked) -> Result<(), Memory>
     ensures { OnOk result (out.new.items ≡ out.old.items ++ asked_text asked.now) }
 {
@@ -153,7 +166,7 @@ fn put_asked(out: &mut Vec<u8>, asked: &Asked) -> Result<(), Memory>
             put_text(out, b"write ")?;
             put_number(out, *sector)?;
             put_text(out, b" ")?;
-            put_bytes(out, bytes.items())
+            put_written(out, bytes.items())
         }
         Asked::Flush => put_text(out, b"flush"),
         Asked::Id => put_text(out, b"id"),
