@@ -1,5 +1,5 @@
 -- Where the machine stands in the middle of some turns, and at their end.
-use Rattle.std.proofs.Common.{◌≡◌, ◌≢◌, ◌≤◌, ◌<◌, ℕ, zero, suc, ◌+◌, ◌-◌, ◌*◌, Bool, true, false, List, [], ◌∷◌, ◌++◌, length, refl, ap, sym, ◌∙◌, subst, inl, inr, arith}
+use Rattle.std.proofs.Common.{◌≡◌, ◌≢◌, ◌≤◌, ◌<◌, ℕ, suc, ◌+◌, ◌-◌, ◌*◌, Bool, true, false, List, [], ◌++◌, length, refl, ap, sym, ◌∙◌, subst, inl, inr, arith}
 use Rattle.std.specs.Prelude.{Option, Some, None, nat_lt, min}
 use Rattle.std.proofs.lemmas.Bool.Decides.{nat_tests}
 use Rattle.std.proofs.lemmas.Bool.{cases_eq}
@@ -26,7 +26,7 @@ use Rattle.vub_world.specs.MachineSteps.{StepGoes, TurnsGo, TurnsMade}
 use Rattle.vub_world.specs.Moments.{Moment, standing}
 use Rattle.vub_world.specs.QueueAt.{QueueStands, spot_of}
 use Rattle.vub_world.specs.QueueState.{state_of}
-use Rattle.vub_world.specs.Run.{Stands, Played, played, turns, one_turn, is_due, then_played}
+use Rattle.vub_world.specs.Run.{Stands, Played, turns, one_turn, is_due, then_played}
 use Rattle.vub_world.proofs.MachineRooms.{shown_by, chosen_shows, undone, effort_bound, batch_undone}
 use Rattle.vub_world.proofs.RunChainsTurns.{turn_gentle}
 use Rattle.vub_world.proofs.RunEnds.{effort_at, effort_small, turn_falls, turns_more}

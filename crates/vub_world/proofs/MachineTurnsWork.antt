@@ -1,5 +1,5 @@
 -- A turn of the device at a moment of a run: work on a request, and any turn.
-use Rattle.std.proofs.Common.{◌≡◌, ◌≤◌, ℕ, ◌+◌, true, false, List, [], ◌∷◌, ◌++◌, length, refl, ap, sym, ◌∙◌, subst, inl, inr, arith}
+use Rattle.std.proofs.Common.{◌≡◌, ◌≤◌, ℕ, ◌+◌, true, false, List, [], ◌∷◌, refl, ap, sym, ◌∙◌, subst, inl, inr, arith}
 use Rattle.std.specs.Prelude.{Option, Some, option_map, nat_lt}
 use Rattle.std.proofs.lemmas.Bool.{cases_Bool}
 use Rattle.std.proofs.lemmas.Bool.Decides.{nat_tests}
@@ -14,7 +14,6 @@ use Rattle.vub_ring.specs.declared.readiness.Turn.{Turn}
 use Rattle.vub_ring.specs.declared.readiness.Turn.TheVariants as turns
 use Rattle.vub_ring.specs.Readiness.{is_ready, is_publication, any_turn}
 use Rattle.vub_device.specs.declared.entry.Asked.{Asked}
-use Rattle.vub_device.specs.declared.entry.Entry.{Entry}
 use Rattle.vub_device.specs.declared.entry.Entry.TheVariants as entries
 use Rattle.vub_device.specs.Past.{accepted}
 use Rattle.vub_world.specs.declared.log.Log.{Log}

@@ -102,7 +102,7 @@ StandsOn w now e r = (es : List Event) (rs : List Record) → StandsFor w es rs 
 abbrev pub Performs : Machine → Machine → Event → List Item → Type 0
 Performs w now e is = (es : List Event) (rs : List Record) (m : Moment) → Stands w.header es rs m → MachineAt w m → (next : Moment) × Plays w.header m e is next × MachineAt now next
 
--- a moment of a run, also within a drain
+-- a moment of a run, also amid turns of the device
 pub record IsReached (h : Header1) (m : Moment) : Type 0 where
   pub events : List Event
   pub records : List Record

@@ -596,7 +596,7 @@ impl Machine {
         true
     }
 
-    /// A single turn.
+    /// A single turn, idle where it isn't ready.
     fn single(&mut self, turn: Turn) -> Result<Items, Memory>
         requires sound { IsSound self.old }
         requires stands { IsStanding self.old }
@@ -613,7 +613,7 @@ impl Machine {
         Ok(room.finish(&mut self.spare))
     }
 
-    /// At most so many turns, as long as one is ready.
+    /// At most so many turns, as long as one is ready; idle where the first isn't.
     fn several(&mut self, choice: Choice, count: u64) -> Result<Items, Memory>
         requires some { 1 ≤ count }
         requires sound { IsSound self.old }

@@ -1,10 +1,7 @@
-use Rattle.std.proofs.Common.{◌≡◌, ◌<◌, ◌∙◌, ap, sym, arith, refl, suc, ◌+◌, ◌-◌, ℕ, subst, Bool, List, true}
+use Rattle.std.proofs.Common.{◌≡◌, ◌∙◌, ap, sym, arith, refl, suc, ◌+◌, ◌-◌, ℕ, subst, true}
 use Rattle.vub_base.specs.declared.header.Header1.{Header1}
-use Rattle.vub_schedule.specs.declared.types.Event.{Event}
 use Rattle.vub_world.specs.declared.machine.Machine.{Machine}
-use Rattle.vub_world.specs.declared.report.items.Record.{Record}
 use Rattle.vub_world.specs.MachineAt.{IsReached}
-use Rattle.vub_world.specs.MachineSteps.{TurnsGo}
 use Rattle.vub_world.specs.Moments.{Moment}
 use Rattle.vub_world.proofs.MachineLoops.{TurnsAt, EndsAt, room_of, undone_few, turns_begin, turns_taken, room_left, turn_room, turns_go_on, turns_stop, turns_all, reached, so_far}
 use Rattle.vub_world.proofs.RunsTo.{stands_good}

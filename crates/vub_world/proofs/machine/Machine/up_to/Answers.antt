@@ -1,4 +1,4 @@
-use Rattle.std.proofs.Common.{ℕ, subst, sym}
+use Rattle.std.proofs.Common.{ℕ, subst}
 use Rattle.std.specs.Prelude.{IfOk}
 use Rattle.vub_world.specs.declared.device.Choice.TheVariants as choices
 use Rattle.vub_schedule.specs.declared.types.Event.TheVariants as events
