@@ -1,4 +1,4 @@
-ghost use Rattle.std.specs.Prelude.{◌≡◌, ◌<◌, ◌≤◌, ◌^◌, ℕ, List, Option, Some, OnOk, length};
+ghost use Rattle.std.specs.Prelude.{◌≡◌, ◌<◌, ◌≤◌, ◌^◌, ℕ, List, Option, Some, OnOk, OnErr, length};
 ghost use Rattle.vub_base.specs.Causes.{HasCause};
 ghost use Rattle.vub_base.specs.Told.{WhereTold};
 ghost use Rattle.vub_disk.specs.Values.{Values, Writes};
@@ -9,6 +9,9 @@ use vub_base::Failed;
 pub trait Disk {
     /// The value of each sector now, where it is told.
     ghost values: { Self → Option Values };
+
+    /// The values that a power stop keeps, where they are told.
+    ghost stable: { Self → Option Values };
 
     /// The number of sectors.
     ghost capacity: { Self → ℕ };
@@ -25,6 +28,7 @@ pub trait Disk {
         requires { sector < capacity self.old }
         ensures given { OnOk result (WhereTold (values self.old) (λ v. into.new ≡ v sector)) }
         ensures values { values self.new ≡ values self.old }
+        ensures stable { stable self.new ≡ stable self.old }
         ensures capacity { capacity self.new ≡ capacity self.old }
         ensures cause { HasCause (faults self.old) (faults self.new) result };
 
@@ -35,9 +39,11 @@ pub trait Disk {
         ensures capacity { capacity self.new ≡ capacity self.old }
         ensures cause { HasCause (faults self.old) (faults self.new) result };
 
-    /// Makes the values of all sectors stable: a power stop keeps them.
+    /// Makes the values of all sectors stable: a power stop keeps them. One that fails makes none so.
     fn flush(&mut self) -> Result<(), Failed>
         ensures values { values self.new ≡ values self.old }
+        ensures stable { OnOk result (stable self.new ≡ values self.new) }
+        ensures kept { OnErr result (stable self.new ≡ stable self.old) }
         ensures capacity { capacity self.new ≡ capacity self.old }
         ensures cause { HasCause (faults self.old) (faults self.new) result };
 

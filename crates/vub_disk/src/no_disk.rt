@@ -12,6 +12,8 @@ pub struct NoDisk;
 impl Disk for NoDisk {
     ghost values = { λ d. Some (λ s. []) };
 
+    ghost stable = { λ d. Some (λ s. []) };
+
     ghost capacity = { λ d. 0 };
 
     ghost faults = { λ d. 0 };

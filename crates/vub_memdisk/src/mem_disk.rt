@@ -5,7 +5,7 @@ use std::alloc::Global;
 use vub_base::{Failed, Memory};
 use vub_disk::Disk;
 
-/// A disk in memory. Its calls never fail.
+/// A disk in memory, on which what is written is stable. Its calls never fail.
 #[derive(Drop)]
 pub struct MemDisk {
     sectors: Vec<[u8; 512]>,
@@ -63,6 +63,8 @@ impl Disk for MemDisk {
     ghost use Rattle.vub_memdisk.specs.DiskLaws.{whole_values};
 
     ghost values = { λ d. Some (values_of d) };
+
+    ghost stable = { λ d. Some (values_of d) };
 
     ghost capacity = { λ d. capacity_of d };
 

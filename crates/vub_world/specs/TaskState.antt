@@ -116,6 +116,11 @@ IfMade (Some answers.Faulted) P = ⊤
 IfMade (Some answers.Failed) P = ⊤
 IfMade (Some step) P = P step
 
+-- a fact about a flush that was made
+abbrev pub IfSynced : Option made.TaskStep → Type 0 → Type 0
+IfSynced (Some answers.Synced) P = P
+IfSynced o P = ⊤
+
 -- whether the memory failed in a step, and whether the disk did
 abbrev pub memory_outcome : Option made.TaskStep → Result (Unit {0}) (Unit {0})
 memory_outcome (Some answers.Failed) = Err tt

@@ -9,7 +9,7 @@ ghost use Rattle.vub_shared.specs.Bytes.{bytes_from};
 ghost use Rattle.vub_shared.specs.Stores.{one_store, after_store, after_in_trail};
 ghost use Rattle.vub_disk.specs.Values.{with_value};
 ghost use Rattle.vub_split.specs.Split.{RingLies};
-ghost use Rattle.vub_world.specs.TaskState.{IfMade, GainsOne, fresh_task, memory_outcome, disk_outcome, plain_len_of, plain_answer_of, whole_transfer};
+ghost use Rattle.vub_world.specs.TaskState.{IfMade, IfSynced, GainsOne, fresh_task, memory_outcome, disk_outcome, plain_len_of, plain_answer_of, whole_transfer};
 ghost use Rattle.vub_world.specs.declared.chain.Sectors.{Sectors};
 ghost use Rattle.vub_world.specs.declared.task.TaskStep.TheVariants as answers;
 ghost use Rattle.vub_world.specs.declared.task.Work.TheVariants as work;
@@ -269,6 +269,7 @@ impl Task {
         ensures capacity { D.capacity disk.new ≡ D.capacity disk.old }
         ensures disk_cause { HasCause (D.faults disk.old) (D.faults disk.new) (disk_outcome result) }
         ensures no_memory { memory_outcome result ≡ Ok tt }
+        ensures other { IfSynced result ⊥ }
     {
         let number = transfer.sector.checked_add(transfer.done)?;
         if number >= disk.capacity() {
@@ -298,6 +299,7 @@ impl Task {
         ensures sizes { (s : ℕ) → M.sizes mem.new s ≡ M.sizes mem.old s }
         ensures memory_cause { HasCause (M.faults mem.old) (M.faults mem.new) (memory_outcome result) }
         ensures no_disk { disk_outcome result ≡ Ok tt }
+        ensures other { IfSynced result ⊥ }
     {
         let span = sector_span(&transfer)?;
         if span.len != 512 || !lies_in(mem, &span) {
@@ -332,6 +334,7 @@ impl Task {
         ensures capacity { D.capacity disk.new ≡ D.capacity disk.old }
         ensures memory_cause { HasCause (M.faults mem.old) (M.faults mem.new) (memory_outcome result) }
         ensures disk_cause { HasCause (D.faults disk.old) (D.faults disk.new) (disk_outcome result) }
+        ensures other { IfSynced result ⊥ }
     {
         let span = sector_span(&transfer)?;
         let number = transfer.sector.checked_add(transfer.done)?;
@@ -357,6 +360,7 @@ impl Task {
         ensures answer { IfMade (Some result) (λ step. step ≡ answers.Synced) }
         ensures next { IfMade (Some result) (λ step. self.new.work ≡ work.Reply answer) }
         ensures values { D.values disk.new ≡ D.values disk.old }
+        ensures stable { IfSynced (Some result) (D.stable disk.new ≡ D.values disk.new) }
         ensures head { self.new.head ≡ self.old.head }
         ensures capacity { D.capacity disk.new ≡ D.capacity disk.old }
         ensures disk_cause { HasCause (D.faults disk.old) (D.faults disk.new) (disk_outcome (Some result)) }
@@ -378,6 +382,7 @@ impl Task {
         ensures sizes { (s : ℕ) → M.sizes mem.new s ≡ M.sizes mem.old s }
         ensures memory_cause { HasCause (M.faults mem.old) (M.faults mem.new) (memory_outcome result) }
         ensures no_disk { disk_outcome result ≡ Ok tt }
+        ensures other { IfSynced result ⊥ }
     {
         if answer.span.len == 0 || !lies_in(mem, &answer.span) {
             return None;
@@ -434,6 +439,7 @@ impl Task {
         ensures trail { GainsOne (M.trail mem.old) (M.trail mem.new) }
         ensures looked { (n : Making) → WhereTold (M.told mem.old) (λ m. IsNext (D.capacity disk.old) (M.sizes mem.old) ring.now m n → IsReady ring.now n self.old → IfMade (Some result) (λ step. WhereTold (D.values disk.old) (λ v. LooksAt n v sector.new))) }
         ensures written { (n : Making) → WhereTold (M.told mem.old) (λ m. IsNext (D.capacity disk.old) (M.sizes mem.old) ring.now m n → IsReady ring.now n self.old → IfMade (Some result) (λ step. D.values disk.new ≡ option_map (values_after n.request n.step) (D.values disk.old))) }
+        ensures stable { IfSynced (Some result) (D.stable disk.new ≡ D.values disk.new) }
         ensures goes_on { (n : Making) → WhereTold (M.told mem.old) (λ m. IsNext (D.capacity disk.old) (M.sizes mem.old) ring.now m n → IsReady ring.now n self.old → IfMade (Some result) (λ step. HasMade ring.now n self.new)) }
         ensures sizes { (s : ℕ) → M.sizes mem.new s ≡ M.sizes mem.old s }
         ensures capacity { D.capacity disk.new ≡ D.capacity disk.old }
@@ -463,6 +469,7 @@ impl Task {
         ensures trail { GainsOne (M.trail mem.old) (M.trail mem.new) }
         ensures looked { (r : SplitRing) (n : Making) → WhereTold (M.told mem.old) (λ m. IsNext (D.capacity disk.old) (M.sizes mem.old) r m n → self.old.work ≡ work_of r n → IfMade (Some result) (λ step. WhereTold (D.values disk.old) (λ v. LooksAt n v sector.new))) }
         ensures written { (r : SplitRing) (n : Making) → WhereTold (M.told mem.old) (λ m. IsNext (D.capacity disk.old) (M.sizes mem.old) r m n → self.old.work ≡ work_of r n → IfMade (Some result) (λ step. D.values disk.new ≡ option_map (values_after n.request n.step) (D.values disk.old))) }
+        ensures stable { IfSynced (Some result) (D.stable disk.new ≡ D.values disk.new) }
         ensures goes_on { (r : SplitRing) (n : Making) → WhereTold (M.told mem.old) (λ m. IsNext (D.capacity disk.old) (M.sizes mem.old) r m n → self.old.work ≡ work_of r n → IfMade (Some result) (λ step. HasMade r n self.new)) }
         ensures sizes { (s : ℕ) → M.sizes mem.new s ≡ M.sizes mem.old s }
         ensures capacity { D.capacity disk.new ≡ D.capacity disk.old }
@@ -490,6 +497,7 @@ impl Task {
         ensures trail { GainsOne (M.trail mem.old) (M.trail mem.new) }
         ensures looked { (r : SplitRing) (n : Making) → WhereTold (M.told mem.old) (λ m. IsNext (D.capacity disk.old) (M.sizes mem.old) r m n → self.old.work ≡ work_of r n → IfMade result (λ step. WhereTold (D.values disk.old) (λ v. LooksAt n v sector.new))) }
         ensures written { (r : SplitRing) (n : Making) → WhereTold (M.told mem.old) (λ m. IsNext (D.capacity disk.old) (M.sizes mem.old) r m n → self.old.work ≡ work_of r n → IfMade result (λ step. D.values disk.new ≡ option_map (values_after n.request n.step) (D.values disk.old))) }
+        ensures stable { IfSynced result (D.stable disk.new ≡ D.values disk.new) }
         ensures goes_on { (r : SplitRing) (n : Making) → WhereTold (M.told mem.old) (λ m. IsNext (D.capacity disk.old) (M.sizes mem.old) r m n → self.old.work ≡ work_of r n → IfMade result (λ step. HasMade r n self.new)) }
         ensures sizes { (s : ℕ) → M.sizes mem.new s ≡ M.sizes mem.old s }
         ensures capacity { D.capacity disk.new ≡ D.capacity disk.old }
