@@ -31,6 +31,13 @@ impl Bytes {
     {
         &self.list
     }
+
+    /// The vector of the bytes.
+    pub fn into_vec(self) -> Vec<u8>
+        ensures { result.items ≡ self }
+    {
+        self.list
+    }
 }
 
 impl Clone for Bytes {

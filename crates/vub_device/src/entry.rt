@@ -68,6 +68,13 @@ impl AnswerList {
     {
         &self.list
     }
+
+    /// The vector of the answers.
+    pub fn into_vec(self) -> Vec<Answered>
+        ensures { result.items ≡ self }
+    {
+        self.list
+    }
 }
 
 /// A list of numbers. Contracts see it as that list.

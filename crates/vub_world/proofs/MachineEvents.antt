@@ -1,6 +1,6 @@
 -- An event leads from where the machine stood to where it stands.
 use Rattle.std.proofs.Common.{◌≡◌, ℕ, true, List, [], ◌∷◌, ◌++◌, sym, subst}
-use Rattle.std.specs.Prelude.{Result, Ok, Err, IfOk, Option, Some, None}
+use Rattle.std.specs.Prelude.{Result, Ok, Err, IfOk, Option, Some, None, ⊤}
 use Rattle.vub_base.specs.declared.header.Header1.{Header1}
 use Rattle.vub_device.specs.declared.entry.Entry.{Entry}
 use Rattle.vub_device.specs.Past.{accepted, offers, open_numbers}
@@ -21,12 +21,12 @@ pub ok_then : {T E : Type 0} (P Q : T → Type 0) (r : Result T E) → ((x : T) 
 ok_then P Q (Ok x) f p = f x p
 ok_then P Q (Err e) f p = p
 
-abbrev with_record : Record → Machine → Machine
-with_record r w = record w { last = r }
+abbrev pub with_record : Record → ⊤ → Machine → Machine
+with_record r spare w = record w { last = r; spare = spare }
 
--- the record that is kept last tells nothing of where the machine stands
-kept_at : (w : Machine) (r : Record) (m : Moment) → MachineAt w m → MachineAt (with_record r w) m
-kept_at w r m at = record {
+-- the record that is kept last, and what is spare, tell nothing of where the machine stands
+kept_at : (w : Machine) (r : Record) (spare : ⊤) (m : Moment) → MachineAt w m → MachineAt (with_record r spare w) m
+kept_at w r spare m at = record {
   front = record { memory = at.front.memory; driver = at.front.driver; asks = at.front.asks };
   position = at.position;
   life = at.life;
@@ -74,13 +74,13 @@ serves_all w (events.Work q place) es rs m k r fits at stands next plays = tt
 serves_all w (events.Publish q most) es rs m k r fits at stands next plays = tt
 serves_all w (events.Turn q n) es rs m k r fits at stands next plays = tt
 
-pub stands_on : (w now : Machine) (e : Event) (r : Record) → IsEvent w.header e → now.header ≡ w.header → r.event ≡ e → Performs w now e r.items → StandsOn w (with_record r now) e r
-stands_on w now e r fits same is goes es rs stood =
+pub stands_on : (w now : Machine) (e : Event) (r : Record) (spare : ⊤) → IsEvent w.header e → now.header ≡ w.header → r.event ≡ e → Performs w now e r.items → StandsOn w (with_record r spare now) e r
+stands_on w now e r spare fits same is goes es rs stood =
     let m : Moment = stood.0 in
     let went = goes es rs m stood.1 stood.2 in
     let stands : Stands w.header (es ++ e ∷ []) (rs ++ r ∷ []) went.0 = stands_more w.header es rs m went.0 e r stood.1 fits is went.1 in
     record {
-      stands = (went.0, subst (λ (h : Header1). Stands h (es ++ e ∷ []) (rs ++ r ∷ []) went.0) (sym same) stands, kept_at now r went.0 went.2);
+      stands = (went.0, subst (λ (h : Header1). Stands h (es ++ e ∷ []) (rs ++ r ∷ []) went.0) (sym same) stands, kept_at now r spare went.0 went.2);
       runs = legal_run w.header (es ++ e ∷ []) (rs ++ r ∷ []) went.0 stands;
       serves = serves_all w e es rs m went.0 r fits stood.2 stood.1 stands went.1;
     }

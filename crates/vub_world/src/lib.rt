@@ -10,6 +10,7 @@ mod machine;
 mod queue;
 pub mod report;
 mod room;
+mod spare;
 mod task;
 #[cfg(test)]
 mod tests;

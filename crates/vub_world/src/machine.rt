@@ -10,8 +10,10 @@ use crate::device::{Choice, turn_queue};
 use crate::log::Log;
 use crate::queue::{Queue, QueueSetup, Stepped, Turn};
 use crate::report::{Item, Items, Record};
-use crate::room::{Room, Spare};
+use crate::room::Room;
+use crate::spare::Spare;
 use std::alloc::Global;
+use std::mem;
 use vub_base::{Area, Ask, Header1, Memory, Shape, Space, Tag};
 use vub_device::{AnswerList, Answered, Asked, Entry, NumberList};
 use vub_disk::Disk;
@@ -693,7 +695,8 @@ impl Machine {
     {
         let made = event.copy()?;
         let items = self.items_of(event)?;
-        self.last = Record { event: made, items };
+        let before = mem::replace(&mut self.last, Record { event: made, items });
+        self.spare.recycle(before.items);
         Ok(())
     }
 

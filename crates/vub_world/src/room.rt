@@ -2,57 +2,17 @@
 ghost use Rattle.std.specs.Prelude.{◌≡◌, ◌<◌, ◌≤◌, ◌+◌, ◌-◌, ◌*◌, ◌++◌, ◌∷◌, [], All, IfOk, OnOk, length, min, replicate, flat_map, vec_len, vec_capacity};
 
 use crate::report::{Item, Items};
+use crate::spare::Spare;
 use std::alloc::Global;
 use std::marker::Model;
-use std::mem;
 use vub_base::{Bytes, Memory};
 use vub_device::Answered;
-
-/// The bytes that a list has room for: eight sectors.
-const LIST: usize = 4096;
-
-/// Memory that is kept from one event for the next. Contracts see nothing of it.
-#[derive(Drop)]
-pub struct Spare {
-    // Each empty, with room for eight sectors.
-    lists: Vec<Vec<u8>>,
-}
-
-impl Model for Spare {
-    ghost use Rattle.std.specs.Prelude.{◌≡◌, ◌≤◌, [], All, vec_capacity, ⊤};
-
-    ghost Value = { ⊤ };
-
-    ghost view = { λ _. tt };
-
-    ghost invariant = { λ s. All (λ l. (l.items ≡ []) × (4096 ≤ vec_capacity l)) s.lists.items };
-}
-
-impl Spare {
-    /// No memory.
-    pub fn new(alloc: Global) -> Spare {
-        Spare {
-            lists: Vec::new(alloc),
-        }
-    }
-
-    /// At least so many lists of bytes.
-    fn take(&mut self, alloc: Global, count: usize) -> Result<Vec<Vec<u8>>, Memory>
-        ensures count { IfOk result (λ v. count ≤ length v.items) }
-        ensures room { IfOk result (λ v. All (λ l. (l.items ≡ []) × (4096 ≤ vec_capacity l)) v.items) }
-    {
-        let mut lists = mem::replace(&mut self.lists, Vec::new(alloc));
-        for _made in lists.len()..count {
-            add_list(alloc, &mut lists)?;
-        }
-        Ok(lists)
-    }
-}
 
 /// Items so far, with room for so many more, for so many lists of bytes of eight sectors, and for so
 /// many lists of answers.
 #[derive(Drop)]
 pub struct Room {
+    alloc: Global,
     items: Vec<Item>,
     item_room: usize,
     // Each empty, with room for eight sectors; there may be more than may be used.
@@ -72,16 +32,6 @@ impl Model for Room {
     ghost view = { λ r. record { items = r.items.items; item_room = r.item_room; lists = r.list_room; answer_lists = length r.answer_lists.items; answers = r.answers } };
 
     ghost invariant = { λ r. (vec_len r.items + r.item_room ≤ vec_capacity r.items) × (r.list_room ≤ length r.lists.items) × All (λ l. (l.items ≡ []) × (4096 ≤ vec_capacity l)) r.lists.items × All (λ l. (l.items ≡ []) × (r.answers ≤ vec_capacity l)) r.answer_lists.items };
-}
-
-fn add_list(alloc: Global, lists: &mut Vec<Vec<u8>>) -> Result<(), Memory>
-    requires { All (λ l. (l.items ≡ []) × (4096 ≤ vec_capacity l)) lists.old.items }
-    ensures count { OnOk result (length lists.new.items ≡ length lists.old.items + 1) }
-    ensures room { OnOk result (All (λ l. (l.items ≡ []) × (4096 ≤ vec_capacity l)) lists.new.items) }
-{
-    let list = Vec::with_capacity(alloc, LIST).map_err(|_| Memory)?;
-    lists.push(list).map_err(|_| Memory)?;
-    Ok(())
 }
 
 /// So many lists of answers, each with room for so many.
@@ -125,9 +75,10 @@ impl Room {
         ensures { IfOk result (λ r. r ≡ record { items = []; item_room = items; lists = lists; answer_lists = answer_lists; answers = answers }) }
     {
         Ok(Room {
-            items: Vec::with_capacity(alloc, items).map_err(|_| Memory)?,
+            alloc,
+            items: spare.take_items(alloc, items)?,
             item_room: items,
-            lists: spare.take(alloc, lists)?,
+            lists: spare.take_lists(alloc, lists)?,
             list_room: lists,
             answer_lists: self::answer_lists(alloc, answer_lists, answers)?,
             answers,
@@ -139,6 +90,7 @@ impl Room {
         ensures { IfOk result (λ r. r ≡ record { items = []; item_room = items; lists = 0; answer_lists = 0; answers = 0 }) }
     {
         Ok(Room {
+            alloc,
             items: Vec::with_capacity(alloc, items).map_err(|_| Memory)?,
             item_room: items,
             lists: Vec::new(alloc),
@@ -195,6 +147,10 @@ impl Room {
         ensures bytes { result ≡ bytes.now }
         ensures spent { self.new ≡ record self.old { lists = self.old.lists - 1 } }
     {
+        if bytes.is_empty() {
+            self.list_room -= 1;
+            return Bytes::new(Vec::new(self.alloc));
+        }
         let mut list = self.list();
         append(&mut list, bytes);
         Bytes::new(list)
@@ -247,7 +203,7 @@ impl Room {
     pub fn finish(self, spare: &mut Spare) -> Items
         ensures { result ≡ self.items }
     {
-        spare.lists = self.lists;
+        spare.give_lists(self.lists);
         Items::new(self.items)
     }
 }

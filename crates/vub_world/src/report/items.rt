@@ -50,6 +50,13 @@ impl Items {
     {
         &self.list
     }
+
+    /// The vector of the items.
+    pub fn into_vec(self) -> Vec<Item>
+        ensures { result.items ≡ self }
+    {
+        self.list
+    }
 }
 
 /// An event of a schedule with what came about in it.
