@@ -1,5 +1,5 @@
 -- What the forms in memory are seen as.
-use Rattle.std.specs.Prelude.{ℕ, ◌+◌, ◌-◌, ◌^◌, List, [], ◌++◌, length, drop}
+use Rattle.std.specs.Prelude.{ℕ, ◌+◌, ◌-◌, ◌^◌, List, ◌++◌, length, drop}
 use Rattle.std.proofs.Common.{min}
 
 -- a source: what is left, the most it gives per call, the number of the next call, the numbers of

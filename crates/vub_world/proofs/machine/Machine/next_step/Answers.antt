@@ -5,7 +5,6 @@ use Rattle.vub_world.specs.declared.queue.Stepped.{Stepped}
 use Rattle.vub_world.specs.Choices.{next_turn}
 use Rattle.vub_world.specs.MachineDevice.{accepts, turn_here}
 use Rattle.vub_world.specs.MachineSteps.{StepGoes}
-use Rattle.vub_world.specs.QueueState.{is_idle}
 use Rattle.vub_world.proofs.MachineTurnsSteps.{step_chosen, count_more, count_same}
 use Rattle.vub_world.proofs.machine.Machine.next_step.Goals as goal
 use Rattle.vub_world.proofs.machine.Machine.next_step.Goals.{then-matches, else-matches, in-Accepted, in_default}

@@ -1,4 +1,4 @@
-use Rattle.std.proofs.Common.{[], List, ap, ◌∙◌, sym, subst, Bool, true, false, ℕ, ◌≤◌}
+use Rattle.std.proofs.Common.{[], List, ap, ◌∙◌, sym, subst, Bool, ℕ, ◌≤◌}
 use Rattle.vub_world.specs.declared.machine.Machine.{Machine}
 use Rattle.vub_world.specs.declared.report.items.Item.{Item}
 use Rattle.vub_world.specs.MachineSteps.{TurnsGo}

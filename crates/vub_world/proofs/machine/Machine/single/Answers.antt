@@ -1,4 +1,4 @@
-use Rattle.std.proofs.Common.{[], List, ap, ◌∙◌, sym, subst, Bool, not, true, false, ℕ, ◌≤◌, ◌+◌, ◌*◌, min}
+use Rattle.std.proofs.Common.{[], List, ap, ◌∙◌, sym, subst, Bool, not, ℕ, ◌≤◌, ◌+◌, ◌*◌, min}
 use Rattle.vub_ring.specs.declared.readiness.Turn.{Turn}
 use Rattle.vub_world.specs.declared.machine.Machine.{Machine}
 use Rattle.vub_world.specs.declared.queue.Stepped.{Stepped}

@@ -1,4 +1,4 @@
-use Rattle.std.proofs.Common.{◌≡◌, ◌∙◌, ap, sym, arith, refl, suc, ◌+◌, ◌-◌, ℕ, subst, true}
+use Rattle.std.proofs.Common.{◌≡◌, ◌∙◌, ap, sym, arith, refl, suc, ◌+◌, ◌-◌, ℕ, subst}
 use Rattle.vub_base.specs.declared.header.Header1.{Header1}
 use Rattle.vub_world.specs.declared.machine.Machine.{Machine}
 use Rattle.vub_world.specs.MachineAt.{IsReached}
