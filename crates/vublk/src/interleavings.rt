@@ -163,7 +163,11 @@ const ROWS: [Row; 28] = [
          accept 0 1;sync 0 1;publish 0 1:0;collect 0 1",
     ),
     // A read takes three descriptors, of which a queue of two places has too few.
-    ("2", "setup;ask 0 d read 0 1;guest 0 16;drain 0", "start 0 -"),
+    (
+        "2",
+        "setup;ask 0 d read 0 1;guest 0 16;drain 0",
+        "start 0 -",
+    ),
     // Requests that were offered before the start.
     (
         "4",
@@ -261,7 +265,14 @@ fn interleavings(rt: HostRuntime) -> Result<(), Fail> {
     for (size, events, history) in ROWS {
         let text = schedule_of(rt.alloc(), size, events)?;
         let wanted = history_of(rt.alloc(), history)?;
-        check_row(&rt, rt.alloc(), "entries", &text, (None, None), (0, &wanted))?;
+        check_row(
+            &rt,
+            rt.alloc(),
+            "entries",
+            &text,
+            (None, None),
+            (0, &wanted),
+        )?;
     }
     Ok(())
 }
