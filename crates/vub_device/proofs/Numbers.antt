@@ -1,5 +1,5 @@
 -- Lists of numbers.
-use Rattle.std.proofs.Common.{◌≡◌, ℕ, zero, suc, ◌==◌, Bool, true, ◌||◌, List, [], ◌∷◌, ◌++◌, refl, sym, ◌∙◌, ap}
+use Rattle.std.proofs.Common.{◌≡◌, ℕ, zero, suc, ◌==◌, ◌||◌, List, [], ◌∷◌, ◌++◌, refl, sym, ◌∙◌}
 use Rattle.std.specs.Prelude.{slice_get, Some, Ok}
 use Rattle.std.proofs.lemmas.List.{append_cancel_right}
 use Rattle.std.proofs.lemmas.List.Folds.{list_any-append}
@@ -30,7 +30,3 @@ place_of_get (y ∷ xs) (suc i) x e = place_of_get xs i x e
 -- lists that end alike are equal where they begin
 pub same_front : (front xs v bytes : List ℕ) → bytes ≡ front ++ v → bytes ≡ xs ++ v → front ≡ xs
 same_front front xs v bytes e f = append_cancel_right front xs v (sym e ∙ f)
-
--- so whether the fronts are equal tells whether the lists are
-pub ends_too : (r : Bool) (front xs bytes : List ℕ) → (r ≡ true → front ≡ xs) × (front ≡ xs → r ≡ true) → (v : List ℕ) → bytes ≡ front ++ v → (r ≡ true → bytes ≡ xs ++ v) × (bytes ≡ xs ++ v → r ≡ true)
-ends_too r front xs bytes h v e = (λ t. e ∙ ap (λ l. l ++ v) (h.0 t), λ f. h.1 (same_front front xs v bytes e f))

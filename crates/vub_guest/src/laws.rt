@@ -1,6 +1,6 @@
 //! Laws of the driver's stores: what a step leaves of what waits in its ring, and of what is seen of
 //! it. What the stores are, `Guest::step` says.
-ghost use Rattle.std.specs.Prelude.{◌≡◌, ◌<◌, ◌++◌, ◌∷◌, [], ℕ, length, Some, IfSome};
+ghost use Rattle.std.specs.Prelude.{◌≡◌, ◌<◌, ◌≤◌, ◌++◌, ◌∷◌, [], ℕ, length, Some, IfSome};
 ghost use Rattle.vub_shared.specs.Bytes.{Bytes};
 ghost use Rattle.vub_shared.specs.Stores.{after_store};
 ghost use Rattle.vub_ring.specs.Ring.{avail_idx, head_at, waiting, seen};
@@ -8,6 +8,12 @@ ghost use Rattle.vub_driver.specs.Drivers.{Waiting};
 ghost use Rattle.vub_split.specs.Words.{IsRingSize, RingFits};
 ghost use Rattle.vub_guest.specs.declared.guest.Guest.{Guest};
 ghost use Rattle.vub_guest.specs.GuestState.{ring_in, driver_in, next_store};
+
+/// Of a request that waits one to eight stores are left.
+pub fn one_to_eight_are_left()
+    ensures some { (g : Guest) (w : Waiting) → (driver_in g).waiting ≡ Some w → 0 < length w.left }
+    ensures few { (g : Guest) (w : Waiting) → (driver_in g).waiting ≡ Some w → length w.left ≤ 8 }
+{}
 
 /// The last store of a request adds its head at the end of what waits from a position on, since the
 /// store before it put the head there; each other store leaves what waits. All leave what is seen.

@@ -45,9 +45,6 @@ size-overwritten spaces s p bs v held is room t = elim (cases_eq t s) [
     length-splice_here : (xs : List ℕ) (p : ℕ) (bs : List ℕ) → p + length bs ≤ length xs → length (splice xs p bs) ≡ length xs
     length-splice_here xs p bs room = grind (arith, places)
 
-pub length-splice : (xs : List ℕ) (p : ℕ) (bs : List ℕ) → p + length bs ≤ length xs → length (splice xs p bs) ≡ length xs
-length-splice xs p bs room = grind (arith, places)
-
 splice_other : (xs : List ℕ) (p : ℕ) (bs : List ℕ) (q : ℕ) → p + length bs ≤ length xs → (q + 1 ≤ p) ⊎ (p + length bs ≤ q) → get_or (splice xs p bs) q 0 ≡ get_or xs q 0
 splice_other xs p bs q room h = grind (arith, places)
 

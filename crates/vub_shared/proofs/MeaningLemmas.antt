@@ -1,6 +1,6 @@
 -- What names mean in spaces of which one is written or added.
-use Rattle.std.proofs.Common.{◌≡◌, ◌<◌, ℕ, zero, suc, ◌+◌, List, [], ◌∷◌, ◌++◌, length, get_or, set, take, refl, ap, ◌∙◌, arith, zero-add}
-use Rattle.std.specs.Prelude.{if◌then◌else◌, Option, Some, None, string_bytes}
+use Rattle.std.proofs.Common.{◌≡◌, ◌<◌, ℕ, zero, suc, ◌+◌, List, [], ◌∷◌, ◌++◌, length, get_or, set, take, ap, ◌∙◌, arith, zero-add}
+use Rattle.std.specs.Prelude.{if◌then◌else◌, Some, None, string_bytes}
 use Rattle.std.specs.Str.{bytes_eq}
 use Rattle.std.proofs.lemmas.List.{take_more}
 use Rattle.std.proofs.lemmas.Grind.{common_steps}
@@ -14,10 +14,6 @@ pub meaning-set : (k : ℕ) (spaces : List Held) (s : ℕ) (v d : Held) → s < 
 meaning-set k [] s v d l same name = absurd (omega arith)
 meaning-set k (h ∷ hs) zero v d l same name = ap (λ (text : List ℕ). later (meaning_from (k + 1) hs name) (if bytes_eq text name then Some k else None)) same
 meaning-set k (h ∷ hs) (suc s) v d l same name = ap (λ o. later o (if bytes_eq (string_bytes h.name) name then Some k else None)) (meaning-set (k + 1) hs s v d (omega arith) same name)
-
-later-same : (a : Option ℕ) → later a None ≡ a
-later-same None = refl
-later-same (Some s) = refl
 
 -- one space more
 pub meaning-push : (k : ℕ) (spaces : List Held) (h : Held) (name : List ℕ) → meaning_from k (spaces ++ h ∷ []) name ≡ (if bytes_eq (string_bytes h.name) name then Some (k + length spaces) else meaning_from k spaces name)

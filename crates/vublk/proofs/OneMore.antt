@@ -51,7 +51,3 @@ pub Part-more : (c : Command) (h : Header1) (w now : Machine) (events : List Eve
     → (n : ℕ) × (rs : List Record) × IsLegalRun h (take n events) rs × WrotePart before after (records_text c rs)
 Part-more c h w now events i e rs r before at after lt is same so on wrote part =
     (i + 1, rs ++ r ∷ [], (played_more h w now events i e rs r lt is same so on).runs, rw (records_text-more c rs r) (Part-then before at after (records_text c rs) (piece_of c r) wrote part))
-
--- no event was played
-pub none_played : (h : Header1) (w : Machine) → StandsFor w [] [] → IsPlayed h w [] []
-none_played h w stands = record { stands = stands; runs = record { run = tt; legal = tt; tracked = tt } }
