@@ -1,4 +1,5 @@
 pub mod Drivers
+pub mod GuestChain
 pub mod Lawful
 pub mod Layout
 pub mod Requests

@@ -15,7 +15,7 @@ use Rattle.vub_guest.specs.declared.guest.Pending.{Pending}
 use Rattle.vub_guest.specs.declared.guest.Stage.{Stage}
 use Rattle.vub_guest.specs.declared.guest.Stage.TheVariants.{Header, Data, Status, HeaderDescriptor, DataDescriptor, StatusDescriptor, AvailEntry, AvailIdx}
 use Rattle.vub_guest.specs.GuestRequest.{table_entry}
-use Rattle.vub_guest.specs.GuestChain.{Links, second, after_head, Owns, IsOwned}
+use Rattle.vub_driver.specs.GuestChain.{Links, second, after_head, Owns, IsOwned}
 use Rattle.vub_guest.specs.GuestStores.{links_of, buffer_of, store_at}
 use Rattle.vub_guest.specs.GuestState.{owner_at, waiting_in, next_store, is_busy}
 use Rattle.vub_guest.proofs.GuestLemmas.{next_store-is}

@@ -19,7 +19,7 @@ use Rattle.vub_guest.specs.declared.guest.Stage.{Stage}
 use Rattle.vub_guest.specs.declared.guest.Stage.TheVariants.{Header, Data, Status, HeaderDescriptor, DataDescriptor, StatusDescriptor, AvailEntry, AvailIdx}
 use Rattle.vub_guest.specs.declared.guest.GuestStep.{GuestStep}
 use Rattle.vub_guest.specs.declared.guest.GuestStep.TheVariants.{Stored, Offered}
-use Rattle.vub_guest.specs.GuestChain.{Links, descriptors, after_head}
+use Rattle.vub_driver.specs.GuestChain.{Links, descriptors, after_head}
 use Rattle.vub_guest.specs.GuestStores.{links_of, store_at, stage_after, stores_from, from_header_descriptor, from_data, from_status, from_data_descriptor, from_status_descriptor}
 use Rattle.vub_guest.specs.GuestState.{ring_in, driver_in, owner_at, free_after, waiting_in, Steps, next_store, outcome, StoresNext, TrailsNext, Chooses}
 

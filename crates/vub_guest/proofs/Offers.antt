@@ -16,7 +16,7 @@ use Rattle.vub_guest.specs.declared.guest.Guest.{Guest}
 use Rattle.vub_guest.specs.declared.guest.Pending.{Pending}
 use Rattle.vub_guest.specs.declared.guest.Stage.{Stage}
 use Rattle.vub_guest.specs.declared.guest.Stage.TheVariants.{Header, Data, Status, HeaderDescriptor, DataDescriptor, StatusDescriptor, AvailEntry, AvailIdx}
-use Rattle.vub_guest.specs.GuestChain.{Links, second}
+use Rattle.vub_driver.specs.GuestChain.{Links, second}
 use Rattle.vub_guest.specs.GuestStores.{links_of, buffer_of, store_at, stores_from, from_data, from_status, from_header_descriptor, from_data_descriptor, from_status_descriptor}
 use Rattle.vub_guest.specs.GuestState.{ring_in, driver_in, waiting_in, next_store}
 use Rattle.vub_guest.proofs.ChainLemmas.{length-table_entry, data_place-near}

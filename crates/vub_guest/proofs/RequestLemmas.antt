@@ -13,19 +13,9 @@ use Rattle.arrayvec.specs.ArrayVec.{ArrayVec}
 use Rattle.vub_base.specs.declared.request.Ask.{Ask}
 use Rattle.vub_base.specs.declared.request.Ask.TheVariants.{Write, Discard, Zero}
 use Rattle.vub_base.specs.declared.request.Part.{Part}
+use Rattle.vub_driver.proofs.FillLemmas.{length-each, length-fills}
 use Rattle.vub_driver.specs.Requests.{written_bytes, part_bytes}
 use Rattle.vub_guest.specs.GuestRequest.{data_len}
-
--- as many for each
-pub length-each : {X : Type 0} (f : X → List ℕ) (n : ℕ) → ((x : X) → length (f x) ≡ n) → (xs : List X) → length (flat_map f xs) ≡ n * length xs
-length-each f n each [] = grind arith
-length-each f n each (x ∷ xs) =
-    let rest : length (flat_map f xs) ≡ n * length xs = length-each f n each xs in
-    let first : length (f x) ≡ n = each x in
-    omega (arith, length-append (f x) (flat_map f xs), first, rest)
-
-pub length-fills : (fills : List ℕ) → length (flat_map (λ b. replicate 512 b) fills) ≡ 512 * length fills
-length-fills fills = length-each (λ b. replicate 512 b) 512 (λ b. length-replicate 512 b) fills
 
 pub length-parts : (parts : List Part) → length (flat_map part_bytes parts) ≡ 16 * length parts
 length-parts parts = length-each part_bytes 16 (λ p. refl) parts

@@ -2,6 +2,7 @@
 use Rattle.std.specs.Prelude.{ℕ, ◌*◌, Bool, true, false, List, length, unwrap_or, Option, Some, None}
 use Rattle.vub_base.specs.declared.request.Ask.{Ask}
 use Rattle.vub_base.specs.declared.request.Ask.TheVariants.{Read, Id}
+use Rattle.vub_driver.specs.GuestChain.{next_flag}
 use Rattle.vub_driver.specs.Requests.{Piece, written_bytes, data_place, descriptor_bytes}
 
 -- whether the device writes the data
@@ -18,11 +19,6 @@ data_len ask = length (written_bytes ask)
 -- the data of a request whose buffer begins there
 abbrev pub data_piece : ℕ → Ask → Piece
 data_piece buffer ask = record { place = data_place buffer ask; len = data_len ask; writable = is_read ask }
-
--- the flag of a descriptor by which another one follows
-abbrev pub next_flag : Option ℕ → ℕ
-next_flag None = 0
-next_flag (Some d) = 1
 
 -- a descriptor as it stands in the table, with the next one if another one follows
 unfoldable pub table_entry : Piece → Option ℕ → List ℕ

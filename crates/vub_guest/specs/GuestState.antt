@@ -6,7 +6,7 @@ use Rattle.vub_shared.specs.Stores.{Store, Stores, Trails}
 use Rattle.vub_ring.specs.Ring.{Ring, used_idx, element_at}
 use Rattle.vub_driver.specs.Requests.{descriptors_needed, has_data}
 use Rattle.vub_driver.specs.Drivers.{Driver, Waiting, free_from, after_stores, after_collect, is_head}
-use Rattle.vub_guest.specs.GuestChain.{descriptors}
+use Rattle.vub_driver.specs.GuestChain.{descriptors}
 use Rattle.vub_guest.specs.GuestStores.{links_of, store_at, stores_from}
 use Rattle.vub_guest.specs.declared.guest.Chain.{Chain}
 use Rattle.vub_guest.specs.declared.guest.Pending.{Pending}

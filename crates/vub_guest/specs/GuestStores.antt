@@ -6,7 +6,7 @@ use Rattle.vub_shared.specs.Stores.{Store, one_store}
 use Rattle.vub_ring.specs.Ring.{Ring, desc_place, avail_entry_place, avail_idx_place}
 use Rattle.vub_driver.specs.Layout.{buffer_place, status_place}
 use Rattle.vub_driver.specs.Requests.{header_bytes, written_bytes, data_place, readable_piece, writable_piece}
-use Rattle.vub_guest.specs.GuestChain.{Links, second}
+use Rattle.vub_driver.specs.GuestChain.{Links, second}
 use Rattle.vub_guest.specs.GuestRequest.{data_piece, table_entry}
 use Rattle.vub_guest.specs.declared.guest.Chain.{Chain}
 use Rattle.vub_guest.specs.declared.guest.Stage.{Stage}

@@ -1,5 +1,4 @@
 pub mod Guest
-pub mod GuestChain
 pub mod GuestRequest
 pub mod GuestState
 pub mod GuestStores

@@ -2,7 +2,7 @@
 //! the used elements (VIRTIO 1.2, 2.7.13 and 2.7.14).
 ghost use Rattle.std.specs.Prelude.{◌≡◌, ◌<◌, ◌≤◌, ◌+◌, ◌*◌, ◌%◌, ◌^◌, ℕ, length, map, Some, IfOk, IfSome};
 ghost use Rattle.std.specs.Option.{ForSome};
-ghost use Rattle.vub_guest.specs.GuestChain.{IsOwned};
+ghost use Rattle.vub_driver.specs.GuestChain.{IsOwned};
 
 mod request;
 
@@ -71,7 +71,7 @@ struct Pending {
 impl Chain {
     ghost use Rattle.std.specs.Prelude.{All};
     ghost use Rattle.vub_driver.specs.Drivers.{owned_by};
-    ghost use Rattle.vub_guest.specs.GuestChain.{descriptors, second};
+    ghost use Rattle.vub_driver.specs.GuestChain.{descriptors, second};
     ghost use Rattle.vub_guest.specs.GuestStores.{links_of};
     ghost use Rattle.vub_guest.specs.GuestState.{owner_at};
 

@@ -1,4 +1,1 @@
-pub mod Readiness
 pub mod Ring
-pub mod Rows
-pub mod Steps

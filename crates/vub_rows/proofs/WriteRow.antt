@@ -5,11 +5,11 @@ use Rattle.vub_shared.specs.Bytes as bytes
 use Rattle.vub_device.specs.Requests as zero
 use Rattle.vub_device.specs.declared.entry.Entry.TheVariants as entries
 use Rattle.vub_schedule.specs.declared.types.Event.TheVariants as events
-use Rattle.vub_world.specs.declared.report.items.Item.TheVariants as items
-use Rattle.vub_world.specs.Memory.{Scene}
-use Rattle.vub_world.specs.Moments.{Moment, opening}
-use Rattle.vub_world.specs.Run.{Run, Plays, boot, join, ask, guest, collect, turns, drain_choice}
-use Rattle.vub_world.specs.Tracking.{Tracks, EveryTracks, TracksAlways}
+use Rattle.vub_report.specs.declared.items.Item.TheVariants as items
+use Rattle.vub_run.specs.Memory.{Scene}
+use Rattle.vub_run.specs.Moments.{Moment, opening}
+use Rattle.vub_run.specs.Run.{Run, Plays, boot, join, ask, guest, collect, turns, drain_choice}
+use Rattle.vub_run.specs.Tracking.{Tracks, EveryTracks, TracksAlways}
 use Rattle.vub_rows.specs.WriteAndRead.{header, write, write_offered, write_served, write_records, schedule_of}
 
 abbrev m0 : Moment

@@ -14,9 +14,9 @@ use Rattle.vub_device.specs.declared.entry.Entry.TheVariants as entries
 use Rattle.vub_schedule.specs.declared.types.Event.{Event}
 use Rattle.vub_schedule.specs.declared.types.Event.TheVariants as events
 use Rattle.vub_schedule.specs.declared.types.Schedule.{Schedule}
-use Rattle.vub_world.specs.declared.report.items.Item.{Item}
-use Rattle.vub_world.specs.declared.report.items.Item.TheVariants as items
-use Rattle.vub_world.specs.declared.report.items.Record.{Record}
+use Rattle.vub_report.specs.declared.items.Item.{Item}
+use Rattle.vub_report.specs.declared.items.Item.TheVariants as items
+use Rattle.vub_report.specs.declared.items.Record.{Record}
 
 abbrev pub header : Header1
 header = record { format = Split; queues = 1; size = 4; capacity = 8; base = 0; mode = Back }

@@ -1,6 +1,6 @@
 ghost use Rattle.vub_rows.specs.WriteAndRead.{header, read, read_records, schedule_of, write, write_records};
-ghost use Rattle.vub_world.specs.Run.{Run};
-ghost use Rattle.vub_world.specs.Tracking.{TracksAlways};
+ghost use Rattle.vub_run.specs.Run.{Run};
+ghost use Rattle.vub_run.specs.Tracking.{TracksAlways};
 
 /// The records of a write of one sector are a run of its schedule, and memory tracks their history.
 pub fn one_write()

@@ -4,9 +4,9 @@ use Rattle.std.specs.Prelude.{Option, Some, None, map, slice_get, slice_index, o
 use Rattle.std.proofs.lemmas.List.{length-map}
 use Rattle.std.proofs.lemmas.Option.{slice_get-map}
 use Rattle.vub_base.specs.declared.header.Header1.{Header1}
-use Rattle.vub_ring.specs.declared.steps.Phase.{Phase}
-use Rattle.vub_ring.specs.declared.steps.Phase.TheVariants as phases
-use Rattle.vub_ring.specs.Steps.{next_step}
+use Rattle.vub_steps.specs.declared.steps.Phase.{Phase}
+use Rattle.vub_steps.specs.declared.steps.Phase.TheVariants as phases
+use Rattle.vub_steps.specs.Steps.{next_step}
 use Rattle.vub_device.specs.declared.entry.Asked.{Asked}
 use Rattle.vub_device.specs.declared.entry.Asked.TheVariants as asks
 use Rattle.vub_device.specs.Past.{asked, is_among}
@@ -14,19 +14,19 @@ use Rattle.vub_world.specs.declared.log.Log.{Log}
 use Rattle.vub_world.specs.declared.log.Outstanding.{Outstanding}
 use Rattle.vub_world.specs.declared.machine.Life.{Life}
 use Rattle.vub_world.specs.declared.machine.Machine.{Machine}
-use Rattle.vub_world.specs.declared.queue.Queue.{Queue}
+use Rattle.vub_queue.specs.declared.queue.Queue.{Queue}
 use Rattle.vub_split.specs.declared.split.SplitRing.{SplitRing}
 use Rattle.vub_world.specs.Logs.{slot_in}
 use Rattle.vub_world.specs.MachineAt.{MachineAt, LifeAt, AttachedAt, LogAt, reads_of}
 use Rattle.vub_world.specs.MachineDevice.{BatchFits, ShowsSome, QueueShowsSome, batch_in, queue_batch, is_index, is_showing}
-use Rattle.vub_world.specs.Moments.{Moment}
-use Rattle.vub_world.specs.QueueAt.{QueueStands, spot_of}
-use Rattle.vub_world.specs.QueueState.{QueueState, state_of}
+use Rattle.vub_run.specs.Moments.{Moment}
+use Rattle.vub_queue_at.specs.QueueAt.{QueueStands, spot_of}
+use Rattle.vub_queue.specs.QueueState.{QueueState, state_of}
 use Rattle.vub_world.proofs.MachineTurns.{among_right}
-use Rattle.vub_world.proofs.RunFrames.{open_out}
-use Rattle.vub_world.proofs.RunGood.{IsWide, PhaseIs, IsOut}
-use Rattle.vub_world.proofs.RunNumbers.{among_get}
-use Rattle.vub_world.proofs.RunTurns.{Good}
+use Rattle.vub_laws.proofs.RunFrames.{open_out}
+use Rattle.vub_laws.proofs.RunGood.{IsWide, PhaseIs, IsOut}
+use Rattle.vub_laws.proofs.RunNumbers.{among_get}
+use Rattle.vub_laws.proofs.RunTurns.{Good}
 
 -- ---- a batch that is shown isn't empty
 

@@ -9,13 +9,13 @@ use Rattle.vub_schedule.specs.declared.types.Event.TheVariants as events
 use Rattle.vub_schedule.specs.Spelling.{IsEvent}
 use Rattle.vub_world.specs.declared.machine.Life.{Life}
 use Rattle.vub_world.specs.declared.machine.Machine.{Machine}
-use Rattle.vub_world.specs.declared.queue.Queue.{Queue}
-use Rattle.vub_world.specs.declared.report.items.Record.{Record}
-use Rattle.vub_world.specs.LegalRuns.{IsLegalRun, IsServed, past_of}
+use Rattle.vub_queue.specs.declared.queue.Queue.{Queue}
+use Rattle.vub_report.specs.declared.items.Record.{Record}
+use Rattle.vub_run.specs.LegalRuns.{IsLegalRun, IsServed, past_of}
 use Rattle.vub_world.specs.MachineAt.{MachineAt, LifeAt, AttachedAt, IsStanding, Performs, StandsOn, ServesAll, is_attached, has_queue}
-use Rattle.vub_world.specs.Moments.{Moment, opening}
-use Rattle.vub_world.specs.Run.{Stands, Plays}
-use Rattle.vub_world.proofs.RunsTo.{run_of, stands_more, stands_true, stands_past, stands_drained}
+use Rattle.vub_run.specs.Moments.{Moment, opening}
+use Rattle.vub_run.specs.Run.{Stands, Plays}
+use Rattle.vub_laws.proofs.RunsTo.{run_of, stands_more, stands_true, stands_past, stands_drained}
 
 pub ok_then : {T E : Type 0} (P Q : T → Type 0) (r : Result T E) → ((x : T) → P x → Q x) → IfOk r P → IfOk r Q
 ok_then P Q (Ok x) f p = f x p

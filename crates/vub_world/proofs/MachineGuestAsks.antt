@@ -10,13 +10,13 @@ use Rattle.vub_driver.specs.Drivers.{Driver, can_take, after_ask}
 use Rattle.vub_guest.specs.declared.guest.Guest.{Guest}
 use Rattle.vub_world.specs.declared.machine.Life.{Life}
 use Rattle.vub_world.specs.declared.machine.Machine.{Machine}
-use Rattle.vub_world.specs.declared.queue.Queue.{Queue}
+use Rattle.vub_queue.specs.declared.queue.Queue.{Queue}
 use Rattle.vub_split.specs.declared.split.SplitRing.{SplitRing}
 use Rattle.vub_guest.specs.GuestState.{ring_in, driver_in, seen_in}
 use Rattle.vub_world.specs.Machine.{IsSound}
 use Rattle.vub_world.specs.MachineAt.{LifeAt, AttachedAt, MachineAt}
-use Rattle.vub_world.specs.Moments.{Moment}
-use Rattle.vub_world.specs.Run.{played, if_ready, with_lane, with_driver, ask}
+use Rattle.vub_run.specs.Moments.{Moment}
+use Rattle.vub_run.specs.Run.{played, if_ready, with_lane, with_driver, ask}
 
 -- the moment with another driver
 abbrev pub driven_moment : Driver → Moment → Moment

@@ -18,23 +18,23 @@ use Rattle.vub_world.specs.declared.log.Log.{Log}
 use Rattle.vub_world.specs.declared.log.Outstanding.{Outstanding}
 use Rattle.vub_world.specs.declared.machine.Life.{Life}
 use Rattle.vub_world.specs.declared.machine.Machine.{Machine}
-use Rattle.vub_world.specs.declared.queue.Queue.{Queue}
+use Rattle.vub_queue.specs.declared.queue.Queue.{Queue}
 use Rattle.vub_split.specs.declared.split.SplitRing.{SplitRing}
-use Rattle.vub_world.specs.declared.report.items.Item.TheVariants as items
-use Rattle.vub_world.specs.declared.report.items.Record.{Record}
+use Rattle.vub_report.specs.declared.items.Item.TheVariants as items
+use Rattle.vub_report.specs.declared.items.Record.{Record}
 use Rattle.vub_guest.specs.GuestState.{driver_in, seen_in}
 use Rattle.vub_world.specs.Logs.{offered_in, collected_in, size_in, slot_in}
 use Rattle.vub_world.specs.MachineAt.{AskAt, LifeAt, AttachedAt, MachineAt}
-use Rattle.vub_world.specs.Moments.{Lane, Moment}
-use Rattle.vub_world.specs.QueueState.{state_of}
-use Rattle.vub_world.specs.Run.{Stands, played, next_collected, take_first, collect}
-use Rattle.vub_world.proofs.RunNumbers.{among_at}
-use Rattle.vub_world.proofs.RunGood.{the_ring, Known}
-use Rattle.vub_world.proofs.RunCollects.{IsTaken, none_before, first_seen, after_taken}
-use Rattle.vub_world.proofs.RunTurns.{IsPlain, Good}
-use Rattle.vub_world.proofs.Runs.{plain_header}
-use Rattle.vub_world.proofs.RunsTo.{stands_good}
-use Rattle.vub_world.proofs.QueueAtMoves.{at_collect}
+use Rattle.vub_run.specs.Moments.{Lane, Moment}
+use Rattle.vub_queue.specs.QueueState.{state_of}
+use Rattle.vub_run.specs.Run.{Stands, played, next_collected, take_first, collect}
+use Rattle.vub_laws.proofs.RunNumbers.{among_at}
+use Rattle.vub_laws.proofs.RunGood.{the_ring, Known}
+use Rattle.vub_laws.proofs.RunCollects.{IsTaken, none_before, first_seen, after_taken}
+use Rattle.vub_laws.proofs.RunTurns.{IsPlain, Good}
+use Rattle.vub_laws.proofs.Runs.{plain_header}
+use Rattle.vub_laws.proofs.RunsTo.{stands_good}
+use Rattle.vub_queue_at.proofs.QueueAtMoves.{at_collect}
 
 -- the machine after a collection
 abbrev pub with_taken : Machine → WatchedShared → Guest → Log → Machine

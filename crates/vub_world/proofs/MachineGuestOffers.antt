@@ -23,26 +23,26 @@ use Rattle.vub_world.specs.declared.log.Log.{Log}
 use Rattle.vub_world.specs.declared.log.Outstanding.{Outstanding}
 use Rattle.vub_world.specs.declared.machine.Life.{Life}
 use Rattle.vub_world.specs.declared.machine.Machine.{Machine}
-use Rattle.vub_world.specs.declared.queue.Queue.{Queue}
+use Rattle.vub_queue.specs.declared.queue.Queue.{Queue}
 use Rattle.vub_split.specs.declared.split.SplitRing.{SplitRing}
-use Rattle.vub_world.specs.declared.report.items.Item.{Item}
-use Rattle.vub_world.specs.declared.report.items.Item.TheVariants as items
-use Rattle.vub_world.specs.declared.report.items.Record.{Record}
+use Rattle.vub_report.specs.declared.items.Item.{Item}
+use Rattle.vub_report.specs.declared.items.Item.TheVariants as items
+use Rattle.vub_report.specs.declared.items.Record.{Record}
 use Rattle.vub_guest.specs.GuestState.{seen_in}
 use Rattle.vub_world.specs.Logs.{offered_in, size_in, slot_in, reads_in, new_slot, Offers}
 use Rattle.vub_world.specs.MachineAt.{FrontAt, LifeAt, AttachedAt, LogAt, MachineAt, reads_of}
 use Rattle.vub_world.specs.MachineFront.{head_shown, GuestGoes}
-use Rattle.vub_world.specs.Memory.{Scene, after_item, after_items}
-use Rattle.vub_world.specs.Moments.{Lane, Moment}
-use Rattle.vub_world.specs.QueueState.{state_of}
-use Rattle.vub_world.specs.Run.{Stands, played, if_ready, with_lane, with_driver, request_of, guest_items, guest_stores, guest}
-use Rattle.vub_world.proofs.RunGood.{the_ring, Known, IsOut, Driven}
-use Rattle.vub_world.proofs.RunOffers.{same_head, new_head, same_asked, new_asked}
-use Rattle.vub_world.proofs.RunTurns.{Good}
-use Rattle.vub_world.proofs.RunsTo.{stands_good, stands_more}
-use Rattle.vub_world.proofs.RunChainsStores.{put_all}
-use Rattle.vub_world.proofs.RunChainsGuests.{guest_scene, part_scene}
-use Rattle.vub_world.proofs.QueueAtMoves.{at_offer}
+use Rattle.vub_run.specs.Memory.{Scene, after_item, after_items}
+use Rattle.vub_run.specs.Moments.{Lane, Moment}
+use Rattle.vub_queue.specs.QueueState.{state_of}
+use Rattle.vub_run.specs.Run.{Stands, played, if_ready, with_lane, with_driver, request_of, guest_items, guest_stores, guest}
+use Rattle.vub_laws.proofs.RunGood.{the_ring, Known, IsOut, Driven}
+use Rattle.vub_laws.proofs.RunOffers.{same_head, new_head, same_asked, new_asked}
+use Rattle.vub_laws.proofs.RunTurns.{Good}
+use Rattle.vub_laws.proofs.RunsTo.{stands_good, stands_more}
+use Rattle.vub_laws.proofs.RunChainsStores.{put_all}
+use Rattle.vub_laws.proofs.RunChainsGuests.{guest_scene, part_scene}
+use Rattle.vub_queue_at.proofs.QueueAtMoves.{at_offer}
 
 -- ---- the log
 

@@ -11,19 +11,19 @@ use Rattle.vub_shared.specs.Stores.{Store}
 use Rattle.vub_driver.specs.Drivers.{Driver, Waiting, with_left, after_stores}
 use Rattle.vub_world.specs.declared.log.Log.{Log}
 use Rattle.vub_world.specs.declared.machine.Machine.{Machine}
-use Rattle.vub_world.specs.declared.report.items.Item.{Item}
-use Rattle.vub_world.specs.declared.report.items.Item.TheVariants as items
+use Rattle.vub_report.specs.declared.items.Item.{Item}
+use Rattle.vub_report.specs.declared.items.Item.TheVariants as items
 use Rattle.vub_guest.proofs.GuestLemmas.{left_some}
 use Rattle.vub_guest.specs.GuestState.{seen_in}
-use Rattle.vub_world.specs.Rooms.{RoomState, Spends}
+use Rattle.vub_room.specs.Rooms.{RoomState, Spends}
 use Rattle.vub_world.specs.Logs.{Offers}
-use Rattle.vub_world.specs.Memory.{Scene, after_items}
-use Rattle.vub_world.specs.Moments.{Moment}
-use Rattle.vub_world.specs.Run.{guest_items, guest_stores}
+use Rattle.vub_run.specs.Memory.{Scene, after_items}
+use Rattle.vub_run.specs.Moments.{Moment}
+use Rattle.vub_run.specs.Run.{guest_items, guest_stores}
 use Rattle.vub_world.specs.MachineAt.{AskAt, FrontAt}
 use Rattle.vub_world.specs.Machine.{IsSound}
 use Rattle.vub_world.specs.MachineFront.{head_shown, FrontFits, GuestGoes, GuestSteps}
-use Rattle.vub_world.proofs.RunItems.{after-append}
+use Rattle.vub_laws.proofs.RunItems.{after-append}
 
 -- ---- the stores that are left
 

@@ -1,21 +1,21 @@
 -- Where the machine stands after a life begins, and after its queue is attached.
 use Rattle.std.proofs.Common.{◌≡◌, ℕ, true, false, List, [], refl, ap, sym, ◌∙◌, subst, arith}
 use Rattle.std.specs.Prelude.{Bool, not, ◌&&◌, Option, Some, None, is_some}
-use Rattle.vub_ring.specs.declared.steps.Phase.{Phase}
-use Rattle.vub_ring.specs.declared.steps.Phase.TheVariants as phases
+use Rattle.vub_steps.specs.declared.steps.Phase.{Phase}
+use Rattle.vub_steps.specs.declared.steps.Phase.TheVariants as phases
 use Rattle.vub_device.specs.Past.{accepted, started}
 use Rattle.vub_world.specs.declared.machine.Life.{Life}
 use Rattle.vub_world.specs.declared.machine.Machine.{Machine}
-use Rattle.vub_world.specs.declared.queue.Queue.{Queue}
+use Rattle.vub_queue.specs.declared.queue.Queue.{Queue}
 use Rattle.vub_world.specs.MachineAt.{MachineAt, LifeAt, AttachedAt, has_queue}
 use Rattle.vub_world.specs.MachineDevice.{is_joining}
-use Rattle.vub_world.specs.Moments.{Lane, Moment, fresh}
-use Rattle.vub_world.specs.QueueAt.{QueueStands, QueueAt}
-use Rattle.vub_world.specs.QueueState.{IsNew, state_of}
-use Rattle.vub_world.specs.Run.{played, if_ready, boot, join}
-use Rattle.vub_world.proofs.QueueAtMoves.{at_new}
-use Rattle.vub_world.proofs.RunGood.{PhaseIs}
-use Rattle.vub_world.proofs.RunTurns.{IsPlain, Good}
+use Rattle.vub_run.specs.Moments.{Lane, Moment, fresh}
+use Rattle.vub_queue_at.specs.QueueAt.{QueueStands, QueueAt}
+use Rattle.vub_queue.specs.QueueState.{IsNew, state_of}
+use Rattle.vub_run.specs.Run.{played, if_ready, boot, join}
+use Rattle.vub_queue_at.proofs.QueueAtMoves.{at_new}
+use Rattle.vub_laws.proofs.RunGood.{PhaseIs}
+use Rattle.vub_laws.proofs.RunTurns.{IsPlain, Good}
 
 -- the machine with that life
 abbrev pub with_life : Life → Machine → Machine

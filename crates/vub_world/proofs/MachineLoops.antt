@@ -5,34 +5,34 @@ use Rattle.std.proofs.lemmas.Bool.Decides.{nat_tests}
 use Rattle.std.proofs.lemmas.Bool.{cases_eq}
 use Rattle.std.proofs.lemmas.List.{append-nil, append_assoc, length-map}
 use Rattle.vub_base.specs.declared.header.Header1.{Header1}
-use Rattle.vub_ring.specs.declared.steps.Phase.{Phase}
-use Rattle.vub_ring.specs.declared.readiness.Turn.{Turn}
-use Rattle.vub_ring.specs.Readiness.{drain_turn}
+use Rattle.vub_steps.specs.declared.steps.Phase.{Phase}
+use Rattle.vub_steps.specs.declared.readiness.Turn.{Turn}
+use Rattle.vub_steps.specs.Readiness.{drain_turn}
 use Rattle.vub_device.specs.Past.{accepted, collected}
 use Rattle.vub_schedule.specs.declared.types.Event.{Event}
 use Rattle.vub_world.specs.declared.machine.Life.{Life}
 use Rattle.vub_world.specs.declared.machine.Machine.{Machine}
-use Rattle.vub_world.specs.declared.queue.Queue.{Queue}
-use Rattle.vub_world.specs.declared.report.items.Item.{Item}
-use Rattle.vub_world.specs.declared.report.items.Record.{Record}
+use Rattle.vub_queue.specs.declared.queue.Queue.{Queue}
+use Rattle.vub_report.specs.declared.items.Item.{Item}
+use Rattle.vub_report.specs.declared.items.Record.{Record}
 use Rattle.vub_split.specs.declared.split.SplitRing.{SplitRing}
-use Rattle.vub_world.specs.Rooms.{RoomState, HasTurnRoom, HasRoom, SpendsStep}
+use Rattle.vub_room.specs.Rooms.{RoomState, HasTurnRoom, HasRoom, SpendsStep}
 use Rattle.vub_world.specs.MachineAt.{MachineAt, LifeAt, AttachedAt, IsReached}
 use Rattle.vub_world.specs.MachineDevice.{batch_in, shown_in, queue_batch, queue_shows}
 use Rattle.vub_world.specs.declared.device.Choice.{Choice}
 use Rattle.vub_world.specs.declared.device.Choice.TheVariants as choices
 use Rattle.vub_world.specs.Choices.{next_turn, choices_from}
 use Rattle.vub_world.specs.MachineSteps.{StepGoes, TurnsGo, TurnsMade}
-use Rattle.vub_world.specs.Moments.{Moment, standing}
-use Rattle.vub_world.specs.QueueAt.{QueueStands, spot_of}
-use Rattle.vub_world.specs.QueueState.{state_of}
-use Rattle.vub_world.specs.Run.{Stands, Played, turns, one_turn, is_due, then_played}
+use Rattle.vub_run.specs.Moments.{Moment, standing}
+use Rattle.vub_queue_at.specs.QueueAt.{QueueStands, spot_of}
+use Rattle.vub_queue.specs.QueueState.{state_of}
+use Rattle.vub_run.specs.Run.{Stands, Played, turns, one_turn, is_due, then_played}
 use Rattle.vub_world.proofs.MachineRooms.{shown_by, chosen_shows, undone, effort_bound, batch_undone}
-use Rattle.vub_world.proofs.RunChainsTurns.{turn_gentle}
-use Rattle.vub_world.proofs.RunEnds.{effort_at, effort_small, turn_falls, turns_more}
-use Rattle.vub_world.proofs.RunTurns.{IsPlain, Good}
-use Rattle.vub_world.proofs.Runs.{plain_header}
-use Rattle.vub_world.proofs.RunsTo.{stands_good, stands_turns}
+use Rattle.vub_laws.proofs.RunChainsTurns.{turn_gentle}
+use Rattle.vub_laws.proofs.RunEnds.{effort_at, effort_small, turn_falls, turns_more}
+use Rattle.vub_laws.proofs.RunTurns.{IsPlain, Good}
+use Rattle.vub_laws.proofs.Runs.{plain_header}
+use Rattle.vub_laws.proofs.RunsTo.{stands_good, stands_turns}
 
 -- ---- what a life shows, and what its lane shows
 

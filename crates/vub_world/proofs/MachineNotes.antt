@@ -6,17 +6,17 @@ use Rattle.std.proofs.lemmas.Option.{slice_get-get_or, slice_get_within, get_or_
 use Rattle.vub_device.specs.declared.entry.Answered.{Answered}
 use Rattle.vub_world.specs.declared.log.Log.{Log}
 use Rattle.vub_world.specs.Logs.{slot_in}
-use Rattle.vub_world.specs.Rooms.{RoomState, SpendsAnswers, SpendsLists, SpendsUpTo}
-use Rattle.vub_world.specs.QueueState.{QueueState}
-use Rattle.vub_ring.specs.Steps.{next_step}
-use Rattle.vub_ring.specs.declared.steps.Step.TheVariants.{Index}
+use Rattle.vub_room.specs.Rooms.{RoomState, SpendsAnswers, SpendsLists, SpendsUpTo}
+use Rattle.vub_queue.specs.QueueState.{QueueState}
+use Rattle.vub_steps.specs.Steps.{next_step}
+use Rattle.vub_steps.specs.declared.steps.Step.TheVariants.{Index}
 use Rattle.vub_base.specs.declared.store.Tag.{Tag}
 use Rattle.vub_base.specs.declared.store.Area.{Area}
 use Rattle.vub_base.specs.declared.store.Area.TheVariants.{M}
 use Rattle.vub_shared.specs.Bytes.{Bytes, cleared}
 use Rattle.vub_shared.specs.Stores.{Store, one_store}
-use Rattle.vub_world.specs.declared.report.items.Item.{Item}
-use Rattle.vub_world.specs.declared.report.items.Item.TheVariants as items
+use Rattle.vub_report.specs.declared.items.Item.{Item}
+use Rattle.vub_report.specs.declared.items.Item.TheVariants as items
 use Rattle.vub_world.specs.MachineDevice.{stored_items, answer_for, answers_for, is_index, is_showing}
 use Rattle.vub_world.specs.MachineFront.{IsSmall, OneSmall, store_item}
 

@@ -17,8 +17,8 @@ use Rattle.vub_guest.specs.GuestState.{driver_in, seen_in}
 use Rattle.vub_world.specs.Logs.{offered_in, collected_in, size_in}
 use Rattle.vub_world.specs.declared.machine.Life.{Life}
 use Rattle.vub_world.specs.MachineAt.{MachineAt, LifeAt}
-use Rattle.vub_world.specs.Memory.{opening_memory, opened, with_indexes}
-use Rattle.vub_world.specs.Moments.{opening}
+use Rattle.vub_run.specs.Memory.{opening_memory, opened, with_indexes}
+use Rattle.vub_run.specs.Moments.{opening}
 
 -- ---- the memory of a world in which nothing has happened
 

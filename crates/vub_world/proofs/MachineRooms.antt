@@ -4,17 +4,17 @@ use Rattle.std.specs.Prelude.{◌||◌, if◌then◌else◌, Option, Some, None,
 use Rattle.std.proofs.lemmas.Bool.Decides.{nat_tests}
 use Rattle.std.proofs.lemmas.Bool.{cases_Bool}
 use Rattle.vub_base.specs.declared.header.Header1.{Header1}
-use Rattle.vub_ring.specs.declared.steps.Phase.{Phase}
-use Rattle.vub_ring.specs.declared.steps.Phase.TheVariants as phases
-use Rattle.vub_ring.specs.declared.steps.Step.{Step}
-use Rattle.vub_ring.specs.declared.steps.Step.TheVariants as steps
-use Rattle.vub_ring.specs.declared.readiness.Standing.{Standing}
-use Rattle.vub_ring.specs.declared.readiness.Turn.{Turn}
-use Rattle.vub_ring.specs.declared.readiness.Turn.TheVariants as turns
-use Rattle.vub_ring.specs.Readiness.{is_publication, any_turn}
-use Rattle.vub_ring.specs.Rows.{Row, row_of}
+use Rattle.vub_steps.specs.declared.steps.Phase.{Phase}
+use Rattle.vub_steps.specs.declared.steps.Phase.TheVariants as phases
+use Rattle.vub_steps.specs.declared.steps.Step.{Step}
+use Rattle.vub_steps.specs.declared.steps.Step.TheVariants as steps
+use Rattle.vub_steps.specs.declared.readiness.Standing.{Standing}
+use Rattle.vub_steps.specs.declared.readiness.Turn.{Turn}
+use Rattle.vub_steps.specs.declared.readiness.Turn.TheVariants as turns
+use Rattle.vub_steps.specs.Readiness.{is_publication, any_turn}
+use Rattle.vub_steps.specs.Rows.{Row, row_of}
 use Rattle.vub_ring.specs.Ring.{used_idx}
-use Rattle.vub_ring.specs.Steps.{next_step}
+use Rattle.vub_steps.specs.Steps.{next_step}
 use Rattle.vub_driver.specs.Layout.{ring_of}
 use Rattle.vub_device.specs.declared.entry.Asked.{Asked}
 use Rattle.vub_device.specs.declared.entry.Entry.{Entry}
@@ -27,17 +27,18 @@ use Rattle.vub_world.specs.declared.device.Choice.{Choice}
 use Rattle.vub_world.specs.declared.device.Choice.TheVariants as choices
 use Rattle.vub_world.specs.Choices.{choose, next_turn}
 use Rattle.vub_world.specs.MachineDevice.{is_index}
-use Rattle.vub_world.specs.Memory.{Scene, after_items}
-use Rattle.vub_world.specs.Moments.{Lane, Moment, standing, unfinished}
-use Rattle.vub_world.specs.Run.{one_turn}
-use Rattle.vub_world.specs.Tasks.{TaskStep, Look, Put, Act, Sync, Status, task_steps, look_items, act_items}
-use Rattle.vub_world.specs.Turns.{turned, work_turn, request_turn, task_turn, phase_turn, phase_goes_on, under_way, begun, is_rest, row_items, step_stores, element_of, answer_at}
-use Rattle.vub_world.proofs.RunNumbers.{missing-among, distinct_join, few_below}
-use Rattle.vub_world.proofs.RunGood.{Known, Worked}
-use Rattle.vub_world.proofs.RunEfforts.{weight, sum_below, weight_small}
-use Rattle.vub_world.proofs.RunEnds.{effort_at, missing_distinct, phase_few, start_few}
-use Rattle.vub_world.proofs.RunPublications.{numbers_answers}
-use Rattle.vub_world.proofs.RunTurns.{Good, phase_cases}
+use Rattle.vub_run.specs.Memory.{Scene, after_items}
+use Rattle.vub_run.specs.Moments.{Lane, Moment, standing, unfinished}
+use Rattle.vub_run.specs.Run.{one_turn}
+use Rattle.vub_steps.specs.Tasks.{TaskStep, Look, Put, Act, Sync, Status, task_steps}
+use Rattle.vub_run.specs.TaskItems.{look_items, act_items}
+use Rattle.vub_run.specs.Turns.{turned, work_turn, request_turn, task_turn, phase_turn, phase_goes_on, under_way, begun, is_rest, row_items, step_stores, element_of, answer_at}
+use Rattle.vub_laws.proofs.RunNumbers.{missing-among, distinct_join, few_below}
+use Rattle.vub_laws.proofs.RunGood.{Known, Worked}
+use Rattle.vub_laws.proofs.RunEfforts.{weight, sum_below, weight_small}
+use Rattle.vub_laws.proofs.RunEnds.{effort_at, missing_distinct, phase_few, start_few}
+use Rattle.vub_laws.proofs.RunPublications.{numbers_answers}
+use Rattle.vub_laws.proofs.RunTurns.{Good, phase_cases}
 
 -- ---- how many answers a turn shows
 

@@ -2,27 +2,27 @@
 use Rattle.std.proofs.Common.{◌≡◌, ◌≤◌, ◌<◌, ℕ, zero, suc, ◌+◌, ◌-◌, ◌*◌, Bool, true, false, cond, List, [], ◌∷◌, ◌++◌, length, refl, ap, sym, ◌∙◌, subst, inl, inr, arith}
 use Rattle.std.specs.Prelude.{min}
 use Rattle.vub_base.specs.declared.header.Header1.{Header1}
-use Rattle.vub_ring.specs.declared.readiness.Turn.{Turn}
+use Rattle.vub_steps.specs.declared.readiness.Turn.{Turn}
 use Rattle.vub_schedule.specs.declared.types.Event.{Event}
 use Rattle.vub_schedule.specs.declared.types.Event.TheVariants as events
 use Rattle.vub_device.specs.Past.{accepted}
 use Rattle.vub_world.specs.declared.device.Choice.{Choice}
 use Rattle.vub_world.specs.declared.device.Choice.TheVariants as choices
 use Rattle.vub_world.specs.declared.machine.Machine.{Machine}
-use Rattle.vub_world.specs.declared.report.items.Item.{Item}
-use Rattle.vub_world.specs.declared.report.items.Item.TheVariants as items
-use Rattle.vub_world.specs.declared.report.items.Record.{Record}
+use Rattle.vub_report.specs.declared.items.Item.{Item}
+use Rattle.vub_report.specs.declared.items.Item.TheVariants as items
+use Rattle.vub_report.specs.declared.items.Record.{Record}
 use Rattle.vub_world.specs.Choices.{choices_from}
 use Rattle.vub_world.specs.MachineAt.{MachineAt, IsStanding, IsReached, Performs}
 use Rattle.vub_world.specs.MachineDevice.{batch_in}
 use Rattle.vub_world.specs.MachineSteps.{StepGoes, TurnsGo, TurnsMade, TurnsEvent, PlaysTurns}
-use Rattle.vub_world.specs.Moments.{Moment}
-use Rattle.vub_world.specs.Rooms.{RoomState, HasRoom, HasTurnRoom}
-use Rattle.vub_world.specs.Run.{Stands, Played, played, single, turns, one_turn, is_due, if_ready, up_to, then_played, any_choice, drain_choice, Drains}
+use Rattle.vub_run.specs.Moments.{Moment}
+use Rattle.vub_room.specs.Rooms.{RoomState, HasRoom, HasTurnRoom}
+use Rattle.vub_run.specs.Run.{Stands, Played, played, single, turns, one_turn, is_due, if_ready, up_to, then_played, any_choice, drain_choice, Drains}
 use Rattle.vub_world.proofs.MachineLoops.{batch_few, undone_few, outstanding_few}
 use Rattle.vub_world.proofs.MachineRooms.{batch_undone}
-use Rattle.vub_world.proofs.Runs.{plain_header}
-use Rattle.vub_world.proofs.RunsTo.{stands_good}
+use Rattle.vub_laws.proofs.Runs.{plain_header}
+use Rattle.vub_laws.proofs.RunsTo.{stands_good}
 
 -- ---- room
 

@@ -11,17 +11,17 @@ use Rattle.vub_shared.specs.Bytes.{Bytes, put, bytes_from}
 use Rattle.vub_shared.specs.Stores.{Store, Stores, Trails, after_store, after_in_trail}
 use Rattle.vub_shared.proofs.BytesLemmas.{put_other, bytes_from-put_other}
 use Rattle.vub_disk.specs.Values.{Values}
-use Rattle.vub_ring.specs.declared.steps.Phase.{Phase}
-use Rattle.vub_ring.specs.declared.steps.Phase.TheVariants as phases
-use Rattle.vub_ring.specs.declared.readiness.Standing.{Standing}
-use Rattle.vub_ring.specs.declared.readiness.Turn.{Turn}
-use Rattle.vub_ring.specs.declared.readiness.Turn.TheVariants as turns
-use Rattle.vub_ring.specs.declared.steps.Step.{Step}
-use Rattle.vub_ring.specs.declared.steps.Step.TheVariants as steps
-use Rattle.vub_ring.specs.Readiness.{is_ready, is_publication}
+use Rattle.vub_steps.specs.declared.steps.Phase.{Phase}
+use Rattle.vub_steps.specs.declared.steps.Phase.TheVariants as phases
+use Rattle.vub_steps.specs.declared.readiness.Standing.{Standing}
+use Rattle.vub_steps.specs.declared.readiness.Turn.{Turn}
+use Rattle.vub_steps.specs.declared.readiness.Turn.TheVariants as turns
+use Rattle.vub_steps.specs.declared.steps.Step.{Step}
+use Rattle.vub_steps.specs.declared.steps.Step.TheVariants as steps
+use Rattle.vub_steps.specs.Readiness.{is_ready, is_publication}
 use Rattle.vub_ring.specs.Ring.{used_idx_place}
-use Rattle.vub_ring.specs.Rows.{Row, row}
-use Rattle.vub_ring.specs.Steps.{next_step}
+use Rattle.vub_steps.specs.Rows.{Row, row}
+use Rattle.vub_steps.specs.Steps.{next_step}
 use Rattle.vub_driver.specs.Layout.{area_place, buffer_place, status_place, sectors_place}
 use Rattle.vub_device.specs.declared.entry.Answered.{Answered}
 use Rattle.vub_device.specs.declared.entry.Asked.{Asked}
@@ -32,35 +32,35 @@ use Rattle.vub_device.specs.Past.{asked, accepted, published, collected, is_amon
 use Rattle.vub_device.proofs.Numbers.{is_among_append}
 use Rattle.vub_world.specs.declared.log.Log.{Log}
 use Rattle.vub_world.specs.declared.log.Outstanding.{Outstanding}
-use Rattle.vub_world.specs.declared.report.items.Item.{Item}
-use Rattle.vub_world.specs.declared.report.items.Item.TheVariants as items
-use Rattle.vub_world.specs.declared.queue.Stepped.{Stepped}
-use Rattle.vub_world.specs.declared.queue.Stepped.TheVariants as says
+use Rattle.vub_report.specs.declared.items.Item.{Item}
+use Rattle.vub_report.specs.declared.items.Item.TheVariants as items
+use Rattle.vub_queue.specs.declared.queue.Stepped.{Stepped}
+use Rattle.vub_queue.specs.declared.queue.Stepped.TheVariants as says
 use Rattle.vub_split.specs.declared.split.SplitRing.{SplitRing}
-use Rattle.vub_world.specs.declared.task.Task.{Task}
+use Rattle.vub_task.specs.declared.task.Task.{Task}
 use Rattle.vub_world.specs.Logs.{slot_in}
 use Rattle.vub_world.specs.MachineAt.{LogAt, reads_of}
 use Rattle.vub_world.specs.MachineDevice.{Device, DeviceAt, TurnMade, StoreFits, SectorFits, answer_for, answers_for, noted, stored_items, shown_of, is_index, accepts, number_at}
 use Rattle.vub_world.specs.MachineFront.{IsSmall, OneSmall}
-use Rattle.vub_world.specs.Memory.{after_items}
-use Rattle.vub_world.specs.Moments.{Lane, Moment, standing}
-use Rattle.vub_world.specs.QueueAt.{spot_of, QueueStands, IsMainRing, DiskAt}
-use Rattle.vub_world.specs.QueueState as states
+use Rattle.vub_run.specs.Memory.{after_items}
+use Rattle.vub_run.specs.Moments.{Lane, Moment, standing}
+use Rattle.vub_queue_at.specs.QueueAt.{spot_of, QueueStands, IsMainRing, DiskAt}
+use Rattle.vub_queue.specs.QueueState as states
 use Rattle.vub_split.specs.Split.{used_side}
-use Rattle.vub_world.specs.QueueState.{QueueState, row_at, row_if, next_row, publishes, publish_row, StoresRow, TrailsRow, Turns, DoesStore, DoesTrail, DoesDisk, IsDue, IfStepped, WorksOut, outcome, is_idle, is_fault}
-use Rattle.vub_world.specs.Run.{one_turn}
-use Rattle.vub_world.specs.TaskState.{Making}
-use Rattle.vub_world.specs.Turns.{turned, answer_len, answer_at}
-use Rattle.vub_world.proofs.RunNumbers.{not_among-take}
-use Rattle.vub_world.proofs.RunFrames.{open_out, length_little}
-use Rattle.vub_world.proofs.RunGood.{IsWide, IsOut, PhaseIs}
-use Rattle.vub_world.proofs.RunPhases.{some_waits}
-use Rattle.vub_world.proofs.RunTurns.{IsPlain, Good}
-use Rattle.vub_world.proofs.RunChainsEvents.{ChainedAt}
-use Rattle.vub_world.proofs.QueueAtMoves.{new_unpublished}
-use Rattle.vub_world.proofs.QueueAtTurns.{IsPhaseTurn, start_stands, fetch_stands, idle_stands, ready_same}
-use Rattle.vub_world.proofs.QueueAtRows.{HasPublished, HasShown, MadeElement, ShowsNext, row_stands, shown_stands, stored_stands, after_row, shows_goes, goes_under_way}
-use Rattle.vub_world.proofs.WorkAtItems.{turn_disk}
+use Rattle.vub_queue.specs.QueueState.{QueueState, row_at, row_if, next_row, publishes, publish_row, StoresRow, TrailsRow, Turns, DoesStore, DoesTrail, DoesDisk, IsDue, IfStepped, WorksOut, outcome, is_idle, is_fault}
+use Rattle.vub_run.specs.Run.{one_turn}
+use Rattle.vub_task.specs.TaskState.{Making}
+use Rattle.vub_run.specs.Turns.{turned, answer_len, answer_at}
+use Rattle.vub_laws.proofs.RunNumbers.{not_among-take}
+use Rattle.vub_laws.proofs.RunFrames.{open_out, length_little}
+use Rattle.vub_laws.proofs.RunGood.{IsWide, IsOut, PhaseIs}
+use Rattle.vub_laws.proofs.RunPhases.{some_waits}
+use Rattle.vub_laws.proofs.RunTurns.{IsPlain, Good}
+use Rattle.vub_laws.proofs.RunChainsEvents.{ChainedAt}
+use Rattle.vub_queue_at.proofs.QueueAtMoves.{new_unpublished}
+use Rattle.vub_queue_at.proofs.QueueAtTurns.{IsPhaseTurn, start_stands, fetch_stands, idle_stands, ready_same}
+use Rattle.vub_queue_at.proofs.QueueAtRows.{HasPublished, HasShown, MadeElement, ShowsNext, row_stands, shown_stands, stored_stands, after_row, shows_goes, goes_under_way}
+use Rattle.vub_queue_at.proofs.WorkAtItems.{turn_disk}
 
 -- ---- what a turn is given, and what it does
 

@@ -16,8 +16,8 @@ use Rattle.vub_shared.specs.declared.watched_shared.WatchedShared.{WatchedShared
 use Rattle.vub_disk.specs.Values.{Values}
 use Rattle.vub_memdisk.specs.MemDisks.{values_of}
 use Rattle.vub_memdisk.specs.declared.mem_disk.MemDisk.{MemDisk}
-use Rattle.vub_ring.specs.declared.readiness.Turn.{Turn}
-use Rattle.vub_ring.specs.Readiness.{is_ready}
+use Rattle.vub_steps.specs.declared.readiness.Turn.{Turn}
+use Rattle.vub_steps.specs.Readiness.{is_ready}
 use Rattle.vub_driver.specs.Drivers.{Driver}
 use Rattle.vub_device.specs.declared.entry.Answered.{Answered}
 use Rattle.vub_device.specs.declared.entry.Asked.{Asked}
@@ -26,29 +26,29 @@ use Rattle.vub_device.specs.Past.{asked, published, collected, numbers, is_among
 use Rattle.vub_world.specs.declared.log.Log.{Log}
 use Rattle.vub_world.specs.declared.machine.Life.{Life}
 use Rattle.vub_world.specs.declared.machine.Machine.{Machine}
-use Rattle.vub_world.specs.declared.queue.Queue.{Queue}
-use Rattle.vub_world.specs.declared.queue.Stepped.{Stepped}
-use Rattle.vub_world.specs.declared.queue.Stepped.TheVariants as says
-use Rattle.vub_world.specs.declared.report.items.Item.{Item}
-use Rattle.vub_world.specs.declared.report.items.Item.TheVariants as items
+use Rattle.vub_queue.specs.declared.queue.Queue.{Queue}
+use Rattle.vub_queue.specs.declared.queue.Stepped.{Stepped}
+use Rattle.vub_queue.specs.declared.queue.Stepped.TheVariants as says
+use Rattle.vub_report.specs.declared.items.Item.{Item}
+use Rattle.vub_report.specs.declared.items.Item.TheVariants as items
 use Rattle.vub_split.specs.declared.split.SplitRing.{SplitRing}
 use Rattle.vub_world.specs.Lives.{RingOfLife}
 use Rattle.vub_world.specs.Machine.{IsSound}
-use Rattle.vub_world.specs.Queue.{ring_in}
+use Rattle.vub_queue.specs.Queue.{ring_in}
 use Rattle.vub_split.specs.Split.{RingLies}
 use Rattle.vub_world.specs.Logs.{slot_in}
 use Rattle.vub_world.specs.MachineAt.{AskAt, AttachedAt, LifeAt, LogAt, MachineAt, reads_of}
 use Rattle.vub_world.specs.MachineDevice.{Device, device, DeviceAt, TurnMade, DeviceTurns, noted, stored_items, shown_of, answers_shown}
 use Rattle.vub_world.specs.MachineSteps.{TurnGoes}
-use Rattle.vub_world.specs.Memory.{Scene, after_items}
-use Rattle.vub_world.specs.Moments.{Moment, standing}
-use Rattle.vub_world.specs.QueueState.{state_of}
-use Rattle.vub_world.specs.Run.{one_turn, is_due}
-use Rattle.vub_world.specs.Turns.{turned}
+use Rattle.vub_run.specs.Memory.{Scene, after_items}
+use Rattle.vub_run.specs.Moments.{Moment, standing}
+use Rattle.vub_queue.specs.QueueState.{state_of}
+use Rattle.vub_run.specs.Run.{one_turn, is_due}
+use Rattle.vub_run.specs.Turns.{turned}
 use Rattle.vub_world.proofs.MachineLemmas.{sound_room, sound_ring}
-use Rattle.vub_world.proofs.RunDrains.{turned_stays}
-use Rattle.vub_world.proofs.RunTurns.{Good}
-use Rattle.vub_world.proofs.RunChainsTurns.{turn_driver}
+use Rattle.vub_laws.proofs.RunDrains.{turned_stays}
+use Rattle.vub_laws.proofs.RunTurns.{Good}
+use Rattle.vub_laws.proofs.RunChainsTurns.{turn_driver}
 
 -- ---- what the items of a turn leave of a log
 

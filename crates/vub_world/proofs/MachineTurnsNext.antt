@@ -8,27 +8,27 @@ use Rattle.vub_shared.specs.Stores.{Store, Trails, after_in_trail}
 use Rattle.vub_shared.specs.Watched.{stores_in, faults_in}
 use Rattle.vub_shared.specs.declared.watched_shared.WatchedShared.{WatchedShared}
 use Rattle.vub_shared.proofs.WatchedLemmas.{no_fault}
-use Rattle.vub_ring.specs.declared.readiness.Standing.{Standing}
-use Rattle.vub_ring.specs.declared.readiness.Turn.{Turn}
-use Rattle.vub_ring.specs.declared.readiness.Turn.TheVariants as turns
-use Rattle.vub_ring.specs.Rows.{Row}
-use Rattle.vub_world.specs.declared.queue.Stepped.{Stepped}
-use Rattle.vub_world.specs.declared.queue.Stepped.TheVariants as says
-use Rattle.vub_world.specs.declared.queue.Turn as asked
+use Rattle.vub_steps.specs.declared.readiness.Standing.{Standing}
+use Rattle.vub_steps.specs.declared.readiness.Turn.{Turn}
+use Rattle.vub_steps.specs.declared.readiness.Turn.TheVariants as turns
+use Rattle.vub_steps.specs.Rows.{Row}
+use Rattle.vub_queue.specs.declared.queue.Stepped.{Stepped}
+use Rattle.vub_queue.specs.declared.queue.Stepped.TheVariants as says
+use Rattle.vub_queue.specs.declared.queue.Turn as asked
 use Rattle.vub_split.specs.declared.split.SplitRing.{SplitRing}
 use Rattle.vub_world.specs.declared.device.Choice.{Choice}
 use Rattle.vub_world.specs.Choices.{choose, next_turn}
 use Rattle.vub_world.specs.MachineAt.{IsReached}
 use Rattle.vub_world.specs.MachineDevice.{turn_here}
-use Rattle.vub_world.specs.Moments.{Moment, standing}
-use Rattle.vub_world.specs.QueueAt.{QueueStands, IsMainRing}
-use Rattle.vub_world.specs.QueueState.{QueueState, standing_at, waiting, turn_at, publish_row, TrailsRow, DoesTrail, outcome, disk_outcome, is_fault}
-use Rattle.vub_world.specs.TaskState.{GainsOne}
-use Rattle.vub_world.proofs.Runs.{plain_header}
-use Rattle.vub_world.proofs.RunTurns.{IsPlain, Good}
-use Rattle.vub_world.proofs.RunChainsEvents.{ChainedAt}
-use Rattle.vub_world.proofs.RunsTo.{stands_turns}
-use Rattle.vub_world.proofs.QueueAtTurns.{standings}
+use Rattle.vub_run.specs.Moments.{Moment, standing}
+use Rattle.vub_queue_at.specs.QueueAt.{QueueStands, IsMainRing}
+use Rattle.vub_queue.specs.QueueState.{QueueState, standing_at, waiting, turn_at, publish_row, TrailsRow, DoesTrail, outcome, disk_outcome, is_fault}
+use Rattle.vub_task.specs.TaskState.{GainsOne}
+use Rattle.vub_laws.proofs.Runs.{plain_header}
+use Rattle.vub_laws.proofs.RunTurns.{IsPlain, Good}
+use Rattle.vub_laws.proofs.RunChainsEvents.{ChainedAt}
+use Rattle.vub_laws.proofs.RunsTo.{stands_turns}
+use Rattle.vub_queue_at.proofs.QueueAtTurns.{standings}
 use Rattle.vub_world.proofs.MachineTurns.{IsServed, some_is}
 
 -- ---- a moment of a run

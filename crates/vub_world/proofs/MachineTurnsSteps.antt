@@ -5,19 +5,19 @@ use Rattle.std.proofs.lemmas.Bool.Decides.{nat_tests}
 use Rattle.vub_base.specs.declared.header.Header1.{Header1}
 use Rattle.vub_shared.specs.Watched.{bytes_in, stores_in}
 use Rattle.vub_memdisk.specs.MemDisks.{values_of}
-use Rattle.vub_ring.specs.declared.readiness.Turn.{Turn}
+use Rattle.vub_steps.specs.declared.readiness.Turn.{Turn}
 use Rattle.vub_device.specs.declared.entry.Answered.{Answered}
 use Rattle.vub_world.specs.declared.machine.Machine.{Machine}
-use Rattle.vub_world.specs.declared.queue.Stepped.{Stepped}
-use Rattle.vub_world.specs.declared.queue.Stepped.TheVariants as says
-use Rattle.vub_world.specs.declared.report.items.Item.{Item}
+use Rattle.vub_queue.specs.declared.queue.Stepped.{Stepped}
+use Rattle.vub_queue.specs.declared.queue.Stepped.TheVariants as says
+use Rattle.vub_report.specs.declared.items.Item.{Item}
 use Rattle.vub_world.specs.MachineAt.{MachineAt}
 use Rattle.vub_world.specs.MachineDevice.{noted, answers_shown, accepts}
 use Rattle.vub_world.specs.MachineSteps.{TurnGoes, MachineTurns, StepGoes}
-use Rattle.vub_world.specs.Rooms.{SpendsUpTo, RoomState}
-use Rattle.vub_world.specs.Moments.{Moment}
-use Rattle.vub_world.specs.QueueState.{is_idle}
-use Rattle.vub_world.specs.Run.{is_due}
+use Rattle.vub_room.specs.Rooms.{SpendsUpTo, RoomState}
+use Rattle.vub_run.specs.Moments.{Moment}
+use Rattle.vub_queue.specs.QueueState.{is_idle}
+use Rattle.vub_run.specs.Run.{is_due}
 
 pub same_items : (shown : ℕ) (r now : RoomState) → SpendsUpTo shown r now → now.items ≡ r.items
 same_items zero r now spent = ap (λ (x : RoomState). x.items) spent

@@ -9,38 +9,38 @@ use Rattle.vub_base.specs.declared.store.Tag.TheVariants.{T2, T5}
 use Rattle.vub_shared.specs.Bytes.{Bytes}
 use Rattle.vub_shared.specs.Stores.{Store, one_store}
 use Rattle.vub_disk.specs.Values.{Values}
-use Rattle.vub_ring.specs.declared.readiness.Standing.{Standing}
-use Rattle.vub_ring.specs.declared.readiness.Turn.{Turn}
-use Rattle.vub_ring.specs.declared.readiness.Turn.TheVariants as turns
-use Rattle.vub_ring.specs.Readiness.{is_ready, is_publication, any_turn}
+use Rattle.vub_steps.specs.declared.readiness.Standing.{Standing}
+use Rattle.vub_steps.specs.declared.readiness.Turn.{Turn}
+use Rattle.vub_steps.specs.declared.readiness.Turn.TheVariants as turns
+use Rattle.vub_steps.specs.Readiness.{is_ready, is_publication, any_turn}
 use Rattle.vub_device.specs.declared.entry.Asked.{Asked}
 use Rattle.vub_device.specs.declared.entry.Entry.TheVariants as entries
 use Rattle.vub_device.specs.Past.{accepted}
 use Rattle.vub_world.specs.declared.log.Log.{Log}
 use Rattle.vub_world.specs.declared.log.Outstanding.{Outstanding}
-use Rattle.vub_world.specs.declared.report.items.Item.{Item}
-use Rattle.vub_world.specs.declared.report.items.Item.TheVariants as items
-use Rattle.vub_world.specs.declared.queue.Stepped.{Stepped}
-use Rattle.vub_world.specs.declared.queue.Stepped.TheVariants as says
-use Rattle.vub_world.specs.declared.queue.Turn as asked
-use Rattle.vub_world.specs.declared.queue.Turn.TheVariants as asks
+use Rattle.vub_report.specs.declared.items.Item.{Item}
+use Rattle.vub_report.specs.declared.items.Item.TheVariants as items
+use Rattle.vub_queue.specs.declared.queue.Stepped.{Stepped}
+use Rattle.vub_queue.specs.declared.queue.Stepped.TheVariants as says
+use Rattle.vub_queue.specs.declared.queue.Turn as asked
+use Rattle.vub_queue.specs.declared.queue.Turn.TheVariants as asks
 use Rattle.vub_split.specs.declared.split.SplitRing.{SplitRing}
-use Rattle.vub_world.specs.declared.task.Task.{Task}
+use Rattle.vub_task.specs.declared.task.Task.{Task}
 use Rattle.vub_world.specs.MachineDevice.{Device, DeviceAt, TurnMade, DeviceTurns, StoreFits, SectorFits, noted, stored_items, shown_of, accepts, number_at}
 use Rattle.vub_world.specs.MachineFront.{OneSmall}
-use Rattle.vub_world.specs.Memory.{after_items}
-use Rattle.vub_world.specs.Moments.{Moment, standing}
-use Rattle.vub_world.specs.QueueAt.{QueueStands, DiskAt}
-use Rattle.vub_world.specs.QueueState.{QueueState, IsDue, IfStepped, WorksOut, due_store, sector_at, said, is_idle, is_fault, turn_at, Rests}
-use Rattle.vub_world.specs.Run.{one_turn}
-use Rattle.vub_world.specs.TaskState.{Making, answer_in, answer_to, memory_after, values_after, with_maybe}
-use Rattle.vub_world.specs.Tasks.{TaskStep, Look, Act}
-use Rattle.vub_world.specs.Turns.{turned}
-use Rattle.vub_world.proofs.RunFrames.{open_out}
-use Rattle.vub_world.proofs.RunGood.{IsOut}
-use Rattle.vub_world.proofs.WorkAt.{WorkReady, making, Kind, work_ready}
-use Rattle.vub_world.proofs.WorkAtItems.{Shows, ShowsStore, work_items, work_memory, work_disk, work_kind}
-use Rattle.vub_world.proofs.WorkAtStands.{work_stands}
+use Rattle.vub_run.specs.Memory.{after_items}
+use Rattle.vub_run.specs.Moments.{Moment, standing}
+use Rattle.vub_queue_at.specs.QueueAt.{QueueStands, DiskAt}
+use Rattle.vub_queue.specs.QueueState.{QueueState, IsDue, IfStepped, WorksOut, due_store, sector_at, said, is_idle, is_fault, turn_at, Rests}
+use Rattle.vub_run.specs.Run.{one_turn}
+use Rattle.vub_task.specs.TaskState.{Making, answer_in, answer_to, memory_after, values_after, with_maybe}
+use Rattle.vub_steps.specs.Tasks.{TaskStep, Look, Act}
+use Rattle.vub_run.specs.Turns.{turned}
+use Rattle.vub_laws.proofs.RunFrames.{open_out}
+use Rattle.vub_laws.proofs.RunGood.{IsOut}
+use Rattle.vub_queue_at.proofs.WorkAt.{WorkReady, making, Kind, work_ready}
+use Rattle.vub_queue_at.proofs.WorkAtItems.{Shows, ShowsStore, work_items, work_memory, work_disk, work_kind}
+use Rattle.vub_queue_at.proofs.WorkAtStands.{work_stands}
 use Rattle.vub_world.proofs.MachineTurns.{TurnAt, DeviceDoes, IsServed, some_is, disk_same, start_made, fetch_made, publish_made, idle_made}
 
 -- what a call made that failed nowhere

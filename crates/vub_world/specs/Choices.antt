@@ -1,14 +1,14 @@
 -- Which turn of several comes next.
 use Rattle.std.specs.Prelude.{ℕ}
 use Rattle.vub_base.specs.declared.header.Header1.{Header1}
-use Rattle.vub_ring.specs.declared.readiness.Standing.{Standing}
-use Rattle.vub_ring.specs.declared.readiness.Turn.{Turn}
-use Rattle.vub_ring.specs.Readiness.{any_turn, drain_turn}
+use Rattle.vub_steps.specs.declared.readiness.Standing.{Standing}
+use Rattle.vub_steps.specs.declared.readiness.Turn.{Turn}
+use Rattle.vub_steps.specs.Readiness.{any_turn, drain_turn}
 use Rattle.vub_device.specs.Past.{accepted}
 use Rattle.vub_world.specs.declared.device.Choice.{Choice}
 use Rattle.vub_world.specs.declared.device.Choice.TheVariants as choices
-use Rattle.vub_world.specs.Moments.{Moment, standing}
-use Rattle.vub_world.specs.Run.{any_choice, drain_choice}
+use Rattle.vub_run.specs.Moments.{Moment, standing}
+use Rattle.vub_run.specs.Run.{any_choice, drain_choice}
 
 -- in a queue of so many places, after so many requests were accepted
 abbrev pub choose : Choice → ℕ → ℕ → Standing → Turn

@@ -1,6 +1,4 @@
-pub mod ChainState
 pub mod Choices
-pub mod LegalRuns
 pub mod Lives
 pub mod Logs
 pub mod Machine
@@ -8,17 +6,4 @@ pub mod MachineAt
 pub mod MachineDevice
 pub mod MachineFront
 pub mod MachineSteps
-pub mod Memory
-pub mod Moments
-pub mod Queue
-pub mod QueueAt
-pub mod QueueParts
-pub mod QueueState
-pub mod RecordText
-pub mod Rooms
-pub mod Run
-pub mod Tasks
-pub mod TaskState
-pub mod Tracking
-pub mod Turns
 pub mod World

@@ -4,7 +4,7 @@ use Rattle.std.specs.Borrow.{follows_so, MutBor, Bor, Fml}
 use mathlib.Core.Option.{none}
 use Rattle.vub_base.specs.declared.faults.Memory.{Memory}
 use Rattle.vub_schedule.specs.declared.types.Event.{Event}
-use Rattle.vub_world.specs.declared.report.items.Record.{Record}
+use Rattle.vub_report.specs.declared.items.Record.{Record}
 use Rattle.vub_world.specs.contracts.machine.Machine.{the_row}
 use Rattle.vub_world.specs.MachineAt.{IsStanding, StandsOn}
 use Rattle.vub_shared.specs.Watched as watched
@@ -12,7 +12,7 @@ use Rattle.vub_schedule.specs.Spelling.{IsHeader}
 use Rattle.vub_memdisk.specs.MemDisks.{capacity_of}
 use Rattle.vub_driver.specs.Layout.{ring_of}
 use Rattle.vub_guest.specs.GuestState.{ring_in}
-use Rattle.vub_world.specs.QueueAt.{IsMainRing}
+use Rattle.vub_queue_at.specs.QueueAt.{IsMainRing}
 use Rattle.vub_world.specs.Lives.{RingOfLife}
 use Rattle.vub_world.specs.declared.machine.Machine.{Machine}
 

@@ -3,7 +3,7 @@ use Rattle.std.specs.Prelude.{◌≡◌, ◌<◌, ℕ, ◌+◌, ◌%◌, true, f
 use Rattle.vub_base.specs.declared.header.Header1.{Header1}
 use Rattle.vub_base.specs.declared.request.Ask.{Ask}
 use Rattle.vub_shared.specs.Watched.{bytes_in}
-use Rattle.vub_ring.specs.declared.readiness.Turn.{Turn}
+use Rattle.vub_steps.specs.declared.readiness.Turn.{Turn}
 use Rattle.vub_driver.specs.Drivers.{Waiting}
 use Rattle.vub_device.specs.declared.entry.Asked.{Asked}
 use Rattle.vub_device.specs.declared.entry.Asked.TheVariants as requests
@@ -12,20 +12,20 @@ use Rattle.vub_device.specs.Past.{asked, published, collected, is_among, started
 use Rattle.vub_memdisk.specs.MemDisks.{values_of}
 use Rattle.vub_schedule.specs.declared.types.Event.{Event}
 use Rattle.vub_schedule.specs.declared.types.Event.TheVariants as events
-use Rattle.vub_world.specs.declared.report.items.Item.{Item}
-use Rattle.vub_world.specs.declared.report.items.Record.{Record}
+use Rattle.vub_report.specs.declared.items.Item.{Item}
+use Rattle.vub_report.specs.declared.items.Record.{Record}
 use Rattle.vub_split.specs.declared.split.SplitRing.{SplitRing}
 use Rattle.vub_world.specs.declared.log.Log.{Log}
-use Rattle.vub_world.specs.declared.queue.Queue.{Queue}
+use Rattle.vub_queue.specs.declared.queue.Queue.{Queue}
 use Rattle.vub_world.specs.declared.machine.Life.{Life}
 use Rattle.vub_world.specs.declared.machine.Machine.{Machine}
 use Rattle.vub_world.specs.Logs.{offered_in, collected_in, size_in, slot_in}
 use Rattle.vub_guest.specs.GuestState.{driver_in, seen_in}
-use Rattle.vub_world.specs.QueueState.{state_of}
-use Rattle.vub_world.specs.QueueAt.{QueueStands, DiskAt}
-use Rattle.vub_world.specs.Moments.{Moment}
-use Rattle.vub_world.specs.Run.{Stands, Plays, turns}
-use Rattle.vub_world.specs.LegalRuns.{IsLegalRun, IsServed}
+use Rattle.vub_queue.specs.QueueState.{state_of}
+use Rattle.vub_queue_at.specs.QueueAt.{QueueStands, DiskAt}
+use Rattle.vub_run.specs.Moments.{Moment}
+use Rattle.vub_run.specs.Run.{Stands, Plays, turns}
+use Rattle.vub_run.specs.LegalRuns.{IsLegalRun, IsServed}
 
 -- the request that waits to be offered is the one that is kept
 abbrev pub AskAt : Option Waiting → Option Ask → Type 0

@@ -8,11 +8,11 @@ use Rattle.vub_shared.specs.Stores.{Store}
 use Rattle.vub_shared.specs.Watched.{bytes_in, stores_in}
 use Rattle.vub_shared.specs.declared.watched_shared.WatchedShared.{WatchedShared}
 use Rattle.vub_disk.specs.Values.{Values}
-use Rattle.vub_ring.specs.declared.readiness.Turn.{Turn}
-use Rattle.vub_ring.specs.Readiness.{is_ready}
-use Rattle.vub_ring.specs.Steps.{next_step}
-use Rattle.vub_ring.specs.declared.steps.Step.{Step}
-use Rattle.vub_ring.specs.declared.steps.Step.TheVariants.{Index}
+use Rattle.vub_steps.specs.declared.readiness.Turn.{Turn}
+use Rattle.vub_steps.specs.Readiness.{is_ready}
+use Rattle.vub_steps.specs.Steps.{next_step}
+use Rattle.vub_steps.specs.declared.steps.Step.{Step}
+use Rattle.vub_steps.specs.declared.steps.Step.TheVariants.{Index}
 use Rattle.vub_driver.specs.Layout.{guest_space, area_place, buffer_place, status_place, sectors_place}
 use Rattle.vub_device.specs.declared.entry.Answered.{Answered}
 use Rattle.vub_device.specs.declared.entry.Entry.{Entry}
@@ -20,21 +20,21 @@ use Rattle.vub_device.specs.declared.entry.Entry.TheVariants as entries
 use Rattle.vub_memdisk.specs.MemDisks.{values_of}
 use Rattle.vub_memdisk.specs.declared.mem_disk.MemDisk.{MemDisk}
 use Rattle.vub_device.specs.Past.{accepted}
-use Rattle.vub_world.specs.declared.report.items.Item.{Item}
-use Rattle.vub_world.specs.declared.report.items.Item.TheVariants as items
+use Rattle.vub_report.specs.declared.items.Item.{Item}
+use Rattle.vub_report.specs.declared.items.Item.TheVariants as items
 use Rattle.vub_world.specs.declared.log.Log.{Log}
 use Rattle.vub_world.specs.declared.log.Outstanding.{Outstanding}
 use Rattle.vub_world.specs.declared.machine.Life.{Life}
-use Rattle.vub_world.specs.declared.queue.Queue.{Queue}
+use Rattle.vub_queue.specs.declared.queue.Queue.{Queue}
 use Rattle.vub_split.specs.declared.split.SplitRing.{SplitRing}
-use Rattle.vub_world.specs.declared.queue.Stepped.{Stepped}
-use Rattle.vub_world.specs.declared.queue.Stepped.TheVariants as says
+use Rattle.vub_queue.specs.declared.queue.Stepped.{Stepped}
+use Rattle.vub_queue.specs.declared.queue.Stepped.TheVariants as says
 use Rattle.vub_world.specs.Logs.{slot_in}
-use Rattle.vub_world.specs.Moments.{Moment, standing}
-use Rattle.vub_world.specs.declared.queue.Turn as asked
-use Rattle.vub_world.specs.QueueState.{QueueState, state_of, is_idle, turn_at}
-use Rattle.vub_world.specs.QueueAt.{QueueStands, DiskAt}
-use Rattle.vub_world.specs.Run.{one_turn}
+use Rattle.vub_run.specs.Moments.{Moment, standing}
+use Rattle.vub_queue.specs.declared.queue.Turn as asked
+use Rattle.vub_queue.specs.QueueState.{QueueState, state_of, is_idle, turn_at}
+use Rattle.vub_queue_at.specs.QueueAt.{QueueStands, DiskAt}
+use Rattle.vub_run.specs.Run.{one_turn}
 use Rattle.vub_world.specs.MachineAt.{has_queue}
 use Rattle.vub_world.specs.MachineFront.{store_item, OneSmall}
 

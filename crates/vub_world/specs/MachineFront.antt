@@ -8,13 +8,13 @@ use Rattle.vub_shared.specs.Watched.{bytes_in}
 use Rattle.vub_ring.specs.Ring.{last_head}
 use Rattle.vub_driver.specs.Layout.{ring_of}
 use Rattle.vub_driver.specs.Drivers.{Waiting}
-use Rattle.vub_world.specs.declared.report.items.Item.{Item}
-use Rattle.vub_world.specs.declared.report.items.Item.TheVariants as items
+use Rattle.vub_report.specs.declared.items.Item.{Item}
+use Rattle.vub_report.specs.declared.items.Item.TheVariants as items
 use Rattle.vub_world.specs.declared.machine.Machine.{Machine}
 use Rattle.vub_world.specs.Logs.{Offers}
 use Rattle.vub_guest.specs.GuestState.{driver_in}
-use Rattle.vub_world.specs.Moments.{Moment}
-use Rattle.vub_world.specs.Run.{guest_stores}
+use Rattle.vub_run.specs.Moments.{Moment}
+use Rattle.vub_run.specs.Run.{guest_stores}
 use Rattle.vub_world.specs.MachineAt.{AskAt, FrontAt}
 
 -- a store into guest memory of eight sectors at most

@@ -2,22 +2,22 @@
 use Rattle.std.specs.Prelude.{◌≡◌, ◌≤◌, ◌⊎◌, ℕ, ◌+◌, Bool, true, false, List, [], ◌∷◌, ◌++◌}
 use Rattle.vub_base.specs.declared.header.Header1.{Header1}
 use Rattle.vub_shared.specs.Watched.{bytes_in, stores_in}
-use Rattle.vub_ring.specs.declared.readiness.Turn.{Turn}
+use Rattle.vub_steps.specs.declared.readiness.Turn.{Turn}
 use Rattle.vub_memdisk.specs.MemDisks.{values_of}
 use Rattle.vub_device.specs.Past.{accepted}
 use Rattle.vub_schedule.specs.declared.types.Event.{Event}
 use Rattle.vub_world.specs.declared.device.Choice.{Choice}
-use Rattle.vub_world.specs.declared.report.items.Item.{Item}
-use Rattle.vub_world.specs.declared.report.items.Item.TheVariants as items
-use Rattle.vub_world.specs.declared.report.items.Record.{Record}
+use Rattle.vub_report.specs.declared.items.Item.{Item}
+use Rattle.vub_report.specs.declared.items.Item.TheVariants as items
+use Rattle.vub_report.specs.declared.items.Record.{Record}
 use Rattle.vub_world.specs.declared.machine.Machine.{Machine}
-use Rattle.vub_world.specs.declared.queue.Stepped.{Stepped}
-use Rattle.vub_world.specs.declared.queue.Stepped.TheVariants as says
-use Rattle.vub_world.specs.declared.queue.Turn as asked
+use Rattle.vub_queue.specs.declared.queue.Stepped.{Stepped}
+use Rattle.vub_queue.specs.declared.queue.Stepped.TheVariants as says
+use Rattle.vub_queue.specs.declared.queue.Turn as asked
 use Rattle.vub_world.specs.Choices.{choices_from}
-use Rattle.vub_world.specs.Moments.{Moment}
-use Rattle.vub_world.specs.QueueState.{is_idle}
-use Rattle.vub_world.specs.Run.{Stands, played, single, turns, one_turn, is_due}
+use Rattle.vub_run.specs.Moments.{Moment}
+use Rattle.vub_queue.specs.QueueState.{is_idle}
+use Rattle.vub_run.specs.Run.{Stands, played, single, turns, one_turn, is_due}
 use Rattle.vub_world.specs.MachineAt.{MachineAt}
 use Rattle.vub_world.specs.MachineDevice.{noted, StoreFits, SectorFits, accepts, answers_shown, turn_here}
 

@@ -7,7 +7,7 @@ use Rattle.vub_base.specs.declared.faults.Memory.{Memory}
 use Rattle.vub_memdisk.specs.declared.mem_disk.MemDisk.{MemDisk}
 use Rattle.vub_schedule.specs.declared.types.Event.{Event}
 use Rattle.vub_world.specs.declared.machine.Machine.{Machine}
-use Rattle.vub_world.specs.declared.report.items.Record.{Record}
+use Rattle.vub_report.specs.declared.items.Record.{Record}
 use Rattle.vub_world.specs.declared.world.World.{World}
 use Rattle.vub_world.specs.contracts.world.World.{the_row}
 use Rattle.vub_world.specs.MachineAt.{StandsOn}

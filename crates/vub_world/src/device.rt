@@ -7,12 +7,12 @@ ghost use Rattle.vub_world.specs.declared.log.Log.{Log};
 ghost use Rattle.vub_split.specs.declared.split.SplitRing.{SplitRing};
 ghost use Rattle.vub_world.specs.MachineAt.{IsReached, LogAt};
 ghost use Rattle.vub_world.specs.MachineDevice.{DeviceAt, DeviceTurns, device, turn_here};
-ghost use Rattle.vub_world.specs.Moments.{Moment};
-ghost use Rattle.vub_world.specs.Queue.{ring_in};
-ghost use Rattle.vub_world.specs.QueueAt.{IsMainRing};
+ghost use Rattle.vub_run.specs.Moments.{Moment};
+ghost use Rattle.vub_queue.specs.Queue.{ring_in};
+ghost use Rattle.vub_queue_at.specs.QueueAt.{IsMainRing};
 ghost use Rattle.vub_split.specs.Split.{RingLies};
 
-use crate::queue::{Queue, Stepped, Turn};
+use vub_queue::{Queue, Stepped, Turn};
 use vub_memdisk::MemDisk;
 use vub_shared::WatchedShared;
 
@@ -27,7 +27,7 @@ pub enum Choice {
 
 impl Choice {
     ghost use Rattle.vub_world.specs.Choices.{choose};
-    ghost use Rattle.vub_world.specs.QueueState.{state_of, standing_at, turn_at};
+    ghost use Rattle.vub_queue.specs.QueueState.{state_of, standing_at, turn_at};
 
     /// The turn that comes next, after so many requests were accepted.
     pub fn turn(self, queue: &Queue, accepted: u16) -> Turn

@@ -2,16 +2,9 @@
 //! of what happens between them.
 #![tactic(auto)]
 
-mod chain;
 mod device;
-pub mod laws;
 mod log;
 mod machine;
-mod queue;
-pub mod report;
-mod room;
-mod spare;
-mod task;
 #[cfg(test)]
 mod tests;
 mod world;

@@ -3,15 +3,15 @@ ghost use Rattle.std.specs.Prelude.{◌≡◌, ◌<◌, ◌≤◌, ◌+◌, ◌-
 ghost use Rattle.vub_shared.specs.Watched.{bytes_in, stores_in, sizes_in};
 ghost use Rattle.vub_driver.specs.Layout.{ring_of as main_ring};
 ghost use Rattle.vub_schedule.specs.Spelling.{IsHeader, IsEvent};
-ghost use Rattle.vub_world.specs.Rooms.{SpendsLists};
-ghost use Rattle.vub_world.specs.Run.{request_of};
+ghost use Rattle.vub_room.specs.Rooms.{SpendsLists};
+ghost use Rattle.vub_run.specs.Run.{request_of};
 
 use crate::device::{Choice, turn_queue};
 use crate::log::Log;
-use crate::queue::{Queue, QueueSetup, Stepped, Turn};
-use crate::report::{Item, Items, Record};
-use crate::room::Room;
-use crate::spare::Spare;
+use vub_queue::{Queue, QueueSetup, Stepped, Turn};
+use vub_report::{Item, Items, Record};
+use vub_room::Room;
+use vub_room::Spare;
 use std::alloc::Global;
 use std::mem;
 use vub_base::{Area, Ask, Header1, Memory, Shape, Space, Tag};
@@ -92,8 +92,8 @@ impl Machine {
     ghost use Rattle.vub_schedule.specs.declared.types.Event.TheVariants as events;
     ghost use Rattle.vub_guest.specs.declared.guest.GuestStep.TheVariants as answers;
     ghost use Rattle.vub_guest.specs.declared.guest.Collected.TheVariants as takes;
-    ghost use Rattle.vub_world.specs.declared.report.items.Item.TheVariants as items;
-    ghost use Rattle.vub_world.specs.declared.report.items.Record.{Record};
+    ghost use Rattle.vub_report.specs.declared.items.Item.TheVariants as items;
+    ghost use Rattle.vub_report.specs.declared.items.Record.{Record};
     ghost use Rattle.vub_guest.specs.GuestState.{driver_in, seen_in, next_store, Steps, Shows, Collects};
     ghost use Rattle.vub_world.specs.Logs.{offered_in, collected_in, slot_in, Offers};
     ghost use Rattle.vub_world.specs.Machine.{IsSound, LendsSound};
@@ -101,12 +101,12 @@ impl Machine {
     ghost use Rattle.vub_world.specs.MachineDevice.{BatchFits, ShowsSome, StoreFits, SectorFits, IsEntry, stored_items, is_joining, answer_for, answers_for, answers_shown, batch_in, shown_in, noted, accepts, turn_here};
     ghost use Rattle.vub_world.specs.MachineSteps.{TurnGoes, StepGoes, TurnsGo, PlaysSingle, PlaysTurns};
     ghost use Rattle.vub_world.specs.MachineFront.{FrontFits, OneSmall, GuestSteps, GuestGoes, head_shown};
-    ghost use Rattle.vub_world.specs.Rooms.{HasTurnRoom, HasRoom, Spends, SpendsAnswers, SpendsUpTo, SpendsTurn, SpendsStep};
-    ghost use Rattle.vub_world.specs.Moments.{Moment, opening};
+    ghost use Rattle.vub_room.specs.Rooms.{HasTurnRoom, HasRoom, Spends, SpendsAnswers, SpendsUpTo, SpendsTurn, SpendsStep};
+    ghost use Rattle.vub_run.specs.Moments.{Moment, opening};
     ghost use Rattle.vub_world.specs.Choices.{next_turn};
-    ghost use Rattle.vub_world.specs.QueueState.{state_of, is_idle};
-    ghost use Rattle.vub_world.specs.Run.{Stands};
-    ghost use Rattle.vub_world.specs.TaskState.{after_maybe, with_maybe};
+    ghost use Rattle.vub_queue.specs.QueueState.{state_of, is_idle};
+    ghost use Rattle.vub_run.specs.Run.{Stands};
+    ghost use Rattle.vub_task.specs.TaskState.{after_maybe, with_maybe};
 
     /// A world in which nothing has happened.
     pub fn new(alloc: Global, header: &Header1) -> Result<Machine, Memory>

@@ -1,5 +1,5 @@
 use crate::World;
-use crate::report::{head_text, record_text};
+use vub_report::{head_text, record_text};
 use std::test::Fail;
 use vub_base::{CacheMode, Format, Header1};
 use vub_schedule::Event;

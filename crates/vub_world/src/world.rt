@@ -2,7 +2,7 @@ ghost use Rattle.std.specs.Prelude.{◌≡◌, ◌<◌, [], IfOk};
 ghost use Rattle.vub_schedule.specs.Spelling.{IsHeader, IsEvent};
 
 use crate::machine::Machine;
-use crate::report::Record;
+use vub_report::Record;
 use std::alloc::Global;
 use std::marker::Model;
 use vub_base::{Header1, Memory};

@@ -6,11 +6,11 @@ use Rattle.std.specs.List.{flat_map}
 use Rattle.vub_base.specs.declared.header.Header1.{Header1}
 use Rattle.vub_schedule.specs.declared.types.Event.{Event}
 use Rattle.vub_world.specs.declared.machine.Machine.{Machine}
-use Rattle.vub_world.specs.declared.report.items.Record.{Record}
-use Rattle.vub_world.specs.LegalRuns.{IsLegalRun}
+use Rattle.vub_report.specs.declared.items.Record.{Record}
+use Rattle.vub_run.specs.LegalRuns.{IsLegalRun}
 use Rattle.vub_world.specs.MachineAt.{StandsFor, StandsOn, GoesOn}
-use Rattle.vub_world.specs.RecordText.{record_spelling, entry_line, entries_spelling}
-use Rattle.vub_world.specs.Tracking.{entries_of, history_of}
+use Rattle.vub_report.specs.RecordText.{record_spelling, entry_line, entries_spelling}
+use Rattle.vub_report.specs.Histories.{entries_of, history_of}
 use Rattle.vublk.specs.Flows.{Wrote, WrotePart}
 use Rattle.vublk.specs.Records.{piece_of, records_text}
 use Rattle.vublk.specs.declared.words.Command.{Command}

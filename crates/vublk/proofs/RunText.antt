@@ -4,8 +4,8 @@ use Rattle.std.proofs.lemmas.List.{append-nil}
 use Rattle.vub_base.specs.declared.header.Header1.{Header1}
 use Rattle.vub_schedule.specs.declared.types.Event.{Event}
 use Rattle.vub_schedule.specs.declared.types.Schedule.{Schedule}
-use Rattle.vub_world.specs.declared.report.items.Record.{Record}
-use Rattle.vub_world.specs.LegalRuns.{IsLegalRun}
+use Rattle.vub_report.specs.declared.items.Record.{Record}
+use Rattle.vub_run.specs.LegalRuns.{IsLegalRun}
 use Rattle.vublk.specs.declared.words.Command.{Command}
 use Rattle.vublk.specs.declared.words.Command.TheVariants.{Replay, Entries}
 use Rattle.vublk.specs.Flows.{Wrote, WrotePart}

@@ -4,9 +4,9 @@ use Rattle.std.specs.Fmt.{decimal}
 use Rattle.vub_schedule.specs.declared.types.Schedule.{Schedule}
 use Rattle.vub_schedule.specs.Spelling.{IsSchedule, spelling}
 use Rattle.vub_schedule.specs.Faults.{IsFirstBad}
-use Rattle.vub_world.specs.declared.report.items.Record.{Record}
+use Rattle.vub_report.specs.declared.items.Record.{Record}
 use Rattle.vublk.specs.Flows.{TookAll, Wrote, WrotePart, IsPastLimit, input_limit}
-use Rattle.vub_world.specs.LegalRuns.{IsLegalRun}
+use Rattle.vub_run.specs.LegalRuns.{IsLegalRun}
 use Rattle.vublk.specs.Records.{written}
 use Rattle.vublk.specs.declared.words.Command.{Command}
 use Rattle.vublk.specs.declared.replay.End.{End}

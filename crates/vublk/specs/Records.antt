@@ -2,9 +2,9 @@
 use Rattle.std.specs.Prelude.{ℕ, List, []}
 use Rattle.std.specs.List.{flat_map}
 use Rattle.vub_base.specs.declared.header.Header1.{Header1}
-use Rattle.vub_world.specs.declared.report.items.Record.{Record}
-use Rattle.vub_world.specs.RecordText.{head_spelling, record_spelling, run_spelling, entries_spelling}
-use Rattle.vub_world.specs.Tracking.{entries_of, history_of}
+use Rattle.vub_report.specs.declared.items.Record.{Record}
+use Rattle.vub_report.specs.RecordText.{head_spelling, record_spelling, run_spelling, entries_spelling}
+use Rattle.vub_report.specs.Histories.{entries_of, history_of}
 use Rattle.vublk.specs.declared.words.Command.{Command}
 use Rattle.vublk.specs.declared.words.Command.TheVariants.{Replay, Entries}
 

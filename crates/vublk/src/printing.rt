@@ -3,8 +3,8 @@ ghost use Rattle.std.specs.Prelude.{◌≡◌, ◌≤◌, ◌++◌, [], List, �
 ghost use Rattle.std.specs.List.{AllByRecursion};
 ghost use Rattle.vub_base.specs.Causes.{Rose};
 ghost use Rattle.vub_schedule.specs.Spelling.{IsEvent};
-ghost use Rattle.vub_world.specs.declared.report.items.Record.{Record};
-ghost use Rattle.vub_world.specs.LegalRuns.{IsLegalRun};
+ghost use Rattle.vub_report.specs.declared.items.Record.{Record};
+ghost use Rattle.vub_run.specs.LegalRuns.{IsLegalRun};
 ghost use Rattle.vub_world.specs.MachineAt.{StandsFor, StandsOn};
 ghost use Rattle.vub_world.specs.World.{header_in};
 ghost use Rattle.vublk.specs.Flows.{Wrote, WrotePart};
@@ -15,7 +15,7 @@ use std::alloc::Global;
 use vub_base::{Header1, Memory, Sink};
 use vub_schedule::Event;
 use vub_world::World;
-use vub_world::report::{Record, head_text, put_entries, put_record};
+use vub_report::{Record, head_text, put_entries, put_record};
 
 /// Why a run stopped.
 #[derive(Clone, Copy, Debug, PartialEq, Eq)]

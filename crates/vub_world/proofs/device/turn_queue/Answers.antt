@@ -1,15 +1,15 @@
 use Rattle.std.proofs.Common.{◌≡◌, false, ap, subst, sym, refl, ◌∙◌, ℕ}
 use Rattle.std.specs.Prelude.{is_some}
-use Rattle.vub_ring.specs.Readiness.{is_ready}
-use Rattle.vub_ring.specs.declared.readiness.Standing.{Standing}
-use Rattle.vub_ring.specs.declared.readiness.Turn.{Turn}
-use Rattle.vub_ring.specs.declared.readiness.Turn.TheVariants as turns
+use Rattle.vub_steps.specs.Readiness.{is_ready}
+use Rattle.vub_steps.specs.declared.readiness.Standing.{Standing}
+use Rattle.vub_steps.specs.declared.readiness.Turn.{Turn}
+use Rattle.vub_steps.specs.declared.readiness.Turn.TheVariants as turns
 use Rattle.vub_shared.specs.Bytes.{Bytes}
 use Rattle.vub_shared.specs.Watched.{bytes_in, sizes_in}
-use Rattle.vub_world.specs.declared.queue.Stepped.{Stepped}
+use Rattle.vub_queue.specs.declared.queue.Stepped.{Stepped}
 use Rattle.vub_world.specs.MachineDevice.{Device, device, turn_here}
-use Rattle.vub_world.specs.Moments.{standing}
-use Rattle.vub_world.specs.QueueState.{QueueState, state_of, standing_at, waiting, turn_at, IsDue}
+use Rattle.vub_run.specs.Moments.{standing}
+use Rattle.vub_queue.specs.QueueState.{QueueState, state_of, standing_at, waiting, turn_at, IsDue}
 use Rattle.vub_world.proofs.MachineTurns.{DeviceDoes}
 use Rattle.vub_world.proofs.MachineTurnsWork.{RestsAt, device_turns, work_asked}
 use Rattle.vub_world.proofs.MachineTurnsNext.{IsAsHere, as_here, reached_plain, reached_holds, never_fails, served_is, turn_same}

@@ -1,5 +1,5 @@
 use Rattle.std.proofs.Common.{◌≡◌, ◌≤◌, List, take}
-use Rattle.vub_world.specs.declared.report.items.Record.{Record}
+use Rattle.vub_report.specs.declared.items.Record.{Record}
 use Rattle.vub_world.specs.World.{header_in}
 use Rattle.vublk.specs.Flows.{Wrote}
 use Rattle.vublk.specs.Records.{records_text}

@@ -2,7 +2,7 @@ use Rattle.std.proofs.Common.{◌≡◌, ℕ, List, length, subst, sym, ap, ◌�
 use Rattle.std.proofs.lemmas.List.{with_items_is, places}
 use Rattle.std.specs.Prelude.{Option, Some}
 use Rattle.vub_driver.specs.Drivers.{owned_by}
-use Rattle.vub_guest.specs.GuestChain.{descriptors, IsOwned}
+use Rattle.vub_driver.specs.GuestChain.{descriptors, IsOwned}
 use Rattle.vub_guest.specs.declared.guest.Pending.{Pending}
 use Rattle.vub_guest.specs.declared.guest.Stage.TheVariants.{Header}
 use Rattle.vub_guest.specs.GuestStores.{links_of}

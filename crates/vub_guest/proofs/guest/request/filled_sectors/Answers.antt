@@ -1,7 +1,8 @@
 use Rattle.std.proofs.Common.{◌≡◌, ◌≤◌, ◌+◌, ◌*◌, ◌++◌, length, take, get_or, arith, ap, ◌∙◌}
 use Rattle.std.proofs.lemmas.List.{length-take}
 use Rattle.std.specs.Prelude.{replicate}
-use Rattle.vub_guest.proofs.RequestLemmas.{of_ok, flat_map-more, length-fills}
+use Rattle.vub_guest.proofs.RequestLemmas.{of_ok, flat_map-more}
+use Rattle.vub_driver.proofs.FillLemmas.{length-fills}
 use Rattle.vub_guest.proofs.guest.request.filled_sectors.Goals as goal
 
 pub loop-fill-preserved : goal.loop-fill-preserved

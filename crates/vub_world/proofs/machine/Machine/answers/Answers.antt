@@ -1,9 +1,9 @@
 use Rattle.std.proofs.Common.{◌≡◌, ap, ◌∙◌, subst, refl, rules, Some}
 use Rattle.std.specs.Prelude.{Option}
 use Rattle.vub_world.specs.declared.machine.Life.{Life}
-use Rattle.vub_world.specs.declared.queue.Queue.{Queue}
+use Rattle.vub_queue.specs.declared.queue.Queue.{Queue}
 use Rattle.vub_world.specs.MachineDevice.{BatchFits, ShowsSome, QueueShowsSome, batch_in, queue_batch, queue_shows, shown_in}
-use Rattle.vub_world.specs.QueueState.{state_of}
+use Rattle.vub_queue.specs.QueueState.{state_of}
 use Rattle.vub_world.proofs.MachineNotes.{spends_up}
 use Rattle.vub_world.proofs.machine.Machine.answers.Goals as goal
 

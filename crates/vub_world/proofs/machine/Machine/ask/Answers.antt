@@ -3,9 +3,9 @@ use Rattle.std.specs.Prelude.{Some, Result, Ok, Err, OnErr}
 use Rattle.vub_base.specs.declared.request.Ask.{Ask}
 use Rattle.vub_guest.specs.declared.guest.Guest.{Guest}
 use Rattle.vub_world.specs.declared.machine.Machine.{Machine}
-use Rattle.vub_world.specs.declared.report.items.Item.{Item}
+use Rattle.vub_report.specs.declared.items.Item.{Item}
 use Rattle.vub_world.specs.MachineAt.{MachineAt}
-use Rattle.vub_world.specs.Run.{played}
+use Rattle.vub_run.specs.Run.{played}
 use Rattle.vub_world.proofs.MachineGuestAsks.{ask_performs}
 use Rattle.vub_world.proofs.machine.Machine.ask.Goals as goal
 

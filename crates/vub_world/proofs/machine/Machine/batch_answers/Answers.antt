@@ -3,8 +3,8 @@ use Rattle.vub_shared.specs.Watched.{bytes_in}
 use Rattle.vub_device.specs.declared.entry.Answered.{Answered}
 use Rattle.vub_world.specs.Logs.{slot_in}
 use Rattle.vub_world.specs.MachineDevice.{answer_for, answers_for}
-use Rattle.vub_world.specs.Rooms.{SpendsAnswers, RoomState}
-use Rattle.vub_world.specs.QueueState.{state_of}
+use Rattle.vub_room.specs.Rooms.{SpendsAnswers, RoomState}
+use Rattle.vub_queue.specs.QueueState.{state_of}
 use Rattle.vub_world.proofs.MachineNotes.{head_of, no_head, answers_more, spends_more}
 use Rattle.vub_world.proofs.machine.Machine.batch_answers.Goals as goal
 use Rattle.vub_world.proofs.machine.Machine.batch_answers.Goals.{in-Some, in_default}

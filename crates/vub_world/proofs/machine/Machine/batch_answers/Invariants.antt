@@ -1,8 +1,8 @@
 use Rattle.std.proofs.Common.{◌≡◌, ◌≤◌, take, vec_capacity}
 use Rattle.vub_shared.specs.Watched.{bytes_in}
 use Rattle.vub_world.specs.MachineDevice.{answers_for}
-use Rattle.vub_world.specs.Rooms.{SpendsAnswers}
-use Rattle.vub_world.specs.QueueState.{state_of}
+use Rattle.vub_room.specs.Rooms.{SpendsAnswers}
+use Rattle.vub_queue.specs.QueueState.{state_of}
 use Rattle.vub_world.proofs.machine.Machine.batch_answers.Given as goal
 
 abbrev pub invariant-loop-element : goal.invariant-loop-element

@@ -7,13 +7,13 @@ use Rattle.vub_guest.specs.declared.guest.Collected.TheVariants as takes
 use Rattle.vub_world.specs.declared.log.Log.{Log}
 use Rattle.vub_world.specs.declared.log.Outstanding.{Outstanding}
 use Rattle.vub_world.specs.declared.machine.Machine.{Machine}
-use Rattle.vub_world.specs.declared.report.items.Item.{Item}
-use Rattle.vub_world.specs.declared.report.items.Item.TheVariants as items
+use Rattle.vub_report.specs.declared.items.Item.{Item}
+use Rattle.vub_report.specs.declared.items.Item.TheVariants as items
 use Rattle.vub_guest.specs.GuestState.{driver_in, seen_in, Shows, Collects}
 use Rattle.vub_world.specs.Logs.{slot_in}
 use Rattle.vub_world.specs.MachineAt.{MachineAt}
-use Rattle.vub_world.specs.Rooms.{RoomState}
-use Rattle.vub_world.specs.Run.{played}
+use Rattle.vub_room.specs.Rooms.{RoomState}
+use Rattle.vub_run.specs.Run.{played}
 use Rattle.vub_world.proofs.MachineGuestCollects.{TakesOne, none_performs, head_performs}
 use Rattle.vub_world.proofs.machine.Machine.collect.Goals.{in-Nothing, in-Head}
 use Rattle.vub_world.proofs.machine.Machine.collect.Goals as goal

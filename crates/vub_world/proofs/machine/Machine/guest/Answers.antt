@@ -3,13 +3,13 @@ use Rattle.std.proofs.lemmas.Bool.{cases_lt}
 use Rattle.std.specs.Prelude.{Option, Some, None, is_some, not}
 use Rattle.vub_base.specs.declared.request.Ask.{Ask}
 use Rattle.vub_driver.specs.Drivers.{Driver, Waiting}
-use Rattle.vub_world.specs.declared.report.items.Item.{Item}
+use Rattle.vub_report.specs.declared.items.Item.{Item}
 use Rattle.vub_world.specs.declared.machine.Machine.{Machine}
 use Rattle.vub_guest.specs.GuestState.{driver_in}
 use Rattle.vub_world.specs.MachineAt.{AskAt, MachineAt}
 use Rattle.vub_world.specs.MachineFront.{GuestGoes}
-use Rattle.vub_world.specs.Moments.{Moment}
-use Rattle.vub_world.specs.Run.{played, guest}
+use Rattle.vub_run.specs.Moments.{Moment}
+use Rattle.vub_run.specs.Run.{played, guest}
 use Rattle.vub_world.proofs.MachineGuestFits.{front_fits}
 use Rattle.vub_world.proofs.MachineGuestOffers.{guest_performs}
 use Rattle.vub_guest.proofs.GuestLemmas.{left_few, left_some}

@@ -1,7 +1,7 @@
 use Rattle.std.proofs.Common.{◌≡◌, sym, ◌∙◌, true, false, not, Bool, ◌+◌, ℕ, subst}
-use Rattle.vub_ring.specs.declared.readiness.Turn.{Turn}
+use Rattle.vub_steps.specs.declared.readiness.Turn.{Turn}
 use Rattle.vub_world.specs.declared.machine.Machine.{Machine}
-use Rattle.vub_world.specs.declared.queue.Stepped.{Stepped}
+use Rattle.vub_queue.specs.declared.queue.Stepped.{Stepped}
 use Rattle.vub_world.specs.Choices.{next_turn}
 use Rattle.vub_world.specs.MachineDevice.{accepts, turn_here}
 use Rattle.vub_world.specs.MachineSteps.{StepGoes}

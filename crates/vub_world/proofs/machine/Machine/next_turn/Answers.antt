@@ -1,7 +1,7 @@
 use Rattle.std.proofs.Common.{rules, ◌≡◌, ap, sym, ◌∙◌, subst, Some, true, false}
 use Rattle.vub_world.specs.declared.machine.Machine.{Machine}
-use Rattle.vub_world.specs.declared.queue.Queue.{Queue}
-use Rattle.vub_world.specs.QueueState.{state_of}
+use Rattle.vub_queue.specs.declared.queue.Queue.{Queue}
+use Rattle.vub_queue.specs.QueueState.{state_of}
 use Rattle.vub_world.proofs.MachineTurnsNext.{reached_holds, choice_same}
 use Rattle.vub_world.proofs.MachineTurnsAt.{with_queue, has_no_queue, HasQueue, life_at, none_attached}
 use Rattle.vub_world.proofs.machine.Machine.next_turn.Goals as goal

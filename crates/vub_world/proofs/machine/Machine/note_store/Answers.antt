@@ -3,7 +3,7 @@ use Rattle.std.specs.Prelude.{◌==◌}
 use Rattle.vub_base.specs.declared.store.Area.TheVariants.{M}
 use Rattle.vub_shared.specs.Stores.{Store, one_store}
 use Rattle.vub_shared.specs.Watched.{stores_in}
-use Rattle.vub_world.specs.Rooms.{RoomState}
+use Rattle.vub_room.specs.Rooms.{RoomState}
 use Rattle.vub_world.proofs.MachineNotes.{one_of, one_noted}
 use Rattle.vub_world.proofs.machine.Machine.note_store.Goals as goal
 use Rattle.vub_world.proofs.machine.Machine.note_store.Goals.{then-eq, else-eq}

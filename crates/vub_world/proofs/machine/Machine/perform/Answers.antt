@@ -1,5 +1,5 @@
 use Rattle.std.proofs.Common.{sym, subst}
-use Rattle.vub_world.specs.declared.report.items.Record.{Record}
+use Rattle.vub_report.specs.declared.items.Record.{Record}
 use Rattle.vub_world.specs.MachineAt.{StandsOn}
 use Rattle.vub_world.proofs.MachineEvents.{with_record, stands_on, standing_on}
 use Rattle.vub_world.proofs.machine.Machine.perform.Goals as goal

@@ -1,8 +1,8 @@
 use Rattle.std.proofs.Common.{[], List, ap, ◌∙◌, sym, subst, Bool, ℕ, ◌≤◌}
 use Rattle.vub_world.specs.declared.machine.Machine.{Machine}
-use Rattle.vub_world.specs.declared.report.items.Item.{Item}
+use Rattle.vub_report.specs.declared.items.Item.{Item}
 use Rattle.vub_world.specs.MachineSteps.{TurnsGo}
-use Rattle.vub_world.specs.Rooms.{RoomState}
+use Rattle.vub_room.specs.Rooms.{RoomState}
 use Rattle.vub_world.proofs.MachineTurnEvents.{standing_few, several_idle, several_made}
 use Rattle.vub_world.proofs.machine.Machine.several.Goals.{then-not-turns, else-not-turns}
 use Rattle.vub_world.proofs.machine.Machine.several.Goals as goal

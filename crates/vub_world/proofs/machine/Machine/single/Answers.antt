@@ -1,12 +1,12 @@
 use Rattle.std.proofs.Common.{[], List, ap, ◌∙◌, sym, subst, Bool, not, ℕ, ◌≤◌, ◌+◌, ◌*◌, min}
-use Rattle.vub_ring.specs.declared.readiness.Turn.{Turn}
+use Rattle.vub_steps.specs.declared.readiness.Turn.{Turn}
 use Rattle.vub_world.specs.declared.machine.Machine.{Machine}
-use Rattle.vub_world.specs.declared.queue.Stepped.{Stepped}
-use Rattle.vub_world.specs.declared.report.items.Item.{Item}
+use Rattle.vub_queue.specs.declared.queue.Stepped.{Stepped}
+use Rattle.vub_report.specs.declared.items.Item.{Item}
 use Rattle.vub_world.specs.MachineDevice.{accepts, turn_here}
 use Rattle.vub_world.specs.MachineSteps.{StepGoes}
-use Rattle.vub_world.specs.QueueState.{is_idle}
-use Rattle.vub_world.specs.Rooms.{RoomState, HasRoom}
+use Rattle.vub_queue.specs.QueueState.{is_idle}
+use Rattle.vub_room.specs.Rooms.{RoomState, HasRoom}
 use Rattle.vub_world.proofs.MachineTurnEvents.{standing_few, single_room, standing_reached, reached_now, single_idle, single_made}
 use Rattle.vub_world.proofs.machine.Machine.single.Goals.{then-is_idle, else-is_idle}
 use Rattle.vub_world.proofs.machine.Machine.single.Goals as goal

@@ -1,12 +1,12 @@
 use Rattle.std.proofs.Common.{◌≡◌, ap, sym, ◌∙◌, subst, true, false, not, Bool, ◌++◌}
 use Rattle.vub_memdisk.specs.MemDisks.{values_of}
-use Rattle.vub_ring.specs.declared.readiness.Turn.{Turn}
+use Rattle.vub_steps.specs.declared.readiness.Turn.{Turn}
 use Rattle.vub_shared.specs.Watched.{stores_in}
 use Rattle.vub_world.specs.declared.machine.Machine.{Machine}
-use Rattle.vub_world.specs.declared.queue.Stepped.{Stepped}
+use Rattle.vub_queue.specs.declared.queue.Stepped.{Stepped}
 use Rattle.vub_world.specs.MachineDevice.{noted, shown_in, accepts, turn_here}
 use Rattle.vub_world.specs.MachineSteps.{StepGoes}
-use Rattle.vub_world.specs.QueueState.{is_idle}
+use Rattle.vub_queue.specs.QueueState.{is_idle}
 use Rattle.vub_world.proofs.MachineBatches.{batch_fits, shows_some}
 use Rattle.vub_world.proofs.MachineTurnsNext.{reached_plain, reached_holds}
 use Rattle.vub_world.proofs.MachineTurnsSteps.{same_items, step_ends, step_made}

@@ -1,6 +1,6 @@
 use Rattle.std.proofs.Common.{◌≡◌, ap, sym, ◌∙◌, subst, Some}
 use Rattle.vub_world.specs.declared.machine.Machine.{Machine}
-use Rattle.vub_world.specs.declared.queue.Queue.{Queue}
+use Rattle.vub_queue.specs.declared.queue.Queue.{Queue}
 use Rattle.vub_world.specs.MachineDevice.{turn_here}
 use Rattle.vub_world.proofs.MachineTurnsNext.{reached_holds}
 use Rattle.vub_world.proofs.MachineTurnsAt.{with_queue, has_no_queue, HasQueue, turn_goes, turn_none, queue_lies_still, kept_room, kept_bytes}

@@ -1,10 +1,10 @@
 use Rattle.std.proofs.Common.{◌≡◌, List}
 use Rattle.vub_schedule.specs.declared.types.Event.{Event}
-use Rattle.vub_world.specs.declared.report.items.Record.{Record}
+use Rattle.vub_report.specs.declared.items.Record.{Record}
 use Rattle.vub_world.specs.Machine.{IsSound}
 use Rattle.vub_world.specs.MachineAt.{MachineAt}
-use Rattle.vub_world.specs.Moments.{Moment}
-use Rattle.vub_world.specs.Run.{Stands}
+use Rattle.vub_run.specs.Moments.{Moment}
+use Rattle.vub_run.specs.Run.{Stands}
 use Rattle.vub_world.proofs.MachineLoops.{TurnsAt, room_of}
 use Rattle.vub_world.proofs.machine.Machine.turns.Given as goal
 

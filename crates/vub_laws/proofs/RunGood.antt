@@ -1,0 +1,232 @@
+-- What holds of queue 0 at every moment of a run, part by part.
+use Rattle.std.proofs.Common.{◌≡◌, ◌≢◌, ◌≤◌, ◌<◌, ◌⊎◌, ℕ, ◌+◌, ◌*◌, ◌/◌, ◌%◌, Bool, true, false, List, [], ◌∷◌, ◌++◌, length, take}
+use Rattle.std.specs.Prelude.{Option, Some, None, slice_index, ⊤}
+use Rattle.std.specs.Int.{◌∣◌}
+use Rattle.std.specs.List.{AllByRecursion}
+use Rattle.vub_base.specs.declared.header.Header1.{Header1}
+use Rattle.vub_shared.specs.Bytes.{Bytes, word}
+use Rattle.byteorder.specs.Endian.{little_bytes}
+use Rattle.vub_shared.specs.Stores.{Store, one_store}
+use Rattle.vub_steps.specs.declared.steps.Phase.{Phase}
+use Rattle.vub_steps.specs.declared.steps.Phase.TheVariants as phases
+use Rattle.vub_ring.specs.Ring.{Ring, avail_idx, avail_idx_place, used_idx, head_at, element_at, used_id_place, used_len_place}
+use Rattle.vub_driver.specs.Layout.{ring_of, area_place, buffer_place, status_place, sectors_place}
+use Rattle.vub_driver.specs.Drivers.{Driver, Waiting}
+use Rattle.vub_driver.specs.Stores.{offer_stores}
+use Rattle.vub_device.specs.declared.entry.Answered.{Answered}
+use Rattle.vub_device.specs.declared.entry.Asked.{Asked}
+use Rattle.vub_device.specs.declared.entry.Asked.TheVariants as asks
+use Rattle.vub_device.specs.declared.entry.Entry.{Entry}
+use Rattle.vub_device.specs.Crash.{value}
+use Rattle.vub_device.specs.Past.{offers, asked, accepted, published, collected, is_among, IsOpen, started, looks, seen, acts, synced, faulted}
+use Rattle.vub_device.specs.Places.{are_distinct}
+use Rattle.vub_run.specs.Memory.{Scene}
+use Rattle.vub_run.specs.Moments.{Lane, Moment}
+use Rattle.vub_run.specs.Run.{request_of}
+use Rattle.vub_run.specs.Tracking.{answers, answered_len}
+
+abbrev pub the_ring : ℕ → Ring
+the_ring n = ring_of 0 n
+
+-- a size of a ring
+pub record IsSize (n : ℕ) : Type 0 where
+  pub some : 0 < n
+  pub small : n ≤ 64
+  pub laps : n ∣ 65536
+
+-- ---- the history
+
+-- one to eight sectors are read, up to the end of the disk
+pub record IsWideRead (cap s c : ℕ) : Type 0 where
+  pub fits : s + c ≤ cap
+  pub some : 0 < c
+  pub few : c ≤ 8
+
+-- one to eight sectors are written, up to the end of the disk
+pub record IsWideWrite (cap s : ℕ) (bytes : List ℕ) : Type 0 where
+  pub fits : s + length bytes / 512 ≤ cap
+  pub whole : length bytes % 512 ≡ 0
+  pub some : 512 ≤ length bytes
+  pub few : length bytes ≤ 4096
+
+-- one to eight sectors of the disk are read or written, or all is made stable
+abbrev pub IsWide : ℕ → Option Asked → Type 0
+IsWide cap (Some (asks.Read s c)) = IsWideRead cap s c
+IsWide cap (Some (asks.Write s bytes)) = IsWideWrite cap s bytes
+IsWide cap (Some asks.Flush) = ⊤
+IsWide cap r = ⊥
+
+pub record Known (n cap : ℕ) (past : List Entry) (heads : List ℕ) : Type 0 where
+  pub offers_are : length heads ≡ offers past 0
+  pub offered : accepted past 0 ≤ length heads
+  pub distinct : are_distinct (published past 0) ≡ true
+  pub below : (k : ℕ) → is_among (published past 0) k ≡ true → k < accepted past 0
+  pub shown : collected past 0 ≤ length (published past 0)
+  pub fewer : length (published past 0) ≤ accepted past 0
+  pub room : length heads ≤ n + collected past 0
+  pub good : AllByRecursion (λ (a : Answered). a.status ≡ 0) (answers past 0)
+  pub wide : (k : ℕ) → k < length heads → IsWide cap (asked past 0 k)
+  pub unfaulted : (k : ℕ) → faulted past 0 k ≡ false
+  pub values : (s : ℕ) → length (value past s) ≡ 512
+
+-- ---- the ring
+
+-- the used element of a number that succeeded
+abbrev pub spot : List ℕ → List Entry → ℕ → ℕ × ℕ
+spot heads past k = (slice_index heads k, answered_len 0 (asked past 0 k))
+
+pub record Ringed (n base : ℕ) (past : List Entry) (heads : List ℕ) (m : Bytes) : Type 0 where
+  pub avail_idx_is : avail_idx (the_ring n) m ≡ (base + length heads) % 65536
+  pub used_idx_is : used_idx (the_ring n) m ≡ (base + length (published past 0)) % 65536
+  pub avail_at : (i : ℕ) → accepted past 0 ≤ i → i < length heads → head_at (the_ring n) m (base + i) ≡ slice_index heads i
+  pub used_at : (i : ℕ) → collected past 0 ≤ i → i < length (published past 0) → element_at (the_ring n) m (base + i) ≡ spot heads past (slice_index (published past 0) i)
+
+-- ---- the driver
+
+-- offered and not collected
+pub record IsOut (past : List Entry) (heads : List ℕ) (k : ℕ) : Type 0 where
+  pub below : k < length heads
+  pub kept : is_among (take (collected past 0) (published past 0)) k ≡ false
+
+-- the store of avail.idx, which offers
+abbrev pub index_store : Ring → ℕ → Store
+index_store r index = one_store r.space (avail_idx_place r) (little_bytes 2 ((index + 1) % 65536))
+
+-- a store into the descriptor table, or into the buffer of that head
+pub record IsHarmless (head : ℕ) (st : Store) : Type 0 where
+  pub space : st.space ≡ 0
+  pub lies : (st.place + length st.bytes ≤ 4096) ⊎ ((65536 + 8192 * head ≤ st.place) × (st.place + length st.bytes ≤ 65536 + 8192 * head + 8192))
+
+-- the stores of a request up to its offer
+pub record IsPlan (n index head : ℕ) (left : List Store) : Type 0 where
+  pub first : List Store
+  pub few : length first ≤ 14
+  pub harmless : AllByRecursion (IsHarmless head) first
+  pub whole : left ≡ first ++ offer_stores (the_ring n) index head
+
+-- the store of avail.idx alone is left
+abbrev pub IsLast : ℕ → ℕ → List Store → Type 0
+IsLast n index left = left ≡ index_store (the_ring n) index ∷ []
+
+-- what is left of a request's stores: some before the offer's two and these, or the last alone
+abbrev pub IsLeft : ℕ → ℕ → ℕ → List Store → Type 0
+IsLeft n index head left = IsPlan n index head left ⊎ IsLast n index left
+
+pub record IsWaiting (n cap : ℕ) (past : List Entry) (heads : List ℕ) (v : Driver) (w : Waiting) : Type 0 where
+  pub wide : IsWide cap (Some (request_of w.ask))
+  pub below : w.head < n
+  pub mine : v.owner w.head ≡ Some w.head
+  pub apart : (k : ℕ) → IsOut past heads k → slice_index heads k ≢ w.head
+  pub plan : IsLeft n v.avail_idx w.head w.left
+
+abbrev pub WaitsWell : ℕ → ℕ → List Entry → List ℕ → Driver → Option Waiting → Type 0
+WaitsWell n cap past heads v None = ⊤
+WaitsWell n cap past heads v (Some w) = IsWaiting n cap past heads v w
+
+pub record Driven (n cap base : ℕ) (past : List Entry) (heads : List ℕ) (v : Driver) : Type 0 where
+  pub index : v.avail_idx ≡ (base + length heads) % 65536
+  pub below : (k : ℕ) → IsOut past heads k → slice_index heads k < n
+  pub owned : (k : ℕ) → IsOut past heads k → v.owner (slice_index heads k) ≡ Some (slice_index heads k)
+  pub apart : (j k : ℕ) → IsOut past heads j → IsOut past heads k → slice_index heads j ≡ slice_index heads k → j ≡ k
+  pub waits : WaitsWell n cap past heads v v.waiting
+
+-- where avail.idx alone is left to store, the entry before it names the head
+abbrev pub EntryWell : ℕ → ℕ → Bytes → Option Waiting → Type 0
+EntryWell n index m None = ⊤
+EntryWell n index m (Some w) = length w.left ≡ 1 → head_at (the_ring n) m index ≡ w.head
+
+-- ---- the device
+
+-- of c sectors so many were looked at in so many steps, a look and a store for each, and this was read
+pub record IsReadTo (c made looked : ℕ) (read : List ℕ) : Type 0 where
+  pub under : made ≤ 2 * c → looked ≡ (made + 1) / 2
+  pub whole : 2 * c ≤ made → looked ≡ c
+  pub long : length read ≡ 512 * looked
+
+-- of so many sectors so many were written in so many steps
+pub record IsWrittenTo (n made acted : ℕ) : Type 0 where
+  pub under : made ≤ n → acted ≡ made
+  pub whole : n ≤ made → acted ≡ n
+
+-- what the steps of a request have done
+abbrev pub IsBegun : ℕ → ℕ → ℕ → List ℕ → Bool → Option Asked → Type 0
+IsBegun made looked acted read stable (Some (asks.Read s c)) = IsReadTo c made looked read
+IsBegun made looked acted read stable (Some (asks.Write s bytes)) = IsWrittenTo (length bytes / 512) made acted
+IsBegun made looked acted read stable (Some asks.Flush) = stable ≡ true
+IsBegun made looked acted read stable r = ⊤
+
+pub record Progress (made looked acted : ℕ) (read : List ℕ) (stable : Bool) (r : Option Asked) : Type 0 where
+  pub fresh : made ≡ 0 → (looked ≡ 0) × ((acted ≡ 0) × ((read ≡ []) × (stable ≡ false)))
+  pub begun : 0 < made → IsBegun made looked acted read stable r
+
+-- all steps before the status were made
+abbrev pub IsFull : ℕ → Option Asked → Type 0
+IsFull made (Some (asks.Read s c)) = 2 * c ≤ made
+IsFull made (Some (asks.Write s bytes)) = length bytes / 512 ≤ made
+IsFull made (Some asks.Flush) = 1 ≤ made
+IsFull made r = ⊤
+
+-- a step is left
+abbrev pub IsPending : ℕ → Option Asked → Type 0
+IsPending made (Some (asks.Read s c)) = made ≤ 2 * c
+IsPending made (Some (asks.Write s bytes)) = made ≤ length bytes / 512
+IsPending made (Some asks.Flush) = made ≤ 1
+IsPending made r = ⊤
+
+abbrev pub PhaseIs : List ℕ → Phase → Type 0
+PhaseIs batch phases.Rest = batch ≡ []
+PhaseIs batch (phases.Publish done) = (0 < length batch) × (done < 2 * length batch + 1)
+PhaseIs batch phase = ⊥
+
+pub record Worked (past : List Entry) (phase : Phase) (batch completed : List ℕ) (made : ℕ → ℕ) : Type 0 where
+  pub distinct : are_distinct (completed ++ batch) ≡ true
+  pub opens : (k : ℕ) → is_among (completed ++ batch) k ≡ true → IsOpen past 0 k
+  pub untouched : (k : ℕ) → accepted past 0 ≤ k → made k ≡ 0
+  pub progress : (k : ℕ) → Progress (made k) (looks past 0 k) (acts past 0 k) (seen past 0 k) (synced past 0 k) (asked past 0 k)
+  pub full : (k : ℕ) → is_among (completed ++ batch) k ≡ true → IsFull (made k) (asked past 0 k)
+  pub pending : (k : ℕ) → IsOpen past 0 k → is_among (completed ++ batch) k ≡ false → IsPending (made k) (asked past 0 k)
+  pub quiet : started past 0 ≡ false → (phase ≡ phases.Rest) × ((completed ≡ []) × ((k : ℕ) → made k ≡ 0))
+  pub phase_is : PhaseIs batch phase
+
+-- ---- what stands in buffers
+
+abbrev pub buffer : List ℕ → ℕ → ℕ
+buffer heads k = buffer_place (area_place 0) (slice_index heads k)
+
+abbrev pub IsRead : Option Asked → Type 0
+IsRead (Some (asks.Read s c)) = ⊤
+IsRead r = ⊥
+
+-- a byte that was read and stored: within the buffer, within the sectors whose steps were made, and seen
+pub record IsKept (made read i : ℕ) : Type 0 where
+  pub small : i < 4096
+  pub put : i < 512 * (made / 2)
+  pub looked : i < read
+
+pub record Stored (past : List Entry) (heads : List ℕ) (m : Bytes) (batch completed : List ℕ) (made : ℕ → ℕ) : Type 0 where
+  pub sectors : (k i : ℕ) → IsOpen past 0 k → IsKept (made k) (length (seen past 0 k)) i → IsRead (asked past 0 k) → m 0 (sectors_place (buffer heads k) + i) ≡ slice_index (seen past 0 k) i
+  pub status : (k : ℕ) → is_among (completed ++ batch) k ≡ true → m 0 (status_place (buffer heads k)) ≡ 0
+
+-- ---- what stands in the used ring of a publication under way
+
+pub record IsBuilt (n base : ℕ) (past : List Entry) (heads : List ℕ) (m : Bytes) (batch : List ℕ) (done : ℕ) : Type 0 where
+  pub ids : (e : ℕ) → e < length batch → 2 * e < done → word 4 m 0 (used_id_place (the_ring n) (base + length (published past 0) + e)) ≡ slice_index heads (slice_index batch e)
+  pub lens : (e : ℕ) → e < length batch → 2 * e + 1 < done → word 4 m 0 (used_len_place (the_ring n) (base + length (published past 0) + e)) ≡ answered_len 0 (asked past 0 (slice_index batch e))
+
+abbrev pub Built : ℕ → ℕ → List Entry → List ℕ → Bytes → List ℕ → Phase → Type 0
+Built n base past heads m batch (phases.Publish done) = IsBuilt n base past heads m batch done
+Built n base past heads m batch phase = ⊤
+
+-- ---- all of it
+
+pub record Holds (h : Header1) (s : Scene) (l : Lane) : Type 0 where
+  pub known : Known h.size h.capacity s.past (s.heads 0)
+  pub ringed : Ringed h.size h.base s.past (s.heads 0) s.memory
+  pub driven : Driven h.size h.capacity h.base s.past (s.heads 0) l.driver
+  pub worked : Worked s.past l.phase l.batch l.completed l.made
+  pub stored : Stored s.past (s.heads 0) s.memory l.batch l.completed l.made
+  pub built : Built h.size h.base s.past (s.heads 0) s.memory l.batch l.phase
+
+-- the entry of the next offer, at a moment
+abbrev pub EntryStands : Header1 → Moment → Type 0
+EntryStands h m = EntryWell h.size (h.base + length (m.scene.heads 0)) m.scene.memory (m.lanes 0).driver.waiting

@@ -1,0 +1,67 @@
+-- Items one after another.
+use Rattle.std.proofs.Common.{◌≡◌, ℕ, List, [], ◌∷◌, ◌++◌, refl, ap, ◌∙◌, inl, inr}
+use Rattle.vub_base.specs.declared.header.CacheMode.{CacheMode}
+use Rattle.vub_device.specs.declared.entry.Entry.{Entry}
+use Rattle.vub_device.specs.declared.entry.Entry.TheVariants as entries
+use Rattle.vub_device.specs.Legal.{LegalFrom, after}
+use Rattle.vub_report.specs.declared.items.Item.{Item}
+use Rattle.vub_report.specs.declared.items.Item.TheVariants as items
+use Rattle.vub_run.specs.Memory.{Scene, after_item, after_items}
+use Rattle.vub_run.specs.Tracking.{GoesOn, AfterEach}
+use Rattle.vub_report.specs.Histories.{entries_of}
+
+goes_on-append : (i : Item) (is js : List Item) → GoesOn i is → GoesOn i (is ++ js)
+goes_on-append (items.Store tag area place bytes) [] js g = absurd g
+goes_on-append (items.Store tag area place bytes) (items.Made (entries.Offer q r) ∷ is) js g = tt
+goes_on-append (items.Store tag area place bytes) (items.Made (entries.Publish q list) ∷ is) js g = tt
+goes_on-append (items.Store tag area place bytes) (items.Made (entries.Accept q k) ∷ is) js g = absurd g
+goes_on-append (items.Store tag area place bytes) (items.Made (entries.Look q k s v) ∷ is) js g = absurd g
+goes_on-append (items.Store tag area place bytes) (items.Made (entries.Act q k s v) ∷ is) js g = absurd g
+goes_on-append (items.Store tag area place bytes) (items.Made (entries.Sync q k) ∷ is) js g = absurd g
+goes_on-append (items.Store tag area place bytes) (items.Made (entries.Fault q k) ∷ is) js g = absurd g
+goes_on-append (items.Store tag area place bytes) (items.Made entries.Kill ∷ is) js g = absurd g
+goes_on-append (items.Store tag area place bytes) (items.Made (entries.Start q list) ∷ is) js g = absurd g
+goes_on-append (items.Store tag area place bytes) (items.Made (entries.Collect q k) ∷ is) js g = absurd g
+goes_on-append (items.Store tag area place bytes) (items.Made (entries.Power image) ∷ is) js g = absurd g
+goes_on-append (items.Store tag area place bytes) (items.Store t a p b ∷ is) js g = absurd g
+goes_on-append (items.Store tag area place bytes) (items.Idle ∷ is) js g = absurd g
+goes_on-append (items.Made e) is js g = absurd g
+goes_on-append items.Idle is js g = absurd g
+
+pub after-append : (size : ℕ) (xs ys : List Item) (s : Scene) → after_items size (xs ++ ys) s ≡ after_items size ys (after_items size xs s)
+after-append size [] ys s = refl
+after-append size (x ∷ xs) ys s = after-append size xs ys (after_item size x s)
+
+pub each-append : (size : ℕ) (P : Scene → Type 0) (s : Scene) (xs ys : List Item) → AfterEach size P s xs → AfterEach size P (after_items size xs s) ys → AfterEach size P s (xs ++ ys)
+each-append size P s [] ys p q = q
+each-append size P s (x ∷ xs) ys p q = (
+  elim p.0 [
+    | inl goes ↦ inl (goes_on-append x xs ys goes)
+    | inr holds ↦ inr holds
+  ],
+  each-append size P (after_item size x s) xs ys p.1 q,
+)
+
+pub legal-append : (capacity : ℕ) (mode : CacheMode) (past es fs : List Entry) → LegalFrom capacity mode past es → LegalFrom capacity mode (after past es) fs → LegalFrom capacity mode past (es ++ fs)
+legal-append capacity mode past [] fs p q = q
+legal-append capacity mode past (e ∷ es) fs p q = (p.0, legal-append capacity mode (e ∷ past) es fs p.1 q)
+
+entry_past : (size : ℕ) (e : Entry) (s : Scene) → (after_item size (items.Made e) s).past ≡ e ∷ s.past
+entry_past size (entries.Offer q r) s = refl
+entry_past size (entries.Accept q k) s = refl
+entry_past size (entries.Look q k t v) s = refl
+entry_past size (entries.Act q k t v) s = refl
+entry_past size (entries.Sync q k) s = refl
+entry_past size (entries.Fault q k) s = refl
+entry_past size (entries.Publish q list) s = refl
+entry_past size entries.Kill s = refl
+entry_past size (entries.Start q list) s = refl
+entry_past size (entries.Collect q k) s = refl
+entry_past size (entries.Power image) s = refl
+
+-- the past of a scene is that of its entries
+pub past_after : (size : ℕ) (is : List Item) (s : Scene) → (after_items size is s).past ≡ after s.past (entries_of is)
+past_after size [] s = refl
+past_after size (items.Made e ∷ is) s = past_after size is (after_item size (items.Made e) s) ∙ ap (λ (past : List Entry). after past (entries_of is)) (entry_past size e s)
+past_after size (items.Store tag area place bytes ∷ is) s = past_after size is (after_item size (items.Store tag area place bytes) s)
+past_after size (items.Idle ∷ is) s = past_after size is s

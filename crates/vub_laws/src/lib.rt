@@ -1,0 +1,6 @@
+//! Laws of all runs.
+#![tactic(auto)]
+
+mod laws;
+
+pub use laws::{every_drain_ends, every_open_request_is_meant, every_run_is_legal, every_schedule_runs};

@@ -1,0 +1,14 @@
+use Rattle.vub_queue.specs.QueueState.{QueueState, state_of, WorksOut}
+use Rattle.vub_queue.proofs.QueueLemmas.{runs_on, rests_on, stepped_map}
+use Rattle.vub_queue.proofs.queue.Queue.turn.Goals as goal
+
+pub returns-clause-made : goal.returns-clause-made
+returns-clause-made g c place task n runs m told turn due =
+    let out : QueueState → Type 0 = λ t. WorksOut place task n m (g.M.Shared.told c.step_of-stepped.new.mem) (g.M.Shared.trail c.args.mem.now) (g.M.Shared.trail c.step_of-stepped.new.mem) (g.D.Disk.values c.args.disk.now) (g.D.Disk.values c.step_of-stepped.new.disk) c.step_of-stepped.result (state_of c.args.self.now) t in
+    let u : QueueState = state_of c.step_of-stepped.new.self in
+    let t : QueueState = state_of c.halt.new.self in
+    stepped_map (out u) (out t) c.step_of-stepped.result (runs_on place task n m _ _ _ _ _ c.step_of-stepped.result (state_of c.args.self.now) u t c.halt.ensures.state) (c.step_of-stepped.ensures.made place task n m told turn due)
+
+pub returns-clause-rests : goal.returns-clause-rests
+returns-clause-rests g c waiting place runs turn unready =
+    rests_on _ _ _ _ _ _ c.step_of-stepped.result (state_of c.args.self.now) (state_of c.step_of-stepped.new.self) (state_of c.halt.new.self) c.halt.ensures.state (c.step_of-stepped.ensures.rests waiting place turn unready)

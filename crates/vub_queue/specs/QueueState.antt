@@ -1,0 +1,387 @@
+-- The state of the device's side of one queue, and what its own steps make of it.
+use Rattle.std.specs.Prelude.{◌≡◌, ◌⊎◌, ◌<◌, ◌≤◌, ℕ, ◌+◌, ◌%◌, Bool, true, false, not, if◌then◌else◌, List, [], ◌∷◌, ◌++◌, length, map, take, drop, set, replicate, remove, slice_get, get_or, Option, Some, None, option_map, Result, Ok, Err, ⊤}
+use Rattle.vub_base.specs.declared.ring_fault.RingFault.{RingFault}
+use Rattle.vub_base.specs.declared.ring_fault.RingFault.TheVariants as faults
+use Rattle.vub_base.specs.declared.store.Tag.TheVariants.{SP5}
+use Rattle.vub_base.specs.Told.{WhereTold}
+use Rattle.vub_shared.specs.Bytes.{Bytes}
+use Rattle.vub_shared.specs.Stores.{Store, Stores, Trails}
+use Rattle.vub_disk.specs.Values.{Values}
+use Rattle.vub_steps.specs.declared.steps.Phase.{Phase}
+use Rattle.vub_steps.specs.declared.steps.Phase.TheVariants as phases
+use Rattle.vub_steps.specs.declared.steps.Step.{Step}
+use Rattle.vub_steps.specs.declared.readiness.Standing.{Standing}
+use Rattle.vub_steps.specs.declared.readiness.Turn.{Turn}
+use Rattle.vub_steps.specs.declared.readiness.Turn.TheVariants.{Start, Fetch, Work, Publish}
+use Rattle.vub_ring.specs.Ring.{ahead}
+use Rattle.vub_steps.specs.Rows.{Row, row_of}
+use Rattle.vub_steps.specs.Steps.{next_step, after_step}
+use Rattle.vub_steps.specs.Readiness.{is_ready, is_publication, any_turn}
+use Rattle.vub_split.specs.declared.split.SplitRing.{SplitRing}
+use Rattle.vub_split.specs.Split.{avail_idx_word, head_word, used_side}
+use Rattle.vub_task.specs.declared.task.Task.{Task}
+use Rattle.vub_task.specs.declared.task.TaskStep as made
+use Rattle.vub_task.specs.declared.task.TaskStep.TheVariants as answers
+use Rattle.vub_steps.specs.Tasks as Tasks
+use Rattle.vub_steps.specs.Tasks.{Status, status_of, used_len}
+use Rattle.vub_task.specs.TaskState.{Making, IsNext, IsReady, HasMade, LooksAt, GainsOne, fresh_task, answer_in, memory_after, values_after, store_in, with_maybe}
+use Rattle.vub_queue.specs.QueueParts.{element, is_taken, without_heads}
+use Rattle.vub_queue.specs.declared.queue.Stop.{Stop}
+use Rattle.vub_queue.specs.declared.queue.Stop.TheVariants as stops
+use Rattle.vub_queue.specs.declared.queue.Stepped.{Stepped}
+use Rattle.vub_queue.specs.declared.queue.Stepped.TheVariants as says
+use Rattle.vub_queue.specs.declared.queue.Turn as asked
+use Rattle.vub_queue.specs.declared.queue.Turn.TheVariants as asks
+use Rattle.vub_queue.specs.declared.queue.Queue.{Queue}
+
+pub record QueueState : Type 0 where
+  pub ring : SplitRing
+  pub started : Bool
+  pub stopped : Option Stop
+  -- the index of the avail entry that is fetched next
+  pub avail : ℕ
+  -- used.idx as it stands in the ring
+  pub used : ℕ
+  -- the requests that aren't completed, in the order in which they were accepted
+  pub unfinished : List Task
+  -- head and used length of those that are completed and in no batch, in the order in which they were completed
+  pub completed : List (ℕ × ℕ)
+  -- and of those that are being published
+  pub batch : List (ℕ × ℕ)
+  pub phase : Phase
+  -- whether each head is accepted and not published
+  pub taken : List Bool
+  -- the sector on its way for each head
+  pub sectors : List (List ℕ)
+
+abbrev pub state_of : Queue → QueueState
+state_of q = record {
+  ring = q.ring;
+  started = q.started;
+  stopped = q.stopped;
+  avail = q.avail;
+  used = q.used;
+  unfinished = q.unfinished.items;
+  completed = map element (drop q.batch q.completed.items);
+  batch = map element (take q.batch q.completed.items);
+  phase = q.phase;
+  taken = q.taken.items;
+  sectors = q.sectors.items;
+}
+
+-- a queue that isn't started, whose rings begin at this index; nothing is said of its sectors
+abbrev pub new_state : SplitRing → ℕ → List (List ℕ) → QueueState
+new_state ring base sectors = record {
+  ring = ring;
+  started = false;
+  stopped = None;
+  avail = base;
+  used = base;
+  unfinished = [];
+  completed = [];
+  batch = [];
+  phase = phases.Rest;
+  taken = replicate ring.size false;
+  sectors = sectors;
+}
+
+pub record IsNew (ring : SplitRing) (base : ℕ) (s : QueueState) : Type 0 where
+  pub sectors : List (List ℕ)
+  pub is : s ≡ new_state ring base sectors
+  pub buffers : length sectors ≡ ring.size
+
+-- how many requests wait in the avail ring
+abbrev pub waiting : QueueState → Bytes → ℕ
+waiting s m = ahead (avail_idx_word s.ring m) s.avail
+
+-- what its readiness depends on, where so many requests wait
+abbrev pub standing_at : QueueState → ℕ → Standing
+standing_at s waiting = record { started = s.started; phase = s.phase; waiting = waiting; unfinished = length s.unfinished; completed = length s.completed }
+
+-- ---- the start
+
+abbrev pub started_from : QueueState → Stepped
+started_from s = if s.started then says.Idle else says.Started
+
+-- ---- a fetch
+
+-- some requests wait, and no more than the ring has places
+pub record SomeWait (s : QueueState) (m : Bytes) : Type 0 where
+  pub some : 1 ≤ waiting s m
+  pub few : waiting s m ≤ s.ring.size
+
+-- the avail ring breaks this rule
+abbrev pub BreaksBy : QueueState → Bytes → RingFault → Type 0
+BreaksBy s m (faults.Jump ahead) = (ahead ≡ waiting s m) × (s.ring.size < ahead)
+BreaksBy s m (faults.BadHead head) = SomeWait s m × (head ≡ head_word s.ring m s.avail) × (s.ring.size ≤ head)
+BreaksBy s m (faults.Twice head) = SomeWait s m × (head ≡ head_word s.ring m s.avail) × (head < s.ring.size) × (is_taken s.taken head ≡ true)
+BreaksBy s m fault = ⊥
+
+-- something waits, and the avail ring breaks a rule
+abbrev pub Breaks : QueueState → Bytes → RingFault → Type 0
+Breaks s m fault = (1 ≤ waiting s m) × BreaksBy s m fault
+
+-- what stands at the avail index: no head, a head that is free, or a break of a rule
+abbrev pub Finds : QueueState → Bytes → Result (Option ℕ) Stop → Type 0
+Finds s m (Ok None) = waiting s m ≡ 0
+Finds s m (Ok (Some head)) = SomeWait s m × (head ≡ head_word s.ring m s.avail) × (head < s.ring.size) × (is_taken s.taken head ≡ false)
+Finds s m (Err (stops.Broken fault)) = Breaks s m fault
+Finds s m (Err stops.Shared) = ⊤
+
+-- a head that is found lies in the table and is free
+abbrev pub IsFree : QueueState → Result (Option ℕ) Stop → Type 0
+IsFree s (Ok (Some head)) = (head < s.ring.size) × (is_taken s.taken head ≡ false)
+IsFree s x = ⊤
+
+abbrev pub found_outcome : Result (Option ℕ) Stop → Result (Unit {0}) (Unit {0})
+found_outcome (Err stops.Shared) = Err tt
+found_outcome x = Ok tt
+
+-- the request of a head is accepted
+abbrev pub accepted : ℕ → QueueState → QueueState
+accepted head s = record s { unfinished = s.unfinished ++ fresh_task head ∷ []; avail = (s.avail + 1) % 65536; taken = set s.taken head true }
+
+-- it isn't started, or publishes: no fetch is ready
+abbrev pub may_fetch : QueueState → Bool
+may_fetch s = if s.started then not (is_publication s.phase) else false
+
+-- what a fetch says, and the queue before and after it
+abbrev pub Fetches : Option Bytes → Stepped → QueueState → QueueState → Type 0
+Fetches told says.Idle s t = (t ≡ s) × WhereTold told (λ m. is_ready (standing_at s (waiting s m)) Fetch ≡ false)
+Fetches told (says.Accepted head) s t = (t ≡ accepted head s) × (may_fetch s ≡ true) × WhereTold told (λ m. Finds s m (Ok (Some head)))
+Fetches told (says.Broken fault) s t = (t ≡ s) × (may_fetch s ≡ true) × WhereTold told (λ m. Breaks s m fault)
+Fetches told says.SharedFault s t = (t ≡ s) × (may_fetch s ≡ true)
+Fetches told x s t = ⊥
+
+-- ---- a publication
+
+-- a batch of the first completed requests, at most so many
+abbrev pub begun : ℕ → QueueState → QueueState
+begun most s = record s { batch = take most s.completed; completed = drop most s.completed; phase = phases.Publish 0 }
+
+-- the publication that a turn goes on with
+abbrev pub under_way : ℕ → QueueState → QueueState
+under_way most s = if is_publication s.phase then s else begun most s
+
+abbrev pub row_at : QueueState → Option Step → Option Row
+row_at s None = None
+row_at s (Some step) = row_of (used_side s.ring) s.used s.batch step
+
+-- the row of the next step of the publication
+abbrev pub next_row : QueueState → Option Row
+next_row s = row_at s (next_step (length s.batch) s.phase)
+
+-- after the last step the batch is shown, and its heads are free
+abbrev pub with_phase : Phase → QueueState → QueueState
+with_phase phases.Rest s = record s { phase = phases.Rest; used = (s.used + length s.batch) % 65536; batch = []; taken = without_heads s.batch s.taken }
+with_phase p s = record s { phase = p }
+
+-- the queue after the next step of its publication
+abbrev pub moved : QueueState → QueueState
+moved s = with_phase (after_step (length s.batch) s.phase) s
+
+-- what a step with this row says, and the queue before and after it
+abbrev pub Moves : Stepped → Option Row → QueueState → QueueState → Type 0
+Moves (says.Stored tag) (Some x) s t = (tag ≡ x.tag) × (t ≡ moved s) × (is_publication t.phase ≡ true)
+Moves says.Published (Some x) s t = (SP5 ≡ x.tag) × (t ≡ moved s) × (t.phase ≡ phases.Rest)
+Moves says.SharedFault (Some x) s t = t ≡ s
+Moves x y s t = ⊥
+
+abbrev pub outcome : Stepped → Result (Unit {0}) (Unit {0})
+outcome says.SharedFault = Err tt
+outcome x = Ok tt
+
+-- the told bytes, and the told list of stores, before and after a step with this row
+abbrev pub StoresRow : Option Bytes → Option Bytes → Stepped → Option Row → Type 0
+StoresRow before after x None = after ≡ before
+StoresRow before after x (Some y) = Stores before after (outcome x) y.store
+
+abbrev pub TrailsRow : Option (List Store) → Option (List Store) → Stepped → Option Row → Type 0
+TrailsRow before after x None = after ≡ before
+TrailsRow before after x (Some y) = Trails before after (outcome x) y.store
+
+-- whether a publication of at most so many makes a step
+abbrev pub publishes : ℕ → QueueState → Bool
+publishes most s = is_ready (standing_at s 0) (Publish most)
+
+abbrev pub row_if : Bool → QueueState → Option Row
+row_if ready s = if ready then next_row s else None
+
+-- the row of a publication's step; none where none is ready
+abbrev pub publish_row : ℕ → QueueState → Option Row
+publish_row most s = row_if (publishes most s) (under_way most s)
+
+-- a publication: nothing where none is ready
+abbrev pub Publishes : Bool → Stepped → QueueState → QueueState → QueueState → Type 0
+Publishes false x s u t = (x ≡ says.Idle) × (t ≡ s)
+Publishes true x s u t = Moves x (next_row u) u t
+
+-- ---- work
+
+-- the queue after a step of the request in this place, whose task and sector are these now
+abbrev pub worked : ℕ → Task → List ℕ → QueueState → QueueState
+worked place task sector s = record s { unfinished = set s.unfinished place task; sectors = set s.sectors task.head sector }
+
+-- the queue after the request in this place was completed with this used length
+abbrev pub done_at : ℕ → ℕ → ℕ → List ℕ → QueueState → QueueState
+done_at place head len sector s = record s { unfinished = remove s.unfinished place; completed = s.completed ++ (head, len) ∷ []; sectors = set s.sectors head sector }
+
+-- a step of the request in this place changes nothing here but its task and its sector, and the one that stores its
+-- status moves it to the completed ones
+abbrev pub Works : ℕ → Stepped → QueueState → QueueState → Type 0
+Works place (says.Completed head) s t = (len : ℕ) × (sector : List ℕ) × (t ≡ done_at place head len sector s)
+Works place x s t = (t ≡ s) ⊎ ((task : Task) × (sector : List ℕ) × (t ≡ worked place task sector s))
+
+-- what a step of the request in this place leaves before its end is noted: its task and its sector are new, and
+-- nothing changes where none is made
+abbrev pub StepsAt : ℕ → Option (ℕ × made.TaskStep) → QueueState → QueueState → Type 0
+StepsAt place None s t = t ≡ s
+StepsAt place (Some x) s t = (task : Task) × (sector : List ℕ) × (task.head ≡ x.0) × (t ≡ worked place task sector s)
+
+abbrev pub step_in : Option (ℕ × made.TaskStep) → Option made.TaskStep
+step_in o = option_map (λ x. x.1) o
+
+-- the status of the request of a head in this place moves it to the completed ones
+abbrev pub concluded : ℕ → ℕ → made.TaskStep → QueueState → QueueState
+concluded place head (answers.Done status len) s = record s { unfinished = remove s.unfinished place; completed = s.completed ++ (head, len) ∷ [] }
+concluded place head step s = s
+
+-- the task in this place of a queue makes this step next, where memory is m and the disk has so many sectors
+pub record IsDue (capacity : ℕ) (sizes : ℕ → ℕ) (s : QueueState) (m : Bytes) (place : ℕ) (task : Task) (n : Making) : Type 0 where
+  pub started : s.started ≡ true
+  pub at : slice_get s.unfinished place ≡ Some task
+  pub fits : task.head < s.ring.size
+  pub next : IsNext capacity sizes s.ring m n
+  pub ready : IsReady s.ring n task
+
+-- what a turn says of a step of the request of a head
+abbrev pub said : ℕ → made.TaskStep → Stepped
+said head (answers.Stored tag) = says.Stored tag
+said head (answers.Looked sector) = says.Looked head sector
+said head (answers.Acted sector) = says.Acted head sector
+said head answers.Synced = says.Synced head
+said head answers.Faulted = says.Faulted head
+said head (answers.Done status len) = says.Completed head
+said head (answers.Broken fault) = says.Broken fault
+said head answers.Failed = says.SharedFault
+
+-- the sector on its way for a head
+abbrev pub sector_at : QueueState → ℕ → List ℕ
+sector_at s head = get_or s.sectors head []
+
+-- the status completes the request, and another step goes on
+abbrev pub Advances : ℕ → Task → Making → List ℕ → Tasks.TaskStep → QueueState → QueueState → Type 0
+Advances place task n sector Status s t = t ≡ done_at place task.head (used_len (status_of n.header n.request) n.request) sector s
+Advances place task n sector step s t = (next : Task) × (next.head ≡ task.head) × HasMade s.ring n next × (t ≡ worked place next sector s)
+
+-- what the step leaves of the queue, where the disk's values are v: a look leaves the sector's value
+pub record HasWorked (v : Option Values) (place : ℕ) (task : Task) (n : Making) (s t : QueueState) : Type 0 where
+  pub sector : List ℕ
+  pub looks : WhereTold v (λ u. LooksAt n u sector)
+  pub state : Advances place task n sector n.step s t
+
+-- a fact about what a turn made, where neither memory nor disk failed in it
+abbrev pub IfStepped : Stepped → Type 0 → Type 0
+IfStepped says.SharedFault P = ⊤
+IfStepped (says.Faulted head) P = ⊤
+IfStepped x P = P
+
+-- the store of the step that is due, if it makes one
+abbrev pub due_store : QueueState → Task → Making → Option Store
+due_store s task n = store_in s.ring n (sector_at s task.head)
+
+-- what the step that is due makes before its end is noted, where neither memory nor disk fails
+pub record StepsOut (place : ℕ) (task : Task) (n : Making) (m : Bytes) (told : Option Bytes) (trail trail_after : Option (List Store)) (v v_after : Option Values) (x : Option (ℕ × made.TaskStep)) (s t : QueueState) : Type 0 where
+  pub says : x ≡ Some (task.head, answer_in n)
+  pub next : Task
+  pub sector : List ℕ
+  pub head : next.head ≡ task.head
+  pub goes_on : HasMade s.ring n next
+  pub looks : WhereTold v (λ u. LooksAt n u sector)
+  pub state : t ≡ worked place next sector s
+  pub stores : told ≡ Some (memory_after s.ring n (sector_at s task.head) m)
+  pub trails : trail_after ≡ option_map (with_maybe (due_store s task n)) trail
+  pub values : v_after ≡ option_map (values_after n.request n.step) v
+
+-- what the step that is due makes, where neither memory nor disk fails: of the told bytes, which were m, of the told list
+-- of stores and of the disk's told values, before and after it, and of the queue
+pub record WorksOut (place : ℕ) (task : Task) (n : Making) (m : Bytes) (told : Option Bytes) (trail trail_after : Option (List Store)) (v v_after : Option Values) (x : Stepped) (s t : QueueState) : Type 0 where
+  pub says : x ≡ said task.head (answer_in n)
+  pub leaves : HasWorked v place task n s t
+  pub stores : told ≡ Some (memory_after s.ring n (sector_at s task.head) m)
+  pub trails : trail_after ≡ option_map (with_maybe (due_store s task n)) trail
+  pub values : v_after ≡ option_map (values_after n.request n.step) v
+
+-- nothing was ready: all is as it was
+pub record Rests (told told_after : Option Bytes) (trail trail_after : Option (List Store)) (v v_after : Option Values) (x : Stepped) (s t : QueueState) : Type 0 where
+  pub idle : x ≡ says.Idle
+  pub state : t ≡ s
+  pub stores : told_after ≡ told
+  pub trails : trail_after ≡ trail
+  pub values : v_after ≡ v
+
+-- ---- turns
+
+abbrev pub is_idle : Stepped → Bool
+is_idle says.Idle = true
+is_idle x = false
+
+abbrev pub is_fault : Stepped → Bool
+is_fault says.SharedFault = true
+is_fault x = false
+
+-- where a test fails
+abbrev pub Unless : Bool → Type 0 → Type 0
+Unless true P = ⊤
+Unless false P = P
+
+-- what a turn of the step table does of the queue
+abbrev pub DoesOf : Turn → Option Bytes → Stepped → QueueState → QueueState → Type 0
+DoesOf Start told x s t = (x ≡ started_from s) × (t ≡ record s { started = true })
+DoesOf Fetch told x s t = Fetches told x s t
+DoesOf (Work place) told x s t = Works place x s t
+DoesOf (Publish most) told x s t = Publishes (publishes most s) x s (under_way most s) t
+
+-- the same, unless the shared memory failed, which stops the queue
+abbrev pub Does : Turn → Option Bytes → Stepped → QueueState → QueueState → Type 0
+Does turn told x s t = Unless (is_fault x) (DoesOf turn told x s t)
+
+-- the told bytes before and after it: only a publication stores, beside work on a request
+abbrev pub DoesStore : Turn → Option Bytes → Option Bytes → Stepped → QueueState → Type 0
+DoesStore (Work place) before after x s = ⊤
+DoesStore (Publish most) before after x s = StoresRow before after x (publish_row most s)
+DoesStore turn before after x s = after ≡ before
+
+-- the told list of stores before and after it
+abbrev pub DoesTrail : Turn → Option (List Store) → Option (List Store) → Stepped → QueueState → Type 0
+DoesTrail (Work place) before after x s = GainsOne before after
+DoesTrail (Publish most) before after x s = TrailsRow before after x (publish_row most s)
+DoesTrail turn before after x s = after ≡ before
+
+-- the told values of the disk before and after it: only work on a request changes them
+abbrev pub DoesDisk : Turn → Option Values → Option Values → Type 0
+DoesDisk (Work place) before after = ⊤
+DoesDisk turn before after = after ≡ before
+
+-- whether the disk failed in a turn
+abbrev pub disk_outcome : Stepped → Result (Unit {0}) (Unit {0})
+disk_outcome (says.Faulted head) = Err tt
+disk_outcome x = Ok tt
+
+-- the turn of the step table that this one is at a standing
+abbrev pub turn_at : ℕ → Standing → asked.Turn → Turn
+turn_at size standing asks.Start = Start
+turn_at size standing asks.Fetch = Fetch
+turn_at size standing (asks.Work place) = Work place
+turn_at size standing (asks.Publish most) = Publish most
+turn_at size standing asks.Any = any_turn size standing
+
+-- a fault of the ring or of the shared memory stops the queue
+abbrev pub halted : Stepped → QueueState → QueueState
+halted (says.Broken fault) s = record s { stopped = Some (stops.Broken fault) }
+halted says.SharedFault s = record s { stopped = Some stops.Shared }
+halted x s = s
+
+-- what a turn does of a queue that isn't stopped
+abbrev pub Turns : Turn → Option Bytes → Stepped → QueueState → QueueState → Type 0
+Turns turn told x s t = (u : QueueState) × (t ≡ halted x u) × Does turn told x s u

@@ -1,0 +1,718 @@
+//! The device's side of one split queue: each turn makes one step (VIRTIO 1.2, 2.7.7 and 2.7.8).
+ghost use Rattle.std.specs.Prelude.{◌≡◌, ◌<◌, ◌≤◌, ◌+◌, ℕ, true, false, Some, length, map, take, drop, set, slice_get, vec_len, vec_capacity, IfOk};
+ghost use Rattle.vub_split.specs.Split.{RingLies};
+ghost use Rattle.vub_queue.specs.QueueParts.{element, is_taken, taken_count, without_heads, phase_fits};
+
+use vub_task::{Task, TaskStep};
+use std::alloc::Global;
+use vub_base::{Failed, Memory, RingFault, Tag};
+use vub_disk::Disk;
+use vub_steps::{Phase, Standing, Step, after_step, is_ready, next_step};
+use vub_shared::Shared;
+use vub_split::SplitRing;
+
+/// The kinds of turn. `Work(j)` is on the j-th unfinished request, from 0; `Publish(m)` publishes
+/// at most m of the completed ones; `Any` is the first of start, publication under way, fetch, work
+/// and publication that is ready.
+#[derive(Clone, Copy, Debug, PartialEq, Eq)]
+pub enum Turn {
+    Start,
+    Fetch,
+    Work(u16),
+    Publish(u16),
+    Any,
+}
+
+/// Why a queue stopped.
+#[derive(Clone, Copy, Debug, PartialEq, Eq)]
+pub enum Stop {
+    Broken(RingFault),
+    Shared,
+}
+
+/// What a turn was. The first number is a head; a second one is that of a sector.
+#[derive(Clone, Copy, Debug, PartialEq, Eq)]
+pub enum Stepped {
+    /// Nothing was ready.
+    Idle,
+    /// A store, by its tag.
+    Stored(Tag),
+    Accepted(u16),
+    Looked(u16, u64),
+    Acted(u16, u64),
+    Synced(u16),
+    Faulted(u16),
+    /// The status of a request was stored.
+    Completed(u16),
+    /// The store of used.idx, which shows the batch.
+    Published,
+    Started,
+    /// The shared memory failed.
+    SharedFault,
+    Broken(RingFault),
+}
+
+/// A request whose status stands.
+#[derive(Clone, Copy, Debug, PartialEq, Eq)]
+struct Completed {
+    head: u16,
+    /// The used length.
+    len: u32,
+}
+
+/// How a queue is set up.
+#[derive(Clone, Copy, Debug, PartialEq, Eq)]
+pub struct QueueSetup {
+    pub index: u16,
+    pub ring: SplitRing,
+    /// The index at which the rings begin.
+    pub base: u16,
+}
+
+/// The device's side of one queue.
+#[derive(Debug, Drop)]
+pub struct Queue {
+    ring: SplitRing,
+    started: bool,
+    stopped: Option<Stop>,
+    // The index of the avail entry that is fetched next.
+    avail: u16,
+    // used.idx as it stands in the ring.
+    used: u16,
+    // In the order in which they were accepted.
+    unfinished: Vec<Task>,
+    // In the order in which they were completed.
+    completed: Vec<Completed>,
+    // So many of the first completed ones are being published.
+    batch: u16,
+    // At rest, or in a publication.
+    phase: Phase,
+    // The sector on its way for each head.
+    sectors: Vec<[u8; 512]>,
+    // Whether each head is accepted and not published.
+    taken: Vec<bool>,
+    ghost few: { ring.size ≤ 1024 },
+    ghost heads: { length taken.items ≡ ring.size },
+    ghost buffers: { length sectors.items ≡ ring.size },
+    ghost room: { ring.size ≤ vec_capacity unfinished },
+    ghost space: { ring.size ≤ vec_capacity completed },
+    ghost counted: { vec_len unfinished + vec_len completed ≤ taken_count taken.items },
+    ghost batched: { batch ≤ vec_len completed },
+    ghost fits: { phase_fits phase batch started ≡ true },
+}
+
+fn is_taken(taken: &[bool], head: u16) -> bool
+    ensures { result ≡ is_taken taken.now head }
+{
+    match taken.get(usize::from(head)) {
+        Some(taken) => *taken,
+        None => true,
+    }
+}
+
+#[tactic(auto, using(crate::proofs::QueueLemmas::set_beyond))]
+fn set_taken(taken: &mut [bool], head: u16, to: bool)
+    ensures { taken.new ≡ set taken.old head to }
+{
+    let place = usize::from(head);
+    if place < taken.len() {
+        taken[place] = to;
+    }
+}
+
+/// The heads of these are free.
+fn release(taken: &mut [bool], batch: &[Completed])
+    ensures { taken.new ≡ without_heads (map element batch.now) taken.old }
+{
+    for completed in batch {
+        set_taken(taken, completed.head, false);
+    }
+}
+
+/// Drops the first so many.
+fn drop_front(completed: &mut Vec<Completed>, count: usize)
+    requires { count ≤ vec_len completed.old }
+    ensures items { completed.new.items ≡ drop count completed.old.items }
+    ensures capacity { vec_capacity completed.new ≡ vec_capacity completed.old }
+{
+    let _ = completed.drain(..count);
+}
+
+impl Stepped {
+    ghost use Rattle.vub_queue.specs.QueueState.{is_idle};
+
+    /// Whether nothing was ready.
+    pub fn is_idle(&self) -> bool
+        ensures { result ≡ is_idle self.now }
+    {
+        matches!(self, Stepped::Idle)
+    }
+}
+
+impl Queue {
+    ghost use Rattle.vub_base.specs.Causes.{HasCause};
+    ghost use Rattle.vub_base.specs.Told.{WhereTold};
+    ghost use Rattle.vub_task.specs.declared.task.Task.{Task};
+    ghost use Rattle.vub_task.specs.TaskState as TaskState;
+    ghost use Rattle.vub_task.specs.TaskState.{Making, IfMade, GainsOne, memory_outcome};
+    ghost use Rattle.vub_steps.specs.Readiness.{is_publication, is_ready, any_turn, work_or_publish, drain_turn};
+    ghost use Rattle.vub_steps.specs.declared.readiness.Turn.TheVariants.{Fetch, Work};
+    ghost use Rattle.std.specs.Prelude.{not, ◌==◌, ◌↔◌, IsTrue, option_map, is_some, Ok, remove, ◌++◌, ◌∷◌, []};
+    ghost use Rattle.vub_steps.specs.Steps.{next_step, after_step};
+    ghost use Rattle.vub_queue.specs.declared.queue.Stepped.TheVariants.{Idle};
+    ghost use Rattle.vub_queue.specs.declared.queue.Turn.TheVariants as asks;
+    ghost use Rattle.vub_steps.specs.declared.steps.Phase.TheVariants.{Rest};
+    ghost use Rattle.vub_steps.specs.declared.steps.Step.TheVariants.{Id, Len, Index};
+    ghost use Rattle.vub_queue.specs.Queue.{ring_in};
+    ghost use Rattle.vub_queue.specs.QueueState.{state_of, IsNew, started_from, said, concluded, StepsAt, step_in, IsDue, IfStepped, StepsOut, WorksOut, Rests, disk_outcome, standing_at, waiting, IsFree, Finds, Fetches, accepted, may_fetch, begun, under_way, next_row, moved, with_phase, Moves, outcome, found_outcome, StoresRow, TrailsRow, publishes, publish_row, Publishes, is_idle, is_fault, Unless, Works, Does, DoesStore, DoesTrail, DoesDisk, turn_at, halted, Turns};
+
+    /// A queue that isn't started. All memory that it needs is reserved here.
+    pub fn new(alloc: Global, setup: &QueueSetup) -> Result<Queue, Memory>
+        requires { setup.now.ring.size ≤ 1024 }
+        ensures ring { IfOk result (λ q. ring_in q ≡ setup.now.ring) }
+        ensures state { IfOk result (λ q. IsNew setup.now.ring setup.now.base (state_of q)) }
+    {
+        let size = usize::from(setup.ring.size);
+        Ok(Queue {
+            ring: setup.ring,
+            started: false,
+            stopped: None,
+            avail: setup.base,
+            used: setup.base,
+            unfinished: Vec::with_capacity(alloc, size).map_err(|_| Memory)?,
+            completed: Vec::with_capacity(alloc, size).map_err(|_| Memory)?,
+            batch: 0,
+            phase: Phase::Rest,
+            sectors: vec![in alloc; [0; 512]; size].map_err(|_| Memory)?,
+            taken: vec![in alloc; false; size].map_err(|_| Memory)?,
+        })
+    }
+
+    /// Whether a batch is being published.
+    pub fn is_publishing(&self) -> bool
+        ensures { result ≡ is_publication self.now.phase }
+    {
+        matches!(self.phase, Phase::Publish(_))
+    }
+
+    /// Whether the next store shows the batch.
+    pub fn shows_next(&self) -> bool
+        ensures { IsTrue result ↔ (next_step (length (state_of self.now).batch) (state_of self.now).phase ≡ Some Index) }
+    {
+        next_step(self.batch, self.phase) == Some(Step::Index)
+    }
+
+    /// How many requests the batch under way has.
+    pub fn batch_len(&self) -> usize
+        ensures { result ≡ length (state_of self.now).batch }
+    {
+        usize::from(self.batch)
+    }
+
+    /// The heads of the batch under way, in the order of publication.
+    pub fn batch_head(&self, place: usize) -> Option<u16>
+        ensures { result ≡ option_map (λ x. x.0) (slice_get (state_of self.now).batch place) }
+    {
+        match self.batch().get(place) {
+            Some(completed) => Some(completed.head),
+            None => None,
+        }
+    }
+
+    /// The requests that are being published.
+    fn batch(&self) -> &[Completed]
+        ensures { result.now ≡ take self.now.batch self.now.completed.items }
+    {
+        &self.completed[..usize::from(self.batch)]
+    }
+
+    /// An element of the batch under way.
+    fn batch_element(&self, place: u32) -> Completed
+        requires { place < self.now.batch }
+        ensures { slice_get (state_of self.now).batch place ≡ Some (element result) }
+    {
+        self.batch()[place as usize]
+    }
+
+    /// What its readiness depends on, where so many requests wait.
+    fn standing(&self, waiting: u16) -> Standing
+        ensures { result ≡ standing_at (state_of self.now) waiting }
+    {
+        Standing {
+            started: self.started,
+            phase: self.phase,
+            waiting,
+            unfinished: self.unfinished.len() as u16,
+            completed: (self.completed.len() - usize::from(self.batch)) as u16,
+        }
+    }
+
+    fn start(&mut self) -> Stepped
+        ensures ring { ring_in self.new ≡ ring_in self.old }
+        ensures said { result ≡ started_from (state_of self.old) }
+        ensures state { state_of self.new ≡ record (state_of self.old) { started = true } }
+        ensures no_disk { disk_outcome result ≡ Ok tt }
+    {
+        if self.started {
+            return Stepped::Idle;
+        }
+        self.started = true;
+        Stepped::Started
+    }
+
+    /// How many requests wait in the avail ring.
+    fn waiting<M: Shared>(&self, mem: &mut M) -> Result<u16, Failed>
+        requires { RingLies (M.sizes mem.old) (ring_in self.now) }
+        ensures waiting { IfOk result (λ n. WhereTold (M.told mem.old) (λ m. n ≡ waiting (state_of self.now) m)) }
+        ensures told { M.told mem.new ≡ M.told mem.old }
+        ensures trail { M.trail mem.new ≡ M.trail mem.old }
+        ensures sizes { (s : ℕ) → M.sizes mem.new s ≡ M.sizes mem.old s }
+        ensures cause { HasCause (M.faults mem.old) (M.faults mem.new) result }
+    {
+        let index = self.ring.avail_idx(mem)?;
+        Ok(index.wrapping_sub(self.avail))
+    }
+
+    /// The head that waits at the avail position, if one does.
+    fn next_head<M: Shared>(&self, mem: &mut M) -> Result<Option<u16>, Stop>
+        requires { RingLies (M.sizes mem.old) (ring_in self.now) }
+        ensures free { IsFree (state_of self.now) result }
+        ensures found { WhereTold (M.told mem.old) (λ m. Finds (state_of self.now) m result) }
+        ensures told { M.told mem.new ≡ M.told mem.old }
+        ensures trail { M.trail mem.new ≡ M.trail mem.old }
+        ensures sizes { (s : ℕ) → M.sizes mem.new s ≡ M.sizes mem.old s }
+        ensures cause { HasCause (M.faults mem.old) (M.faults mem.new) (found_outcome result) }
+    {
+        let Ok(waiting) = self.waiting(mem) else {
+            return Err(Stop::Shared);
+        };
+        if waiting == 0 {
+            return Ok(None);
+        }
+        if waiting > self.ring.size {
+            return Err(Stop::Broken(RingFault::Jump(waiting)));
+        }
+        let Ok(head) = self.ring.head_at(mem, self.avail) else {
+            return Err(Stop::Shared);
+        };
+        if head >= self.ring.size {
+            return Err(Stop::Broken(RingFault::BadHead(head)));
+        }
+        if is_taken(&self.taken, head) {
+            return Err(Stop::Broken(RingFault::Twice(head)));
+        }
+        Ok(Some(head))
+    }
+
+    /// Accepts the request of a head.
+    fn accept(&mut self, head: u16)
+        requires below { head < self.old.ring.size }
+        requires free { is_taken self.old.taken.items head ≡ false }
+        ensures ring { ring_in self.new ≡ ring_in self.old }
+        ensures state { state_of self.new ≡ accepted head (state_of self.old) }
+    {
+        self.unfinished.push_reserved(Task::new(head));
+        set_taken(&mut self.taken, head, true);
+        self.avail = self.avail.wrapping_add(1);
+    }
+
+    fn fetch<M: Shared>(&mut self, mem: &mut M) -> Stepped
+        requires { RingLies (M.sizes mem.old) (ring_in self.old) }
+        ensures ring { ring_in self.new ≡ ring_in self.old }
+        ensures ready { Unless (is_fault result) (WhereTold (M.told mem.old) (λ m. is_ready (standing_at (state_of self.old) (waiting (state_of self.old) m)) Fetch ≡ not (is_idle result))) }
+        ensures fetches { Fetches (M.told mem.old) result (state_of self.old) (state_of self.new) }
+        ensures told { M.told mem.new ≡ M.told mem.old }
+        ensures trail { M.trail mem.new ≡ M.trail mem.old }
+        ensures sizes { (s : ℕ) → M.sizes mem.new s ≡ M.sizes mem.old s }
+        ensures cause { HasCause (M.faults mem.old) (M.faults mem.new) (outcome result) }
+        ensures no_disk { disk_outcome result ≡ Ok tt }
+    {
+        if !self.started || self.is_publishing() {
+            return Stepped::Idle;
+        }
+        match self.next_head(mem) {
+            Ok(None) => Stepped::Idle,
+            Ok(Some(head)) => {
+                self.accept(head);
+                Stepped::Accepted(head)
+            }
+            Err(Stop::Shared) => Stepped::SharedFault,
+            Err(Stop::Broken(fault)) => Stepped::Broken(fault),
+        }
+    }
+
+    /// Moves a request to the completed ones.
+    fn complete(&mut self, place: usize, head: u16, len: u32)
+        requires { place < vec_len self.old.unfinished }
+        ensures ring { ring_in self.new ≡ ring_in self.old }
+        ensures state { state_of self.new ≡ record (state_of self.old) { unfinished = remove (state_of self.old).unfinished place; completed = (state_of self.old).completed ++ (head, len) ∷ [] } }
+    {
+        self.unfinished.remove(place);
+        self.completed.push_reserved(Completed { head, len });
+    }
+
+    /// Makes the next step of the request at a place.
+    fn step_at<M: Shared, D: Disk>(
+        &mut self,
+        place: usize,
+        mem: &mut M,
+        disk: &mut D,
+    ) -> Option<(u16, TaskStep)>
+        requires { RingLies (M.sizes mem.old) (ring_in self.old) }
+        ensures ring { ring_in self.new ≡ ring_in self.old }
+        ensures steps { StepsAt place result (state_of self.old) (state_of self.new) }
+        ensures made { (task : Task) (n : Making) → WhereTold (M.told mem.old) (λ m. IsDue (D.capacity disk.old) (M.sizes mem.old) (state_of self.old) m place task n → IfMade (step_in result) (λ step. StepsOut place task n m (M.told mem.new) (M.trail mem.old) (M.trail mem.new) (D.values disk.old) (D.values disk.new) result (state_of self.old) (state_of self.new))) }
+        ensures trail { GainsOne (M.trail mem.old) (M.trail mem.new) }
+        ensures cause { HasCause (M.faults mem.old) (M.faults mem.new) (memory_outcome (step_in result)) }
+        ensures disk_cause { HasCause (D.faults disk.old) (D.faults disk.new) (TaskState.disk_outcome (step_in result)) }
+        ensures sizes { (s : ℕ) → M.sizes mem.new s ≡ M.sizes mem.old s }
+        ensures capacity { D.capacity disk.new ≡ D.capacity disk.old }
+    {
+        let task = self.unfinished.get_mut(place)?;
+        let head = task.head();
+        if head >= self.ring.size {
+            return None;
+        }
+        let sector = self.sectors.get_mut(usize::from(head))?;
+        Some((head, task.step(&self.ring, mem, disk, sector)))
+    }
+
+    /// Notes the end of a request whose status was stored, and says what its step was.
+    fn conclude(&mut self, place: usize, head: u16, step: TaskStep) -> Stepped
+        requires { place < vec_len self.old.unfinished }
+        ensures ring { ring_in self.new ≡ ring_in self.old }
+        ensures says { result ≡ said head step }
+        ensures state { state_of self.new ≡ concluded place head step (state_of self.old) }
+    {
+        match step {
+            TaskStep::Stored(tag) => Stepped::Stored(tag),
+            TaskStep::Looked(sector) => Stepped::Looked(head, sector),
+            TaskStep::Acted(sector) => Stepped::Acted(head, sector),
+            TaskStep::Synced => Stepped::Synced(head),
+            TaskStep::Faulted => Stepped::Faulted(head),
+            TaskStep::Broken(fault) => Stepped::Broken(fault),
+            TaskStep::Failed => Stepped::SharedFault,
+            TaskStep::Done { len, .. } => {
+                self.complete(place, head, len);
+                Stepped::Completed(head)
+            }
+        }
+    }
+
+    fn work<M: Shared, D: Disk>(&mut self, place: u16, mem: &mut M, disk: &mut D) -> Stepped
+        requires { RingLies (M.sizes mem.old) (ring_in self.old) }
+        ensures ring { ring_in self.new ≡ ring_in self.old }
+        ensures works { Works place result (state_of self.old) (state_of self.new) }
+        ensures made { (task : Task) (n : Making) → WhereTold (M.told mem.old) (λ m. IsDue (D.capacity disk.old) (M.sizes mem.old) (state_of self.old) m place task n → IfStepped result (WorksOut place task n m (M.told mem.new) (M.trail mem.old) (M.trail mem.new) (D.values disk.old) (D.values disk.new) result (state_of self.old) (state_of self.new))) }
+        ensures trail { GainsOne (M.trail mem.old) (M.trail mem.new) }
+        ensures rests { (waiting : ℕ) → is_ready (standing_at (state_of self.old) waiting) (Work place) ≡ false → Rests (M.told mem.old) (M.told mem.new) (M.trail mem.old) (M.trail mem.new) (D.values disk.old) (D.values disk.new) result (state_of self.old) (state_of self.new) }
+        ensures cause { HasCause (M.faults mem.old) (M.faults mem.new) (outcome result) }
+        ensures disk_cause { HasCause (D.faults disk.old) (D.faults disk.new) (disk_outcome result) }
+        ensures sizes { (s : ℕ) → M.sizes mem.new s ≡ M.sizes mem.old s }
+        ensures capacity { D.capacity disk.new ≡ D.capacity disk.old }
+    {
+        let place = usize::from(place);
+        if !self.started || place >= self.unfinished.len() {
+            return Stepped::Idle;
+        }
+        match self.step_at(place, mem, disk) {
+            Some((head, step)) => self.conclude(place, head, step),
+            None => Stepped::Idle,
+        }
+    }
+
+    /// Begins a batch of the first completed requests, at most so many.
+    fn begin_batch(&mut self, most: u16)
+        requires resting { self.old.batch ≡ 0 }
+        requires started { self.old.started ≡ true }
+        ensures ring { ring_in self.new ≡ ring_in self.old }
+        ensures state { state_of self.new ≡ begun most (state_of self.old) }
+        ensures going { is_publication self.new.phase ≡ true }
+    {
+        self.batch = self.completed.len().min(usize::from(most)) as u16;
+        self.phase = Phase::Publish(0);
+    }
+
+    /// Begins a batch where none is under way.
+    fn begin_if_resting(&mut self, most: u16)
+        requires ready { publishes most (state_of self.old) ≡ true }
+        ensures ring { ring_in self.new ≡ ring_in self.old }
+        ensures state { state_of self.new ≡ under_way most (state_of self.old) }
+        ensures going { is_publication self.new.phase ≡ true }
+    {
+        if self.is_publishing() {
+            return;
+        }
+        self.begin_batch(most);
+    }
+
+    /// The batch is shown: its heads may be offered again.
+    fn end_batch(&mut self)
+        ensures ring { ring_in self.new ≡ ring_in self.old }
+        ensures state { state_of self.new ≡ with_phase Rest (state_of self.old) }
+    {
+        let count = usize::from(self.batch);
+        self.used = self.used.wrapping_add(self.batch);
+        release(&mut self.taken, &self.completed[..count]);
+        drop_front(&mut self.completed, count);
+        self.batch = 0;
+        self.phase = Phase::Rest;
+    }
+
+    /// The next step of the publication was made, and not its last.
+    fn advance(&mut self)
+        requires goes { is_publication (after_step self.old.batch self.old.phase) ≡ true }
+        requires started { self.old.started ≡ true }
+        ensures ring { ring_in self.new ≡ ring_in self.old }
+        ensures state { state_of self.new ≡ moved (state_of self.old) }
+        ensures goes { is_publication self.new.phase ≡ true }
+    {
+        self.phase = after_step(self.batch, self.phase);
+    }
+
+    fn store_id<M: Shared>(&mut self, element: u32, mem: &mut M) -> Stepped
+        requires lies { RingLies (M.sizes mem.old) (ring_in self.old) }
+        requires next { next_step self.old.batch self.old.phase ≡ Some (Id element) }
+        ensures ring { ring_in self.new ≡ ring_in self.old }
+        ensures moves { Moves result (next_row (state_of self.old)) (state_of self.old) (state_of self.new) }
+        ensures stores { StoresRow (M.told mem.old) (M.told mem.new) result (next_row (state_of self.old)) }
+        ensures trails { TrailsRow (M.trail mem.old) (M.trail mem.new) result (next_row (state_of self.old)) }
+        ensures sizes { (s : ℕ) → M.sizes mem.new s ≡ M.sizes mem.old s }
+        ensures cause { HasCause (M.faults mem.old) (M.faults mem.new) (outcome result) }
+        ensures no_disk { disk_outcome result ≡ Ok tt }
+    {
+        let completed = self.batch_element(element);
+        let index = self.used.wrapping_add(element as u16);
+        let id = u32::from(completed.head);
+        match self.ring.write_used_id(mem, index, id) {
+            Ok(()) => {
+                self.advance();
+                Stepped::Stored(Tag::SP1)
+            }
+            Err(_) => Stepped::SharedFault,
+        }
+    }
+
+    fn store_len<M: Shared>(&mut self, element: u32, mem: &mut M) -> Stepped
+        requires lies { RingLies (M.sizes mem.old) (ring_in self.old) }
+        requires next { next_step self.old.batch self.old.phase ≡ Some (Len element) }
+        ensures ring { ring_in self.new ≡ ring_in self.old }
+        ensures moves { Moves result (next_row (state_of self.old)) (state_of self.old) (state_of self.new) }
+        ensures stores { StoresRow (M.told mem.old) (M.told mem.new) result (next_row (state_of self.old)) }
+        ensures trails { TrailsRow (M.trail mem.old) (M.trail mem.new) result (next_row (state_of self.old)) }
+        ensures sizes { (s : ℕ) → M.sizes mem.new s ≡ M.sizes mem.old s }
+        ensures cause { HasCause (M.faults mem.old) (M.faults mem.new) (outcome result) }
+        ensures no_disk { disk_outcome result ≡ Ok tt }
+    {
+        let completed = self.batch_element(element);
+        let index = self.used.wrapping_add(element as u16);
+        match self.ring.write_used_len(mem, index, completed.len) {
+            Ok(()) => {
+                self.advance();
+                Stepped::Stored(Tag::SP2)
+            }
+            Err(_) => Stepped::SharedFault,
+        }
+    }
+
+    fn show<M: Shared>(&mut self, mem: &mut M) -> Stepped
+        requires lies { RingLies (M.sizes mem.old) (ring_in self.old) }
+        requires next { next_step self.old.batch self.old.phase ≡ Some Index }
+        ensures ring { ring_in self.new ≡ ring_in self.old }
+        ensures moves { Moves result (next_row (state_of self.old)) (state_of self.old) (state_of self.new) }
+        ensures stores { StoresRow (M.told mem.old) (M.told mem.new) result (next_row (state_of self.old)) }
+        ensures trails { TrailsRow (M.trail mem.old) (M.trail mem.new) result (next_row (state_of self.old)) }
+        ensures sizes { (s : ℕ) → M.sizes mem.new s ≡ M.sizes mem.old s }
+        ensures cause { HasCause (M.faults mem.old) (M.faults mem.new) (outcome result) }
+        ensures no_disk { disk_outcome result ≡ Ok tt }
+    {
+        let index = self.used.wrapping_add(self.batch);
+        match self.ring.publish_idx(mem, index) {
+            Ok(()) => {
+                self.end_batch();
+                Stepped::Published
+            }
+            Err(_) => Stepped::SharedFault,
+        }
+    }
+
+    /// Makes the next step of the publication under way.
+    fn publish_step<M: Shared>(&mut self, mem: &mut M) -> Stepped
+        requires lies { RingLies (M.sizes mem.old) (ring_in self.old) }
+        requires going { is_publication self.old.phase ≡ true }
+        ensures ring { ring_in self.new ≡ ring_in self.old }
+        ensures moves { Moves result (next_row (state_of self.old)) (state_of self.old) (state_of self.new) }
+        ensures stores { StoresRow (M.told mem.old) (M.told mem.new) result (next_row (state_of self.old)) }
+        ensures trails { TrailsRow (M.trail mem.old) (M.trail mem.new) result (next_row (state_of self.old)) }
+        ensures sizes { (s : ℕ) → M.sizes mem.new s ≡ M.sizes mem.old s }
+        ensures cause { HasCause (M.faults mem.old) (M.faults mem.new) (outcome result) }
+        ensures no_disk { disk_outcome result ≡ Ok tt }
+    {
+        match next_step(self.batch, self.phase) {
+            Some(Step::Id(element)) => self.store_id(element, mem),
+            Some(Step::Len(element)) => self.store_len(element, mem),
+            Some(Step::Index) => self.show(mem),
+            Some(Step::Start) => Stepped::Idle,
+            Some(Step::Accept) => Stepped::Idle,
+            None => Stepped::Idle,
+        }
+    }
+
+    fn publish<M: Shared>(&mut self, most: u16, mem: &mut M) -> Stepped
+        requires { RingLies (M.sizes mem.old) (ring_in self.old) }
+        ensures ring { ring_in self.new ≡ ring_in self.old }
+        ensures publishes { Publishes (publishes most (state_of self.old)) result (state_of self.old) (under_way most (state_of self.old)) (state_of self.new) }
+        ensures stores { StoresRow (M.told mem.old) (M.told mem.new) result (publish_row most (state_of self.old)) }
+        ensures trails { TrailsRow (M.trail mem.old) (M.trail mem.new) result (publish_row most (state_of self.old)) }
+        ensures sizes { (s : ℕ) → M.sizes mem.new s ≡ M.sizes mem.old s }
+        ensures cause { HasCause (M.faults mem.old) (M.faults mem.new) (outcome result) }
+        ensures no_disk { disk_outcome result ≡ Ok tt }
+    {
+        if !is_ready(&self.standing(0), vub_steps::Turn::Publish(most)) {
+            return Stepped::Idle;
+        }
+        self.begin_if_resting(most);
+        self.publish_step(mem)
+    }
+
+    /// Works on the oldest request, or publishes all.
+    fn go_on<M: Shared, D: Disk>(&mut self, mem: &mut M, disk: &mut D) -> Stepped
+        requires lies { RingLies (M.sizes mem.old) (ring_in self.old) }
+        ensures ring { ring_in self.new ≡ ring_in self.old }
+        ensures does { (waiting : ℕ) → Does (work_or_publish self.old.ring.size (standing_at (state_of self.old) waiting)) (M.told mem.old) result (state_of self.old) (state_of self.new) }
+        ensures stores { (waiting : ℕ) → DoesStore (work_or_publish self.old.ring.size (standing_at (state_of self.old) waiting)) (M.told mem.old) (M.told mem.new) result (state_of self.old) }
+        ensures trails { (waiting : ℕ) → DoesTrail (work_or_publish self.old.ring.size (standing_at (state_of self.old) waiting)) (M.trail mem.old) (M.trail mem.new) result (state_of self.old) }
+        ensures values { (waiting : ℕ) → DoesDisk (work_or_publish self.old.ring.size (standing_at (state_of self.old) waiting)) (D.values disk.old) (D.values disk.new) }
+        ensures made { (waiting place : ℕ) (task : Task) (n : Making) → WhereTold (M.told mem.old) (λ m. work_or_publish self.old.ring.size (standing_at (state_of self.old) waiting) ≡ Work place → IsDue (D.capacity disk.old) (M.sizes mem.old) (state_of self.old) m place task n → IfStepped result (WorksOut place task n m (M.told mem.new) (M.trail mem.old) (M.trail mem.new) (D.values disk.old) (D.values disk.new) result (state_of self.old) (state_of self.new))) }
+        ensures cause { HasCause (M.faults mem.old) (M.faults mem.new) (outcome result) }
+        ensures disk_cause { HasCause (D.faults disk.old) (D.faults disk.new) (disk_outcome result) }
+        ensures sizes { (s : ℕ) → M.sizes mem.new s ≡ M.sizes mem.old s }
+        ensures capacity { D.capacity disk.new ≡ D.capacity disk.old }
+    {
+        if self.unfinished.is_empty() {
+            self.publish(self.ring.size, mem)
+        } else {
+            self.work(0, mem, disk)
+        }
+    }
+
+    /// The first that is ready of fetch, work on the oldest request, and publication of all.
+    fn fetch_or_go_on<M: Shared, D: Disk>(&mut self, mem: &mut M, disk: &mut D) -> Stepped
+        requires lies { RingLies (M.sizes mem.old) (ring_in self.old) }
+        requires started { self.old.started ≡ true }
+        requires rests { is_publication self.old.phase ≡ false }
+        ensures ring { ring_in self.new ≡ ring_in self.old }
+        ensures does { WhereTold (M.told mem.old) (λ m. Does (any_turn self.old.ring.size (standing_at (state_of self.old) (waiting (state_of self.old) m))) (M.told mem.old) result (state_of self.old) (state_of self.new)) }
+        ensures stores { WhereTold (M.told mem.old) (λ m. DoesStore (any_turn self.old.ring.size (standing_at (state_of self.old) (waiting (state_of self.old) m))) (M.told mem.old) (M.told mem.new) result (state_of self.old)) }
+        ensures trails { WhereTold (M.told mem.old) (λ m. DoesTrail (any_turn self.old.ring.size (standing_at (state_of self.old) (waiting (state_of self.old) m))) (M.trail mem.old) (M.trail mem.new) result (state_of self.old)) }
+        ensures values { WhereTold (M.told mem.old) (λ m. DoesDisk (any_turn self.old.ring.size (standing_at (state_of self.old) (waiting (state_of self.old) m))) (D.values disk.old) (D.values disk.new)) }
+        ensures made { (place : ℕ) (task : Task) (n : Making) → WhereTold (M.told mem.old) (λ m. any_turn self.old.ring.size (standing_at (state_of self.old) (waiting (state_of self.old) m)) ≡ Work place → IsDue (D.capacity disk.old) (M.sizes mem.old) (state_of self.old) m place task n → IfStepped result (WorksOut place task n m (M.told mem.new) (M.trail mem.old) (M.trail mem.new) (D.values disk.old) (D.values disk.new) result (state_of self.old) (state_of self.new))) }
+        ensures cause { HasCause (M.faults mem.old) (M.faults mem.new) (outcome result) }
+        ensures disk_cause { HasCause (D.faults disk.old) (D.faults disk.new) (disk_outcome result) }
+        ensures sizes { (s : ℕ) → M.sizes mem.new s ≡ M.sizes mem.old s }
+        ensures capacity { D.capacity disk.new ≡ D.capacity disk.old }
+    {
+        let stepped = self.fetch(mem);
+        if !stepped.is_idle() {
+            return stepped;
+        }
+        self.go_on(mem, disk)
+    }
+
+    fn any<M: Shared, D: Disk>(&mut self, mem: &mut M, disk: &mut D) -> Stepped
+        requires lies { RingLies (M.sizes mem.old) (ring_in self.old) }
+        ensures ring { ring_in self.new ≡ ring_in self.old }
+        ensures does { WhereTold (M.told mem.old) (λ m. Does (any_turn self.old.ring.size (standing_at (state_of self.old) (waiting (state_of self.old) m))) (M.told mem.old) result (state_of self.old) (state_of self.new)) }
+        ensures stores { WhereTold (M.told mem.old) (λ m. DoesStore (any_turn self.old.ring.size (standing_at (state_of self.old) (waiting (state_of self.old) m))) (M.told mem.old) (M.told mem.new) result (state_of self.old)) }
+        ensures trails { WhereTold (M.told mem.old) (λ m. DoesTrail (any_turn self.old.ring.size (standing_at (state_of self.old) (waiting (state_of self.old) m))) (M.trail mem.old) (M.trail mem.new) result (state_of self.old)) }
+        ensures values { WhereTold (M.told mem.old) (λ m. DoesDisk (any_turn self.old.ring.size (standing_at (state_of self.old) (waiting (state_of self.old) m))) (D.values disk.old) (D.values disk.new)) }
+        ensures made { (place : ℕ) (task : Task) (n : Making) → WhereTold (M.told mem.old) (λ m. any_turn self.old.ring.size (standing_at (state_of self.old) (waiting (state_of self.old) m)) ≡ Work place → IsDue (D.capacity disk.old) (M.sizes mem.old) (state_of self.old) m place task n → IfStepped result (WorksOut place task n m (M.told mem.new) (M.trail mem.old) (M.trail mem.new) (D.values disk.old) (D.values disk.new) result (state_of self.old) (state_of self.new))) }
+        ensures cause { HasCause (M.faults mem.old) (M.faults mem.new) (outcome result) }
+        ensures disk_cause { HasCause (D.faults disk.old) (D.faults disk.new) (disk_outcome result) }
+        ensures sizes { (s : ℕ) → M.sizes mem.new s ≡ M.sizes mem.old s }
+        ensures capacity { D.capacity disk.new ≡ D.capacity disk.old }
+    {
+        if !self.started {
+            return self.start();
+        }
+        if self.is_publishing() {
+            return self.publish(self.ring.size, mem);
+        }
+        self.fetch_or_go_on(mem, disk)
+    }
+
+    fn step_of<M: Shared, D: Disk>(&mut self, turn: Turn, mem: &mut M, disk: &mut D) -> Stepped
+        requires lies { RingLies (M.sizes mem.old) (ring_in self.old) }
+        ensures ring { ring_in self.new ≡ ring_in self.old }
+        ensures does { WhereTold (M.told mem.old) (λ m. Does (turn_at self.old.ring.size (standing_at (state_of self.old) (waiting (state_of self.old) m)) turn) (M.told mem.old) result (state_of self.old) (state_of self.new)) }
+        ensures stores { WhereTold (M.told mem.old) (λ m. DoesStore (turn_at self.old.ring.size (standing_at (state_of self.old) (waiting (state_of self.old) m)) turn) (M.told mem.old) (M.told mem.new) result (state_of self.old)) }
+        ensures trails { WhereTold (M.told mem.old) (λ m. DoesTrail (turn_at self.old.ring.size (standing_at (state_of self.old) (waiting (state_of self.old) m)) turn) (M.trail mem.old) (M.trail mem.new) result (state_of self.old)) }
+        ensures values { WhereTold (M.told mem.old) (λ m. DoesDisk (turn_at self.old.ring.size (standing_at (state_of self.old) (waiting (state_of self.old) m)) turn) (D.values disk.old) (D.values disk.new)) }
+        ensures made { (place : ℕ) (task : Task) (n : Making) → WhereTold (M.told mem.old) (λ m. turn_at self.old.ring.size (standing_at (state_of self.old) (waiting (state_of self.old) m)) turn ≡ Work place → IsDue (D.capacity disk.old) (M.sizes mem.old) (state_of self.old) m place task n → IfStepped result (WorksOut place task n m (M.told mem.new) (M.trail mem.old) (M.trail mem.new) (D.values disk.old) (D.values disk.new) result (state_of self.old) (state_of self.new))) }
+        ensures rests { (waiting place : ℕ) → turn ≡ asks.Work place → is_ready (standing_at (state_of self.old) waiting) (Work place) ≡ false → Rests (M.told mem.old) (M.told mem.new) (M.trail mem.old) (M.trail mem.new) (D.values disk.old) (D.values disk.new) result (state_of self.old) (state_of self.new) }
+        ensures cause { HasCause (M.faults mem.old) (M.faults mem.new) (outcome result) }
+        ensures disk_cause { HasCause (D.faults disk.old) (D.faults disk.new) (disk_outcome result) }
+        ensures sizes { (s : ℕ) → M.sizes mem.new s ≡ M.sizes mem.old s }
+        ensures capacity { D.capacity disk.new ≡ D.capacity disk.old }
+    {
+        match turn {
+            Turn::Start => self.start(),
+            Turn::Fetch => self.fetch(mem),
+            Turn::Work(place) => self.work(place, mem, disk),
+            Turn::Publish(most) => self.publish(most, mem),
+            Turn::Any => self.any(mem, disk),
+        }
+    }
+
+    /// Stops where a step ended in a fault.
+    fn halt(&mut self, stepped: Stepped)
+        ensures ring { ring_in self.new ≡ ring_in self.old }
+        ensures state { state_of self.new ≡ halted stepped (state_of self.old) }
+    {
+        match stepped {
+            Stepped::Broken(fault) => self.stopped = Some(Stop::Broken(fault)),
+            Stepped::SharedFault => self.stopped = Some(Stop::Shared),
+            _ => {}
+        }
+    }
+
+    /// Makes the next step of its kind, and is `Idle` where it isn't ready. A fault of shared
+    /// memory, or a ring that breaks a rule, stops the queue: later turns are `Idle`. A disk fault
+    /// stops nothing. Takes no memory.
+    pub fn turn<M: Shared, D: Disk>(&mut self, turn: Turn, mem: &mut M, disk: &mut D) -> Stepped
+        requires { RingLies (M.sizes mem.old) (ring_in self.old) }
+        ensures ring { ring_in self.new ≡ ring_in self.old }
+        ensures stopped { is_some (state_of self.old).stopped ≡ true → (result ≡ Idle) × (state_of self.new ≡ state_of self.old) × (M.told mem.new ≡ M.told mem.old) × (M.trail mem.new ≡ M.trail mem.old) × (D.values disk.new ≡ D.values disk.old) }
+        ensures does { is_some (state_of self.old).stopped ≡ false → WhereTold (M.told mem.old) (λ m. Turns (turn_at (ring_in self.old).size (standing_at (state_of self.old) (waiting (state_of self.old) m)) turn) (M.told mem.old) result (state_of self.old) (state_of self.new)) }
+        ensures stores { is_some (state_of self.old).stopped ≡ false → WhereTold (M.told mem.old) (λ m. DoesStore (turn_at (ring_in self.old).size (standing_at (state_of self.old) (waiting (state_of self.old) m)) turn) (M.told mem.old) (M.told mem.new) result (state_of self.old)) }
+        ensures trails { is_some (state_of self.old).stopped ≡ false → WhereTold (M.told mem.old) (λ m. DoesTrail (turn_at (ring_in self.old).size (standing_at (state_of self.old) (waiting (state_of self.old) m)) turn) (M.trail mem.old) (M.trail mem.new) result (state_of self.old)) }
+        ensures values { is_some (state_of self.old).stopped ≡ false → WhereTold (M.told mem.old) (λ m. DoesDisk (turn_at (ring_in self.old).size (standing_at (state_of self.old) (waiting (state_of self.old) m)) turn) (D.values disk.old) (D.values disk.new)) }
+        ensures made { (place : ℕ) (task : Task) (n : Making) → is_some (state_of self.old).stopped ≡ false → WhereTold (M.told mem.old) (λ m. turn_at (ring_in self.old).size (standing_at (state_of self.old) (waiting (state_of self.old) m)) turn ≡ Work place → IsDue (D.capacity disk.old) (M.sizes mem.old) (state_of self.old) m place task n → IfStepped result (WorksOut place task n m (M.told mem.new) (M.trail mem.old) (M.trail mem.new) (D.values disk.old) (D.values disk.new) result (state_of self.old) (state_of self.new))) }
+        ensures rests { (waiting place : ℕ) → is_some (state_of self.old).stopped ≡ false → turn ≡ asks.Work place → is_ready (standing_at (state_of self.old) waiting) (Work place) ≡ false → Rests (M.told mem.old) (M.told mem.new) (M.trail mem.old) (M.trail mem.new) (D.values disk.old) (D.values disk.new) result (state_of self.old) (state_of self.new) }
+        ensures cause { HasCause (M.faults mem.old) (M.faults mem.new) (outcome result) }
+        ensures disk_cause { HasCause (D.faults disk.old) (D.faults disk.new) (disk_outcome result) }
+        ensures sizes { (s : ℕ) → M.sizes mem.new s ≡ M.sizes mem.old s }
+        ensures capacity { D.capacity disk.new ≡ D.capacity disk.old }
+    {
+        if self.stopped.is_some() {
+            return Stepped::Idle;
+        }
+        let stepped = self.step_of(turn, mem, disk);
+        self.halt(stepped);
+        stepped
+    }
+
+    /// The next turn of a drain in which so many requests were accepted: any step, and once it
+    /// accepted as many as the queue has places, none that fetches.
+    pub fn draining(&self, accepted: u16) -> Turn
+        ensures { (waiting : ℕ) → turn_at (ring_in self.now).size (standing_at (state_of self.now) waiting) result ≡ drain_turn (ring_in self.now).size accepted (standing_at (state_of self.now) waiting) }
+    {
+        if accepted < self.ring.size {
+            Turn::Any
+        } else if self.is_publishing() || self.unfinished.is_empty() {
+            Turn::Publish(self.ring.size)
+        } else {
+            Turn::Work(0)
+        }
+    }
+}

@@ -1,0 +1,71 @@
+-- The device's side of the first queue stands at a moment of a run.
+use Rattle.std.specs.Prelude.{◌≡◌, ◌<◌, ℕ, ◌+◌, ◌*◌, ◌%◌, true, not, List, ◌++◌, length, map, filter, slice_get, slice_index, slice_range, get_or, [], Some, None}
+use Rattle.vub_base.specs.declared.header.Header1.{Header1}
+use Rattle.vub_steps.specs.declared.steps.Phase.{Phase}
+use Rattle.vub_driver.specs.Layout.{area_place, buffer_place}
+use Rattle.vub_device.specs.declared.entry.Asked.{Asked}
+use Rattle.vub_device.specs.declared.entry.Entry.{Entry}
+use Rattle.vub_disk.specs.Values.{Values}
+use Rattle.vub_device.specs.Crash.{value}
+use Rattle.vub_device.specs.Past.{asked, accepted, published, open_numbers, is_among, IsOpen, started, seen}
+use Rattle.vub_steps.specs.Tasks.{Put, task_steps}
+use Rattle.vub_run.specs.Moments.{Moment}
+use Rattle.vub_run.specs.Turns.{len_of}
+use Rattle.vub_queue.specs.QueueParts.{is_taken}
+use Rattle.vub_queue.specs.QueueState.{QueueState}
+use Rattle.vub_task.specs.TaskState.{IsTaskAt}
+use Rattle.vub_split.specs.declared.split.SplitRing.{SplitRing}
+use Rattle.vub_task.specs.declared.task.Task.{Task}
+
+-- head and used length of the k-th request
+abbrev pub spot_of : Header1 → List Entry → List ℕ → ℕ → ℕ × ℕ
+spot_of h past heads k = (slice_index heads k, len_of h (asked past 0 k))
+
+-- the accepted requests that aren't completed, rising
+abbrev pub left_of : List Entry → List ℕ → List ℕ → List ℕ
+left_of past completed batch = filter (λ k. not (is_among (completed ++ batch) k)) (open_numbers past 0)
+
+-- the task of the k-th request, of which so many steps were made
+pub record TaskAt (h : Header1) (r : SplitRing) (past : List Entry) (heads : List ℕ) (k made : ℕ) (task : Task) : Type 0 where
+  pub head : task.head ≡ slice_index heads k
+  pub stands : (request : Asked) → asked past 0 k ≡ Some request → IsTaskAt h r (buffer_place (area_place 0) (slice_index heads k)) request made task
+
+pub record QueueAt (h : Header1) (r : SplitRing) (past : List Entry) (heads : List ℕ) (at_phase : Phase) (in_batch ready : List ℕ) (made : ℕ → ℕ) (q : QueueState) : Type 0 where
+  pub ring : q.ring ≡ r
+  pub runs : q.stopped ≡ None
+  pub started : q.started ≡ started past 0
+  pub avail : q.avail ≡ (h.base + accepted past 0) % 65536
+  pub used : q.used ≡ (h.base + length (published past 0)) % 65536
+  pub phase : q.phase ≡ at_phase
+  pub batch : q.batch ≡ map (spot_of h past heads) in_batch
+  pub completed : q.completed ≡ map (spot_of h past heads) ready
+  -- a task for each request that is left, in order
+  pub count : length q.unfinished ≡ length (left_of past ready in_batch)
+  pub tasks : (i k : ℕ) (task : Task) → slice_get (left_of past ready in_batch) i ≡ Some k → slice_get q.unfinished i ≡ Some task → TaskAt h r past heads k (made k) task
+  -- between a look and its store, what was read stands at the head
+  pub buffers : length q.sectors ≡ r.size
+  pub places : length q.taken ≡ r.size
+  pub sectors : (k place : ℕ) (request : Asked) → is_among (left_of past ready in_batch) k ≡ true → asked past 0 k ≡ Some request → slice_get (task_steps h request) (made k) ≡ Some (Put place)
+      → get_or q.sectors (slice_index heads k) [] ≡ slice_range (seen past 0 k) (512 * place) (512 * place + 512)
+  -- a head that is taken is that of an open request
+  pub taken : (d : ℕ) → d < r.size → is_taken q.taken d ≡ true → (k : ℕ) × IsOpen past 0 k × (slice_index heads k ≡ d)
+
+-- ---- at a moment
+
+-- the queue stands where the first lane of the moment does
+abbrev pub QueueStands : Header1 → SplitRing → Moment → QueueState → Type 0
+QueueStands h r m q = QueueAt h r m.scene.past (m.scene.heads 0) (m.lanes 0).phase (m.lanes 0).batch (m.lanes 0).completed (m.lanes 0).made q
+
+-- a ring of n places that lies in guest memory as the first queue's does
+pub record IsMainRing (r : SplitRing) (n : ℕ) : Type 0 where
+  pub desc_space : r.desc.0.number ≡ 0
+  pub avail_space : r.avail.0.number ≡ 0
+  pub used_space : r.used.0.number ≡ 0
+  pub desc : r.desc.1 ≡ 0
+  pub avail : r.avail.1 ≡ 4096
+  pub used : r.used.1 ≡ 8192
+  pub size : r.size ≡ n
+
+-- the disk's values are those of the history
+abbrev pub DiskAt : ℕ → List Entry → Values → Type 0
+DiskAt cap past v = (s : ℕ) → s < cap → v s ≡ value past s

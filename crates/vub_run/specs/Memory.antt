@@ -1,0 +1,66 @@
+-- Memory and history, as a run's records so far tell them.
+use Rattle.std.specs.Prelude.{ℕ, zero, suc, ◌==◌, if◌then◌else◌, List, [], ◌∷◌, ◌++◌}
+use Rattle.byteorder.specs.Endian.{little_bytes}
+use Rattle.vub_base.specs.declared.header.Header1.{Header1}
+use Rattle.vub_base.specs.declared.store.Area.{Area}
+use Rattle.vub_base.specs.declared.store.Area.TheVariants.{M, I}
+use Rattle.vub_shared.specs.Bytes.{Bytes}
+use Rattle.vub_shared.specs.Stores.{one_store, after_store}
+use Rattle.vub_ring.specs.Ring.{Ring, avail_idx_place, used_idx_place, last_head}
+use Rattle.vub_driver.specs.Layout.{guest_space, inflight_space, ring_of}
+use Rattle.vub_device.specs.declared.entry.Entry.{Entry}
+use Rattle.vub_device.specs.declared.entry.Entry.TheVariants as entries
+use Rattle.vub_report.specs.declared.items.Item.{Item}
+use Rattle.vub_report.specs.declared.items.Item.TheVariants as items
+
+-- the space that an area's stores are in
+abbrev pub space_of : Area → ℕ
+space_of M = guest_space
+space_of I = inflight_space
+
+-- ---- the opening
+
+-- avail.idx and used.idx of a ring at the base
+abbrev pub with_indexes : Ring → ℕ → Bytes → Bytes
+with_indexes r base m =
+    after_store (one_store r.space (used_idx_place r) (little_bytes 2 base)) (after_store (one_store r.space (avail_idx_place r) (little_bytes 2 base)) m)
+
+-- zero bytes, but the indexes of the first so many queues
+abbrev pub opened : Header1 → ℕ → Bytes
+opened h zero = λ s p. 0
+opened h (suc q) = with_indexes (ring_of q h.size) h.base (opened h q)
+
+abbrev pub opening_memory : Header1 → Bytes
+opening_memory h = opened h h.queues
+
+-- ---- what the records tell
+
+pub record Scene : Type 0 where
+  pub memory : Bytes
+  -- the entries, newest first
+  pub past : List Entry
+  -- of each queue the heads under which its requests were offered, in order
+  pub heads : ℕ → List ℕ
+
+abbrev pub opening_scene : Header1 → Scene
+opening_scene h = record { memory = opening_memory h; past = []; heads = λ q. [] }
+
+-- the same, but that one at q
+abbrev pub with_at : {A : Type 0} → (ℕ → A) → ℕ → A → ℕ → A
+with_at f q x i = if i == q then x else f i
+
+-- an offer is made under the head that avail.idx has just passed, on a queue of so many places
+abbrev pub after_entry : ℕ → Entry → Scene → Scene
+after_entry size (entries.Offer q request) s =
+    record s { past = entries.Offer q request ∷ s.past; heads = with_at s.heads q (s.heads q ++ last_head (ring_of q size) s.memory ∷ []) }
+after_entry size e s = record s { past = e ∷ s.past }
+
+-- a store changes memory, and an entry lengthens the history
+abbrev pub after_item : ℕ → Item → Scene → Scene
+after_item size (items.Store tag area place bytes) s = record s { memory = after_store (one_store (space_of area) place bytes) s.memory }
+after_item size (items.Made e) s = after_entry size e s
+after_item size items.Idle s = s
+
+abbrev pub after_items : ℕ → List Item → Scene → Scene
+after_items size [] s = s
+after_items size (i ∷ is) s = after_items size is (after_item size i s)

@@ -1,0 +1,65 @@
+-- Where a run stands: memory and history, the drivers, and what the device has under way.
+use Rattle.std.specs.Prelude.{ℕ, ◌+◌, Bool, false, not, List, [], ◌++◌, length, filter, slice_index}
+use Rattle.vub_base.specs.declared.header.Header1.{Header1}
+use Rattle.vub_steps.specs.declared.steps.Phase.{Phase}
+use Rattle.vub_steps.specs.declared.steps.Phase.TheVariants.{Rest}
+use Rattle.vub_steps.specs.declared.readiness.Standing.{Standing}
+use Rattle.vub_ring.specs.Ring.{ahead, avail_idx}
+use Rattle.vub_driver.specs.Layout.{ring_of, area_place, buffer_place}
+use Rattle.vub_driver.specs.Drivers.{Driver, new_driver}
+use Rattle.vub_device.specs.Past.{accepted, open_numbers, is_among, started}
+use Rattle.vub_run.specs.Memory.{Scene, opening_scene}
+
+-- one queue: its driver, and the device's side of it in this life
+pub record Lane : Type 0 where
+  pub driver : Driver
+  pub attached : Bool
+  pub phase : Phase
+  -- the requests that are being published, in order
+  pub batch : List ℕ
+  -- those whose status stands and that are in no batch, in the order in which they were completed
+  pub completed : List ℕ
+  -- how many steps of each request were made
+  pub made : ℕ → ℕ
+
+pub record Moment : Type 0 where
+  pub scene : Scene
+  -- there is a life of the device
+  pub lives : Bool
+  -- and all of its setup was handed on
+  pub joined : Bool
+  pub lanes : ℕ → Lane
+
+-- the lane of a queue at the begin of a life: the device knows nothing of it
+abbrev pub fresh : Lane → Lane
+fresh l = record { driver = l.driver; attached = false; phase = Rest; batch = []; completed = []; made = λ k. 0 }
+
+abbrev pub opening_lane : Header1 → Lane
+opening_lane h = record { driver = new_driver h.base; attached = false; phase = Rest; batch = []; completed = []; made = λ k. 0 }
+
+abbrev pub opening : Header1 → Moment
+opening h = record { scene = opening_scene h; lives = false; joined = false; lanes = λ q. opening_lane h }
+
+-- ---- what a queue's readiness depends on
+
+-- the index of the avail entry that is fetched next. It is the base advanced by the number of accepted requests until a
+-- region of requests in flight is kept
+abbrev pub avail_position : Header1 → ℕ → Scene → ℕ
+avail_position h q s = h.base + accepted s.past q
+
+-- the accepted requests that aren't completed in this life, rising
+abbrev pub unfinished : ℕ → Moment → List ℕ
+unfinished q m = filter (λ k. not (is_among ((m.lanes q).completed ++ (m.lanes q).batch) k)) (open_numbers m.scene.past q)
+
+abbrev pub standing : Header1 → ℕ → Moment → Standing
+standing h q m = record {
+  started = started m.scene.past q;
+  phase = (m.lanes q).phase;
+  waiting = ahead (avail_idx (ring_of q h.size) m.scene.memory) (avail_position h q m.scene);
+  unfinished = length (unfinished q m);
+  completed = length (m.lanes q).completed;
+}
+
+-- the buffer of a request, by the head under which it was offered
+abbrev pub buffer_of : ℕ → ℕ → Scene → ℕ
+buffer_of q k s = buffer_place (area_place q) (slice_index (s.heads q) k)

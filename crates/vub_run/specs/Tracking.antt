@@ -1,0 +1,60 @@
+-- Memory and history agree.
+use Rattle.std.specs.Prelude.{◌≡◌, ◌<◌, ◌⊎◌, ℕ, ◌+◌, ◌==◌, if◌then◌else◌, List, [], ◌∷◌, ◌++◌, map, drop, slice_index, Option, Some, None, ⊤}
+use Rattle.vub_base.specs.declared.header.Header1.{Header1}
+use Rattle.vub_ring.specs.Ring.{seen, waiting}
+use Rattle.vub_driver.specs.Layout.{ring_of}
+use Rattle.vub_device.specs.declared.entry.Answered.{Answered}
+use Rattle.vub_device.specs.declared.entry.Asked.{Asked}
+use Rattle.vub_device.specs.declared.entry.Entry.{Entry}
+use Rattle.vub_device.specs.declared.entry.Entry.TheVariants.{Publish, Offer, Power}
+use Rattle.vub_device.specs.Past.{asked, accepted, collected}
+use Rattle.vub_report.specs.declared.items.Item.{Item}
+use Rattle.vub_report.specs.declared.items.Item.TheVariants as items
+use Rattle.vub_report.specs.declared.items.Record.{Record}
+use Rattle.vub_run.specs.Memory.{Scene, opening_scene, after_item, after_items}
+use Rattle.vub_run.specs.Moments.{avail_position}
+use Rattle.vub_steps.specs.Tasks.{used_len}
+
+-- the answers that were published on a queue since the last power stop, in order
+abbrev pub answers : List Entry → ℕ → List Answered
+answers [] q = []
+answers (Publish p list ∷ past) q = if p == q then answers past q ++ list else answers past q
+answers (Power image ∷ past) q = []
+answers (e ∷ past) q = answers past q
+
+abbrev pub answered_len : ℕ → Option Asked → ℕ
+answered_len status None = 0
+answered_len status (Some request) = used_len status request
+
+-- the used element of an answer: the head of its request, and its used length
+abbrev pub element : ℕ → Scene → Answered → ℕ × ℕ
+element q s a = (slice_index (s.heads q) a.number, answered_len a.status (asked s.past q a.number))
+
+-- What the driver sees from its position on is one element for each published and not collected number, in order. What
+-- waits from the avail position on are the offers that aren't accepted, in order.
+pub record Tracks (h : Header1) (q : ℕ) (s : Scene) : Type 0 where
+  pub sees : seen (ring_of q h.size) s.memory (h.base + collected s.past q) ≡ map (element q s) (drop (collected s.past q) (answers s.past q))
+  pub waits : waiting (ring_of q h.size) s.memory (avail_position h q s) ≡ drop (accepted s.past q) (s.heads q)
+
+abbrev pub EveryTracks : Header1 → Scene → Type 0
+EveryTracks h s = (q : ℕ) → q < h.queues → Tracks h q s
+
+-- a store and the offer or publication that it makes count as one
+abbrev pub GoesOn : Item → List Item → Type 0
+GoesOn (items.Store tag area place bytes) (items.Made (Offer q request) ∷ is) = ⊤
+GoesOn (items.Store tag area place bytes) (items.Made (Publish q list) ∷ is) = ⊤
+GoesOn i is = ⊥
+
+-- a fact after each item, taken together with the entry that it makes
+abbrev pub AfterEach : ℕ → (Scene → Type 0) → Scene → List Item → Type 0
+AfterEach size P s [] = ⊤
+AfterEach size P s (i ∷ is) = (GoesOn i is ⊎ P (after_item size i s)) × AfterEach size P (after_item size i s) is
+
+-- memory and history agree on every queue, through all of these records
+abbrev pub TracksFrom : Header1 → Scene → List Record → Type 0
+TracksFrom h s [] = ⊤
+TracksFrom h s (r ∷ rs) = AfterEach h.size (EveryTracks h) s r.items × TracksFrom h (after_items h.size r.items s) rs
+
+abbrev pub TracksAlways : Header1 → List Record → Type 0
+TracksAlways h records = TracksFrom h (opening_scene h) records
+

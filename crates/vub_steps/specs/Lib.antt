@@ -1,0 +1,4 @@
+pub mod Readiness
+pub mod Rows
+pub mod Steps
+pub mod Tasks

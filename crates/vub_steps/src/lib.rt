@@ -1,0 +1,11 @@
+//! The step table of a queue: the steps of each phase in their order, the store of each, and which
+//! turn is ready.
+#![tactic(auto)]
+
+mod readiness;
+mod steps;
+#[cfg(test)]
+mod tests;
+
+pub use readiness::{Standing, Turn, any_turn, drain_turn, is_ready};
+pub use steps::{Phase, Step, after_step, next_step};

@@ -1,0 +1,81 @@
+use Rattle.std.proofs.Common.{◌≡◌, ◌∙◌, sym, ap}
+use Rattle.std.specs.Prelude.{Some, option_map}
+use Rattle.vub_direct.proofs.ChainReading.{reads_broken}
+use Rattle.vub_task.proofs.ArmLemmas.{made_map, next_still, next_with}
+use Rattle.vub_task.specs.TaskState.{IfMade, store_in, with_maybe}
+use Rattle.vub_task.proofs.task.Task.step.Goals as goal
+
+pub returns-in-Ok-clause-answer : goal.returns-in-Ok-clause-answer
+returns-in-Ok-clause-answer g c n m told is ready =
+    let r = c.args.ring.now in
+    let here = next_with _ _ r m n c.capacity.result (sym c.capacity.ensures) is in
+    let works = c.in-Ok.ensures.ready n m told here ready in
+    c.go_on.ensures.answer r n m (c.prepare.ensures.told ∙ told) (next_still _ _ _ r m n c.prepare.ensures.sizes is) works
+
+pub returns-in-Err-Broken-clause-answer : goal.returns-in-Err-Broken-clause-answer
+returns-in-Err-Broken-clause-answer g c n m told is ready =
+    let here = next_with _ _ c.args.ring.now m n c.capacity.result (sym c.capacity.ensures) is in
+    absurd (reads_broken c.in-Err-Broken.field-0 c.in-Err-Broken.fault _ c.in-Err-Broken.field-0-is (c.in-Err-Broken.ensures.ready n m told here ready))
+
+pub returns-in-Ok-clause-stored : goal.returns-in-Ok-clause-stored
+returns-in-Ok-clause-stored g c n m told is ready =
+    let r = c.args.ring.now in
+    let here = next_with _ _ r m n c.capacity.result (sym c.capacity.ensures) is in
+    let works = c.in-Ok.ensures.ready n m told here ready in
+    c.go_on.ensures.stored r n m (c.prepare.ensures.told ∙ told) (next_still _ _ _ r m n c.prepare.ensures.sizes is) works
+
+pub returns-in-Err-Broken-clause-stored : goal.returns-in-Err-Broken-clause-stored
+returns-in-Err-Broken-clause-stored g c n m told is ready =
+    let here = next_with _ _ c.args.ring.now m n c.capacity.result (sym c.capacity.ensures) is in
+    absurd (reads_broken c.in-Err-Broken.field-0 c.in-Err-Broken.fault _ c.in-Err-Broken.field-0-is (c.in-Err-Broken.ensures.ready n m told here ready))
+
+pub returns-in-Ok-clause-looked : goal.returns-in-Ok-clause-looked
+returns-in-Ok-clause-looked g c n m told is ready =
+    let r = c.args.ring.now in
+    let here = next_with _ _ r m n c.capacity.result (sym c.capacity.ensures) is in
+    let works = c.in-Ok.ensures.ready n m told here ready in
+    c.go_on.ensures.looked r n m (c.prepare.ensures.told ∙ told) (next_still _ _ _ r m n c.prepare.ensures.sizes is) works
+
+pub returns-in-Err-Broken-clause-looked : goal.returns-in-Err-Broken-clause-looked
+returns-in-Err-Broken-clause-looked g c n m told is ready =
+    let here = next_with _ _ c.args.ring.now m n c.capacity.result (sym c.capacity.ensures) is in
+    absurd (reads_broken c.in-Err-Broken.field-0 c.in-Err-Broken.fault _ c.in-Err-Broken.field-0-is (c.in-Err-Broken.ensures.ready n m told here ready))
+
+pub returns-in-Ok-clause-written : goal.returns-in-Ok-clause-written
+returns-in-Ok-clause-written g c n m told is ready =
+    let r = c.args.ring.now in
+    let here = next_with _ _ r m n c.capacity.result (sym c.capacity.ensures) is in
+    let works = c.in-Ok.ensures.ready n m told here ready in
+    c.go_on.ensures.written r n m (c.prepare.ensures.told ∙ told) (next_still _ _ _ r m n c.prepare.ensures.sizes is) works
+
+pub returns-in-Err-Broken-clause-written : goal.returns-in-Err-Broken-clause-written
+returns-in-Err-Broken-clause-written g c n m told is ready =
+    let here = next_with _ _ c.args.ring.now m n c.capacity.result (sym c.capacity.ensures) is in
+    absurd (reads_broken c.in-Err-Broken.field-0 c.in-Err-Broken.fault _ c.in-Err-Broken.field-0-is (c.in-Err-Broken.ensures.ready n m told here ready))
+
+pub returns-in-Ok-clause-goes_on : goal.returns-in-Ok-clause-goes_on
+returns-in-Ok-clause-goes_on g c n m told is ready =
+    let r = c.args.ring.now in
+    let here = next_with _ _ r m n c.capacity.result (sym c.capacity.ensures) is in
+    let works = c.in-Ok.ensures.ready n m told here ready in
+    c.go_on.ensures.goes_on r n m (c.prepare.ensures.told ∙ told) (next_still _ _ _ r m n c.prepare.ensures.sizes is) works
+
+pub returns-in-Err-Broken-clause-goes_on : goal.returns-in-Err-Broken-clause-goes_on
+returns-in-Err-Broken-clause-goes_on g c n m told is ready =
+    let here = next_with _ _ c.args.ring.now m n c.capacity.result (sym c.capacity.ensures) is in
+    absurd (reads_broken c.in-Err-Broken.field-0 c.in-Err-Broken.fault _ c.in-Err-Broken.field-0-is (c.in-Err-Broken.ensures.ready n m told here ready))
+
+pub returns-in-Ok-clause-trails : goal.returns-in-Ok-clause-trails
+returns-in-Ok-clause-trails g c n m told is ready =
+    let r = c.args.ring.now in
+    let here = next_with _ _ r m n c.capacity.result (sym c.capacity.ensures) is in
+    let works = c.in-Ok.ensures.ready n m told here ready in
+    let now = g.M.Shared.trail c.go_on.new.mem in
+    let made : IfMade (Some c.go_on.result) (λ x. now ≡ option_map (with_maybe (store_in r n c.args.sector.now)) (g.M.Shared.trail c.prepare.new.mem)) =
+    c.go_on.ensures.trails r n m (c.prepare.ensures.told ∙ told) (next_still _ _ _ r m n c.prepare.ensures.sizes is) works in
+    made_map _ _ (Some c.go_on.result) (λ x same. same ∙ ap (option_map (with_maybe (store_in r n c.args.sector.now))) c.prepare.ensures.trail) made
+
+pub returns-in-Err-Broken-clause-trails : goal.returns-in-Err-Broken-clause-trails
+returns-in-Err-Broken-clause-trails g c n m told is ready =
+    let here = next_with _ _ c.args.ring.now m n c.capacity.result (sym c.capacity.ensures) is in
+    absurd (reads_broken c.in-Err-Broken.field-0 c.in-Err-Broken.fault _ c.in-Err-Broken.field-0-is (c.in-Err-Broken.ensures.ready n m told here ready))

@@ -1,0 +1,210 @@
+-- A request at work: which step its task makes next, and what that step leaves (VIRTIO 1.2, 5.2.6).
+use Rattle.std.specs.Prelude.{◌≡◌, ◌⊎◌, ◌<◌, ℕ, ◌+◌, ◌*◌, ◌/◌, ◌%◌, Bool, false, not, ◌==◌, ◌&&◌, if◌then◌else◌, min, List, [], ◌∷◌, length, slice_get, Option, Some, None, option_map, Result, Ok, Err, ⊤}
+use Rattle.vub_base.specs.declared.header.Header1.{Header1}
+use Rattle.vub_base.specs.declared.header.CacheMode.TheVariants.{Back}
+use Rattle.vub_base.specs.declared.store.Tag.TheVariants.{T2}
+use Rattle.vub_shared.specs.Bytes.{Bytes}
+use Rattle.vub_shared.specs.Stores.{Store, one_store, after_store, after_in_trail}
+use Rattle.vub_disk.specs.Values.{Values, with_value}
+use Rattle.vub_driver.specs.Layout.{status_place}
+use Rattle.vub_device.specs.declared.entry.Asked.{Asked}
+use Rattle.vub_device.specs.declared.entry.Asked.TheVariants as asked
+use Rattle.vub_device.specs.declared.entry.SectorValue.{SectorValue}
+use Rattle.vub_device.specs.Requests.{effect_at}
+use Rattle.vub_driver.specs.GuestChain.{Links}
+use Rattle.vub_steps.specs.Tasks.{TaskStep, Look, Put, Act, Sync, Status, task_steps, status_of, used_len}
+use Rattle.vub_direct.specs.ChainState.{MeansRequest, sector_of, data_start, data_len, span_at}
+use Rattle.vub_split.specs.declared.split.SplitRing.{SplitRing}
+use Rattle.vub_direct.specs.declared.chain.Sectors.{Sectors}
+use Rattle.vub_direct.specs.declared.chain.Parts.{Parts}
+use Rattle.vub_task.specs.declared.task.Answer.{Answer}
+use Rattle.vub_task.specs.declared.task.Transfer.{Transfer}
+use Rattle.vub_task.specs.declared.task.Work.{Work}
+use Rattle.vub_task.specs.declared.task.Work.TheVariants as work
+use Rattle.vub_task.specs.declared.task.Task.{Task}
+use Rattle.vub_task.specs.declared.task.TaskStep as made
+use Rattle.vub_task.specs.declared.task.TaskStep.TheVariants as answers
+
+-- ---- which step is next
+
+abbrev pub answer_of : Header1 → SplitRing → ℕ → Asked → Answer
+answer_of h r buffer request = record {
+  status = status_of h request;
+  len = used_len (status_of h request) request;
+  plain_len = used_len 1 request;
+  span = span_at r (status_place buffer) 1;
+}
+
+-- the sectors of a request on their way, of which so many are done
+abbrev pub transfer_at : Header1 → SplitRing → ℕ → Asked → ℕ → Transfer
+transfer_at h r buffer request done = record {
+  sector = sector_of request;
+  count = data_len request / 512;
+  done = done;
+  span = span_at r (data_start buffer request) (data_len request);
+  answer = answer_of h r buffer request;
+}
+
+-- what a task does that makes this step next
+abbrev pub work_for : Header1 → SplitRing → ℕ → Asked → TaskStep → Work
+work_for h r buffer request (Look place) = work.Look (transfer_at h r buffer request place)
+work_for h r buffer request (Put place) = work.Store (transfer_at h r buffer request place)
+work_for h r buffer request (Act place) = work.Act (transfer_at h r buffer request place)
+work_for h r buffer request Sync = work.Sync (answer_of h r buffer request)
+work_for h r buffer request Status = work.Reply (answer_of h r buffer request)
+
+-- a request of which no step was made
+abbrev pub fresh_task : ℕ → Task
+fresh_task head = record { head = head; work = work.Begin }
+
+-- the task of a request stands for so many steps made of it
+pub record IsTaskAt (h : Header1) (r : SplitRing) (buffer : ℕ) (request : Asked) (made : ℕ) (task : Task) : Type 0 where
+  pub begins : made ≡ 0 → task.work ≡ work.Begin
+  pub goes_on : 0 < made → (step : TaskStep) → slice_get (task_steps h request) made ≡ Some step → task.work ≡ work_for h r buffer request step
+
+-- the requests that read, write whole sectors or flush
+abbrev pub IsBasic : Asked → Type 0
+IsBasic (asked.Read s n) = ⊤
+IsBasic (asked.Write s bytes) = length bytes % 512 ≡ 0
+IsBasic asked.Flush = ⊤
+IsBasic request = ⊥
+
+-- such a request on a disk of so many sectors that is written back at flushes
+pub record IsServed (h : Header1) (sectors : ℕ) (request : Asked) : Type 0 where
+  pub basic : IsBasic request
+  pub capacity : h.capacity ≡ sectors
+  pub cached : h.mode ≡ Back
+
+-- ---- the parts of a request, as it is begun
+
+-- whether the device may write bytes of them
+abbrev pub has_writable : Option Sectors → Bool
+has_writable None = false
+has_writable (Some x) = x.writable && not (x.span.len == 0)
+
+-- the used length where nothing is answered but the status: 1 where the device may write its byte alone
+abbrev pub plain_len_with : Bool → ℕ → ℕ
+plain_len_with more status_len = if more then 0 else if status_len == 1 then 1 else 0
+
+abbrev pub plain_len_of : Parts → ℕ
+plain_len_of p = plain_len_with (has_writable p.sectors) p.status.len
+
+abbrev pub plain_answer_of : Parts → ℕ → Answer
+plain_answer_of p status = record { status = status; len = plain_len_of p; plain_len = plain_len_of p; span = p.status }
+
+-- a read or a write of these sectors, none of which is done
+abbrev pub whole_transfer : Parts → ℕ → Sectors → Transfer
+whole_transfer p sector x = record {
+  sector = sector;
+  count = x.span.len / 512;
+  done = 0;
+  span = x.span;
+  answer = record {
+    status = 0;
+    len = if x.writable then min (x.span.len + 1) 4294967295 else plain_len_of p;
+    plain_len = plain_len_of p;
+    span = p.status;
+  };
+}
+
+-- ---- what a step leaves
+
+-- a fact about what a call made, where neither memory nor disk failed in it
+abbrev pub IfMade : Option made.TaskStep → (made.TaskStep → Type 0) → Type 0
+IfMade None P = ⊥
+IfMade (Some answers.Faulted) P = ⊤
+IfMade (Some answers.Failed) P = ⊤
+IfMade (Some step) P = P step
+
+-- a fact about a flush that was made
+abbrev pub IfSynced : Option made.TaskStep → Type 0 → Type 0
+IfSynced (Some answers.Synced) P = P
+IfSynced o P = ⊤
+
+-- whether the memory failed in a step, and whether the disk did
+abbrev pub memory_outcome : Option made.TaskStep → Result (Unit {0}) (Unit {0})
+memory_outcome (Some answers.Failed) = Err tt
+memory_outcome o = Ok tt
+
+abbrev pub disk_outcome : Option made.TaskStep → Result (Unit {0}) (Unit {0})
+disk_outcome (Some answers.Faulted) = Err tt
+disk_outcome o = Ok tt
+
+-- how a step is answered
+abbrev pub answer_to : Header1 → Asked → TaskStep → made.TaskStep
+answer_to h request (Look place) = answers.Looked (sector_of request + place)
+answer_to h request (Put place) = answers.Stored T2
+answer_to h request (Act place) = answers.Acted (sector_of request + place)
+answer_to h request Sync = answers.Synced
+answer_to h request Status = answers.Done (status_of h request) (used_len (status_of h request) request)
+
+-- the store of a step, if it makes one; `sector` is what was read before
+abbrev pub store_of : Header1 → SplitRing → ℕ → Asked → List ℕ → TaskStep → Option Store
+store_of h r buffer request sector (Put place) = Some (one_store r.desc.0.number (data_start buffer request + 512 * place) sector)
+store_of h r buffer request sector Status = Some (one_store r.desc.0.number (status_place buffer) (status_of h request ∷ []))
+store_of h r buffer request sector step = None
+
+abbrev pub after_maybe : Option Store → Bytes → Bytes
+after_maybe None m = m
+after_maybe (Some st) m = after_store st m
+
+-- the told list of stores after a step that makes this store, or none
+abbrev pub with_maybe : Option Store → List Store → List Store
+with_maybe None trail = trail
+with_maybe (Some st) trail = after_in_trail st trail
+
+-- the told list of stores gained one at most
+abbrev pub GainsOne : Option (List Store) → Option (List Store) → Type 0
+GainsOne before after = (after ≡ before) ⊎ ((st : Store) × (after ≡ option_map (after_in_trail st) before))
+
+abbrev pub with_effect : Option SectorValue → Values → Values
+with_effect None v = v
+with_effect (Some x) v = with_value x.sector x.value v
+
+-- the values of the disk after a step
+abbrev pub values_after : Asked → TaskStep → Values → Values
+values_after request (Act place) v = with_effect (effect_at request place) v
+values_after request step v = v
+
+-- ---- one step of a request
+
+-- a step that is made of a request, which so many were made of
+pub record Making : Type 0 where
+  pub header : Header1
+  pub links : Links
+  pub buffer : ℕ
+  pub request : Asked
+  pub made : ℕ
+  pub step : TaskStep
+
+-- memory m means its request, the disk serves it, and the step is next in the step table
+pub record IsNext (sectors : ℕ) (sizes : ℕ → ℕ) (r : SplitRing) (m : Bytes) (n : Making) : Type 0 where
+  pub means : MeansRequest sizes r m n.links n.buffer n.request
+  pub served : IsServed n.header sectors n.request
+  pub next : slice_get (task_steps n.header n.request) n.made ≡ Some n.step
+
+-- a task that makes it, and the task after it
+abbrev pub IsReady : SplitRing → Making → Task → Type 0
+IsReady r n task = (n.links.head ≡ task.head) × IsTaskAt n.header r n.buffer n.request n.made task
+
+abbrev pub HasMade : SplitRing → Making → Task → Type 0
+HasMade r n task = IsTaskAt n.header r n.buffer n.request (n.made + 1) task
+
+-- what makes it, where the request was begun
+abbrev pub work_of : SplitRing → Making → Work
+work_of r n = work_for n.header r n.buffer n.request n.step
+
+abbrev pub answer_in : Making → made.TaskStep
+answer_in n = answer_to n.header n.request n.step
+
+-- the store that it makes, if it makes one
+abbrev pub store_in : SplitRing → Making → List ℕ → Option Store
+store_in r n sector = store_of n.header r n.buffer n.request sector n.step
+
+-- the told memory after it
+abbrev pub memory_after : SplitRing → Making → List ℕ → Bytes → Bytes
+memory_after r n sector m = after_maybe (store_in r n sector) m
+
+-- a look leaves the value of its sector
+abbrev pub LooksAt : Making → Values → List ℕ → Type 0
+LooksAt n v sector = (place : ℕ) → n.step ≡ Look place → sector ≡ v (sector_of n.request + place)

@@ -1,0 +1,516 @@
+//! One request at work: its disk calls and the stores of its data and its status, one a step
+//! (VIRTIO 1.2, 5.2.6).
+ghost use Rattle.std.specs.Prelude.{◌≡◌, ◌<◌, ◌≤◌, ◌+◌, ◌*◌, ◌/◌, ◌%◌, ◌^◌, ℕ, true, false, Option, Some, None, Ok, Err, option_map};
+ghost use Rattle.byteorder.specs.Endian.{little_bytes};
+ghost use Rattle.vub_base.specs.Causes.{HasCause};
+ghost use Rattle.vub_base.specs.Told.{WhereTold};
+ghost use Rattle.vub_base.specs.declared.store.Tag.TheVariants.{T2};
+ghost use Rattle.vub_shared.specs.Bytes.{bytes_from};
+ghost use Rattle.vub_shared.specs.Stores.{one_store, after_store, after_in_trail};
+ghost use Rattle.vub_disk.specs.Values.{with_value};
+ghost use Rattle.vub_split.specs.Split.{RingLies};
+ghost use Rattle.vub_task.specs.TaskState.{IfMade, IfSynced, GainsOne, fresh_task, memory_outcome, disk_outcome, plain_len_of, plain_answer_of, whole_transfer};
+ghost use Rattle.vub_direct.specs.declared.chain.Sectors.{Sectors};
+ghost use Rattle.vub_task.specs.declared.task.TaskStep.TheVariants as answers;
+ghost use Rattle.vub_task.specs.declared.task.Work.TheVariants as work;
+
+use vub_direct::{Parts, Sectors, Span, Unread, lies_in, read_chain};
+use vub_base::{ChainFault, Failed, RingFault, Tag, get_u32, get_u64};
+use vub_disk::Disk;
+use vub_shared::Shared;
+use vub_split::SplitRing;
+
+/// What a step of a request was. A number is that of a sector.
+#[derive(Clone, Copy, Debug, PartialEq, Eq)]
+pub enum TaskStep {
+    Stored(Tag),
+    Looked(u64),
+    Acted(u64),
+    Synced,
+    /// The disk call failed.
+    Faulted,
+    /// The status was stored; the used length is `len` bytes.
+    Done { status: u8, len: u32 },
+    Broken(RingFault),
+    /// The shared memory failed.
+    Failed,
+}
+
+/// Success, and the two refusals.
+const OK: u8 = 0;
+
+const IOERR: u8 = 1;
+
+const UNSUPP: u8 = 2;
+
+/// How a request is answered in the end.
+#[derive(Clone, Copy, Debug, PartialEq, Eq)]
+struct Answer {
+    status: u8,
+    /// The used length.
+    len: u32,
+    /// The used length of an answer without data.
+    plain_len: u32,
+    /// Where the status stands, in its last byte.
+    span: Span,
+}
+
+/// Sectors on their way between memory and disk.
+#[derive(Clone, Copy, Debug, PartialEq, Eq)]
+struct Transfer {
+    sector: u64,
+    count: u64,
+    done: u64,
+    span: Span,
+    answer: Answer,
+}
+
+/// What a request does next.
+#[derive(Clone, Copy, Debug, PartialEq, Eq)]
+enum Work {
+    /// Reads its chain, and goes on as its header says.
+    Begin,
+    /// Reads a sector of the disk.
+    Look(Transfer),
+    /// Stores what was read.
+    Store(Transfer),
+    /// Writes a sector of the disk.
+    Act(Transfer),
+    /// Flushes the disk.
+    Sync(Answer),
+    /// Stores the status.
+    Reply(Answer),
+}
+
+/// A request by its head, and what it does next.
+#[derive(Clone, Copy, Debug, PartialEq, Eq)]
+pub struct Task {
+    head: u16,
+    work: Work,
+}
+
+/// The used length of an answer without data: 1 where the device may write the status byte alone,
+/// else 0.
+fn plain_len(parts: &Parts) -> u32
+    ensures { result ≡ plain_len_of parts.now }
+{
+    match parts.sectors {
+        Some(sectors) if sectors.writable && sectors.span.len != 0 => 0,
+        _ => u32::from(parts.status.len == 1),
+    }
+}
+
+/// An answer without data.
+fn plain_answer(parts: &Parts, status: u8) -> Answer
+    ensures { result ≡ plain_answer_of parts.now status }
+{
+    let len = plain_len(parts);
+    Answer {
+        status,
+        len,
+        plain_len: len,
+        span: parts.status,
+    }
+}
+
+/// The place of sector `done` of a transfer in its span, if it lies there.
+fn sector_span(transfer: &Transfer) -> Option<Span>
+    ensures { transfer.now.span.place + 512 * transfer.now.done < 2 ^ 64 → result ≡ Some (record { space = transfer.now.span.space; place = transfer.now.span.place + 512 * transfer.now.done; len = 512 }) }
+{
+    let offset = transfer.done.checked_mul(512)?;
+    Some(Span {
+        space: transfer.span.space,
+        place: transfer.span.place.checked_add(offset)?,
+        len: 512,
+    })
+}
+
+/// A read or a write of the sectors of a request, or the refusal of one that isn't whole or ends
+/// past the capacity.
+fn transfer_of(
+    parts: &Parts,
+    sector: u64,
+    capacity: u64,
+    writable: bool,
+) -> Result<Transfer, Answer>
+    ensures whole { (x : Sectors) → parts.now.sectors ≡ Some x → x.writable ≡ writable → x.span.len % 512 ≡ 0 → sector + x.span.len / 512 ≤ capacity → result ≡ Ok (whole_transfer parts.now sector x) }
+    ensures past { (x : Sectors) → parts.now.sectors ≡ Some x → capacity < sector + x.span.len / 512 → result ≡ Err (plain_answer_of parts.now 1) }
+{
+    let refused = plain_answer(parts, IOERR);
+    let Some(Sectors { span, writable: is }) = parts.sectors else {
+        return Err(refused);
+    };
+    let count = u64::from(span.len / 512);
+    if is != writable || span.len % 512 != 0 || sector > capacity || count > capacity - sector {
+        return Err(refused);
+    }
+    let read = span.len.saturating_add(1);
+    Ok(Transfer {
+        sector,
+        count,
+        done: 0,
+        span,
+        answer: Answer {
+            status: OK,
+            len: if writable { read } else { refused.len },
+            ..refused
+        },
+    })
+}
+
+/// What a request does first, by the type and the sector of its header.
+fn first_work(kind: u32, sector: u64, parts: &Parts, capacity: u64) -> Work
+    ensures read { (x : Sectors) → kind ≡ 0 → parts.now.sectors ≡ Some x → x.writable ≡ true → x.span.len % 512 ≡ 0 → sector + x.span.len / 512 ≤ capacity → 0 < x.span.len / 512 → result ≡ work.Look (whole_transfer parts.now sector x) }
+    ensures read_nothing { (x : Sectors) → kind ≡ 0 → parts.now.sectors ≡ Some x → x.writable ≡ true → x.span.len ≡ 0 → sector ≤ capacity → result ≡ work.Reply (whole_transfer parts.now sector x).answer }
+    ensures read_past { (x : Sectors) → kind ≡ 0 → parts.now.sectors ≡ Some x → capacity < sector + x.span.len / 512 → result ≡ work.Reply (plain_answer_of parts.now 1) }
+    ensures write { (x : Sectors) → kind ≡ 1 → parts.now.sectors ≡ Some x → x.writable ≡ false → x.span.len % 512 ≡ 0 → sector + x.span.len / 512 ≤ capacity → 0 < x.span.len / 512 → result ≡ work.Act (whole_transfer parts.now sector x) }
+    ensures write_nothing { (x : Sectors) → kind ≡ 1 → parts.now.sectors ≡ Some x → x.writable ≡ false → x.span.len ≡ 0 → sector ≤ capacity → result ≡ work.Reply (whole_transfer parts.now sector x).answer }
+    ensures write_past { (x : Sectors) → kind ≡ 1 → parts.now.sectors ≡ Some x → capacity < sector + x.span.len / 512 → result ≡ work.Reply (plain_answer_of parts.now 1) }
+    ensures flush { kind ≡ 4 → result ≡ work.Sync (plain_answer_of parts.now 0) }
+{
+    match kind {
+        0 => match transfer_of(parts, sector, capacity, true) {
+            Ok(transfer) => after_sector(transfer, Work::Look(transfer)),
+            Err(answer) => Work::Reply(answer),
+        },
+        1 => match transfer_of(parts, sector, capacity, false) {
+            Ok(transfer) => after_sector(transfer, Work::Act(transfer)),
+            Err(answer) => Work::Reply(answer),
+        },
+        4 => Work::Sync(plain_answer(parts, OK)),
+        _ => Work::Reply(plain_answer(parts, UNSUPP)),
+    }
+}
+
+/// The next sector, or the status after the last one.
+fn after_sector(transfer: Transfer, more: Work) -> Work
+    ensures goes_on { transfer.done < transfer.count → result ≡ more }
+    ensures ends { transfer.count ≤ transfer.done → result ≡ work.Reply transfer.answer }
+{
+    if transfer.done < transfer.count {
+        more
+    } else {
+        Work::Reply(transfer.answer)
+    }
+}
+
+/// The answer of a request whose disk call failed.
+fn failed(answer: Answer) -> Answer {
+    Answer {
+        status: IOERR,
+        len: answer.plain_len,
+        ..answer
+    }
+}
+
+impl Task {
+    ghost use Rattle.std.specs.Prelude.{slice_get};
+    ghost use Rattle.vub_base.specs.declared.header.Header1.{Header1};
+    ghost use Rattle.vub_device.specs.declared.entry.Asked.{Asked};
+    ghost use Rattle.vub_driver.specs.GuestChain.{Links};
+    ghost use Rattle.vub_steps.specs.Tasks as Tasks;
+    ghost use Rattle.vub_steps.specs.Tasks.{task_steps};
+    ghost use Rattle.vub_direct.specs.ChainState.{MeansRequest, Reads, read_outcome};
+    ghost use Rattle.vub_task.specs.TaskState.{Making, IsNext, IsServed, IsReady, IsTaskAt, HasMade, LooksAt, answer_in, store_in, memory_after, with_maybe, values_after, work_for, work_of};
+    ghost use Rattle.vub_split.specs.declared.split.SplitRing.{SplitRing};
+
+    /// A request that was accepted under this head.
+    pub fn new(head: u16) -> Task
+        ensures is { result ≡ fresh_task head }
+        ensures fresh { (h : Header1) (r : SplitRing) (buffer : ℕ) (request : Asked) → IsTaskAt h r buffer request 0 result }
+    {
+        Task {
+            head,
+            work: Work::Begin,
+        }
+    }
+
+    pub fn head(&self) -> u16
+        ensures { result ≡ self.now.head }
+    {
+        self.head
+    }
+
+    /// Reads the chain and the header.
+    fn begin<M: Shared>(&self, ring: &SplitRing, mem: &mut M, capacity: u64) -> Result<Work, Unread>
+        requires lies { RingLies (M.sizes mem.old) ring.now }
+        requires fits { self.now.head < ring.now.size }
+        ensures begins { (h : Header1) (l : Links) (buffer : ℕ) (request : Asked) (step : Tasks.TaskStep) → WhereTold (M.told mem.old) (λ m. MeansRequest (M.sizes mem.old) ring.now m l buffer request → l.head ≡ self.now.head → IsServed h capacity request → slice_get (task_steps h request) 0 ≡ Some step → Reads result (work_for h ring.now buffer request step)) }
+        ensures told { M.told mem.new ≡ M.told mem.old }
+        ensures trail { M.trail mem.new ≡ M.trail mem.old }
+        ensures sizes { (s : ℕ) → M.sizes mem.new s ≡ M.sizes mem.old s }
+        ensures cause { HasCause (M.faults mem.old) (M.faults mem.new) (read_outcome result) }
+    {
+        let parts = read_chain(ring, mem, self.head)?;
+        let header = parts.header;
+        if header.len < 16 || !lies_in(mem, &header) {
+            return Ok(Work::Reply(plain_answer(&parts, IOERR)));
+        }
+        let mut bytes = [0u8; 16];
+        if mem.load(header.space, header.place, &mut bytes).is_err() {
+            return Err(Unread::Failed);
+        }
+        let kind = get_u32(&bytes, 0);
+        let sector = get_u64(&bytes, 8);
+        Ok(first_work(kind, sector, &parts, capacity))
+    }
+
+    fn look<D: Disk>(
+        &mut self,
+        transfer: Transfer,
+        disk: &mut D,
+        sector: &mut [u8; 512],
+    ) -> Option<TaskStep>
+        ensures answer { transfer.sector + transfer.done < D.capacity disk.old → IfMade result (λ step. step ≡ answers.Looked (transfer.sector + transfer.done)) }
+        ensures read { transfer.sector + transfer.done < D.capacity disk.old → IfMade result (λ step. WhereTold (D.values disk.old) (λ v. sector.new ≡ v (transfer.sector + transfer.done))) }
+        ensures next { transfer.sector + transfer.done < D.capacity disk.old → IfMade result (λ step. self.new.work ≡ work.Store transfer) }
+        ensures head { self.new.head ≡ self.old.head }
+        ensures values { D.values disk.new ≡ D.values disk.old }
+        ensures capacity { D.capacity disk.new ≡ D.capacity disk.old }
+        ensures disk_cause { HasCause (D.faults disk.old) (D.faults disk.new) (disk_outcome result) }
+        ensures no_memory { memory_outcome result ≡ Ok tt }
+        ensures other { IfSynced result ⊥ }
+    {
+        let number = transfer.sector.checked_add(transfer.done)?;
+        if number >= disk.capacity() {
+            return None;
+        }
+        if disk.read(number, sector).is_err() {
+            self.work = Work::Reply(failed(transfer.answer));
+            return Some(TaskStep::Faulted);
+        }
+        self.work = Work::Store(transfer);
+        Some(TaskStep::Looked(number))
+    }
+
+    fn store<M: Shared>(
+        &mut self,
+        transfer: Transfer,
+        mem: &mut M,
+        sector: &[u8; 512],
+    ) -> Option<TaskStep>
+        ensures answer { transfer.span.place + (512 * transfer.done + 512) ≤ M.sizes mem.old transfer.span.space.number → IfMade result (λ step. step ≡ answers.Stored T2) }
+        ensures stored { transfer.span.place + (512 * transfer.done + 512) ≤ M.sizes mem.old transfer.span.space.number → IfMade result (λ step. M.told mem.new ≡ option_map (after_store (one_store transfer.span.space.number (transfer.span.place + 512 * transfer.done) sector.now)) (M.told mem.old)) }
+        ensures trailed { transfer.span.place + (512 * transfer.done + 512) ≤ M.sizes mem.old transfer.span.space.number → IfMade result (λ step. M.trail mem.new ≡ option_map (after_in_trail (one_store transfer.span.space.number (transfer.span.place + 512 * transfer.done) sector.now)) (M.trail mem.old)) }
+        ensures trail { GainsOne (M.trail mem.old) (M.trail mem.new) }
+        ensures more { transfer.span.place + (512 * transfer.done + 512) ≤ M.sizes mem.old transfer.span.space.number → transfer.done + 1 < transfer.count → IfMade result (λ step. self.new.work ≡ work.Look (record transfer { done = transfer.done + 1 })) }
+        ensures last { transfer.span.place + (512 * transfer.done + 512) ≤ M.sizes mem.old transfer.span.space.number → transfer.count ≤ transfer.done + 1 → IfMade result (λ step. self.new.work ≡ work.Reply transfer.answer) }
+        ensures head { self.new.head ≡ self.old.head }
+        ensures sizes { (s : ℕ) → M.sizes mem.new s ≡ M.sizes mem.old s }
+        ensures memory_cause { HasCause (M.faults mem.old) (M.faults mem.new) (memory_outcome result) }
+        ensures no_disk { disk_outcome result ≡ Ok tt }
+        ensures other { IfSynced result ⊥ }
+    {
+        let span = sector_span(&transfer)?;
+        if span.len != 512 || !lies_in(mem, &span) {
+            return None;
+        }
+        if mem.store_run(span.space, span.place, sector).is_err() {
+            return Some(TaskStep::Failed);
+        }
+        let next = Transfer {
+            done: transfer.done.checked_add(1)?,
+            ..transfer
+        };
+        self.work = after_sector(next, Work::Look(next));
+        Some(TaskStep::Stored(Tag::T2))
+    }
+
+    fn act<M: Shared, D: Disk>(
+        &mut self,
+        transfer: Transfer,
+        mem: &mut M,
+        disk: &mut D,
+        sector: &mut [u8; 512],
+    ) -> Option<TaskStep>
+        ensures answer { transfer.span.place + (512 * transfer.done + 512) ≤ M.sizes mem.old transfer.span.space.number → transfer.sector + transfer.done < D.capacity disk.old → IfMade result (λ step. step ≡ answers.Acted (transfer.sector + transfer.done)) }
+        ensures written { transfer.span.place + (512 * transfer.done + 512) ≤ M.sizes mem.old transfer.span.space.number → transfer.sector + transfer.done < D.capacity disk.old → IfMade result (λ step. WhereTold (M.told mem.old) (λ m. D.values disk.new ≡ option_map (with_value (transfer.sector + transfer.done) (bytes_from 512 m transfer.span.space.number (transfer.span.place + 512 * transfer.done))) (D.values disk.old))) }
+        ensures more { transfer.span.place + (512 * transfer.done + 512) ≤ M.sizes mem.old transfer.span.space.number → transfer.sector + transfer.done < D.capacity disk.old → transfer.done + 1 < transfer.count → IfMade result (λ step. self.new.work ≡ work.Act (record transfer { done = transfer.done + 1 })) }
+        ensures last { transfer.span.place + (512 * transfer.done + 512) ≤ M.sizes mem.old transfer.span.space.number → transfer.sector + transfer.done < D.capacity disk.old → transfer.count ≤ transfer.done + 1 → IfMade result (λ step. self.new.work ≡ work.Reply transfer.answer) }
+        ensures head { self.new.head ≡ self.old.head }
+        ensures told { M.told mem.new ≡ M.told mem.old }
+        ensures trail { M.trail mem.new ≡ M.trail mem.old }
+        ensures sizes { (s : ℕ) → M.sizes mem.new s ≡ M.sizes mem.old s }
+        ensures capacity { D.capacity disk.new ≡ D.capacity disk.old }
+        ensures memory_cause { HasCause (M.faults mem.old) (M.faults mem.new) (memory_outcome result) }
+        ensures disk_cause { HasCause (D.faults disk.old) (D.faults disk.new) (disk_outcome result) }
+        ensures other { IfSynced result ⊥ }
+    {
+        let span = sector_span(&transfer)?;
+        let number = transfer.sector.checked_add(transfer.done)?;
+        if span.len != 512 || !lies_in(mem, &span) || number >= disk.capacity() {
+            return None;
+        }
+        if mem.load(span.space, span.place, sector).is_err() {
+            return Some(TaskStep::Failed);
+        }
+        if disk.write(number, sector).is_err() {
+            self.work = Work::Reply(failed(transfer.answer));
+            return Some(TaskStep::Faulted);
+        }
+        let next = Transfer {
+            done: transfer.done.checked_add(1)?,
+            ..transfer
+        };
+        self.work = after_sector(next, Work::Act(next));
+        Some(TaskStep::Acted(number))
+    }
+
+    fn sync<D: Disk>(&mut self, answer: Answer, disk: &mut D) -> TaskStep
+        ensures answer { IfMade (Some result) (λ step. step ≡ answers.Synced) }
+        ensures next { IfMade (Some result) (λ step. self.new.work ≡ work.Reply answer) }
+        ensures values { D.values disk.new ≡ D.values disk.old }
+        ensures stable { IfSynced (Some result) (D.stable disk.new ≡ D.values disk.new) }
+        ensures head { self.new.head ≡ self.old.head }
+        ensures capacity { D.capacity disk.new ≡ D.capacity disk.old }
+        ensures disk_cause { HasCause (D.faults disk.old) (D.faults disk.new) (disk_outcome (Some result)) }
+        ensures no_memory { memory_outcome (Some result) ≡ Ok tt }
+    {
+        if disk.flush().is_err() {
+            self.work = Work::Reply(failed(answer));
+            return TaskStep::Faulted;
+        }
+        self.work = Work::Reply(answer);
+        TaskStep::Synced
+    }
+
+    fn reply<M: Shared>(&self, answer: Answer, mem: &mut M) -> Option<TaskStep>
+        ensures answer { answer.span.len ≡ 1 → answer.span.place + 1 ≤ M.sizes mem.old answer.span.space.number → IfMade result (λ step. step ≡ answers.Done answer.status answer.len) }
+        ensures stored { answer.span.len ≡ 1 → answer.span.place + 1 ≤ M.sizes mem.old answer.span.space.number → IfMade result (λ step. M.told mem.new ≡ option_map (after_store (one_store answer.span.space.number answer.span.place (little_bytes 1 answer.status))) (M.told mem.old)) }
+        ensures trailed { answer.span.len ≡ 1 → answer.span.place + 1 ≤ M.sizes mem.old answer.span.space.number → IfMade result (λ step. M.trail mem.new ≡ option_map (after_in_trail (one_store answer.span.space.number answer.span.place (little_bytes 1 answer.status))) (M.trail mem.old)) }
+        ensures trail { GainsOne (M.trail mem.old) (M.trail mem.new) }
+        ensures sizes { (s : ℕ) → M.sizes mem.new s ≡ M.sizes mem.old s }
+        ensures memory_cause { HasCause (M.faults mem.old) (M.faults mem.new) (memory_outcome result) }
+        ensures no_disk { disk_outcome result ≡ Ok tt }
+        ensures other { IfSynced result ⊥ }
+    {
+        if answer.span.len == 0 || !lies_in(mem, &answer.span) {
+            return None;
+        }
+        let last = answer.span.place + (u64::from(answer.span.len) - 1);
+        if mem.store1(answer.span.space, last, answer.status).is_err() {
+            return Some(TaskStep::Failed);
+        }
+        Some(TaskStep::Done {
+            status: answer.status,
+            len: answer.len,
+        })
+    }
+
+    /// What is to be done next, which the chain and the header say at first.
+    fn prepare<M: Shared>(
+        &self,
+        ring: &SplitRing,
+        mem: &mut M,
+        capacity: u64,
+    ) -> Result<Work, Unread>
+        requires lies { RingLies (M.sizes mem.old) ring.now }
+        requires fits { self.now.head < ring.now.size }
+        ensures ready { (n : Making) → WhereTold (M.told mem.old) (λ m. IsNext capacity (M.sizes mem.old) ring.now m n → IsReady ring.now n self.now → Reads result (work_of ring.now n)) }
+        ensures told { M.told mem.new ≡ M.told mem.old }
+        ensures trail { M.trail mem.new ≡ M.trail mem.old }
+        ensures sizes { (s : ℕ) → M.sizes mem.new s ≡ M.sizes mem.old s }
+        ensures cause { HasCause (M.faults mem.old) (M.faults mem.new) (read_outcome result) }
+    {
+        match self.work {
+            Work::Begin => self.begin(ring, mem, capacity),
+            work => Ok(work),
+        }
+    }
+
+    /// Makes the next step: a disk call or a store. The first one reads the chain and the header
+    /// before. A sector on its way stands in `sector` between a look and its store.
+    ///
+    /// Where the memory is told and means the task's request, and neither it nor the disk fails,
+    /// this is the next step of the step table.
+    pub fn step<M: Shared, D: Disk>(
+        &mut self,
+        ring: &SplitRing,
+        mem: &mut M,
+        disk: &mut D,
+        sector: &mut [u8; 512],
+    ) -> TaskStep
+        requires lies { RingLies (M.sizes mem.old) ring.now }
+        requires fits { self.old.head < ring.now.size }
+        ensures head { self.new.head ≡ self.old.head }
+        ensures answer { (n : Making) → WhereTold (M.told mem.old) (λ m. IsNext (D.capacity disk.old) (M.sizes mem.old) ring.now m n → IsReady ring.now n self.old → IfMade (Some result) (λ step. step ≡ answer_in n)) }
+        ensures stored { (n : Making) → WhereTold (M.told mem.old) (λ m. IsNext (D.capacity disk.old) (M.sizes mem.old) ring.now m n → IsReady ring.now n self.old → IfMade (Some result) (λ step. M.told mem.new ≡ Some (memory_after ring.now n sector.old m))) }
+        ensures trails { (n : Making) → WhereTold (M.told mem.old) (λ m. IsNext (D.capacity disk.old) (M.sizes mem.old) ring.now m n → IsReady ring.now n self.old → IfMade (Some result) (λ step. M.trail mem.new ≡ option_map (with_maybe (store_in ring.now n sector.old)) (M.trail mem.old))) }
+        ensures trail { GainsOne (M.trail mem.old) (M.trail mem.new) }
+        ensures looked { (n : Making) → WhereTold (M.told mem.old) (λ m. IsNext (D.capacity disk.old) (M.sizes mem.old) ring.now m n → IsReady ring.now n self.old → IfMade (Some result) (λ step. WhereTold (D.values disk.old) (λ v. LooksAt n v sector.new))) }
+        ensures written { (n : Making) → WhereTold (M.told mem.old) (λ m. IsNext (D.capacity disk.old) (M.sizes mem.old) ring.now m n → IsReady ring.now n self.old → IfMade (Some result) (λ step. D.values disk.new ≡ option_map (values_after n.request n.step) (D.values disk.old))) }
+        ensures stable { IfSynced (Some result) (D.stable disk.new ≡ D.values disk.new) }
+        ensures goes_on { (n : Making) → WhereTold (M.told mem.old) (λ m. IsNext (D.capacity disk.old) (M.sizes mem.old) ring.now m n → IsReady ring.now n self.old → IfMade (Some result) (λ step. HasMade ring.now n self.new)) }
+        ensures sizes { (s : ℕ) → M.sizes mem.new s ≡ M.sizes mem.old s }
+        ensures capacity { D.capacity disk.new ≡ D.capacity disk.old }
+        ensures memory_cause { HasCause (M.faults mem.old) (M.faults mem.new) (memory_outcome (Some result)) }
+        ensures disk_cause { HasCause (D.faults disk.old) (D.faults disk.new) (disk_outcome (Some result)) }
+    {
+        match self.prepare(ring, mem, disk.capacity()) {
+            Ok(work) => {
+                self.work = work;
+                self.go_on(mem, disk, sector)
+            }
+            Err(Unread::Failed) => TaskStep::Failed,
+            Err(Unread::Broken(fault)) => TaskStep::Broken(fault),
+        }
+    }
+
+    fn go_on<M: Shared, D: Disk>(
+        &mut self,
+        mem: &mut M,
+        disk: &mut D,
+        sector: &mut [u8; 512],
+    ) -> TaskStep
+        ensures head { self.new.head ≡ self.old.head }
+        ensures answer { (r : SplitRing) (n : Making) → WhereTold (M.told mem.old) (λ m. IsNext (D.capacity disk.old) (M.sizes mem.old) r m n → self.old.work ≡ work_of r n → IfMade (Some result) (λ step. step ≡ answer_in n)) }
+        ensures stored { (r : SplitRing) (n : Making) → WhereTold (M.told mem.old) (λ m. IsNext (D.capacity disk.old) (M.sizes mem.old) r m n → self.old.work ≡ work_of r n → IfMade (Some result) (λ step. M.told mem.new ≡ Some (memory_after r n sector.old m))) }
+        ensures trails { (r : SplitRing) (n : Making) → WhereTold (M.told mem.old) (λ m. IsNext (D.capacity disk.old) (M.sizes mem.old) r m n → self.old.work ≡ work_of r n → IfMade (Some result) (λ step. M.trail mem.new ≡ option_map (with_maybe (store_in r n sector.old)) (M.trail mem.old))) }
+        ensures trail { GainsOne (M.trail mem.old) (M.trail mem.new) }
+        ensures looked { (r : SplitRing) (n : Making) → WhereTold (M.told mem.old) (λ m. IsNext (D.capacity disk.old) (M.sizes mem.old) r m n → self.old.work ≡ work_of r n → IfMade (Some result) (λ step. WhereTold (D.values disk.old) (λ v. LooksAt n v sector.new))) }
+        ensures written { (r : SplitRing) (n : Making) → WhereTold (M.told mem.old) (λ m. IsNext (D.capacity disk.old) (M.sizes mem.old) r m n → self.old.work ≡ work_of r n → IfMade (Some result) (λ step. D.values disk.new ≡ option_map (values_after n.request n.step) (D.values disk.old))) }
+        ensures stable { IfSynced (Some result) (D.stable disk.new ≡ D.values disk.new) }
+        ensures goes_on { (r : SplitRing) (n : Making) → WhereTold (M.told mem.old) (λ m. IsNext (D.capacity disk.old) (M.sizes mem.old) r m n → self.old.work ≡ work_of r n → IfMade (Some result) (λ step. HasMade r n self.new)) }
+        ensures sizes { (s : ℕ) → M.sizes mem.new s ≡ M.sizes mem.old s }
+        ensures capacity { D.capacity disk.new ≡ D.capacity disk.old }
+        ensures memory_cause { HasCause (M.faults mem.old) (M.faults mem.new) (memory_outcome (Some result)) }
+        ensures disk_cause { HasCause (D.faults disk.old) (D.faults disk.new) (disk_outcome (Some result)) }
+    {
+        match self.attempt(mem, disk, sector) {
+            Some(step) => step,
+            None => TaskStep::Broken(RingFault::Chain(ChainFault::Unmapped(0))),
+        }
+    }
+
+    /// Makes the next step of a request that was begun; `None` where its parts don't lie where they
+    /// should.
+    fn attempt<M: Shared, D: Disk>(
+        &mut self,
+        mem: &mut M,
+        disk: &mut D,
+        sector: &mut [u8; 512],
+    ) -> Option<TaskStep>
+        ensures head { self.new.head ≡ self.old.head }
+        ensures answer { (r : SplitRing) (n : Making) → WhereTold (M.told mem.old) (λ m. IsNext (D.capacity disk.old) (M.sizes mem.old) r m n → self.old.work ≡ work_of r n → IfMade result (λ step. step ≡ answer_in n)) }
+        ensures stored { (r : SplitRing) (n : Making) → WhereTold (M.told mem.old) (λ m. IsNext (D.capacity disk.old) (M.sizes mem.old) r m n → self.old.work ≡ work_of r n → IfMade result (λ step. M.told mem.new ≡ Some (memory_after r n sector.old m))) }
+        ensures trails { (r : SplitRing) (n : Making) → WhereTold (M.told mem.old) (λ m. IsNext (D.capacity disk.old) (M.sizes mem.old) r m n → self.old.work ≡ work_of r n → IfMade result (λ step. M.trail mem.new ≡ option_map (with_maybe (store_in r n sector.old)) (M.trail mem.old))) }
+        ensures trail { GainsOne (M.trail mem.old) (M.trail mem.new) }
+        ensures looked { (r : SplitRing) (n : Making) → WhereTold (M.told mem.old) (λ m. IsNext (D.capacity disk.old) (M.sizes mem.old) r m n → self.old.work ≡ work_of r n → IfMade result (λ step. WhereTold (D.values disk.old) (λ v. LooksAt n v sector.new))) }
+        ensures written { (r : SplitRing) (n : Making) → WhereTold (M.told mem.old) (λ m. IsNext (D.capacity disk.old) (M.sizes mem.old) r m n → self.old.work ≡ work_of r n → IfMade result (λ step. D.values disk.new ≡ option_map (values_after n.request n.step) (D.values disk.old))) }
+        ensures stable { IfSynced result (D.stable disk.new ≡ D.values disk.new) }
+        ensures goes_on { (r : SplitRing) (n : Making) → WhereTold (M.told mem.old) (λ m. IsNext (D.capacity disk.old) (M.sizes mem.old) r m n → self.old.work ≡ work_of r n → IfMade result (λ step. HasMade r n self.new)) }
+        ensures sizes { (s : ℕ) → M.sizes mem.new s ≡ M.sizes mem.old s }
+        ensures capacity { D.capacity disk.new ≡ D.capacity disk.old }
+        ensures memory_cause { HasCause (M.faults mem.old) (M.faults mem.new) (memory_outcome result) }
+        ensures disk_cause { HasCause (D.faults disk.old) (D.faults disk.new) (disk_outcome result) }
+    {
+        match self.work {
+            Work::Begin => None,
+            Work::Look(transfer) => self.look(transfer, disk, sector),
+            Work::Store(transfer) => self.store(transfer, mem, sector),
+            Work::Act(transfer) => self.act(transfer, mem, disk, sector),
+            Work::Sync(answer) => Some(self.sync(answer, disk)),
+            Work::Reply(answer) => self.reply(answer, mem),
+        }
+    }
+}

@@ -1,5 +1,0 @@
-use Rattle.vub_world.proofs.RunExists.{run_some}
-use Rattle.vub_world.proofs.laws.every_schedule_runs.Goals as goal
-
-pub returns : goal.returns
-returns c s is = run_some s is

@@ -1,7 +1,0 @@
-use Rattle.std.proofs.Common.{◌≡◌, ◌++◌, take}
-use Rattle.vub_world.specs.RecordText.{entries_spelling}
-use Rattle.vub_world.specs.Tracking.{entries_of}
-use Rattle.vub_world.proofs.report.text.put_entries.Given as goal
-
-abbrev pub invariant-loop-item : goal.invariant-loop-item
-invariant-loop-item l = l.out.items ≡ l.fn.out.items ++ entries_spelling (entries_of (take l.item-index l.item-items))
