@@ -13,9 +13,9 @@ use Rattle.vub_device.specs.declared.entry.Asked.TheVariants.{Read, Write, Flush
 use Rattle.vub_device.specs.declared.entry.SectorValue.{SectorValue}
 use Rattle.vub_device.specs.Requests.{refusal, effect_at}
 use Rattle.vub_steps.specs.Tasks.{TaskStep, Look, Put, Act, Sync, Status, task_steps, status_of}
-use Rattle.vub_direct.specs.ChainState.{sector_of, data_start, data_len, handed_bytes}
+use Rattle.vub_direct_chain.specs.ChainState.{sector_of, data_start, data_len, handed_bytes}
 use Rattle.vub_task.specs.TaskState.{IfMade, Making, IsNext, IsBasic, IsTaskAt, answer_of, transfer_at, work_for, with_effect, with_maybe}
-use Rattle.vub_direct.proofs.ChainReading.{means_still}
+use Rattle.vub_direct_chain.proofs.ChainReading.{means_still}
 use Rattle.vub_split.specs.declared.split.SplitRing.{SplitRing}
 use Rattle.vub_task.specs.declared.task.Answer.{Answer}
 use Rattle.vub_task.specs.declared.task.Transfer.{Transfer}

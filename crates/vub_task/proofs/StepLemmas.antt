@@ -9,7 +9,7 @@ use Rattle.vub_device.specs.declared.entry.Asked.TheVariants.{Read, Write, Flush
 use Rattle.vub_device.specs.declared.entry.SectorValue.{SectorValue}
 use Rattle.vub_device.specs.Requests.{refusal, effect_at}
 use Rattle.vub_steps.specs.Tasks.{TaskStep, Look, Put, Act, Sync, Status, task_steps, unless_refused, disk_steps, look_steps, act_steps}
-use Rattle.vub_direct.specs.ChainState.{sector_of, data_len, handed_bytes}
+use Rattle.vub_direct_chain.specs.ChainState.{sector_of, data_len, handed_bytes}
 use Rattle.vub_task.specs.TaskState.{IsBasic}
 
 -- what is known of a step of a table, and which one is after it

@@ -5,7 +5,7 @@ use Rattle.std.specs.Result.{is_err}
 use Rattle.vub_base.specs.Told.{WhereTold}
 use Rattle.vub_shared.specs.Bytes.{Bytes, bytes_from, word}
 use Rattle.vub_base.specs.Fields.{field}
-use Rattle.vub_direct.proofs.ChainReading.{field_of_loaded}
+use Rattle.vub_direct_chain.proofs.ChainReading.{field_of_loaded}
 use Rattle.vub_disk.specs.Values.{Values, Writes, with_value}
 use Rattle.std.proofs.Common.{◌/◌, ◌%◌, ◌++◌}
 use Rattle.std.proofs.lemmas.Bool.Decides.{nat_tests}
@@ -18,16 +18,16 @@ use Rattle.vub_device.specs.declared.entry.Asked.TheVariants.{Read, Write, Flush
 use Rattle.vub_device.specs.Requests.{refusal}
 use Rattle.vub_driver.specs.Layout.{status_place}
 use Rattle.vub_steps.specs.Tasks.{TaskStep, Look, Act, Sync, Status, task_steps, status_of, used_len, unless_refused, disk_steps, act_steps}
-use Rattle.vub_direct.specs.ChainState.{parts_of, span_at, type_of, sector_of, data_start}
+use Rattle.vub_direct_chain.specs.ChainState.{parts_of, span_at, type_of, sector_of, data_start}
 use Rattle.vub_task.specs.TaskState.{IsServed, IsBasic, answer_of, work_for, whole_transfer, plain_answer_of, plain_len_of}
 use Rattle.vub_split.specs.declared.split.SplitRing.{SplitRing}
-use Rattle.vub_direct.specs.declared.chain.Parts.{Parts}
-use Rattle.vub_direct.specs.declared.chain.Sectors.{Sectors}
+use Rattle.vub_direct_chain.specs.declared.chain.Parts.{Parts}
+use Rattle.vub_direct_chain.specs.declared.chain.Sectors.{Sectors}
 use Rattle.vub_task.specs.declared.task.Answer.{Answer}
 use Rattle.vub_task.specs.declared.task.Transfer.{Transfer}
 use Rattle.vub_task.specs.declared.task.Work.{Work}
 use Rattle.vub_task.specs.declared.task.Work.TheVariants as work
-use Rattle.vub_direct.specs.declared.chain.Span.{Span}
+use Rattle.vub_direct_chain.specs.declared.chain.Span.{Span}
 
 -- what was loaded is written
 pub act_written : {T E F : Type 0} (before after : Option Values) (s n : ℕ) (into : List ℕ) (told : Option Bytes) (m : Bytes) (span there : Span) (w : ℕ) (loads : Result T E) (writes : Result T F)

@@ -13,10 +13,10 @@ use Rattle.vub_device.specs.declared.entry.SectorValue.{SectorValue}
 use Rattle.vub_device.specs.Requests.{effect_at}
 use Rattle.vub_driver.specs.GuestChain.{Links}
 use Rattle.vub_steps.specs.Tasks.{TaskStep, Look, Put, Act, Sync, Status, task_steps, status_of, used_len}
-use Rattle.vub_direct.specs.ChainState.{MeansRequest, sector_of, data_start, data_len, span_at}
+use Rattle.vub_direct_chain.specs.ChainState.{MeansRequest, sector_of, data_start, data_len, span_at}
 use Rattle.vub_split.specs.declared.split.SplitRing.{SplitRing}
-use Rattle.vub_direct.specs.declared.chain.Sectors.{Sectors}
-use Rattle.vub_direct.specs.declared.chain.Parts.{Parts}
+use Rattle.vub_direct_chain.specs.declared.chain.Sectors.{Sectors}
+use Rattle.vub_direct_chain.specs.declared.chain.Parts.{Parts}
 use Rattle.vub_task.specs.declared.task.Answer.{Answer}
 use Rattle.vub_task.specs.declared.task.Transfer.{Transfer}
 use Rattle.vub_task.specs.declared.task.Work.{Work}

@@ -10,11 +10,11 @@ ghost use Rattle.vub_shared.specs.Stores.{one_store, after_store, after_in_trail
 ghost use Rattle.vub_disk.specs.Values.{with_value};
 ghost use Rattle.vub_split.specs.Split.{RingLies};
 ghost use Rattle.vub_task.specs.TaskState.{IfMade, IfSynced, GainsOne, fresh_task, memory_outcome, disk_outcome, plain_len_of, plain_answer_of, whole_transfer};
-ghost use Rattle.vub_direct.specs.declared.chain.Sectors.{Sectors};
+ghost use Rattle.vub_direct_chain.specs.declared.chain.Sectors.{Sectors};
 ghost use Rattle.vub_task.specs.declared.task.TaskStep.TheVariants as answers;
 ghost use Rattle.vub_task.specs.declared.task.Work.TheVariants as work;
 
-use vub_direct::{Parts, Sectors, Span, Unread, lies_in, read_chain};
+use vub_direct_chain::{Parts, Sectors, Span, Unread, lies_in, read_chain};
 use vub_base::{ChainFault, Failed, RingFault, Tag, get_u32, get_u64};
 use vub_disk::Disk;
 use vub_shared::Shared;
@@ -210,7 +210,7 @@ impl Task {
     ghost use Rattle.vub_driver.specs.GuestChain.{Links};
     ghost use Rattle.vub_steps.specs.Tasks as Tasks;
     ghost use Rattle.vub_steps.specs.Tasks.{task_steps};
-    ghost use Rattle.vub_direct.specs.ChainState.{MeansRequest, Reads, read_outcome};
+    ghost use Rattle.vub_direct_chain.specs.ChainState.{MeansRequest, Reads, read_outcome};
     ghost use Rattle.vub_task.specs.TaskState.{Making, IsNext, IsServed, IsReady, IsTaskAt, HasMade, LooksAt, answer_in, store_in, memory_after, with_maybe, values_after, work_for, work_of};
     ghost use Rattle.vub_split.specs.declared.split.SplitRing.{SplitRing};
 

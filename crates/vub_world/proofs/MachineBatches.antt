@@ -20,13 +20,13 @@ use Rattle.vub_world.specs.Logs.{slot_in}
 use Rattle.vub_world.specs.MachineAt.{MachineAt, LifeAt, AttachedAt, LogAt, reads_of}
 use Rattle.vub_world.specs.MachineDevice.{BatchFits, ShowsSome, QueueShowsSome, batch_in, queue_batch, is_index, is_showing}
 use Rattle.vub_run.specs.Moments.{Moment}
-use Rattle.vub_queue_at.specs.QueueAt.{QueueStands, spot_of}
+use Rattle.vub_queue_in_run.specs.QueueAt.{QueueStands, spot_of}
 use Rattle.vub_queue.specs.QueueState.{QueueState, state_of}
 use Rattle.vub_world.proofs.MachineTurns.{among_right}
-use Rattle.vub_laws.proofs.RunFrames.{open_out}
-use Rattle.vub_laws.proofs.RunGood.{IsWide, PhaseIs, IsOut}
-use Rattle.vub_laws.proofs.RunNumbers.{among_get}
-use Rattle.vub_laws.proofs.RunTurns.{Good}
+use Rattle.vub_run_laws.proofs.RunFrames.{open_out}
+use Rattle.vub_run_laws.proofs.RunGood.{IsWide, PhaseIs, IsOut}
+use Rattle.vub_run_laws.proofs.RunNumbers.{among_get}
+use Rattle.vub_run_laws.proofs.RunTurns.{Good}
 
 -- ---- a batch that is shown isn't empty
 

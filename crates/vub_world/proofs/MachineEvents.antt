@@ -15,7 +15,7 @@ use Rattle.vub_run.specs.LegalRuns.{IsLegalRun, IsServed, past_of}
 use Rattle.vub_world.specs.MachineAt.{MachineAt, LifeAt, AttachedAt, IsStanding, Performs, StandsOn, ServesAll, is_attached, has_queue}
 use Rattle.vub_run.specs.Moments.{Moment, opening}
 use Rattle.vub_run.specs.Run.{Stands, Plays}
-use Rattle.vub_laws.proofs.RunsTo.{run_of, stands_more, stands_true, stands_past, stands_drained}
+use Rattle.vub_run_laws.proofs.RunsTo.{run_of, stands_more, stands_true, stands_past, stands_drained}
 
 pub ok_then : {T E : Type 0} (P Q : T → Type 0) (r : Result T E) → ((x : T) → P x → Q x) → IfOk r P → IfOk r Q
 ok_then P Q (Ok x) f p = f x p

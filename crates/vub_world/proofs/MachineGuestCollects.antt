@@ -28,13 +28,13 @@ use Rattle.vub_world.specs.MachineAt.{AskAt, LifeAt, AttachedAt, MachineAt}
 use Rattle.vub_run.specs.Moments.{Lane, Moment}
 use Rattle.vub_queue.specs.QueueState.{state_of}
 use Rattle.vub_run.specs.Run.{Stands, played, next_collected, take_first, collect}
-use Rattle.vub_laws.proofs.RunNumbers.{among_at}
-use Rattle.vub_laws.proofs.RunGood.{the_ring, Known}
-use Rattle.vub_laws.proofs.RunCollects.{IsTaken, none_before, first_seen, after_taken}
-use Rattle.vub_laws.proofs.RunTurns.{IsPlain, Good}
-use Rattle.vub_laws.proofs.Runs.{plain_header}
-use Rattle.vub_laws.proofs.RunsTo.{stands_good}
-use Rattle.vub_queue_at.proofs.QueueAtMoves.{at_collect}
+use Rattle.vub_run_laws.proofs.RunNumbers.{among_at}
+use Rattle.vub_run_laws.proofs.RunGood.{the_ring, Known}
+use Rattle.vub_run_laws.proofs.RunCollects.{IsTaken, none_before, first_seen, after_taken}
+use Rattle.vub_run_laws.proofs.RunTurns.{IsPlain, Good}
+use Rattle.vub_run_laws.proofs.Runs.{plain_header}
+use Rattle.vub_run_laws.proofs.RunsTo.{stands_good}
+use Rattle.vub_queue_in_run.proofs.QueueAtMoves.{at_collect}
 
 -- the machine after a collection
 abbrev pub with_taken : Machine → WatchedShared → Guest → Log → Machine

@@ -11,20 +11,20 @@ use Rattle.vub_driver.specs.Drivers.{Driver, Waiting}
 use Rattle.vub_driver.specs.Requests.{Piece, readable_piece, writable_piece, written_bytes, has_data}
 use Rattle.vub_driver.specs.Stores.{store_of_some, request_stores}
 use Rattle.vub_world.specs.declared.machine.Machine.{Machine}
-use Rattle.vub_direct.specs.ChainState.{data_of}
+use Rattle.vub_direct_chain.specs.ChainState.{data_of}
 use Rattle.vub_world.specs.MachineAt.{AskAt, MachineAt, IsStanding}
 use Rattle.vub_world.specs.MachineFront.{IsSmall, AreSmall, FrontFits}
 use Rattle.vub_run.specs.Moments.{Moment}
 use Rattle.vub_run.specs.Run.{Stands, request_of}
-use Rattle.vub_laws.proofs.RunGood.{the_ring, IsWide, IsWaiting, WaitsWell}
-use Rattle.vub_laws.proofs.RunFrames.{length_little}
-use Rattle.vub_laws.proofs.RunChains.{buffer_at, chain_of, desc_long}
-use Rattle.vub_laws.proofs.RunChainsStores.{header_long, linked, linked_two}
-use Rattle.vub_laws.proofs.RunChainsMade.{all_append, all_last}
-use Rattle.vub_laws.proofs.RunChainsTurns.{IsPrepared, PreparedWell}
-use Rattle.vub_laws.proofs.RunChainsEvents.{ChainedAt}
-use Rattle.vub_laws.proofs.RunTurns.{Good}
-use Rattle.vub_laws.proofs.RunsTo.{stands_good, stands_chained}
+use Rattle.vub_run_laws.proofs.RunGood.{the_ring, IsWide, IsWaiting, WaitsWell}
+use Rattle.vub_run_laws.proofs.RunFrames.{length_little}
+use Rattle.vub_run_laws.proofs.RunChains.{buffer_at, chain_of, desc_long}
+use Rattle.vub_run_laws.proofs.RunChainsStores.{header_long, linked, linked_two}
+use Rattle.vub_run_laws.proofs.RunChainsMade.{all_append, all_last}
+use Rattle.vub_run_laws.proofs.RunChainsTurns.{IsPrepared, PreparedWell}
+use Rattle.vub_run_laws.proofs.RunChainsEvents.{ChainedAt}
+use Rattle.vub_run_laws.proofs.RunTurns.{Good}
+use Rattle.vub_run_laws.proofs.RunsTo.{stands_good, stands_chained}
 
 -- ---- the stores
 

@@ -36,13 +36,13 @@ use Rattle.vub_run.specs.Memory.{Scene, after_item, after_items}
 use Rattle.vub_run.specs.Moments.{Lane, Moment}
 use Rattle.vub_queue.specs.QueueState.{state_of}
 use Rattle.vub_run.specs.Run.{Stands, played, if_ready, with_lane, with_driver, request_of, guest_items, guest_stores, guest}
-use Rattle.vub_laws.proofs.RunGood.{the_ring, Known, IsOut, Driven}
-use Rattle.vub_laws.proofs.RunOffers.{same_head, new_head, same_asked, new_asked}
-use Rattle.vub_laws.proofs.RunTurns.{Good}
-use Rattle.vub_laws.proofs.RunsTo.{stands_good, stands_more}
-use Rattle.vub_laws.proofs.RunChainsStores.{put_all}
-use Rattle.vub_laws.proofs.RunChainsGuests.{guest_scene, part_scene}
-use Rattle.vub_queue_at.proofs.QueueAtMoves.{at_offer}
+use Rattle.vub_run_laws.proofs.RunGood.{the_ring, Known, IsOut, Driven}
+use Rattle.vub_run_laws.proofs.RunOffers.{same_head, new_head, same_asked, new_asked}
+use Rattle.vub_run_laws.proofs.RunTurns.{Good}
+use Rattle.vub_run_laws.proofs.RunsTo.{stands_good, stands_more}
+use Rattle.vub_run_laws.proofs.RunChainsStores.{put_all}
+use Rattle.vub_run_laws.proofs.RunChainsGuests.{guest_scene, part_scene}
+use Rattle.vub_queue_in_run.proofs.QueueAtMoves.{at_offer}
 
 -- ---- the log
 

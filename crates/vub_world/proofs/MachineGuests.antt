@@ -23,7 +23,7 @@ use Rattle.vub_run.specs.Run.{guest_items, guest_stores}
 use Rattle.vub_world.specs.MachineAt.{AskAt, FrontAt}
 use Rattle.vub_world.specs.Machine.{IsSound}
 use Rattle.vub_world.specs.MachineFront.{head_shown, FrontFits, GuestGoes, GuestSteps}
-use Rattle.vub_laws.proofs.RunItems.{after-append}
+use Rattle.vub_run_laws.proofs.RunItems.{after-append}
 
 -- ---- the stores that are left
 

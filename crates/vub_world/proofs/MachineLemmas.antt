@@ -5,11 +5,11 @@ use Rattle.std.proofs.lemmas.Bool.Decides.{nat_tests}
 use Rattle.std.proofs.lemmas.Bool.{cases_eq}
 use Rattle.std.proofs.lemmas.Nat.Gcd.{dvd_of_mod-eq-zero}
 use Rattle.vub_schedule.specs.Spelling.{is_size}
-use Rattle.vub_laws.proofs.Sizes.{size_laps}
+use Rattle.vub_run_laws.proofs.Sizes.{size_laps}
 use Rattle.vub_split.specs.declared.split.SplitRing.{SplitRing}
 use Rattle.vub_world.specs.declared.machine.Machine.{Machine}
 use Rattle.vub_split.specs.Split.{RingLies}
-use Rattle.vub_queue_at.specs.QueueAt.{IsMainRing}
+use Rattle.vub_queue_in_run.specs.QueueAt.{IsMainRing}
 use Rattle.vub_world.specs.Machine.{IsSound, sizes_in}
 
 -- ---- the ring of the first queue

@@ -10,12 +10,12 @@ use Rattle.vub_queue.specs.declared.queue.Queue.{Queue}
 use Rattle.vub_world.specs.MachineAt.{MachineAt, LifeAt, AttachedAt, has_queue}
 use Rattle.vub_world.specs.MachineDevice.{is_joining}
 use Rattle.vub_run.specs.Moments.{Lane, Moment, fresh}
-use Rattle.vub_queue_at.specs.QueueAt.{QueueStands, QueueAt}
+use Rattle.vub_queue_in_run.specs.QueueAt.{QueueStands, QueueAt}
 use Rattle.vub_queue.specs.QueueState.{IsNew, state_of}
 use Rattle.vub_run.specs.Run.{played, if_ready, boot, join}
-use Rattle.vub_queue_at.proofs.QueueAtMoves.{at_new}
-use Rattle.vub_laws.proofs.RunGood.{PhaseIs}
-use Rattle.vub_laws.proofs.RunTurns.{IsPlain, Good}
+use Rattle.vub_queue_in_run.proofs.QueueAtMoves.{at_new}
+use Rattle.vub_run_laws.proofs.RunGood.{PhaseIs}
+use Rattle.vub_run_laws.proofs.RunTurns.{IsPlain, Good}
 
 -- the machine with that life
 abbrev pub with_life : Life → Machine → Machine

@@ -24,15 +24,15 @@ use Rattle.vub_world.specs.declared.device.Choice.TheVariants as choices
 use Rattle.vub_world.specs.Choices.{next_turn, choices_from}
 use Rattle.vub_world.specs.MachineSteps.{StepGoes, TurnsGo, TurnsMade}
 use Rattle.vub_run.specs.Moments.{Moment, standing}
-use Rattle.vub_queue_at.specs.QueueAt.{QueueStands, spot_of}
+use Rattle.vub_queue_in_run.specs.QueueAt.{QueueStands, spot_of}
 use Rattle.vub_queue.specs.QueueState.{state_of}
 use Rattle.vub_run.specs.Run.{Stands, Played, turns, one_turn, is_due, then_played}
 use Rattle.vub_world.proofs.MachineRooms.{shown_by, chosen_shows, undone, effort_bound, batch_undone}
-use Rattle.vub_laws.proofs.RunChainsTurns.{turn_gentle}
-use Rattle.vub_laws.proofs.RunEnds.{effort_at, effort_small, turn_falls, turns_more}
-use Rattle.vub_laws.proofs.RunTurns.{IsPlain, Good}
-use Rattle.vub_laws.proofs.Runs.{plain_header}
-use Rattle.vub_laws.proofs.RunsTo.{stands_good, stands_turns}
+use Rattle.vub_run_laws.proofs.RunChainsTurns.{turn_gentle}
+use Rattle.vub_run_laws.proofs.RunEnds.{effort_at, effort_small, turn_falls, turns_more}
+use Rattle.vub_run_laws.proofs.RunTurns.{IsPlain, Good}
+use Rattle.vub_run_laws.proofs.Runs.{plain_header}
+use Rattle.vub_run_laws.proofs.RunsTo.{stands_good, stands_turns}
 
 -- ---- what a life shows, and what its lane shows
 

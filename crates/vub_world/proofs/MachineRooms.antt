@@ -33,12 +33,12 @@ use Rattle.vub_run.specs.Run.{one_turn}
 use Rattle.vub_steps.specs.Tasks.{TaskStep, Look, Put, Act, Sync, Status, task_steps}
 use Rattle.vub_run.specs.TaskItems.{look_items, act_items}
 use Rattle.vub_run.specs.Turns.{turned, work_turn, request_turn, task_turn, phase_turn, phase_goes_on, under_way, begun, is_rest, row_items, step_stores, element_of, answer_at}
-use Rattle.vub_laws.proofs.RunNumbers.{missing-among, distinct_join, few_below}
-use Rattle.vub_laws.proofs.RunGood.{Known, Worked}
-use Rattle.vub_laws.proofs.RunEfforts.{weight, sum_below, weight_small}
-use Rattle.vub_laws.proofs.RunEnds.{effort_at, missing_distinct, phase_few, start_few}
-use Rattle.vub_laws.proofs.RunPublications.{numbers_answers}
-use Rattle.vub_laws.proofs.RunTurns.{Good, phase_cases}
+use Rattle.vub_run_laws.proofs.RunNumbers.{missing-among, distinct_join, few_below}
+use Rattle.vub_run_laws.proofs.RunGood.{Known, Worked}
+use Rattle.vub_run_laws.proofs.RunEfforts.{weight, sum_below, weight_small}
+use Rattle.vub_run_laws.proofs.RunEnds.{effort_at, missing_distinct, phase_few, start_few}
+use Rattle.vub_run_laws.proofs.RunPublications.{numbers_answers}
+use Rattle.vub_run_laws.proofs.RunTurns.{Good, phase_cases}
 
 -- ---- how many answers a turn shows
 

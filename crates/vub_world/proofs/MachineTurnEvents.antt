@@ -21,8 +21,8 @@ use Rattle.vub_room.specs.Rooms.{RoomState, HasRoom, HasTurnRoom}
 use Rattle.vub_run.specs.Run.{Stands, Played, played, single, turns, one_turn, is_due, if_ready, up_to, then_played, any_choice, drain_choice, Drains}
 use Rattle.vub_world.proofs.MachineLoops.{batch_few, undone_few, outstanding_few}
 use Rattle.vub_world.proofs.MachineRooms.{batch_undone}
-use Rattle.vub_laws.proofs.Runs.{plain_header}
-use Rattle.vub_laws.proofs.RunsTo.{stands_good}
+use Rattle.vub_run_laws.proofs.Runs.{plain_header}
+use Rattle.vub_run_laws.proofs.RunsTo.{stands_good}
 
 -- ---- room
 

@@ -44,23 +44,23 @@ use Rattle.vub_world.specs.MachineDevice.{Device, DeviceAt, TurnMade, StoreFits,
 use Rattle.vub_world.specs.MachineFront.{IsSmall, OneSmall}
 use Rattle.vub_run.specs.Memory.{after_items}
 use Rattle.vub_run.specs.Moments.{Lane, Moment, standing}
-use Rattle.vub_queue_at.specs.QueueAt.{spot_of, QueueStands, IsMainRing, DiskAt}
+use Rattle.vub_queue_in_run.specs.QueueAt.{spot_of, QueueStands, IsMainRing, DiskAt}
 use Rattle.vub_queue.specs.QueueState as states
 use Rattle.vub_split.specs.Split.{used_side}
 use Rattle.vub_queue.specs.QueueState.{QueueState, row_at, row_if, next_row, publishes, publish_row, StoresRow, TrailsRow, Turns, DoesStore, DoesTrail, DoesDisk, IsDue, IfStepped, WorksOut, outcome, is_idle, is_fault}
 use Rattle.vub_run.specs.Run.{one_turn}
 use Rattle.vub_task.specs.TaskState.{Making}
 use Rattle.vub_run.specs.Turns.{turned, answer_len, answer_at}
-use Rattle.vub_laws.proofs.RunNumbers.{not_among-take}
-use Rattle.vub_laws.proofs.RunFrames.{open_out, length_little}
-use Rattle.vub_laws.proofs.RunGood.{IsWide, IsOut, PhaseIs}
-use Rattle.vub_laws.proofs.RunPhases.{some_waits}
-use Rattle.vub_laws.proofs.RunTurns.{IsPlain, Good}
-use Rattle.vub_laws.proofs.RunChainsEvents.{ChainedAt}
-use Rattle.vub_queue_at.proofs.QueueAtMoves.{new_unpublished}
-use Rattle.vub_queue_at.proofs.QueueAtTurns.{IsPhaseTurn, start_stands, fetch_stands, idle_stands, ready_same}
-use Rattle.vub_queue_at.proofs.QueueAtRows.{HasPublished, HasShown, MadeElement, ShowsNext, row_stands, shown_stands, stored_stands, after_row, shows_goes, goes_under_way}
-use Rattle.vub_queue_at.proofs.WorkAtItems.{turn_disk}
+use Rattle.vub_run_laws.proofs.RunNumbers.{not_among-take}
+use Rattle.vub_run_laws.proofs.RunFrames.{open_out, length_little}
+use Rattle.vub_run_laws.proofs.RunGood.{IsWide, IsOut, PhaseIs}
+use Rattle.vub_run_laws.proofs.RunPhases.{some_waits}
+use Rattle.vub_run_laws.proofs.RunTurns.{IsPlain, Good}
+use Rattle.vub_run_laws.proofs.RunChainsEvents.{ChainedAt}
+use Rattle.vub_queue_in_run.proofs.QueueAtMoves.{new_unpublished}
+use Rattle.vub_queue_in_run.proofs.QueueAtTurns.{IsPhaseTurn, start_stands, fetch_stands, idle_stands, ready_same}
+use Rattle.vub_queue_in_run.proofs.QueueAtRows.{HasPublished, HasShown, MadeElement, ShowsNext, row_stands, shown_stands, stored_stands, after_row, shows_goes, goes_under_way}
+use Rattle.vub_queue_in_run.proofs.WorkAtItems.{turn_disk}
 
 -- ---- what a turn is given, and what it does
 

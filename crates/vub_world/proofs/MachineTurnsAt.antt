@@ -46,9 +46,9 @@ use Rattle.vub_queue.specs.QueueState.{state_of}
 use Rattle.vub_run.specs.Run.{one_turn, is_due}
 use Rattle.vub_run.specs.Turns.{turned}
 use Rattle.vub_world.proofs.MachineLemmas.{sound_room, sound_ring}
-use Rattle.vub_laws.proofs.RunDrains.{turned_stays}
-use Rattle.vub_laws.proofs.RunTurns.{Good}
-use Rattle.vub_laws.proofs.RunChainsTurns.{turn_driver}
+use Rattle.vub_run_laws.proofs.RunDrains.{turned_stays}
+use Rattle.vub_run_laws.proofs.RunTurns.{Good}
+use Rattle.vub_run_laws.proofs.RunChainsTurns.{turn_driver}
 
 -- ---- what the items of a turn leave of a log
 

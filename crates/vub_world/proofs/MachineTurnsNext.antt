@@ -21,14 +21,14 @@ use Rattle.vub_world.specs.Choices.{choose, next_turn}
 use Rattle.vub_world.specs.MachineAt.{IsReached}
 use Rattle.vub_world.specs.MachineDevice.{turn_here}
 use Rattle.vub_run.specs.Moments.{Moment, standing}
-use Rattle.vub_queue_at.specs.QueueAt.{QueueStands, IsMainRing}
+use Rattle.vub_queue_in_run.specs.QueueAt.{QueueStands, IsMainRing}
 use Rattle.vub_queue.specs.QueueState.{QueueState, standing_at, waiting, turn_at, publish_row, TrailsRow, DoesTrail, outcome, disk_outcome, is_fault}
 use Rattle.vub_task.specs.TaskState.{GainsOne}
-use Rattle.vub_laws.proofs.Runs.{plain_header}
-use Rattle.vub_laws.proofs.RunTurns.{IsPlain, Good}
-use Rattle.vub_laws.proofs.RunChainsEvents.{ChainedAt}
-use Rattle.vub_laws.proofs.RunsTo.{stands_turns}
-use Rattle.vub_queue_at.proofs.QueueAtTurns.{standings}
+use Rattle.vub_run_laws.proofs.Runs.{plain_header}
+use Rattle.vub_run_laws.proofs.RunTurns.{IsPlain, Good}
+use Rattle.vub_run_laws.proofs.RunChainsEvents.{ChainedAt}
+use Rattle.vub_run_laws.proofs.RunsTo.{stands_turns}
+use Rattle.vub_queue_in_run.proofs.QueueAtTurns.{standings}
 use Rattle.vub_world.proofs.MachineTurns.{IsServed, some_is}
 
 -- ---- a moment of a run

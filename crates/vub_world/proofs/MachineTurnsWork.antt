@@ -30,17 +30,17 @@ use Rattle.vub_world.specs.MachineDevice.{Device, DeviceAt, TurnMade, DeviceTurn
 use Rattle.vub_world.specs.MachineFront.{OneSmall}
 use Rattle.vub_run.specs.Memory.{after_items}
 use Rattle.vub_run.specs.Moments.{Moment, standing}
-use Rattle.vub_queue_at.specs.QueueAt.{QueueStands, DiskAt}
+use Rattle.vub_queue_in_run.specs.QueueAt.{QueueStands, DiskAt}
 use Rattle.vub_queue.specs.QueueState.{QueueState, IsDue, IfStepped, WorksOut, due_store, sector_at, said, is_idle, is_fault, turn_at, Rests}
 use Rattle.vub_run.specs.Run.{one_turn}
 use Rattle.vub_task.specs.TaskState.{Making, answer_in, answer_to, memory_after, values_after, with_maybe}
 use Rattle.vub_steps.specs.Tasks.{TaskStep, Look, Act}
 use Rattle.vub_run.specs.Turns.{turned}
-use Rattle.vub_laws.proofs.RunFrames.{open_out}
-use Rattle.vub_laws.proofs.RunGood.{IsOut}
-use Rattle.vub_queue_at.proofs.WorkAt.{WorkReady, making, Kind, work_ready}
-use Rattle.vub_queue_at.proofs.WorkAtItems.{Shows, ShowsStore, work_items, work_memory, work_disk, work_kind}
-use Rattle.vub_queue_at.proofs.WorkAtStands.{work_stands}
+use Rattle.vub_run_laws.proofs.RunFrames.{open_out}
+use Rattle.vub_run_laws.proofs.RunGood.{IsOut}
+use Rattle.vub_queue_in_run.proofs.WorkAt.{WorkReady, making, Kind, work_ready}
+use Rattle.vub_queue_in_run.proofs.WorkAtItems.{Shows, ShowsStore, work_items, work_memory, work_disk, work_kind}
+use Rattle.vub_queue_in_run.proofs.WorkAtStands.{work_stands}
 use Rattle.vub_world.proofs.MachineTurns.{TurnAt, DeviceDoes, IsServed, some_is, disk_same, start_made, fetch_made, publish_made, idle_made}
 
 -- what a call made that failed nowhere

@@ -12,7 +12,7 @@ use Rattle.vub_schedule.specs.Spelling.{IsHeader}
 use Rattle.vub_memdisk.specs.MemDisks.{capacity_of}
 use Rattle.vub_driver.specs.Layout.{ring_of}
 use Rattle.vub_guest.specs.GuestState.{ring_in}
-use Rattle.vub_queue_at.specs.QueueAt.{IsMainRing}
+use Rattle.vub_queue_in_run.specs.QueueAt.{IsMainRing}
 use Rattle.vub_world.specs.Lives.{RingOfLife}
 use Rattle.vub_world.specs.declared.machine.Machine.{Machine}
 

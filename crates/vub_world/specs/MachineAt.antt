@@ -22,7 +22,7 @@ use Rattle.vub_world.specs.declared.machine.Machine.{Machine}
 use Rattle.vub_world.specs.Logs.{offered_in, collected_in, size_in, slot_in}
 use Rattle.vub_guest.specs.GuestState.{driver_in, seen_in}
 use Rattle.vub_queue.specs.QueueState.{state_of}
-use Rattle.vub_queue_at.specs.QueueAt.{QueueStands, DiskAt}
+use Rattle.vub_queue_in_run.specs.QueueAt.{QueueStands, DiskAt}
 use Rattle.vub_run.specs.Moments.{Moment}
 use Rattle.vub_run.specs.Run.{Stands, Plays, turns}
 use Rattle.vub_run.specs.LegalRuns.{IsLegalRun, IsServed}

@@ -33,7 +33,7 @@ use Rattle.vub_world.specs.Logs.{slot_in}
 use Rattle.vub_run.specs.Moments.{Moment, standing}
 use Rattle.vub_queue.specs.declared.queue.Turn as asked
 use Rattle.vub_queue.specs.QueueState.{QueueState, state_of, is_idle, turn_at}
-use Rattle.vub_queue_at.specs.QueueAt.{QueueStands, DiskAt}
+use Rattle.vub_queue_in_run.specs.QueueAt.{QueueStands, DiskAt}
 use Rattle.vub_run.specs.Run.{one_turn}
 use Rattle.vub_world.specs.MachineAt.{has_queue}
 use Rattle.vub_world.specs.MachineFront.{store_item, OneSmall}

@@ -9,7 +9,7 @@ ghost use Rattle.vub_world.specs.MachineAt.{IsReached, LogAt};
 ghost use Rattle.vub_world.specs.MachineDevice.{DeviceAt, DeviceTurns, device, turn_here};
 ghost use Rattle.vub_run.specs.Moments.{Moment};
 ghost use Rattle.vub_queue.specs.Queue.{ring_in};
-ghost use Rattle.vub_queue_at.specs.QueueAt.{IsMainRing};
+ghost use Rattle.vub_queue_in_run.specs.QueueAt.{IsMainRing};
 ghost use Rattle.vub_split.specs.Split.{RingLies};
 
 use vub_queue::{Queue, Stepped, Turn};

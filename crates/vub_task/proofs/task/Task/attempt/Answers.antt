@@ -14,7 +14,7 @@ use Rattle.vub_shared.specs.Bytes.{bytes_from}
 use Rattle.vub_shared.specs.Stores.{one_store, after_store, after_in_trail}
 use Rattle.vub_disk.specs.Values.{with_value}
 use Rattle.vub_driver.specs.Layout.{status_place}
-use Rattle.vub_direct.specs.ChainState.{sector_of, data_start, data_len}
+use Rattle.vub_direct_chain.specs.ChainState.{sector_of, data_start, data_len}
 use Rattle.vub_task.specs.declared.task.Work.TheVariants as work
 use Rattle.vub_task.proofs.StepLemmas.{OfRequest, step_of}
 use Rattle.vub_task.proofs.ArmLemmas.{look_arm, store_arm, act_arm, sync_arm, reply_arm, made_map, room_of, goes_on, ends, same_values, same_trail, status_byte, acted}

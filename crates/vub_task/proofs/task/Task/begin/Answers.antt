@@ -1,9 +1,9 @@
 use Rattle.std.proofs.Common.{◌≡◌, ◌≤◌, ◌+◌, ◌∙◌, ℕ, sym, ap, arith, add-zero, rules}
 use Rattle.std.proofs.lemmas.Result.{err_from_is_err_and}
 use Rattle.vub_shared.specs.Bytes.{word}
-use Rattle.vub_direct.specs.declared.chain.Parts.{Parts}
-use Rattle.vub_direct.specs.ChainState.{parts_of}
-use Rattle.vub_direct.proofs.ChainReading.{reads_err}
+use Rattle.vub_direct_chain.specs.declared.chain.Parts.{Parts}
+use Rattle.vub_direct_chain.specs.ChainState.{parts_of}
+use Rattle.vub_direct_chain.proofs.ChainReading.{reads_err}
 use Rattle.vub_task.proofs.TaskLemmas.{FirstFacts, first_is, loaded_field}
 use Rattle.vub_task.proofs.task.Task.begin.Goals.{then-header-lt16-via-then-header-lt16, then-header-lt16-via-else-header-lt16+then-not-lies_in}
 use Rattle.vub_task.proofs.task.Task.begin.Goals as goal

@@ -1,6 +1,6 @@
 use Rattle.std.proofs.Common.{◌≡◌, ◌∙◌, sym, ap}
 use Rattle.std.specs.Prelude.{Some, option_map}
-use Rattle.vub_direct.proofs.ChainReading.{reads_broken}
+use Rattle.vub_direct_chain.proofs.ChainReading.{reads_broken}
 use Rattle.vub_task.proofs.ArmLemmas.{made_map, next_still, next_with}
 use Rattle.vub_task.specs.TaskState.{IfMade, store_in, with_maybe}
 use Rattle.vub_task.proofs.task.Task.step.Goals as goal

@@ -2,7 +2,7 @@ use Rattle.std.proofs.Common.{List, ap, sym, ◌∙◌}
 use Rattle.vub_report.specs.declared.items.Item.{Item}
 use Rattle.vub_run.specs.Run.{played}
 use Rattle.vub_world.proofs.MachineLives.{booted, boot_plays, booted_at, asleep_at}
-use Rattle.vub_laws.proofs.RunsTo.{stands_good}
+use Rattle.vub_run_laws.proofs.RunsTo.{stands_good}
 use Rattle.vub_world.proofs.machine.Machine.boot.Goals as goal
 
 pub returns-clause-performs : goal.returns-clause-performs

@@ -2,8 +2,8 @@ use Rattle.std.proofs.Common.{List, ap, sym, ◌∙◌}
 use Rattle.vub_report.specs.declared.items.Item.{Item}
 use Rattle.vub_run.specs.Run.{played}
 use Rattle.vub_world.proofs.MachineLives.{joined, join_plays, joined_at, joining_at}
-use Rattle.vub_laws.proofs.Runs.{plain_header}
-use Rattle.vub_laws.proofs.RunsTo.{stands_good}
+use Rattle.vub_run_laws.proofs.Runs.{plain_header}
+use Rattle.vub_run_laws.proofs.RunsTo.{stands_good}
 use Rattle.vub_world.proofs.machine.Machine.join.Goals as goal
 
 pub returns-clause-performs : goal.returns-clause-performs

@@ -4,7 +4,7 @@ use Rattle.vub_world.specs.declared.machine.Machine.{Machine}
 use Rattle.vub_world.specs.MachineAt.{IsReached}
 use Rattle.vub_run.specs.Moments.{Moment}
 use Rattle.vub_world.proofs.MachineLoops.{TurnsAt, EndsAt, room_of, undone_few, turns_begin, turns_taken, room_left, turn_room, turns_go_on, turns_stop, turns_all, reached, so_far}
-use Rattle.vub_laws.proofs.RunsTo.{stands_good}
+use Rattle.vub_run_laws.proofs.RunsTo.{stands_good}
 use Rattle.vub_world.proofs.machine.Machine.turns.Goals as goal
 
 pub loop-done-init : goal.loop-done-init

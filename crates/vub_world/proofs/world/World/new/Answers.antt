@@ -2,7 +2,7 @@ use Rattle.std.proofs.Common.{[], subst, sym}
 use Rattle.vub_base.specs.declared.header.Header1.{Header1}
 use Rattle.vub_run.specs.Moments.{opening}
 use Rattle.vub_run.specs.Run.{Stands}
-use Rattle.vub_laws.proofs.RunsTo.{stands_none}
+use Rattle.vub_run_laws.proofs.RunsTo.{stands_none}
 use Rattle.vub_world.proofs.world.World.new.Goals as goal
 
 pub invariant_of-result : goal.invariant_of-result

@@ -1,0 +1,135 @@
+-- The chain of a request in the descriptor table, and what it means (VIRTIO 1.2, 2.7.5 and 5.2.6).
+use Rattle.std.specs.Prelude.{◌≡◌, ◌<◌, ◌≤◌, ℕ, ◌+◌, ◌*◌, Bool, true, false, List, [], length, unwrap_or, Option, Some, None, option_map, Result, Ok, Err, ⊤, flat_map}
+use Rattle.vub_shared.specs.Bytes.{Bytes, word, bytes_from}
+use Rattle.vub_driver.specs.Layout.{area_place, buffer_place, status_place, parts_place, sectors_place}
+use Rattle.vub_driver.specs.Requests.{Piece, readable_piece, writable_piece, write_flag, part_bytes}
+use Rattle.vub_device.specs.declared.entry.Asked.{Asked}
+use Rattle.vub_device.specs.declared.entry.Asked.TheVariants.{Read, Write, Flush, Id, Discard, Zero}
+use Rattle.vub_driver.specs.GuestChain.{Links, second}
+use Rattle.vub_driver.specs.GuestChain.{next_flag}
+use Rattle.vub_split.specs.declared.split.SplitRing.{SplitRing}
+use Rattle.vub_direct_chain.specs.declared.chain.Desc.{Desc}
+use Rattle.vub_direct_chain.specs.declared.chain.Span.{Span}
+use Rattle.vub_direct_chain.specs.declared.chain.Parts.{Parts}
+use Rattle.vub_direct_chain.specs.declared.chain.Sectors.{Sectors}
+use Rattle.vub_direct_chain.specs.declared.chain.Unread.{Unread}
+use Rattle.vub_direct_chain.specs.declared.chain.Unread.TheVariants as unread
+
+-- ---- a request in its buffer
+
+abbrev pub type_of : Asked → ℕ
+type_of (Read s n) = 0
+type_of (Write s bytes) = 1
+type_of Flush = 4
+type_of Id = 8
+type_of (Discard parts) = 11
+type_of (Zero parts) = 13
+
+abbrev pub sector_of : Asked → ℕ
+sector_of (Read s n) = s
+sector_of (Write s bytes) = s
+sector_of request = 0
+
+-- what the driver hands over besides the header
+abbrev pub handed_bytes : Asked → List ℕ
+handed_bytes (Write s bytes) = bytes
+handed_bytes (Discard parts) = flat_map part_bytes parts.items
+handed_bytes (Zero parts) = flat_map part_bytes parts.items
+handed_bytes request = []
+
+-- where its data stands
+abbrev pub data_start : ℕ → Asked → ℕ
+data_start buffer (Discard parts) = parts_place buffer
+data_start buffer (Zero parts) = parts_place buffer
+data_start buffer request = sectors_place buffer
+
+-- how long its data is: what is read, or what is handed over
+abbrev pub data_len : Asked → ℕ
+data_len (Read s n) = 512 * n
+data_len Id = 20
+data_len request = length (handed_bytes request)
+
+-- whether the device writes the data
+abbrev pub is_read : Asked → Bool
+is_read (Read s n) = true
+is_read Id = true
+is_read request = false
+
+-- the data of a request whose buffer begins there
+abbrev pub data_of : ℕ → Asked → Piece
+data_of buffer request = record { place = data_start buffer request; len = data_len request; writable = is_read request }
+
+-- ---- the table
+
+-- the descriptor at an index of the table: address, length, flags, next
+abbrev pub desc_place : SplitRing → ℕ → ℕ
+desc_place r index = r.desc.1 + 16 * index
+
+abbrev pub desc_in : SplitRing → Bytes → ℕ → Desc
+desc_in r m index = record {
+  addr = word 8 m r.desc.0.number (desc_place r index);
+  len = word 4 m r.desc.0.number (desc_place r index + 8);
+  flags = word 2 m r.desc.0.number (desc_place r index + 12);
+  next = word 2 m r.desc.0.number (desc_place r index + 14);
+}
+
+-- the descriptor of a piece, with the next one if another one follows
+abbrev pub desc_of : Piece → Option ℕ → Desc
+desc_of p next = record { addr = p.place; len = p.len; flags = write_flag p.writable + next_flag next; next = unwrap_or next 0 }
+
+-- the descriptor of the data of a request, if it has any, with the next one
+abbrev pub body_desc : ℕ → ℕ → Asked → Option Desc
+body_desc buffer next Flush = None
+body_desc buffer next request = Some (desc_of (data_of buffer request) (Some next))
+
+-- memory m means a request, by the descriptors of its chain and its buffer: header, data if there is any, and status
+-- are linked in the table, and the buffer holds its header and what is handed over. The buffer lies in the space
+pub record MeansRequest (sizes : ℕ → ℕ) (r : SplitRing) (m : Bytes) (l : Links) (buffer : ℕ) (request : Asked) : Type 0 where
+  pub first : desc_in r m l.head ≡ desc_of (readable_piece buffer 16) (Some (second l))
+  pub body : option_map (desc_in r m) l.body ≡ body_desc buffer l.status request
+  pub last : desc_in r m l.status ≡ desc_of (writable_piece (status_place buffer) 1) None
+  pub second_fits : second l < r.size
+  pub status_fits : l.status < r.size
+  pub kind : word 4 m r.desc.0.number buffer ≡ type_of request
+  pub sector : word 8 m r.desc.0.number (buffer + 8) ≡ sector_of request
+  pub handed : bytes_from (length (handed_bytes request)) m r.desc.0.number (data_start buffer request) ≡ handed_bytes request
+  pub room : buffer + (4096 + data_len request) ≤ sizes r.desc.0.number
+
+-- the ring of queue 0 in guest memory
+pub record IsFirstRing (sizes : ℕ → ℕ) (r : SplitRing) (n : ℕ) : Type 0 where
+  pub space : r.desc.0.number ≡ 0
+  pub table : r.desc.1 ≡ 0
+  pub size : r.size ≡ n
+  pub room : 1048576 ≤ sizes 0
+
+-- memory means a request under that head, by some chain in the first queue
+pub record Meant (sizes : ℕ → ℕ) (r : SplitRing) (m : Bytes) (head : ℕ) (o : Option Asked) : Type 0 where
+  pub links : Links
+  pub at_head : links.head ≡ head
+  pub request : Asked
+  pub is : o ≡ Some request
+  pub means : MeansRequest sizes r m links (buffer_place (area_place 0) head) request
+
+-- ---- what the device finds
+
+abbrev pub span_at : SplitRing → ℕ → ℕ → Span
+span_at r place len = record { space = r.desc.0; place = place; len = len }
+
+-- the data as the device finds it
+abbrev pub sectors_of : SplitRing → ℕ → Asked → Option Sectors
+sectors_of r buffer Flush = None
+sectors_of r buffer request = Some (record { span = span_at r (data_start buffer request) (data_len request); writable = is_read request })
+
+abbrev pub parts_of : SplitRing → ℕ → Asked → Parts
+parts_of r buffer request = record { header = span_at r buffer 16; sectors = sectors_of r buffer request; status = span_at r (status_place buffer) 1 }
+
+-- a value that was read from memory, which failed or else gave exactly this
+abbrev pub Reads : {T : Type 0} → Result T Unread → T → Type 0
+Reads (Ok x) y = x ≡ y
+Reads (Err unread.Failed) y = ⊤
+Reads (Err (unread.Broken fault)) y = ⊥
+
+-- whether the memory failed in a read
+abbrev pub read_outcome : {T : Type 0} → Result T Unread → Result (Unit {0}) (Unit {0})
+read_outcome (Err unread.Failed) = Err tt
+read_outcome r = Ok tt

@@ -1,0 +1,468 @@
+-- What the moves of a run leave of where the queue stands.
+use Rattle.std.proofs.Common.{◌≡◌, ◌≢◌, ◌≤◌, ◌<◌, ◌⊎◌, ℕ, zero, suc, ◌+◌, ◌/◌, Bool, true, false, not, List, [], ◌∷◌, ◌++◌, length, take, drop, map, set, get_or, refl, ap, sym, ◌∙◌, subst, inl, inr, arith}
+use Rattle.std.specs.Prelude.{Option, Some, None, slice_get, slice_index, filter, ◌||◌}
+use Rattle.std.proofs.lemmas.Bool.Decides.{nat_tests}
+use Rattle.std.proofs.lemmas.Bool.{cases_Bool, cases_eq, or_left, or_right}
+use Rattle.std.proofs.lemmas.List.{length_push, length-append, length-map, length-set, length-replicate, get_or-replicate, take-map, append-nil, get_or-set_same, get_or-set_other}
+use Rattle.std.proofs.lemmas.List.Elements.{filter-append}
+use Rattle.std.proofs.lemmas.Option.{slice_get_within}
+use Rattle.vub_base.specs.declared.header.Header1.{Header1}
+use Rattle.vub_steps.specs.declared.steps.Phase.{Phase}
+use Rattle.vub_steps.specs.declared.steps.Phase.TheVariants as phases
+use Rattle.vub_steps.specs.Readiness.{is_publication}
+use Rattle.vub_steps.specs.Steps.{after_step}
+use Rattle.vub_driver.specs.Layout.{area_place, buffer_place}
+use Rattle.vub_device.specs.declared.entry.Answered.{Answered}
+use Rattle.vub_device.specs.declared.entry.Asked.{Asked}
+use Rattle.vub_device.specs.declared.entry.Asked.TheVariants as asks
+use Rattle.vub_device.specs.declared.entry.Entry.{Entry}
+use Rattle.vub_device.specs.declared.entry.Entry.TheVariants as entries
+use Rattle.vub_device.specs.Past.{asked, accepted, published, numbers, missing_below, open_numbers, is_among, IsOpen, started}
+use Rattle.vub_device.specs.Requests.{refusal}
+use Rattle.vub_device.proofs.Numbers.{is_among_append}
+use Rattle.vub_steps.specs.Tasks.{Look, Put, Act, Sync, Status, look_steps, act_steps, disk_steps, unless_refused, task_steps}
+use Rattle.vub_task.specs.TaskState.{fresh_task, IsTaskAt}
+use Rattle.vub_run.specs.Turns.{len_of}
+use Rattle.vub_queue.specs.QueueParts.{is_taken, without_heads}
+use Rattle.vub_queue.specs.QueueState as states
+use Rattle.vub_queue.specs.QueueState.{QueueState}
+use Rattle.vub_queue_in_run.specs.QueueAt.{spot_of, left_of, TaskAt, QueueAt}
+use Rattle.vub_split.specs.declared.split.SplitRing.{SplitRing}
+use Rattle.vub_task.specs.declared.task.Task.{Task}
+use Rattle.vub_run_laws.proofs.RunNumbers.{among_get, among_filter, missing-among}
+use Rattle.vub_run_laws.proofs.RunGood.{Known, Worked}
+use Rattle.vub_run_laws.proofs.RunOffers.{same_head, same_asked}
+use Rattle.vub_run_laws.proofs.RunPhases.{swap_among}
+use Rattle.vub_queue.proofs.QueueLemmas.{length_without}
+
+-- ---- lists
+
+pub filter_same : (f g : ℕ → Bool) (xs : List ℕ) → ((k : ℕ) → f k ≡ g k) → filter f xs ≡ filter g xs
+filter_same f g [] same = refl
+filter_same f g (x ∷ xs) same =
+    let rest : filter f xs ≡ filter g xs = filter_same f g xs same in
+    let here : f x ≡ g x = same x in
+    grind (arith, nat_tests)
+
+pub map_same : (f g : ℕ → ℕ × ℕ) (xs : List ℕ) → ((k : ℕ) → is_among xs k ≡ true → f k ≡ g k) → map f xs ≡ map g xs
+map_same f g [] same = refl
+map_same f g (x ∷ xs) same =
+    let rest : map f xs ≡ map g xs = map_same f g xs (λ k held. same k (grind (arith, nat_tests))) in
+    let here : f x ≡ g x = same x (grind (arith, nat_tests)) in
+    cc
+
+pub drop_map : (f : ℕ → ℕ × ℕ) (n : ℕ) (xs : List ℕ) → drop n (map f xs) ≡ map f (drop n xs)
+drop_map f zero xs = refl
+drop_map f (suc n) [] = refl
+drop_map f (suc n) (x ∷ xs) = drop_map f n xs
+
+-- a place in a list with one more at its end
+pub pushed_place : {A : Type 0} (xs : List A) (x y : A) (i : ℕ) → slice_get (xs ++ x ∷ []) i ≡ Some y → (slice_get xs i ≡ Some y) ⊎ ((i ≡ length xs) × (x ≡ y))
+pushed_place [] x y zero e = inr (refl, cc)
+pushed_place [] x y (suc i) e = absurd (cc)
+pushed_place (z ∷ xs) x y zero e = inl e
+pushed_place (z ∷ xs) x y (suc i) e = elim (pushed_place xs x y i e) [
+  | inl before ↦ inl before
+  | inr last ↦ inr (omega (arith, last.0), last.1)
+]
+
+-- ---- the requests that are left
+
+-- the same where the same are completed
+pub left_same : (past : List Entry) (a b c d : List ℕ) → ((k : ℕ) → is_among (a ++ b) k ≡ is_among (c ++ d) k) → left_of past a b ≡ left_of past c d
+left_same past a b c d same = filter_same (λ k. not (is_among (a ++ b) k)) (λ k. not (is_among (c ++ d) k)) (open_numbers past 0) (λ k. ap not (same k))
+
+-- one that is left was accepted, isn't published and isn't completed
+pub record IsLeft (past : List Entry) (completed batch : List ℕ) (k : ℕ) : Type 0 where
+  pub is_open : IsOpen past 0 k
+  pub out : is_among (completed ++ batch) k ≡ false
+
+pub left_is : (past : List Entry) (completed batch : List ℕ) (k : ℕ) → is_among (left_of past completed batch) k ≡ true → IsLeft past completed batch k
+left_is past completed batch k held =
+    let kept = among_filter (λ j. not (is_among (completed ++ batch) j)) (open_numbers past 0) k held in
+    let opened = missing-among (published past 0) (accepted past 0) k kept.0 in
+    let test : not (is_among (completed ++ batch) k) ≡ true = kept.1 in
+    record { is_open = record { taken = opened.0; unpublished = opened.1 }; out = grind (arith, nat_tests) }
+
+-- ---- a queue that isn't started
+
+none_left : (past : List Entry) (completed batch : List ℕ) → accepted past 0 ≡ 0 → left_of past completed batch ≡ []
+none_left past completed batch none = ap (λ (n : ℕ). filter (λ k. not (is_among (completed ++ batch) k)) (missing_below (published past 0) n)) none
+
+none_among : (past : List Entry) (completed batch : List ℕ) (k : ℕ) → accepted past 0 ≡ 0 → is_among (left_of past completed batch) k ≡ true → ⊥
+none_among past completed batch k none held =
+    let nothing : is_among [] k ≡ true = subst (λ (ks : List ℕ). is_among ks k ≡ true) (none_left past completed batch none) held in
+    let fails : false ≡ true = nothing in
+    cc
+
+-- a new queue stands where no request was accepted
+pub at_new : (h : Header1) (r : SplitRing) (past : List Entry) (heads : List ℕ) (made : ℕ → ℕ) (q : QueueState) → h.base < 65536 → length (published past 0) ≤ accepted past 0 → accepted past 0 ≡ 0 → started past 0 ≡ false
+    → states.IsNew r h.base q → QueueAt h r past heads phases.Rest [] [] made q
+at_new h r past heads made q small fewer none stopped new = subst (λ (t : QueueState). QueueAt h r past heads phases.Rest [] [] made t) (sym new.is) (record {
+  ring = refl;
+  runs = refl;
+  started = sym stopped;
+  avail = omega (arith, small, none);
+  used = omega (arith, small, none, fewer);
+  phase = refl;
+  batch = refl;
+  completed = refl;
+  count = ap (λ (ks : List ℕ). length ks) (sym (none_left past [] [] none));
+  tasks = λ i k task there is. absurd (none_among past [] [] k none (among_get (left_of past [] []) i k there));
+  buffers = new.buffers;
+  places = length-replicate r.size false;
+  sectors = λ k place request held asks_it next. absurd (none_among past [] [] k none held);
+  taken = λ d low held. absurd (let fails : true ≡ false = sym held ∙ get_or-replicate r.size d false true low in cc);
+})
+
+-- ---- a start
+
+pub at_start : (h : Header1) (r : SplitRing) (past : List Entry) (heads : List ℕ) (made : ℕ → ℕ) (q : QueueState) → accepted past 0 ≡ 0
+    → QueueAt h r past heads phases.Rest [] [] made q → QueueAt h r (entries.Start 0 (open_numbers past 0) ∷ past) heads phases.Rest [] [] made (record q { started = true })
+at_start h r past heads made q none x = record {
+  ring = x.ring;
+  runs = x.runs;
+  started = refl;
+  avail = x.avail;
+  used = x.used;
+  phase = x.phase;
+  batch = x.batch;
+  completed = x.completed;
+  count = x.count;
+  tasks = λ i k task there is. record { head = (x.tasks i k task there is).head; stands = λ request asks_it. (x.tasks i k task there is).stands request asks_it };
+  buffers = x.buffers;
+  places = x.places;
+  sectors = λ k place request held asks_it next. absurd (none_among past [] [] k none held);
+  taken = λ d low held.
+      let t = x.taken d low held in
+      (t.0, record { taken = t.1.taken; unpublished = t.1.unpublished }, t.2);
+}
+
+-- ---- a fetch
+
+-- no request begins with a store of what was read
+first_look : (n : ℕ) (place : ℕ) → slice_get (look_steps 0 n ++ Status ∷ []) 0 ≡ Some (Put place) → ⊥
+first_look zero place e = let fails : Some Status ≡ Some (Put place) = e in cc
+first_look (suc n) place e = let fails : Some (Look 0) ≡ Some (Put place) = e in cc
+
+first_act : (n : ℕ) (place : ℕ) → slice_get (act_steps 0 n ++ Status ∷ []) 0 ≡ Some (Put place) → ⊥
+first_act zero place e = let fails : Some Status ≡ Some (Put place) = e in cc
+first_act (suc n) place e = let fails : Some (Act 0) ≡ Some (Put place) = e in cc
+
+first_disk : (request : Asked) (place : ℕ) → slice_get (disk_steps request ++ Status ∷ []) 0 ≡ Some (Put place) → ⊥
+first_disk (asks.Read s n) place e = first_look n place e
+first_disk (asks.Write s bytes) place e = first_act (length bytes / 512) place e
+first_disk asks.Flush place e = let fails : Some Sync ≡ Some (Put place) = e in cc
+first_disk asks.Id place e = let fails : Some Status ≡ Some (Put place) = e in cc
+first_disk (asks.Discard parts) place e = let fails : Some Status ≡ Some (Put place) = e in cc
+first_disk (asks.Zero parts) place e = let fails : Some Status ≡ Some (Put place) = e in cc
+
+first_step : (refused : Option ℕ) (request : Asked) (place : ℕ) → slice_get (unless_refused refused (disk_steps request) ++ Status ∷ []) 0 ≡ Some (Put place) → ⊥
+first_step None request place e = first_disk request place e
+first_step (Some status) request place e = let fails : Some Status ≡ Some (Put place) = e in cc
+
+-- the new request isn't published, and is left
+pub new_unpublished : (n cap : ℕ) (past : List Entry) (heads : List ℕ) → Known n cap past heads → is_among (published past 0) (accepted past 0) ≡ false
+new_unpublished n cap past heads known = elim (cases_Bool (is_among (published past 0) (accepted past 0))) [
+  | inl there ↦ absurd (let low : accepted past 0 < accepted past 0 = known.below (accepted past 0) there in omega arith)
+  | inr out ↦ out
+]
+
+new_out : (past : List Entry) (phase : Phase) (batch completed : List ℕ) (made : ℕ → ℕ) → Worked past phase batch completed made → is_among (completed ++ batch) (accepted past 0) ≡ false
+new_out past phase batch completed made w = elim (cases_Bool (is_among (completed ++ batch) (accepted past 0))) [
+  | inl there ↦ absurd (let low : accepted past 0 < accepted past 0 = (w.opens (accepted past 0) there).taken in omega arith)
+  | inr out ↦ out
+]
+
+pub left_more : (past : List Entry) (completed batch : List ℕ) (k : ℕ) → is_among (published past 0) (accepted past 0) ≡ false → is_among (completed ++ batch) (accepted past 0) ≡ false
+    → left_of (entries.Accept 0 k ∷ past) completed batch ≡ left_of past completed batch ++ accepted past 0 ∷ []
+left_more past completed batch k unpublished out =
+    let a : ℕ = accepted past 0 in
+    let ps : List ℕ = published past 0 in
+    let test : ℕ → Bool = λ j. not (is_among (completed ++ batch) j) in
+    let next : a + 1 ≡ suc a = omega arith in
+    let longer : missing_below ps (suc a) ≡ missing_below ps a ++ a ∷ [] = grind (arith, nat_tests) in
+    let kept : filter test (a ∷ []) ≡ a ∷ [] = grind (arith, nat_tests) in
+    ap (λ (n : ℕ). filter test (missing_below ps n)) next ∙ ap (filter test) longer ∙ filter-append test (missing_below ps a) (a ∷ []) ∙ ap (λ (ks : List ℕ). filter test (missing_below ps a) ++ ks) kept
+
+pub at_fetch : (h : Header1) (r : SplitRing) (past : List Entry) (heads : List ℕ) (completed : List ℕ) (made : ℕ → ℕ) (q : QueueState) (head : ℕ) → Known h.size h.capacity past heads → Worked past phases.Rest [] completed made
+    → head ≡ slice_index heads (accepted past 0) → QueueAt h r past heads phases.Rest [] completed made q
+    → QueueAt h r (entries.Accept 0 (accepted past 0) ∷ past) heads phases.Rest [] completed made (states.accepted head q)
+at_fetch h r past heads completed made q head known w is x =
+    let a : ℕ = accepted past 0 in
+    let past' : List Entry = entries.Accept 0 a ∷ past in
+    let none : made a ≡ 0 = w.untouched a (omega arith) in
+    let unpublished : is_among (published past 0) a ≡ false = new_unpublished h.size h.capacity past heads known in
+    let more : left_of past' completed [] ≡ left_of past completed [] ++ a ∷ [] = left_more past completed [] a unpublished (new_out past phases.Rest [] completed made w) in
+    record {
+      ring = x.ring;
+      runs = x.runs;
+      started = x.started;
+      avail = omega (arith, x.avail);
+      used = x.used;
+      phase = x.phase;
+      batch = x.batch;
+      completed = x.completed;
+      count = length_push q.unfinished (fresh_task head) ∙ ap (λ (n : ℕ). n + 1) x.count ∙ sym (ap (λ (ks : List ℕ). length ks) more ∙ length_push (left_of past completed []) a);
+      tasks = λ i k task there is_task.
+          let there_too : slice_get (left_of past completed [] ++ a ∷ []) i ≡ Some k = subst (λ (ks : List ℕ). slice_get ks i ≡ Some k) more there in
+          elim (pushed_place (left_of past completed []) a k i there_too) [
+            | inl old ↦ elim (pushed_place q.unfinished (fresh_task head) task i is_task) [
+              | inl old_task ↦ let t = x.tasks i k task old old_task in record { head = t.head; stands = t.stands }
+              | inr last ↦ absurd (let low : i < length (left_of past completed []) = slice_get_within (left_of past completed []) i k old in omega (arith, last.0, x.count, low))
+            ]
+            | inr last ↦ elim (pushed_place q.unfinished (fresh_task head) task i is_task) [
+              | inl old_task ↦ absurd (let low : i < length q.unfinished = slice_get_within q.unfinished i task old_task in omega (arith, last.0, x.count, low))
+              | inr new ↦ subst (λ (t : Task). TaskAt h r past' heads k (made k) t) new.1 (subst (λ (j : ℕ). TaskAt h r past' heads j (made j) (fresh_task head)) last.1 (record {
+                head = is;
+                stands = λ request asks_it. record { begins = λ e. refl; goes_on = λ some. absurd (omega arith) };
+              }))
+            ]
+          ];
+      buffers = x.buffers;
+      places = length-set q.taken head true ∙ x.places;
+      sectors = λ k place request held asks_it next. elim (cases_Bool (is_among (left_of past completed []) k)) [
+        | inl old ↦ x.sectors k place request old asks_it next
+        | inr new ↦
+            let joined : is_among (left_of past completed [] ++ a ∷ []) k ≡ (is_among (left_of past completed []) k || is_among (a ∷ []) k) = is_among_append (left_of past completed []) (a ∷ []) k in
+            let whole : is_among (left_of past completed [] ++ a ∷ []) k ≡ true = subst (λ (ks : List ℕ). is_among ks k ≡ true) more held in
+            let same : a ≡ k = grind (arith, nat_tests) in
+            let begun : made k ≡ 0 = ap made (sym same) ∙ none in
+            absurd (first_step (refused h request) request place (subst (λ (n : ℕ). slice_get (task_steps h request) n ≡ Some (Put place)) begun next))
+      ];
+      taken = λ d low held. elim (cases_eq d head) [
+        | inl same ↦ (a, record { taken = omega arith; unpublished = unpublished }, sym is ∙ sym same)
+        | inr apart ↦
+            let before : is_taken q.taken d ≡ true = sym (get_or-set_other q.taken head d true true apart) ∙ held in
+            let t = x.taken d low before in
+            (t.0, record { taken = omega (arith, t.1.taken); unpublished = t.1.unpublished }, t.2)
+      ];
+    }
+  where
+    refused : Header1 → Asked → Option ℕ
+    refused g request = refusal g.capacity g.mode request
+
+-- ---- a batch is taken
+
+pub at_begin : (h : Header1) (r : SplitRing) (past : List Entry) (heads : List ℕ) (completed : List ℕ) (made : ℕ → ℕ) (q : QueueState) (most : ℕ) → QueueAt h r past heads phases.Rest [] completed made q
+    → QueueAt h r past heads (phases.Publish 0) (take most completed) (drop most completed) made (states.begun most q)
+at_begin h r past heads completed made q most x =
+    let same : left_of past (drop most completed) (take most completed) ≡ left_of past completed [] = left_same past (drop most completed) (take most completed) completed [] (swap_among most completed) in
+    record {
+      ring = x.ring;
+      runs = x.runs;
+      started = x.started;
+      avail = x.avail;
+      used = x.used;
+      phase = refl;
+      batch = ap (take most) x.completed ∙ take-map (spot_of h past heads) most completed;
+      completed = ap (drop most) x.completed ∙ drop_map (spot_of h past heads) most completed;
+      count = x.count ∙ ap (λ (ks : List ℕ). length ks) (sym same);
+      tasks = λ i k task there is. x.tasks i k task (subst (λ (ks : List ℕ). slice_get ks i ≡ Some k) same there) is;
+      buffers = x.buffers;
+      places = x.places;
+      sectors = λ k place request held asks_it next. x.sectors k place request (subst (λ (ks : List ℕ). is_among ks k ≡ true) same held) asks_it next;
+      taken = x.taken;
+    }
+
+-- ---- a step of a publication
+
+-- the phase of a queue goes on
+pub goes_to : (p : Phase) (q : QueueState) → is_publication p ≡ true → states.with_phase p q ≡ record q { phase = p }
+goes_to phases.Rest q goes = absurd (let fails : false ≡ true = goes in cc)
+goes_to (phases.Start done) q goes = refl
+goes_to (phases.Fetch done) q goes = refl
+goes_to (phases.Publish done) q goes = refl
+
+-- the step that is next counts by the batch
+pub moved_is : (h : Header1) (r : SplitRing) (past : List Entry) (heads : List ℕ) (phase : Phase) (batch completed : List ℕ) (made : ℕ → ℕ) (q : QueueState) → QueueAt h r past heads phase batch completed made q
+    → states.moved q ≡ states.with_phase (after_step (length batch) phase) q
+moved_is h r past heads phase batch completed made q x =
+    let many : length q.batch ≡ length batch = ap (λ (ks : List (ℕ × ℕ)). length ks) x.batch ∙ length-map batch (spot_of h past heads) in
+    ap (λ (n : ℕ). states.with_phase (after_step n q.phase) q) many ∙ ap (λ (p : Phase). states.with_phase (after_step (length batch) p) q) x.phase
+
+pub at_row : (h : Header1) (r : SplitRing) (past : List Entry) (heads : List ℕ) (phase : Phase) (batch completed : List ℕ) (made : ℕ → ℕ) (q : QueueState) → QueueAt h r past heads phase batch completed made q
+    → is_publication (after_step (length batch) phase) ≡ true → QueueAt h r past heads (after_step (length batch) phase) batch completed made (states.moved q)
+at_row h r past heads phase batch completed made q x goes =
+    let p : Phase = after_step (length batch) phase in
+    let same : states.moved q ≡ record q { phase = p } = moved_is h r past heads phase batch completed made q x ∙ goes_to p q goes in
+    subst (λ (t : QueueState). QueueAt h r past heads p batch completed made t) (sym same) (record {
+      ring = x.ring;
+      runs = x.runs;
+      started = x.started;
+      avail = x.avail;
+      used = x.used;
+      phase = refl;
+      batch = x.batch;
+      completed = x.completed;
+      count = x.count;
+      tasks = x.tasks;
+      buffers = x.buffers;
+      places = x.places;
+      sectors = x.sectors;
+      taken = x.taken;
+    })
+
+-- ---- a publication
+
+-- a head that is still taken was taken before, and is none of theirs
+pub still_taken : (f : ℕ → ℕ × ℕ) (xs : List ℕ) (taken : List Bool) (d : ℕ) → d < length taken → is_taken (without_heads (map f xs) taken) d ≡ true
+    → (is_taken taken d ≡ true) × ((k : ℕ) → is_among xs k ≡ true → (f k).0 ≢ d)
+still_taken f [] taken d low held = (held, λ k there. absurd (let fails : false ≡ true = there in cc))
+still_taken f (x ∷ xs) taken d low held =
+    let rest = still_taken f xs (set taken (f x).0 false) d (omega (arith, length-set taken (f x).0 false)) held in
+    elim (cases_eq d (f x).0) [
+      | inl same ↦ absurd (
+          let freed : get_or (set taken (f x).0 false) (f x).0 true ≡ false = get_or-set_same taken (f x).0 false true (omega arith) in
+          let at : get_or (set taken (f x).0 false) d true ≡ false = ap (λ (i : ℕ). get_or (set taken (f x).0 false) i true) same ∙ freed in
+          let fails : true ≡ false = sym rest.0 ∙ at in cc)
+      | inr apart ↦ (
+        sym (get_or-set_other taken (f x).0 d false true apart) ∙ rest.0,
+        λ k there. elim (cases_eq x k) [
+          | inl here ↦ λ heads. apart (sym heads ∙ ap (λ (j : ℕ). (f j).0) (sym here))
+          | inr other ↦ rest.1 k (grind (arith, nat_tests))
+        ],
+      )
+    ]
+
+-- those that are left after it were left before
+show_filter : (ps completed batch : List ℕ) (n : ℕ)
+    → filter (λ k. not (is_among (completed ++ []) k)) (missing_below (ps ++ batch) n) ≡ filter (λ k. not (is_among (completed ++ batch) k)) (missing_below ps n)
+show_filter ps completed batch zero = refl
+show_filter ps completed batch (suc n) =
+    let before : ℕ → Bool = λ k. not (is_among (completed ++ batch) k) in
+    let after : ℕ → Bool = λ k. not (is_among (completed ++ []) k) in
+    let rest : filter after (missing_below (ps ++ batch) n) ≡ filter before (missing_below ps n) = show_filter ps completed batch n in
+    let both : is_among (ps ++ batch) n ≡ (is_among ps n || is_among batch n) = is_among_append ps batch n in
+    let whole : is_among (completed ++ batch) n ≡ (is_among completed n || is_among batch n) = is_among_append completed batch n in
+    let bare : is_among (completed ++ []) n ≡ is_among completed n = ap (λ (ks : List ℕ). is_among ks n) (append-nil completed) in
+    let longer : filter after (missing_below (ps ++ batch) n ++ n ∷ []) ≡ filter after (missing_below (ps ++ batch) n) ++ filter after (n ∷ []) = filter-append after (missing_below (ps ++ batch) n) (n ∷ []) in
+    let longer_too : filter before (missing_below ps n ++ n ∷ []) ≡ filter before (missing_below ps n) ++ filter before (n ∷ []) = filter-append before (missing_below ps n) (n ∷ []) in
+    let nothing : filter before (missing_below ps n) ++ [] ≡ filter before (missing_below ps n) = append-nil (filter before (missing_below ps n)) in
+    elim (cases_Bool (is_among ps n)) [
+      | inl shown ↦ grind (arith, nat_tests)
+      | inr new ↦ elim (cases_Bool (is_among batch n)) [
+        | inl now ↦
+            let dropped : filter before (n ∷ []) ≡ [] = grind (arith, nat_tests) in
+            let skips : missing_below (ps ++ batch) (suc n) ≡ missing_below (ps ++ batch) n = grind (arith, nat_tests) in
+            let keeps : missing_below ps (suc n) ≡ missing_below ps n ++ n ∷ [] = grind (arith, nat_tests) in
+            ap (filter after) skips ∙ rest ∙ sym nothing ∙ ap (λ (ks : List ℕ). filter before (missing_below ps n) ++ ks) (sym dropped) ∙ sym longer_too ∙ ap (filter before) (sym keeps)
+        | inr later ↦
+            let alike : filter after (n ∷ []) ≡ filter before (n ∷ []) = grind (arith, nat_tests) in
+            let keeps : missing_below (ps ++ batch) (suc n) ≡ missing_below (ps ++ batch) n ++ n ∷ [] = grind (arith, nat_tests) in
+            let keeps_too : missing_below ps (suc n) ≡ missing_below ps n ++ n ∷ [] = grind (arith, nat_tests) in
+            ap (filter after) keeps ∙ longer ∙ ap (λ (ks : List ℕ). ks ++ filter after (n ∷ [])) rest ∙ ap (λ (ks : List ℕ). filter before (missing_below ps n) ++ ks) alike ∙ sym longer_too ∙ ap (filter before) (sym keeps_too)
+      ]
+    ]
+
+pub left_shown : (past : List Entry) (completed batch : List ℕ) (list : List Answered) → numbers list ≡ batch → left_of (entries.Publish 0 list ∷ past) completed [] ≡ left_of past completed batch
+left_shown past completed batch list is =
+    ap (λ (ks : List ℕ). filter (λ k. not (is_among (completed ++ []) k)) (missing_below (published past 0 ++ ks) (accepted past 0))) is
+    ∙ show_filter (published past 0) completed batch (accepted past 0)
+
+pub at_show : (h : Header1) (r : SplitRing) (past : List Entry) (heads : List ℕ) (phase : Phase) (batch completed : List ℕ) (made : ℕ → ℕ) (q : QueueState) (list : List Answered)
+    → after_step (length batch) phase ≡ phases.Rest → numbers list ≡ batch → QueueAt h r past heads phase batch completed made q
+    → QueueAt h r (entries.Publish 0 list ∷ past) heads phases.Rest [] completed made (states.moved q)
+at_show h r past heads phase batch completed made q list ends is x =
+    let past' : List Entry = entries.Publish 0 list ∷ past in
+    let many : length q.batch ≡ length batch = ap (λ (ks : List (ℕ × ℕ)). length ks) x.batch ∙ length-map batch (spot_of h past heads) in
+    let moved : states.moved q ≡ states.with_phase phases.Rest q = moved_is h r past heads phase batch completed made q x ∙ ap (λ (p : Phase). states.with_phase p q) ends in
+    let same : left_of past' completed [] ≡ left_of past completed batch = left_shown past completed batch list is in
+    let shown : length (published past' 0) ≡ length (published past 0) + length batch = length-append (published past 0) (numbers list) ∙ ap (λ (ks : List ℕ). length (published past 0) + length ks) is in
+    subst (λ (t : QueueState). QueueAt h r past' heads phases.Rest [] completed made t) (sym moved) (record {
+      ring = x.ring;
+      runs = x.runs;
+      started = x.started;
+      avail = x.avail;
+      used = omega (arith, x.used, many, shown);
+      phase = refl;
+      batch = refl;
+      completed = x.completed;
+      count = x.count ∙ ap (λ (ks : List ℕ). length ks) (sym same);
+      tasks = λ i k task there is_task.
+          let t = x.tasks i k task (subst (λ (ks : List ℕ). slice_get ks i ≡ Some k) same there) is_task in
+          record { head = t.head; stands = t.stands };
+      buffers = x.buffers;
+      places = length_without q.batch q.taken ∙ x.places;
+      sectors = λ k place request held asks_it next. x.sectors k place request (subst (λ (ks : List ℕ). is_among ks k ≡ true) same held) asks_it next;
+      taken = λ d low held.
+          let held_too : is_taken (without_heads (map (spot_of h past heads) batch) q.taken) d ≡ true = subst (λ (xs : List (ℕ × ℕ)). is_taken (without_heads xs q.taken) d ≡ true) x.batch held in
+          let still = still_taken (spot_of h past heads) batch q.taken d (omega (arith, low, x.places)) held_too in
+          let t = x.taken d low still.0 in
+          let unpublished : is_among (published past 0) t.0 ≡ false = t.1.unpublished in
+          let out : is_among batch t.0 ≡ false = elim (cases_Bool (is_among batch t.0)) [
+            | inl there ↦ absurd (still.1 t.0 there t.2)
+            | inr out ↦ out
+          ] in
+          let both : is_among (published past 0 ++ batch) t.0 ≡ (is_among (published past 0) t.0 || is_among batch t.0) = is_among_append (published past 0) batch t.0 in
+          let neither : is_among (published past 0 ++ batch) t.0 ≡ false = grind (arith, nat_tests) in
+          (t.0, record { taken = t.1.taken; unpublished = ap (λ (ks : List ℕ). is_among (published past 0 ++ ks) t.0) is ∙ neither }, t.2);
+    })
+
+-- ---- an offer
+
+offered_spot : (h : Header1) (past : List Entry) (heads : List ℕ) (request : Asked) (x k : ℕ) → Known h.size h.capacity past heads → k < accepted past 0 → spot_of h (entries.Offer 0 request ∷ past) (heads ++ x ∷ []) k ≡ spot_of h past heads k
+offered_spot h past heads request x k known low =
+    let head : slice_index (heads ++ x ∷ []) k ≡ slice_index heads k = same_head heads x k (omega (arith, low, known.offered)) in
+    let asks_it : asked (entries.Offer 0 request ∷ past) 0 k ≡ asked past 0 k = same_asked past request k (omega (arith, low, known.offered, known.offers_are)) in
+    ap (λ (y : ℕ). (y, len_of h (asked (entries.Offer 0 request ∷ past) 0 k))) head ∙ ap (λ (o : Option Asked). (slice_index heads k, len_of h o)) asks_it
+
+pub at_offer : (h : Header1) (r : SplitRing) (past : List Entry) (heads : List ℕ) (phase : Phase) (batch completed : List ℕ) (made : ℕ → ℕ) (q : QueueState) (request : Asked) (x : ℕ)
+    → Known h.size h.capacity past heads → Worked past phase batch completed made → QueueAt h r past heads phase batch completed made q
+    → QueueAt h r (entries.Offer 0 request ∷ past) (heads ++ x ∷ []) phase batch completed made q
+at_offer h r past heads phase batch completed made q request x known w z =
+    let past' : List Entry = entries.Offer 0 request ∷ past in
+    let heads' : List ℕ = heads ++ x ∷ [] in
+    let low_of : (k : ℕ) → is_among (completed ++ batch) k ≡ true → k < accepted past 0 = λ k held. (w.opens k held).taken in
+    let head_is : (k : ℕ) → k < accepted past 0 → slice_index heads' k ≡ slice_index heads k = λ k low. same_head heads x k (omega (arith, low, known.offered)) in
+    let asks_is : (k : ℕ) → k < accepted past 0 → asked past' 0 k ≡ asked past 0 k = λ k low. same_asked past request k (omega (arith, low, known.offered, known.offers_are)) in
+    let joined : (k : ℕ) → is_among (completed ++ batch) k ≡ (is_among completed k || is_among batch k) = is_among_append completed batch in
+    record {
+      ring = z.ring;
+      runs = z.runs;
+      started = z.started;
+      avail = z.avail;
+      used = z.used;
+      phase = z.phase;
+      batch = z.batch ∙ map_same (spot_of h past heads) (spot_of h past' heads') batch (λ k held. sym (offered_spot h past heads request x k known (low_of k (joined k ∙ or_right (is_among completed k) (is_among batch k) held))));
+      completed = z.completed ∙ map_same (spot_of h past heads) (spot_of h past' heads') completed (λ k held. sym (offered_spot h past heads request x k known (low_of k (joined k ∙ or_left (is_among completed k) (is_among batch k) held))));
+      count = z.count;
+      tasks = λ i k task there is.
+          let low : k < accepted past 0 = (left_is past completed batch k (among_get (left_of past completed batch) i k there)).is_open.taken in
+          let t = z.tasks i k task there is in
+          record {
+            head = t.head ∙ sym (head_is k low);
+            stands = λ asks_this at_k. subst (λ (d : ℕ). IsTaskAt h r (buffer_place (area_place 0) d) asks_this (made k) task) (sym (head_is k low)) (t.stands asks_this (sym (asks_is k low) ∙ at_k));
+          };
+      buffers = z.buffers;
+      places = z.places;
+      sectors = λ k place asks_this held at_k next.
+          let low : k < accepted past 0 = (left_is past completed batch k held).is_open.taken in
+          ap (λ (d : ℕ). get_or q.sectors d []) (head_is k low) ∙ z.sectors k place asks_this held (sym (asks_is k low) ∙ at_k) next;
+      taken = λ d low held.
+          let t = z.taken d low held in
+          (t.0, record { taken = t.1.taken; unpublished = t.1.unpublished }, head_is t.0 t.1.taken ∙ t.2);
+    }
+
+-- ---- a collection
+
+pub at_collect : (h : Header1) (r : SplitRing) (past : List Entry) (heads : List ℕ) (phase : Phase) (batch completed : List ℕ) (made : ℕ → ℕ) (q : QueueState) (k : ℕ)
+    → QueueAt h r past heads phase batch completed made q → QueueAt h r (entries.Collect 0 k ∷ past) heads phase batch completed made q
+at_collect h r past heads phase batch completed made q k x = record {
+  ring = x.ring;
+  runs = x.runs;
+  started = x.started;
+  avail = x.avail;
+  used = x.used;
+  phase = x.phase;
+  batch = x.batch;
+  completed = x.completed;
+  count = x.count;
+  tasks = λ i j task there is. record { head = (x.tasks i j task there is).head; stands = (x.tasks i j task there is).stands };
+  buffers = x.buffers;
+  places = x.places;
+  sectors = x.sectors;
+  taken = λ d low held.
+      let t = x.taken d low held in
+      (t.0, record { taken = t.1.taken; unpublished = t.1.unpublished }, t.2);
+}

@@ -1,0 +1,144 @@
+-- A drain ends: each turn leaves less to do, and there is never much.
+use Rattle.std.proofs.Common.{◌≡◌, ◌≤◌, ◌<◌, ℕ, zero, suc, ◌+◌, ◌*◌, Bool, true, false, cond, List, [], ◌∷◌, ◌++◌, length, refl, ap, sym, ◌∙◌, inl, inr, arith, length-append}
+use Rattle.std.specs.Prelude.{◌||◌}
+use Rattle.std.proofs.lemmas.Bool.Decides.{nat_tests}
+use Rattle.std.proofs.lemmas.Bool.{cases_Bool}
+use Rattle.std.proofs.lemmas.List.{append-nil, append_assoc}
+use Rattle.vub_base.specs.declared.header.Header1.{Header1}
+use Rattle.vub_steps.specs.declared.readiness.Turn.{Turn}
+use Rattle.vub_steps.specs.declared.steps.Phase.{Phase}
+use Rattle.vub_steps.specs.declared.steps.Phase.TheVariants as phases
+use Rattle.vub_steps.specs.Readiness.{is_ready}
+use Rattle.vub_device.specs.declared.entry.Entry.{Entry}
+use Rattle.vub_device.specs.Past.{accepted, published, collected, is_among, missing_below, open_numbers, started}
+use Rattle.vub_device.specs.Places.{are_distinct}
+use Rattle.vub_device.proofs.Numbers.{is_among_append}
+use Rattle.vub_report.specs.declared.items.Item.{Item}
+use Rattle.vub_run.specs.Memory.{Scene}
+use Rattle.vub_run.specs.Moments.{Lane, Moment, standing}
+use Rattle.vub_run.specs.Run.{Played, played, one_turn, is_due, then_played, turns}
+use Rattle.vub_run_laws.proofs.RunNumbers.{missing-among, distinct_push, distinct_join, few_below}
+use Rattle.vub_run_laws.proofs.RunGood.{Known, Worked}
+use Rattle.vub_run_laws.proofs.RunEfforts.{weight, sum_below, phase_left, effort, weight_small}
+use Rattle.vub_run_laws.proofs.RunTurns.{IsPlain, Good, turn_fine}
+
+-- what is left to do at a moment
+abbrev pub effort_at : Moment → ℕ
+effort_at m = effort m.scene.past (length (m.scene.heads 0)) (m.lanes 0)
+
+-- a due turn leaves less
+pub turn_falls : (h : Header1) (t : Turn) (m : Moment) → IsPlain h → Good h m → is_due h 0 t m ≡ true → effort_at (one_turn h 0 t m).next + 1 ≤ effort_at m
+turn_falls h t m plain good due =
+    let ready : is_ready (standing h 0 m) t ≡ true = grind (arith, nat_tests) in
+    (turn_fine h t m plain good ready).falls
+
+-- ---- how much there is
+
+pub missing_distinct : (xs : List ℕ) (a : ℕ) → are_distinct (missing_below xs a) ≡ true
+missing_distinct xs zero = refl
+missing_distinct xs (suc a) =
+    let rest : are_distinct (missing_below xs a) ≡ true = missing_distinct xs a in
+    elim (cases_Bool (is_among xs a)) [
+      | inl there ↦ grind (arith, nat_tests)
+      | inr out ↦
+          let new : is_among (missing_below xs a) a ≡ false = elim (cases_Bool (is_among (missing_below xs a) a)) [
+            | inl held ↦ absurd (let low : (a < a) × (is_among xs a ≡ false) = missing-among xs a a held in omega (arith, low.0))
+            | inr none ↦ none
+          ] in
+          let whole : are_distinct (missing_below xs a ++ a ∷ []) ≡ true = distinct_push (missing_below xs a) a rest new in
+          grind (arith, nat_tests)
+    ]
+
+-- what is open and what was published are no more than what was accepted
+open_few : (n cap : ℕ) (past : List Entry) (heads : List ℕ) → Known n cap past heads → length (published past 0) + length (open_numbers past 0) ≤ accepted past 0
+open_few n cap past heads known =
+    let ps : List ℕ = published past 0 in
+    let os : List ℕ = open_numbers past 0 in
+    let d : are_distinct (ps ++ os) ≡ true = distinct_join ps os known.distinct (missing_distinct ps (accepted past 0)) (λ k held. (missing-among ps (accepted past 0) k held).1) in
+    let few : length (ps ++ os) ≤ accepted past 0 = few_below (ps ++ os) (accepted past 0) d (λ k held. elim (cases_Bool (is_among os k)) [
+      | inl there ↦ (missing-among ps (accepted past 0) k there).0
+      | inr out ↦ known.below k (let joined : is_among (ps ++ os) k ≡ (is_among ps k || is_among os k) = is_among_append ps os k in grind (arith, nat_tests))
+    ]) in
+    omega (arith, few, length-append ps os)
+
+sum_few : (gone done : List ℕ) (made : ℕ → ℕ) (a : ℕ) → sum_below (weight gone done made) a ≤ 20 * length (missing_below gone a)
+sum_few gone done made zero = omega arith
+sum_few gone done made (suc a) =
+    let rest : sum_below (weight gone done made) a ≤ 20 * length (missing_below gone a) = sum_few gone done made a in
+    elim (cases_Bool (is_among gone a)) [
+      | inl there ↦
+          let none : weight gone done made a ≡ 0 = grind (arith, nat_tests) in
+          let same : missing_below gone (suc a) ≡ missing_below gone a = grind (arith, nat_tests) in
+          omega (arith, none, ap (λ (xs : List ℕ). length xs) same)
+      | inr out ↦
+          let more : missing_below gone (suc a) ≡ missing_below gone a ++ a ∷ [] = grind (arith, nat_tests) in
+          omega (arith, weight_small gone done made a, ap (λ (xs : List ℕ). length xs) more, length-append (missing_below gone a) (a ∷ []))
+    ]
+
+-- those completed or in the batch are open ones
+done_few : (n cap : ℕ) (past : List Entry) (heads : List ℕ) (phase : Phase) (batch completed : List ℕ) (made : ℕ → ℕ) → Known n cap past heads → Worked past phase batch completed made
+    → length (published past 0) + (length completed + length batch) ≤ accepted past 0
+done_few n cap past heads phase batch completed made known w =
+    let ps : List ℕ = published past 0 in
+    let ds : List ℕ = completed ++ batch in
+    let d : are_distinct (ps ++ ds) ≡ true = distinct_join ps ds known.distinct w.distinct (λ k held. (w.opens k held).unpublished) in
+    let few : length (ps ++ ds) ≤ accepted past 0 = few_below (ps ++ ds) (accepted past 0) d (λ k held. elim (cases_Bool (is_among ds k)) [
+      | inl there ↦ (w.opens k there).taken
+      | inr out ↦ known.below k (let joined : is_among (ps ++ ds) k ≡ (is_among ps k || is_among ds k) = is_among_append ps ds k in grind (arith, nat_tests))
+    ]) in
+    omega (arith, few, length-append ps ds, length-append completed batch)
+
+pub phase_few : (batch : List ℕ) (phase : Phase) → phase_left batch phase ≤ 2 * length batch + 1
+phase_few batch phases.Rest = omega arith
+phase_few batch (phases.Start done) = omega arith
+phase_few batch (phases.Fetch done) = omega arith
+phase_few batch (phases.Publish done) = omega arith
+
+pub start_few : (b : Bool) → cond {A = ℕ} b 0 1 ≤ 1
+start_few true = omega arith
+start_few false = omega arith
+
+-- there is never much to do
+pub effort_small : (h : Header1) (m : Moment) → IsPlain h → Good h m → effort_at m ≤ 2000
+effort_small h m plain good =
+    let s : Scene = m.scene in
+    let l : Lane = m.lanes 0 in
+    let known : Known h.size h.capacity s.past (s.heads 0) = good.holds.known in
+    let small : h.size ≤ 64 = plain.good.size.small in
+    let room : length (s.heads 0) ≤ h.size + collected s.past 0 = known.room in
+    let shown : collected s.past 0 ≤ length (published s.past 0) = known.shown in
+    let offered : accepted s.past 0 ≤ length (s.heads 0) = known.offered in
+    let opens = open_few h.size h.capacity s.past (s.heads 0) known in
+    let dones = done_few h.size h.capacity s.past (s.heads 0) l.phase l.batch l.completed l.made known good.holds.worked in
+    let sum = sum_few (published s.past 0) (l.completed ++ l.batch) l.made (accepted s.past 0) in
+    let stores = phase_few l.batch l.phase in
+    let begins = start_few (started s.past 0) in
+    omega (arith, opens, dones, sum, stores, begins)
+
+-- ---- one more turn at the end
+
+then_nothing : (p : Played) → then_played p (played [] p.next) ≡ p
+then_nothing p = ap (λ (is : List Item). played is p.next) (append-nil p.items)
+
+then_then : (p q r : Played) → then_played p (then_played q r) ≡ then_played (then_played p q) r
+then_then p q r = ap (λ (is : List Item). played is r.next) (sym (append_assoc p.items q.items r.items))
+
+-- where the next turn is due, as many turns and one more are these and that one
+pub turns_more : (count : ℕ) (choose : Moment → Turn) (h : Header1) (m : Moment) → is_due h 0 (choose (turns count choose h 0 m).next) (turns count choose h 0 m).next ≡ true
+    → turns (suc count) choose h 0 m ≡ then_played (turns count choose h 0 m) (one_turn h 0 (choose (turns count choose h 0 m).next) (turns count choose h 0 m).next)
+turns_more zero choose h m due =
+    ap (λ (b : Bool). cond {A = Played} b (then_played (one_turn h 0 (choose m) m) (played [] (one_turn h 0 (choose m) m).next)) (played [] m)) due ∙ then_nothing (one_turn h 0 (choose m) m)
+turns_more (suc count) choose h m due = go (is_due h 0 (choose m) m) refl due (turns_more count choose h (one_turn h 0 (choose m) m).next)
+  where
+    go : (b : Bool) → is_due h 0 (choose m) m ≡ b
+        → is_due h 0 (choose (cond {A = Played} b (then_played (one_turn h 0 (choose m) m) (turns count choose h 0 (one_turn h 0 (choose m) m).next)) (played [] m)).next) (cond {A = Played} b (then_played (one_turn h 0 (choose m) m) (turns count choose h 0 (one_turn h 0 (choose m) m).next)) (played [] m)).next ≡ true
+        → (is_due h 0 (choose (turns count choose h 0 (one_turn h 0 (choose m) m).next).next) (turns count choose h 0 (one_turn h 0 (choose m) m).next).next ≡ true
+        → turns (suc count) choose h 0 (one_turn h 0 (choose m) m).next ≡ then_played (turns count choose h 0 (one_turn h 0 (choose m) m).next) (one_turn h 0 (choose (turns count choose h 0 (one_turn h 0 (choose m) m).next).next) (turns count choose h 0 (one_turn h 0 (choose m) m).next).next))
+        → cond {A = Played} b (then_played (one_turn h 0 (choose m) m) (turns (suc count) choose h 0 (one_turn h 0 (choose m) m).next)) (played [] m)
+        ≡ then_played (cond {A = Played} b (then_played (one_turn h 0 (choose m) m) (turns count choose h 0 (one_turn h 0 (choose m) m).next)) (played [] m))
+        (one_turn h 0 (choose (cond {A = Played} b (then_played (one_turn h 0 (choose m) m) (turns count choose h 0 (one_turn h 0 (choose m) m).next)) (played [] m)).next)
+        (cond {A = Played} b (then_played (one_turn h 0 (choose m) m) (turns count choose h 0 (one_turn h 0 (choose m) m).next)) (played [] m)).next)
+    go true is later rest =
+        let P : Played = turns count choose h 0 (one_turn h 0 (choose m) m).next in
+        ap (then_played (one_turn h 0 (choose m) m)) (rest later) ∙ then_then (one_turn h 0 (choose m) m) P (one_turn h 0 (choose P.next) P.next)
+    go false is later rest = absurd (let fails : true ≡ false = sym later ∙ is in cc)

@@ -1,0 +1,223 @@
+-- Start and fetch keep what holds, and so does the begin of a publication.
+use Rattle.std.proofs.Common.{◌≡◌, ◌≤◌, ◌<◌, ℕ, ◌+◌, true, false, List, [], ◌∷◌, ◌++◌, length, take, drop, refl, ap, sym, ◌∙◌, subst, inl, inr, arith}
+use Rattle.std.specs.Prelude.{Option, Some, None, ◌||◌, if◌then◌else◌}
+use Rattle.std.proofs.lemmas.Bool.Decides.{nat_tests}
+use Rattle.std.proofs.lemmas.Bool.{cases_lt, cases_Bool}
+use Rattle.std.proofs.lemmas.List.{length-drop, append-nil, length-take, take-append-drop}
+use Rattle.vub_base.specs.declared.header.Header1.{Header1}
+use Rattle.vub_steps.specs.declared.steps.Phase.{Phase}
+use Rattle.vub_steps.specs.declared.steps.Phase.TheVariants as phases
+use Rattle.vub_steps.specs.declared.readiness.Turn.TheVariants as turns
+use Rattle.vub_ring.specs.Ring.{ahead, avail_idx}
+use Rattle.vub_device.specs.declared.entry.Asked.{Asked}
+use Rattle.vub_device.specs.declared.entry.Asked.TheVariants as asks
+use Rattle.vub_device.specs.declared.entry.Entry.{Entry}
+use Rattle.vub_device.specs.declared.entry.Entry.TheVariants as entries
+use Rattle.vub_device.specs.Legal.{MayStart, MayAccept}
+use Rattle.vub_device.specs.Past.{asked, accepted, published, is_among, open_numbers, started}
+use Rattle.vub_device.specs.Places.{are_distinct}
+use Rattle.vub_device.proofs.Numbers.{is_among_append}
+use Rattle.vub_run.specs.Memory.{Scene}
+use Rattle.vub_run.specs.Moments.{Lane}
+use Rattle.vub_run.specs.Turns.{under_way, phase_goes_on}
+use Rattle.vub_run_laws.proofs.RunNumbers.{distinct_parts, distinct_join}
+use Rattle.vub_run_laws.proofs.RunGood.{the_ring, IsPending, Worked, Holds}
+use Rattle.vub_run_laws.proofs.RunTracks.{ahead_by}
+use Rattle.vub_run_laws.proofs.RunEfforts.{weight, effort, sum_more, weight_small, sum_moved}
+use Rattle.vub_run_laws.proofs.RunGuests.{IsGood, holds_track}
+use Rattle.vub_run_laws.proofs.RunWork.{Fine, driven_same, built_same}
+
+-- the lane at rest
+abbrev pub resting : Lane → Lane
+resting l = record l { phase = phases.Rest; batch = [] }
+
+pub rest_is : (l : Lane) → l.phase ≡ phases.Rest → l.batch ≡ [] → resting l ≡ l
+rest_is l phase batch = ap (λ (p : Phase). record l { phase = p; batch = [] }) (sym phase) ∙ ap (λ (b : List ℕ). record l { batch = b }) (sym batch)
+
+-- ---- start
+
+start_worked : (past : List Entry) (list batch completed : List ℕ) (made : ℕ → ℕ) (phase : Phase) → started past 0 ≡ false → Worked past phase batch completed made → Worked (entries.Start 0 list ∷ past) phase batch completed made
+start_worked past list batch completed made phase stopped w =
+    let none : (k : ℕ) → made k ≡ 0 = (w.quiet stopped).1.1 in record {
+      distinct = w.distinct;
+      opens = λ j held. record { taken = (w.opens j held).taken; unpublished = (w.opens j held).unpublished };
+      untouched = w.untouched;
+      progress = λ k. record { fresh = λ e. (refl, (refl, (refl, refl))); begun = λ some. absurd (let zero_made : made k ≡ 0 = none k in omega arith) };
+      full = w.full;
+      pending = λ j is_open out. w.pending j (record { taken = is_open.taken; unpublished = is_open.unpublished }) out;
+      quiet = λ stops. absurd (let fails : true ≡ false = stops in cc);
+      phase_is = w.phase_is;
+    }
+
+start_holds : (h : Header1) (s : Scene) (l : Lane) (list : List ℕ) → started s.past 0 ≡ false → Holds h s l → Holds h (record s { past = entries.Start 0 list ∷ s.past }) l
+start_holds h s l list stopped x = record {
+  known = record {
+    offers_are = x.known.offers_are;
+    offered = x.known.offered;
+    distinct = x.known.distinct;
+    below = x.known.below;
+    shown = x.known.shown;
+    fewer = x.known.fewer;
+    room = x.known.room;
+    good = x.known.good;
+    wide = x.known.wide;
+    unfaulted = λ k. refl;
+    values = x.known.values;
+  };
+  ringed = record { avail_idx_is = x.ringed.avail_idx_is; used_idx_is = x.ringed.used_idx_is; avail_at = x.ringed.avail_at; used_at = x.ringed.used_at };
+  driven = driven_same h.size h.capacity h.base s.past (entries.Start 0 list ∷ s.past) (s.heads 0) l.driver (λ j o. record { below = o.below; kept = o.kept }) x.driven;
+  worked = start_worked s.past list l.batch l.completed l.made l.phase stopped x.worked;
+  stored = record {
+    sectors = λ k i is_open kept read. absurd (let zero_made : l.made k ≡ 0 = (x.worked.quiet stopped).1.1 k in omega (arith, kept.put));
+    status = x.stored.status;
+  };
+  built = built_same h.size h.base s.past (entries.Start 0 list ∷ s.past) (s.heads 0) s.memory l.batch l.phase refl (λ j. refl) x.built;
+}
+
+pub start_fine : (h : Header1) (s : Scene) (l : Lane) → IsGood h → started s.past 0 ≡ false → Holds h s (resting l) → Fine h s (resting l) (phase_goes_on h 0 s (under_way turns.Start (resting l)))
+start_fine h s l good stopped x =
+    let list : List ℕ = open_numbers s.past 0 in
+    let holds : Holds h (record s { past = entries.Start 0 list ∷ s.past }) (resting l) = start_holds h s (resting l) list stopped x in
+    let may : MayStart s.past 0 list = record { stopped = stopped; resubmits = refl } in
+    record {
+      each = (inr (holds_track h (record s { past = entries.Start 0 list ∷ s.past }) (resting l) good holds), tt);
+      holds = holds;
+      legal = (may, tt);
+      runs = refl;
+      collects = refl;
+      falls = let rest : ℕ = if started s.past 0 then 0 else 1 in let one : rest ≡ 1 = grind (arith, nat_tests) in omega (arith, one);
+    }
+
+-- ---- fetch
+
+accept_worked : (past : List Entry) (k : ℕ) (batch completed : List ℕ) (made : ℕ → ℕ) (phase : Phase) → Worked past phase batch completed made → Worked (entries.Accept 0 k ∷ past) phase batch completed made
+accept_worked past k batch completed made phase w = record {
+  distinct = w.distinct;
+  opens = λ j held. record { taken = omega (arith, (w.opens j held).taken); unpublished = (w.opens j held).unpublished };
+  untouched = λ j high. w.untouched j (omega arith);
+  progress = w.progress;
+  full = w.full;
+  pending = λ j is_open out. elim (cases_lt j (accepted past 0)) [
+    | inl low ↦ w.pending j (record { taken = low; unpublished = is_open.unpublished }) out
+    | inr high ↦ subst (λ (c : ℕ). IsPending c (asked past 0 j)) (sym (w.untouched j high)) (pending_none (asked past 0 j))
+  ];
+  quiet = w.quiet;
+  phase_is = w.phase_is;
+}
+  where
+    pending_none : (o : Option Asked) → IsPending 0 o
+    pending_none (Some (asks.Read s n)) = omega arith
+    pending_none (Some (asks.Write s bytes)) = omega arith
+    pending_none (Some asks.Flush) = omega arith
+    pending_none (Some asks.Id) = tt
+    pending_none (Some (asks.Discard parts)) = tt
+    pending_none (Some (asks.Zero parts)) = tt
+    pending_none None = tt
+
+accept_holds : (h : Header1) (s : Scene) (l : Lane) (k : ℕ) → accepted s.past 0 < length (s.heads 0) → Holds h s l → Holds h (record s { past = entries.Accept 0 k ∷ s.past }) l
+accept_holds h s l k more x = record {
+  known = record {
+    offers_are = x.known.offers_are;
+    offered = omega arith;
+    distinct = x.known.distinct;
+    below = λ j held. omega (arith, x.known.below j held);
+    shown = x.known.shown;
+    fewer = omega (arith, x.known.fewer);
+    room = x.known.room;
+    good = x.known.good;
+    wide = x.known.wide;
+    unfaulted = x.known.unfaulted;
+    values = x.known.values;
+  };
+  ringed = record { avail_idx_is = x.ringed.avail_idx_is; used_idx_is = x.ringed.used_idx_is; avail_at = λ i from upto. x.ringed.avail_at i (omega arith) upto; used_at = x.ringed.used_at };
+  driven = driven_same h.size h.capacity h.base s.past (entries.Accept 0 k ∷ s.past) (s.heads 0) l.driver (λ j o. record { below = o.below; kept = o.kept }) x.driven;
+  worked = accept_worked s.past k l.batch l.completed l.made l.phase x.worked;
+  stored = record {
+    sectors = λ j i is_open kept read. x.stored.sectors j i (record {
+      taken = elim (cases_lt j (accepted s.past 0)) [
+        | inl low ↦ low
+        | inr high ↦ absurd (let none : l.made j ≡ 0 = x.worked.untouched j high in omega (arith, kept.put))
+      ];
+      unpublished = is_open.unpublished;
+    }) kept read;
+    status = x.stored.status;
+  };
+  built = built_same h.size h.base s.past (entries.Accept 0 k ∷ s.past) (s.heads 0) s.memory l.batch l.phase refl (λ j. refl) x.built;
+}
+
+-- where something waits, an offer isn't accepted
+pub some_waits : (h : Header1) (s : Scene) (l : Lane) → IsGood h → Holds h s l → ahead (avail_idx (the_ring h.size) s.memory) (h.base + accepted s.past 0) + accepted s.past 0 ≡ length (s.heads 0)
+some_waits h s l good x =
+    let small : h.size ≤ 64 = good.size.small in
+    let room = x.known.room in
+    let shown = x.known.shown in
+    let fewer = x.known.fewer in
+    ap (λ (u : ℕ). ahead u (h.base + accepted s.past 0) + accepted s.past 0) x.ringed.avail_idx_is ∙ ahead_by h.base (length (s.heads 0)) (accepted s.past 0) x.known.offered (omega arith)
+
+pub fetch_fine : (h : Header1) (s : Scene) (l : Lane) → IsGood h → started s.past 0 ≡ true → accepted s.past 0 < length (s.heads 0) → Holds h s (resting l) → Fine h s (resting l) (phase_goes_on h 0 s (under_way turns.Fetch (resting l)))
+fetch_fine h s l good run more x =
+    let k : ℕ = accepted s.past 0 in
+    let holds : Holds h (record s { past = entries.Accept 0 k ∷ s.past }) (resting l) = accept_holds h s (resting l) k more x in
+    let may : MayAccept s.past 0 k = record { started = run; next = refl; offered = omega (arith, x.known.offers_are) } in
+    record {
+      each = (inr (holds_track h (record s { past = entries.Accept 0 k ∷ s.past }) (resting l) good holds), tt);
+      holds = holds;
+      legal = (may, tt);
+      runs = run;
+      collects = refl;
+      falls = omega (arith, sum_more (weight (published s.past 0) (l.completed ++ []) l.made) k, weight_small (published s.past 0) (l.completed ++ []) l.made k);
+    }
+
+-- ---- a batch is taken
+
+abbrev pub taking : ℕ → Lane → Lane
+taking most l = record l { phase = phases.Publish 0; batch = take most l.completed; completed = drop most l.completed }
+
+pub swap_among : (most : ℕ) (xs : List ℕ) (k : ℕ) → is_among (drop most xs ++ take most xs) k ≡ is_among (xs ++ []) k
+swap_among most xs k =
+    let left : is_among (drop most xs ++ take most xs) k ≡ (is_among (drop most xs) k || is_among (take most xs) k) = is_among_append (drop most xs) (take most xs) k in
+    let right : is_among (take most xs ++ drop most xs) k ≡ (is_among (take most xs) k || is_among (drop most xs) k) = is_among_append (take most xs) (drop most xs) k in
+    let whole : is_among (take most xs ++ drop most xs) k ≡ is_among (xs ++ []) k = ap (λ (ys : List ℕ). is_among ys k) (take-append-drop most xs ∙ sym (append-nil xs)) in
+    let flip : (is_among (drop most xs) k || is_among (take most xs) k) ≡ (is_among (take most xs) k || is_among (drop most xs) k) = grind (arith, nat_tests) in
+    left ∙ flip ∙ sym right ∙ whole
+
+swap_distinct : (most : ℕ) (xs : List ℕ) → are_distinct (xs ++ []) ≡ true → are_distinct (drop most xs ++ take most xs) ≡ true
+swap_distinct most xs d =
+    let whole : are_distinct (take most xs ++ drop most xs) ≡ true = ap are_distinct (take-append-drop most xs ∙ sym (append-nil xs)) ∙ d in
+    let parts = distinct_parts (take most xs) (drop most xs) whole in
+    distinct_join (drop most xs) (take most xs) parts.1.0 parts.0 (λ k held. elim (cases_Bool (is_among (drop most xs) k)) [
+      | inl there ↦ let out : is_among (take most xs) k ≡ false = parts.1.1 k there in absurd (let fails : true ≡ false = sym held ∙ out in cc)
+      | inr out ↦ out
+    ])
+
+pub taking_holds : (h : Header1) (s : Scene) (l : Lane) (most : ℕ) → 0 < most → 0 < length l.completed → started s.past 0 ≡ true → Holds h s (resting l) → Holds h s (taking most l)
+taking_holds h s l most some any run x =
+    let same : (k : ℕ) → is_among (drop most l.completed ++ take most l.completed) k ≡ true → is_among (l.completed ++ []) k ≡ true = λ k held. sym (swap_among most l.completed k) ∙ held in
+    record {
+      known = x.known;
+      ringed = x.ringed;
+      driven = x.driven;
+      worked = record {
+        distinct = swap_distinct most l.completed x.worked.distinct;
+        opens = λ k held. x.worked.opens k (same k held);
+        untouched = x.worked.untouched;
+        progress = x.worked.progress;
+        full = λ k held. x.worked.full k (same k held);
+        pending = λ k is_open out. x.worked.pending k is_open (sym (swap_among most l.completed k) ∙ out);
+        quiet = λ stopped. absurd (let fails : true ≡ false = sym run ∙ stopped in cc);
+        phase_is = (omega (arith, length-take most l.completed), omega arith);
+      };
+      stored = record {
+        sectors = x.stored.sectors;
+        status = λ k held. x.stored.status k (same k held);
+      };
+      built = record {
+        ids = λ e l d. absurd (omega arith);
+        lens = λ e l d. absurd (omega arith);
+      };
+    }
+
+-- and what is left to do grows by no more than the store that follows
+pub taking_effort : (past : List Entry) (offered most : ℕ) (l : Lane) → 0 < most → 0 < length l.completed → effort past offered (taking most l) ≤ effort past offered (resting l)
+taking_effort past offered most l some any =
+    omega (arith, length-take most l.completed, length-drop most l.completed, sum_moved (published past 0) (l.completed ++ []) (drop most l.completed ++ take most l.completed) l.made (accepted past 0) (swap_among most l.completed))

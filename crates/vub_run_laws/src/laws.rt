@@ -1,0 +1,44 @@
+//! Laws of all runs.
+ghost use Rattle.std.specs.Prelude.{◌≡◌, ◌<◌, ℕ, true, false, List, [], length, slice_index};
+ghost use Rattle.vub_base.specs.declared.header.Header1.{Header1};
+ghost use Rattle.vub_device.specs.Legal.{Legal};
+ghost use Rattle.vub_device.specs.Past.{asked, accepted, offers, published, is_among, open_numbers};
+ghost use Rattle.vub_schedule.specs.declared.types.Event.{Event};
+ghost use Rattle.vub_schedule.specs.declared.types.Schedule.{Schedule};
+ghost use Rattle.vub_schedule.specs.Spelling.{IsSchedule};
+ghost use Rattle.vub_report.specs.declared.items.Item.{Item};
+ghost use Rattle.vub_report.specs.declared.items.Record.{Record};
+ghost use Rattle.vub_split.specs.declared.split.SplitRing.{SplitRing};
+ghost use Rattle.vub_direct_chain.specs.ChainState.{IsFirstRing, Meant};
+ghost use Rattle.vub_run.specs.Moments.{Moment};
+ghost use Rattle.vub_run.specs.Run.{Run, Stands, Plays};
+ghost use Rattle.vub_run.specs.Tracking.{TracksAlways};
+ghost use Rattle.vub_report.specs.Histories.{history_of};
+
+/// The history of every run of a schedule is legal: the device answers each request at most once,
+/// and rightly. Memory tracks it after each item, a store taken together with the offer or the
+/// publication that it makes.
+pub fn every_run_is_legal()
+    ensures legal { (s : Schedule) (records : List Record) → IsSchedule s → Run s records → Legal s.header.capacity s.header.mode (history_of records) }
+    ensures tracked { (s : Schedule) (records : List Record) → IsSchedule s → Run s records → TracksAlways s.header records }
+{}
+
+/// Every schedule of the grammar has a run, so that the law above says something of each.
+pub fn every_schedule_runs()
+    ensures { (s : Schedule) → IsSchedule s → (records : List Record) × Run s records }
+{}
+
+/// After a drain of an attached queue no request is open, and every offer is accepted.
+pub fn every_drain_ends()
+    ensures published { (h : Header1) (es : List Event) (rs : List Record) (m next : Moment) (items : List Item) → Stands h es rs m → (m.lanes 0).attached ≡ true
+        → Plays h m (Event.Drain 0) items next → open_numbers next.scene.past 0 ≡ [] }
+    ensures accepted { (h : Header1) (es : List Event) (rs : List Record) (m next : Moment) (items : List Item) → Stands h es rs m → (m.lanes 0).attached ≡ true
+        → Plays h m (Event.Drain 0) items next → accepted next.scene.past 0 ≡ offers next.scene.past 0 }
+{}
+
+/// Where a run leads, guest memory means each request that is offered and not published, under the
+/// head that its offer showed.
+pub fn every_open_request_is_meant()
+    ensures { (h : Header1) (es : List Event) (rs : List Record) (m : Moment) (sizes : ℕ → ℕ) (r : SplitRing) (k : ℕ) → Stands h es rs m → IsFirstRing sizes r h.size
+        → k < length (m.scene.heads 0) → is_among (published m.scene.past 0) k ≡ false → Meant sizes r m.scene.memory (slice_index (m.scene.heads 0) k) (asked m.scene.past 0 k) }
+{}
