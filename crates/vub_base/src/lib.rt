@@ -14,6 +14,7 @@ mod request;
 mod ring_fault;
 mod sink;
 mod source;
+pub mod standard;
 mod store;
 #[cfg(test)]
 mod tests;

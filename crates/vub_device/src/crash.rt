@@ -6,17 +6,18 @@ ghost use Rattle.vub_device.specs.Requests.{zeros};
 
 use crate::entry::{Entry, SectorValue};
 use crate::meaning::{ZEROS, is_zeros};
+use vub_base::standard::SECTOR_SIZE;
 
 /// A sector of zeros.
 #[tactic(auto, unfolding(crate::specs::Requests::zeros))]
-fn zeros() -> [u8; 512]
+fn zeros() -> [u8; SECTOR_SIZE]
     ensures { result ≡ zeros }
 {
     ZEROS
 }
 
 /// What an image holds at a sector.
-pub(crate) fn image_at(image: &[SectorValue], sector: u64) -> [u8; 512]
+pub(crate) fn image_at(image: &[SectorValue], sector: u64) -> [u8; SECTOR_SIZE]
     ensures { result ≡ image_at image.now sector }
 {
     match image {
@@ -32,7 +33,7 @@ pub(crate) fn image_at(image: &[SectorValue], sector: u64) -> [u8; 512]
 }
 
 /// What a sector holds after these entries.
-pub(crate) fn value(past: &[Entry], sector: u64) -> [u8; 512]
+pub(crate) fn value(past: &[Entry], sector: u64) -> [u8; SECTOR_SIZE]
     ensures { result ≡ value (reverse past.now) sector }
 {
     match past {
@@ -51,7 +52,7 @@ pub(crate) fn value(past: &[Entry], sector: u64) -> [u8; 512]
 
 /// Whether a sector may hold this after a power stop.
 #[tactic(auto, using(crate::proofs::Candidates::is_held_more))]
-fn is_candidate(past: &[Entry], sector: u64, held: &[u8; 512]) -> bool
+fn is_candidate(past: &[Entry], sector: u64, held: &[u8; SECTOR_SIZE]) -> bool
     ensures { result ≡ is_held (candidates (reverse past.now) sector) held.now }
 {
     match past {

@@ -2,6 +2,7 @@ ghost use Rattle.std.specs.Prelude.{◌≡◌};
 
 use arrayvec::ArrayVec;
 use std::marker::Model;
+use vub_base::standard::SECTOR_SIZE;
 use vub_base::{Bytes, Part};
 
 /// A request as the driver offers it to the device (VIRTIO 1.2, 5.2.6). Sectors are of 512 bytes.
@@ -36,7 +37,7 @@ pub struct Answered {
 #[derive(Clone, Copy, Debug)]
 pub struct SectorValue {
     pub sector: u64,
-    pub value: [u8; 512],
+    pub value: [u8; SECTOR_SIZE],
 }
 
 /// A list of answers. Contracts see it as that list.
@@ -147,9 +148,9 @@ pub enum Entry {
     /// The device took the queue's next offer.
     Accept(u16, u64),
     /// For a request (queue, number) the device read this value of a sector.
-    Look(u16, u64, u64, [u8; 512]),
+    Look(u16, u64, u64, [u8; SECTOR_SIZE]),
     /// For a request (queue, number) the device wrote this value to a sector.
-    Act(u16, u64, u64, [u8; 512]),
+    Act(u16, u64, u64, [u8; SECTOR_SIZE]),
     /// For a request (queue, number) the device made all that was written stable.
     Sync(u16, u64),
     /// A call of the disk for a request (queue, number) failed.

@@ -11,6 +11,7 @@ ghost use Rattle.vub_device.specs.declared.entry.Asked.{Asked};
 use crate::entry::{Answered, Asked, Entry};
 use crate::{crash, meaning, past};
 use vub_base::CacheMode;
+use vub_base::standard::SECTOR_SIZE;
 
 /// Whether a number is open.
 fn is_open(past: &[Entry], queue: u16, number: u64) -> bool
@@ -55,7 +56,7 @@ fn may_look(
     queue: u16,
     number: u64,
     sector: u64,
-    value: &[u8; 512],
+    value: &[u8; SECTOR_SIZE],
 ) -> bool
     ensures { IsTrue result ↔ MayLook capacity mode (reverse past.now) queue number sector value.now }
 {
@@ -76,7 +77,7 @@ fn may_act(
     queue: u16,
     number: u64,
     sector: u64,
-    value: &[u8; 512],
+    value: &[u8; SECTOR_SIZE],
 ) -> bool
     ensures { IsTrue result ↔ MayAct capacity mode (reverse past.now) queue number sector value.now }
 {

@@ -5,6 +5,7 @@ ghost use Rattle.vub_device.specs.Requests.{zeros, device_name, look_at, zeroed_
 ghost use Rattle.vub_device.specs.Requests.{has_flags_above, is_outside, parts_refusal, refusal};
 
 use crate::entry::Asked;
+use vub_base::standard::{SECTOR_SIZE, VIRTIO_BLK_S_IOERR, VIRTIO_BLK_S_UNSUPP};
 use vub_base::{CacheMode, Part};
 
 /// The most sectors that a part of a discard or a zeroing may have.
@@ -37,13 +38,13 @@ fn parts_refusal(capacity: u64, mode: CacheMode, flags: u32, parts: &[Part]) -> 
     ensures { result ≡ parts_refusal capacity mode flags parts.now }
 {
     if mode == CacheMode::ReadOnly {
-        return Some(1);
+        return Some(VIRTIO_BLK_S_IOERR);
     }
     if any_flags_above(flags, parts) {
-        return Some(2);
+        return Some(VIRTIO_BLK_S_UNSUPP);
     }
     if any_outside(capacity, parts) {
-        return Some(1);
+        return Some(VIRTIO_BLK_S_IOERR);
     }
     None
 }
@@ -58,19 +59,19 @@ pub fn refusal(capacity: u64, mode: CacheMode, asked: &Asked) -> Option<u8>
     match asked {
         Asked::Read { sector, count } => {
             let fits = is_within(capacity, *sector, u64::from(*count));
-            if fits { None } else { Some(1) }
+            if fits { None } else { Some(VIRTIO_BLK_S_IOERR) }
         }
         Asked::Write { sector, bytes } => {
-            let count = bytes.items().len() as u64 / 512;
+            let count = bytes.items().len() as u64 / SECTOR_SIZE as u64;
             let fits = is_within(capacity, *sector, count);
             if mode != CacheMode::ReadOnly && fits {
                 None
             } else {
-                Some(1)
+                Some(VIRTIO_BLK_S_IOERR)
             }
         }
         Asked::Flush => if mode == CacheMode::Through {
-            Some(2)
+            Some(VIRTIO_BLK_S_UNSUPP)
         } else {
             None
         },
@@ -111,7 +112,7 @@ pub(crate) fn ends_looks(asked: &Asked, index: usize) -> bool
 }
 
 /// Whether zeroing the parts in order writes this sector with this value in this place.
-fn is_zeroed(parts: &[Part], index: usize, sector: u64, value: &[u8; 512]) -> bool
+fn is_zeroed(parts: &[Part], index: usize, sector: u64, value: &[u8; SECTOR_SIZE]) -> bool
     ensures { IsTrue result
         ↔ (zeroed_at parts.now index ≡ Some (record { sector = sector; value = value.now })) }
 {
@@ -142,18 +143,18 @@ fn ends_zeroed(parts: &[Part], index: usize) -> bool
 }
 
 /// A sector of zeros.
-pub(crate) const ZEROS: [u8; 512] = [0; 512];
+pub(crate) const ZEROS: [u8; SECTOR_SIZE] = [0; SECTOR_SIZE];
 
 /// Whether a sector holds zeros.
 #[tactic(auto, unfolding(crate::specs::Requests::zeros))]
-pub(crate) fn is_zeros(value: &[u8; 512]) -> bool
+pub(crate) fn is_zeros(value: &[u8; SECTOR_SIZE]) -> bool
     ensures { IsTrue result ↔ (value.now ≡ zeros) }
 {
     *value == ZEROS
 }
 
 /// Whether the request writes this sector with this value in this place.
-pub(crate) fn is_effect(asked: &Asked, index: usize, sector: u64, value: &[u8; 512]) -> bool
+pub(crate) fn is_effect(asked: &Asked, index: usize, sector: u64, value: &[u8; SECTOR_SIZE]) -> bool
     ensures { IsTrue result
         ↔ (effect_at asked.now index ≡ Some (record { sector = sector; value = value.now })) }
 {
@@ -163,10 +164,10 @@ pub(crate) fn is_effect(asked: &Asked, index: usize, sector: u64, value: &[u8; 5
             bytes,
         } => {
             let bytes = bytes.items();
-            index < bytes.len() / 512
+            index < bytes.len() / SECTOR_SIZE
                 && sector >= *first
                 && sector - *first == index as u64
-                && &bytes[512 * index..512 * index + 512] == value.as_slice()
+                && &bytes[SECTOR_SIZE * index..SECTOR_SIZE * index + SECTOR_SIZE] == value.as_slice()
         }
         Asked::Discard(parts) | Asked::Zero(parts) => is_zeroed(parts, index, sector, value),
         _ => false,
@@ -178,7 +179,7 @@ pub(crate) fn ends_effects(asked: &Asked, index: usize) -> bool
     ensures { IsTrue result ↔ (effect_at asked.now index ≡ None) }
 {
     match asked {
-        Asked::Write { bytes, .. } => index >= bytes.items().len() / 512,
+        Asked::Write { bytes, .. } => index >= bytes.items().len() / SECTOR_SIZE,
         Asked::Discard(parts) | Asked::Zero(parts) => ends_zeroed(parts, index),
         _ => true,
     }

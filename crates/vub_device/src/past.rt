@@ -7,6 +7,7 @@ ghost use Rattle.vub_device.specs.Past.{faulted};
 ghost use Rattle.vub_device.specs.Places.{place_of, or_later};
 
 use crate::entry::{Answered, Asked, Entry};
+use vub_base::standard::SECTOR_SIZE;
 
 /// How many requests were offered on a queue since the last power stop.
 pub(crate) fn offers(past: &[Entry], queue: u16) -> usize
@@ -222,7 +223,7 @@ pub(crate) fn lists_open(past: &[Entry], queue: u16, below: usize, list: &[u64])
 }
 
 /// The bytes before a value that they end with. None where they don't.
-fn without_end<'a>(bytes: &'a [u8], value: &[u8; 512]) -> Option<&'a [u8]>
+fn without_end<'a>(bytes: &'a [u8], value: &[u8; SECTOR_SIZE]) -> Option<&'a [u8]>
     ensures { MatchOption result
         ((front : List ℕ) → bytes.now ≢ front ++ value.now)
         (λ front. bytes.now ≡ front.now ++ value.now) }

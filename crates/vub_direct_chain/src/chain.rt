@@ -2,6 +2,7 @@
 ghost use Rattle.std.specs.Prelude.{◌≡◌, ◌<◌, ◌≤◌, ◌+◌, ◌*◌, ℕ, true, IfOk, Ok, Option, Some, None, option_map};
 ghost use Rattle.vub_base.specs.Causes.{HasCause};
 ghost use Rattle.vub_base.specs.Told.{WhereTold};
+ghost use Rattle.vub_shared.specs.Frames.{OnlyLoads};
 ghost use Rattle.vub_base.specs.declared.ring_fault.RingFault.TheVariants as faults;
 ghost use Rattle.vub_direct_chain.specs.declared.chain.Unread.TheVariants as unread;
 ghost use Rattle.vub_split.specs.Split.{RingLies};
@@ -10,13 +11,11 @@ ghost use Rattle.vub_device.specs.declared.entry.Asked.{Asked};
 ghost use Rattle.vub_driver.specs.GuestChain.{Links};
 ghost use Rattle.vub_direct_chain.specs.ChainState.{MeansRequest, Reads, desc_in, desc_of, parts_of, read_outcome, span_at};
 
+use vub_base::standard::{VIRTQ_DESC_F_NEXT, VIRTQ_DESC_F_WRITE};
 use vub_base::{ChainFault, Failed, RingFault, Space, get_u16, get_u32, get_u64};
 use vub_shared::Shared;
 use vub_split::SplitRing;
-
-const NEXT: u16 = 1;
-
-const WRITE: u16 = 2;
+use vub_split::layout::{DESC_ADDR, DESC_FLAGS, DESC_LEN, DESC_NEXT, DESC_SIZE};
 
 /// One descriptor of the table.
 #[derive(Clone, Copy, Debug, PartialEq, Eq)]
@@ -73,18 +72,16 @@ fn descriptor_at<M: Shared>(ring: &SplitRing, mem: &mut M, index: u16) -> Result
     requires lies { RingLies (M.sizes mem.old) ring.now }
     requires fits { index < ring.now.size }
     ensures loaded { IfOk result (λ d. WhereTold (M.told mem.old) (λ m. d ≡ desc_in ring.now m index)) }
-    ensures told { M.told mem.new ≡ M.told mem.old }
-    ensures trail { M.trail mem.new ≡ M.trail mem.old }
-    ensures sizes { (s : ℕ) → M.sizes mem.new s ≡ M.sizes mem.old s }
+    ensures only_loads { OnlyLoads M.told M.trail M.names M.handed M.sizes mem.old mem.new }
     ensures cause { HasCause (M.faults mem.old) (M.faults mem.new) result }
 {
-    let mut bytes = [0u8; 16];
-    mem.load(ring.desc.0, ring.desc.1 + 16 * u64::from(index), &mut bytes)?;
+    let mut bytes = [0u8; DESC_SIZE];
+    mem.load(ring.desc.0, ring.desc.1 + DESC_SIZE as u64 * u64::from(index), &mut bytes)?;
     Ok(Desc {
-        addr: get_u64(&bytes, 0),
-        len: get_u32(&bytes, 8),
-        flags: get_u16(&bytes, 12),
-        next: get_u16(&bytes, 14),
+        addr: get_u64(&bytes, DESC_ADDR),
+        len: get_u32(&bytes, DESC_LEN),
+        flags: get_u16(&bytes, DESC_FLAGS),
+        next: get_u16(&bytes, DESC_NEXT),
     })
 }
 
@@ -93,12 +90,10 @@ fn next_of<M: Shared>(ring: &SplitRing, mem: &mut M, desc: &Desc) -> Result<Opti
     requires { RingLies (M.sizes mem.old) ring.now }
     ensures ends { (p : Piece) → desc.now ≡ desc_of p None → result ≡ Ok None }
     ensures follows { (p : Piece) (next : ℕ) → desc.now ≡ desc_of p (Some next) → next < ring.now.size → WhereTold (M.told mem.old) (λ m. Reads result (Some (desc_in ring.now m next))) }
-    ensures told { M.told mem.new ≡ M.told mem.old }
-    ensures trail { M.trail mem.new ≡ M.trail mem.old }
-    ensures sizes { (s : ℕ) → M.sizes mem.new s ≡ M.sizes mem.old s }
+    ensures only_loads { OnlyLoads M.told M.trail M.names M.handed M.sizes mem.old mem.new }
     ensures cause { HasCause (M.faults mem.old) (M.faults mem.new) (read_outcome result) }
 {
-    if desc.flags & NEXT == 0 {
+    if desc.flags & VIRTQ_DESC_F_NEXT == 0 {
         return Ok(None);
     }
     if desc.next >= ring.size {
@@ -142,9 +137,7 @@ fn tail_of<M: Shared>(
 ) -> Result<(Option<Desc>, Desc), Unread>
     requires { RingLies (M.sizes mem.old) ring.now }
     ensures tail { (l : Links) (buffer : ℕ) (request : Asked) → WhereTold (M.told mem.old) (λ m. MeansRequest (M.sizes mem.old) ring.now m l buffer request → first.now ≡ desc_in ring.now m l.head → Reads result (option_map (desc_in ring.now m) l.body, desc_in ring.now m l.status)) }
-    ensures told { M.told mem.new ≡ M.told mem.old }
-    ensures trail { M.trail mem.new ≡ M.trail mem.old }
-    ensures sizes { (s : ℕ) → M.sizes mem.new s ≡ M.sizes mem.old s }
+    ensures only_loads { OnlyLoads M.told M.trail M.names M.handed M.sizes mem.old mem.new }
     ensures cause { HasCause (M.faults mem.old) (M.faults mem.new) (read_outcome result) }
 {
     let Some(second) = next_of(ring, mem, first)? else {
@@ -162,9 +155,7 @@ pub fn read_chain<M: Shared>(ring: &SplitRing, mem: &mut M, head: u16) -> Result
     requires lies { RingLies (M.sizes mem.old) ring.now }
     requires fits { head < ring.now.size }
     ensures read { (l : Links) (buffer : ℕ) (request : Asked) → WhereTold (M.told mem.old) (λ m. MeansRequest (M.sizes mem.old) ring.now m l buffer request → l.head ≡ head → Reads result (parts_of ring.now buffer request)) }
-    ensures told { M.told mem.new ≡ M.told mem.old }
-    ensures trail { M.trail mem.new ≡ M.trail mem.old }
-    ensures sizes { (s : ℕ) → M.sizes mem.new s ≡ M.sizes mem.old s }
+    ensures only_loads { OnlyLoads M.told M.trail M.names M.handed M.sizes mem.old mem.new }
     ensures cause { HasCause (M.faults mem.old) (M.faults mem.new) (read_outcome result) }
 {
     let first = match descriptor_at(ring, mem, head) {
@@ -172,14 +163,14 @@ pub fn read_chain<M: Shared>(ring: &SplitRing, mem: &mut M, head: u16) -> Result
         Err(Failed) => return Err(Unread::Failed),
     };
     let (second, last) = tail_of(ring, mem, head, &first)?;
-    if last.flags & WRITE == 0 || last.len == 0 {
+    if last.flags & VIRTQ_DESC_F_WRITE == 0 || last.len == 0 {
         return Err(Unread::Broken(RingFault::NoStatus(head)));
     }
     let sectors = match second {
         None => None,
         Some(second) => Some(Sectors {
             span: span_of(ring, mem, &second)?,
-            writable: second.flags & WRITE != 0,
+            writable: second.flags & VIRTQ_DESC_F_WRITE != 0,
         }),
     };
     Ok(Parts {

@@ -4,6 +4,7 @@ ghost use Rattle.vub_base.specs.Told.{WhereTold};
 ghost use Rattle.vub_disk.specs.Values.{Values, Writes};
 
 use vub_base::Failed;
+use vub_base::standard::SECTOR_SIZE;
 
 /// A disk of sectors of 512 bytes. A sector is written whole or not at all.
 pub trait Disk {
@@ -24,7 +25,7 @@ pub trait Disk {
         ensures { result ≡ capacity self.now };
 
     /// Fills `into` with the value of the sector. What a read that fails leaves in `into` is open.
-    fn read(&mut self, sector: u64, into: &mut [u8; 512]) -> Result<(), Failed>
+    fn read(&mut self, sector: u64, into: &mut [u8; SECTOR_SIZE]) -> Result<(), Failed>
         requires { sector < capacity self.old }
         ensures given { OnOk result (WhereTold (values self.old) (λ v. into.new ≡ v sector)) }
         ensures values { values self.new ≡ values self.old }
@@ -33,7 +34,7 @@ pub trait Disk {
         ensures cause { HasCause (faults self.old) (faults self.new) result };
 
     /// Makes `from` the value of the sector. A write that fails has done so or not.
-    fn write(&mut self, sector: u64, from: &[u8; 512]) -> Result<(), Failed>
+    fn write(&mut self, sector: u64, from: &[u8; SECTOR_SIZE]) -> Result<(), Failed>
         requires { sector < capacity self.old }
         ensures writes { Writes (values self.old) (values self.new) result sector from.now }
         ensures capacity { capacity self.new ≡ capacity self.old }

@@ -4,6 +4,7 @@ ghost use Rattle.vub_disk.specs.NoSectors.{no_sector};
 
 use crate::Disk;
 use vub_base::Failed;
+use vub_base::standard::SECTOR_SIZE;
 
 /// A disk without sectors, whose calls never fail.
 #[derive(Clone, Copy, Debug)]
@@ -27,14 +28,14 @@ impl Disk for NoDisk {
     }
 
     // There is no sector to read or write: neither does anything.
-    fn read(&mut self, _sector: u64, into: &mut [u8; 512]) -> Result<(), Failed>
+    fn read(&mut self, _sector: u64, into: &mut [u8; SECTOR_SIZE]) -> Result<(), Failed>
         ensures unchanged { into.new ≡ into.old }
         ensures done { IsOk result }
     {
         Ok(())
     }
 
-    fn write(&mut self, _sector: u64, _from: &[u8; 512]) -> Result<(), Failed>
+    fn write(&mut self, _sector: u64, _from: &[u8; SECTOR_SIZE]) -> Result<(), Failed>
         ensures { IsOk result }
     {
         Ok(())

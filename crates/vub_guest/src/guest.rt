@@ -9,9 +9,16 @@ mod request;
 use crate::layout::{AREA, AVAIL, STATUS, USED, area_of, buffer_of};
 use request::{data_len, data_start, descriptor, has_written, header, is_read, written};
 use std::alloc::Global;
+use vub_base::standard::REQUEST_HEADER_SIZE;
 use vub_base::{Ask, Failed, Header1, Memory, Shape, Space};
 use vub_driver::has_data;
 use vub_shared::{Shared, load_u16, load_u32};
+use vub_split::layout::{
+    AVAIL_ENTRY_SIZE, AVAIL_IDX, AVAIL_RING, DESC_SIZE, USED_ELEMENT_SIZE, USED_IDX, USED_RING,
+};
+
+/// What the driver stores in the status byte before it offers a request.
+const NO_STATUS: u8 = 0xff;
 
 /// What a step of the driver was.
 #[derive(Clone, Copy, Debug, PartialEq, Eq)]
@@ -154,7 +161,7 @@ impl Guest {
     ghost use Rattle.std.specs.Prelude.{false, if◌then◌else◌, Ok};
     ghost use Rattle.vub_base.specs.Causes.{HasCause};
     ghost use Rattle.vub_base.specs.Told.{WhereTold};
-    ghost use Rattle.vub_shared.specs.Stores.{Stores, Trails};
+    ghost use Rattle.vub_shared.specs.Frames.{OnlyLoads, MakesStore, KeepsSpaces};
     ghost use Rattle.vub_ring.specs.Ring.{avail_idx};
     ghost use Rattle.vub_driver.specs.Layout.{ring_of};
     ghost use Rattle.vub_driver.specs.Lawful.{IsLawful};
@@ -248,9 +255,7 @@ impl Guest {
 
     fn store_header<M: Shared>(&self, mem: &mut M, pending: &Pending) -> Result<(), Failed>
         requires { GuestLies (M.sizes mem.old) self.now }
-        ensures stores { Stores (M.told mem.old) (M.told mem.new) result (pending_store self.now pending.now Header) }
-        ensures trails { Trails (M.trail mem.old) (M.trail mem.new) result (pending_store self.now pending.now Header) }
-        ensures sizes { (s : ℕ) → M.sizes mem.new s ≡ M.sizes mem.old s }
+        ensures makes_store { MakesStore M.told M.trail M.names M.handed M.sizes mem.old mem.new result (pending_store self.now pending.now Header) }
         ensures cause { HasCause (M.faults mem.old) (M.faults mem.new) result }
     {
         let place = buffer_of(self.area, pending.chain.head);
@@ -259,10 +264,8 @@ impl Guest {
 
     fn store_data<M: Shared>(&self, mem: &mut M, pending: &Pending) -> Result<(), Failed>
         requires { GuestLies (M.sizes mem.old) self.now }
-        ensures stores { Stores (M.told mem.old) (M.told mem.new) result (pending_store self.now pending.now Data) }
-        ensures trails { Trails (M.trail mem.old) (M.trail mem.new) result (pending_store self.now pending.now Data) }
+        ensures makes_store { MakesStore M.told M.trail M.names M.handed M.sizes mem.old mem.new result (pending_store self.now pending.now Data) }
         ensures small { length (written_bytes pending.now.ask) ≤ 4096 }
-        ensures sizes { (s : ℕ) → M.sizes mem.new s ≡ M.sizes mem.old s }
         ensures cause { HasCause (M.faults mem.old) (M.faults mem.new) result }
     {
         let buffer = buffer_of(self.area, pending.chain.head);
@@ -272,13 +275,11 @@ impl Guest {
 
     fn store_status<M: Shared>(&self, mem: &mut M, pending: &Pending) -> Result<(), Failed>
         requires { GuestLies (M.sizes mem.old) self.now }
-        ensures stores { Stores (M.told mem.old) (M.told mem.new) result (pending_store self.now pending.now Status) }
-        ensures trails { Trails (M.trail mem.old) (M.trail mem.new) result (pending_store self.now pending.now Status) }
-        ensures sizes { (s : ℕ) → M.sizes mem.new s ≡ M.sizes mem.old s }
+        ensures makes_store { MakesStore M.told M.trail M.names M.handed M.sizes mem.old mem.new result (pending_store self.now pending.now Status) }
         ensures cause { HasCause (M.faults mem.old) (M.faults mem.new) result }
     {
         let place = buffer_of(self.area, pending.chain.head) + STATUS;
-        mem.store1(self.memory, place, 0xff)
+        mem.store1(self.memory, place, NO_STATUS)
     }
 
     fn store_header_descriptor<M: Shared>(
@@ -287,28 +288,24 @@ impl Guest {
         pending: &Pending,
     ) -> Result<(), Failed>
         requires { GuestLies (M.sizes mem.old) self.now }
-        ensures stores { Stores (M.told mem.old) (M.told mem.new) result (pending_store self.now pending.now HeaderDescriptor) }
-        ensures trails { Trails (M.trail mem.old) (M.trail mem.new) result (pending_store self.now pending.now HeaderDescriptor) }
-        ensures sizes { (s : ℕ) → M.sizes mem.new s ≡ M.sizes mem.old s }
+        ensures makes_store { MakesStore M.told M.trail M.names M.handed M.sizes mem.old mem.new result (pending_store self.now pending.now HeaderDescriptor) }
         ensures cause { HasCause (M.faults mem.old) (M.faults mem.new) result }
     {
         let chain = &pending.chain;
         let buffer = buffer_of(self.area, chain.head);
-        let place = self.area + 16 * u64::from(chain.head);
+        let place = self.area + DESC_SIZE as u64 * u64::from(chain.head);
         let next = Some(chain.second());
-        mem.store_run(self.memory, place, &descriptor(buffer, 16, false, next))
+        mem.store_run(self.memory, place, &descriptor(buffer, REQUEST_HEADER_SIZE as u32, false, next))
     }
 
     fn store_data_descriptor<M: Shared>(&self, mem: &mut M, pending: &Pending) -> Result<(), Failed>
         requires { GuestLies (M.sizes mem.old) self.now }
-        ensures stores { Stores (M.told mem.old) (M.told mem.new) result (pending_store self.now pending.now DataDescriptor) }
-        ensures trails { Trails (M.trail mem.old) (M.trail mem.new) result (pending_store self.now pending.now DataDescriptor) }
-        ensures sizes { (s : ℕ) → M.sizes mem.new s ≡ M.sizes mem.old s }
+        ensures makes_store { MakesStore M.told M.trail M.names M.handed M.sizes mem.old mem.new result (pending_store self.now pending.now DataDescriptor) }
         ensures cause { HasCause (M.faults mem.old) (M.faults mem.new) result }
     {
         let chain = &pending.chain;
         let ask = &pending.ask;
-        let place = self.area + 16 * u64::from(chain.second());
+        let place = self.area + DESC_SIZE as u64 * u64::from(chain.second());
         let data = data_start(buffer_of(self.area, chain.head), ask);
         let next = Some(chain.status);
         mem.store_run(
@@ -324,46 +321,38 @@ impl Guest {
         pending: &Pending,
     ) -> Result<(), Failed>
         requires { GuestLies (M.sizes mem.old) self.now }
-        ensures stores { Stores (M.told mem.old) (M.told mem.new) result (pending_store self.now pending.now StatusDescriptor) }
-        ensures trails { Trails (M.trail mem.old) (M.trail mem.new) result (pending_store self.now pending.now StatusDescriptor) }
-        ensures sizes { (s : ℕ) → M.sizes mem.new s ≡ M.sizes mem.old s }
+        ensures makes_store { MakesStore M.told M.trail M.names M.handed M.sizes mem.old mem.new result (pending_store self.now pending.now StatusDescriptor) }
         ensures cause { HasCause (M.faults mem.old) (M.faults mem.new) result }
     {
         let chain = &pending.chain;
         let status = buffer_of(self.area, chain.head) + STATUS;
-        let place = self.area + 16 * u64::from(chain.status);
+        let place = self.area + DESC_SIZE as u64 * u64::from(chain.status);
         mem.store_run(self.memory, place, &descriptor(status, 1, true, None))
     }
 
     fn store_entry<M: Shared>(&self, mem: &mut M, pending: &Pending) -> Result<(), Failed>
         requires { GuestLies (M.sizes mem.old) self.now }
-        ensures stores { Stores (M.told mem.old) (M.told mem.new) result (pending_store self.now pending.now AvailEntry) }
-        ensures trails { Trails (M.trail mem.old) (M.trail mem.new) result (pending_store self.now pending.now AvailEntry) }
-        ensures sizes { (s : ℕ) → M.sizes mem.new s ≡ M.sizes mem.old s }
+        ensures makes_store { MakesStore M.told M.trail M.names M.handed M.sizes mem.old mem.new result (pending_store self.now pending.now AvailEntry) }
         ensures cause { HasCause (M.faults mem.old) (M.faults mem.new) result }
     {
         let entry = u64::from(self.avail_idx % self.size);
-        let place = self.area + AVAIL + (4 + 2 * entry);
+        let place = self.area + AVAIL + (AVAIL_RING + AVAIL_ENTRY_SIZE * entry);
         mem.store2(self.memory, place, pending.chain.head)
     }
 
     fn store_index<M: Shared>(&self, mem: &mut M, pending: &Pending) -> Result<(), Failed>
         requires { GuestLies (M.sizes mem.old) self.now }
-        ensures stores { Stores (M.told mem.old) (M.told mem.new) result (pending_store self.now pending.now AvailIdx) }
-        ensures trails { Trails (M.trail mem.old) (M.trail mem.new) result (pending_store self.now pending.now AvailIdx) }
-        ensures sizes { (s : ℕ) → M.sizes mem.new s ≡ M.sizes mem.old s }
+        ensures makes_store { MakesStore M.told M.trail M.names M.handed M.sizes mem.old mem.new result (pending_store self.now pending.now AvailIdx) }
         ensures cause { HasCause (M.faults mem.old) (M.faults mem.new) result }
     {
         let index = self.avail_idx.wrapping_add(1);
-        mem.store2(self.memory, self.area + AVAIL + 2, index)
+        mem.store2(self.memory, self.area + AVAIL + AVAIL_IDX, index)
     }
 
     fn make_store<M: Shared>(&self, mem: &mut M, pending: &Pending) -> Result<(), Failed>
         requires { GuestLies (M.sizes mem.old) self.now }
-        ensures stores { Stores (M.told mem.old) (M.told mem.new) result (pending_store self.now pending.now pending.now.stage) }
-        ensures trails { Trails (M.trail mem.old) (M.trail mem.new) result (pending_store self.now pending.now pending.now.stage) }
+        ensures makes_store { MakesStore M.told M.trail M.names M.handed M.sizes mem.old mem.new result (pending_store self.now pending.now pending.now.stage) }
         ensures small { pending.now.stage ≡ Data → length (written_bytes pending.now.ask) ≤ 4096 }
-        ensures sizes { (s : ℕ) → M.sizes mem.new s ≡ M.sizes mem.old s }
         ensures cause { HasCause (M.faults mem.old) (M.faults mem.new) result }
     {
         match pending.stage {
@@ -402,7 +391,7 @@ impl Guest {
     /// before: its store stands or not, and the next step makes it again. Takes no memory.
     pub fn step<M: Shared>(&mut self, mem: &mut M) -> GuestStep
         requires { GuestLies (M.sizes mem.old) self.old }
-        ensures sizes { (s : ℕ) → M.sizes mem.new s ≡ M.sizes mem.old s }
+        ensures keeps_spaces { KeepsSpaces M.names M.handed M.sizes mem.old mem.new }
         ensures lies { GuestLies (M.sizes mem.new) self.new }
         ensures driver { Steps result (driver_in self.old) (driver_in self.new) }
         ensures stores { StoresNext (M.told mem.old) (M.told mem.new) result (next_store (driver_in self.old).waiting) }
@@ -425,16 +414,14 @@ impl Guest {
     fn next_shown<M: Shared>(&self, mem: &mut M) -> Result<Option<u16>, Failed>
         requires { GuestLies (M.sizes mem.old) self.now }
         ensures loaded { IfOk result (λ shown. WhereTold (M.told mem.old) (λ m. ShowsNext shown (ring_in self.now) m self.now.seen)) }
-        ensures told { M.told mem.new ≡ M.told mem.old }
-        ensures trail { M.trail mem.new ≡ M.trail mem.old }
-        ensures sizes { (s : ℕ) → M.sizes mem.new s ≡ M.sizes mem.old s }
+        ensures only_loads { OnlyLoads M.told M.trail M.names M.handed M.sizes mem.old mem.new }
         ensures cause { HasCause (M.faults mem.old) (M.faults mem.new) result }
     {
-        if load_u16(mem, self.memory, self.area + USED + 2)? == self.seen {
+        if load_u16(mem, self.memory, self.area + USED + USED_IDX)? == self.seen {
             return Ok(None);
         }
         let element = u64::from(self.seen % self.size);
-        let id = load_u32(mem, self.memory, self.area + USED + (4 + 8 * element))?;
+        let id = load_u32(mem, self.memory, self.area + USED + (USED_RING + USED_ELEMENT_SIZE * element))?;
         Ok(Some((id & 0xffff) as u16))
     }
 
@@ -479,13 +466,11 @@ impl Guest {
     /// before. Takes no memory.
     pub fn collect<M: Shared>(&mut self, mem: &mut M) -> Collected
         requires { GuestLies (M.sizes mem.old) self.old }
-        ensures sizes { (s : ℕ) → M.sizes mem.new s ≡ M.sizes mem.old s }
+        ensures only_loads { OnlyLoads M.told M.trail M.names M.handed M.sizes mem.old mem.new }
         ensures lies { GuestLies (M.sizes mem.new) self.new }
         ensures shown { WhereTold (M.told mem.old) (λ m. Shows result (ring_in self.old) m (seen_in self.old)) }
         ensures driver { Collects result (driver_in self.old) (driver_in self.new) (seen_in self.old) (seen_in self.new) }
         ensures ring { ring_in self.new ≡ ring_in self.old }
-        ensures told { M.told mem.new ≡ M.told mem.old }
-        ensures trail { M.trail mem.new ≡ M.trail mem.old }
         ensures cause { HasCause (M.faults mem.old) (M.faults mem.new) (fetched result) }
     {
         match self.next_shown(mem) {

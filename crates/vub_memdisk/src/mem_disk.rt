@@ -2,19 +2,20 @@ ghost use Rattle.std.specs.Prelude.{◌≡◌, ◌≤◌, ◌^◌, length, [], �
 ghost use Rattle.vub_memdisk.specs.Sectors.{AreWhole, AreZero};
 
 use std::alloc::Global;
+use vub_base::standard::SECTOR_SIZE;
 use vub_base::{Failed, Memory};
 use vub_disk::Disk;
 
 /// A disk in memory, on which what is written is stable. Its calls never fail.
 #[derive(Drop)]
 pub struct MemDisk {
-    sectors: Vec<[u8; 512]>,
+    sectors: Vec<[u8; SECTOR_SIZE]>,
     ghost few: { length sectors.items ≤ 2 ^ 54 },
     ghost whole: { AreWhole sectors.items },
 }
 
 // So many sectors of zero bytes.
-fn zeroed(alloc: Global, count: usize) -> Result<Vec<[u8; 512]>, Memory>
+fn zeroed(alloc: Global, count: usize) -> Result<Vec<[u8; SECTOR_SIZE]>, Memory>
     ensures count { IfOk result (λ v. length v.items ≡ count) }
     ensures zero { IfOk result (λ v. AreZero v.items) }
 {
@@ -26,10 +27,10 @@ fn zeroed(alloc: Global, count: usize) -> Result<Vec<[u8; 512]>, Memory>
 }
 
 // One sector of zero bytes more.
-fn add_zeroed(sectors: &mut Vec<[u8; 512]>) -> Result<(), Memory>
+fn add_zeroed(sectors: &mut Vec<[u8; SECTOR_SIZE]>) -> Result<(), Memory>
     ensures { OnOk result (sectors.new.items ≡ sectors.old.items ++ replicate 512 0 ∷ []) }
 {
-    sectors.push([0u8; 512]).map_err(|_| Memory)?;
+    sectors.push([0u8; SECTOR_SIZE]).map_err(|_| Memory)?;
     Ok(())
 }
 
@@ -48,7 +49,7 @@ impl MemDisk {
     }
 
     /// The value of a sector now. It is no call of the disk.
-    pub fn sector(&self, sector: u64) -> &[u8; 512]
+    pub fn sector(&self, sector: u64) -> &[u8; SECTOR_SIZE]
         requires { sector < capacity_of self.now }
         ensures { result.now ≡ values_of self.now sector }
     {
@@ -78,7 +79,7 @@ impl Disk for MemDisk {
         self.sectors.len() as u64
     }
 
-    fn read(&mut self, sector: u64, into: &mut [u8; 512]) -> Result<(), Failed>
+    fn read(&mut self, sector: u64, into: &mut [u8; SECTOR_SIZE]) -> Result<(), Failed>
         requires { sector < capacity_of self.old }
         ensures given { into.new ≡ values_of self.old sector }
         ensures unchanged { self.new ≡ self.old }
@@ -88,7 +89,7 @@ impl Disk for MemDisk {
         Ok(())
     }
 
-    fn write(&mut self, sector: u64, from: &[u8; 512]) -> Result<(), Failed>
+    fn write(&mut self, sector: u64, from: &[u8; SECTOR_SIZE]) -> Result<(), Failed>
         requires { sector < capacity_of self.old }
         ensures written { values_of self.new ≡ with_value sector from.now (values_of self.old) }
         ensures capacity { capacity_of self.new ≡ capacity_of self.old }

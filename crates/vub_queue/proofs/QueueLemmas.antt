@@ -18,7 +18,7 @@ use Rattle.vub_steps.specs.declared.steps.Step.TheVariants.{Id, Len, Index}
 use Rattle.vub_ring.specs.Ring.{used_idx_place, used_id_place, used_len_place}
 use Rattle.vub_steps.specs.Rows.{Row, row}
 use Rattle.vub_steps.specs.Steps.{element_steps, publish_steps, next_step, after_step}
-use Rattle.vub_steps.specs.Readiness.{is_publication, is_fetch, is_ready, any_turn, work_or_publish}
+use Rattle.vub_steps.specs.Readiness.{is_publication, is_fetch}
 use Rattle.vub_steps.specs.declared.readiness.Standing.{Standing}
 use Rattle.vub_steps.specs.declared.readiness.Turn.TheVariants as turns
 use Rattle.vub_task.specs.declared.task.Task.{Task}
@@ -31,7 +31,7 @@ use Rattle.vub_queue.specs.declared.queue.Stepped.TheVariants as says
 use Rattle.vub_queue.specs.QueueParts.{element, is_taken, taken_count, without_heads, phase_fits}
 use Rattle.vub_split.specs.Split.{used_side}
 use Rattle.vub_queue.specs.QueueState.{QueueState, row_at, next_row, Moves, StoresRow, TrailsRow, outcome, publishes, Unless, is_idle, worked, done_at, Works, StepsAt, StepsOut, WorksOut, IfStepped, Advances, concluded, said, sector_at, IsDue, Rests, halted}
-use Rattle.vub_task.specs.TaskState.{Making, IfMade, HasMade, LooksAt, answer_in, answer_to, memory_after, values_after, store_in, with_maybe}
+use Rattle.vub_task.specs.TaskState.{Making, IfMade, HasMade, LooksAt, answer_in, answer_to, memory_after, values_after, store_in, with_maybe, head_in}
 use Rattle.vub_steps.specs.Tasks as Tasks
 use Rattle.vub_task.proofs.ArmLemmas.{next_still}
 use Rattle.vub_base.specs.declared.header.Header1.{Header1}
@@ -269,31 +269,6 @@ pub unless : (b : Bool) (P : Type 0) → P → Unless b P
 unless true P p = tt
 unless false P p = p
 
--- no request is at work, or some is
-pub none_at_work : (tasks : List Task) (n : ℕ) → n ≡ length tasks → (n == 0) ≡ true → nat_lt 0 (length tasks) ≡ false
-none_at_work tasks n is none = grind (arith, nat_tests)
-
-pub some_at_work : (tasks : List Task) (n : ℕ) → n ≡ length tasks → (n == 0) ≡ false → nat_lt 0 (length tasks) ≡ true
-some_at_work tasks n is some = grind (arith, nat_tests)
-
-pub idle_is : (x : Stepped) → is_idle x ≡ true → x ≡ says.Idle
-idle_is says.Idle idle = refl
-idle_is (says.Stored tag) idle = grind arith
-idle_is (says.Accepted head) idle = grind arith
-idle_is (says.Looked head sector) idle = grind arith
-idle_is (says.Acted head sector) idle = grind arith
-idle_is (says.Synced head) idle = grind arith
-idle_is (says.Faulted head) idle = grind arith
-idle_is (says.Completed head) idle = grind arith
-idle_is says.Published idle = grind arith
-idle_is says.Started idle = grind arith
-idle_is says.SharedFault idle = grind arith
-idle_is (says.Broken fault) idle = grind arith
-
--- of a queue at rest from which no fetch is ready, work or publication is next
-pub any_is : (size : ℕ) (s : Standing) → s.started ≡ true → is_publication s.phase ≡ false → is_ready s turns.Fetch ≡ false → any_turn size s ≡ work_or_publish size s
-any_is size s started rests unready = rw (unready, started, rests) refl
-
 -- ---- work
 
 -- a task of a place was changed before it is removed
@@ -310,10 +285,10 @@ pub batch_still : (n : ℕ) (xs : List Completed) (x : Completed) → n ≤ leng
 batch_still n xs x few = ap (map element) (take-append-le n xs (x ∷ []) few)
 
 -- the status of a task that was changed completes it
-pub ends_at : (place head len : ℕ) (task : Task) (sector : List ℕ) (s u : QueueState) → task.head ≡ head → u ≡ worked place task sector s → (status : ℕ) → concluded place head (answers.Done status len) u ≡ done_at place head len sector s
+pub ends_at : (place head len : ℕ) (task : Task) (sector : List ℕ) (s u : QueueState) → head_in task ≡ head → u ≡ worked place task sector s → (status : ℕ) → concluded place head (answers.Done status len) u ≡ done_at place head len sector s
 ends_at place head len task sector s u same is status =
     ap (concluded place head (answers.Done status len)) is
-    ∙ ap (λ (ts : List Task). record (done_at place task.head len sector s) { unfinished = ts; completed = s.completed ++ (head, len) ∷ [] }) (remove_set s.unfinished place task)
+    ∙ ap (λ (ts : List Task). record (done_at place (head_in task) len sector s) { unfinished = ts; completed = s.completed ++ (head, len) ∷ [] }) (remove_set s.unfinished place task)
     ∙ ap (λ (k : ℕ). record (done_at place k len sector s) { completed = s.completed ++ (head, len) ∷ [] }) same
 
 -- the step of a request and its end, where nothing is said of the step
@@ -375,7 +350,7 @@ some_pair p q h = cc h
 
 -- the step of a task, in its queue
 pub steps_out : (place head : ℕ) (task next : Task) (n : Making) (m : Bytes) (told : Option Bytes) (trail trail_after : Option (List Store)) (v v_after : Option Values) (step : made.TaskStep) (sector after : List ℕ) (s t : QueueState)
-    → head ≡ task.head → next.head ≡ task.head → sector ≡ sector_at s task.head → t ≡ worked place next after s
+    → head ≡ head_in task → head_in next ≡ head_in task → sector ≡ sector_at s (head_in task) → t ≡ worked place next after s
     → IfMade (Some step) (λ x. x ≡ answer_in n) → IfMade (Some step) (λ x. HasMade s.ring n next) → IfMade (Some step) (λ x. WhereTold v (λ u. LooksAt n u after))
     → IfMade (Some step) (λ x. told ≡ Some (memory_after s.ring n sector m)) → IfMade (Some step) (λ x. trail_after ≡ option_map (with_maybe (store_in s.ring n sector)) trail) → IfMade (Some step) (λ x. v_after ≡ option_map (values_after n.request n.step) v)
     → IfMade (Some step) (λ x. StepsOut place task n m told trail trail_after v v_after (Some (head, step)) s t)
@@ -392,7 +367,7 @@ steps_out place head task next n m told trail trail_after v v_after step sector 
     let h : IfMade (Some step) H = made_three D E F (Some step) stores trails values in
     made_then (λ x. G x × H x) (StepsOut place task n m told trail trail_after v v_after (Some (head, step)) s t) step
     (λ all. record {
-      says = ap (λ (k : ℕ). Some (k, step)) same ∙ ap (λ (a : made.TaskStep). Some (task.head, a)) all.0.0;
+      says = ap (λ (k : ℕ). Some (k, step)) same ∙ ap (λ (a : made.TaskStep). Some (head_in task, a)) all.0.0;
       next = next;
       sector = after;
       head = still;
@@ -405,26 +380,26 @@ steps_out place head task next n m told trail trail_after v v_after step sector 
     }) (made_both G H (Some step) g h)
 
 -- the queue after the step that is due and its end
-advances : (place : ℕ) (task next : Task) (n : Making) (sector : List ℕ) (step : Tasks.TaskStep) (s u t : QueueState) → next.head ≡ task.head → HasMade s.ring n next → u ≡ worked place next sector s
-    → t ≡ concluded place task.head (answer_to n.header n.request step) u → Advances place task n sector step s t
+advances : (place : ℕ) (task next : Task) (n : Making) (sector : List ℕ) (step : Tasks.TaskStep) (s u t : QueueState) → head_in next ≡ head_in task → HasMade s.ring n next → u ≡ worked place next sector s
+    → t ≡ concluded place (head_in task) (answer_to n.header n.request step) u → Advances place task n sector step s t
 advances place task next n sector (Tasks.Look q) s u t same made steps ends = (next, same, made, ends ∙ steps)
 advances place task next n sector (Tasks.Put q) s u t same made steps ends = (next, same, made, ends ∙ steps)
 advances place task next n sector (Tasks.Act q) s u t same made steps ends = (next, same, made, ends ∙ steps)
 advances place task next n sector Tasks.Sync s u t same made steps ends = (next, same, made, ends ∙ steps)
-advances place task next n sector Tasks.Status s u t same made steps ends = ends ∙ ends_at place task.head (used_len (status_of n.header n.request) n.request) next sector s u same steps (status_of n.header n.request)
+advances place task next n sector Tasks.Status s u t same made steps ends = ends ∙ ends_at place (head_in task) (used_len (status_of n.header n.request) n.request) next sector s u same steps (status_of n.header n.request)
 
 pub works_out : (place : ℕ) (task : Task) (n : Making) (m : Bytes) (told : Option Bytes) (trail trail_after : Option (List Store)) (v v_after : Option Values) (o : Option (ℕ × made.TaskStep)) (head : ℕ) (step : made.TaskStep) (x : Stepped) (s u t : QueueState)
     → o ≡ Some (head, step) → x ≡ said head step → t ≡ concluded place head step u → StepsOut place task n m told trail trail_after v v_after o s u → WorksOut place task n m told trail trail_after v v_after x s t
 works_out place task n m told trail trail_after v v_after o head step x s u t is saying ends out =
-    let pair : (head, step) ≡ (task.head, answer_in n) = some_pair _ _ (sym is ∙ out.says) in
-    let heads : head ≡ task.head = ap (λ (y : ℕ × made.TaskStep). y.0) pair in
+    let pair : (head, step) ≡ (head_in task, answer_in n) = some_pair _ _ (sym is ∙ out.says) in
+    let heads : head ≡ (head_in task) = ap (λ (y : ℕ × made.TaskStep). y.0) pair in
     let steps : step ≡ answer_in n = ap (λ (y : ℕ × made.TaskStep). y.1) pair in
     record {
-      says = saying ∙ ap (λ (k : ℕ). said k step) heads ∙ ap (said task.head) steps;
+      says = saying ∙ ap (λ (k : ℕ). said k step) heads ∙ ap (said (head_in task)) steps;
       leaves = record {
         sector = out.sector;
         looks = out.looks;
-        state = advances place task out.next n out.sector n.step s u t out.head out.goes_on out.state (ends ∙ ap (λ (k : ℕ). concluded place k step u) heads ∙ ap (λ (a : made.TaskStep). concluded place task.head a u) steps);
+        state = advances place task out.next n out.sector n.step s u t out.head out.goes_on out.state (ends ∙ ap (λ (k : ℕ). concluded place k step u) heads ∙ ap (λ (a : made.TaskStep). concluded place (head_in task) a u) steps);
       };
       stores = out.stores;
       trails = out.trails;
@@ -453,7 +428,7 @@ unhalted head h request Tasks.Status u = refl
 pub runs_on : (place : ℕ) (task : Task) (n : Making) (m : Bytes) (told : Option Bytes) (trail trail_after : Option (List Store)) (v v_after : Option Values) (x : Stepped) (s u t : QueueState)
     → t ≡ halted x u → WorksOut place task n m told trail trail_after v v_after x s u → WorksOut place task n m told trail trail_after v v_after x s t
 runs_on place task n m told trail trail_after v v_after x s u t is out =
-    let still : u ≡ t = sym (is ∙ ap (λ (y : Stepped). halted y u) out.says ∙ unhalted task.head n.header n.request n.step u) in
+    let still : u ≡ t = sym (is ∙ ap (λ (y : Stepped). halted y u) out.says ∙ unhalted (head_in task) n.header n.request n.step u) in
     subst (λ (w : QueueState). WorksOut place task n m told trail trail_after v v_after x s w) still out
 
 pub rests_on : (told told_after : Option Bytes) (trail trail_after : Option (List Store)) (v v_after : Option Values) (x : Stepped) (s u t : QueueState) → t ≡ halted x u → Rests told told_after trail trail_after v v_after x s u → Rests told told_after trail trail_after v v_after x s t

@@ -6,6 +6,8 @@ use Rattle.vub_base.specs.declared.store.Tag.TheVariants.{SP5}
 use Rattle.vub_base.specs.Told.{WhereTold}
 use Rattle.vub_shared.specs.Bytes.{Bytes}
 use Rattle.vub_shared.specs.Stores.{Store, Stores, Trails}
+use Rattle.vub_shared.specs.Spaces.{Names}
+use Rattle.vub_shared.specs.Frames.{KeepsSpaces}
 use Rattle.vub_disk.specs.Values.{Values}
 use Rattle.vub_steps.specs.declared.steps.Phase.{Phase}
 use Rattle.vub_steps.specs.declared.steps.Phase.TheVariants as phases
@@ -16,7 +18,7 @@ use Rattle.vub_steps.specs.declared.readiness.Turn.TheVariants.{Start, Fetch, Wo
 use Rattle.vub_ring.specs.Ring.{ahead}
 use Rattle.vub_steps.specs.Rows.{Row, row_of}
 use Rattle.vub_steps.specs.Steps.{next_step, after_step}
-use Rattle.vub_steps.specs.Readiness.{is_ready, is_publication, any_turn}
+use Rattle.vub_steps.specs.Readiness.{is_ready, is_publication}
 use Rattle.vub_split.specs.declared.split.SplitRing.{SplitRing}
 use Rattle.vub_split.specs.Split.{avail_idx_word, head_word, used_side}
 use Rattle.vub_task.specs.declared.task.Task.{Task}
@@ -24,14 +26,12 @@ use Rattle.vub_task.specs.declared.task.TaskStep as made
 use Rattle.vub_task.specs.declared.task.TaskStep.TheVariants as answers
 use Rattle.vub_steps.specs.Tasks as Tasks
 use Rattle.vub_steps.specs.Tasks.{Status, status_of, used_len}
-use Rattle.vub_task.specs.TaskState.{Making, IsNext, IsReady, HasMade, LooksAt, GainsOne, fresh_task, answer_in, memory_after, values_after, store_in, with_maybe}
+use Rattle.vub_task.specs.TaskState.{Making, IsNext, IsReady, HasMade, LooksAt, GainsOne, fresh_task, answer_in, memory_after, values_after, store_in, with_maybe, head_in}
 use Rattle.vub_queue.specs.QueueParts.{element, is_taken, without_heads}
 use Rattle.vub_queue.specs.declared.queue.Stop.{Stop}
 use Rattle.vub_queue.specs.declared.queue.Stop.TheVariants as stops
 use Rattle.vub_queue.specs.declared.queue.Stepped.{Stepped}
 use Rattle.vub_queue.specs.declared.queue.Stepped.TheVariants as says
-use Rattle.vub_queue.specs.declared.queue.Turn as asked
-use Rattle.vub_queue.specs.declared.queue.Turn.TheVariants as asks
 use Rattle.vub_queue.specs.declared.queue.Queue.{Queue}
 
 pub record QueueState : Type 0 where
@@ -200,6 +200,12 @@ abbrev pub TrailsRow : Option (List Store) → Option (List Store) → Stepped �
 TrailsRow before after x None = after ≡ before
 TrailsRow before after x (Some y) = Trails before after (outcome x) y.store
 
+-- a step with this row: the told bytes and the told list of stores after it, and no name and no space more
+pub record MakesRow {M : Type 0} (told : M → Option Bytes) (trail : M → Option (List Store)) (names : M → Option Names) (handed : M → ℕ → Bool) (sizes : M → ℕ → ℕ) (before now : M) (x : Stepped) (y : Option Row) : Type 0 where
+  pub stored : StoresRow (told before) (told now) x y
+  pub trailed : TrailsRow (trail before) (trail now) x y
+  pub spaces : KeepsSpaces names handed sizes before now
+
 -- whether a publication of at most so many makes a step
 abbrev pub publishes : ℕ → QueueState → Bool
 publishes most s = is_ready (standing_at s 0) (Publish most)
@@ -220,7 +226,7 @@ Publishes true x s u t = Moves x (next_row u) u t
 
 -- the queue after a step of the request in this place, whose task and sector are these now
 abbrev pub worked : ℕ → Task → List ℕ → QueueState → QueueState
-worked place task sector s = record s { unfinished = set s.unfinished place task; sectors = set s.sectors task.head sector }
+worked place task sector s = record s { unfinished = set s.unfinished place task; sectors = set s.sectors (head_in task) sector }
 
 -- the queue after the request in this place was completed with this used length
 abbrev pub done_at : ℕ → ℕ → ℕ → List ℕ → QueueState → QueueState
@@ -236,7 +242,7 @@ Works place x s t = (t ≡ s) ⊎ ((task : Task) × (sector : List ℕ) × (t �
 -- nothing changes where none is made
 abbrev pub StepsAt : ℕ → Option (ℕ × made.TaskStep) → QueueState → QueueState → Type 0
 StepsAt place None s t = t ≡ s
-StepsAt place (Some x) s t = (task : Task) × (sector : List ℕ) × (task.head ≡ x.0) × (t ≡ worked place task sector s)
+StepsAt place (Some x) s t = (task : Task) × (sector : List ℕ) × (head_in task ≡ x.0) × (t ≡ worked place task sector s)
 
 abbrev pub step_in : Option (ℕ × made.TaskStep) → Option made.TaskStep
 step_in o = option_map (λ x. x.1) o
@@ -250,7 +256,7 @@ concluded place head step s = s
 pub record IsDue (capacity : ℕ) (sizes : ℕ → ℕ) (s : QueueState) (m : Bytes) (place : ℕ) (task : Task) (n : Making) : Type 0 where
   pub started : s.started ≡ true
   pub at : slice_get s.unfinished place ≡ Some task
-  pub fits : task.head < s.ring.size
+  pub fits : head_in task < s.ring.size
   pub next : IsNext capacity sizes s.ring m n
   pub ready : IsReady s.ring n task
 
@@ -271,8 +277,8 @@ sector_at s head = get_or s.sectors head []
 
 -- the status completes the request, and another step goes on
 abbrev pub Advances : ℕ → Task → Making → List ℕ → Tasks.TaskStep → QueueState → QueueState → Type 0
-Advances place task n sector Status s t = t ≡ done_at place task.head (used_len (status_of n.header n.request) n.request) sector s
-Advances place task n sector step s t = (next : Task) × (next.head ≡ task.head) × HasMade s.ring n next × (t ≡ worked place next sector s)
+Advances place task n sector Status s t = t ≡ done_at place (head_in task) (used_len (status_of n.header n.request) n.request) sector s
+Advances place task n sector step s t = (next : Task) × (head_in next ≡ (head_in task)) × HasMade s.ring n next × (t ≡ worked place next sector s)
 
 -- what the step leaves of the queue, where the disk's values are v: a look leaves the sector's value
 pub record HasWorked (v : Option Values) (place : ℕ) (task : Task) (n : Making) (s t : QueueState) : Type 0 where
@@ -288,27 +294,27 @@ IfStepped x P = P
 
 -- the store of the step that is due, if it makes one
 abbrev pub due_store : QueueState → Task → Making → Option Store
-due_store s task n = store_in s.ring n (sector_at s task.head)
+due_store s task n = store_in s.ring n (sector_at s (head_in task))
 
 -- what the step that is due makes before its end is noted, where neither memory nor disk fails
 pub record StepsOut (place : ℕ) (task : Task) (n : Making) (m : Bytes) (told : Option Bytes) (trail trail_after : Option (List Store)) (v v_after : Option Values) (x : Option (ℕ × made.TaskStep)) (s t : QueueState) : Type 0 where
-  pub says : x ≡ Some (task.head, answer_in n)
+  pub says : x ≡ Some (head_in task, answer_in n)
   pub next : Task
   pub sector : List ℕ
-  pub head : next.head ≡ task.head
+  pub head : head_in next ≡ head_in task
   pub goes_on : HasMade s.ring n next
   pub looks : WhereTold v (λ u. LooksAt n u sector)
   pub state : t ≡ worked place next sector s
-  pub stores : told ≡ Some (memory_after s.ring n (sector_at s task.head) m)
+  pub stores : told ≡ Some (memory_after s.ring n (sector_at s (head_in task)) m)
   pub trails : trail_after ≡ option_map (with_maybe (due_store s task n)) trail
   pub values : v_after ≡ option_map (values_after n.request n.step) v
 
 -- what the step that is due makes, where neither memory nor disk fails: of the told bytes, which were m, of the told list
 -- of stores and of the disk's told values, before and after it, and of the queue
 pub record WorksOut (place : ℕ) (task : Task) (n : Making) (m : Bytes) (told : Option Bytes) (trail trail_after : Option (List Store)) (v v_after : Option Values) (x : Stepped) (s t : QueueState) : Type 0 where
-  pub says : x ≡ said task.head (answer_in n)
+  pub says : x ≡ said (head_in task) (answer_in n)
   pub leaves : HasWorked v place task n s t
-  pub stores : told ≡ Some (memory_after s.ring n (sector_at s task.head) m)
+  pub stores : told ≡ Some (memory_after s.ring n (sector_at s (head_in task)) m)
   pub trails : trail_after ≡ option_map (with_maybe (due_store s task n)) trail
   pub values : v_after ≡ option_map (values_after n.request n.step) v
 
@@ -367,14 +373,6 @@ DoesDisk turn before after = after ≡ before
 abbrev pub disk_outcome : Stepped → Result (Unit {0}) (Unit {0})
 disk_outcome (says.Faulted head) = Err tt
 disk_outcome x = Ok tt
-
--- the turn of the step table that this one is at a standing
-abbrev pub turn_at : ℕ → Standing → asked.Turn → Turn
-turn_at size standing asks.Start = Start
-turn_at size standing asks.Fetch = Fetch
-turn_at size standing (asks.Work place) = Work place
-turn_at size standing (asks.Publish most) = Publish most
-turn_at size standing asks.Any = any_turn size standing
 
 -- a fault of the ring or of the shared memory stops the queue
 abbrev pub halted : Stepped → QueueState → QueueState

@@ -3,4 +3,5 @@
 
 mod queue;
 
-pub use queue::{Queue, QueueSetup, Stepped, Stop, Turn};
+pub use queue::{Queue, QueueSetup, Stepped, Stop};
+pub use vub_steps::{Choice, Turn};

@@ -5,23 +5,12 @@ ghost use Rattle.vub_queue.specs.QueueParts.{element, is_taken, taken_count, wit
 
 use vub_task::{Task, TaskStep};
 use std::alloc::Global;
+use vub_base::standard::SECTOR_SIZE;
 use vub_base::{Failed, Memory, RingFault, Tag};
 use vub_disk::Disk;
-use vub_steps::{Phase, Standing, Step, after_step, is_ready, next_step};
+use vub_steps::{Choice, Phase, Standing, Step, Turn, after_step, is_ready, next_step};
 use vub_shared::Shared;
 use vub_split::SplitRing;
-
-/// The kinds of turn. `Work(j)` is on the j-th unfinished request, from 0; `Publish(m)` publishes
-/// at most m of the completed ones; `Any` is the first of start, publication under way, fetch, work
-/// and publication that is ready.
-#[derive(Clone, Copy, Debug, PartialEq, Eq)]
-pub enum Turn {
-    Start,
-    Fetch,
-    Work(u16),
-    Publish(u16),
-    Any,
-}
 
 /// Why a queue stopped.
 #[derive(Clone, Copy, Debug, PartialEq, Eq)]
@@ -88,7 +77,7 @@ pub struct Queue {
     // At rest, or in a publication.
     phase: Phase,
     // The sector on its way for each head.
-    sectors: Vec<[u8; 512]>,
+    sectors: Vec<[u8; SECTOR_SIZE]>,
     // Whether each head is accepted and not published.
     taken: Vec<bool>,
     ghost few: { ring.size ≤ 1024 },
@@ -152,19 +141,21 @@ impl Stepped {
 impl Queue {
     ghost use Rattle.vub_base.specs.Causes.{HasCause};
     ghost use Rattle.vub_base.specs.Told.{WhereTold};
+    ghost use Rattle.vub_shared.specs.Frames.{OnlyLoads, KeepsSpaces};
     ghost use Rattle.vub_task.specs.declared.task.Task.{Task};
     ghost use Rattle.vub_task.specs.TaskState as TaskState;
     ghost use Rattle.vub_task.specs.TaskState.{Making, IfMade, GainsOne, memory_outcome};
-    ghost use Rattle.vub_steps.specs.Readiness.{is_publication, is_ready, any_turn, work_or_publish, drain_turn};
+    ghost use Rattle.vub_steps.specs.Readiness.{is_publication, is_ready, chosen};
+    ghost use Rattle.vub_steps.specs.declared.readiness.Turn.{Turn};
     ghost use Rattle.vub_steps.specs.declared.readiness.Turn.TheVariants.{Fetch, Work};
     ghost use Rattle.std.specs.Prelude.{not, ◌==◌, ◌↔◌, IsTrue, option_map, is_some, Ok, remove, ◌++◌, ◌∷◌, []};
     ghost use Rattle.vub_steps.specs.Steps.{next_step, after_step};
     ghost use Rattle.vub_queue.specs.declared.queue.Stepped.TheVariants.{Idle};
-    ghost use Rattle.vub_queue.specs.declared.queue.Turn.TheVariants as asks;
+    ghost use Rattle.vub_steps.specs.declared.readiness.Choice.TheVariants.{Only};
     ghost use Rattle.vub_steps.specs.declared.steps.Phase.TheVariants.{Rest};
     ghost use Rattle.vub_steps.specs.declared.steps.Step.TheVariants.{Id, Len, Index};
     ghost use Rattle.vub_queue.specs.Queue.{ring_in};
-    ghost use Rattle.vub_queue.specs.QueueState.{state_of, IsNew, started_from, said, concluded, StepsAt, step_in, IsDue, IfStepped, StepsOut, WorksOut, Rests, disk_outcome, standing_at, waiting, IsFree, Finds, Fetches, accepted, may_fetch, begun, under_way, next_row, moved, with_phase, Moves, outcome, found_outcome, StoresRow, TrailsRow, publishes, publish_row, Publishes, is_idle, is_fault, Unless, Works, Does, DoesStore, DoesTrail, DoesDisk, turn_at, halted, Turns};
+    ghost use Rattle.vub_queue.specs.QueueState.{state_of, IsNew, started_from, said, concluded, StepsAt, step_in, IsDue, IfStepped, StepsOut, WorksOut, Rests, disk_outcome, standing_at, waiting, IsFree, Finds, Fetches, accepted, may_fetch, begun, under_way, next_row, moved, with_phase, Moves, outcome, found_outcome, MakesRow, publishes, publish_row, Publishes, is_idle, is_fault, Unless, Works, Does, DoesStore, DoesTrail, DoesDisk, halted, Turns};
 
     /// A queue that isn't started. All memory that it needs is reserved here.
     pub fn new(alloc: Global, setup: &QueueSetup) -> Result<Queue, Memory>
@@ -183,7 +174,7 @@ impl Queue {
             completed: Vec::with_capacity(alloc, size).map_err(|_| Memory)?,
             batch: 0,
             phase: Phase::Rest,
-            sectors: vec![in alloc; [0; 512]; size].map_err(|_| Memory)?,
+            sectors: vec![in alloc; [0; SECTOR_SIZE]; size].map_err(|_| Memory)?,
             taken: vec![in alloc; false; size].map_err(|_| Memory)?,
         })
     }
@@ -264,9 +255,7 @@ impl Queue {
     fn waiting<M: Shared>(&self, mem: &mut M) -> Result<u16, Failed>
         requires { RingLies (M.sizes mem.old) (ring_in self.now) }
         ensures waiting { IfOk result (λ n. WhereTold (M.told mem.old) (λ m. n ≡ waiting (state_of self.now) m)) }
-        ensures told { M.told mem.new ≡ M.told mem.old }
-        ensures trail { M.trail mem.new ≡ M.trail mem.old }
-        ensures sizes { (s : ℕ) → M.sizes mem.new s ≡ M.sizes mem.old s }
+        ensures only_loads { OnlyLoads M.told M.trail M.names M.handed M.sizes mem.old mem.new }
         ensures cause { HasCause (M.faults mem.old) (M.faults mem.new) result }
     {
         let index = self.ring.avail_idx(mem)?;
@@ -278,9 +267,7 @@ impl Queue {
         requires { RingLies (M.sizes mem.old) (ring_in self.now) }
         ensures free { IsFree (state_of self.now) result }
         ensures found { WhereTold (M.told mem.old) (λ m. Finds (state_of self.now) m result) }
-        ensures told { M.told mem.new ≡ M.told mem.old }
-        ensures trail { M.trail mem.new ≡ M.trail mem.old }
-        ensures sizes { (s : ℕ) → M.sizes mem.new s ≡ M.sizes mem.old s }
+        ensures only_loads { OnlyLoads M.told M.trail M.names M.handed M.sizes mem.old mem.new }
         ensures cause { HasCause (M.faults mem.old) (M.faults mem.new) (found_outcome result) }
     {
         let Ok(waiting) = self.waiting(mem) else {
@@ -321,9 +308,7 @@ impl Queue {
         ensures ring { ring_in self.new ≡ ring_in self.old }
         ensures ready { Unless (is_fault result) (WhereTold (M.told mem.old) (λ m. is_ready (standing_at (state_of self.old) (waiting (state_of self.old) m)) Fetch ≡ not (is_idle result))) }
         ensures fetches { Fetches (M.told mem.old) result (state_of self.old) (state_of self.new) }
-        ensures told { M.told mem.new ≡ M.told mem.old }
-        ensures trail { M.trail mem.new ≡ M.trail mem.old }
-        ensures sizes { (s : ℕ) → M.sizes mem.new s ≡ M.sizes mem.old s }
+        ensures only_loads { OnlyLoads M.told M.trail M.names M.handed M.sizes mem.old mem.new }
         ensures cause { HasCause (M.faults mem.old) (M.faults mem.new) (outcome result) }
         ensures no_disk { disk_outcome result ≡ Ok tt }
     {
@@ -365,7 +350,7 @@ impl Queue {
         ensures trail { GainsOne (M.trail mem.old) (M.trail mem.new) }
         ensures cause { HasCause (M.faults mem.old) (M.faults mem.new) (memory_outcome (step_in result)) }
         ensures disk_cause { HasCause (D.faults disk.old) (D.faults disk.new) (TaskState.disk_outcome (step_in result)) }
-        ensures sizes { (s : ℕ) → M.sizes mem.new s ≡ M.sizes mem.old s }
+        ensures keeps_spaces { KeepsSpaces M.names M.handed M.sizes mem.old mem.new }
         ensures capacity { D.capacity disk.new ≡ D.capacity disk.old }
     {
         let task = self.unfinished.get_mut(place)?;
@@ -408,7 +393,7 @@ impl Queue {
         ensures rests { (waiting : ℕ) → is_ready (standing_at (state_of self.old) waiting) (Work place) ≡ false → Rests (M.told mem.old) (M.told mem.new) (M.trail mem.old) (M.trail mem.new) (D.values disk.old) (D.values disk.new) result (state_of self.old) (state_of self.new) }
         ensures cause { HasCause (M.faults mem.old) (M.faults mem.new) (outcome result) }
         ensures disk_cause { HasCause (D.faults disk.old) (D.faults disk.new) (disk_outcome result) }
-        ensures sizes { (s : ℕ) → M.sizes mem.new s ≡ M.sizes mem.old s }
+        ensures keeps_spaces { KeepsSpaces M.names M.handed M.sizes mem.old mem.new }
         ensures capacity { D.capacity disk.new ≡ D.capacity disk.old }
     {
         let place = usize::from(place);
@@ -475,9 +460,7 @@ impl Queue {
         requires next { next_step self.old.batch self.old.phase ≡ Some (Id element) }
         ensures ring { ring_in self.new ≡ ring_in self.old }
         ensures moves { Moves result (next_row (state_of self.old)) (state_of self.old) (state_of self.new) }
-        ensures stores { StoresRow (M.told mem.old) (M.told mem.new) result (next_row (state_of self.old)) }
-        ensures trails { TrailsRow (M.trail mem.old) (M.trail mem.new) result (next_row (state_of self.old)) }
-        ensures sizes { (s : ℕ) → M.sizes mem.new s ≡ M.sizes mem.old s }
+        ensures makes_row { MakesRow M.told M.trail M.names M.handed M.sizes mem.old mem.new result (next_row (state_of self.old)) }
         ensures cause { HasCause (M.faults mem.old) (M.faults mem.new) (outcome result) }
         ensures no_disk { disk_outcome result ≡ Ok tt }
     {
@@ -498,9 +481,7 @@ impl Queue {
         requires next { next_step self.old.batch self.old.phase ≡ Some (Len element) }
         ensures ring { ring_in self.new ≡ ring_in self.old }
         ensures moves { Moves result (next_row (state_of self.old)) (state_of self.old) (state_of self.new) }
-        ensures stores { StoresRow (M.told mem.old) (M.told mem.new) result (next_row (state_of self.old)) }
-        ensures trails { TrailsRow (M.trail mem.old) (M.trail mem.new) result (next_row (state_of self.old)) }
-        ensures sizes { (s : ℕ) → M.sizes mem.new s ≡ M.sizes mem.old s }
+        ensures makes_row { MakesRow M.told M.trail M.names M.handed M.sizes mem.old mem.new result (next_row (state_of self.old)) }
         ensures cause { HasCause (M.faults mem.old) (M.faults mem.new) (outcome result) }
         ensures no_disk { disk_outcome result ≡ Ok tt }
     {
@@ -520,9 +501,7 @@ impl Queue {
         requires next { next_step self.old.batch self.old.phase ≡ Some Index }
         ensures ring { ring_in self.new ≡ ring_in self.old }
         ensures moves { Moves result (next_row (state_of self.old)) (state_of self.old) (state_of self.new) }
-        ensures stores { StoresRow (M.told mem.old) (M.told mem.new) result (next_row (state_of self.old)) }
-        ensures trails { TrailsRow (M.trail mem.old) (M.trail mem.new) result (next_row (state_of self.old)) }
-        ensures sizes { (s : ℕ) → M.sizes mem.new s ≡ M.sizes mem.old s }
+        ensures makes_row { MakesRow M.told M.trail M.names M.handed M.sizes mem.old mem.new result (next_row (state_of self.old)) }
         ensures cause { HasCause (M.faults mem.old) (M.faults mem.new) (outcome result) }
         ensures no_disk { disk_outcome result ≡ Ok tt }
     {
@@ -542,9 +521,7 @@ impl Queue {
         requires going { is_publication self.old.phase ≡ true }
         ensures ring { ring_in self.new ≡ ring_in self.old }
         ensures moves { Moves result (next_row (state_of self.old)) (state_of self.old) (state_of self.new) }
-        ensures stores { StoresRow (M.told mem.old) (M.told mem.new) result (next_row (state_of self.old)) }
-        ensures trails { TrailsRow (M.trail mem.old) (M.trail mem.new) result (next_row (state_of self.old)) }
-        ensures sizes { (s : ℕ) → M.sizes mem.new s ≡ M.sizes mem.old s }
+        ensures makes_row { MakesRow M.told M.trail M.names M.handed M.sizes mem.old mem.new result (next_row (state_of self.old)) }
         ensures cause { HasCause (M.faults mem.old) (M.faults mem.new) (outcome result) }
         ensures no_disk { disk_outcome result ≡ Ok tt }
     {
@@ -562,97 +539,43 @@ impl Queue {
         requires { RingLies (M.sizes mem.old) (ring_in self.old) }
         ensures ring { ring_in self.new ≡ ring_in self.old }
         ensures publishes { Publishes (publishes most (state_of self.old)) result (state_of self.old) (under_way most (state_of self.old)) (state_of self.new) }
-        ensures stores { StoresRow (M.told mem.old) (M.told mem.new) result (publish_row most (state_of self.old)) }
-        ensures trails { TrailsRow (M.trail mem.old) (M.trail mem.new) result (publish_row most (state_of self.old)) }
-        ensures sizes { (s : ℕ) → M.sizes mem.new s ≡ M.sizes mem.old s }
+        ensures makes_row { MakesRow M.told M.trail M.names M.handed M.sizes mem.old mem.new result (publish_row most (state_of self.old)) }
         ensures cause { HasCause (M.faults mem.old) (M.faults mem.new) (outcome result) }
         ensures no_disk { disk_outcome result ≡ Ok tt }
     {
-        if !is_ready(&self.standing(0), vub_steps::Turn::Publish(most)) {
+        if !is_ready(&self.standing(0), Turn::Publish(most)) {
             return Stepped::Idle;
         }
         self.begin_if_resting(most);
         self.publish_step(mem)
     }
 
-    /// Works on the oldest request, or publishes all.
-    fn go_on<M: Shared, D: Disk>(&mut self, mem: &mut M, disk: &mut D) -> Stepped
-        requires lies { RingLies (M.sizes mem.old) (ring_in self.old) }
-        ensures ring { ring_in self.new ≡ ring_in self.old }
-        ensures does { (waiting : ℕ) → Does (work_or_publish self.old.ring.size (standing_at (state_of self.old) waiting)) (M.told mem.old) result (state_of self.old) (state_of self.new) }
-        ensures stores { (waiting : ℕ) → DoesStore (work_or_publish self.old.ring.size (standing_at (state_of self.old) waiting)) (M.told mem.old) (M.told mem.new) result (state_of self.old) }
-        ensures trails { (waiting : ℕ) → DoesTrail (work_or_publish self.old.ring.size (standing_at (state_of self.old) waiting)) (M.trail mem.old) (M.trail mem.new) result (state_of self.old) }
-        ensures values { (waiting : ℕ) → DoesDisk (work_or_publish self.old.ring.size (standing_at (state_of self.old) waiting)) (D.values disk.old) (D.values disk.new) }
-        ensures made { (waiting place : ℕ) (task : Task) (n : Making) → WhereTold (M.told mem.old) (λ m. work_or_publish self.old.ring.size (standing_at (state_of self.old) waiting) ≡ Work place → IsDue (D.capacity disk.old) (M.sizes mem.old) (state_of self.old) m place task n → IfStepped result (WorksOut place task n m (M.told mem.new) (M.trail mem.old) (M.trail mem.new) (D.values disk.old) (D.values disk.new) result (state_of self.old) (state_of self.new))) }
-        ensures cause { HasCause (M.faults mem.old) (M.faults mem.new) (outcome result) }
-        ensures disk_cause { HasCause (D.faults disk.old) (D.faults disk.new) (disk_outcome result) }
-        ensures sizes { (s : ℕ) → M.sizes mem.new s ≡ M.sizes mem.old s }
-        ensures capacity { D.capacity disk.new ≡ D.capacity disk.old }
+    /// The turn that a choice comes to. How many requests wait is loaded where it depends on that.
+    fn next_turn<M: Shared>(&self, choice: Choice, mem: &mut M) -> Result<Turn, Failed>
+        requires { RingLies (M.sizes mem.old) (ring_in self.now) }
+        ensures chosen { IfOk result (λ turn. WhereTold (M.told mem.old) (λ m. turn ≡ chosen self.now.ring.size choice (standing_at (state_of self.now) (waiting (state_of self.now) m)))) }
+        ensures only { (turn : Turn) → choice ≡ Only turn → result ≡ Ok turn }
+        ensures only_loads { OnlyLoads M.told M.trail M.names M.handed M.sizes mem.old mem.new }
+        ensures cause { HasCause (M.faults mem.old) (M.faults mem.new) result }
     {
-        if self.unfinished.is_empty() {
-            self.publish(self.ring.size, mem)
-        } else {
-            self.work(0, mem, disk)
-        }
+        let fetches = self.started && !self.is_publishing() && choice.may_fetch(self.ring.size);
+        let waiting = if fetches { self.waiting(mem)? } else { 0 };
+        Ok(choice.turn(self.ring.size, &self.standing(waiting)))
     }
 
-    /// The first that is ready of fetch, work on the oldest request, and publication of all.
-    fn fetch_or_go_on<M: Shared, D: Disk>(&mut self, mem: &mut M, disk: &mut D) -> Stepped
-        requires lies { RingLies (M.sizes mem.old) (ring_in self.old) }
-        requires started { self.old.started ≡ true }
-        requires rests { is_publication self.old.phase ≡ false }
-        ensures ring { ring_in self.new ≡ ring_in self.old }
-        ensures does { WhereTold (M.told mem.old) (λ m. Does (any_turn self.old.ring.size (standing_at (state_of self.old) (waiting (state_of self.old) m))) (M.told mem.old) result (state_of self.old) (state_of self.new)) }
-        ensures stores { WhereTold (M.told mem.old) (λ m. DoesStore (any_turn self.old.ring.size (standing_at (state_of self.old) (waiting (state_of self.old) m))) (M.told mem.old) (M.told mem.new) result (state_of self.old)) }
-        ensures trails { WhereTold (M.told mem.old) (λ m. DoesTrail (any_turn self.old.ring.size (standing_at (state_of self.old) (waiting (state_of self.old) m))) (M.trail mem.old) (M.trail mem.new) result (state_of self.old)) }
-        ensures values { WhereTold (M.told mem.old) (λ m. DoesDisk (any_turn self.old.ring.size (standing_at (state_of self.old) (waiting (state_of self.old) m))) (D.values disk.old) (D.values disk.new)) }
-        ensures made { (place : ℕ) (task : Task) (n : Making) → WhereTold (M.told mem.old) (λ m. any_turn self.old.ring.size (standing_at (state_of self.old) (waiting (state_of self.old) m)) ≡ Work place → IsDue (D.capacity disk.old) (M.sizes mem.old) (state_of self.old) m place task n → IfStepped result (WorksOut place task n m (M.told mem.new) (M.trail mem.old) (M.trail mem.new) (D.values disk.old) (D.values disk.new) result (state_of self.old) (state_of self.new))) }
-        ensures cause { HasCause (M.faults mem.old) (M.faults mem.new) (outcome result) }
-        ensures disk_cause { HasCause (D.faults disk.old) (D.faults disk.new) (disk_outcome result) }
-        ensures sizes { (s : ℕ) → M.sizes mem.new s ≡ M.sizes mem.old s }
-        ensures capacity { D.capacity disk.new ≡ D.capacity disk.old }
-    {
-        let stepped = self.fetch(mem);
-        if !stepped.is_idle() {
-            return stepped;
-        }
-        self.go_on(mem, disk)
-    }
-
-    fn any<M: Shared, D: Disk>(&mut self, mem: &mut M, disk: &mut D) -> Stepped
+    /// Makes a step of this turn, if it is ready.
+    fn make<M: Shared, D: Disk>(&mut self, turn: Turn, mem: &mut M, disk: &mut D) -> Stepped
         requires lies { RingLies (M.sizes mem.old) (ring_in self.old) }
         ensures ring { ring_in self.new ≡ ring_in self.old }
-        ensures does { WhereTold (M.told mem.old) (λ m. Does (any_turn self.old.ring.size (standing_at (state_of self.old) (waiting (state_of self.old) m))) (M.told mem.old) result (state_of self.old) (state_of self.new)) }
-        ensures stores { WhereTold (M.told mem.old) (λ m. DoesStore (any_turn self.old.ring.size (standing_at (state_of self.old) (waiting (state_of self.old) m))) (M.told mem.old) (M.told mem.new) result (state_of self.old)) }
-        ensures trails { WhereTold (M.told mem.old) (λ m. DoesTrail (any_turn self.old.ring.size (standing_at (state_of self.old) (waiting (state_of self.old) m))) (M.trail mem.old) (M.trail mem.new) result (state_of self.old)) }
-        ensures values { WhereTold (M.told mem.old) (λ m. DoesDisk (any_turn self.old.ring.size (standing_at (state_of self.old) (waiting (state_of self.old) m))) (D.values disk.old) (D.values disk.new)) }
-        ensures made { (place : ℕ) (task : Task) (n : Making) → WhereTold (M.told mem.old) (λ m. any_turn self.old.ring.size (standing_at (state_of self.old) (waiting (state_of self.old) m)) ≡ Work place → IsDue (D.capacity disk.old) (M.sizes mem.old) (state_of self.old) m place task n → IfStepped result (WorksOut place task n m (M.told mem.new) (M.trail mem.old) (M.trail mem.new) (D.values disk.old) (D.values disk.new) result (state_of self.old) (state_of self.new))) }
+        ensures does { Does turn (M.told mem.old) result (state_of self.old) (state_of self.new) }
+        ensures stores { DoesStore turn (M.told mem.old) (M.told mem.new) result (state_of self.old) }
+        ensures trails { DoesTrail turn (M.trail mem.old) (M.trail mem.new) result (state_of self.old) }
+        ensures values { DoesDisk turn (D.values disk.old) (D.values disk.new) }
+        ensures made { (place : ℕ) (task : Task) (n : Making) → WhereTold (M.told mem.old) (λ m. turn ≡ Work place → IsDue (D.capacity disk.old) (M.sizes mem.old) (state_of self.old) m place task n → IfStepped result (WorksOut place task n m (M.told mem.new) (M.trail mem.old) (M.trail mem.new) (D.values disk.old) (D.values disk.new) result (state_of self.old) (state_of self.new))) }
+        ensures rests { (waiting place : ℕ) → turn ≡ Work place → is_ready (standing_at (state_of self.old) waiting) (Work place) ≡ false → Rests (M.told mem.old) (M.told mem.new) (M.trail mem.old) (M.trail mem.new) (D.values disk.old) (D.values disk.new) result (state_of self.old) (state_of self.new) }
         ensures cause { HasCause (M.faults mem.old) (M.faults mem.new) (outcome result) }
         ensures disk_cause { HasCause (D.faults disk.old) (D.faults disk.new) (disk_outcome result) }
-        ensures sizes { (s : ℕ) → M.sizes mem.new s ≡ M.sizes mem.old s }
-        ensures capacity { D.capacity disk.new ≡ D.capacity disk.old }
-    {
-        if !self.started {
-            return self.start();
-        }
-        if self.is_publishing() {
-            return self.publish(self.ring.size, mem);
-        }
-        self.fetch_or_go_on(mem, disk)
-    }
-
-    fn step_of<M: Shared, D: Disk>(&mut self, turn: Turn, mem: &mut M, disk: &mut D) -> Stepped
-        requires lies { RingLies (M.sizes mem.old) (ring_in self.old) }
-        ensures ring { ring_in self.new ≡ ring_in self.old }
-        ensures does { WhereTold (M.told mem.old) (λ m. Does (turn_at self.old.ring.size (standing_at (state_of self.old) (waiting (state_of self.old) m)) turn) (M.told mem.old) result (state_of self.old) (state_of self.new)) }
-        ensures stores { WhereTold (M.told mem.old) (λ m. DoesStore (turn_at self.old.ring.size (standing_at (state_of self.old) (waiting (state_of self.old) m)) turn) (M.told mem.old) (M.told mem.new) result (state_of self.old)) }
-        ensures trails { WhereTold (M.told mem.old) (λ m. DoesTrail (turn_at self.old.ring.size (standing_at (state_of self.old) (waiting (state_of self.old) m)) turn) (M.trail mem.old) (M.trail mem.new) result (state_of self.old)) }
-        ensures values { WhereTold (M.told mem.old) (λ m. DoesDisk (turn_at self.old.ring.size (standing_at (state_of self.old) (waiting (state_of self.old) m)) turn) (D.values disk.old) (D.values disk.new)) }
-        ensures made { (place : ℕ) (task : Task) (n : Making) → WhereTold (M.told mem.old) (λ m. turn_at self.old.ring.size (standing_at (state_of self.old) (waiting (state_of self.old) m)) turn ≡ Work place → IsDue (D.capacity disk.old) (M.sizes mem.old) (state_of self.old) m place task n → IfStepped result (WorksOut place task n m (M.told mem.new) (M.trail mem.old) (M.trail mem.new) (D.values disk.old) (D.values disk.new) result (state_of self.old) (state_of self.new))) }
-        ensures rests { (waiting place : ℕ) → turn ≡ asks.Work place → is_ready (standing_at (state_of self.old) waiting) (Work place) ≡ false → Rests (M.told mem.old) (M.told mem.new) (M.trail mem.old) (M.trail mem.new) (D.values disk.old) (D.values disk.new) result (state_of self.old) (state_of self.new) }
-        ensures cause { HasCause (M.faults mem.old) (M.faults mem.new) (outcome result) }
-        ensures disk_cause { HasCause (D.faults disk.old) (D.faults disk.new) (disk_outcome result) }
-        ensures sizes { (s : ℕ) → M.sizes mem.new s ≡ M.sizes mem.old s }
+        ensures keeps_spaces { KeepsSpaces M.names M.handed M.sizes mem.old mem.new }
         ensures capacity { D.capacity disk.new ≡ D.capacity disk.old }
     {
         match turn {
@@ -660,7 +583,26 @@ impl Queue {
             Turn::Fetch => self.fetch(mem),
             Turn::Work(place) => self.work(place, mem, disk),
             Turn::Publish(most) => self.publish(most, mem),
-            Turn::Any => self.any(mem, disk),
+        }
+    }
+
+    fn step_of<M: Shared, D: Disk>(&mut self, choice: Choice, mem: &mut M, disk: &mut D) -> Stepped
+        requires lies { RingLies (M.sizes mem.old) (ring_in self.old) }
+        ensures ring { ring_in self.new ≡ ring_in self.old }
+        ensures does { WhereTold (M.told mem.old) (λ m. Does (chosen self.old.ring.size choice (standing_at (state_of self.old) (waiting (state_of self.old) m))) (M.told mem.old) result (state_of self.old) (state_of self.new)) }
+        ensures stores { WhereTold (M.told mem.old) (λ m. DoesStore (chosen self.old.ring.size choice (standing_at (state_of self.old) (waiting (state_of self.old) m))) (M.told mem.old) (M.told mem.new) result (state_of self.old)) }
+        ensures trails { WhereTold (M.told mem.old) (λ m. DoesTrail (chosen self.old.ring.size choice (standing_at (state_of self.old) (waiting (state_of self.old) m))) (M.trail mem.old) (M.trail mem.new) result (state_of self.old)) }
+        ensures values { WhereTold (M.told mem.old) (λ m. DoesDisk (chosen self.old.ring.size choice (standing_at (state_of self.old) (waiting (state_of self.old) m))) (D.values disk.old) (D.values disk.new)) }
+        ensures made { (place : ℕ) (task : Task) (n : Making) → WhereTold (M.told mem.old) (λ m. chosen self.old.ring.size choice (standing_at (state_of self.old) (waiting (state_of self.old) m)) ≡ Work place → IsDue (D.capacity disk.old) (M.sizes mem.old) (state_of self.old) m place task n → IfStepped result (WorksOut place task n m (M.told mem.new) (M.trail mem.old) (M.trail mem.new) (D.values disk.old) (D.values disk.new) result (state_of self.old) (state_of self.new))) }
+        ensures rests { (waiting place : ℕ) → choice ≡ Only (Work place) → is_ready (standing_at (state_of self.old) waiting) (Work place) ≡ false → Rests (M.told mem.old) (M.told mem.new) (M.trail mem.old) (M.trail mem.new) (D.values disk.old) (D.values disk.new) result (state_of self.old) (state_of self.new) }
+        ensures cause { HasCause (M.faults mem.old) (M.faults mem.new) (outcome result) }
+        ensures disk_cause { HasCause (D.faults disk.old) (D.faults disk.new) (disk_outcome result) }
+        ensures keeps_spaces { KeepsSpaces M.names M.handed M.sizes mem.old mem.new }
+        ensures capacity { D.capacity disk.new ≡ D.capacity disk.old }
+    {
+        match self.next_turn(choice, mem) {
+            Ok(turn) => self.make(turn, mem, disk),
+            Err(Failed) => Stepped::SharedFault,
         }
     }
 
@@ -676,43 +618,29 @@ impl Queue {
         }
     }
 
-    /// Makes the next step of its kind, and is `Idle` where it isn't ready. A fault of shared
+    /// Makes the next step of the turn that is chosen, and is `Idle` where it isn't ready. A fault of shared
     /// memory, or a ring that breaks a rule, stops the queue: later turns are `Idle`. A disk fault
     /// stops nothing. Takes no memory.
-    pub fn turn<M: Shared, D: Disk>(&mut self, turn: Turn, mem: &mut M, disk: &mut D) -> Stepped
+    pub fn turn<M: Shared, D: Disk>(&mut self, choice: Choice, mem: &mut M, disk: &mut D) -> Stepped
         requires { RingLies (M.sizes mem.old) (ring_in self.old) }
         ensures ring { ring_in self.new ≡ ring_in self.old }
         ensures stopped { is_some (state_of self.old).stopped ≡ true → (result ≡ Idle) × (state_of self.new ≡ state_of self.old) × (M.told mem.new ≡ M.told mem.old) × (M.trail mem.new ≡ M.trail mem.old) × (D.values disk.new ≡ D.values disk.old) }
-        ensures does { is_some (state_of self.old).stopped ≡ false → WhereTold (M.told mem.old) (λ m. Turns (turn_at (ring_in self.old).size (standing_at (state_of self.old) (waiting (state_of self.old) m)) turn) (M.told mem.old) result (state_of self.old) (state_of self.new)) }
-        ensures stores { is_some (state_of self.old).stopped ≡ false → WhereTold (M.told mem.old) (λ m. DoesStore (turn_at (ring_in self.old).size (standing_at (state_of self.old) (waiting (state_of self.old) m)) turn) (M.told mem.old) (M.told mem.new) result (state_of self.old)) }
-        ensures trails { is_some (state_of self.old).stopped ≡ false → WhereTold (M.told mem.old) (λ m. DoesTrail (turn_at (ring_in self.old).size (standing_at (state_of self.old) (waiting (state_of self.old) m)) turn) (M.trail mem.old) (M.trail mem.new) result (state_of self.old)) }
-        ensures values { is_some (state_of self.old).stopped ≡ false → WhereTold (M.told mem.old) (λ m. DoesDisk (turn_at (ring_in self.old).size (standing_at (state_of self.old) (waiting (state_of self.old) m)) turn) (D.values disk.old) (D.values disk.new)) }
-        ensures made { (place : ℕ) (task : Task) (n : Making) → is_some (state_of self.old).stopped ≡ false → WhereTold (M.told mem.old) (λ m. turn_at (ring_in self.old).size (standing_at (state_of self.old) (waiting (state_of self.old) m)) turn ≡ Work place → IsDue (D.capacity disk.old) (M.sizes mem.old) (state_of self.old) m place task n → IfStepped result (WorksOut place task n m (M.told mem.new) (M.trail mem.old) (M.trail mem.new) (D.values disk.old) (D.values disk.new) result (state_of self.old) (state_of self.new))) }
-        ensures rests { (waiting place : ℕ) → is_some (state_of self.old).stopped ≡ false → turn ≡ asks.Work place → is_ready (standing_at (state_of self.old) waiting) (Work place) ≡ false → Rests (M.told mem.old) (M.told mem.new) (M.trail mem.old) (M.trail mem.new) (D.values disk.old) (D.values disk.new) result (state_of self.old) (state_of self.new) }
+        ensures does { is_some (state_of self.old).stopped ≡ false → WhereTold (M.told mem.old) (λ m. Turns (chosen (ring_in self.old).size choice (standing_at (state_of self.old) (waiting (state_of self.old) m))) (M.told mem.old) result (state_of self.old) (state_of self.new)) }
+        ensures stores { is_some (state_of self.old).stopped ≡ false → WhereTold (M.told mem.old) (λ m. DoesStore (chosen (ring_in self.old).size choice (standing_at (state_of self.old) (waiting (state_of self.old) m))) (M.told mem.old) (M.told mem.new) result (state_of self.old)) }
+        ensures trails { is_some (state_of self.old).stopped ≡ false → WhereTold (M.told mem.old) (λ m. DoesTrail (chosen (ring_in self.old).size choice (standing_at (state_of self.old) (waiting (state_of self.old) m))) (M.trail mem.old) (M.trail mem.new) result (state_of self.old)) }
+        ensures values { is_some (state_of self.old).stopped ≡ false → WhereTold (M.told mem.old) (λ m. DoesDisk (chosen (ring_in self.old).size choice (standing_at (state_of self.old) (waiting (state_of self.old) m))) (D.values disk.old) (D.values disk.new)) }
+        ensures made { (place : ℕ) (task : Task) (n : Making) → is_some (state_of self.old).stopped ≡ false → WhereTold (M.told mem.old) (λ m. chosen (ring_in self.old).size choice (standing_at (state_of self.old) (waiting (state_of self.old) m)) ≡ Work place → IsDue (D.capacity disk.old) (M.sizes mem.old) (state_of self.old) m place task n → IfStepped result (WorksOut place task n m (M.told mem.new) (M.trail mem.old) (M.trail mem.new) (D.values disk.old) (D.values disk.new) result (state_of self.old) (state_of self.new))) }
+        ensures rests { (waiting place : ℕ) → is_some (state_of self.old).stopped ≡ false → choice ≡ Only (Work place) → is_ready (standing_at (state_of self.old) waiting) (Work place) ≡ false → Rests (M.told mem.old) (M.told mem.new) (M.trail mem.old) (M.trail mem.new) (D.values disk.old) (D.values disk.new) result (state_of self.old) (state_of self.new) }
         ensures cause { HasCause (M.faults mem.old) (M.faults mem.new) (outcome result) }
         ensures disk_cause { HasCause (D.faults disk.old) (D.faults disk.new) (disk_outcome result) }
-        ensures sizes { (s : ℕ) → M.sizes mem.new s ≡ M.sizes mem.old s }
+        ensures keeps_spaces { KeepsSpaces M.names M.handed M.sizes mem.old mem.new }
         ensures capacity { D.capacity disk.new ≡ D.capacity disk.old }
     {
         if self.stopped.is_some() {
             return Stepped::Idle;
         }
-        let stepped = self.step_of(turn, mem, disk);
+        let stepped = self.step_of(choice, mem, disk);
         self.halt(stepped);
         stepped
-    }
-
-    /// The next turn of a drain in which so many requests were accepted: any step, and once it
-    /// accepted as many as the queue has places, none that fetches.
-    pub fn draining(&self, accepted: u16) -> Turn
-        ensures { (waiting : ℕ) → turn_at (ring_in self.now).size (standing_at (state_of self.now) waiting) result ≡ drain_turn (ring_in self.now).size accepted (standing_at (state_of self.now) waiting) }
-    {
-        if accepted < self.ring.size {
-            Turn::Any
-        } else if self.is_publishing() || self.unfinished.is_empty() {
-            Turn::Publish(self.ring.size)
-        } else {
-            Turn::Work(0)
-        }
     }
 }

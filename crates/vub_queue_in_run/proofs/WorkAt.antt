@@ -19,7 +19,7 @@ use Rattle.vub_driver.specs.GuestChain.{Links}
 use Rattle.vub_run.specs.Moments.{Lane, Moment, standing, unfinished}
 use Rattle.vub_queue_in_run.specs.QueueAt.{QueueStands, IsMainRing, TaskAt}
 use Rattle.vub_queue.specs.QueueState.{QueueState, IsDue}
-use Rattle.vub_task.specs.TaskState.{fresh_task, Making, IsBasic, IsNext, IsReady}
+use Rattle.vub_task.specs.TaskState.{fresh_task, Making, IsBasic, IsNext, IsReady, head_in}
 use Rattle.vub_steps.specs.Tasks.{TaskStep, Look, Put, Act, Sync, Status, task_steps, disk_steps, look_steps, act_steps}
 use Rattle.vub_run_laws.proofs.RunNumbers.{among_get, among_filter, missing-among}
 use Rattle.vub_run_laws.proofs.RunGood.{IsWideRead, IsWideWrite, IsWide, IsOut, IsPending}
@@ -179,7 +179,7 @@ pub record WorkReady (h : Header1) (sizes : ℕ → ℕ) (m : Moment) (q : Queue
   pub step : TaskStep
   pub at : slice_get (unfinished 0 m) place ≡ Some k
   pub is : asked m.scene.past 0 k ≡ Some request
-  pub head : task.head ≡ slice_index (m.scene.heads 0) k
+  pub head : head_in task ≡ slice_index (m.scene.heads 0) k
   pub is_open : IsOpen m.scene.past 0 k
   pub due : IsDue h.capacity sizes q m.scene.memory place task (making_of h m k links request step)
 
@@ -232,7 +232,7 @@ due_at h m r sizes q place k task plain good chained main room a run is at =
       due = record {
         started = a.started ∙ run;
         at = at;
-        fits = subst (λ (x : SplitRing). task.head < x.size) (sym a.ring) (omega (arith, main.size, stands.head, low));
+        fits = subst (λ (x : SplitRing). (head_in task) < x.size) (sym a.ring) (omega (arith, main.size, stands.head, low));
         next = subst (λ (x : SplitRing). IsNext h.capacity sizes x m.scene.memory n) (sym a.ring) is_next;
         ready = subst (λ (x : SplitRing). IsReady x n task) (sym a.ring) ready;
       };

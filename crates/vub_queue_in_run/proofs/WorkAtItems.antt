@@ -37,7 +37,7 @@ use Rattle.vub_run.specs.Moments.{Lane, Moment, unfinished, buffer_of}
 use Rattle.vub_queue_in_run.specs.QueueAt.{QueueStands, IsMainRing, DiskAt}
 use Rattle.vub_queue.specs.QueueState.{QueueState, said, sector_at, due_store}
 use Rattle.vub_run.specs.Run.{one_turn}
-use Rattle.vub_task.specs.TaskState.{Making, answer_in, memory_after, values_after, with_effect}
+use Rattle.vub_task.specs.TaskState.{Making, answer_in, memory_after, values_after, with_effect, head_in}
 use Rattle.vub_steps.specs.Tasks.{TaskStep, Look, Put, Act, Status, status_of}
 use Rattle.vub_run.specs.TaskItems.{task_items, look_items, act_items}
 use Rattle.vub_run.specs.Turns.{Turned, turned, work_turn, request_turn, task_turn, phase_turn, under_way, step_stores, row_items, entry_items}
@@ -61,11 +61,11 @@ pub record ShowsStore (tag : Tag) (q : QueueState) (task : Task) (n : Making) (i
 
 -- the items of a step of the k-th request, by what the queue's turn says of it, where the disk's values were v
 abbrev pub Shows : Values → QueueState → ℕ → Task → Making → List Item → Stepped → Type 0
-Shows v q k task n is (says.Looked head sector) = (head ≡ task.head) × (is ≡ items.Made (entries.Look 0 k sector (v sector)) ∷ [])
-Shows v q k task n is (says.Acted head sector) = (head ≡ task.head) × (is ≡ items.Made (entries.Act 0 k sector (values_after n.request n.step v sector)) ∷ [])
-Shows v q k task n is (says.Synced head) = (head ≡ task.head) × (is ≡ items.Made (entries.Sync 0 k) ∷ [])
+Shows v q k task n is (says.Looked head sector) = (head ≡ (head_in task)) × (is ≡ items.Made (entries.Look 0 k sector (v sector)) ∷ [])
+Shows v q k task n is (says.Acted head sector) = (head ≡ (head_in task)) × (is ≡ items.Made (entries.Act 0 k sector (values_after n.request n.step v sector)) ∷ [])
+Shows v q k task n is (says.Synced head) = (head ≡ (head_in task)) × (is ≡ items.Made (entries.Sync 0 k) ∷ [])
 Shows v q k task n is (says.Stored tag) = (tag ≡ T2) × ShowsStore T2 q task n is
-Shows v q k task n is (says.Completed head) = (head ≡ task.head) × ShowsStore T5 q task n is
+Shows v q k task n is (says.Completed head) = (head ≡ (head_in task)) × ShowsStore T5 q task n is
 Shows v q k task n is x = ⊥
 
 -- the turn is the row of the step that is due
@@ -87,12 +87,12 @@ work_kind h sizes m q place w plain good =
 
 abbrev ShowsAt : Header1 → Moment → QueueState → Values → ℕ → Task → Links → Asked → TaskStep → Type 0
 ShowsAt h m q v k task links request step =
-    Shows v q k task (making_of h m k links request step) (task_items h 0 k (buffer_of 0 k m.scene) m.scene.past request step) (said task.head (answer_in (making_of h m k links request step)))
+    Shows v q k task (making_of h m k links request step) (task_items h 0 k (buffer_of 0 k m.scene) m.scene.past request step) (said (head_in task) (answer_in (making_of h m k links request step)))
 
 show_look : (h : Header1) (m : Moment) (q : QueueState) (v : Values) (k : ℕ) (task : Task) (links : Links) (sector c p : ℕ) → p < c → v (sector + p) ≡ value m.scene.past (sector + p) → ShowsAt h m q v k task links (asks.Read sector c) (Look p)
 show_look h m q v k task links sector c p low held = (refl, ap (look_items 0 k m.scene.past) (look_is sector c p low) ∙ ap (λ (bs : List ℕ). items.Made (entries.Look 0 k (sector + p) bs) ∷ []) (sym held))
 
-show_put : (h : Header1) (m : Moment) (q : QueueState) (v : Values) (k : ℕ) (task : Task) (links : Links) (sector c p : ℕ) → q.ring.desc.0.number ≡ 0 → sector_at q task.head ≡ slice_range (seen m.scene.past 0 k) (512 * p) (512 * p + 512)
+show_put : (h : Header1) (m : Moment) (q : QueueState) (v : Values) (k : ℕ) (task : Task) (links : Links) (sector c p : ℕ) → q.ring.desc.0.number ≡ 0 → sector_at q (head_in task) ≡ slice_range (seen m.scene.past 0 k) (512 * p) (512 * p + 512)
     → ShowsAt h m q v k task links (asks.Read sector c) (Put p)
 show_put h m q v k task links sector c p space held =
     let place : ℕ = sectors_place (buffer_of 0 k m.scene) + 512 * p in
@@ -102,7 +102,7 @@ show_put h m q v k task links sector c p space held =
         place = place;
         bytes = bs;
         few = sector_few (seen m.scene.past 0 k) p;
-        due = ap (λ (t : ℕ). Some (one_store t place (sector_at q task.head))) space ∙ ap (λ (xs : List ℕ). Some (one_store 0 place xs)) held;
+        due = ap (λ (t : ℕ). Some (one_store t place (sector_at q (head_in task)))) space ∙ ap (λ (xs : List ℕ). Some (one_store 0 place xs)) held;
         items = refl;
       },
     )
@@ -134,7 +134,7 @@ ring_space h m r q main a = ap (λ (x : SplitRing). x.desc.0.number) a.ring ∙ 
 
 -- before its store, what was read stands in the queue
 held_sector : (h : Header1) (sizes : ℕ → ℕ) (m : Moment) (r : SplitRing) (q : QueueState) (place p : ℕ) (w : WorkReady h sizes m q place) → QueueStands h r m q → w.step ≡ Put p
-    → sector_at q w.task.head ≡ slice_range (seen m.scene.past 0 w.k) (512 * p) (512 * p + 512)
+    → sector_at q (head_in w.task) ≡ slice_range (seen m.scene.past 0 w.k) (512 * p) (512 * p + 512)
 held_sector h sizes m r q place p w a put =
     ap (sector_at q) w.head ∙ a.sectors w.k p w.request (among_get (unfinished 0 m) place w.k w.at) w.is (w.due.next.next ∙ ap (λ (s : TaskStep). Some s) put)
 
@@ -155,16 +155,16 @@ show_step h sizes m r q place v w main a disk (inr (inr (inr (inr x)))) =
 
 -- what a turn of work shows, by what the queue says of it
 pub work_items : (h : Header1) (sizes : ℕ → ℕ) (m : Moment) (r : SplitRing) (q : QueueState) (place : ℕ) (v : Values) (w : WorkReady h sizes m q place) → IsPlain h → Good h m → IsMainRing r h.size → QueueStands h r m q → DiskAt h.capacity m.scene.past v
-    → Shows v q w.k w.task (making w) (turned h 0 (turns.Work place) m).items (said w.task.head (answer_in (making w)))
+    → Shows v q w.k w.task (making w) (turned h 0 (turns.Work place) m).items (said (head_in w.task) (answer_in (making w)))
 work_items h sizes m r q place v w plain good main a disk =
-    subst (λ (t : Turned). Shows v q w.k w.task (making w) t.items (said w.task.head (answer_in (making w)))) (sym (work_turned h sizes m q place w))
+    subst (λ (t : Turned). Shows v q w.k w.task (making w) t.items (said (head_in w.task) (answer_in (making w)))) (sym (work_turned h sizes m q place w))
     (show_step h sizes m r q place v w main a disk (work_kind h sizes m q place w plain good))
 
 -- ---- memory
 
 abbrev LeavesMemory : Header1 → Moment → QueueState → ℕ → Task → Links → Asked → TaskStep → Type 0
 LeavesMemory h m q k task links request step =
-    (after_items h.size (task_items h 0 k (buffer_of 0 k m.scene) m.scene.past request step) m.scene).memory ≡ memory_after q.ring (making_of h m k links request step) (sector_at q task.head) m.scene.memory
+    (after_items h.size (task_items h 0 k (buffer_of 0 k m.scene) m.scene.past request step) m.scene).memory ≡ memory_after q.ring (making_of h m k links request step) (sector_at q (head_in task)) m.scene.memory
 
 -- the memory after one store in guest memory
 stored_memory : (q : QueueState) (mem : Bytes) (p : ℕ) (bs sector : List ℕ) → q.ring.desc.0.number ≡ 0 → sector ≡ bs → after_store (one_store 0 p bs) mem ≡ after_store (one_store q.ring.desc.0.number p sector) mem
@@ -185,7 +185,7 @@ memory_step h sizes m r q place w main a (inl x) =
 memory_step h sizes m r q place w main a (inr (inl x)) =
     subst (λ (s : TaskStep). LeavesMemory h m q w.k w.task w.links w.request s) (sym x.next)
     (subst (λ (o : Asked). LeavesMemory h m q w.k w.task w.links o (Put x.place)) (sym x.is)
-    (stored_memory q m.scene.memory (sectors_place (buffer_of 0 w.k m.scene) + 512 * x.place) (slice_range (seen m.scene.past 0 w.k) (512 * x.place) (512 * x.place + 512)) (sector_at q w.task.head) (ring_space h m r q main a) (held_sector h sizes m r q place x.place w a x.next)))
+    (stored_memory q m.scene.memory (sectors_place (buffer_of 0 w.k m.scene) + 512 * x.place) (slice_range (seen m.scene.past 0 w.k) (512 * x.place) (512 * x.place + 512)) (sector_at q (head_in w.task)) (ring_space h m r q main a) (held_sector h sizes m r q place x.place w a x.next)))
 memory_step h sizes m r q place w main a (inr (inr (inl x))) =
     subst (λ (s : TaskStep). LeavesMemory h m q w.k w.task w.links w.request s) (sym x.next) (acts_memory h.size w.k m.scene (effect_at w.request x.place))
 memory_step h sizes m r q place w main a (inr (inr (inr (inl x)))) = subst (λ (s : TaskStep). LeavesMemory h m q w.k w.task w.links w.request s) (sym x.next) refl
@@ -195,7 +195,7 @@ memory_step h sizes m r q place w main a (inr (inr (inr (inr x)))) =
 
 -- a turn of work leaves memory as the step that is due
 pub work_memory : (h : Header1) (sizes : ℕ → ℕ) (m : Moment) (r : SplitRing) (q : QueueState) (place : ℕ) (w : WorkReady h sizes m q place) → IsPlain h → Good h m → IsMainRing r h.size → QueueStands h r m q
-    → (one_turn h 0 (turns.Work place) m).next.scene.memory ≡ memory_after q.ring (making w) (sector_at q w.task.head) m.scene.memory
+    → (one_turn h 0 (turns.Work place) m).next.scene.memory ≡ memory_after q.ring (making w) (sector_at q (head_in w.task)) m.scene.memory
 work_memory h sizes m r q place w plain good main a =
     ap (λ (t : Turned). (after_items h.size t.items m.scene).memory) (work_turned h sizes m q place w)
     ∙ memory_step h sizes m r q place w main a (work_kind h sizes m q place w plain good)

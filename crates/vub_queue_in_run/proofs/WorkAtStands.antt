@@ -27,7 +27,7 @@ use Rattle.vub_queue_in_run.specs.QueueAt.{QueueAt, QueueStands, DiskAt, TaskAt,
 use Rattle.vub_queue.specs.QueueState.{QueueState, HasWorked, Advances, worked, done_at}
 use Rattle.vub_run.specs.Run.{one_turn}
 use Rattle.vub_direct_chain.specs.ChainState.{sector_of}
-use Rattle.vub_task.specs.TaskState.{IsTaskAt, HasMade}
+use Rattle.vub_task.specs.TaskState.{IsTaskAt, HasMade, head_in}
 use Rattle.vub_steps.specs.Tasks.{TaskStep, Look, Put, Act, Sync, Status, task_steps, status_of, used_len}
 use Rattle.vub_run.specs.TaskItems.{task_items, look_items, act_items}
 use Rattle.vub_run.specs.Turns.{Turned, len_of, after_task_step}
@@ -91,7 +91,7 @@ task_same h r past past' heads k j made made' task x same t = record {
 }
 
 -- the task that was worked on
-task_next : (h : Header1) (sizes : ℕ → ℕ) (m : Moment) (r : SplitRing) (q : QueueState) (place : ℕ) (w : WorkReady h sizes m q place) (past' : List Entry) (next : Task) → q.ring ≡ r → Keeps m.scene.past past' w.k → next.head ≡ w.task.head → HasMade q.ring (making w) next
+task_next : (h : Header1) (sizes : ℕ → ℕ) (m : Moment) (r : SplitRing) (q : QueueState) (place : ℕ) (w : WorkReady h sizes m q place) (past' : List Entry) (next : Task) → q.ring ≡ r → Keeps m.scene.past past' w.k → head_in next ≡ head_in w.task → HasMade q.ring (making w) next
     → TaskAt h r past' (m.scene.heads 0) w.k ((m.lanes 0).made w.k + 1) next
 task_next h sizes m r q place w past' next ring x head made = record {
   head = head ∙ w.head;
@@ -106,7 +106,7 @@ task_next h sizes m r q place w past' next ring x head made = record {
 -- ---- a step that isn't the last
 
 goes_on : (h : Header1) (sizes : ℕ → ℕ) (m : Moment) (r : SplitRing) (q : QueueState) (place : ℕ) (w : WorkReady h sizes m q place) (past' : List Entry) (next : Task) (sector : List ℕ) → Good h m → QueueStands h r m q → Keeps m.scene.past past' w.k
-    → next.head ≡ w.task.head → HasMade q.ring (making w) next
+    → head_in next ≡ head_in w.task → HasMade q.ring (making w) next
     → ((p : ℕ) → slice_get (task_steps h w.request) ((m.lanes 0).made w.k + 1) ≡ Some (Put p) → sector ≡ slice_range (seen past' 0 w.k) (512 * p) (512 * p + 512))
     → QueueAt h r past' (m.scene.heads 0) (m.lanes 0).phase (m.lanes 0).batch (m.lanes 0).completed (with_at (m.lanes 0).made w.k ((m.lanes 0).made w.k + 1)) (worked place next sector q)
 goes_on h sizes m r q place w past' next sector good a x head made put = record {
@@ -136,25 +136,25 @@ goes_on h sizes m r q place w past' next sector good a x head made put = record 
             let old : slice_get q.unfinished i ≡ Some t = sym (slice_get-set_other q.unfinished place i next apart) ∙ at_task in
             task_same h r past past' heads w.k j (l.made j) (with_at l.made w.k (l.made w.k + 1) j) t x (at_other l.made w.k (l.made w.k + 1) j differs) (a.tasks i j t at_i old)
       ];
-  buffers = length-set q.sectors next.head sector ∙ a.buffers;
+  buffers = length-set q.sectors (head_in next) sector ∙ a.buffers;
   places = a.places;
   sectors = λ j p request held is at_step.
       let left_j : is_among left j ≡ true = ap (λ (xs : List ℕ). is_among xs j) (sym same) ∙ held in
       let is_old : asked past 0 j ≡ Some request = ap (λ (f : ℕ → Option Asked). f j) (sym x.requests) ∙ is in
       elim (cases_eq j w.k) [
         | inl here ↦
-            let at_head : slice_index heads j ≡ next.head = ap (slice_index heads) here ∙ sym (head ∙ w.head) in
-            let fits : next.head < length q.sectors = let low : w.task.head < q.ring.size = w.due.fits in let size : q.ring.size ≡ r.size = ap (λ (y : SplitRing). y.size) a.ring in omega (arith, low, size, head, a.buffers) in
+            let at_head : slice_index heads j ≡ (head_in next) = ap (slice_index heads) here ∙ sym (head ∙ w.head) in
+            let fits : head_in next < length q.sectors = let low : head_in w.task < q.ring.size = w.due.fits in let size : q.ring.size ≡ r.size = ap (λ (y : SplitRing). y.size) a.ring in omega (arith, low, size, head, a.buffers) in
             let both : Some w.request ≡ Some request = sym w.is ∙ ap (asked past 0) (sym here) ∙ is_old in
             let is_request : w.request ≡ request = cc in
             let now : with_at l.made w.k (l.made w.k + 1) j ≡ l.made w.k + 1 = at_same l.made w.k (l.made w.k + 1) j here in
             let step_then : slice_get (task_steps h w.request) (l.made w.k + 1) ≡ Some (Put p) = ap (λ (o : Asked). slice_get (task_steps h o) (l.made w.k + 1)) is_request ∙ ap (slice_get (task_steps h request)) (sym now) ∙ at_step in
-            ap (λ (d : ℕ). get_or (set q.sectors next.head sector) d []) at_head ∙ get_or-set_same q.sectors next.head sector [] fits ∙ put p step_then
+            ap (λ (d : ℕ). get_or (set q.sectors (head_in next) sector) d []) at_head ∙ get_or-set_same q.sectors (head_in next) sector [] fits ∙ put p step_then
             ∙ ap (λ (n : ℕ). slice_range (seen past' 0 n) (512 * p) (512 * p + 512)) (sym here)
         | inr apart ↦
-            let other : slice_index heads j ≢ next.head = λ e. heads_apart h m j w.k good (left_open past l.completed l.batch j left_j) w.is_open apart (e ∙ head ∙ w.head) in
+            let other : slice_index heads j ≢ (head_in next) = λ e. heads_apart h m j w.k good (left_open past l.completed l.batch j left_j) w.is_open apart (e ∙ head ∙ w.head) in
             let was : slice_get (task_steps h request) (l.made j) ≡ Some (Put p) = ap (slice_get (task_steps h request)) (sym (at_other l.made w.k (l.made w.k + 1) j apart)) ∙ at_step in
-            get_or-set_other q.sectors next.head (slice_index heads j) sector [] other ∙ a.sectors j p request left_j is_old was
+            get_or-set_other q.sectors (head_in next) (slice_index heads j) sector [] other ∙ a.sectors j p request left_j is_old was
             ∙ ap (λ (xs : List ℕ). slice_range xs (512 * p) (512 * p + 512)) (sym (x.sees j apart))
       ];
   taken = λ d low held. let y = a.taken d low held in (y.0, open_same past past' w.k y.0 x y.1, y.2);
@@ -178,7 +178,7 @@ goes_on h sizes m r q place w past' next sector good a x head made put = record 
 -- ---- the last step
 
 finished : (h : Header1) (sizes : ℕ → ℕ) (m : Moment) (r : SplitRing) (q : QueueState) (place : ℕ) (w : WorkReady h sizes m q place) (sector : List ℕ) → Good h m → QueueStands h r m q
-    → QueueAt h r m.scene.past (m.scene.heads 0) (m.lanes 0).phase (m.lanes 0).batch ((m.lanes 0).completed ++ w.k ∷ []) (with_at (m.lanes 0).made w.k ((m.lanes 0).made w.k + 1)) (done_at place w.task.head (used_len (status_of h w.request) w.request) sector q)
+    → QueueAt h r m.scene.past (m.scene.heads 0) (m.lanes 0).phase (m.lanes 0).batch ((m.lanes 0).completed ++ w.k ∷ []) (with_at (m.lanes 0).made w.k ((m.lanes 0).made w.k + 1)) (done_at place (head_in w.task) (used_len (status_of h w.request) w.request) sector q)
 finished h sizes m r q place w sector good a = record {
   ring = a.ring;
   runs = a.runs;
@@ -187,7 +187,7 @@ finished h sizes m r q place w sector good a = record {
   used = a.used;
   phase = a.phase;
   batch = a.batch;
-  completed = ap (λ (xs : List (ℕ × ℕ)). xs ++ (w.task.head, used_len (status_of h w.request) w.request) ∷ []) a.completed
+  completed = ap (λ (xs : List (ℕ × ℕ)). xs ++ (head_in w.task, used_len (status_of h w.request) w.request) ∷ []) a.completed
       ∙ ap (λ (e : ℕ × ℕ). map (spot_of h past heads) l.completed ++ e ∷ []) element
       ∙ sym (map-append (spot_of h past heads) l.completed (w.k ∷ []));
   count = let fewer : length (remove left place) + 1 ≡ length left = length-remove left place inside_left in omega (arith, length-remove q.unfinished place inside, fewer, a.count, ap length less);
@@ -203,7 +203,7 @@ finished h sizes m r q place w sector good a = record {
             let task_old : slice_get q.unfinished (suc i) ≡ Some t = sym (slice_get-remove_above q.unfinished place i above inside) ∙ at_task in
             was (suc i) j t (λ e. omega (arith, above, e)) old task_old
       ];
-  buffers = length-set q.sectors w.task.head sector ∙ a.buffers;
+  buffers = length-set q.sectors (head_in w.task) sector ∙ a.buffers;
   places = a.places;
   sectors = λ j p request held is at_step.
       let kept = among_filter (λ n. not (is_among ((l.completed ++ w.k ∷ []) ++ l.batch) n)) (open_numbers past 0) j held in
@@ -211,9 +211,9 @@ finished h sizes m r q place w sector good a = record {
       let parts = not_more l.completed l.batch w.k j out in
       let passes : not (is_among (l.completed ++ l.batch) j) ≡ true = ap not parts.1 in
       let left_j : is_among left j ≡ true = among_kept (λ n. not (is_among (l.completed ++ l.batch) n)) (open_numbers past 0) j kept.0 passes in
-      let other : slice_index heads j ≢ w.task.head = λ e. heads_apart h m j w.k good (left_open past l.completed l.batch j left_j) w.is_open parts.0 (e ∙ w.head) in
+      let other : slice_index heads j ≢ (head_in w.task) = λ e. heads_apart h m j w.k good (left_open past l.completed l.batch j left_j) w.is_open parts.0 (e ∙ w.head) in
       let was_step : slice_get (task_steps h request) (l.made j) ≡ Some (Put p) = ap (slice_get (task_steps h request)) (sym (at_other l.made w.k (l.made w.k + 1) j parts.0)) ∙ at_step in
-      get_or-set_other q.sectors w.task.head (slice_index heads j) sector [] other ∙ a.sectors j p request left_j is was_step;
+      get_or-set_other q.sectors (head_in w.task) (slice_index heads j) sector [] other ∙ a.sectors j p request left_j is was_step;
   taken = a.taken;
 }
   where
@@ -238,7 +238,7 @@ finished h sizes m r q place w sector good a = record {
     inside_left : place < length left
     inside_left = slice_get_within left place w.k w.at
 
-    element : (w.task.head, used_len (status_of h w.request) w.request) ≡ spot_of h past heads w.k
+    element : (head_in w.task, used_len (status_of h w.request) w.request) ≡ spot_of h past heads w.k
     element = ap (λ (d : ℕ). (d, used_len (status_of h w.request) w.request)) w.head ∙ ap (λ (o : Option Asked). (slice_index heads w.k, len_of h o)) (sym w.is)
 
     nothing_new : Keeps past past w.k
@@ -375,7 +375,7 @@ last_stands : (h : Header1) (sizes : ℕ → ℕ) (m : Moment) (r : SplitRing) (
     → HasWorked (Some v) place w.task (making w) q q' → StandsAfter h r m w.k q' w.request w.step
 last_stands h sizes m r q q' place v w last good a made =
     let goes : Advances place w.task (making w) made.sector Status q q' = subst (λ (y : TaskStep). Advances place w.task (making w) made.sector y q q') last made.state in
-    let stands : StandsAfter h r m w.k (done_at place w.task.head (used_len (status_of h w.request) w.request) made.sector q) w.request Status = finished h sizes m r q place w made.sector good a in
+    let stands : StandsAfter h r m w.k (done_at place (head_in w.task) (used_len (status_of h w.request) w.request) made.sector q) w.request Status = finished h sizes m r q place w made.sector good a in
     subst (λ (y : TaskStep). StandsAfter h r m w.k q' w.request y) (sym last) (subst (λ (t : QueueState). StandsAfter h r m w.k t w.request Status) (sym goes) stands)
 
 step_stands : (h : Header1) (sizes : ℕ → ℕ) (m : Moment) (r : SplitRing) (q q' : QueueState) (place : ℕ) (v : Values) (w : WorkReady h sizes m q place) → IsPlain h → Good h m → QueueStands h r m q → DiskAt h.capacity m.scene.past v

@@ -13,7 +13,7 @@ use Rattle.vub_run.specs.Moments.{Moment}
 use Rattle.vub_run.specs.Turns.{len_of}
 use Rattle.vub_queue.specs.QueueParts.{is_taken}
 use Rattle.vub_queue.specs.QueueState.{QueueState}
-use Rattle.vub_task.specs.TaskState.{IsTaskAt}
+use Rattle.vub_task.specs.TaskState.{IsTaskAt, head_in}
 use Rattle.vub_split.specs.declared.split.SplitRing.{SplitRing}
 use Rattle.vub_task.specs.declared.task.Task.{Task}
 
@@ -27,7 +27,7 @@ left_of past completed batch = filter (λ k. not (is_among (completed ++ batch) 
 
 -- the task of the k-th request, of which so many steps were made
 pub record TaskAt (h : Header1) (r : SplitRing) (past : List Entry) (heads : List ℕ) (k made : ℕ) (task : Task) : Type 0 where
-  pub head : task.head ≡ slice_index heads k
+  pub head : head_in task ≡ slice_index heads k
   pub stands : (request : Asked) → asked past 0 k ≡ Some request → IsTaskAt h r (buffer_place (area_place 0) (slice_index heads k)) request made task
 
 pub record QueueAt (h : Header1) (r : SplitRing) (past : List Entry) (heads : List ℕ) (at_phase : Phase) (in_batch ready : List ℕ) (made : ℕ → ℕ) (q : QueueState) : Type 0 where

@@ -7,6 +7,7 @@ ghost use Rattle.vub_report.specs.Histories.{entries_of};
 
 use crate::items::{Item, Record};
 use std::alloc::Global;
+use vub_base::standard::SECTOR_SIZE;
 use vub_base::{Area, Bytes, Header1, Memory, Tag};
 use vub_device::{Answered, Asked, Entry, SectorValue};
 use vub_schedule::writing::{
@@ -143,11 +144,11 @@ fn put_place(alloc: Global, out: &mut Vec<u8>, place: u64) -> Result<(), Memory>
 fn put_written(out: &mut Vec<u8>, bytes: &[u8]) -> Result<(), Memory>
     ensures { OnOk result (out.new.items ≡ out.old.items ++ written_text (length bytes.now / 512) bytes.now) }
 {
-    for place in 0..bytes.len() / 512 {
+    for place in 0..bytes.len() / SECTOR_SIZE {
         if place > 0 {
             put_text(out, b",")?;
         }
-        put_bytes(out, &bytes[512 * place..512 * place + 512])?;
+        put_bytes(out, &bytes[SECTOR_SIZE * place..SECTOR_SIZE * place + SECTOR_SIZE])?;
     }
     Ok(())
 }
@@ -287,7 +288,7 @@ fn put_at_queue(out: &mut Vec<u8>, word: &[u8], queue: u16) -> Result<(), Memory
 }
 
 /// The number of a request and a sector with its value.
-fn put_value(out: &mut Vec<u8>, number: u64, sector: u64, value: &[u8; 512]) -> Result<(), Memory>
+fn put_value(out: &mut Vec<u8>, number: u64, sector: u64, value: &[u8; SECTOR_SIZE]) -> Result<(), Memory>
     ensures { OnOk result (out.new.items ≡ out.old.items ++ (decimal number ++ 32 ∷ (decimal sector ++ 32 ∷ bytes_text value.now))) }
 {
     put_number(out, number)?;

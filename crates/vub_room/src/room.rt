@@ -5,6 +5,7 @@ use vub_report::{Item, Items};
 use crate::spare::Spare;
 use std::alloc::Global;
 use std::marker::Model;
+use vub_base::standard::SECTOR_SIZE;
 use vub_base::{Bytes, Memory};
 use vub_device::Answered;
 
@@ -165,7 +166,7 @@ impl Room {
     {
         let mut list = self.list();
         for fill in fills {
-            append(&mut list, &[*fill; 512]);
+            append(&mut list, &[*fill; SECTOR_SIZE]);
         }
         Bytes::new(list)
     }

@@ -1,9 +1,8 @@
 -- What it means that records are a run of a schedule.
-use Rattle.std.specs.Prelude.{◌≡◌, ◌⊎◌, ℕ, zero, suc, ◌+◌, ◌-◌, Bool, true, false, not, ◌&&◌, if◌then◌else◌, List, [], ◌∷◌, ◌++◌, replicate, flat_map, slice_index, Option, Some, None, is_some, ⊤}
+use Rattle.std.specs.Prelude.{◌≡◌, ◌⊎◌, ℕ, zero, suc, ◌+◌, ◌-◌, Bool, true, false, not, ◌&&◌, if◌then◌else◌, List, [], ◌∷◌, ◌++◌, slice_index, Option, Some, None, is_some, ⊤}
 use Rattle.vub_base.specs.declared.header.Header1.{Header1}
 use Rattle.vub_base.specs.declared.request.Shape.{Shape}
 use Rattle.vub_base.specs.declared.request.Ask.{Ask}
-use Rattle.vub_base.specs.declared.request.Ask.TheVariants as asks
 use Rattle.vub_base.specs.declared.store.Tag.TheVariants.{G}
 use Rattle.vub_base.specs.declared.store.Area.TheVariants.{M}
 use Rattle.vub_shared.specs.Stores.{Store}
@@ -13,8 +12,6 @@ use Rattle.vub_steps.specs.declared.readiness.Turn.TheVariants.{Start, Fetch, Wo
 use Rattle.vub_steps.specs.Readiness.{is_ready, any_turn, drain_turn}
 use Rattle.vub_driver.specs.Layout.{ring_of}
 use Rattle.vub_driver.specs.Drivers.{Driver, Waiting, can_take, after_ask, after_stores, after_collect}
-use Rattle.vub_device.specs.declared.entry.Asked.{Asked}
-use Rattle.vub_device.specs.declared.entry.Asked.TheVariants as requests
 use Rattle.vub_device.specs.declared.entry.Entry.TheVariants as entries
 use Rattle.vub_device.specs.Past.{accepted, published, collected}
 use Rattle.std.specs.List.{AllByRecursion}
@@ -25,6 +22,7 @@ use Rattle.vub_schedule.specs.declared.types.Schedule.{Schedule}
 use Rattle.vub_report.specs.declared.items.Item.{Item}
 use Rattle.vub_report.specs.declared.items.Item.TheVariants as items
 use Rattle.vub_report.specs.declared.items.Record.{Record}
+use Rattle.vub_device.specs.Requests.{request_of}
 use Rattle.vub_run.specs.Memory.{with_at, after_items}
 use Rattle.vub_run.specs.Moments.{Lane, Moment, opening, fresh, standing}
 use Rattle.vub_run.specs.Turns.{turned}
@@ -49,15 +47,6 @@ abbrev pub comes_about : Header1 → ℕ → List Item → Lane → Moment → P
 comes_about h q is l m = played is (with_lane q l (record m { scene = after_items h.size is m.scene }))
 
 -- ---- the driver
-
--- the request as the history has it: each written sector filled with its byte
-abbrev pub request_of : Ask → Asked
-request_of (asks.Read s n) = requests.Read s n
-request_of (asks.Write s fills) = requests.Write s (flat_map (λ b. replicate 512 b) fills.items)
-request_of asks.Flush = requests.Flush
-request_of asks.Id = requests.Id
-request_of (asks.Discard parts) = requests.Discard parts
-request_of (asks.Zero parts) = requests.Zero parts
 
 abbrev pub with_driver : Driver → Lane → Lane
 with_driver v l = record l { driver = v }

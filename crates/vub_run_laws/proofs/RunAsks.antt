@@ -19,7 +19,8 @@ use Rattle.vub_device.specs.declared.entry.Entry.{Entry}
 use Rattle.vub_schedule.specs.Spelling.{IsAsk}
 use Rattle.vub_run.specs.Memory.{Scene}
 use Rattle.vub_run.specs.Moments.{Lane}
-use Rattle.vub_run.specs.Run.{request_of, with_driver}
+use Rattle.vub_run.specs.Run.{with_driver}
+use Rattle.vub_device.specs.Requests.{request_of}
 use Rattle.vub_run_laws.proofs.RunGood.{the_ring, IsWide, IsHarmless, IsPlan, Driven, Holds}
 use Rattle.vub_run_laws.proofs.RunFrames.{length_little}
 use Rattle.vub_run_laws.proofs.RunGuests.{IsGood}

@@ -20,7 +20,8 @@ use Rattle.vub_device.specs.declared.entry.Entry.TheVariants as entries
 use Rattle.vub_device.specs.Past.{asked}
 use Rattle.vub_report.specs.declared.items.Item.TheVariants as items
 use Rattle.vub_run.specs.Memory.{Scene, with_at, after_item, after_items}
-use Rattle.vub_run.specs.Run.{request_of, guest_items}
+use Rattle.vub_run.specs.Run.{guest_items}
+use Rattle.vub_device.specs.Requests.{request_of}
 use Rattle.vub_run_laws.proofs.RunGood.{the_ring, IsSize, IsWide, IsOut, IsWaiting, Known, Driven}
 use Rattle.vub_run_laws.proofs.RunFrames.{keeps, length_little}
 use Rattle.vub_run_laws.proofs.RunGuests.{IsGood}

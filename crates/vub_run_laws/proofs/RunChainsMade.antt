@@ -16,7 +16,7 @@ use Rattle.vub_driver.specs.Layout.{status_place, sectors_place}
 use Rattle.vub_driver.specs.Requests.{Piece, readable_piece, writable_piece, written_bytes, has_data}
 use Rattle.vub_driver.specs.Stores.{store_of_some, request_stores}
 use Rattle.vub_direct_chain.specs.ChainState.{data_of}
-use Rattle.vub_run.specs.Run.{request_of}
+use Rattle.vub_device.specs.Requests.{request_of}
 use Rattle.vub_run_laws.proofs.RunGood.{the_ring, IsSize, IsWide}
 use Rattle.vub_run_laws.proofs.RunFrames.{length_little, entry_small}
 use Rattle.vub_run_laws.proofs.RunChains.{table_place, buffer_at, chain_of, IsOff, desc_long}

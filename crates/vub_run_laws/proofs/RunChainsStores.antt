@@ -16,7 +16,7 @@ use Rattle.vub_driver.specs.Stores.{store_of_some, offer_stores, request_stores}
 use Rattle.vub_device.specs.declared.entry.Asked.{Asked}
 use Rattle.vub_device.specs.declared.entry.Asked.TheVariants as asks
 use Rattle.vub_direct_chain.specs.declared.chain.Desc.{Desc}
-use Rattle.vub_run.specs.Run.{request_of}
+use Rattle.vub_device.specs.Requests.{request_of}
 use Rattle.vub_direct_chain.specs.ChainState.{handed_bytes, data_start, data_len, data_of, desc_of}
 use Rattle.vub_run_laws.proofs.RunGood.{the_ring, IsSize, IsWide}
 use Rattle.vub_run_laws.proofs.RunFrames.{keeps, length_little, entry_small}

@@ -1,6 +1,6 @@
 -- After a drain of an attached queue nothing is open, and every offer is accepted.
 use Rattle.std.proofs.Common.{◌≡◌, ◌≤◌, ◌<◌, ℕ, zero, suc, ◌-◌, Bool, true, false, not, cond, List, [], ◌++◌, length, refl, ap, sym, ◌∙◌, subst, inl, inr, arith}
-use Rattle.std.specs.Prelude.{Option, Some, None, slice_get}
+use Rattle.std.specs.Prelude.{Option, Some, None, slice_get, nat_lt, if◌then◌else◌}
 use Rattle.std.proofs.lemmas.Bool.Decides.{nat_tests}
 use Rattle.std.proofs.lemmas.Bool.{cases_Bool, cases_lt}
 use Rattle.std.proofs.lemmas.List.{nil_from_length}
@@ -10,7 +10,8 @@ use Rattle.vub_steps.specs.declared.steps.Phase.TheVariants as phases
 use Rattle.vub_steps.specs.declared.readiness.Standing.{Standing}
 use Rattle.vub_steps.specs.declared.readiness.Turn.{Turn}
 use Rattle.vub_steps.specs.declared.readiness.Turn.TheVariants as turns
-use Rattle.vub_steps.specs.Readiness.{is_ready, is_fetch, is_publication, work_or_publish, drain_turn}
+use Rattle.vub_steps.specs.Readiness.{is_ready, is_fetch, is_publication, any_turn, draining_turn, drain_turn}
+use Rattle.vub_steps.proofs.ReadinessLemmas.{NoneReady, NoneLeft, any_unready, draining_unready}
 use Rattle.vub_steps.specs.Steps.{next_step}
 use Rattle.vub_device.specs.declared.entry.Asked.{Asked}
 use Rattle.vub_device.specs.Past.{offers, asked, accepted, collected, is_among, open_numbers, started}
@@ -91,22 +92,17 @@ turns_stay (suc count) choose h m plain good = go (is_due h 0 (choose m) m) refl
 -- ---- where no turn is due
 
 -- nothing is left to work on or to publish
-none_left : (h : Header1) (n : Moment) → IsPlain h → Good h n → started n.scene.past 0 ≡ true → (n.lanes 0).phase ≡ phases.Rest → (n.lanes 0).batch ≡ [] → is_ready (standing h 0 n) (work_or_publish h.size (standing h 0 n)) ≡ false
-    → open_numbers n.scene.past 0 ≡ []
-none_left h n plain good run rest batch stops =
+none_left : (h : Header1) (n : Moment) → IsPlain h → Good h n → started n.scene.past 0 ≡ true → (n.lanes 0).phase ≡ phases.Rest → (n.lanes 0).batch ≡ []
+    → is_ready (standing h 0 n) (turns.Work 0) ≡ false → is_ready (standing h 0 n) (turns.Publish h.size) ≡ false → open_numbers n.scene.past 0 ≡ []
+none_left h n plain good run rest batch works unready =
     let l : Lane = n.lanes 0 in
     let st : Standing = standing h 0 n in
     let fetches : is_fetch l.phase ≡ false = ap is_fetch rest in
     let some : 0 < h.size = plain.good.size.some in
     let idle : length (unfinished 0 n) ≡ 0 = elim (cases_lt 0 (length (unfinished 0 n))) [
-      | inl more ↦
-          let works : work_or_publish h.size st ≡ turns.Work 0 = grind (arith, nat_tests) in
-          let ready : is_ready st (turns.Work 0) ≡ false = ap (is_ready st) (sym works) ∙ stops in
-          absurd (grind (arith, nat_tests))
+      | inl more ↦ absurd (grind (arith, nat_tests))
       | inr none ↦ omega arith
     ] in
-    let publishes : work_or_publish h.size st ≡ turns.Publish h.size = grind (arith, nat_tests) in
-    let unready : is_ready st (turns.Publish h.size) ≡ false = ap (is_ready st) (sym publishes) ∙ stops in
     let no_more : length l.completed ≡ 0 = elim (cases_lt 0 (length l.completed)) [
       | inl more ↦ absurd (grind (arith, nat_tests))
       | inr none ↦ omega arith
@@ -115,6 +111,18 @@ none_left h n plain good run rest batch stops =
     let all_open : (k : ℕ) → is_among (open_numbers n.scene.past 0) k ≡ true → not (is_among (l.completed ++ l.batch) k) ≡ true = λ k held.
     ap (λ (xs : List ℕ). not (is_among (xs ++ l.batch) k)) completed ∙ ap (λ (xs : List ℕ). not (is_among xs k)) batch in
     nil_from_length (open_numbers n.scene.past 0) (filter_none (λ k. not (is_among (l.completed ++ l.batch) k)) (open_numbers n.scene.past 0) all_open idle)
+
+-- a queue on which neither work nor a publication is ready is at rest, if it is started
+at_rest : (h : Header1) (n : Moment) → Good h n → started n.scene.past 0 ≡ true → is_ready (standing h 0 n) (turns.Publish h.size) ≡ false → ((n.lanes 0).phase ≡ phases.Rest) × ((n.lanes 0).batch ≡ [])
+at_rest h n good run unready =
+    let l : Lane = n.lanes 0 in
+    elim (phase_cases l.batch l.phase good.holds.worked.phase_is) [
+      | inr shows ↦
+          let publishes : is_publication l.phase ≡ true = ap is_publication shows.1 in
+          let fetches : is_fetch l.phase ≡ false = ap is_fetch shows.1 in
+          absurd (grind (arith, nat_tests))
+      | inl rest ↦ rest
+    ]
 
 -- a drain that began with so many accepted has nothing to do
 ends_drained : (h : Header1) (before : ℕ) (n : Moment) → IsPlain h → Good h n → (n.lanes 0).attached ≡ true → collected n.scene.past 0 ≤ before → is_due h 0 (drain_choice h 0 before n) n ≡ false
@@ -126,47 +134,26 @@ ends_drained h before n plain good attached low ends =
     let some : 0 < h.size = plain.good.size.some in
     let known : Known h.size h.capacity n.scene.past (n.scene.heads 0) = good.holds.known in
     let unready : is_ready st (drain_turn h.size a st) ≡ false = grind (arith, nat_tests) in
-    elim (phase_cases l.batch l.phase good.holds.worked.phase_is) [
-      | inr shows ↦
-          let publishes : is_publication l.phase ≡ true = ap is_publication shows.1 in
-          let fetches : is_fetch l.phase ≡ false = ap is_fetch shows.1 in
-          elim (cases_Bool (started n.scene.past 0)) [
-            | inl run ↦
-                let turn : drain_turn h.size a st ≡ turns.Publish h.size = grind (arith, nat_tests) in
-                let stops : is_ready st (turns.Publish h.size) ≡ false = ap (is_ready st) (sym turn) ∙ unready in
-                absurd (grind (arith, nat_tests))
-            | inr stopped ↦ absurd (let fails : phases.Rest ≡ phases.Publish shows.0 = sym (good.holds.worked.quiet stopped).0 ∙ shows.1 in cc)
-          ]
-      | inl rest ↦
+    elim (cases_lt a h.size) [
+      | inl few ↦
+          let fetches : nat_lt a h.size ≡ true = grind (arith, nat_tests) in
+          let none : NoneReady h.size st = any_unready h.size st (subst (λ (b : Bool). is_ready st (if b then any_turn h.size st else draining_turn h.size st) ≡ false) fetches unready) in
+          let run : started n.scene.past 0 ≡ true = grind (arith, nat_tests, none.start) in
+          let rest = at_rest h n good run none.publish in
           let publishes : is_publication l.phase ≡ false = ap is_publication rest.0 in
-          let fetches : is_fetch l.phase ≡ false = ap is_fetch rest.0 in
+          let nothing_waits : st.waiting ≡ 0 = elim (cases_lt 0 st.waiting) [
+            | inl more ↦ absurd (grind (arith, nat_tests, none.fetch))
+            | inr zero_waits ↦ omega arith
+          ] in
+          (none_left h n plain good run rest.0 rest.1 none.work none.publish, omega (arith, nothing_waits, some_waits h n.scene l plain.good good.holds, known.offers_are))
+      | inr many ↦
+          let fetches : nat_lt a h.size ≡ false = grind (arith, nat_tests) in
+          let none : NoneLeft h.size st = draining_unready h.size st (subst (λ (b : Bool). is_ready st (if b then any_turn h.size st else draining_turn h.size st) ≡ false) fetches unready) in
           elim (cases_Bool (started n.scene.past 0)) [
-            | inr stopped ↦
-                let none : accepted n.scene.past 0 ≡ 0 = good.idle stopped in
-                let few : a < h.size = omega arith in
-                let turn : drain_turn h.size a st ≡ turns.Start = grind (arith, nat_tests) in
-                let stops : is_ready st turns.Start ≡ false = ap (is_ready st) (sym turn) ∙ unready in
-                absurd (grind (arith, nat_tests))
-            | inl run ↦ elim (cases_lt a h.size) [
-              | inl few ↦ elim (cases_Bool (is_ready st turns.Fetch)) [
-                | inl fetch ↦
-                    let turn : drain_turn h.size a st ≡ turns.Fetch = grind (arith, nat_tests) in
-                    let stops : is_ready st turns.Fetch ≡ false = ap (is_ready st) (sym turn) ∙ unready in
-                    absurd (let fails : true ≡ false = sym fetch ∙ stops in cc)
-                | inr none ↦
-                    let nothing_waits : st.waiting ≡ 0 = elim (cases_lt 0 st.waiting) [
-                      | inl more ↦ absurd (grind (arith, nat_tests))
-                      | inr zero_waits ↦ omega arith
-                    ] in
-                    let turn : drain_turn h.size a st ≡ work_or_publish h.size st = grind (arith, nat_tests) in
-                    let stops : is_ready st (work_or_publish h.size st) ≡ false = ap (is_ready st) (sym turn) ∙ unready in
-                    (none_left h n plain good run rest.0 rest.1 stops, omega (arith, nothing_waits, some_waits h n.scene l plain.good good.holds, known.offers_are))
-              ]
-              | inr many ↦
-                  let turn : drain_turn h.size a st ≡ work_or_publish h.size st = grind (arith, nat_tests) in
-                  let stops : is_ready st (work_or_publish h.size st) ≡ false = ap (is_ready st) (sym turn) ∙ unready in
-                  (none_left h n plain good run rest.0 rest.1 stops, omega (arith, known.offers_are, known.offered, known.room))
-            ]
+            | inr stopped ↦ absurd (let none : accepted n.scene.past 0 ≡ 0 = good.idle stopped in omega arith)
+            | inl run ↦
+                let rest = at_rest h n good run none.publish in
+                (none_left h n plain good run rest.0 rest.1 none.work none.publish, omega (arith, known.offers_are, known.offered, known.room))
           ]
     ]
 

@@ -30,7 +30,8 @@ use Rattle.vub_report.specs.declared.items.Item.{Item}
 use Rattle.vub_report.specs.declared.items.Item.TheVariants as items
 use Rattle.vub_run.specs.Memory.{Scene, after_items}
 use Rattle.vub_run.specs.Moments.{Lane, Moment, fresh, standing}
-use Rattle.vub_run.specs.Run.{Played, played, if_ready, with_lane, comes_about, with_driver, ask, guest, guest_items, guest_stores, take_first, collect, boot, join, one_turn, is_due, then_played, turns, single, up_to, any_choice, drain_choice, Drains, Plays, request_of}
+use Rattle.vub_run.specs.Run.{Played, played, if_ready, with_lane, comes_about, with_driver, ask, guest, guest_items, guest_stores, take_first, collect, boot, join, one_turn, is_due, then_played, turns, single, up_to, any_choice, drain_choice, Drains, Plays}
+use Rattle.vub_device.specs.Requests.{request_of}
 use Rattle.vub_run.specs.Tracking.{EveryTracks, AfterEach}
 use Rattle.vub_report.specs.Histories.{entries_of}
 use Rattle.vub_run.specs.Turns.{turned}

@@ -22,7 +22,7 @@ use Rattle.vub_device.specs.Past.{offers, asked, accepted, published, collected,
 use Rattle.vub_device.specs.Places.{are_distinct}
 use Rattle.vub_run.specs.Memory.{Scene}
 use Rattle.vub_run.specs.Moments.{Lane, Moment}
-use Rattle.vub_run.specs.Run.{request_of}
+use Rattle.vub_device.specs.Requests.{request_of}
 use Rattle.vub_run.specs.Tracking.{answers, answered_len}
 
 abbrev pub the_ring : ℕ → Ring

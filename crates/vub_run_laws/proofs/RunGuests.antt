@@ -21,7 +21,8 @@ use Rattle.vub_report.specs.declared.items.Item.{Item}
 use Rattle.vub_report.specs.declared.items.Item.TheVariants as items
 use Rattle.vub_run.specs.Memory.{Scene, with_at, after_item, after_items}
 use Rattle.vub_run.specs.Moments.{Lane}
-use Rattle.vub_run.specs.Run.{request_of, guest_items, with_driver}
+use Rattle.vub_run.specs.Run.{guest_items, with_driver}
+use Rattle.vub_device.specs.Requests.{request_of}
 use Rattle.vub_run.specs.Tracking.{EveryTracks, AfterEach}
 use Rattle.vub_report.specs.Histories.{entries_of}
 use Rattle.vub_run_laws.proofs.RunGood.{the_ring, IsSize, index_store, IsHarmless, IsLeft, IsWaiting, WaitsWell, Holds}

@@ -1,4 +1,5 @@
 pub mod BytesLemmas
+pub mod FrameLemmas
 pub mod ImageLemmas
 pub mod MeaningLemmas
 pub mod SpaceLemmas

@@ -1,4 +1,5 @@
 pub mod Bytes
+pub mod Frames
 pub mod Held
 pub mod MemLaws
 pub mod MemSpaces

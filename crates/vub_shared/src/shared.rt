@@ -4,7 +4,8 @@ ghost use Rattle.byteorder.specs.Endian.{little_bytes};
 ghost use Rattle.vub_base.specs.Causes.{HasCause};
 ghost use Rattle.vub_base.specs.Told.{WhereTold};
 ghost use Rattle.vub_shared.specs.Bytes.{Bytes, bytes_from, cleared};
-ghost use Rattle.vub_shared.specs.Stores.{Store, Stores, Trails, one_store};
+ghost use Rattle.vub_shared.specs.Stores.{Store, one_store};
+ghost use Rattle.vub_shared.specs.Frames.{OnlyLoads, MakesStore};
 ghost use Rattle.vub_shared.specs.Spaces.{Names, with_name, KeepsHanded, HandsNew, HasReason};
 ghost use Rattle.vub_shared.specs.declared.fault.SharedFault.TheVariants.{NoSuch};
 
@@ -63,64 +64,40 @@ pub trait Shared {
     fn load(&mut self, space: Space, place: u64, into: &mut [u8]) -> Result<(), Failed>
         requires { place + length into.old ≤ sizes self.old space.number }
         ensures loaded { OnOk result (WhereTold (told self.old) (λ m. into.new ≡ bytes_from (length into.old) m space.number place)) }
-        ensures told { told self.new ≡ told self.old }
-        ensures trail { trail self.new ≡ trail self.old }
-        ensures names { names self.new ≡ names self.old }
-        ensures handed { (s : ℕ) → handed self.new s ≡ handed self.old s }
-        ensures sizes { (s : ℕ) → sizes self.new s ≡ sizes self.old s }
+        ensures only_loads { OnlyLoads told trail names handed sizes self.old self.new }
         ensures cause { HasCause (faults self.old) (faults self.new) result };
 
     /// Stores one byte.
     fn store1(&mut self, space: Space, place: u64, value: u8) -> Result<(), Failed>
         requires { place + 1 ≤ sizes self.old space.number }
-        ensures stores { Stores (told self.old) (told self.new) result (one_store space.number place (little_bytes 1 value)) }
-        ensures trails { Trails (trail self.old) (trail self.new) result (one_store space.number place (little_bytes 1 value)) }
-        ensures names { names self.new ≡ names self.old }
-        ensures handed { (s : ℕ) → handed self.new s ≡ handed self.old s }
-        ensures sizes { (s : ℕ) → sizes self.new s ≡ sizes self.old s }
+        ensures makes_store { MakesStore told trail names handed sizes self.old self.new result (one_store space.number place (little_bytes 1 value)) }
         ensures cause { HasCause (faults self.old) (faults self.new) result };
 
     /// Stores a number in 2 bytes, the lowest first, at a place that is a multiple of 2.
     fn store2(&mut self, space: Space, place: u64, value: u16) -> Result<(), Failed>
         requires room { place + 2 ≤ sizes self.old space.number }
         requires aligned { place % 2 ≡ 0 }
-        ensures stores { Stores (told self.old) (told self.new) result (one_store space.number place (little_bytes 2 value)) }
-        ensures trails { Trails (trail self.old) (trail self.new) result (one_store space.number place (little_bytes 2 value)) }
-        ensures names { names self.new ≡ names self.old }
-        ensures handed { (s : ℕ) → handed self.new s ≡ handed self.old s }
-        ensures sizes { (s : ℕ) → sizes self.new s ≡ sizes self.old s }
+        ensures makes_store { MakesStore told trail names handed sizes self.old self.new result (one_store space.number place (little_bytes 2 value)) }
         ensures cause { HasCause (faults self.old) (faults self.new) result };
 
     /// Stores a number in 4 bytes, the lowest first, at a place that is a multiple of 4.
     fn store4(&mut self, space: Space, place: u64, value: u32) -> Result<(), Failed>
         requires room { place + 4 ≤ sizes self.old space.number }
         requires aligned { place % 4 ≡ 0 }
-        ensures stores { Stores (told self.old) (told self.new) result (one_store space.number place (little_bytes 4 value)) }
-        ensures trails { Trails (trail self.old) (trail self.new) result (one_store space.number place (little_bytes 4 value)) }
-        ensures names { names self.new ≡ names self.old }
-        ensures handed { (s : ℕ) → handed self.new s ≡ handed self.old s }
-        ensures sizes { (s : ℕ) → sizes self.new s ≡ sizes self.old s }
+        ensures makes_store { MakesStore told trail names handed sizes self.old self.new result (one_store space.number place (little_bytes 4 value)) }
         ensures cause { HasCause (faults self.old) (faults self.new) result };
 
     /// Stores a number in 8 bytes, the lowest first, at a place that is a multiple of 8.
     fn store8(&mut self, space: Space, place: u64, value: u64) -> Result<(), Failed>
         requires room { place + 8 ≤ sizes self.old space.number }
         requires aligned { place % 8 ≡ 0 }
-        ensures stores { Stores (told self.old) (told self.new) result (one_store space.number place (little_bytes 8 value)) }
-        ensures trails { Trails (trail self.old) (trail self.new) result (one_store space.number place (little_bytes 8 value)) }
-        ensures names { names self.new ≡ names self.old }
-        ensures handed { (s : ℕ) → handed self.new s ≡ handed self.old s }
-        ensures sizes { (s : ℕ) → sizes self.new s ≡ sizes self.old s }
+        ensures makes_store { MakesStore told trail names handed sizes self.old self.new result (one_store space.number place (little_bytes 8 value)) }
         ensures cause { HasCause (faults self.old) (faults self.new) result };
 
     /// Stores a run of bytes.
     fn store_run(&mut self, space: Space, place: u64, bytes: &[u8]) -> Result<(), Failed>
         requires { place + length bytes.now ≤ sizes self.old space.number }
-        ensures stores { Stores (told self.old) (told self.new) result (one_store space.number place bytes.now) }
-        ensures trails { Trails (trail self.old) (trail self.new) result (one_store space.number place bytes.now) }
-        ensures names { names self.new ≡ names self.old }
-        ensures handed { (s : ℕ) → handed self.new s ≡ handed self.old s }
-        ensures sizes { (s : ℕ) → sizes self.new s ≡ sizes self.old s }
+        ensures makes_store { MakesStore told trail names handed sizes self.old self.new result (one_store space.number place bytes.now) }
         ensures cause { HasCause (faults self.old) (faults self.new) result };
 
     /// What is told are bytes.

@@ -93,7 +93,8 @@ impl<M: Shared> Shared for TrailShared<M> {
     ghost use Rattle.vub_shared.specs.Bytes.{bytes_from, cleared};
     ghost use Rattle.vub_shared.specs.Spaces.{with_name, KeepsHanded, HandsNew, HasReason};
     ghost use Rattle.vub_shared.specs.declared.fault.SharedFault.TheVariants.{NoSuch};
-    ghost use Rattle.vub_shared.specs.Stores.{Stores, Trails, one_store};
+    ghost use Rattle.vub_shared.specs.Frames.{OnlyLoads, MakesStore};
+    ghost use Rattle.vub_shared.specs.Stores.{one_store};
     ghost use Rattle.vub_shared.specs.TrailForms.{inner_of, trail_of, stores_of, faults_with, IsKeptIn};
 
     ghost told = { λ t. M.told (inner_of t) };
@@ -147,11 +148,8 @@ impl<M: Shared> Shared for TrailShared<M> {
     fn load(&mut self, space: Space, place: u64, into: &mut [u8]) -> Result<(), Failed>
         requires { place + length into.old ≤ M.sizes (inner_of self.old) space.number }
         ensures loaded { OnOk result (WhereTold (M.told (inner_of self.old)) (λ m. into.new ≡ bytes_from (length into.old) m space.number place)) }
-        ensures told { M.told (inner_of self.new) ≡ M.told (inner_of self.old) }
+        ensures inner { OnlyLoads M.told M.trail M.names M.handed M.sizes (inner_of self.old) (inner_of self.new) }
         ensures trail { trail_of self.new ≡ trail_of self.old }
-        ensures names { M.names (inner_of self.new) ≡ M.names (inner_of self.old) }
-        ensures handed { (s : ℕ) → M.handed (inner_of self.new) s ≡ M.handed (inner_of self.old) s }
-        ensures sizes { (s : ℕ) → M.sizes (inner_of self.new) s ≡ M.sizes (inner_of self.old) s }
         ensures cause { HasCause (faults_with M.faults self.old) (faults_with M.faults self.new) result }
     {
         self.inner.load(space, place, into)
@@ -159,11 +157,8 @@ impl<M: Shared> Shared for TrailShared<M> {
 
     fn store1(&mut self, space: Space, place: u64, value: u8) -> Result<(), Failed>
         requires { place + 1 ≤ M.sizes (inner_of self.old) space.number }
-        ensures stores { Stores (M.told (inner_of self.old)) (M.told (inner_of self.new)) result (one_store space.number place (little_bytes 1 value)) }
+        ensures inner { MakesStore M.told M.trail M.names M.handed M.sizes (inner_of self.old) (inner_of self.new) result (one_store space.number place (little_bytes 1 value)) }
         ensures kept { IsKeptIn M.faults self.old self.new result (one_store space.number place (little_bytes 1 value)) }
-        ensures names { M.names (inner_of self.new) ≡ M.names (inner_of self.old) }
-        ensures handed { (s : ℕ) → M.handed (inner_of self.new) s ≡ M.handed (inner_of self.old) s }
-        ensures sizes { (s : ℕ) → M.sizes (inner_of self.new) s ≡ M.sizes (inner_of self.old) s }
         ensures cause { HasCause (faults_with M.faults self.old) (faults_with M.faults self.new) result }
     {
         if !self.trail.has_room(1) {
@@ -178,11 +173,8 @@ impl<M: Shared> Shared for TrailShared<M> {
     fn store2(&mut self, space: Space, place: u64, value: u16) -> Result<(), Failed>
         requires room { place + 2 ≤ M.sizes (inner_of self.old) space.number }
         requires aligned { place % 2 ≡ 0 }
-        ensures stores { Stores (M.told (inner_of self.old)) (M.told (inner_of self.new)) result (one_store space.number place (little_bytes 2 value)) }
+        ensures inner { MakesStore M.told M.trail M.names M.handed M.sizes (inner_of self.old) (inner_of self.new) result (one_store space.number place (little_bytes 2 value)) }
         ensures kept { IsKeptIn M.faults self.old self.new result (one_store space.number place (little_bytes 2 value)) }
-        ensures names { M.names (inner_of self.new) ≡ M.names (inner_of self.old) }
-        ensures handed { (s : ℕ) → M.handed (inner_of self.new) s ≡ M.handed (inner_of self.old) s }
-        ensures sizes { (s : ℕ) → M.sizes (inner_of self.new) s ≡ M.sizes (inner_of self.old) s }
         ensures cause { HasCause (faults_with M.faults self.old) (faults_with M.faults self.new) result }
     {
         if !self.trail.has_room(2) {
@@ -197,11 +189,8 @@ impl<M: Shared> Shared for TrailShared<M> {
     fn store4(&mut self, space: Space, place: u64, value: u32) -> Result<(), Failed>
         requires room { place + 4 ≤ M.sizes (inner_of self.old) space.number }
         requires aligned { place % 4 ≡ 0 }
-        ensures stores { Stores (M.told (inner_of self.old)) (M.told (inner_of self.new)) result (one_store space.number place (little_bytes 4 value)) }
+        ensures inner { MakesStore M.told M.trail M.names M.handed M.sizes (inner_of self.old) (inner_of self.new) result (one_store space.number place (little_bytes 4 value)) }
         ensures kept { IsKeptIn M.faults self.old self.new result (one_store space.number place (little_bytes 4 value)) }
-        ensures names { M.names (inner_of self.new) ≡ M.names (inner_of self.old) }
-        ensures handed { (s : ℕ) → M.handed (inner_of self.new) s ≡ M.handed (inner_of self.old) s }
-        ensures sizes { (s : ℕ) → M.sizes (inner_of self.new) s ≡ M.sizes (inner_of self.old) s }
         ensures cause { HasCause (faults_with M.faults self.old) (faults_with M.faults self.new) result }
     {
         if !self.trail.has_room(4) {
@@ -216,11 +205,8 @@ impl<M: Shared> Shared for TrailShared<M> {
     fn store8(&mut self, space: Space, place: u64, value: u64) -> Result<(), Failed>
         requires room { place + 8 ≤ M.sizes (inner_of self.old) space.number }
         requires aligned { place % 8 ≡ 0 }
-        ensures stores { Stores (M.told (inner_of self.old)) (M.told (inner_of self.new)) result (one_store space.number place (little_bytes 8 value)) }
+        ensures inner { MakesStore M.told M.trail M.names M.handed M.sizes (inner_of self.old) (inner_of self.new) result (one_store space.number place (little_bytes 8 value)) }
         ensures kept { IsKeptIn M.faults self.old self.new result (one_store space.number place (little_bytes 8 value)) }
-        ensures names { M.names (inner_of self.new) ≡ M.names (inner_of self.old) }
-        ensures handed { (s : ℕ) → M.handed (inner_of self.new) s ≡ M.handed (inner_of self.old) s }
-        ensures sizes { (s : ℕ) → M.sizes (inner_of self.new) s ≡ M.sizes (inner_of self.old) s }
         ensures cause { HasCause (faults_with M.faults self.old) (faults_with M.faults self.new) result }
     {
         if !self.trail.has_room(8) {
@@ -234,11 +220,8 @@ impl<M: Shared> Shared for TrailShared<M> {
 
     fn store_run(&mut self, space: Space, place: u64, bytes: &[u8]) -> Result<(), Failed>
         requires { place + length bytes.now ≤ M.sizes (inner_of self.old) space.number }
-        ensures stores { Stores (M.told (inner_of self.old)) (M.told (inner_of self.new)) result (one_store space.number place bytes.now) }
+        ensures inner { MakesStore M.told M.trail M.names M.handed M.sizes (inner_of self.old) (inner_of self.new) result (one_store space.number place bytes.now) }
         ensures kept { IsKeptIn M.faults self.old self.new result (one_store space.number place bytes.now) }
-        ensures names { M.names (inner_of self.new) ≡ M.names (inner_of self.old) }
-        ensures handed { (s : ℕ) → M.handed (inner_of self.new) s ≡ M.handed (inner_of self.old) s }
-        ensures sizes { (s : ℕ) → M.sizes (inner_of self.new) s ≡ M.sizes (inner_of self.old) s }
         ensures cause { HasCause (faults_with M.faults self.old) (faults_with M.faults self.new) result }
     {
         if !self.trail.has_room(bytes.len()) {

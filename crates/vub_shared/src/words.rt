@@ -3,6 +3,7 @@ ghost use Rattle.std.specs.Prelude.{◌≡◌, ◌≤◌, ◌+◌, ℕ, IfOk};
 ghost use Rattle.vub_base.specs.Causes.{HasCause};
 ghost use Rattle.vub_base.specs.Told.{WhereTold};
 ghost use Rattle.vub_shared.specs.Bytes.{word};
+ghost use Rattle.vub_shared.specs.Frames.{OnlyLoads};
 
 use crate::Shared;
 use byteorder::{ByteOrder, LittleEndian};
@@ -12,11 +13,7 @@ use vub_base::{Failed, Space};
 pub fn load_u8<M: Shared>(mem: &mut M, space: Space, place: u64) -> Result<u8, Failed>
     requires { place + 1 ≤ M.sizes mem.old space.number }
     ensures loaded { IfOk result (λ v. WhereTold (M.told mem.old) (λ m. v ≡ word 1 m space.number place)) }
-    ensures told { M.told mem.new ≡ M.told mem.old }
-    ensures trail { M.trail mem.new ≡ M.trail mem.old }
-    ensures names { M.names mem.new ≡ M.names mem.old }
-    ensures handed { (s : ℕ) → M.handed mem.new s ≡ M.handed mem.old s }
-    ensures sizes { (s : ℕ) → M.sizes mem.new s ≡ M.sizes mem.old s }
+    ensures only_loads { OnlyLoads M.told M.trail M.names M.handed M.sizes mem.old mem.new }
     ensures cause { HasCause (M.faults mem.old) (M.faults mem.new) result }
 {
     let mut buffer = [0u8; 1];
@@ -28,11 +25,7 @@ pub fn load_u8<M: Shared>(mem: &mut M, space: Space, place: u64) -> Result<u8, F
 pub fn load_u16<M: Shared>(mem: &mut M, space: Space, place: u64) -> Result<u16, Failed>
     requires { place + 2 ≤ M.sizes mem.old space.number }
     ensures loaded { IfOk result (λ v. WhereTold (M.told mem.old) (λ m. v ≡ word 2 m space.number place)) }
-    ensures told { M.told mem.new ≡ M.told mem.old }
-    ensures trail { M.trail mem.new ≡ M.trail mem.old }
-    ensures names { M.names mem.new ≡ M.names mem.old }
-    ensures handed { (s : ℕ) → M.handed mem.new s ≡ M.handed mem.old s }
-    ensures sizes { (s : ℕ) → M.sizes mem.new s ≡ M.sizes mem.old s }
+    ensures only_loads { OnlyLoads M.told M.trail M.names M.handed M.sizes mem.old mem.new }
     ensures cause { HasCause (M.faults mem.old) (M.faults mem.new) result }
 {
     let mut buffer = [0u8; 2];
@@ -44,11 +37,7 @@ pub fn load_u16<M: Shared>(mem: &mut M, space: Space, place: u64) -> Result<u16,
 pub fn load_u32<M: Shared>(mem: &mut M, space: Space, place: u64) -> Result<u32, Failed>
     requires { place + 4 ≤ M.sizes mem.old space.number }
     ensures loaded { IfOk result (λ v. WhereTold (M.told mem.old) (λ m. v ≡ word 4 m space.number place)) }
-    ensures told { M.told mem.new ≡ M.told mem.old }
-    ensures trail { M.trail mem.new ≡ M.trail mem.old }
-    ensures names { M.names mem.new ≡ M.names mem.old }
-    ensures handed { (s : ℕ) → M.handed mem.new s ≡ M.handed mem.old s }
-    ensures sizes { (s : ℕ) → M.sizes mem.new s ≡ M.sizes mem.old s }
+    ensures only_loads { OnlyLoads M.told M.trail M.names M.handed M.sizes mem.old mem.new }
     ensures cause { HasCause (M.faults mem.old) (M.faults mem.new) result }
 {
     let mut buffer = [0u8; 4];
@@ -60,11 +49,7 @@ pub fn load_u32<M: Shared>(mem: &mut M, space: Space, place: u64) -> Result<u32,
 pub fn load_u64<M: Shared>(mem: &mut M, space: Space, place: u64) -> Result<u64, Failed>
     requires { place + 8 ≤ M.sizes mem.old space.number }
     ensures loaded { IfOk result (λ v. WhereTold (M.told mem.old) (λ m. v ≡ word 8 m space.number place)) }
-    ensures told { M.told mem.new ≡ M.told mem.old }
-    ensures trail { M.trail mem.new ≡ M.trail mem.old }
-    ensures names { M.names mem.new ≡ M.names mem.old }
-    ensures handed { (s : ℕ) → M.handed mem.new s ≡ M.handed mem.old s }
-    ensures sizes { (s : ℕ) → M.sizes mem.new s ≡ M.sizes mem.old s }
+    ensures only_loads { OnlyLoads M.told M.trail M.names M.handed M.sizes mem.old mem.new }
     ensures cause { HasCause (M.faults mem.old) (M.faults mem.new) result }
 {
     let mut buffer = [0u8; 8];

@@ -3,6 +3,7 @@
 #![tactic(auto)]
 
 pub mod laws;
+pub mod layout;
 mod split;
 
 pub use split::SplitRing;

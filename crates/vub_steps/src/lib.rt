@@ -7,5 +7,5 @@ mod steps;
 #[cfg(test)]
 mod tests;
 
-pub use readiness::{Standing, Turn, any_turn, drain_turn, is_ready};
+pub use readiness::{Choice, Standing, Turn, is_ready};
 pub use steps::{Phase, Step, after_step, next_step};

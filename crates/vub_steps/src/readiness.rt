@@ -1,5 +1,8 @@
-ghost use Rattle.std.specs.Prelude.{◌≡◌};
-ghost use Rattle.vub_steps.specs.Readiness.{is_ready, any_turn, drain_turn};
+ghost use Rattle.std.specs.Prelude.{◌≡◌, ℕ, false};
+ghost use Rattle.vub_steps.specs.declared.readiness.Choice.TheVariants.{Only};
+ghost use Rattle.vub_steps.specs.declared.readiness.Standing.{Standing};
+ghost use Rattle.vub_steps.specs.declared.readiness.Turn.{Turn};
+ghost use Rattle.vub_steps.specs.Readiness.{is_ready, first_ready, publication_under_way, any_turn, draining_turn, chosen};
 
 use crate::steps::Phase;
 
@@ -46,34 +49,97 @@ pub fn is_ready(standing: &Standing, turn: Turn) -> bool
     }
 }
 
-/// The first turn that is ready of start, the phase under way, fetch, work on the oldest request
-/// and publication of all, for a queue of so many places. The last one stands for none.
-pub fn any_turn(size: u16, standing: &Standing) -> Turn
-    ensures { result ≡ any_turn size standing.now }
+/// The first of these turns that is ready; where none is, the last one.
+fn first_ready(standing: &Standing, turns: &[Turn], last: Turn) -> Turn
+    ensures { result ≡ first_ready standing.now turns.now last }
 {
-    if !standing.started {
-        Turn::Start
-    } else if matches!(standing.phase, Phase::Publish(_)) {
-        Turn::Publish(size)
-    } else if is_ready(standing, Turn::Fetch) {
-        Turn::Fetch
-    } else if standing.unfinished > 0 {
-        Turn::Work(0)
-    } else {
-        Turn::Publish(size)
+    match turns {
+        [] => last,
+        [turn, rest @ ..] => {
+            if is_ready(standing, *turn) {
+                *turn
+            } else {
+                first_ready(standing, rest, last)
+            }
+        }
     }
 }
 
-/// The next turn of a drain that has accepted so many requests: any, and once it has accepted as
-/// many as the queue has places none that fetches.
-pub fn drain_turn(size: u16, accepted: u64, standing: &Standing) -> Turn
-    ensures { result ≡ drain_turn size accepted standing.now }
+/// The first turn that is ready of start, the phase under way, fetch, work on the oldest request
+/// and publication of all, for a queue of so many places. The last one stands for none.
+fn any_turn(size: u16, standing: &Standing) -> Turn
+    ensures { result ≡ any_turn size standing.now }
 {
-    if accepted < u64::from(size) {
-        any_turn(size, standing)
-    } else if matches!(standing.phase, Phase::Publish(_)) || standing.unfinished == 0 {
-        Turn::Publish(size)
-    } else {
-        Turn::Work(0)
+    let all = Turn::Publish(size);
+    match standing.phase {
+        Phase::Publish(_) => first_ready(
+            standing,
+            &[Turn::Start, all, Turn::Fetch, Turn::Work(0)],
+            all,
+        ),
+        Phase::Fetch(_) => first_ready(
+            standing,
+            &[Turn::Start, Turn::Fetch, Turn::Fetch, Turn::Work(0)],
+            all,
+        ),
+        Phase::Rest | Phase::Start(_) => {
+            first_ready(standing, &[Turn::Start, Turn::Fetch, Turn::Work(0)], all)
+        }
+    }
+}
+
+/// The next turn of a drain that has accepted as many requests as the queue has places: none that
+/// fetches.
+fn draining_turn(size: u16, standing: &Standing) -> Turn
+    ensures { result ≡ draining_turn size standing.now }
+{
+    let all = Turn::Publish(size);
+    match standing.phase {
+        Phase::Publish(_) => first_ready(standing, &[all, Turn::Work(0)], all),
+        _ => first_ready(standing, &[Turn::Work(0)], all),
+    }
+}
+
+/// Which turn of a queue comes next.
+#[derive(Clone, Copy, Debug, PartialEq, Eq)]
+pub enum Choice {
+    /// This one.
+    Only(Turn),
+    /// The first one that is ready of start, the phase under way, fetch, work on the oldest request
+    /// and publication of all. The last one stands for none.
+    Any,
+    /// The next one of a drain that has accepted so many requests: any, and once they are as many
+    /// as the queue has places none that fetches.
+    Drain(u16),
+}
+
+impl Choice {
+    /// The turn that it comes to on a queue of so many places.
+    pub fn turn(self, size: u16, standing: &Standing) -> Turn
+        ensures { result ≡ chosen size self standing.now }
+    {
+        match self {
+            Choice::Only(turn) => turn,
+            Choice::Any => any_turn(size, standing),
+            Choice::Drain(accepted) => {
+                if accepted < size {
+                    any_turn(size, standing)
+                } else {
+                    draining_turn(size, standing)
+                }
+            }
+        }
+    }
+
+    /// Whether it depends on how many requests wait, on a queue of so many places.
+    pub fn may_fetch(self, size: u16) -> bool
+        ensures only { (turn : Turn) → self ≡ Only turn → result ≡ false }
+        ensures fixed { (s : Standing) (n : ℕ) → result ≡ false → chosen size self (record s { waiting = n }) ≡ chosen size self s }
+    {
+        match self {
+            Choice::Only(_) => false,
+            Choice::Any => true,
+            Choice::Drain(accepted) => accepted < size,
+        }
     }
 }

@@ -1,4 +1,4 @@
-use crate::{Phase, Standing, Step, Turn, after_step, any_turn, drain_turn, is_ready, next_step};
+use crate::{Choice, Phase, Standing, Step, Turn, after_step, is_ready, next_step};
 use std::test::Fail;
 
 const WAITING: Standing = Standing {
@@ -25,7 +25,7 @@ fn a_batch_of_one_is_published_in_three_steps(rt: HostRuntime) -> Result<(), Fai
 fn a_fetch_comes_first_and_not_in_a_full_drain(rt: HostRuntime) -> Result<(), Fail> {
     assert!(rt; is_ready(&WAITING, Turn::Publish(1)));
     assert!(rt; !is_ready(&WAITING, Turn::Start));
-    assert_eq!(rt; any_turn(4, &WAITING), Turn::Fetch);
-    assert_eq!(rt; drain_turn(4, 4, &WAITING), Turn::Work(0));
+    assert_eq!(rt; Choice::Any.turn(4, &WAITING), Turn::Fetch);
+    assert_eq!(rt; Choice::Drain(4).turn(4, &WAITING), Turn::Work(0));
     Ok(())
 }

@@ -53,6 +53,10 @@ work_for h r buffer request (Act place) = work.Act (transfer_at h r buffer reque
 work_for h r buffer request Sync = work.Sync (answer_of h r buffer request)
 work_for h r buffer request Status = work.Reply (answer_of h r buffer request)
 
+-- the head of the request that a task works on
+abbrev pub head_in : Task → ℕ
+head_in task = task.head
+
 -- a request of which no step was made
 abbrev pub fresh_task : ℕ → Task
 fresh_task head = record { head = head; work = work.Begin }

@@ -7,14 +7,19 @@ ghost use Rattle.vub_base.specs.Told.{WhereTold};
 ghost use Rattle.vub_base.specs.declared.store.Tag.TheVariants.{T2};
 ghost use Rattle.vub_shared.specs.Bytes.{bytes_from};
 ghost use Rattle.vub_shared.specs.Stores.{one_store, after_store, after_in_trail};
+ghost use Rattle.vub_shared.specs.Frames.{OnlyLoads, KeepsSpaces};
 ghost use Rattle.vub_disk.specs.Values.{with_value};
 ghost use Rattle.vub_split.specs.Split.{RingLies};
-ghost use Rattle.vub_task.specs.TaskState.{IfMade, IfSynced, GainsOne, fresh_task, memory_outcome, disk_outcome, plain_len_of, plain_answer_of, whole_transfer};
+ghost use Rattle.vub_task.specs.TaskState.{IfMade, IfSynced, GainsOne, fresh_task, head_in, memory_outcome, disk_outcome, plain_len_of, plain_answer_of, whole_transfer};
 ghost use Rattle.vub_direct_chain.specs.declared.chain.Sectors.{Sectors};
 ghost use Rattle.vub_task.specs.declared.task.TaskStep.TheVariants as answers;
 ghost use Rattle.vub_task.specs.declared.task.Work.TheVariants as work;
 
 use vub_direct_chain::{Parts, Sectors, Span, Unread, lies_in, read_chain};
+use vub_base::standard::{
+    REQUEST_HEADER_SIZE, REQUEST_SECTOR, REQUEST_TYPE, SECTOR_SIZE, VIRTIO_BLK_S_IOERR,
+    VIRTIO_BLK_S_OK, VIRTIO_BLK_S_UNSUPP, VIRTIO_BLK_T_FLUSH, VIRTIO_BLK_T_IN, VIRTIO_BLK_T_OUT,
+};
 use vub_base::{ChainFault, Failed, RingFault, Tag, get_u32, get_u64};
 use vub_disk::Disk;
 use vub_shared::Shared;
@@ -35,13 +40,6 @@ pub enum TaskStep {
     /// The shared memory failed.
     Failed,
 }
-
-/// Success, and the two refusals.
-const OK: u8 = 0;
-
-const IOERR: u8 = 1;
-
-const UNSUPP: u8 = 2;
 
 /// How a request is answered in the end.
 #[derive(Clone, Copy, Debug, PartialEq, Eq)]
@@ -117,11 +115,11 @@ fn plain_answer(parts: &Parts, status: u8) -> Answer
 fn sector_span(transfer: &Transfer) -> Option<Span>
     ensures { transfer.now.span.place + 512 * transfer.now.done < 2 ^ 64 → result ≡ Some (record { space = transfer.now.span.space; place = transfer.now.span.place + 512 * transfer.now.done; len = 512 }) }
 {
-    let offset = transfer.done.checked_mul(512)?;
+    let offset = transfer.done.checked_mul(SECTOR_SIZE as u64)?;
     Some(Span {
         space: transfer.span.space,
         place: transfer.span.place.checked_add(offset)?,
-        len: 512,
+        len: SECTOR_SIZE as u32,
     })
 }
 
@@ -136,12 +134,12 @@ fn transfer_of(
     ensures whole { (x : Sectors) → parts.now.sectors ≡ Some x → x.writable ≡ writable → x.span.len % 512 ≡ 0 → sector + x.span.len / 512 ≤ capacity → result ≡ Ok (whole_transfer parts.now sector x) }
     ensures past { (x : Sectors) → parts.now.sectors ≡ Some x → capacity < sector + x.span.len / 512 → result ≡ Err (plain_answer_of parts.now 1) }
 {
-    let refused = plain_answer(parts, IOERR);
+    let refused = plain_answer(parts, VIRTIO_BLK_S_IOERR);
     let Some(Sectors { span, writable: is }) = parts.sectors else {
         return Err(refused);
     };
-    let count = u64::from(span.len / 512);
-    if is != writable || span.len % 512 != 0 || sector > capacity || count > capacity - sector {
+    let count = u64::from(span.len / SECTOR_SIZE as u32);
+    if is != writable || span.len % SECTOR_SIZE as u32 != 0 || sector > capacity || count > capacity - sector {
         return Err(refused);
     }
     let read = span.len.saturating_add(1);
@@ -151,7 +149,7 @@ fn transfer_of(
         done: 0,
         span,
         answer: Answer {
-            status: OK,
+            status: VIRTIO_BLK_S_OK,
             len: if writable { read } else { refused.len },
             ..refused
         },
@@ -169,16 +167,16 @@ fn first_work(kind: u32, sector: u64, parts: &Parts, capacity: u64) -> Work
     ensures flush { kind ≡ 4 → result ≡ work.Sync (plain_answer_of parts.now 0) }
 {
     match kind {
-        0 => match transfer_of(parts, sector, capacity, true) {
+        VIRTIO_BLK_T_IN => match transfer_of(parts, sector, capacity, true) {
             Ok(transfer) => after_sector(transfer, Work::Look(transfer)),
             Err(answer) => Work::Reply(answer),
         },
-        1 => match transfer_of(parts, sector, capacity, false) {
+        VIRTIO_BLK_T_OUT => match transfer_of(parts, sector, capacity, false) {
             Ok(transfer) => after_sector(transfer, Work::Act(transfer)),
             Err(answer) => Work::Reply(answer),
         },
-        4 => Work::Sync(plain_answer(parts, OK)),
-        _ => Work::Reply(plain_answer(parts, UNSUPP)),
+        VIRTIO_BLK_T_FLUSH => Work::Sync(plain_answer(parts, VIRTIO_BLK_S_OK)),
+        _ => Work::Reply(plain_answer(parts, VIRTIO_BLK_S_UNSUPP)),
     }
 }
 
@@ -197,7 +195,7 @@ fn after_sector(transfer: Transfer, more: Work) -> Work
 /// The answer of a request whose disk call failed.
 fn failed(answer: Answer) -> Answer {
     Answer {
-        status: IOERR,
+        status: VIRTIO_BLK_S_IOERR,
         len: answer.plain_len,
         ..answer
     }
@@ -225,8 +223,9 @@ impl Task {
         }
     }
 
+    /// The head of the request.
     pub fn head(&self) -> u16
-        ensures { result ≡ self.now.head }
+        ensures { result ≡ head_in self.now }
     {
         self.head
     }
@@ -236,22 +235,20 @@ impl Task {
         requires lies { RingLies (M.sizes mem.old) ring.now }
         requires fits { self.now.head < ring.now.size }
         ensures begins { (h : Header1) (l : Links) (buffer : ℕ) (request : Asked) (step : Tasks.TaskStep) → WhereTold (M.told mem.old) (λ m. MeansRequest (M.sizes mem.old) ring.now m l buffer request → l.head ≡ self.now.head → IsServed h capacity request → slice_get (task_steps h request) 0 ≡ Some step → Reads result (work_for h ring.now buffer request step)) }
-        ensures told { M.told mem.new ≡ M.told mem.old }
-        ensures trail { M.trail mem.new ≡ M.trail mem.old }
-        ensures sizes { (s : ℕ) → M.sizes mem.new s ≡ M.sizes mem.old s }
+        ensures only_loads { OnlyLoads M.told M.trail M.names M.handed M.sizes mem.old mem.new }
         ensures cause { HasCause (M.faults mem.old) (M.faults mem.new) (read_outcome result) }
     {
         let parts = read_chain(ring, mem, self.head)?;
         let header = parts.header;
-        if header.len < 16 || !lies_in(mem, &header) {
-            return Ok(Work::Reply(plain_answer(&parts, IOERR)));
+        if header.len < REQUEST_HEADER_SIZE as u32 || !lies_in(mem, &header) {
+            return Ok(Work::Reply(plain_answer(&parts, VIRTIO_BLK_S_IOERR)));
         }
-        let mut bytes = [0u8; 16];
+        let mut bytes = [0u8; REQUEST_HEADER_SIZE];
         if mem.load(header.space, header.place, &mut bytes).is_err() {
             return Err(Unread::Failed);
         }
-        let kind = get_u32(&bytes, 0);
-        let sector = get_u64(&bytes, 8);
+        let kind = get_u32(&bytes, REQUEST_TYPE);
+        let sector = get_u64(&bytes, REQUEST_SECTOR);
         Ok(first_work(kind, sector, &parts, capacity))
     }
 
@@ -259,7 +256,7 @@ impl Task {
         &mut self,
         transfer: Transfer,
         disk: &mut D,
-        sector: &mut [u8; 512],
+        sector: &mut [u8; SECTOR_SIZE],
     ) -> Option<TaskStep>
         ensures answer { transfer.sector + transfer.done < D.capacity disk.old → IfMade result (λ step. step ≡ answers.Looked (transfer.sector + transfer.done)) }
         ensures read { transfer.sector + transfer.done < D.capacity disk.old → IfMade result (λ step. WhereTold (D.values disk.old) (λ v. sector.new ≡ v (transfer.sector + transfer.done))) }
@@ -287,7 +284,7 @@ impl Task {
         &mut self,
         transfer: Transfer,
         mem: &mut M,
-        sector: &[u8; 512],
+        sector: &[u8; SECTOR_SIZE],
     ) -> Option<TaskStep>
         ensures answer { transfer.span.place + (512 * transfer.done + 512) ≤ M.sizes mem.old transfer.span.space.number → IfMade result (λ step. step ≡ answers.Stored T2) }
         ensures stored { transfer.span.place + (512 * transfer.done + 512) ≤ M.sizes mem.old transfer.span.space.number → IfMade result (λ step. M.told mem.new ≡ option_map (after_store (one_store transfer.span.space.number (transfer.span.place + 512 * transfer.done) sector.now)) (M.told mem.old)) }
@@ -296,13 +293,13 @@ impl Task {
         ensures more { transfer.span.place + (512 * transfer.done + 512) ≤ M.sizes mem.old transfer.span.space.number → transfer.done + 1 < transfer.count → IfMade result (λ step. self.new.work ≡ work.Look (record transfer { done = transfer.done + 1 })) }
         ensures last { transfer.span.place + (512 * transfer.done + 512) ≤ M.sizes mem.old transfer.span.space.number → transfer.count ≤ transfer.done + 1 → IfMade result (λ step. self.new.work ≡ work.Reply transfer.answer) }
         ensures head { self.new.head ≡ self.old.head }
-        ensures sizes { (s : ℕ) → M.sizes mem.new s ≡ M.sizes mem.old s }
+        ensures keeps_spaces { KeepsSpaces M.names M.handed M.sizes mem.old mem.new }
         ensures memory_cause { HasCause (M.faults mem.old) (M.faults mem.new) (memory_outcome result) }
         ensures no_disk { disk_outcome result ≡ Ok tt }
         ensures other { IfSynced result ⊥ }
     {
         let span = sector_span(&transfer)?;
-        if span.len != 512 || !lies_in(mem, &span) {
+        if span.len != SECTOR_SIZE as u32 || !lies_in(mem, &span) {
             return None;
         }
         if mem.store_run(span.space, span.place, sector).is_err() {
@@ -321,16 +318,14 @@ impl Task {
         transfer: Transfer,
         mem: &mut M,
         disk: &mut D,
-        sector: &mut [u8; 512],
+        sector: &mut [u8; SECTOR_SIZE],
     ) -> Option<TaskStep>
         ensures answer { transfer.span.place + (512 * transfer.done + 512) ≤ M.sizes mem.old transfer.span.space.number → transfer.sector + transfer.done < D.capacity disk.old → IfMade result (λ step. step ≡ answers.Acted (transfer.sector + transfer.done)) }
         ensures written { transfer.span.place + (512 * transfer.done + 512) ≤ M.sizes mem.old transfer.span.space.number → transfer.sector + transfer.done < D.capacity disk.old → IfMade result (λ step. WhereTold (M.told mem.old) (λ m. D.values disk.new ≡ option_map (with_value (transfer.sector + transfer.done) (bytes_from 512 m transfer.span.space.number (transfer.span.place + 512 * transfer.done))) (D.values disk.old))) }
         ensures more { transfer.span.place + (512 * transfer.done + 512) ≤ M.sizes mem.old transfer.span.space.number → transfer.sector + transfer.done < D.capacity disk.old → transfer.done + 1 < transfer.count → IfMade result (λ step. self.new.work ≡ work.Act (record transfer { done = transfer.done + 1 })) }
         ensures last { transfer.span.place + (512 * transfer.done + 512) ≤ M.sizes mem.old transfer.span.space.number → transfer.sector + transfer.done < D.capacity disk.old → transfer.count ≤ transfer.done + 1 → IfMade result (λ step. self.new.work ≡ work.Reply transfer.answer) }
         ensures head { self.new.head ≡ self.old.head }
-        ensures told { M.told mem.new ≡ M.told mem.old }
-        ensures trail { M.trail mem.new ≡ M.trail mem.old }
-        ensures sizes { (s : ℕ) → M.sizes mem.new s ≡ M.sizes mem.old s }
+        ensures only_loads { OnlyLoads M.told M.trail M.names M.handed M.sizes mem.old mem.new }
         ensures capacity { D.capacity disk.new ≡ D.capacity disk.old }
         ensures memory_cause { HasCause (M.faults mem.old) (M.faults mem.new) (memory_outcome result) }
         ensures disk_cause { HasCause (D.faults disk.old) (D.faults disk.new) (disk_outcome result) }
@@ -338,7 +333,7 @@ impl Task {
     {
         let span = sector_span(&transfer)?;
         let number = transfer.sector.checked_add(transfer.done)?;
-        if span.len != 512 || !lies_in(mem, &span) || number >= disk.capacity() {
+        if span.len != SECTOR_SIZE as u32 || !lies_in(mem, &span) || number >= disk.capacity() {
             return None;
         }
         if mem.load(span.space, span.place, sector).is_err() {
@@ -379,7 +374,7 @@ impl Task {
         ensures stored { answer.span.len ≡ 1 → answer.span.place + 1 ≤ M.sizes mem.old answer.span.space.number → IfMade result (λ step. M.told mem.new ≡ option_map (after_store (one_store answer.span.space.number answer.span.place (little_bytes 1 answer.status))) (M.told mem.old)) }
         ensures trailed { answer.span.len ≡ 1 → answer.span.place + 1 ≤ M.sizes mem.old answer.span.space.number → IfMade result (λ step. M.trail mem.new ≡ option_map (after_in_trail (one_store answer.span.space.number answer.span.place (little_bytes 1 answer.status))) (M.trail mem.old)) }
         ensures trail { GainsOne (M.trail mem.old) (M.trail mem.new) }
-        ensures sizes { (s : ℕ) → M.sizes mem.new s ≡ M.sizes mem.old s }
+        ensures keeps_spaces { KeepsSpaces M.names M.handed M.sizes mem.old mem.new }
         ensures memory_cause { HasCause (M.faults mem.old) (M.faults mem.new) (memory_outcome result) }
         ensures no_disk { disk_outcome result ≡ Ok tt }
         ensures other { IfSynced result ⊥ }
@@ -407,9 +402,7 @@ impl Task {
         requires lies { RingLies (M.sizes mem.old) ring.now }
         requires fits { self.now.head < ring.now.size }
         ensures ready { (n : Making) → WhereTold (M.told mem.old) (λ m. IsNext capacity (M.sizes mem.old) ring.now m n → IsReady ring.now n self.now → Reads result (work_of ring.now n)) }
-        ensures told { M.told mem.new ≡ M.told mem.old }
-        ensures trail { M.trail mem.new ≡ M.trail mem.old }
-        ensures sizes { (s : ℕ) → M.sizes mem.new s ≡ M.sizes mem.old s }
+        ensures only_loads { OnlyLoads M.told M.trail M.names M.handed M.sizes mem.old mem.new }
         ensures cause { HasCause (M.faults mem.old) (M.faults mem.new) (read_outcome result) }
     {
         match self.work {
@@ -428,7 +421,7 @@ impl Task {
         ring: &SplitRing,
         mem: &mut M,
         disk: &mut D,
-        sector: &mut [u8; 512],
+        sector: &mut [u8; SECTOR_SIZE],
     ) -> TaskStep
         requires lies { RingLies (M.sizes mem.old) ring.now }
         requires fits { self.old.head < ring.now.size }
@@ -441,7 +434,7 @@ impl Task {
         ensures written { (n : Making) → WhereTold (M.told mem.old) (λ m. IsNext (D.capacity disk.old) (M.sizes mem.old) ring.now m n → IsReady ring.now n self.old → IfMade (Some result) (λ step. D.values disk.new ≡ option_map (values_after n.request n.step) (D.values disk.old))) }
         ensures stable { IfSynced (Some result) (D.stable disk.new ≡ D.values disk.new) }
         ensures goes_on { (n : Making) → WhereTold (M.told mem.old) (λ m. IsNext (D.capacity disk.old) (M.sizes mem.old) ring.now m n → IsReady ring.now n self.old → IfMade (Some result) (λ step. HasMade ring.now n self.new)) }
-        ensures sizes { (s : ℕ) → M.sizes mem.new s ≡ M.sizes mem.old s }
+        ensures keeps_spaces { KeepsSpaces M.names M.handed M.sizes mem.old mem.new }
         ensures capacity { D.capacity disk.new ≡ D.capacity disk.old }
         ensures memory_cause { HasCause (M.faults mem.old) (M.faults mem.new) (memory_outcome (Some result)) }
         ensures disk_cause { HasCause (D.faults disk.old) (D.faults disk.new) (disk_outcome (Some result)) }
@@ -460,7 +453,7 @@ impl Task {
         &mut self,
         mem: &mut M,
         disk: &mut D,
-        sector: &mut [u8; 512],
+        sector: &mut [u8; SECTOR_SIZE],
     ) -> TaskStep
         ensures head { self.new.head ≡ self.old.head }
         ensures answer { (r : SplitRing) (n : Making) → WhereTold (M.told mem.old) (λ m. IsNext (D.capacity disk.old) (M.sizes mem.old) r m n → self.old.work ≡ work_of r n → IfMade (Some result) (λ step. step ≡ answer_in n)) }
@@ -471,7 +464,7 @@ impl Task {
         ensures written { (r : SplitRing) (n : Making) → WhereTold (M.told mem.old) (λ m. IsNext (D.capacity disk.old) (M.sizes mem.old) r m n → self.old.work ≡ work_of r n → IfMade (Some result) (λ step. D.values disk.new ≡ option_map (values_after n.request n.step) (D.values disk.old))) }
         ensures stable { IfSynced (Some result) (D.stable disk.new ≡ D.values disk.new) }
         ensures goes_on { (r : SplitRing) (n : Making) → WhereTold (M.told mem.old) (λ m. IsNext (D.capacity disk.old) (M.sizes mem.old) r m n → self.old.work ≡ work_of r n → IfMade (Some result) (λ step. HasMade r n self.new)) }
-        ensures sizes { (s : ℕ) → M.sizes mem.new s ≡ M.sizes mem.old s }
+        ensures keeps_spaces { KeepsSpaces M.names M.handed M.sizes mem.old mem.new }
         ensures capacity { D.capacity disk.new ≡ D.capacity disk.old }
         ensures memory_cause { HasCause (M.faults mem.old) (M.faults mem.new) (memory_outcome (Some result)) }
         ensures disk_cause { HasCause (D.faults disk.old) (D.faults disk.new) (disk_outcome (Some result)) }
@@ -488,7 +481,7 @@ impl Task {
         &mut self,
         mem: &mut M,
         disk: &mut D,
-        sector: &mut [u8; 512],
+        sector: &mut [u8; SECTOR_SIZE],
     ) -> Option<TaskStep>
         ensures head { self.new.head ≡ self.old.head }
         ensures answer { (r : SplitRing) (n : Making) → WhereTold (M.told mem.old) (λ m. IsNext (D.capacity disk.old) (M.sizes mem.old) r m n → self.old.work ≡ work_of r n → IfMade result (λ step. step ≡ answer_in n)) }
@@ -499,7 +492,7 @@ impl Task {
         ensures written { (r : SplitRing) (n : Making) → WhereTold (M.told mem.old) (λ m. IsNext (D.capacity disk.old) (M.sizes mem.old) r m n → self.old.work ≡ work_of r n → IfMade result (λ step. D.values disk.new ≡ option_map (values_after n.request n.step) (D.values disk.old))) }
         ensures stable { IfSynced result (D.stable disk.new ≡ D.values disk.new) }
         ensures goes_on { (r : SplitRing) (n : Making) → WhereTold (M.told mem.old) (λ m. IsNext (D.capacity disk.old) (M.sizes mem.old) r m n → self.old.work ≡ work_of r n → IfMade result (λ step. HasMade r n self.new)) }
-        ensures sizes { (s : ℕ) → M.sizes mem.new s ≡ M.sizes mem.old s }
+        ensures keeps_spaces { KeepsSpaces M.names M.handed M.sizes mem.old mem.new }
         ensures capacity { D.capacity disk.new ≡ D.capacity disk.old }
         ensures memory_cause { HasCause (M.faults mem.old) (M.faults mem.new) (memory_outcome result) }
         ensures disk_cause { HasCause (D.faults disk.old) (D.faults disk.new) (disk_outcome result) }

@@ -15,7 +15,8 @@ use Rattle.vub_direct_chain.specs.ChainState.{data_of}
 use Rattle.vub_world.specs.MachineAt.{AskAt, MachineAt, IsStanding}
 use Rattle.vub_world.specs.MachineFront.{IsSmall, AreSmall, FrontFits}
 use Rattle.vub_run.specs.Moments.{Moment}
-use Rattle.vub_run.specs.Run.{Stands, request_of}
+use Rattle.vub_run.specs.Run.{Stands}
+use Rattle.vub_device.specs.Requests.{request_of}
 use Rattle.vub_run_laws.proofs.RunGood.{the_ring, IsWide, IsWaiting, WaitsWell}
 use Rattle.vub_run_laws.proofs.RunFrames.{length_little}
 use Rattle.vub_run_laws.proofs.RunChains.{buffer_at, chain_of, desc_long}

@@ -19,9 +19,9 @@ use Rattle.vub_split.specs.declared.split.SplitRing.{SplitRing}
 use Rattle.vub_room.specs.Rooms.{RoomState, HasTurnRoom, HasRoom, SpendsStep}
 use Rattle.vub_world.specs.MachineAt.{MachineAt, LifeAt, AttachedAt, IsReached}
 use Rattle.vub_world.specs.MachineDevice.{batch_in, shown_in, queue_batch, queue_shows}
-use Rattle.vub_world.specs.declared.device.Choice.{Choice}
-use Rattle.vub_world.specs.declared.device.Choice.TheVariants as choices
-use Rattle.vub_world.specs.Choices.{next_turn, choices_from}
+use Rattle.vub_world.specs.declared.device.Sequence.{Sequence}
+use Rattle.vub_world.specs.declared.device.Sequence.TheVariants as sequences
+use Rattle.vub_world.specs.Sequences.{next_turn, choices_from}
 use Rattle.vub_world.specs.MachineSteps.{StepGoes, TurnsGo, TurnsMade}
 use Rattle.vub_run.specs.Moments.{Moment, standing}
 use Rattle.vub_queue_in_run.specs.QueueAt.{QueueStands, spot_of}
@@ -61,25 +61,25 @@ shown_is h r m (Some l) good at attached = go l.queue at.1
 -- ---- the loop
 
 -- so many turns from m on
-abbrev pub so_far : Header1 → Choice → Moment → ℕ → Played
-so_far h choice m done = turns done (choices_from h choice m) h 0 m
+abbrev pub so_far : Header1 → Sequence → Moment → ℕ → Played
+so_far h sequence m done = turns done (choices_from h sequence m) h 0 m
 
 -- so many turns were made from m on, and there is room for most in all
-pub record TurnsAre (h : Header1) (choice : Choice) (m : Moment) (most done : ℕ) (now : Machine) (before after : List Item) (taken : ℕ) (r : RoomState) (p : Played) : Type 0 where
+pub record TurnsAre (h : Header1) (sequence : Sequence) (m : Moment) (most done : ℕ) (now : Machine) (before after : List Item) (taken : ℕ) (r : RoomState) (p : Played) : Type 0 where
   pub at : MachineAt now p.next
   pub items_are : after ≡ before ++ p.items
-  pub begun : 0 < done → is_due h 0 (choices_from h choice m m) m ≡ true
+  pub begun : 0 < done → is_due h 0 (choices_from h sequence m m) m ≡ true
   pub taken_is : taken + accepted m.scene.past 0 ≡ accepted p.next.scene.past 0
   pub heads_are : p.next.scene.heads 0 ≡ m.scene.heads 0
   pub falls : done + effort_at p.next ≤ effort_at m
   pub room : HasRoom (most - done) (undone p.next) r
 
-abbrev pub TurnsAt : Header1 → Choice → Moment → ℕ → ℕ → Machine → List Item → List Item → ℕ → RoomState → Type 0
-TurnsAt h choice m most done now before after taken r = TurnsAre h choice m most done now before after taken r (so_far h choice m done)
+abbrev pub TurnsAt : Header1 → Sequence → Moment → ℕ → ℕ → Machine → List Item → List Item → ℕ → RoomState → Type 0
+TurnsAt h sequence m most done now before after taken r = TurnsAre h sequence m most done now before after taken r (so_far h sequence m done)
 
 -- at their begin
-pub turns_begin : (h : Header1) (choice : Choice) (m : Moment) (w : Machine) (items : List Item) (most undone_all : ℕ) (r : RoomState) → MachineAt w m → undone m ≤ undone_all → HasRoom most undone_all r → TurnsAt h choice m most 0 w items items 0 r
-turns_begin h choice m w items most all r at few room = record {
+pub turns_begin : (h : Header1) (sequence : Sequence) (m : Moment) (w : Machine) (items : List Item) (most undone_all : ℕ) (r : RoomState) → MachineAt w m → undone m ≤ undone_all → HasRoom most undone_all r → TurnsAt h sequence m most 0 w items items 0 r
+turns_begin h sequence m w items most all r at few room = record {
   at = at;
   items_are = sym (append-nil items);
   begun = λ some. absurd (omega arith);
@@ -101,8 +101,8 @@ undone_few h m w good at =
     omega (arith, shown, at.log.offers_are, at.log.collects_are)
 
 -- the moments of turns are reached
-pub reached : (h : Header1) (choice : Choice) (es : List Event) (rs : List Record) (m : Moment) (done : ℕ) → Stands h es rs m → IsReached h (so_far h choice m done).next
-reached h choice es rs m done stands = record { events = es; records = rs; from = m; stands = stands; count = done; choose = choices_from h choice m; is = refl }
+pub reached : (h : Header1) (sequence : Sequence) (es : List Event) (rs : List Record) (m : Moment) (done : ℕ) → Stands h es rs m → IsReached h (so_far h sequence m done).next
+reached h sequence es rs m done stands = record { events = es; records = rs; from = m; stands = stands; count = done; choose = choices_from h sequence m; is = refl }
 
 taken_few : (h : Header1) (m n : Moment) (taken : ℕ) → IsPlain h → Good h m → Good h n → n.scene.heads 0 ≡ m.scene.heads 0 → taken + accepted m.scene.past 0 ≡ accepted n.scene.past 0 → taken ≤ 64
 taken_few h m n taken plain good later heads is =
@@ -114,32 +114,32 @@ taken_few h m n taken plain good later heads is =
     let same : length (n.scene.heads 0) ≡ length (m.scene.heads 0) = ap (λ (xs : List ℕ). length xs) heads in
     omega (arith, few, room, offered, same, is, old.shown, old.fewer)
 
-pub turns_taken : (h : Header1) (choice : Choice) (es : List Event) (rs : List Record) (m : Moment) (most done : ℕ) (now : Machine) (before after : List Item) (taken : ℕ) (r : RoomState) → Stands h es rs m → TurnsAt h choice m most done now before after taken r → taken < 65535
-turns_taken h choice es rs m most done now before after taken r stands d =
-    let both = stands_turns h es rs m done (choices_from h choice m) stands in
-    omega (arith, taken_few h m (so_far h choice m done).next taken (plain_header h stands.header) (stands_good h es rs m stands) both.0 d.heads_are d.taken_is)
+pub turns_taken : (h : Header1) (sequence : Sequence) (es : List Event) (rs : List Record) (m : Moment) (most done : ℕ) (now : Machine) (before after : List Item) (taken : ℕ) (r : RoomState) → Stands h es rs m → TurnsAt h sequence m most done now before after taken r → taken < 65535
+turns_taken h sequence es rs m most done now before after taken r stands d =
+    let both = stands_turns h es rs m done (choices_from h sequence m) stands in
+    omega (arith, taken_few h m (so_far h sequence m done).next taken (plain_header h stands.header) (stands_good h es rs m stands) both.0 d.heads_are d.taken_is)
 
--- the turn that comes next in the machine is the next choice
-turn_is : (h : Header1) (choice : Choice) (m n : Moment) (taken : ℕ) → taken + accepted m.scene.past 0 ≡ accepted n.scene.past 0 → next_turn h choice taken n ≡ choices_from h choice m n
-turn_is h choices.Any m n taken is = refl
-turn_is h choices.Drain m n taken is = ap (λ (a : ℕ). drain_turn h.size a (standing h 0 n)) (let same : taken ≡ accepted n.scene.past 0 - accepted m.scene.past 0 = omega (arith, is) in same)
+-- the turn that comes next in the machine is the next sequence
+turn_is : (h : Header1) (sequence : Sequence) (m n : Moment) (taken : ℕ) → taken + accepted m.scene.past 0 ≡ accepted n.scene.past 0 → next_turn h sequence taken n ≡ choices_from h sequence m n
+turn_is h sequences.Any m n taken is = refl
+turn_is h sequences.Drain m n taken is = ap (λ (a : ℕ). drain_turn h.size a (standing h 0 n)) (let same : taken ≡ accepted n.scene.past 0 - accepted m.scene.past 0 = omega (arith, is) in same)
 
 -- how many turns a machine reserves for, where so many are asked for
 abbrev pub room_of : ℕ → Machine → ℕ
 room_of count w = min count (21 * (w.log.offered - w.log.collected) + 3)
 
 -- there is room for one turn more: for as many as are asked for, or for all that can follow
-pub room_left : (h : Header1) (choice : Choice) (es : List Event) (rs : List Record) (m : Moment) (count undone_all done : ℕ) (now : Machine) (before after : List Item) (taken : ℕ) (r : RoomState) → Stands h es rs m → undone m ≤ undone_all → done < count
-    → TurnsAt h choice m (min count (21 * undone_all + 3)) done now before after taken r → done < min count (21 * undone_all + 3)
-room_left h choice es rs m count all done now before after taken r stands few more d =
+pub room_left : (h : Header1) (sequence : Sequence) (es : List Event) (rs : List Record) (m : Moment) (count undone_all done : ℕ) (now : Machine) (before after : List Item) (taken : ℕ) (r : RoomState) → Stands h es rs m → undone m ≤ undone_all → done < count
+    → TurnsAt h sequence m (min count (21 * undone_all + 3)) done now before after taken r → done < min count (21 * undone_all + 3)
+room_left h sequence es rs m count all done now before after taken r stands few more d =
     let bound = effort_bound h m (stands_good h es rs m stands) in
     omega (arith, bound, few, more, d.falls)
 
-pub turn_room : (h : Header1) (choice : Choice) (es : List Event) (rs : List Record) (m : Moment) (most done : ℕ) (now : Machine) (before after : List Item) (taken : ℕ) (r : RoomState) → Stands h es rs m → now.header ≡ h → done < most
-    → TurnsAt h choice m most done now before after taken r → HasTurnRoom (length (batch_in now.life)) r
-turn_room h choice es rs m most done now before after taken r stands same left d =
-    let n : Moment = (so_far h choice m done).next in
-    let good = (stands_turns h es rs m done (choices_from h choice m) stands).0 in
+pub turn_room : (h : Header1) (sequence : Sequence) (es : List Event) (rs : List Record) (m : Moment) (most done : ℕ) (now : Machine) (before after : List Item) (taken : ℕ) (r : RoomState) → Stands h es rs m → now.header ≡ h → done < most
+    → TurnsAt h sequence m most done now before after taken r → HasTurnRoom (length (batch_in now.life)) r
+turn_room h sequence es rs m most done now before after taken r stands same left d =
+    let n : Moment = (so_far h sequence m done).next in
+    let good = (stands_turns h es rs m done (choices_from h sequence m) stands).0 in
     let few = batch_few now.header now.ring n now.life d.at.life in
     let not_yet = batch_undone h n good in record {
       items = omega (arith, left, d.room.items);
@@ -158,16 +158,16 @@ room_after left now next shown r r' fewer room spent = record {
 }
 
 -- one turn more
-pub turns_go_on : (h : Header1) (choice : Choice) (es : List Event) (rs : List Record) (m : Moment) (most done : ℕ) (now next : Machine) (before after after' : List Item) (taken taken' : ℕ) (r r' : RoomState) → Stands h es rs m → now.header ≡ h → done < most
-    → TurnsAt h choice m most done now before after taken r → StepGoes true (next_turn now.header choice taken (so_far h choice m done).next) now next (so_far h choice m done).next after after' taken taken' → SpendsStep (shown_in now.life) r r'
-    → TurnsAt h choice m most (suc done) next before after' taken' r'
-turns_go_on h choice es rs m most done now next before after after' taken taken' r r' stands same left d step spent =
-    let n : Moment = (so_far h choice m done).next in
+pub turns_go_on : (h : Header1) (sequence : Sequence) (es : List Event) (rs : List Record) (m : Moment) (most done : ℕ) (now next : Machine) (before after after' : List Item) (taken taken' : ℕ) (r r' : RoomState) → Stands h es rs m → now.header ≡ h → done < most
+    → TurnsAt h sequence m most done now before after taken r → StepGoes true (next_turn now.header sequence taken (so_far h sequence m done).next) now next (so_far h sequence m done).next after after' taken taken' → SpendsStep (shown_in now.life) r r'
+    → TurnsAt h sequence m most (suc done) next before after' taken' r'
+turns_go_on h sequence es rs m most done now next before after after' taken taken' r r' stands same left d step spent =
+    let n : Moment = (so_far h sequence m done).next in
     let plain = plain_header h stands.header in
-    let good = (stands_turns h es rs m done (choices_from h choice m) stands).0 in
-    let t : Turn = choices_from h choice m n in
-    let is : next_turn h choice taken n ≡ t = turn_is h choice m n taken d.taken_is in
-    let chosen : next_turn now.header choice taken n ≡ t = ap (λ (k : Header1). next_turn k choice taken n) same ∙ is in
+    let good = (stands_turns h es rs m done (choices_from h sequence m) stands).0 in
+    let t : Turn = choices_from h sequence m n in
+    let is : next_turn h sequence taken n ≡ t = turn_is h sequence m n taken d.taken_is in
+    let chosen : next_turn now.header sequence taken n ≡ t = ap (λ (k : Header1). next_turn k sequence taken n) same ∙ is in
     let went : StepGoes true t now next n after after' taken taken' = subst (λ (u : Turn). StepGoes true u now next n after after' taken taken') chosen step in
     let due : is_due h 0 t n ≡ true = subst (λ (k : Header1). is_due k 0 t n ≡ true) same went.0 in
     let at : MachineAt next (one_turn h 0 t n).next = subst (λ (k : Header1). MachineAt next (one_turn k 0 t n).next) same went.1 in
@@ -176,23 +176,23 @@ turns_go_on h choice es rs m most done now next before after after' taken taken'
     let attached : (n.lanes 0).attached ≡ true = grind (arith, nat_tests) in
     let life : LifeAt h now.ring n now.life = subst (λ (k : Header1). LifeAt k now.ring n now.life) same d.at.life in
     let shown : shown_in now.life ≡ shown_by (length (n.lanes 0).batch) (n.lanes 0).phase = shown_is h now.ring n now.life good life attached in
-    let shows = chosen_shows h n choice taken good t (sym is) in
+    let shows = chosen_shows h n sequence taken good t (sym is) in
     let heads : (one_turn h 0 t n).next.scene.heads 0 ≡ n.scene.heads 0 = (turn_gentle h t n plain good).heads in
     let many : length ((one_turn h 0 t n).next.scene.heads 0) ≡ length (n.scene.heads 0) = ap (λ (xs : List ℕ). length xs) heads in
     let falls = turn_falls h t n plain good due in
-    let more : so_far h choice m (suc done) ≡ then_played (so_far h choice m done) (one_turn h 0 t n) = turns_more done (choices_from h choice m) h m due in
-    let later : Good h (one_turn h 0 t n).next = subst (λ (p : Played). Good h p.next) more (stands_turns h es rs m (suc done) (choices_from h choice m) stands).0 in
+    let more : so_far h sequence m (suc done) ≡ then_played (so_far h sequence m done) (one_turn h 0 t n) = turns_more done (choices_from h sequence m) h m due in
+    let later : Good h (one_turn h 0 t n).next = subst (λ (p : Played). Good h p.next) more (stands_turns h es rs m (suc done) (choices_from h sequence m) stands).0 in
     let some_shown = later.holds.known.fewer in
     let all_taken = later.holds.known.offered in
     let fewer : undone (one_turn h 0 t n).next + shown_in now.life ≤ undone n = omega (arith, shows, many, shown, some_shown, all_taken) in
     let one_left : suc (most - suc done) ≡ most - done = omega (arith, left) in
-    let start : is_due h 0 (choices_from h choice m m) m ≡ true = elim (cases_eq done 0) [
-      | inl none ↦ subst (λ (x : ℕ). is_due h 0 (choices_from h choice m (so_far h choice m x).next) (so_far h choice m x).next ≡ true) none due
+    let start : is_due h 0 (choices_from h sequence m m) m ≡ true = elim (cases_eq done 0) [
+      | inl none ↦ subst (λ (x : ℕ). is_due h 0 (choices_from h sequence m (so_far h sequence m x).next) (so_far h sequence m x).next ≡ true) none due
       | inr some ↦ d.begun (omega (arith, some))
     ] in
-    subst (λ (p : Played). TurnsAre h choice m most (suc done) next before after' taken' r' p) (sym more) (record {
+    subst (λ (p : Played). TurnsAre h sequence m most (suc done) next before after' taken' r' p) (sym more) (record {
       at = at;
-      items_are = items_are ∙ ap (λ (is : List Item). is ++ (one_turn h 0 t n).items) d.items_are ∙ append_assoc before (so_far h choice m done).items (one_turn h 0 t n).items;
+      items_are = items_are ∙ ap (λ (is : List Item). is ++ (one_turn h 0 t n).items) d.items_are ∙ append_assoc before (so_far h sequence m done).items (one_turn h 0 t n).items;
       begun = λ some. start;
       taken_is = omega (arith, taken_are, d.taken_is);
       heads_are = heads ∙ d.heads_are;
@@ -203,26 +203,26 @@ turns_go_on h choice es rs m most done now next before after after' taken taken'
 -- ---- the end
 
 -- what the loop knows of its event
-pub record EndsAt (h : Header1) (choice : Choice) (es : List Event) (rs : List Record) (m : Moment) (most done : ℕ) (now w : Machine) (before after : List Item) (taken : ℕ) (r : RoomState) : Type 0 where
+pub record EndsAt (h : Header1) (sequence : Sequence) (es : List Event) (rs : List Record) (m : Moment) (most done : ℕ) (now w : Machine) (before after : List Item) (taken : ℕ) (r : RoomState) : Type 0 where
   pub stands : Stands h es rs m
   pub same : now.header ≡ h
   pub old : w.header ≡ h
-  pub here : TurnsAt h choice m most done now before after taken r
+  pub here : TurnsAt h sequence m most done now before after taken r
 
 -- turns never are many
-turns_few : (h : Header1) (choice : Choice) (es : List Event) (rs : List Record) (m : Moment) (most done : ℕ) (now : Machine) (before after : List Item) (taken : ℕ) (r : RoomState) → Stands h es rs m → TurnsAt h choice m most done now before after taken r → done ≤ 2000
-turns_few h choice es rs m most done now before after taken r stands d =
+turns_few : (h : Header1) (sequence : Sequence) (es : List Event) (rs : List Record) (m : Moment) (most done : ℕ) (now : Machine) (before after : List Item) (taken : ℕ) (r : RoomState) → Stands h es rs m → TurnsAt h sequence m most done now before after taken r → done ≤ 2000
+turns_few h sequence es rs m most done now before after taken r stands d =
     let small = effort_small h m (plain_header h stands.header) (stands_good h es rs m stands) in
     omega (arith, d.falls, small)
 
 -- as many were made as are asked for
-pub turns_all : (h : Header1) (choice : Choice) (es : List Event) (rs : List Record) (m : Moment) (most done count : ℕ) (now w : Machine) (before after : List Item) (taken : ℕ) (r : RoomState) → EndsAt h choice es rs m most done now w before after taken r → 1 ≤ count → done ≡ count
-    → TurnsGo true choice count w now m before after
-turns_all h choice es rs m most done count now w before after taken r e some all =
+pub turns_all : (h : Header1) (sequence : Sequence) (es : List Event) (rs : List Record) (m : Moment) (most done count : ℕ) (now w : Machine) (before after : List Item) (taken : ℕ) (r : RoomState) → EndsAt h sequence es rs m most done now w before after taken r → 1 ≤ count → done ≡ count
+    → TurnsGo true sequence count w now m before after
+turns_all h sequence es rs m most done count now w before after taken r e some all =
     let d = e.here in
-    subst (λ (k : Header1). (is_due k 0 (choices_from k choice m m) m ≡ true) × TurnsMade k (choices_from k choice m) count now m before after) (sym e.old) (
+    subst (λ (k : Header1). (is_due k 0 (choices_from k sequence m m) m ≡ true) × TurnsMade k (choices_from k sequence m) count now m before after) (sym e.old) (
       d.begun (omega (arith, some, all)),
-      record { count = done; few = omega (arith, all); small = turns_few h choice es rs m most done now before after taken r e.stands d; at = d.at; items_are = d.items_are; ends = inl all },
+      record { count = done; few = omega (arith, all); small = turns_few h sequence es rs m most done now before after taken r e.stands d; at = d.at; items_are = d.items_are; ends = inl all },
     )
 
 none_before : (n : ℕ) → n ≡ 0 → nat_lt 0 n ≡ false
@@ -232,31 +232,31 @@ some_before : (n : ℕ) → n ≢ 0 → nat_lt 0 n ≡ true
 some_before n e = let some : 0 < n = omega (arith, e) in grind (arith, nat_tests)
 
 -- the next one isn't due
-pub turns_stop : (h : Header1) (choice : Choice) (es : List Event) (rs : List Record) (m : Moment) (most done count : ℕ) (now next w : Machine) (before after after' : List Item) (taken taken' : ℕ) (r : RoomState) (made : Bool) → EndsAt h choice es rs m most done now w before after taken r
-    → done < count → made ≡ nat_lt 0 done → StepGoes false (next_turn now.header choice taken (so_far h choice m done).next) now next (so_far h choice m done).next after after' taken taken' → TurnsGo made choice count w next m before after'
-turns_stop h choice es rs m most done count now next w before after after' taken taken' r made e few is step = subst (λ (b : Bool). TurnsGo b choice count w next m before after') (sym is) (elim (cases_eq done 0) [
-  | inl none ↦ subst (λ (b : Bool). TurnsGo b choice count w next m before after') (sym (none_before done none)) (
-      subst (λ (k : Header1). (is_due k 0 (choices_from k choice m m) m ≡ false) × MachineAt next m × (after' ≡ before)) (sym e.old) (
-        subst (λ (x : ℕ). is_due h 0 (choices_from h choice m (so_far h choice m x).next) (so_far h choice m x).next ≡ false) none ends,
-        subst (λ (x : ℕ). MachineAt next (so_far h choice m x).next) none step.1,
-        items_are ∙ subst (λ (x : ℕ). before ++ (so_far h choice m x).items ≡ before ++ []) (sym none) refl ∙ append-nil before,
+pub turns_stop : (h : Header1) (sequence : Sequence) (es : List Event) (rs : List Record) (m : Moment) (most done count : ℕ) (now next w : Machine) (before after after' : List Item) (taken taken' : ℕ) (r : RoomState) (made : Bool) → EndsAt h sequence es rs m most done now w before after taken r
+    → done < count → made ≡ nat_lt 0 done → StepGoes false (next_turn now.header sequence taken (so_far h sequence m done).next) now next (so_far h sequence m done).next after after' taken taken' → TurnsGo made sequence count w next m before after'
+turns_stop h sequence es rs m most done count now next w before after after' taken taken' r made e few is step = subst (λ (b : Bool). TurnsGo b sequence count w next m before after') (sym is) (elim (cases_eq done 0) [
+  | inl none ↦ subst (λ (b : Bool). TurnsGo b sequence count w next m before after') (sym (none_before done none)) (
+      subst (λ (k : Header1). (is_due k 0 (choices_from k sequence m m) m ≡ false) × MachineAt next m × (after' ≡ before)) (sym e.old) (
+        subst (λ (x : ℕ). is_due h 0 (choices_from h sequence m (so_far h sequence m x).next) (so_far h sequence m x).next ≡ false) none ends,
+        subst (λ (x : ℕ). MachineAt next (so_far h sequence m x).next) none step.1,
+        items_are ∙ subst (λ (x : ℕ). before ++ (so_far h sequence m x).items ≡ before ++ []) (sym none) refl ∙ append-nil before,
       ))
-  | inr some ↦ subst (λ (b : Bool). TurnsGo b choice count w next m before after') (sym (some_before done some)) (
-      subst (λ (k : Header1). (is_due k 0 (choices_from k choice m m) m ≡ true) × TurnsMade k (choices_from k choice m) count next m before after') (sym e.old) (
+  | inr some ↦ subst (λ (b : Bool). TurnsGo b sequence count w next m before after') (sym (some_before done some)) (
+      subst (λ (k : Header1). (is_due k 0 (choices_from k sequence m m) m ≡ true) × TurnsMade k (choices_from k sequence m) count next m before after') (sym e.old) (
         e.here.begun (omega (arith, some)),
-        record { count = done; few = omega (arith, few); small = turns_few h choice es rs m most done now before after taken r e.stands e.here; at = step.1; items_are = items_are; ends = inr ends },
+        record { count = done; few = omega (arith, few); small = turns_few h sequence es rs m most done now before after taken r e.stands e.here; at = step.1; items_are = items_are; ends = inr ends },
       ))
 ])
   where
     n : Moment
-    n = (so_far h choice m done).next
+    n = (so_far h sequence m done).next
 
-    ends : is_due h 0 (choices_from h choice m n) n ≡ false
+    ends : is_due h 0 (choices_from h sequence m n) n ≡ false
     ends =
-        let chosen : next_turn now.header choice taken n ≡ choices_from h choice m n = ap (λ (k : Header1). next_turn k choice taken n) e.same ∙ turn_is h choice m n taken e.here.taken_is in
-        subst (λ (k : Header1). is_due k 0 (choices_from h choice m n) n ≡ false) e.same (subst (λ (u : Turn). is_due now.header 0 u n ≡ false) chosen step.0)
+        let chosen : next_turn now.header sequence taken n ≡ choices_from h sequence m n = ap (λ (k : Header1). next_turn k sequence taken n) e.same ∙ turn_is h sequence m n taken e.here.taken_is in
+        subst (λ (k : Header1). is_due k 0 (choices_from h sequence m n) n ≡ false) e.same (subst (λ (u : Turn). is_due now.header 0 u n ≡ false) chosen step.0)
 
-    items_are : after' ≡ before ++ (so_far h choice m done).items
+    items_are : after' ≡ before ++ (so_far h sequence m done).items
     items_are = step.2 ∙ e.here.items_are
 
 -- no more are outstanding than the ring has places

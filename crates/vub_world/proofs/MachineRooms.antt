@@ -11,7 +11,7 @@ use Rattle.vub_steps.specs.declared.steps.Step.TheVariants as steps
 use Rattle.vub_steps.specs.declared.readiness.Standing.{Standing}
 use Rattle.vub_steps.specs.declared.readiness.Turn.{Turn}
 use Rattle.vub_steps.specs.declared.readiness.Turn.TheVariants as turns
-use Rattle.vub_steps.specs.Readiness.{is_publication, any_turn}
+use Rattle.vub_steps.specs.Readiness.{is_publication, any_turn, draining_turn}
 use Rattle.vub_steps.specs.Rows.{Row, row_of}
 use Rattle.vub_ring.specs.Ring.{used_idx}
 use Rattle.vub_steps.specs.Steps.{next_step}
@@ -23,9 +23,9 @@ use Rattle.vub_device.specs.Past.{asked, accepted, published, is_among, missing_
 use Rattle.vub_device.specs.Places.{are_distinct}
 use Rattle.vub_device.specs.Requests.{look_at, effect_at}
 use Rattle.vub_device.proofs.Numbers.{is_among_append}
-use Rattle.vub_world.specs.declared.device.Choice.{Choice}
-use Rattle.vub_world.specs.declared.device.Choice.TheVariants as choices
-use Rattle.vub_world.specs.Choices.{choose, next_turn}
+use Rattle.vub_world.specs.declared.device.Sequence.{Sequence}
+use Rattle.vub_world.specs.declared.device.Sequence.TheVariants as sequences
+use Rattle.vub_world.specs.Sequences.{next_turn}
 use Rattle.vub_world.specs.MachineDevice.{is_index}
 use Rattle.vub_run.specs.Memory.{Scene, after_items}
 use Rattle.vub_run.specs.Moments.{Lane, Moment, standing, unfinished}
@@ -120,28 +120,41 @@ goes_on h s l t busy =
     subst (λ (b : Bool). count_in (after_items h.size (phase_goes_on h 0 s (if b then begun t l else l)).items s) ≡ count_in s + shown_by (length l.batch) l.phase) (sym busy)
     (phase_shows h s l (next_step (length l.batch) l.phase))
 
-either : (P : Turn → Type 0) (b : Bool) (t u : Turn) → P t → P u → P (if b then t else u)
-either P true t u p q = p
-either P false t u p q = q
+-- while a batch is published no work on a request comes first
+any_publishes : (size waiting unfinished completed : ℕ) (started : Bool) (phase : Phase) → is_publication phase ≡ true
+    → IsOfQueue (any_turn size (record { started = started; phase = phase; waiting = waiting; unfinished = unfinished; completed = completed }))
+any_publishes size waiting unfinished completed false phase publishes = tt
+any_publishes size waiting unfinished completed true (phases.Publish done) publishes = tt
+any_publishes size waiting unfinished completed true phases.Rest publishes = absurd (cc publishes)
+any_publishes size waiting unfinished completed true (phases.Start done) publishes = absurd (cc publishes)
+any_publishes size waiting unfinished completed true (phases.Fetch done) publishes = absurd (cc publishes)
 
--- while a batch is published no work on a request is chosen
-publishing : (size : ℕ) (st : Standing) (n : Turn) → is_publication st.phase ≡ true → IsOfQueue (if is_publication st.phase then turns.Publish size else n)
-publishing size st n publishes = subst (λ (b : Bool). IsOfQueue (if b then turns.Publish size else n)) (sym publishes) tt
+drain_publishes : (size waiting unfinished completed : ℕ) (started : Bool) (phase : Phase) (b : Bool) → is_publication phase ≡ true
+    → IsOfQueue (if b then any_turn size (record { started = started; phase = phase; waiting = waiting; unfinished = unfinished; completed = completed }) else draining_turn size (record { started = started; phase = phase; waiting = waiting; unfinished = unfinished; completed = completed }))
+drain_publishes size waiting unfinished completed started phase true publishes = any_publishes size waiting unfinished completed started phase publishes
+drain_publishes size waiting unfinished completed false (phases.Publish done) false publishes = tt
+drain_publishes size waiting unfinished completed true (phases.Publish done) false publishes = tt
+drain_publishes size waiting unfinished completed started phases.Rest false publishes = absurd (cc publishes)
+drain_publishes size waiting unfinished completed started (phases.Start done) false publishes = absurd (cc publishes)
+drain_publishes size waiting unfinished completed started (phases.Fetch done) false publishes = absurd (cc publishes)
 
-publishing_turn : (choice : Choice) (size taken : ℕ) (st : Standing) → is_publication st.phase ≡ true → IsOfQueue (choose choice size taken st)
-publishing_turn choices.Any size taken st publishes = either IsOfQueue (not st.started) turns.Start _ tt (publishing size st _ publishes)
-publishing_turn choices.Drain size taken st publishes =
-    either IsOfQueue (nat_lt taken size) (any_turn size st) _ (either IsOfQueue (not st.started) turns.Start _ tt (publishing size st _ publishes)) (publishing size st _ publishes)
+publishing_turn : (h : Header1) (m : Moment) (sequence : Sequence) (taken : ℕ) → is_publication (m.lanes 0).phase ≡ true → IsOfQueue (next_turn h sequence taken m)
+publishing_turn h m sequences.Any taken publishes =
+    let s : Standing = standing h 0 m in
+    any_publishes h.size s.waiting s.unfinished s.completed s.started (m.lanes 0).phase publishes
+publishing_turn h m sequences.Drain taken publishes =
+    let s : Standing = standing h 0 m in
+    drain_publishes h.size s.waiting s.unfinished s.completed s.started (m.lanes 0).phase (nat_lt taken h.size) publishes
 
 -- the turn that comes next publishes as many as its step shows
-pub chosen_shows : (h : Header1) (m : Moment) (choice : Choice) (taken : ℕ) → Good h m → (t : Turn) → t ≡ next_turn h choice taken m
+pub chosen_shows : (h : Header1) (m : Moment) (sequence : Sequence) (taken : ℕ) → Good h m → (t : Turn) → t ≡ next_turn h sequence taken m
     → length (published (one_turn h 0 t m).next.scene.past 0) ≡ length (published m.scene.past 0) + shown_by (length (m.lanes 0).batch) (m.lanes 0).phase
-chosen_shows h m choice taken good t is = elim (phase_cases l.batch l.phase good.holds.worked.phase_is) [
+chosen_shows h m sequence taken good t is = elim (phase_cases l.batch l.phase good.holds.worked.phase_is) [
   | inl rest ↦
       let none : shown_by (length l.batch) l.phase ≡ 0 = ap (λ (p : Phase). shown_by (length l.batch) p) rest.0 in
       let same : count_in (after_items h.size (turned h 0 t m).items s) ≡ count_in s = resting t (ap is_rest rest.0) rest.1 in
       omega (arith, none, same)
-  | inr shows ↦ publishes t (subst IsOfQueue (sym is) (publishing_turn choice h.size taken (standing h 0 m) (ap is_publication shows.1))) (ap is_rest shows.1)
+  | inr shows ↦ publishes t (subst IsOfQueue (sym is) (publishing_turn h m sequence taken (ap is_publication shows.1))) (ap is_rest shows.1)
 ]
   where
     s : Scene

@@ -6,13 +6,13 @@ use Rattle.vub_steps.specs.declared.readiness.Turn.{Turn}
 use Rattle.vub_schedule.specs.declared.types.Event.{Event}
 use Rattle.vub_schedule.specs.declared.types.Event.TheVariants as events
 use Rattle.vub_device.specs.Past.{accepted}
-use Rattle.vub_world.specs.declared.device.Choice.{Choice}
-use Rattle.vub_world.specs.declared.device.Choice.TheVariants as choices
+use Rattle.vub_world.specs.declared.device.Sequence.{Sequence}
+use Rattle.vub_world.specs.declared.device.Sequence.TheVariants as sequences
 use Rattle.vub_world.specs.declared.machine.Machine.{Machine}
 use Rattle.vub_report.specs.declared.items.Item.{Item}
 use Rattle.vub_report.specs.declared.items.Item.TheVariants as items
 use Rattle.vub_report.specs.declared.items.Record.{Record}
-use Rattle.vub_world.specs.Choices.{choices_from}
+use Rattle.vub_world.specs.Sequences.{choices_from}
 use Rattle.vub_world.specs.MachineAt.{MachineAt, IsStanding, IsReached, Performs}
 use Rattle.vub_world.specs.MachineDevice.{batch_in}
 use Rattle.vub_world.specs.MachineSteps.{StepGoes, TurnsGo, TurnsMade, TurnsEvent, PlaysTurns}
@@ -76,11 +76,11 @@ single_made t w now m after is taken goes noted = (
 
 -- ---- several turns
 
-pub several_idle : (w now : Machine) (choice : Choice) (most : ℕ) (m : Moment) (after is : List Item) → TurnsGo false choice most w now m [] after → is ≡ after ++ items.Idle ∷ [] → TurnsEvent w now choice most m is
-several_idle w now choice most m after is goes noted = inl (goes.0, goes.1, noted ∙ ap (λ (xs : List Item). xs ++ items.Idle ∷ []) goes.2)
+pub several_idle : (w now : Machine) (sequence : Sequence) (most : ℕ) (m : Moment) (after is : List Item) → TurnsGo false sequence most w now m [] after → is ≡ after ++ items.Idle ∷ [] → TurnsEvent w now sequence most m is
+several_idle w now sequence most m after is goes noted = inl (goes.0, goes.1, noted ∙ ap (λ (xs : List Item). xs ++ items.Idle ∷ []) goes.2)
 
-pub several_made : (w now : Machine) (choice : Choice) (most : ℕ) (m : Moment) (after is : List Item) → TurnsGo true choice most w now m [] after → is ≡ after → TurnsEvent w now choice most m is
-several_made w now choice most m after is goes noted = inr (subst (λ (xs : List Item). (is_due w.header 0 (choices_from w.header choice m m) m ≡ true) × TurnsMade w.header (choices_from w.header choice m) most now m [] xs) (sym noted) goes)
+pub several_made : (w now : Machine) (sequence : Sequence) (most : ℕ) (m : Moment) (after is : List Item) → TurnsGo true sequence most w now m [] after → is ≡ after → TurnsEvent w now sequence most m is
+several_made w now sequence most m after is goes noted = inr (subst (λ (xs : List Item). (is_due w.header 0 (choices_from w.header sequence m m) m ≡ true) × TurnsMade w.header (choices_from w.header sequence m) most now m [] xs) (sym noted) goes)
 
 -- where the next turn isn't due, as many turns and more are these
 turns_enough : (n count : ℕ) (choose : Moment → Turn) (h : Header1) (m : Moment) → n ≤ count → is_due h 0 (choose (turns n choose h 0 m).next) (turns n choose h 0 m).next ≡ false → turns count choose h 0 m ≡ turns n choose h 0 m
@@ -106,13 +106,13 @@ made_all h choose most now m is x = elim x.ends [
   | inr none ↦ turns_enough x.count most choose h m x.few none
 ]
 
-pub up_to_performs : (w now : Machine) (count : ℕ) (is : List Item) → PlaysTurns w now choices.Any count is → Performs w now (events.Turn 0 count) is
+pub up_to_performs : (w now : Machine) (count : ℕ) (is : List Item) → PlaysTurns w now sequences.Any count is → Performs w now (events.Turn 0 count) is
 up_to_performs w now count is plays es rs m stands at = go (plays es rs m stands at)
   where
     choose : Moment → Turn
     choose = any_choice w.header 0
 
-    go : TurnsEvent w now choices.Any count m is → (next : Moment) × (played is next ≡ up_to count choose w.header 0 m) × MachineAt now next
+    go : TurnsEvent w now sequences.Any count m is → (next : Moment) × (played is next ≡ up_to count choose w.header 0 m) × MachineAt now next
     go (inl x) = (m, ap (λ (xs : List Item). played xs m) x.2 ∙ sym (unready (is_due w.header 0 (choose m) m) (turns count choose w.header 0 m) m x.0), x.1)
     go (inr x) =
         let n : ℕ = x.1.count in (
@@ -124,7 +124,7 @@ up_to_performs w now count is plays es rs m stands at = go (plays es rs m stands
 -- ---- a drain
 
 -- a bound of its turns that is never reached
-pub drain_performs : (w now : Machine) (most : ℕ) (is : List Item) → 2000 < most → PlaysTurns w now choices.Drain most is → Performs w now (events.Drain 0) is
+pub drain_performs : (w now : Machine) (most : ℕ) (is : List Item) → 2000 < most → PlaysTurns w now sequences.Drain most is → Performs w now (events.Drain 0) is
 drain_performs w now most is high plays es rs m stands at = go (plays es rs m stands at)
   where
     choose : Moment → Turn
@@ -136,7 +136,7 @@ drain_performs w now most is high plays es rs m stands at = go (plays es rs m st
       | inr none ↦ none
     ]
 
-    go : TurnsEvent w now choices.Drain most m is → (next : Moment) × Drains w.header 0 m choose is next × MachineAt now next
+    go : TurnsEvent w now sequences.Drain most m is → (next : Moment) × Drains w.header 0 m choose is next × MachineAt now next
     go (inl x) = (m, inl (x.0, ap (λ (xs : List Item). played xs m) x.2), x.1)
     go (inr x) =
         let n : ℕ = x.1.count in (

@@ -14,15 +14,14 @@ use Rattle.vub_steps.specs.declared.readiness.Turn.TheVariants as turns
 use Rattle.vub_steps.specs.Rows.{Row}
 use Rattle.vub_queue.specs.declared.queue.Stepped.{Stepped}
 use Rattle.vub_queue.specs.declared.queue.Stepped.TheVariants as says
-use Rattle.vub_queue.specs.declared.queue.Turn as asked
+use Rattle.vub_steps.specs.declared.readiness.Choice.{Choice}
+use Rattle.vub_steps.specs.Readiness.{chosen}
 use Rattle.vub_split.specs.declared.split.SplitRing.{SplitRing}
-use Rattle.vub_world.specs.declared.device.Choice.{Choice}
-use Rattle.vub_world.specs.Choices.{choose, next_turn}
 use Rattle.vub_world.specs.MachineAt.{IsReached}
 use Rattle.vub_world.specs.MachineDevice.{turn_here}
 use Rattle.vub_run.specs.Moments.{Moment, standing}
 use Rattle.vub_queue_in_run.specs.QueueAt.{QueueStands, IsMainRing}
-use Rattle.vub_queue.specs.QueueState.{QueueState, standing_at, waiting, turn_at, publish_row, TrailsRow, DoesTrail, outcome, disk_outcome, is_fault}
+use Rattle.vub_queue.specs.QueueState.{QueueState, standing_at, waiting, publish_row, TrailsRow, DoesTrail, outcome, disk_outcome, is_fault}
 use Rattle.vub_task.specs.TaskState.{GainsOne}
 use Rattle.vub_run_laws.proofs.Runs.{plain_header}
 use Rattle.vub_run_laws.proofs.RunTurns.{IsPlain, Good}
@@ -110,16 +109,8 @@ as_here h r m q b main z memory = record {
   standing_is = ap (λ (c : Bytes). standing_at q (waiting q c)) memory ∙ standings h r m q main z;
 }
 
-pub turn_same : (h : Header1) (r : SplitRing) (m : Moment) (q : QueueState) (b : Bytes) (t : asked.Turn) → IsMainRing r h.size → QueueStands h r m q → b ≡ m.scene.memory
-    → turn_at q.ring.size (standing_at q (waiting q b)) t ≡ turn_here h t m
-turn_same h r m q b t main z memory =
+pub turn_same : (h : Header1) (r : SplitRing) (m : Moment) (q : QueueState) (b : Bytes) (choice : Choice) → IsMainRing r h.size → QueueStands h r m q → b ≡ m.scene.memory
+    → chosen q.ring.size choice (standing_at q (waiting q b)) ≡ turn_here h choice m
+turn_same h r m q b choice main z memory =
     let here = as_here h r m q b main z memory in
-    ap (λ (n : ℕ). turn_at n (standing_at q (waiting q b)) t) here.size ∙ ap (λ (s : Standing). turn_at h.size s t) here.standing_is
-
--- the turn that a queue chooses is the one that is chosen at the moment
-pub choice_same : (h : Header1) (r : SplitRing) (m : Moment) (q : QueueState) (choice : Choice) (taken : ℕ) (t : asked.Turn) → IsMainRing r h.size → QueueStands h r m q
-    → ((n : ℕ) → turn_at q.ring.size (standing_at q n) t ≡ choose choice q.ring.size taken (standing_at q n)) → turn_here h t m ≡ next_turn h choice taken m
-choice_same h r m q choice taken t main z chosen =
-    let here = as_here h r m q m.scene.memory main z refl in
-    sym (turn_same h r m q m.scene.memory t main z refl) ∙ chosen (waiting q m.scene.memory)
-    ∙ ap (λ (n : ℕ). choose choice n taken (standing_at q (waiting q m.scene.memory))) here.size ∙ ap (λ (s : Standing). choose choice h.size taken s) here.standing_is
+    ap (λ (n : ℕ). chosen n choice (standing_at q (waiting q b))) here.size ∙ ap (λ (s : Standing). chosen h.size choice s) here.standing_is

@@ -12,7 +12,8 @@ use Rattle.vub_disk.specs.Values.{Values}
 use Rattle.vub_steps.specs.declared.readiness.Standing.{Standing}
 use Rattle.vub_steps.specs.declared.readiness.Turn.{Turn}
 use Rattle.vub_steps.specs.declared.readiness.Turn.TheVariants as turns
-use Rattle.vub_steps.specs.Readiness.{is_ready, is_publication, any_turn}
+use Rattle.vub_steps.specs.Readiness.{is_ready, chosen}
+use Rattle.vub_steps.proofs.ReadinessLemmas.{any_works, drain_works}
 use Rattle.vub_device.specs.declared.entry.Asked.{Asked}
 use Rattle.vub_device.specs.declared.entry.Entry.TheVariants as entries
 use Rattle.vub_device.specs.Past.{accepted}
@@ -22,8 +23,8 @@ use Rattle.vub_report.specs.declared.items.Item.{Item}
 use Rattle.vub_report.specs.declared.items.Item.TheVariants as items
 use Rattle.vub_queue.specs.declared.queue.Stepped.{Stepped}
 use Rattle.vub_queue.specs.declared.queue.Stepped.TheVariants as says
-use Rattle.vub_queue.specs.declared.queue.Turn as asked
-use Rattle.vub_queue.specs.declared.queue.Turn.TheVariants as asks
+use Rattle.vub_steps.specs.declared.readiness.Choice.{Choice}
+use Rattle.vub_steps.specs.declared.readiness.Choice.TheVariants as choices
 use Rattle.vub_split.specs.declared.split.SplitRing.{SplitRing}
 use Rattle.vub_task.specs.declared.task.Task.{Task}
 use Rattle.vub_world.specs.MachineDevice.{Device, DeviceAt, TurnMade, DeviceTurns, StoreFits, SectorFits, noted, stored_items, shown_of, accepts, number_at}
@@ -31,9 +32,9 @@ use Rattle.vub_world.specs.MachineFront.{OneSmall}
 use Rattle.vub_run.specs.Memory.{after_items}
 use Rattle.vub_run.specs.Moments.{Moment, standing}
 use Rattle.vub_queue_in_run.specs.QueueAt.{QueueStands, DiskAt}
-use Rattle.vub_queue.specs.QueueState.{QueueState, IsDue, IfStepped, WorksOut, due_store, sector_at, said, is_idle, is_fault, turn_at, Rests}
+use Rattle.vub_queue.specs.QueueState.{QueueState, IsDue, IfStepped, WorksOut, due_store, sector_at, said, is_idle, is_fault, Rests}
 use Rattle.vub_run.specs.Run.{one_turn}
-use Rattle.vub_task.specs.TaskState.{Making, answer_in, answer_to, memory_after, values_after, with_maybe}
+use Rattle.vub_task.specs.TaskState.{Making, answer_in, answer_to, memory_after, values_after, with_maybe, head_in}
 use Rattle.vub_steps.specs.Tasks.{TaskStep, Look, Act}
 use Rattle.vub_run.specs.Turns.{turned}
 use Rattle.vub_run_laws.proofs.RunFrames.{open_out}
@@ -109,7 +110,7 @@ stores_noted h m t log d now tag x task n fresh trails shows goes none notes fit
 -- what is known of the step that is made
 pub record Makes (log : Log) (d now : Device) (k : ℕ) (task : Task) (n : Making) (x : Stepped) : Type 0 where
   pub fresh : d.stores ≡ []
-  pub number : number_at log task.head ≡ k
+  pub number : number_at log (head_in task) ≡ k
   pub values_are : now.values ≡ values_after n.request n.step d.values
   pub trails : Some now.stores ≡ option_map (with_maybe (due_store d.queue task n)) (Some d.stores)
   pub looks : (head sector : ℕ) (v : Values) → x ≡ says.Looked head sector → values_after n.request n.step v ≡ v
@@ -165,16 +166,16 @@ work_made h r m log sizes place d now x a room ready does =
     let due : IsDue h.capacity sizes q d.memory place w.task n = subst (λ (b : Bytes). IsDue h.capacity sizes q b place w.task n) (sym a.at.memory_is) w.due in
     let out : WorksOut place w.task n d.memory (Some now.memory) (Some d.stores) (Some now.stores) (Some d.values) (Some now.values) x q now.queue = stepped_out x _ does.fine does.served (does.made place w.task n refl due) in
     let kind = work_kind h sizes m q place w a.plain a.good in
-    let well : SaysWell h.capacity w.request w.step (said w.task.head (answer_in n)) = says_well h w.task.head ((m.lanes 0).made w.k) w.request w.step kind in
+    let well : SaysWell h.capacity w.request w.step (said (head_in w.task) (answer_in n)) = says_well h (head_in w.task) ((m.lanes 0).made w.k) w.request w.step kind in
     let well_too : SaysWell h.capacity w.request w.step x = subst (λ (y : Stepped). SaysWell h.capacity w.request w.step y) (sym out.says) well in
     let shows : Shows d.values q w.k w.task n (turned h 0 (turns.Work place) m).items x =
     subst (λ (y : Stepped). Shows d.values q w.k w.task n (turned h 0 (turns.Work place) m).items y) (sym out.says) (work_items h sizes m r q place d.values w a.plain a.good a.main a.at.stands a.at.disk) in
     let is_out : IsOut m.scene.past (m.scene.heads 0) w.k = open_out h.size h.capacity m.scene.past (m.scene.heads 0) w.k a.good.holds.known w.is_open in
-    let number : number_at log w.task.head ≡ w.k = ap (number_at log) w.head ∙ ap (λ (o : Outstanding). o.number) (a.numbered.slots w.k is_out.below is_out.kept) in
+    let number : number_at log (head_in w.task) ≡ w.k = ap (number_at log) w.head ∙ ap (λ (o : Outstanding). o.number) (a.numbered.slots w.k is_out.below is_out.kept) in
     let values : now.values ≡ values_after w.request w.step d.values = some_is now.values (values_after w.request w.step d.values) out.values in
     let notes : NotesWork h m (turns.Work place) log d now x = work_noted h m (turns.Work place) log d now w.k w.task n x (record { fresh = a.fresh; number = number; values_are = values; trails = out.trails; looks = well_too.looks }) shows in
-    let memory : now.memory ≡ memory_after q.ring n (sector_at q w.task.head) m.scene.memory =
-    some_is now.memory (memory_after q.ring n (sector_at q w.task.head) d.memory) out.stores ∙ ap (memory_after q.ring n (sector_at q w.task.head)) a.at.memory_is in
+    let memory : now.memory ≡ memory_after q.ring n (sector_at q (head_in w.task)) m.scene.memory =
+    some_is now.memory (memory_after q.ring n (sector_at q (head_in w.task)) d.memory) out.stores ∙ ap (memory_after q.ring n (sector_at q (head_in w.task))) a.at.memory_is in
     record {
       goes = notes.goes;
       at = record {
@@ -190,29 +191,11 @@ work_made h r m log sizes place d now x a room ready does =
 
 -- ---- work that isn't ready
 
--- work that is chosen is ready
-any_works : (size j : ℕ) (s : Standing) → any_turn size s ≡ turns.Work j → is_ready s (turns.Work j) ≡ true
-any_works size j s e = elim (cases_Bool s.started) [
-  | inl run ↦ elim (cases_Bool (is_publication s.phase)) [
-    | inl shows ↦ absurd (let fails : turns.Publish size ≡ turns.Work j = grind (arith, nat_tests) in cc)
-    | inr rests ↦ elim (cases_Bool (is_ready s turns.Fetch)) [
-      | inl fetches ↦ absurd (let fails : turns.Fetch ≡ turns.Work j = grind (arith, nat_tests) in cc)
-      | inr none ↦ elim (cases_Bool (nat_lt 0 s.unfinished)) [
-        | inl some ↦ let same : turns.Work 0 ≡ turns.Work j = grind (arith, nat_tests) in let zero_is : j ≡ 0 = cc in grind (arith, nat_tests)
-        | inr none ↦ absurd (let fails : turns.Publish size ≡ turns.Work j = grind (arith, nat_tests) in cc)
-      ]
-    ]
-  ]
-  | inr stopped ↦ absurd (let fails : turns.Start ≡ turns.Work j = grind (arith, nat_tests) in cc)
-]
-
--- so work that isn't ready was asked for
-pub work_asked : (size : ℕ) (s : Standing) (t : asked.Turn) (place : ℕ) → turn_at size s t ≡ turns.Work place → is_ready s (turns.Work place) ≡ false → t ≡ asks.Work place
-work_asked size s asks.Start place is unready = absurd (let fails : turns.Start ≡ turns.Work place = is in cc)
-work_asked size s asks.Fetch place is unready = absurd (let fails : turns.Fetch ≡ turns.Work place = is in cc)
-work_asked size s (asks.Work j) place is unready = let same : j ≡ place = cc in ap asks.Work same
-work_asked size s (asks.Publish most) place is unready = absurd (let fails : turns.Publish most ≡ turns.Work place = is in cc)
-work_asked size s asks.Any place is unready = absurd (let fails : true ≡ false = sym (any_works size place s is) ∙ unready in cc)
+-- work that comes first is ready, so work that isn't was asked for
+pub work_asked : (size : ℕ) (s : Standing) (choice : Choice) (place : ℕ) → chosen size choice s ≡ turns.Work place → is_ready s (turns.Work place) ≡ false → choice ≡ choices.Only (turns.Work place)
+work_asked size s (choices.Only turn) place is unready = ap choices.Only is
+work_asked size s choices.Any place is unready = absurd (let fails : true ≡ false = sym (any_works size place s is) ∙ unready in cc)
+work_asked size s (choices.Drain accepted) place is unready = absurd (let fails : true ≡ false = sym (drain_works size place s (nat_lt accepted size) is) ∙ unready in cc)
 
 -- nothing was made
 abbrev pub RestsAt : Device → Device → Stepped → Type 0

@@ -1,4 +1,3 @@
-pub mod Choices
 pub mod Lives
 pub mod Logs
 pub mod Machine
@@ -6,4 +5,5 @@ pub mod MachineAt
 pub mod MachineDevice
 pub mod MachineFront
 pub mod MachineSteps
+pub mod Sequences
 pub mod World

@@ -31,8 +31,9 @@ use Rattle.vub_queue.specs.declared.queue.Stepped.{Stepped}
 use Rattle.vub_queue.specs.declared.queue.Stepped.TheVariants as says
 use Rattle.vub_world.specs.Logs.{slot_in}
 use Rattle.vub_run.specs.Moments.{Moment, standing}
-use Rattle.vub_queue.specs.declared.queue.Turn as asked
-use Rattle.vub_queue.specs.QueueState.{QueueState, state_of, is_idle, turn_at}
+use Rattle.vub_steps.specs.declared.readiness.Choice.{Choice}
+use Rattle.vub_steps.specs.Readiness.{chosen}
+use Rattle.vub_queue.specs.QueueState.{QueueState, state_of, is_idle}
 use Rattle.vub_queue_in_run.specs.QueueAt.{QueueStands, DiskAt}
 use Rattle.vub_run.specs.Run.{one_turn}
 use Rattle.vub_world.specs.MachineAt.{has_queue}
@@ -123,9 +124,9 @@ IsEntry log v says.Published e = ⊤
 IsEntry log v x None = noted log v [] [] x ≡ []
 IsEntry log v x (Some e) = noted log v [] [] x ≡ items.Made e ∷ []
 
--- the turn of the step table that is asked for, at a moment
-abbrev pub turn_here : Header1 → asked.Turn → Moment → Turn
-turn_here h turn m = turn_at h.size (standing h 0 m) turn
+-- the turn that a choice comes to at a moment
+abbrev pub turn_here : Header1 → Choice → Moment → Turn
+turn_here h choice m = chosen h.size choice (standing h 0 m)
 
 -- whether a turn accepted a request
 abbrev pub accepts : Stepped → ℕ

@@ -6,20 +6,19 @@ use Rattle.vub_steps.specs.declared.readiness.Turn.{Turn}
 use Rattle.vub_memdisk.specs.MemDisks.{values_of}
 use Rattle.vub_device.specs.Past.{accepted}
 use Rattle.vub_schedule.specs.declared.types.Event.{Event}
-use Rattle.vub_world.specs.declared.device.Choice.{Choice}
+use Rattle.vub_world.specs.declared.device.Sequence.{Sequence}
 use Rattle.vub_report.specs.declared.items.Item.{Item}
 use Rattle.vub_report.specs.declared.items.Item.TheVariants as items
 use Rattle.vub_report.specs.declared.items.Record.{Record}
 use Rattle.vub_world.specs.declared.machine.Machine.{Machine}
 use Rattle.vub_queue.specs.declared.queue.Stepped.{Stepped}
 use Rattle.vub_queue.specs.declared.queue.Stepped.TheVariants as says
-use Rattle.vub_queue.specs.declared.queue.Turn as asked
-use Rattle.vub_world.specs.Choices.{choices_from}
+use Rattle.vub_world.specs.Sequences.{choices_from}
 use Rattle.vub_run.specs.Moments.{Moment}
 use Rattle.vub_queue.specs.QueueState.{is_idle}
 use Rattle.vub_run.specs.Run.{Stands, played, single, turns, one_turn, is_due}
 use Rattle.vub_world.specs.MachineAt.{MachineAt}
-use Rattle.vub_world.specs.MachineDevice.{noted, StoreFits, SectorFits, accepts, answers_shown, turn_here}
+use Rattle.vub_world.specs.MachineDevice.{noted, StoreFits, SectorFits, accepts, answers_shown}
 
 -- a turn that was due
 pub record MachineTurns (t : Turn) (w now : Machine) (m : Moment) (x : Stepped) : Type 0 where
@@ -54,22 +53,22 @@ pub record TurnsMade (h : Header1) (choose : Moment → Turn) (most : ℕ) (now 
   pub ends : (count ≡ most) ⊎ (is_due h 0 (choose (turns count choose h 0 m).next) (turns count choose h 0 m).next ≡ false)
 
 -- turns were made, at most so many; made tells whether the first was due
-abbrev pub TurnsGo : Bool → Choice → ℕ → Machine → Machine → Moment → List Item → List Item → Type 0
-TurnsGo false choice most w now m before after = (is_due w.header 0 (choices_from w.header choice m m) m ≡ false) × MachineAt now m × (after ≡ before)
-TurnsGo true choice most w now m before after = (is_due w.header 0 (choices_from w.header choice m m) m ≡ true) × TurnsMade w.header (choices_from w.header choice m) most now m before after
+abbrev pub TurnsGo : Bool → Sequence → ℕ → Machine → Machine → Moment → List Item → List Item → Type 0
+TurnsGo false sequence most w now m before after = (is_due w.header 0 (choices_from w.header sequence m m) m ≡ false) × MachineAt now m × (after ≡ before)
+TurnsGo true sequence most w now m before after = (is_due w.header 0 (choices_from w.header sequence m m) m ≡ true) × TurnsMade w.header (choices_from w.header sequence m) most now m before after
 
 -- ---- events
 
 -- wherever the machine stood, the single turn has these items, and leads to where the machine stands now
-abbrev pub PlaysSingle : Machine → Machine → asked.Turn → List Item → Type 0
-PlaysSingle w now turn is = (es : List Event) (rs : List Record) (m : Moment) → Stands w.header es rs m → MachineAt w m → (next : Moment) × (played is next ≡ single w.header 0 (turn_here w.header turn m) m) × MachineAt now next
+abbrev pub PlaysSingle : Machine → Machine → Turn → List Item → Type 0
+PlaysSingle w now turn is = (es : List Event) (rs : List Record) (m : Moment) → Stands w.header es rs m → MachineAt w m → (next : Moment) × (played is next ≡ single w.header 0 turn m) × MachineAt now next
 
 -- the event of at most so many turns, at a moment; it is idle where the first isn't due
-abbrev pub TurnsEvent : Machine → Machine → Choice → ℕ → Moment → List Item → Type 0
-TurnsEvent w now choice most m is =
-    ((is_due w.header 0 (choices_from w.header choice m m) m ≡ false) × MachineAt now m × (is ≡ items.Idle ∷ []))
-    ⊎ ((is_due w.header 0 (choices_from w.header choice m m) m ≡ true) × TurnsMade w.header (choices_from w.header choice m) most now m [] is)
+abbrev pub TurnsEvent : Machine → Machine → Sequence → ℕ → Moment → List Item → Type 0
+TurnsEvent w now sequence most m is =
+    ((is_due w.header 0 (choices_from w.header sequence m m) m ≡ false) × MachineAt now m × (is ≡ items.Idle ∷ []))
+    ⊎ ((is_due w.header 0 (choices_from w.header sequence m m) m ≡ true) × TurnsMade w.header (choices_from w.header sequence m) most now m [] is)
 
 -- wherever the machine stood, the event of turns has these items, and leads to where the machine stands now
-abbrev pub PlaysTurns : Machine → Machine → Choice → ℕ → List Item → Type 0
-PlaysTurns w now choice most is = (es : List Event) (rs : List Record) (m : Moment) → Stands w.header es rs m → MachineAt w m → TurnsEvent w now choice most m is
+abbrev pub PlaysTurns : Machine → Machine → Sequence → ℕ → List Item → Type 0
+PlaysTurns w now sequence most is = (es : List Event) (rs : List Record) (m : Moment) → Stands w.header es rs m → MachineAt w m → TurnsEvent w now sequence most m is

@@ -12,30 +12,29 @@ ghost use Rattle.vub_queue.specs.Queue.{ring_in};
 ghost use Rattle.vub_queue_in_run.specs.QueueAt.{IsMainRing};
 ghost use Rattle.vub_split.specs.Split.{RingLies};
 
-use vub_queue::{Queue, Stepped, Turn};
+use vub_queue::{Choice, Queue, Stepped};
 use vub_memdisk::MemDisk;
 use vub_shared::WatchedShared;
 
-/// Which turn of several comes next.
+/// Turns one after another.
 #[derive(Clone, Copy, Debug, PartialEq, Eq)]
-pub enum Choice {
-    /// The first that is ready.
+pub enum Sequence {
+    /// Each is the first that is ready.
     Any,
-    /// The next one of a drain, which accepts no more requests than the queue has places.
+    /// Those of a drain, which accepts no more requests than the queue has places.
     Drain,
 }
 
-impl Choice {
-    ghost use Rattle.vub_world.specs.Choices.{choose};
-    ghost use Rattle.vub_queue.specs.QueueState.{state_of, standing_at, turn_at};
+impl Sequence {
+    ghost use Rattle.vub_world.specs.Sequences.{choice_after};
 
     /// The turn that comes next, after so many requests were accepted.
-    pub fn turn(self, queue: &Queue, accepted: u16) -> Turn
-        ensures { (waiting : ℕ) → turn_at (ring_in queue.now).size (standing_at (state_of queue.now) waiting) result ≡ choose self (ring_in queue.now).size accepted (standing_at (state_of queue.now) waiting) }
+    pub fn next(self, accepted: u16) -> Choice
+        ensures { result ≡ choice_after self accepted }
     {
         match self {
-            Choice::Any => Turn::Any,
-            Choice::Drain => queue.draining(accepted),
+            Sequence::Any => Choice::Any,
+            Sequence::Drain => Choice::Drain(accepted),
         }
     }
 }
@@ -43,7 +42,7 @@ impl Choice {
 /// A turn of a queue. Where memory keeps no store yet, nothing fails in it.
 pub fn turn_queue(
     queue: &mut Queue,
-    turn: Turn,
+    choice: Choice,
     memory: &mut WatchedShared,
     disk: &mut MemDisk,
 ) -> Stepped
@@ -54,7 +53,7 @@ pub fn turn_queue(
     ensures capacity { capacity_of disk.new ≡ capacity_of disk.old }
     ensures turns { (h : Header1) (r : SplitRing) (m : Moment) (log : Log) → IsReached h m → capacity_of disk.old ≡ h.capacity → IsMainRing r h.size → 1048576 ≤ sizes_in memory.old 0
         → DeviceAt h r m (device queue.old memory.old disk.old) → LogAt h.size m.scene.past (m.scene.heads 0) log
-        → DeviceTurns h r m (turn_here h turn m) log (device queue.old memory.old disk.old) (device queue.new memory.new disk.new) result }
+        → DeviceTurns h r m (turn_here h choice m) log (device queue.old memory.old disk.old) (device queue.new memory.new disk.new) result }
 {
-    queue.turn(turn, memory, disk)
+    queue.turn(choice, memory, disk)
 }

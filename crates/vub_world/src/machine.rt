@@ -4,16 +4,17 @@ ghost use Rattle.vub_shared.specs.Watched.{bytes_in, stores_in, sizes_in};
 ghost use Rattle.vub_driver.specs.Layout.{ring_of as main_ring};
 ghost use Rattle.vub_schedule.specs.Spelling.{IsHeader, IsEvent};
 ghost use Rattle.vub_room.specs.Rooms.{SpendsLists};
-ghost use Rattle.vub_run.specs.Run.{request_of};
+ghost use Rattle.vub_device.specs.Requests.{request_of};
 
-use crate::device::{Choice, turn_queue};
+use crate::device::{Sequence, turn_queue};
 use crate::log::Log;
-use vub_queue::{Queue, QueueSetup, Stepped, Turn};
+use vub_queue::{Choice, Queue, QueueSetup, Stepped, Turn};
 use vub_report::{Item, Items, Record};
 use vub_room::Room;
 use vub_room::Spare;
 use std::alloc::Global;
 use std::mem;
+use vub_base::standard::{SECTOR_SIZE, VIRTIO_BLK_S_OK};
 use vub_base::{Area, Ask, Header1, Memory, Shape, Space, Tag};
 use vub_device::{AnswerList, Answered, Asked, Entry, NumberList};
 use vub_disk::Disk;
@@ -23,6 +24,7 @@ use vub_memdisk::MemDisk;
 use vub_schedule::Event;
 use vub_shared::{Shared, WatchedShared};
 use vub_split::SplitRing;
+use vub_split::layout::{AVAIL_ENTRY_SIZE, AVAIL_IDX, AVAIL_RING};
 
 /// The most stores that a request takes, with the one that offers it.
 const MOST_STORES: u16 = 8;
@@ -103,7 +105,7 @@ impl Machine {
     ghost use Rattle.vub_world.specs.MachineFront.{FrontFits, OneSmall, GuestSteps, GuestGoes, head_shown};
     ghost use Rattle.vub_room.specs.Rooms.{HasTurnRoom, HasRoom, Spends, SpendsAnswers, SpendsUpTo, SpendsTurn, SpendsStep};
     ghost use Rattle.vub_run.specs.Moments.{Moment, opening};
-    ghost use Rattle.vub_world.specs.Choices.{next_turn};
+    ghost use Rattle.vub_world.specs.Sequences.{next_turn};
     ghost use Rattle.vub_queue.specs.QueueState.{state_of, is_idle};
     ghost use Rattle.vub_run.specs.Run.{Stands};
     ghost use Rattle.vub_task.specs.TaskState.{after_maybe, with_maybe};
@@ -143,7 +145,7 @@ impl Machine {
     }
 
     /// The value of a sector now.
-    pub fn sector(&self, sector: u64) -> &[u8; 512]
+    pub fn sector(&self, sector: u64) -> &[u8; SECTOR_SIZE]
         requires sound { IsSound self.now }
         requires below { sector < self.now.header.capacity }
         ensures { result.now ≡ values_of self.now.disk sector }
@@ -197,9 +199,9 @@ impl Machine {
         requires { IsSound self.now }
         ensures { result ≡ head_shown self.now }
     {
-        let index = self.memory.word16(self.space, AVAIL + 2).wrapping_sub(1);
+        let index = self.memory.word16(self.space, AVAIL + AVAIL_IDX).wrapping_sub(1);
         let entry = u64::from(index % self.header.size);
-        self.memory.word16(self.space, AVAIL + (4 + 2 * entry))
+        self.memory.word16(self.space, AVAIL + (AVAIL_RING + AVAIL_ENTRY_SIZE * entry))
     }
 
     /// Notes that the waiting request is offered.
@@ -406,8 +408,8 @@ impl Machine {
         let buffer = buffer_of(0, head);
         let outstanding = self.log.at(head);
         let status = self.memory.byte(self.space, buffer + STATUS);
-        let read = if status == 0 {
-            512 * usize::from(outstanding.reads)
+        let read = if status == VIRTIO_BLK_S_OK {
+            SECTOR_SIZE * usize::from(outstanding.reads)
         } else {
             0
         };
@@ -455,30 +457,30 @@ impl Machine {
     }
 
     /// A turn of the device; idle where no queue is attached.
-    fn turn(&mut self, turn: Turn) -> Stepped
+    fn turn(&mut self, choice: Choice) -> Stepped
         requires sound { IsSound self.old }
         requires stands { (m : Moment) × IsReached self.old.header m × MachineAt self.old m }
         ensures frame { self.new ≡ record self.old { memory = self.new.memory; life = self.new.life; disk = self.new.disk } }
         ensures sound { IsSound self.new }
-        ensures turns { (m : Moment) → IsReached self.old.header m → MachineAt self.old m → TurnGoes (turn_here self.old.header turn m) self.old self.new m result }
+        ensures turns { (m : Moment) → IsReached self.old.header m → MachineAt self.old m → TurnGoes (turn_here self.old.header choice m) self.old self.new m result }
     {
         self.memory.restart();
         match &mut self.life {
             Some(Life { queue: Some(queue) }) => {
-                turn_queue(queue, turn, &mut self.memory, &mut self.disk)
+                turn_queue(queue, choice, &mut self.memory, &mut self.disk)
             }
             _ => Stepped::Idle,
         }
     }
 
     /// The value of a sector, or zeros past the last one.
-    fn value_of(&self, sector: u64) -> [u8; 512]
+    fn value_of(&self, sector: u64) -> [u8; SECTOR_SIZE]
         ensures { sector < capacity_of self.now.disk → result ≡ values_of self.now.disk sector }
     {
         if sector < self.disk.capacity() {
             *self.disk.sector(sector)
         } else {
-            [0; 512]
+            [0; SECTOR_SIZE]
         }
     }
 
@@ -529,18 +531,18 @@ impl Machine {
     }
 
     /// A turn with its items.
-    fn step(&mut self, turn: Turn, room: &mut Room) -> Stepped
+    fn step(&mut self, choice: Choice, room: &mut Room) -> Stepped
         requires sound { IsSound self.old }
         requires stands { (m : Moment) × IsReached self.old.header m × MachineAt self.old m }
         requires room { HasTurnRoom (length (batch_in self.old.life)) room.old }
         ensures frame { self.new ≡ record self.old { memory = self.new.memory; life = self.new.life; disk = self.new.disk } }
         ensures sound { IsSound self.new }
-        ensures goes { (m : Moment) → IsReached self.old.header m → MachineAt self.old m → StepGoes (not (is_idle result)) (turn_here self.old.header turn m) self.old self.new m room.old.items room.new.items 0 (accepts result) }
+        ensures goes { (m : Moment) → IsReached self.old.header m → MachineAt self.old m → StepGoes (not (is_idle result)) (turn_here self.old.header choice m) self.old self.new m room.old.items room.new.items 0 (accepts result) }
         ensures spent { SpendsStep (shown_in self.old.life) room.old room.new }
         ensures idle { is_idle result ≡ true → room.new.item_room ≡ room.old.item_room }
     {
         let answers = self.answers(room);
-        let stepped = self.turn(turn);
+        let stepped = self.turn(choice);
         if stepped.is_idle() {
             return stepped;
         }
@@ -548,30 +550,18 @@ impl Machine {
         stepped
     }
 
-    /// The turn that comes next, after so many requests were accepted.
-    fn next_turn(&self, choice: Choice, accepted: u16) -> Turn
-        requires sound { IsSound self.now }
-        ensures next { (m : Moment) → IsReached self.now.header m → MachineAt self.now m → (m.lanes 0).attached ≡ true → turn_here self.now.header result m ≡ next_turn self.now.header choice accepted m }
-    {
-        match &self.life {
-            Some(Life { queue: Some(queue) }) => choice.turn(queue, accepted),
-            _ => Turn::Any,
-        }
-    }
-
     /// The step that comes next with its items; false where none was made.
-    fn next_step(&mut self, choice: Choice, accepted: &mut u16, room: &mut Room) -> bool
+    fn next_step(&mut self, sequence: Sequence, accepted: &mut u16, room: &mut Room) -> bool
         requires sound { IsSound self.old }
         requires stands { (m : Moment) × IsReached self.old.header m × MachineAt self.old m }
         requires room { HasTurnRoom (length (batch_in self.old.life)) room.old }
         ensures frame { self.new ≡ record self.old { memory = self.new.memory; life = self.new.life; disk = self.new.disk } }
         ensures sound { IsSound self.new }
-        ensures goes { (m : Moment) → IsReached self.old.header m → MachineAt self.old m → accepted.old < 65535 → StepGoes result (next_turn self.old.header choice accepted.old m) self.old self.new m room.old.items room.new.items accepted.old accepted.new }
+        ensures goes { (m : Moment) → IsReached self.old.header m → MachineAt self.old m → accepted.old < 65535 → StepGoes result (next_turn self.old.header sequence accepted.old m) self.old self.new m room.old.items room.new.items accepted.old accepted.new }
         ensures spent { SpendsStep (shown_in self.old.life) room.old room.new }
         ensures idle { result ≡ false → room.new.item_room ≡ room.old.item_room }
     {
-        let turn = self.next_turn(choice, *accepted);
-        let stepped = self.step(turn, room);
+        let stepped = self.step(sequence.next(*accepted), room);
         if matches!(stepped, Stepped::Accepted(_)) {
             *accepted = accepted.saturating_add(1);
         }
@@ -579,19 +569,19 @@ impl Machine {
     }
 
     /// At most so many steps, as long as one is ready; false where none was made.
-    fn turns(&mut self, choice: Choice, count: u64, room: &mut Room) -> bool
+    fn turns(&mut self, sequence: Sequence, count: u64, room: &mut Room) -> bool
         requires sound { IsSound self.old }
         requires some { 1 ≤ count }
         requires room { HasRoom (min count (21 * (offered_in self.old.log - collected_in self.old.log) + 3)) (offered_in self.old.log - collected_in self.old.log) room.old }
         requires stands { IsStanding self.old }
         ensures frame { self.new ≡ record self.old { memory = self.new.memory; life = self.new.life; disk = self.new.disk } }
         ensures sound { IsSound self.new }
-        ensures turns { (es : List Event) (rs : List Record) (m : Moment) → Stands self.old.header es rs m → MachineAt self.old m → TurnsGo result choice count self.old self.new m room.old.items room.new.items }
+        ensures turns { (es : List Event) (rs : List Record) (m : Moment) → Stands self.old.header es rs m → MachineAt self.old m → TurnsGo result sequence count self.old self.new m room.old.items room.new.items }
         ensures idle { result ≡ false → room.new.item_room ≡ room.old.item_room }
     {
         let mut accepted: u16 = 0;
         for done in 0..count {
-            if !self.next_step(choice, &mut accepted, room) {
+            if !self.next_step(sequence, &mut accepted, room) {
                 return done > 0;
             }
         }
@@ -609,25 +599,25 @@ impl Machine {
     {
         let undone = self.log.outstanding();
         let mut room = Room::for_turns(self.alloc, &mut self.spare, 1, undone)?;
-        if self.step(turn, &mut room).is_idle() {
+        if self.step(Choice::Only(turn), &mut room).is_idle() {
             room.note(Item::Idle);
         }
         Ok(room.finish(&mut self.spare))
     }
 
     /// At most so many turns, as long as one is ready; idle where the first isn't.
-    fn several(&mut self, choice: Choice, count: u64) -> Result<Items, Memory>
+    fn several(&mut self, sequence: Sequence, count: u64) -> Result<Items, Memory>
         requires some { 1 ≤ count }
         requires sound { IsSound self.old }
         requires stands { IsStanding self.old }
         ensures header { self.new.header ≡ self.old.header }
         ensures sound { IsSound self.new }
         ensures kept { OnErr result (self.new ≡ self.old) }
-        ensures plays { IfOk result (λ is. PlaysTurns self.old self.new choice count is) }
+        ensures plays { IfOk result (λ is. PlaysTurns self.old self.new sequence count is) }
     {
         let undone = self.log.outstanding();
         let mut room = Room::for_turns(self.alloc, &mut self.spare, count, undone)?;
-        if !self.turns(choice, count, &mut room) {
+        if !self.turns(sequence, count, &mut room) {
             room.note(Item::Idle);
         }
         Ok(room.finish(&mut self.spare))
@@ -642,7 +632,7 @@ impl Machine {
         ensures kept { OnErr result (self.new ≡ self.old) }
         ensures performs { IfOk result (λ is. Performs self.old self.new (events.Turn 0 count) is) }
     {
-        self.several(Choice::Any, u64::from(count))
+        self.several(Sequence::Any, u64::from(count))
     }
 
     /// Turns until none is ready. The bound is one that no run reaches.
@@ -654,7 +644,7 @@ impl Machine {
         ensures kept { OnErr result (self.new ≡ self.old) }
         ensures performs { IfOk result (λ is. Performs self.old self.new (events.Drain 0) is) }
     {
-        self.several(Choice::Drain, u64::MAX)
+        self.several(Sequence::Drain, u64::MAX)
     }
 
     fn items_of(&mut self, event: &Event) -> Result<Items, Memory>

@@ -5,6 +5,7 @@ use crate::machine::Machine;
 use vub_report::Record;
 use std::alloc::Global;
 use std::marker::Model;
+use vub_base::standard::SECTOR_SIZE;
 use vub_base::{Header1, Memory};
 use vub_schedule::Event;
 
@@ -53,7 +54,7 @@ impl World {
     }
 
     /// The value of a sector now.
-    pub fn sector(&self, sector: u64) -> &[u8; 512]
+    pub fn sector(&self, sector: u64) -> &[u8; SECTOR_SIZE]
         requires { sector < (header_in self.now).capacity }
         ensures { result.now ≡ values_of (disk_in self.now) sector }
     {

@@ -11,7 +11,7 @@ returns-in_err-second-clause-read g c l buffer request m told means is =
     let r = c.args.ring.now in
     let p = err_from_is_err_and c.from_residual.result c.from_residual.ensures.1 in
     let first = c.in-Ok.ensures.loaded m told ∙ ap (desc_in r m) (sym is) in
-    let failed = c.in_err-second.ensures.tail l buffer request m (c.descriptor_at.ensures.told ∙ told) (means_still _ _ r m l buffer request c.descriptor_at.ensures.sizes means) first in
+    let failed = c.in_err-second.ensures.tail l buffer request m (c.descriptor_at.ensures.only_loads.same_told ∙ told) (means_still _ _ r m l buffer request c.descriptor_at.ensures.only_loads.spaces.same_sizes means) first in
     rw (p.1, p.2) (reads_err c.in_err-second.field-0.0 _ _ failed)
 
 pub returns-in_err-span_of-in-Some-clause-cause : goal.returns-in_err-span_of-in-Some-clause-cause

@@ -1,6 +1,6 @@
 use Rattle.std.proofs.Common.{◌≡◌, false, ap, subst, sym, refl, ◌∙◌, ℕ}
 use Rattle.std.specs.Prelude.{is_some}
-use Rattle.vub_steps.specs.Readiness.{is_ready}
+use Rattle.vub_steps.specs.Readiness.{is_ready, chosen}
 use Rattle.vub_steps.specs.declared.readiness.Standing.{Standing}
 use Rattle.vub_steps.specs.declared.readiness.Turn.{Turn}
 use Rattle.vub_steps.specs.declared.readiness.Turn.TheVariants as turns
@@ -9,7 +9,7 @@ use Rattle.vub_shared.specs.Watched.{bytes_in, sizes_in}
 use Rattle.vub_queue.specs.declared.queue.Stepped.{Stepped}
 use Rattle.vub_world.specs.MachineDevice.{Device, device, turn_here}
 use Rattle.vub_run.specs.Moments.{standing}
-use Rattle.vub_queue.specs.QueueState.{QueueState, state_of, standing_at, waiting, turn_at, IsDue}
+use Rattle.vub_queue.specs.QueueState.{QueueState, state_of, standing_at, waiting, IsDue}
 use Rattle.vub_world.proofs.MachineTurns.{DeviceDoes}
 use Rattle.vub_world.proofs.MachineTurnsWork.{RestsAt, device_turns, work_asked}
 use Rattle.vub_world.proofs.MachineTurnsNext.{IsAsHere, as_here, reached_plain, reached_holds, never_fails, served_is, turn_same}
@@ -22,7 +22,7 @@ returns-clause-turns c h r m log reached cap main room at numbered =
     let d : Device = device c.args.queue.now c.args.memory.now c.args.disk.now in
     let now : Device = device c.turn.new.self c.turn.new.mem c.turn.new.disk in
     let x : Stepped = c.turn.result in
-    let t : Turn = turn_at q.ring.size (standing_at q (waiting q b)) c.args.turn in
+    let t : Turn = chosen q.ring.size c.args.choice (standing_at q (waiting q b)) in
     let runs : is_some q.stopped ≡ false = ap is_some at.stands.runs in
     let holds = reached_holds h m reached in
     let trails = c.turn.ensures.trails runs b refl in
@@ -36,10 +36,10 @@ returns-clause-turns c h r m log reached cap main room at numbered =
       made = λ place task n is due. c.turn.ensures.made place task n runs b refl is (subst (λ k. IsDue k (sizes_in c.args.memory.now) q b place task n) (sym cap) due);
     } in
     let here : IsAsHere h m q b = as_here h r m q b main at.stands at.memory_is in
-    let same : t ≡ turn_here h c.args.turn m = turn_same h r m q b c.args.turn main at.stands at.memory_is in
-    let rests : (place : ℕ) → turn_here h c.args.turn m ≡ turns.Work place → is_ready (standing h 0 m) (turns.Work place) ≡ false → RestsAt d now x =
-    λ place is unready. c.turn.ensures.rests (waiting q b) place runs (work_asked h.size (standing h 0 m) c.args.turn place is unready) (ap (λ (s : Standing). is_ready s (turns.Work place)) here.standing_is ∙ unready) in
-    device_turns h r m log (sizes_in c.args.memory.now) (turn_here h c.args.turn m) d now x
+    let same : t ≡ turn_here h c.args.choice m = turn_same h r m q b c.args.choice main at.stands at.memory_is in
+    let rests : (place : ℕ) → turn_here h c.args.choice m ≡ turns.Work place → is_ready (standing h 0 m) (turns.Work place) ≡ false → RestsAt d now x =
+    λ place is unready. c.turn.ensures.rests (waiting q b) place runs (work_asked h.size (standing h 0 m) c.args.choice place is unready) (ap (λ (s : Standing). is_ready s (turns.Work place)) here.standing_is ∙ unready) in
+    device_turns h r m log (sizes_in c.args.memory.now) (turn_here h c.args.choice m) d now x
     (record { plain = reached_plain h m reached; good = holds.0; chained = holds.1; main = main; at = at; fresh = c.requires.fresh; numbered = numbered })
     room rests
     (subst (λ (u : Turn). DeviceDoes u h.capacity (sizes_in c.args.memory.now) d now x) same does)

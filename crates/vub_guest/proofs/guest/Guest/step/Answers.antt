@@ -10,22 +10,22 @@ use Rattle.vub_guest.proofs.guest.Guest.step.Goals as goal
 pub returns-in-Ok-clause-stores : goal.returns-in-Ok-clause-stores
 returns-in-Ok-clause-stores g c =
     let old = c.args.self.now in
-    stores_made _ _ (ring_in old) old.avail_idx c.in-Some.pending old.waiting c.advance.result (Ok tt) c.in-Some.is c.advance.ensures.outcome c.in-Ok.ensures.stores
+    stores_made _ _ (ring_in old) old.avail_idx c.in-Some.pending old.waiting c.advance.result (Ok tt) c.in-Some.is c.advance.ensures.outcome c.in-Ok.ensures.makes_store.stored
 
 pub returns-in-Ok-clause-trails : goal.returns-in-Ok-clause-trails
 returns-in-Ok-clause-trails g c =
     let old = c.args.self.now in
-    trails_made _ _ (ring_in old) old.avail_idx c.in-Some.pending old.waiting c.advance.result (Ok tt) c.in-Some.is c.advance.ensures.outcome c.in-Ok.ensures.trails
+    trails_made _ _ (ring_in old) old.avail_idx c.in-Some.pending old.waiting c.advance.result (Ok tt) c.in-Some.is c.advance.ensures.outcome c.in-Ok.ensures.makes_store.trailed
 
 pub returns-in-Err-clause-stores : goal.returns-in-Err-clause-stores
 returns-in-Err-clause-stores g c =
     let old = c.args.self.now in
-    stores_made _ _ (ring_in old) old.avail_idx c.in-Some.pending old.waiting Failed (Err tt) c.in-Some.is refl c.in-Err.ensures.stores
+    stores_made _ _ (ring_in old) old.avail_idx c.in-Some.pending old.waiting Failed (Err tt) c.in-Some.is refl c.in-Err.ensures.makes_store.stored
 
 pub returns-in-Err-clause-trails : goal.returns-in-Err-clause-trails
 returns-in-Err-clause-trails g c =
     let old = c.args.self.now in
-    trails_made _ _ (ring_in old) old.avail_idx c.in-Some.pending old.waiting Failed (Err tt) c.in-Some.is refl c.in-Err.ensures.trails
+    trails_made _ _ (ring_in old) old.avail_idx c.in-Some.pending old.waiting Failed (Err tt) c.in-Some.is refl c.in-Err.ensures.makes_store.trailed
 
 pub returns-in-Err-clause-driver : goal.returns-in-Err-clause-driver
 returns-in-Err-clause-driver g c =

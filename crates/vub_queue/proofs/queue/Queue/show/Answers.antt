@@ -38,27 +38,25 @@ returns-in-Err-clause-moves g c =
     let q = c.args.self.now in
     moves_if says.SharedFault _ _ (state_of q) (state_of q) (row_is q c.requires.next) refl
 
-pub returns-in-Err-clause-stores : goal.returns-in-Err-clause-stores
-returns-in-Err-clause-stores g c =
+pub returns-in-Err-clause-makes_row : goal.returns-in-Err-clause-makes_row
+returns-in-Err-clause-makes_row g c =
     let q = c.args.self.now in
-    failed_row _ _ _ _ (row_is q c.requires.next) c.in-Err.ensures.stores
-
-pub returns-in-Err-clause-trails : goal.returns-in-Err-clause-trails
-returns-in-Err-clause-trails g c =
-    let q = c.args.self.now in
-    failed_trail _ _ _ _ (row_is q c.requires.next) c.in-Err.ensures.trails
+    record {
+      stored = failed_row _ _ _ _ (row_is q c.requires.next) c.in-Err.ensures.makes_store.stored;
+      trailed = failed_trail _ _ _ _ (row_is q c.requires.next) c.in-Err.ensures.makes_store.trailed;
+      spaces = c.in-Err.ensures.makes_store.spaces;
+    }
 
 pub returns-in-Ok-clause-moves : goal.returns-in-Ok-clause-moves
 returns-in-Ok-clause-moves g c =
     let q = c.args.self.now in
     moves_if says.Published _ _ (state_of q) _ (row_is q c.requires.next) (refl, c.end_batch.ensures.state ∙ moved_is q c.requires.next, ap (λ (s : QueueState). s.phase) c.end_batch.ensures.state)
 
-pub returns-in-Ok-clause-stores : goal.returns-in-Ok-clause-stores
-returns-in-Ok-clause-stores g c =
+pub returns-in-Ok-clause-makes_row : goal.returns-in-Ok-clause-makes_row
+returns-in-Ok-clause-makes_row g c =
     let q = c.args.self.now in
-    made_row _ _ says.Published _ _ (row_is q c.requires.next) refl c.in-Ok.ensures.stores
-
-pub returns-in-Ok-clause-trails : goal.returns-in-Ok-clause-trails
-returns-in-Ok-clause-trails g c =
-    let q = c.args.self.now in
-    made_trail _ _ says.Published _ _ (row_is q c.requires.next) refl c.in-Ok.ensures.trails
+    record {
+      stored = made_row _ _ says.Published _ _ (row_is q c.requires.next) refl c.in-Ok.ensures.makes_store.stored;
+      trailed = made_trail _ _ says.Published _ _ (row_is q c.requires.next) refl c.in-Ok.ensures.makes_store.trailed;
+      spaces = c.in-Ok.ensures.makes_store.spaces;
+    }

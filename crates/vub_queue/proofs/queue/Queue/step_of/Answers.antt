@@ -1,14 +1,15 @@
-use Rattle.std.proofs.Common.{ℕ, ◌≡◌, false, sym, ◌∙◌, subst}
-use Rattle.vub_steps.specs.Readiness.{is_ready}
+use Rattle.std.proofs.Common.{◌≡◌, List, subst}
+use Rattle.std.specs.Prelude.{Option, Ok}
+use Rattle.vub_shared.specs.Bytes.{Bytes}
+use Rattle.vub_shared.specs.Stores.{Store}
 use Rattle.vub_steps.specs.declared.readiness.Turn.TheVariants.{Work}
-use Rattle.vub_queue.specs.declared.queue.Turn.TheVariants as asks
-use Rattle.vub_queue.specs.QueueState.{state_of, standing_at}
+use Rattle.vub_queue.specs.QueueState.{state_of, Rests}
 use Rattle.vub_queue.proofs.queue.Queue.step_of.Goals as goal
 
-work_place : (a b : ℕ) → asks.Work a ≡ asks.Work b → a ≡ b
-work_place a b same = cc same
-
-pub returns-in-Work-clause-rests : goal.returns-in-Work-clause-rests
-returns-in-Work-clause-rests g c waiting place turn unready =
-    let same : place ≡ c.in-Work.place = work_place place c.in-Work.place (sym turn ∙ c.in-Work.is) in
-    c.work.ensures.rests waiting (subst (λ (p : ℕ). is_ready (standing_at (state_of c.args.self.now) waiting) (Work p) ≡ false) same unready)
+pub returns-in-Ok-clause-rests : goal.returns-in-Ok-clause-rests
+returns-in-Ok-clause-rests g c waiting place is unready =
+    let only = c.in-Ok.ensures.only (Work place) is in
+    let turn : c.in-Ok.turn ≡ Work place = cc only in
+    let rests : Option Bytes → Option (List Store) → Type 0 = λ told trail. Rests told (g.M.Shared.told c.make.new.mem) trail (g.M.Shared.trail c.make.new.mem) (g.D.Disk.values c.args.disk.now) (g.D.Disk.values c.make.new.disk) c.make.result (state_of c.args.self.now) (state_of c.make.new.self) in
+    subst (λ (told : Option Bytes). rests told (g.M.Shared.trail c.args.mem.now)) c.next_turn.ensures.only_loads.same_told
+    (subst (λ (trail : Option (List Store)). rests (g.M.Shared.told c.next_turn.new.mem) trail) c.next_turn.ensures.only_loads.same_trail (c.make.ensures.rests waiting place turn unready))

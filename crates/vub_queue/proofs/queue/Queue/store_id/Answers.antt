@@ -40,27 +40,25 @@ returns-in-Err-clause-moves g c =
     let q = c.args.self.now in
     moves_if says.SharedFault _ _ (state_of q) (state_of q) (row_is q c.args.element c.batch_element-completed.result c.from-id.result c.from-id.ensures c.requires.next c.batch_element-completed.ensures) refl
 
-pub returns-in-Err-clause-stores : goal.returns-in-Err-clause-stores
-returns-in-Err-clause-stores g c =
+pub returns-in-Err-clause-makes_row : goal.returns-in-Err-clause-makes_row
+returns-in-Err-clause-makes_row g c =
     let q = c.args.self.now in
-    failed_row _ _ _ _ (row_is q c.args.element c.batch_element-completed.result c.from-id.result c.from-id.ensures c.requires.next c.batch_element-completed.ensures) c.in-Err.ensures.stores
-
-pub returns-in-Err-clause-trails : goal.returns-in-Err-clause-trails
-returns-in-Err-clause-trails g c =
-    let q = c.args.self.now in
-    failed_trail _ _ _ _ (row_is q c.args.element c.batch_element-completed.result c.from-id.result c.from-id.ensures c.requires.next c.batch_element-completed.ensures) c.in-Err.ensures.trails
+    record {
+      stored = failed_row _ _ _ _ (row_is q c.args.element c.batch_element-completed.result c.from-id.result c.from-id.ensures c.requires.next c.batch_element-completed.ensures) c.in-Err.ensures.makes_store.stored;
+      trailed = failed_trail _ _ _ _ (row_is q c.args.element c.batch_element-completed.result c.from-id.result c.from-id.ensures c.requires.next c.batch_element-completed.ensures) c.in-Err.ensures.makes_store.trailed;
+      spaces = c.in-Err.ensures.makes_store.spaces;
+    }
 
 pub returns-in-Ok-clause-moves : goal.returns-in-Ok-clause-moves
 returns-in-Ok-clause-moves g c =
     let q = c.args.self.now in
     moves_if (says.Stored SP1) _ _ (state_of q) _ (row_is q c.args.element c.batch_element-completed.result c.from-id.result c.from-id.ensures c.requires.next c.batch_element-completed.ensures) (refl, c.advance.ensures.state, c.advance.ensures.goes)
 
-pub returns-in-Ok-clause-stores : goal.returns-in-Ok-clause-stores
-returns-in-Ok-clause-stores g c =
+pub returns-in-Ok-clause-makes_row : goal.returns-in-Ok-clause-makes_row
+returns-in-Ok-clause-makes_row g c =
     let q = c.args.self.now in
-    made_row _ _ (says.Stored SP1) _ _ (row_is q c.args.element c.batch_element-completed.result c.from-id.result c.from-id.ensures c.requires.next c.batch_element-completed.ensures) refl c.in-Ok.ensures.stores
-
-pub returns-in-Ok-clause-trails : goal.returns-in-Ok-clause-trails
-returns-in-Ok-clause-trails g c =
-    let q = c.args.self.now in
-    made_trail _ _ (says.Stored SP1) _ _ (row_is q c.args.element c.batch_element-completed.result c.from-id.result c.from-id.ensures c.requires.next c.batch_element-completed.ensures) refl c.in-Ok.ensures.trails
+    record {
+      stored = made_row _ _ (says.Stored SP1) _ _ (row_is q c.args.element c.batch_element-completed.result c.from-id.result c.from-id.ensures c.requires.next c.batch_element-completed.ensures) refl c.in-Ok.ensures.makes_store.stored;
+      trailed = made_trail _ _ (says.Stored SP1) _ _ (row_is q c.args.element c.batch_element-completed.result c.from-id.result c.from-id.ensures c.requires.next c.batch_element-completed.ensures) refl c.in-Ok.ensures.makes_store.trailed;
+      spaces = c.in-Ok.ensures.makes_store.spaces;
+    }

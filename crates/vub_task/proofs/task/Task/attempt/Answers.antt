@@ -173,7 +173,7 @@ returns-in-Act-clause-stored g c r n m told is works =
     let known : OfRequest h.capacity n.request after n.step = step_of h n.request n.made n.step is.served.basic is.served.cached is.next in
     act_arm h r n.buffer n.request n.step c.in-Act.transfer (sym c.in-Act.is ∙ works)
     (λ (s : TaskStep) (t : Transfer). OfRequest h.capacity n.request after s → (t.span.place + (512 * t.done + 512) ≤ sizes t.span.space.number → t.sector + t.done < sectors → IfMade c.act.result (λ x. x ≡ answers.Acted (t.sector + t.done))) → IfMade c.act.result (λ x. g.M.Shared.told c.act.new.mem ≡ Some (after_maybe (store_of h r n.buffer n.request c.args.sector.now s) m)))
-    (λ q of e0. made_map _ _ c.act.result (λ x made. c.act.ensures.told ∙ told) (e0 (room_of n.buffer (sizes r.desc.0.number) q n.request is.means.room of.0.within) (omega (arith, of.0.within, of.1, is.served.capacity)))) known c.act.ensures.answer
+    (λ q of e0. made_map _ _ c.act.result (λ x made. c.act.ensures.only_loads.same_told ∙ told) (e0 (room_of n.buffer (sizes r.desc.0.number) q n.request is.means.room of.0.within) (omega (arith, of.0.within, of.1, is.served.capacity)))) known c.act.ensures.answer
 
 pub returns-in-Act-clause-looked : goal.returns-in-Act-clause-looked
 returns-in-Act-clause-looked g c r n m told is works =
@@ -344,7 +344,7 @@ returns-in-Act-clause-trails g c r n m told is works =
     let known : OfRequest h.capacity n.request after n.step = step_of h n.request n.made n.step is.served.basic is.served.cached is.next in
     act_arm h r n.buffer n.request n.step c.in-Act.transfer (sym c.in-Act.is ∙ works)
     (λ (s : TaskStep) (t : Transfer). OfRequest h.capacity n.request after s → (t.span.place + (512 * t.done + 512) ≤ sizes t.span.space.number → t.sector + t.done < sectors → IfMade c.act.result (λ x. x ≡ answers.Acted (t.sector + t.done))) → IfMade c.act.result (λ x. g.M.Shared.trail c.act.new.mem ≡ option_map (with_maybe (store_of h r n.buffer n.request c.args.sector.now s)) (g.M.Shared.trail c.args.mem.now)))
-    (λ q of e0. made_map _ _ c.act.result (λ x made. c.act.ensures.trail ∙ sym (same_trail (g.M.Shared.trail c.args.mem.now))) (e0 (room_of n.buffer (sizes r.desc.0.number) q n.request is.means.room of.0.within) (omega (arith, of.0.within, of.1, is.served.capacity)))) known c.act.ensures.answer
+    (λ q of e0. made_map _ _ c.act.result (λ x made. c.act.ensures.only_loads.same_trail ∙ sym (same_trail (g.M.Shared.trail c.args.mem.now))) (e0 (room_of n.buffer (sizes r.desc.0.number) q n.request is.means.room of.0.within) (omega (arith, of.0.within, of.1, is.served.capacity)))) known c.act.ensures.answer
 
 pub returns-in-Sync-clause-trails : goal.returns-in-Sync-clause-trails
 returns-in-Sync-clause-trails g c r n m told is works =

@@ -5,7 +5,7 @@ use Rattle.vub_direct_chain.specs.declared.chain.Parts.{Parts}
 use Rattle.vub_direct_chain.specs.ChainState.{parts_of}
 use Rattle.vub_direct_chain.proofs.ChainReading.{reads_err}
 use Rattle.vub_task.proofs.TaskLemmas.{FirstFacts, first_is, loaded_field}
-use Rattle.vub_task.proofs.task.Task.begin.Goals.{then-header-lt16-via-then-header-lt16, then-header-lt16-via-else-header-lt16+then-not-lies_in}
+use Rattle.vub_task.proofs.task.Task.begin.Goals.{then-header-via-then-header, then-header-via-else-header+then-not-lies_in}
 use Rattle.vub_task.proofs.task.Task.begin.Goals as goal
 
 pub returns-in_err-parts-clause-begins : goal.returns-in_err-parts-clause-begins
@@ -14,18 +14,18 @@ returns-in_err-parts-clause-begins g c h l buffer request step m told means is s
     let failed = c.in_err-parts.ensures.read l buffer request m told means is in
     rw (p.1, p.2) (reads_err c.in_err-parts.field-0.0 _ _ failed)
 
-pub returns-then-header-lt16-clause-begins : goal.returns-then-header-lt16-clause-begins
-returns-then-header-lt16-clause-begins g c h l buffer request step m told means is served at =
+pub returns-then-header-clause-begins : goal.returns-then-header-clause-begins
+returns-then-header-clause-begins g c h l buffer request step m told means is served at =
     let r = c.args.ring.now in
     let parts : c.in_ok-parts.parts ≡ parts_of r buffer request = c.in_ok-parts.ensures.read l buffer request m told means is in
     let header = c.in_ok-parts.parts.header in
     let len : header.len ≡ 16 = ap (λ (p : Parts). p.header.len) parts in
     let place : header.place ≡ buffer = ap (λ (p : Parts). p.header.place) parts in
     let size = ap (λ (p : Parts). g.M.Shared.sizes c.args.mem.now p.header.space.number) parts in
-    let room : header.place + header.len ≤ g.M.Shared.sizes c.read_chain.new.mem header.space.number = omega (arith, means.room, place, len, size, c.read_chain.ensures.sizes header.space.number) in
-    elim c.then-header-lt16.branch [
-      | then-header-lt16-via-then-header-lt16 w ↦ absurd (omega (arith, len, w.if-header-lt16.true))
-      | then-header-lt16-via-else-header-lt16+then-not-lies_in w ↦
+    let room : header.place + header.len ≤ g.M.Shared.sizes c.read_chain.new.mem header.space.number = omega (arith, means.room, place, len, size, c.read_chain.ensures.only_loads.spaces.same_sizes header.space.number) in
+    elim c.then-header.branch [
+      | then-header-via-then-header w ↦ absurd (omega (arith, len, w.if-header.true))
+      | then-header-via-else-header+then-not-lies_in w ↦
           let lies = w.lies_in.ensures.lies room in
           absurd (search (rules, lies, w.if-not-lies_in.true))
     ]
@@ -37,7 +37,7 @@ returns-clause-begins g c h l buffer request step m told means is served at =
     let place = ap (λ (p : Parts). p.header.place) parts in
     let space = ap (λ (p : Parts). p.header.space.number) parts in
     let good = sym c.is_err.ensures.value ∙ c.if-is_err.false in
-    let now = c.read_chain.ensures.told ∙ told in
+    let now = c.read_chain.ensures.only_loads.same_told ∙ told in
     let kind = loaded_field 0 4 16 c.load.new.into _ m _ _ r.desc.0.number buffer c.load.result now good (omega arith) space place c.load.ensures.loaded in
     let sector = loaded_field 8 8 16 c.load.new.into _ m _ _ r.desc.0.number buffer c.load.result now good (omega arith) space place c.load.ensures.loaded in
     let kinds = kind ∙ ap (λ (q : ℕ). word 4 m r.desc.0.number q) (add-zero buffer) in

@@ -10,7 +10,7 @@ returns-in-Ok-clause-answer g c n m told is ready =
     let r = c.args.ring.now in
     let here = next_with _ _ r m n c.capacity.result (sym c.capacity.ensures) is in
     let works = c.in-Ok.ensures.ready n m told here ready in
-    c.go_on.ensures.answer r n m (c.prepare.ensures.told ∙ told) (next_still _ _ _ r m n c.prepare.ensures.sizes is) works
+    c.go_on.ensures.answer r n m (c.prepare.ensures.only_loads.same_told ∙ told) (next_still _ _ _ r m n c.prepare.ensures.only_loads.spaces.same_sizes is) works
 
 pub returns-in-Err-Broken-clause-answer : goal.returns-in-Err-Broken-clause-answer
 returns-in-Err-Broken-clause-answer g c n m told is ready =
@@ -22,7 +22,7 @@ returns-in-Ok-clause-stored g c n m told is ready =
     let r = c.args.ring.now in
     let here = next_with _ _ r m n c.capacity.result (sym c.capacity.ensures) is in
     let works = c.in-Ok.ensures.ready n m told here ready in
-    c.go_on.ensures.stored r n m (c.prepare.ensures.told ∙ told) (next_still _ _ _ r m n c.prepare.ensures.sizes is) works
+    c.go_on.ensures.stored r n m (c.prepare.ensures.only_loads.same_told ∙ told) (next_still _ _ _ r m n c.prepare.ensures.only_loads.spaces.same_sizes is) works
 
 pub returns-in-Err-Broken-clause-stored : goal.returns-in-Err-Broken-clause-stored
 returns-in-Err-Broken-clause-stored g c n m told is ready =
@@ -34,7 +34,7 @@ returns-in-Ok-clause-looked g c n m told is ready =
     let r = c.args.ring.now in
     let here = next_with _ _ r m n c.capacity.result (sym c.capacity.ensures) is in
     let works = c.in-Ok.ensures.ready n m told here ready in
-    c.go_on.ensures.looked r n m (c.prepare.ensures.told ∙ told) (next_still _ _ _ r m n c.prepare.ensures.sizes is) works
+    c.go_on.ensures.looked r n m (c.prepare.ensures.only_loads.same_told ∙ told) (next_still _ _ _ r m n c.prepare.ensures.only_loads.spaces.same_sizes is) works
 
 pub returns-in-Err-Broken-clause-looked : goal.returns-in-Err-Broken-clause-looked
 returns-in-Err-Broken-clause-looked g c n m told is ready =
@@ -46,7 +46,7 @@ returns-in-Ok-clause-written g c n m told is ready =
     let r = c.args.ring.now in
     let here = next_with _ _ r m n c.capacity.result (sym c.capacity.ensures) is in
     let works = c.in-Ok.ensures.ready n m told here ready in
-    c.go_on.ensures.written r n m (c.prepare.ensures.told ∙ told) (next_still _ _ _ r m n c.prepare.ensures.sizes is) works
+    c.go_on.ensures.written r n m (c.prepare.ensures.only_loads.same_told ∙ told) (next_still _ _ _ r m n c.prepare.ensures.only_loads.spaces.same_sizes is) works
 
 pub returns-in-Err-Broken-clause-written : goal.returns-in-Err-Broken-clause-written
 returns-in-Err-Broken-clause-written g c n m told is ready =
@@ -58,7 +58,7 @@ returns-in-Ok-clause-goes_on g c n m told is ready =
     let r = c.args.ring.now in
     let here = next_with _ _ r m n c.capacity.result (sym c.capacity.ensures) is in
     let works = c.in-Ok.ensures.ready n m told here ready in
-    c.go_on.ensures.goes_on r n m (c.prepare.ensures.told ∙ told) (next_still _ _ _ r m n c.prepare.ensures.sizes is) works
+    c.go_on.ensures.goes_on r n m (c.prepare.ensures.only_loads.same_told ∙ told) (next_still _ _ _ r m n c.prepare.ensures.only_loads.spaces.same_sizes is) works
 
 pub returns-in-Err-Broken-clause-goes_on : goal.returns-in-Err-Broken-clause-goes_on
 returns-in-Err-Broken-clause-goes_on g c n m told is ready =
@@ -72,8 +72,8 @@ returns-in-Ok-clause-trails g c n m told is ready =
     let works = c.in-Ok.ensures.ready n m told here ready in
     let now = g.M.Shared.trail c.go_on.new.mem in
     let made : IfMade (Some c.go_on.result) (λ x. now ≡ option_map (with_maybe (store_in r n c.args.sector.now)) (g.M.Shared.trail c.prepare.new.mem)) =
-    c.go_on.ensures.trails r n m (c.prepare.ensures.told ∙ told) (next_still _ _ _ r m n c.prepare.ensures.sizes is) works in
-    made_map _ _ (Some c.go_on.result) (λ x same. same ∙ ap (option_map (with_maybe (store_in r n c.args.sector.now))) c.prepare.ensures.trail) made
+    c.go_on.ensures.trails r n m (c.prepare.ensures.only_loads.same_told ∙ told) (next_still _ _ _ r m n c.prepare.ensures.only_loads.spaces.same_sizes is) works in
+    made_map _ _ (Some c.go_on.result) (λ x same. same ∙ ap (option_map (with_maybe (store_in r n c.args.sector.now))) c.prepare.ensures.only_loads.same_trail) made
 
 pub returns-in-Err-Broken-clause-trails : goal.returns-in-Err-Broken-clause-trails
 returns-in-Err-Broken-clause-trails g c n m told is ready =

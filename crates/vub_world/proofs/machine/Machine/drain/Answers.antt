@@ -1,5 +1,5 @@
 use Rattle.std.proofs.Common.{◌^◌, ◌-◌, arith}
-use Rattle.vub_world.specs.declared.device.Choice.TheVariants as choices
+use Rattle.vub_world.specs.declared.device.Sequence.TheVariants as sequences
 use Rattle.vub_schedule.specs.declared.types.Event.TheVariants as events
 use Rattle.vub_world.specs.MachineAt.{Performs}
 use Rattle.vub_world.specs.MachineSteps.{PlaysTurns}
@@ -11,4 +11,4 @@ pub returns-clause-performs : goal.returns-clause-performs
 returns-clause-performs c =
     let w = c.args.self.now in
     let now = c.several.new.self in
-    ok_then (λ is. PlaysTurns w now choices.Drain (2 ^ 64 - 1) is) (λ is. Performs w now (events.Drain 0) is) c.several.result (λ is plays. drain_performs w now (2 ^ 64 - 1) is (omega arith) plays) c.several.ensures.plays
+    ok_then (λ is. PlaysTurns w now sequences.Drain (2 ^ 64 - 1) is) (λ is. Performs w now (events.Drain 0) is) c.several.result (λ is plays. drain_performs w now (2 ^ 64 - 1) is (omega arith) plays) c.several.ensures.plays

@@ -15,13 +15,13 @@ returns-clause-plays c es rs m stands at =
     let w : Machine = c.args.self.now in
     let now : Machine = c.turns.new.self in
     let after : List Item = c.turns.new.room.items in
-    let goes : TurnsGo c.turns.result c.args.choice c.args.count w now m [] after =
-    subst (λ (xs : List Item). TurnsGo c.turns.result c.args.choice c.args.count w now m xs after) c.in_ok-room.ensures.empty (c.turns.ensures.turns es rs m stands at) in
+    let goes : TurnsGo c.turns.result c.args.sequence c.args.count w now m [] after =
+    subst (λ (xs : List Item). TurnsGo c.turns.result c.args.sequence c.args.count w now m xs after) c.in_ok-room.ensures.empty (c.turns.ensures.turns es rs m stands at) in
     elim c.if-not-turns.branch [
       | then-not-turns b ↦
-          several_idle w now c.args.choice c.args.count m after c.finish.result (subst (λ (made : Bool). TurnsGo made c.args.choice c.args.count w now m [] after) b.if-not-turns.true goes)
+          several_idle w now c.args.sequence c.args.count m after c.finish.result (subst (λ (made : Bool). TurnsGo made c.args.sequence c.args.count w now m [] after) b.if-not-turns.true goes)
           (c.finish.ensures ∙ ap (λ (r : RoomState). r.items) (b.room-is ∙ b.note.ensures))
       | else-not-turns b ↦
-          several_made w now c.args.choice c.args.count m after c.finish.result (subst (λ (made : Bool). TurnsGo made c.args.choice c.args.count w now m [] after) b.if-not-turns.false goes)
+          several_made w now c.args.sequence c.args.count m after c.finish.result (subst (λ (made : Bool). TurnsGo made c.args.sequence c.args.count w now m [] after) b.if-not-turns.false goes)
           (c.finish.ensures ∙ ap (λ (r : RoomState). r.items) b.room-is)
     ]

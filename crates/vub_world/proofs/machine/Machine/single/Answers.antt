@@ -3,7 +3,7 @@ use Rattle.vub_steps.specs.declared.readiness.Turn.{Turn}
 use Rattle.vub_world.specs.declared.machine.Machine.{Machine}
 use Rattle.vub_queue.specs.declared.queue.Stepped.{Stepped}
 use Rattle.vub_report.specs.declared.items.Item.{Item}
-use Rattle.vub_world.specs.MachineDevice.{accepts, turn_here}
+use Rattle.vub_world.specs.MachineDevice.{accepts}
 use Rattle.vub_world.specs.MachineSteps.{StepGoes}
 use Rattle.vub_queue.specs.QueueState.{is_idle}
 use Rattle.vub_room.specs.Rooms.{RoomState, HasRoom}
@@ -26,7 +26,7 @@ returns-clause-plays c es rs m stands at =
     let w : Machine = c.args.self.now in
     let now : Machine = c.step.new.self in
     let x : Stepped = c.step.result in
-    let t : Turn = turn_here w.header c.args.turn m in
+    let t : Turn = c.args.turn in
     let after : List Item = c.step.new.room.items in
     let goes : StepGoes (not (is_idle x)) t w now m [] after 0 (accepts x) =
     subst (λ (xs : List Item). StepGoes (not (is_idle x)) t w now m xs after 0 (accepts x)) c.in_ok-room.ensures.empty (c.step.ensures.goes m (reached_now w.header es rs m stands) at) in

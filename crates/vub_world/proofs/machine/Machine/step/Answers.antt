@@ -29,7 +29,7 @@ returns-then-is_idle-clause-goes c m reached at =
     let w : Machine = c.args.self.now in
     let now : Machine = c.turn-stepped.new.self in
     let x : Stepped = c.turn-stepped.result in
-    let t : Turn = turn_here w.header c.args.turn m in
+    let t : Turn = turn_here w.header c.args.choice m in
     let idle : is_idle x ≡ true = search in
     let ends = step_ends t w now m x idle (c.turn-stepped.ensures.turns m reached at) in
     subst (λ (b : Bool). StepGoes (not b) t w now m c.args.room.now.items c.answers-answers.new.room.items 0 (accepts x)) (sym idle)
@@ -40,7 +40,7 @@ returns-clause-goes c m reached at =
     let w : Machine = c.args.self.now in
     let now : Machine = c.turn-stepped.new.self in
     let x : Stepped = c.turn-stepped.result in
-    let t : Turn = turn_here w.header c.args.turn m in
+    let t : Turn = turn_here w.header c.args.choice m in
     let other : is_idle x ≡ false = search in
     let same : c.answers-answers.new.room.items ≡ c.args.room.now.items = same_items (shown_in w.life) c.args.room.now c.answers-answers.new.room c.answers-answers.ensures.room in
     let notes = c.note_turn.ensures.items ∙ ap (λ is. is ++ noted now.log (values_of now.disk) (stores_in now.memory) c.answers-answers.result.items x) same in

@@ -22,10 +22,10 @@ returns-in-Some-Some-clause-turns c m reached at =
     let life_is : w.life ≡ with_queue q = c.in-Some-Some.is ∙ ap (λ o. Some (record { queue = o })) queue_is in
     let same = c.restart.ensures.memory in
     let has : HasQueue w m q = record { good = (reached_holds w.header m reached).0; at = at; life_is = life_is } in
-    turn_goes w m q c.turn_queue.new.queue (turn_here w.header c.args.turn m) c.restart.new.self c.turn_queue.new.memory c.turn_queue.new.disk c.turn_queue.result has (kept_bytes w c.restart.new.self same)
+    turn_goes w m q c.turn_queue.new.queue (turn_here w.header c.args.choice m) c.restart.new.self c.turn_queue.new.memory c.turn_queue.new.disk c.turn_queue.result has (kept_bytes w c.restart.new.self same)
     (λ d. c.turn_queue.ensures.turns w.header w.ring m w.log reached c.requires.sound.disk c.requires.sound.ring (kept_room w c.restart.new.self c.requires.sound same) d at.log)
 
 pub returns-in_default-2-clause-turns : goal.returns-in_default-2-clause-turns
 returns-in_default-2-clause-turns c m reached at =
     let w : Machine = c.args.self.now in
-    turn_none w m (turn_here w.header c.args.turn m) c.restart.new.self (reached_holds w.header m reached).0 at (subst (λ l. has_no_queue l) (sym c.in_default.is) tt) (kept_bytes w c.restart.new.self c.restart.ensures.memory)
+    turn_none w m (turn_here w.header c.args.choice m) c.restart.new.self (reached_holds w.header m reached).0 at (subst (λ l. has_no_queue l) (sym c.in_default.is) tt) (kept_bytes w c.restart.new.self c.restart.ensures.memory)

@@ -13,6 +13,6 @@ invariant-loop-done l = record {
   frame : l.self ≡ record l.fn.self { memory = l.self.memory; life = l.self.life; disk = l.self.disk };
   sound : IsSound l.self;
   goes : (es : List Event) (rs : List Record) (m : Moment) → Stands l.fn.self.header es rs m → MachineAt l.fn.self m
-      → TurnsAt l.fn.self.header l.fn.choice m (room_of l.fn.count l.fn.self) l.done l.self l.fn.room.items l.room.items l.accepted l.room;
+      → TurnsAt l.fn.self.header l.fn.sequence m (room_of l.fn.count l.fn.self) l.done l.self l.fn.room.items l.room.items l.accepted l.room;
   idle : l.done ≡ 0 → l.room.item_room ≡ l.fn.room.item_room;
 }

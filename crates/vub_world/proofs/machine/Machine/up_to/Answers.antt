@@ -1,6 +1,6 @@
 use Rattle.std.proofs.Common.{ℕ, subst}
 use Rattle.std.specs.Prelude.{IfOk}
-use Rattle.vub_world.specs.declared.device.Choice.TheVariants as choices
+use Rattle.vub_world.specs.declared.device.Sequence.TheVariants as sequences
 use Rattle.vub_schedule.specs.declared.types.Event.TheVariants as events
 use Rattle.vub_world.specs.MachineAt.{Performs}
 use Rattle.vub_world.specs.MachineSteps.{PlaysTurns}
@@ -12,5 +12,5 @@ pub returns-clause-performs : goal.returns-clause-performs
 returns-clause-performs c =
     let w = c.args.self.now in
     let now = c.several.new.self in
-    ok_then (λ is. PlaysTurns w now choices.Any c.args.count is) (λ is. Performs w now (events.Turn 0 c.args.count) is) c.several.result (λ is plays. up_to_performs w now c.args.count is plays)
-    (subst (λ (n : ℕ). IfOk c.several.result (λ is. PlaysTurns w now choices.Any n is)) c.from.ensures c.several.ensures.plays)
+    ok_then (λ is. PlaysTurns w now sequences.Any c.args.count is) (λ is. Performs w now (events.Turn 0 c.args.count) is) c.several.result (λ is plays. up_to_performs w now c.args.count is plays)
+    (subst (λ (n : ℕ). IfOk c.several.result (λ is. PlaysTurns w now sequences.Any n is)) c.from.ensures c.several.ensures.plays)

@@ -1,0 +1,26 @@
+-- Turns one after another.
+use Rattle.std.specs.Prelude.{ℕ}
+use Rattle.vub_base.specs.declared.header.Header1.{Header1}
+use Rattle.vub_steps.specs.declared.readiness.Choice.{Choice}
+use Rattle.vub_steps.specs.declared.readiness.Choice.TheVariants as choices
+use Rattle.vub_steps.specs.declared.readiness.Turn.{Turn}
+use Rattle.vub_steps.specs.Readiness.{chosen}
+use Rattle.vub_device.specs.Past.{accepted}
+use Rattle.vub_world.specs.declared.device.Sequence.{Sequence}
+use Rattle.vub_world.specs.declared.device.Sequence.TheVariants as sequences
+use Rattle.vub_run.specs.Moments.{Moment, standing}
+use Rattle.vub_run.specs.Run.{any_choice, drain_choice}
+
+-- the choice after so many requests were accepted
+abbrev pub choice_after : Sequence → ℕ → Choice
+choice_after sequences.Any taken = choices.Any
+choice_after sequences.Drain taken = choices.Drain taken
+
+-- the turn that comes next at a moment
+abbrev pub next_turn : Header1 → Sequence → ℕ → Moment → Turn
+next_turn h sequence taken m = chosen h.size (choice_after sequence taken) (standing h 0 m)
+
+-- the choices of turns that begin at a moment
+abbrev pub choices_from : Header1 → Sequence → Moment → Moment → Turn
+choices_from h sequences.Any m = any_choice h 0
+choices_from h sequences.Drain m = drain_choice h 0 (accepted m.scene.past 0)
