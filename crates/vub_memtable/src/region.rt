@@ -1,15 +1,21 @@
-ghost use Rattle.std.specs.Prelude.{◌≡◌, ◌<◌, ◌≤◌, ◌+◌, ◌-◌, ◌^◌, false, option_map};
-ghost use Rattle.vub_memtable.specs.Regions.{is_within, ranges_meet, regions_meet, ends_past, holds_guest, holds_user, numbers, guest_place_in, user_place_in};
+ghost use Rattle.std.specs.Prelude.{◌≡◌, ◌<◌, ◌≤◌, ◌+◌, ◌^◌};
+ghost use Rattle.vub_memtable.specs.Regions.{is_within, ranges_meet, regions_meet, ends_past, holds_guest, holds_user};
 
 use vub_base::Space;
 
-/// A region of guest memory: its size in bytes, where it begins in the addresses of the guest and
-/// of the front end, and where in its space.
+/// One more than the last address of the guest or of the front end that there can be.
+const ADDRESSES: u128 = 1 << 64;
+
+/// A region of guest memory as the front end names it.
 #[derive(Clone, Copy, Debug, Default, PartialEq, Eq)]
 pub struct Region {
+    /// The first of its addresses in the guest.
     pub guest: u64,
+    /// How many bytes it has. A region of size 0 holds no address.
     pub size: u64,
+    /// The first of its addresses in the front end.
     pub user: u64,
+    /// The place of its first byte in its space.
     pub offset: u64,
 }
 
@@ -39,7 +45,7 @@ fn end_of(start: u64, size: u64) -> u128
     u128::from(start) + u128::from(size)
 }
 
-/// Whether a range lies within the `size` numbers from `start` on.
+/// Whether the `len` numbers from `address` on are among the `size` ones from `start` on.
 fn is_within(start: u64, size: u64, address: u64, len: u64) -> bool
     ensures { result ≡ is_within start size address len }
 {
@@ -55,36 +61,26 @@ fn ranges_meet(start: u64, size: u64, other: u64, other_size: u64) -> bool
 }
 
 impl Mapped {
-    /// The place of a range of the guest's addresses, if the region holds it.
-    #[tactic(auto, using(crate::proofs::RegionLemmas::place_fits))]
-    pub(crate) fn guest_place(&self, address: u64, len: u64) -> Option<(Space, u64)>
-        requires { ends_past self.now ≡ false }
-        ensures { option_map numbers result ≡ guest_place_in self.now address len }
+    /// Whether the region holds all of a range of the guest's addresses.
+    pub(crate) fn holds_guest(&self, address: u64, len: u64) -> bool
+        ensures { result ≡ holds_guest self.now address len }
     {
-        if is_within(self.region.guest, self.region.size, address, len) {
-            Some((
-                self.space,
-                self.region.offset + (address - self.region.guest),
-            ))
-        } else {
-            None
-        }
+        is_within(self.region.guest, self.region.size, address, len)
     }
 
-    /// The place of a range of the front end's addresses, if the region holds it.
-    #[tactic(auto, using(crate::proofs::RegionLemmas::place_fits))]
-    pub(crate) fn user_place(&self, address: u64, len: u64) -> Option<(Space, u64)>
-        requires { ends_past self.now ≡ false }
-        ensures { option_map numbers result ≡ user_place_in self.now address len }
+    /// Whether the region holds all of a range of the front end's addresses.
+    pub(crate) fn holds_user(&self, address: u64, len: u64) -> bool
+        ensures { result ≡ holds_user self.now address len }
     {
-        if is_within(self.region.user, self.region.size, address, len) {
-            Some((
-                self.space,
-                self.region.offset + (address - self.region.user),
-            ))
-        } else {
-            None
-        }
+        is_within(self.region.user, self.region.size, address, len)
+    }
+
+    /// The space and the place of the byte that is so many bytes past the region's first.
+    pub(crate) fn place_of(&self, past: u64) -> (Space, u64)
+        requires { self.now.region.offset + past ≤ self.now.space_size }
+        ensures { result ≡ (self.now.space, self.now.region.offset + past) }
+    {
+        (self.space, self.region.offset + past)
     }
 
     /// Whether two regions share an address of the guest or of the front end.
@@ -101,10 +97,9 @@ impl Mapped {
     pub(crate) fn ends_past(&self) -> bool
         ensures { result ≡ ends_past self.now }
     {
-        let limit = 1u128 << 64;
         let size = self.region.size;
         end_of(self.region.offset, size) > u128::from(self.space_size)
-            || end_of(self.region.guest, size) > limit
-            || end_of(self.region.user, size) > limit
+            || end_of(self.region.guest, size) > ADDRESSES
+            || end_of(self.region.user, size) > ADDRESSES
     }
 }
