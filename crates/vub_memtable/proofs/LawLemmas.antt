@@ -1,5 +1,5 @@
 -- What the laws rest on.
-use Rattle.std.proofs.Common.{◌≡◌, ◌≢◌, ◌≤◌, ◌<◌, ◌⊎◌, ℕ, zero, suc, ◌+◌, ◌-◌, Bool, true, false, List, [], ◌∷◌, length, get_or, refl, ap, sym, ◌∙◌, subst, inl, inr, arith}
+use Rattle.std.proofs.Common.{◌≡◌, ◌≢◌, ◌≤◌, ◌<◌, ◌⊎◌, ℕ, ◌+◌, ◌-◌, List, [], ◌∷◌, length, get_or, refl, ap, sym, ◌∙◌, subst, inl, inr, arith}
 use Rattle.std.specs.Prelude.{nat_lt, ◌==◌, Option, Some, None, Any, AllPairs, option_map, unwrap_or}
 use Rattle.std.proofs.lemmas.Bool.{cases_Bool, cases_order}
 use Rattle.std.proofs.lemmas.Bool.Decides.{nat_tests}
@@ -9,10 +9,10 @@ use Rattle.vub_memtable.specs.declared.region.Mapped.{Mapped}
 use Rattle.vub_memtable.specs.declared.fault.TableFault.{TableFault}
 use Rattle.vub_memtable.specs.declared.fault.TableFault.TheVariants.{TooMany, Overlap, PastEnd, Unmapped}
 use Rattle.vub_memtable.specs.Regions.{IsAmong, SharePlace}
-use Rattle.vub_memtable.specs.Triples.{IsTriple, HasTriples, IsGuestRange, IsUserRange}
+use Rattle.vub_memtable.specs.Triples.{IsTriple, HasTriples, IsGuestRange}
 use Rattle.vub_memtable.specs.Tables.{AddressesApart, PlacesApart, IsTable, IsLeastOverlap, IsLeastPast, Refuses, fault_of, place_from}
 use Rattle.vub_memtable.proofs.RangeLemmas.{region_of, found_range, nowhere}
-use Rattle.vub_memtable.proofs.TableLemmas.{answered, table_is, refused_is}
+use Rattle.vub_memtable.proofs.TableLemmas.{table_is, refused_is}
 
 -- ---- one answer
 
@@ -109,8 +109,8 @@ not_two : (start : Mapped → ℕ) (xs : List Mapped) (k l : ℕ) (x y : Mapped)
 not_two start xs k l x y address s p t q apart below held at_x at_y one two =
     let there : get_or xs l x ≡ y = get_or_default xs l x y held ∙ at_y in
     let here : ¬ ((n : ℕ) × IsAmong (start x) x.region.size n × IsAmong (start y) y.region.size n)
-        = subst (λ (b : Mapped). ¬ ((n : ℕ) × IsAmong (start x) x.region.size n × IsAmong (start b) b.region.size n)) there
-          (subst (λ (a : Mapped). ¬ ((n : ℕ) × IsAmong (start a) a.region.size n × IsAmong (start (get_or xs l x)) (get_or xs l x).region.size n)) at_x (apart k l x below held)) in
+    = subst (λ (b : Mapped). ¬ ((n : ℕ) × IsAmong (start x) x.region.size n × IsAmong (start b) b.region.size n)) there
+    (subst (λ (a : Mapped). ¬ ((n : ℕ) × IsAmong (start a) a.region.size n × IsAmong (start (get_or xs l x)) (get_or xs l x).region.size n)) at_x (apart k l x below held)) in
     here (address, among x (start x) address s p one, among y (start y) address t q two)
 
 same_triple : (m : Mapped) (start address s p t q : ℕ) → IsTriple m start address s p → IsTriple m start address t q → (s ≡ t) × (p ≡ q)
@@ -135,8 +135,8 @@ part_of start xs address len s p past part within range = (range.0, range.1, ran
   where
     go : HasTriples range.1 (start range.1) (address + past) part s (p + past)
     go i low =
-      let whole : IsTriple range.1 (start range.1) (address + (past + i)) s (p + (past + i)) = range.4 (past + i) (omega arith) in
-      record { at = whole.at; inside = whole.inside; address_is = omega (arith, whole.address_is); space_is = whole.space_is; place_is = omega (arith, whole.place_is) }
+        let whole : IsTriple range.1 (start range.1) (address + (past + i)) s (p + (past + i)) = range.4 (past + i) (omega arith) in
+        record { at = whole.at; inside = whole.inside; address_is = omega (arith, whole.address_is); space_is = whole.space_is; place_is = omega (arith, whole.place_is) }
 
 -- ---- the calls' answer
 
@@ -200,8 +200,9 @@ ranges_apart xs a len s p b count t q apart some also other one two = elim (case
   where
     at : (i j : ℕ) → i < len → j < count → s ≡ t → p + i ≡ q + j → ⊥
     at i j low_i low_j same place =
-      distinct xs (a + i) (b + j) s (p + i) t (q + j) apart (λ e. elim other [ | inl before ↦ (let f : a + i ≡ b + j = e in omega (arith, f, before, low_i, low_j)) | inr after ↦ (let f : a + i ≡ b + j = e in omega (arith, f, after, low_i, low_j)) ])
+        distinct xs (a + i) (b + j) s (p + i) t (q + j) apart (λ e. elim other [ inl before ↦ (let f : a + i ≡ b + j = e in omega (arith, f, before, low_i, low_j)) | inr after ↦ (let f : a + i ≡ b + j = e in omega (arith, f, after, low_i, low_j)) ])
         (part_of (λ m. m.region.guest) xs a len s p i 1 (omega arith) one) (part_of (λ m. m.region.guest) xs b count t q j 1 (omega arith) two) (same, place)
+
     meet : s ≡ t → p < q + count → q < p + len → (p ≡ q) ⊎ ((p < q) ⊎ (q < p)) → ⊥
     meet same one_way other_way (inr (inl low)) = at (q - p) 0 (omega arith) (omega arith) same (omega arith)
     meet same one_way other_way (inl equal) = at 0 0 (omega arith) (omega arith) same (omega arith)

@@ -1,5 +1,5 @@
 -- Ranges of addresses in a table.
-use Rattle.std.proofs.Common.{◌≡◌, ◌≢◌, ◌≤◌, ◌<◌, ◌⊎◌, ℕ, zero, suc, ◌+◌, ◌-◌, Bool, true, false, cond, List, [], ◌∷◌, length, get_or, refl, ap, sym, ◌∙◌, subst, inl, inr, arith}
+use Rattle.std.proofs.Common.{◌≡◌, ◌≤◌, ◌<◌, ◌⊎◌, ℕ, zero, suc, ◌+◌, ◌-◌, Bool, true, false, cond, List, [], ◌∷◌, length, get_or, refl, ap, sym, ◌∙◌, subst, inl, inr, arith}
 use Rattle.std.specs.Prelude.{Option, Some, None, All, Any, unwrap_or}
 use Rattle.std.specs.List.{find}
 use Rattle.std.proofs.lemmas.Bool.{cases_Bool}
@@ -75,7 +75,7 @@ found_within start xs address len r table found =
     ]
   where
     nat_dec : (a b : ℕ) → (a ≤ b) ⊎ (b < a)
-    nat_dec a b = elim (cases_Bool (Rattle.std.specs.Prelude.nat_le a b)) [ | inl low ↦ inl (grind (arith, nat_tests)) | inr high ↦ inr (grind (arith, nat_tests)) ]
+    nat_dec a b = elim (cases_Bool (Rattle.std.specs.Prelude.nat_le a b)) [ inl low ↦ inl (grind (arith, nat_tests)) | inr high ↦ inr (grind (arith, nat_tests)) ]
 
 pub found_range : (start : Mapped → ℕ) (xs : List Mapped) (address len : ℕ) (r : Mapped) → region_of start xs address len ≡ Some r
     → Any (λ m. HasTriples m (start m) address len r.space.number (r.region.offset + (address - start r))) xs

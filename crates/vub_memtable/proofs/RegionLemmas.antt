@@ -1,6 +1,6 @@
 -- The tests of regions are the facts.
-use Rattle.std.proofs.Common.{◌≡◌, ◌≤◌, ◌<◌, ◌⊎◌, ℕ, ◌+◌, ◌-◌, Bool, true, false, refl, inl, inr, arith}
-use Rattle.std.specs.Prelude.{◌^◌, ◌||◌, nat_lt, if◌then◌else◌}
+use Rattle.std.proofs.Common.{◌≡◌, ◌≤◌, ◌<◌, ◌⊎◌, ℕ, ◌+◌, Bool, true, false, refl, inl, inr, arith}
+use Rattle.std.specs.Prelude.{◌^◌, ◌||◌, nat_lt}
 use Rattle.std.proofs.lemmas.Bool.{cases_Bool}
 use Rattle.std.proofs.lemmas.Bool.Decides.{nat_tests}
 use Rattle.vub_memtable.specs.declared.region.Mapped.{Mapped}

@@ -1,8 +1,8 @@
 -- Why a table is refused, or what it promises.
-use Rattle.std.proofs.Common.{◌≡◌, ◌≢◌, ◌≤◌, ◌<◌, ◌⊎◌, ℕ, zero, suc, ◌+◌, ◌-◌, Bool, true, false, cond, List, [], ◌∷◌, length, get_or, refl, ap, sym, ◌∙◌, subst, inl, inr, arith}
+use Rattle.std.proofs.Common.{◌≡◌, ◌≤◌, ◌<◌, ◌⊎◌, ℕ, zero, suc, ◌+◌, Bool, true, false, cond, List, [], ◌∷◌, length, get_or, refl, ap, sym, ◌∙◌, subst, inl, inr, arith}
 use Rattle.std.specs.Prelude.{nat_lt, Option, Some, None, option_map, unwrap_or}
 use Rattle.std.proofs.lemmas.Option.{none-some}
-use Rattle.std.specs.List.{position, position_from, position_or_len}
+use Rattle.std.specs.List.{position_from}
 use Rattle.std.specs.Option.{option_or}
 use Rattle.std.proofs.lemmas.Bool.{cases_Bool}
 use Rattle.std.proofs.lemmas.Bool.Decides.{nat_tests}
@@ -10,9 +10,9 @@ use Rattle.std.proofs.lemmas.Iterator.Adapters.{position_from-zero}
 use Rattle.std.proofs.lemmas.List.Quantifiers.{position-Some}
 use Rattle.vub_memtable.specs.declared.region.Mapped.{Mapped}
 use Rattle.vub_memtable.specs.declared.fault.TableFault.{TableFault}
-use Rattle.vub_memtable.specs.declared.fault.TableFault.TheVariants.{TooMany, Overlap, PastEnd, Unmapped}
-use Rattle.vub_memtable.specs.Regions.{EndsPast, ShareAddress, ends_past, regions_meet}
-use Rattle.vub_memtable.specs.Tables.{most_regions, AddressesApart, IsTable, IsLeastOverlap, IsLeastPast, Refuses, first_overlap, past_fault, overlap_fault, fault_of}
+use Rattle.vub_memtable.specs.declared.fault.TableFault.TheVariants.{TooMany}
+use Rattle.vub_memtable.specs.Regions.{ShareAddress, ends_past, regions_meet}
+use Rattle.vub_memtable.specs.Tables.{most_regions, AddressesApart, IsTable, IsLeastOverlap, IsLeastPast, Refuses, first_overlap, overlap_fault, fault_of}
 use Rattle.vub_memtable.proofs.RegionLemmas.{past_is, not_past, share_is, no_share}
 
 -- what is true at the first index at which a test passes
@@ -62,24 +62,34 @@ overlap_step : (at : ℕ) (x : Mapped) (xs : List Mapped) (i j : ℕ) (o : Optio
 overlap_step at x xs i j (Some k) is rest found =
     let one : at ≡ i = ap (λ (y : Option (ℕ × ℕ)). (unwrap_or y (0, 0)).0) found in
     let two : at + 1 + k ≡ j = ap (λ (y : Option (ℕ × ℕ)). (unwrap_or y (0, 0)).1) found in
-    let low : k < length xs = (first_is (regions_meet x) xs k x is).0 in
-    (0, suc k, omega (arith, one), omega (arith, two), record {
-      later = omega arith;
-      held = omega (arith, low);
-      share = λ (d : Mapped). share_is x (get_or xs k d) (first_is (regions_meet x) xs k d is).1;
-      least = λ (h l : ℕ) (d : Mapped). λ below held before. least_first x xs k x (λ (n : ℕ) (e : Mapped). λ lower. (first_is (regions_meet x) xs k e is).2 n lower) h l d below before;
-    })
+    let low : k < length xs = (first_is (regions_meet x) xs k x is).0 in (
+      0,
+      suc k,
+      omega (arith, one),
+      omega (arith, two),
+      record {
+        later = omega arith;
+        held = omega (arith, low);
+        share = λ (d : Mapped). share_is x (get_or xs k d) (first_is (regions_meet x) xs k d is).1;
+        least = λ (h l : ℕ) (d : Mapped). λ below held before. least_first x xs k x (λ (n : ℕ) (e : Mapped). λ lower. (first_is (regions_meet x) xs k e is).2 n lower) h l d below before;
+      },
+    )
 overlap_step at x xs i j None is rest found =
     let later : OverlapFrom (at + 1) xs i j = rest found in
     let one : i ≡ at + 1 + later.0 = later.2 in
     let two : j ≡ at + 1 + later.1 = later.3 in
-    let least : IsLeastOverlap xs later.0 later.1 = later.4 in
-    (suc later.0, suc later.1, omega (arith, one), omega (arith, two), record {
-      later = omega (arith, least.later);
-      held = omega (arith, least.held);
-      share = λ (d : Mapped). least.share d;
-      least = λ (h l : ℕ) (d : Mapped). λ below held before. least_later x xs later.0 later.1 (λ (n : ℕ) (e : Mapped). λ low. none_is (regions_meet x) 0 xs n e is low) least h l d below held before;
-    })
+    let least : IsLeastOverlap xs later.0 later.1 = later.4 in (
+      suc later.0,
+      suc later.1,
+      omega (arith, one),
+      omega (arith, two),
+      record {
+        later = omega (arith, least.later);
+        held = omega (arith, least.held);
+        share = λ (d : Mapped). least.share d;
+        least = λ (h l : ℕ) (d : Mapped). λ below held before. least_later x xs later.0 later.1 (λ (n : ℕ) (e : Mapped). λ low. none_is (regions_meet x) 0 xs n e is low) least h l d below held before;
+      },
+    )
 
 overlap_is : (at : ℕ) (xs : List Mapped) (i j : ℕ) → first_overlap at xs ≡ Some (i, j) → OverlapFrom at xs i j
 overlap_is at [] i j found = absurd (none-some (i, j) found)

@@ -134,16 +134,16 @@ fn tables_are_refused(rt: HostRuntime) -> Result<(), Fail> {
             &[mapped(0, 1, 0, 0), mapped(0x10, 2, LAST, 0)],
             TableFault::PastEnd(1),
         ),
-        (
-            &[mapped(0, 2, 0, LAST)],
-            TableFault::PastEnd(0),
-        ),
+        (&[mapped(0, 2, 0, LAST)], TableFault::PastEnd(0)),
     ];
     let mut table = MemTable::new();
     assert_eq!(rt; table.set(&regions()), Ok(()));
     for (regions, fault) in cases {
         assert_eq!(rt; table.set(regions), Err(fault));
-        assert_eq!(rt; table.guest_to_space(0x3000, 0x1000), Ok((Space { number: 0 }, 0x3000)));
+        assert_eq!(rt;
+            table.guest_to_space(0x3000, 0x1000),
+            Ok((Space { number: 0 }, 0x3000))
+        );
     }
     Ok(())
 }

@@ -1,4 +1,4 @@
-use Rattle.std.proofs.Common.{◌≤◌, ◌+◌, ◌-◌, sym, arith}
+use Rattle.std.proofs.Common.{sym, arith}
 use Rattle.vub_memtable.proofs.RangeLemmas.{found_from, found_lies, found_range, found_within, nowhere}
 use Rattle.vub_memtable.proofs.table.MemTable.user_to_space.Goals as goal
 
