@@ -17,6 +17,7 @@ mod source;
 mod store;
 #[cfg(test)]
 mod tests;
+pub mod virtio_blk;
 
 pub use bell::Bell;
 pub use bytes::Bytes;
