@@ -1,9 +1,11 @@
 -- What a request means: the sectors that it reads and writes, and its fixed refusal (VIRTIO 1.2, 5.2.6).
-use Rattle.std.specs.Prelude.{ℕ, ◌+◌, ◌-◌, ◌*◌, ◌/◌, Bool, true, false, nat_lt, ◌||◌, if◌then◌else◌, List, [], ◌∷◌, ◌++◌, length, slice_range, replicate, codes, Option, Some, None}
+use Rattle.std.specs.Prelude.{ℕ, ◌+◌, ◌-◌, ◌*◌, ◌/◌, Bool, true, false, nat_lt, ◌||◌, if◌then◌else◌, List, [], ◌∷◌, ◌++◌, length, slice_range, flat_map, replicate, codes, Option, Some, None}
 use Rattle.std.specs.List.{list_any}
 use Rattle.vub_base.specs.declared.header.CacheMode.{CacheMode}
 use Rattle.vub_base.specs.declared.header.CacheMode.TheVariants.{Through, ReadOnly}
 use Rattle.vub_base.specs.declared.request.Part.{Part}
+use Rattle.vub_base.specs.declared.request.Ask.{Ask}
+use Rattle.vub_base.specs.declared.request.Ask.TheVariants as asks
 use Rattle.vub_device.specs.declared.entry.Asked.{Asked}
 use Rattle.vub_device.specs.declared.entry.Asked.TheVariants.{Read, Write, Flush, Id, Discard, Zero}
 use Rattle.vub_device.specs.declared.entry.SectorValue.{SectorValue}
@@ -15,6 +17,15 @@ zeros = replicate 512 0
 -- what an id request reads
 unfoldable pub device_name : List ℕ
 device_name = codes "vublk" ++ replicate 15 0
+
+-- the request as the history has it: each written sector filled with its byte
+abbrev pub request_of : Ask → Asked
+request_of (asks.Read s n) = Read s n
+request_of (asks.Write s fills) = Write s (flat_map (λ b. replicate 512 b) fills.items)
+request_of asks.Flush = Flush
+request_of asks.Id = Id
+request_of (asks.Discard parts) = Discard parts
+request_of (asks.Zero parts) = Zero parts
 
 -- the sector that a request reads in place i
 abbrev pub look_at : Asked → ℕ → Option ℕ
