@@ -1,9 +1,9 @@
 -- What a lawful driver stores keeps what is known of the slots; what stands is what is seen.
-use Rattle.std.proofs.Common.{◌≡◌, ◌≤◌, ◌<◌, ℕ, zero, suc, ◌+◌, ◌-◌, ◌%◌, true, false, cond, List, [], ◌∷◌, drop, refl, ap, sym, ◌∙◌, subst, inl, inr, arith}
+use Rattle.std.proofs.Common.{◌≡◌, ◌≤◌, ◌<◌, ℕ, ◌+◌, ◌-◌, ◌%◌, true, false, List, [], ◌∷◌, drop, refl, ap, sym, subst, inl, inr, arith}
 use Rattle.std.proofs.lemmas.Bool.{cases_lt, cases_eq}
 use Rattle.vub_base.specs.declared.position.Position.{Position}
 use Rattle.vub_base.specs.Positions.{is_available, is_used, wrap_at}
-use Rattle.vub_slots.specs.Slots.{SlotWords, with_at, IsAvailable, IsOfLap, Element, slots_of, pairs_of, IsSized, Shows, elements_from, Buffer, buffer_slots, OneBuffer, Waits, buffers_from}
+use Rattle.vub_slots.specs.Slots.{SlotWords, with_at, IsAvailable, IsOfLap, Element, slots_of, pairs_of, IsSized, Shows, elements_from, buffer_slots, OneBuffer, Waits, buffers_from}
 use Rattle.vub_slots.specs.Stands.{DriverSlots, IsSlots, Stand, Stands}
 use Rattle.vub_slots.specs.Stands.Stand.{Hidden, Shown}
 use Rattle.vub_slots.specs.DriverStores.{DriverStore, words_after, driver_after, offered_after, IsLawful}

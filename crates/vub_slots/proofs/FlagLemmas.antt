@@ -1,7 +1,7 @@
 -- The bits of the flags of a slot that is available, used or restored.
 use Rattle.std.proofs.Common.{◌≡◌, ◌≢◌, ◌<◌, ℕ, ◌-◌, ◌*◌, ◌^◌, ◌%◌, min, max, w16, Bool, true, false, refl, ap, ◌∙◌, lit<, arith}
 use Rattle.std.specs.Int.{bit_at, bit_not}
-use Rattle.std.specs.Prelude.{bit_and, bit_or, ◌==◌}
+use Rattle.std.specs.Prelude.{bit_and}
 use Rattle.std.proofs.lemmas.Bool.Decides.{nat_tests}
 use Rattle.std.proofs.lemmas.Nat.Bits.{bit_at_and, bit_at_or, bit_at-lt, bit_at_clear_other, bit_at_ones, bit_at-pow_other}
 use Rattle.vub_base.specs.Positions.{is_available, is_used}

@@ -1,9 +1,9 @@
 -- What a walk along the slots finds, and what stands where it found it.
-use Rattle.std.proofs.Common.{◌≡◌, ◌≤◌, ◌<◌, ℕ, zero, suc, ◌+◌, ◌-◌, ◌%◌, Bool, true, false, cond, List, [], ◌∷◌, ◌++◌, length, refl, ap, sym, ◌∙◌, subst, inl, inr, arith}
+use Rattle.std.proofs.Common.{◌≡◌, ◌≤◌, ◌<◌, ℕ, zero, suc, ◌+◌, ◌-◌, ◌%◌, true, false, cond, List, [], ◌∷◌, ◌++◌, length, refl, ap, sym, ◌∙◌, subst, inl, inr, arith}
 use Rattle.std.proofs.lemmas.Bool.{cases_Bool, cases_lt}
-use Rattle.vub_base.specs.Positions.{is_available, is_used, wrap_at}
+use Rattle.vub_base.specs.Positions.{is_used, wrap_at}
 use Rattle.vub_slots.specs.Flags.{goes_on}
-use Rattle.vub_slots.specs.Slots.{SlotWords, available_at, used_at, IsAvailable, IsUsed, Element, element_slots, slots_of, pairs_of, IsSized, Shows, elements_from, Buffer, buffer_slots, OneBuffer, Waits, buffer_from, buffers_from}
+use Rattle.vub_slots.specs.Slots.{SlotWords, available_at, used_at, IsUsed, Element, element_slots, slots_of, pairs_of, IsSized, Shows, elements_from, Buffer, buffer_slots, OneBuffer, Waits, buffer_from, buffers_from}
 use Rattle.vub_slots.proofs.NumberLemmas.{available_of_lap, used_of_lap, other_lap, old_not_available, old_not_used}
 use Rattle.vub_slots.proofs.SlotLemmas.{Agree, slots_of-append, pairs_of-append, shows_agree, shows_append, shows_few, buffer_slots-append, waits_agree, waits_append, Firsts, firsts_agree, firsts_append, first_of_some}
 
