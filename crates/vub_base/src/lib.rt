@@ -27,7 +27,7 @@ pub use fields::{get_u16, get_u32, get_u64, put_u16, put_u32, put_u64};
 pub use header::{CacheMode, Format, Header1};
 pub use mem_sink::MemSink;
 pub use mem_source::MemSource;
-pub use position::{Position, VIRTQ_DESC_F_AVAIL, VIRTQ_DESC_F_USED, is_available, is_used};
+pub use position::{Position, is_available, is_used};
 pub use request::{Ask, Part, Shape};
 pub use ring_fault::{ChainFault, RingFault};
 pub use sink::Sink;

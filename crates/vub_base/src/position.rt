@@ -2,11 +2,7 @@
 ghost use Rattle.std.specs.Prelude.{◌≡◌, ◌<◌, ◌≤◌, ℕ, ◌+◌};
 ghost use Rattle.vub_base.specs.Positions as positions;
 
-/// The bit AVAIL of a slot's flags (VIRTIO 1.2, 2.8.1).
-pub const VIRTQ_DESC_F_AVAIL: u16 = 1 << 7;
-
-/// The bit USED of a slot's flags (VIRTIO 1.2, 2.8.1).
-pub const VIRTQ_DESC_F_USED: u16 = 1 << 15;
+use crate::standard::{VIRTQ_DESC_F_AVAIL, VIRTQ_DESC_F_USED};
 
 /// A place on a packed ring: the index of a slot, and the ring wrap counter there, which is 1 in
 /// the first lap and is inverted where a lap begins (VIRTIO 1.2, 2.8.1).

@@ -42,6 +42,10 @@ pub const VIRTQ_DESC_F_NEXT: u16 = 1;
 pub const VIRTQ_DESC_F_WRITE: u16 = 2;
 /// The buffer of this descriptor is a table of descriptors (2.7.5.3).
 pub const VIRTQ_DESC_F_INDIRECT: u16 = 4;
+/// The bit of a slot's flags that the driver sets to its wrap counter (2.8.1).
+pub const VIRTQ_DESC_F_AVAIL: u16 = 1 << 7;
+/// The bit of a slot's flags that the device sets to its wrap counter.
+pub const VIRTQ_DESC_F_USED: u16 = 1 << 15;
 
 /// The number of the feature by which config.seg_max is valid (5.2.3).
 pub const VIRTIO_BLK_F_SEG_MAX: u32 = 2;

@@ -8,4 +8,4 @@ mod packed;
 mod tests;
 
 pub use packed::{PackedDesc, PackedRing};
-pub use vub_base::{Position, VIRTQ_DESC_F_AVAIL, VIRTQ_DESC_F_USED, is_available, is_used};
+pub use vub_base::{Position, is_available, is_used};

@@ -6,7 +6,8 @@ ghost use Rattle.vub_shared.specs.Stores.{Stores, Trails};
 ghost use Rattle.vub_slots.specs.Flags.{restored_flags};
 ghost use Rattle.vub_slots.specs.Stores.{len_store, id_store, flags_store};
 
-use vub_base::{Failed, Space, VIRTQ_DESC_F_AVAIL, VIRTQ_DESC_F_USED, get_u16, get_u32, get_u64};
+use vub_base::standard::{VIRTQ_DESC_F_AVAIL, VIRTQ_DESC_F_USED};
+use vub_base::{Failed, Space, get_u16, get_u32, get_u64};
 use vub_shared::{Shared, load_u16};
 
 // The bytes of a slot, and in it the places of its address, length, id and flags.
