@@ -1,0 +1,11 @@
+pub mod Fields
+pub mod PayloadParts
+pub mod Payloads
+pub mod Headers
+pub mod FrontMessages
+pub mod Appends
+pub mod WrittenMessages
+pub mod ReplyLemmas
+pub mod StreamLemmas
+pub mod FaultLemmas
+pub mod FlagLemmas
