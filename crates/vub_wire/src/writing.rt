@@ -17,6 +17,7 @@ use crate::numbers::{
 };
 use crate::{Config, Header, Inflight, Message};
 use arrayvec::ArrayVec;
+use byteorder::{ByteOrder, LittleEndian};
 use vub_memtable::Region;
 
 /// Bytes as they are.
@@ -36,7 +37,9 @@ fn put_u16(out: &mut ArrayVec<u8, MAX_MESSAGE_SIZE>, number: u16)
     ensures items { out.new.items ≡ out.old.items ++ little_bytes 2 number }
     ensures len { array_vec_len out.new ≡ array_vec_len out.old + 2 }
 {
-    put(out, &number.to_le_bytes());
+    let mut field = [0; 2];
+    LittleEndian::write_u16(&mut field, number);
+    put(out, &field);
 }
 
 /// A number in 4 bytes.
@@ -45,7 +48,9 @@ fn put_u32(out: &mut ArrayVec<u8, MAX_MESSAGE_SIZE>, number: u32)
     ensures items { out.new.items ≡ out.old.items ++ little_bytes 4 number }
     ensures len { array_vec_len out.new ≡ array_vec_len out.old + 4 }
 {
-    put(out, &number.to_le_bytes());
+    let mut field = [0; 4];
+    LittleEndian::write_u32(&mut field, number);
+    put(out, &field);
 }
 
 /// A number in 8 bytes.
@@ -54,7 +59,9 @@ pub(crate) fn put_u64(out: &mut ArrayVec<u8, MAX_MESSAGE_SIZE>, number: u64)
     ensures items { out.new.items ≡ out.old.items ++ little_bytes 8 number }
     ensures len { array_vec_len out.new ≡ array_vec_len out.old + 8 }
 {
-    put(out, &number.to_le_bytes());
+    let mut field = [0; 8];
+    LittleEndian::write_u64(&mut field, number);
+    put(out, &field);
 }
 
 /// The number of a queue and another.
