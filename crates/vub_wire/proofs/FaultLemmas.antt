@@ -1,5 +1,5 @@
 -- A fault other than `NeedMore` stays, whatever follows.
-use Rattle.std.proofs.Common.{◌≡◌, [], ◌∷◌, ◌≢◌, ℕ, ◌+◌, ◌≤◌, false, List, ◌++◌, length, take, drop, refl, sym, ap, ◌∙◌, inl, inr, arith, length-append}
+use Rattle.std.proofs.Common.{◌≡◌, [], ◌∷◌, ◌≢◌, ℕ, ◌≤◌, false, List, ◌++◌, length, take, drop, refl, sym, ap, ◌∙◌, inl, inr, arith, length-append}
 use Rattle.std.specs.Prelude.{◌==◌, Some, Result, Ok, Err, nat_lt}
 use Rattle.std.proofs.lemmas.Bool.{cases_Bool}
 use Rattle.std.proofs.lemmas.Bool.Decides.{nat_tests}

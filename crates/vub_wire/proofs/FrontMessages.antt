@@ -14,9 +14,9 @@ use Rattle.vub_wire.specs.Flags.{version, marks_reply}
 use Rattle.vub_wire.specs.Requests.{request_at, allows}
 use Rattle.vub_wire.specs.Grammar.{Fits, payload_bytes, IsPayload, IsMessage, number_of, header_bytes}
 use Rattle.vub_wire.specs.Faults.{header_at, carries_all, fault_behind, message_fault}
-use Rattle.vub_wire.specs.Reading.{Front, message_of, message_in, message_carried, message_behind, with_header, behind_header, checked_header, message_at}
+use Rattle.vub_wire.specs.Reading.{Front, message_in, message_carried, message_behind, with_header, behind_header, checked_header, message_at}
 use Rattle.vub_wire.proofs.Fields.{AreBytes, bytes_behind}
-use Rattle.vub_wire.proofs.Headers.{good, bad, good_is, passed, HeaderPasses, header_passes, header_takes, request_fits, flags_fit, header_read}
+use Rattle.vub_wire.proofs.Headers.{good, good_is, passed, HeaderPasses, header_passes, header_takes, request_fits, flags_fit, header_read}
 use Rattle.vub_wire.proofs.PayloadParts.{read}
 use Rattle.vub_wire.proofs.Payloads.{request_takes, payload_takes, payload_again}
 

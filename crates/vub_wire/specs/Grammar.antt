@@ -1,6 +1,6 @@
 -- The bytes of messages ("Message Specification"). Some bytes of a payload are free: they mean nothing
 -- and are written as 0.
-use Rattle.std.specs.Prelude.{◌≡◌, ◌<◌, ◌≤◌, ⊤, ℕ, ◌+◌, ◌*◌, ◌/◌, ◌%◌, ◌^◌, Bool, true, false, List, [], ◌++◌, length, None}
+use Rattle.std.specs.Prelude.{◌≡◌, ◌<◌, ◌≤◌, ⊤, ℕ, ◌+◌, ◌*◌, ◌^◌, Bool, true, false, List, [], ◌++◌, length, None}
 use Rattle.std.specs.List.{flat_map, AllByRecursion}
 use Rattle.byteorder.specs.Endian.{little_bytes}
 use Rattle.vub_memtable.specs.declared.region.Region.{Region}
