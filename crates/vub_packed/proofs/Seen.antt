@@ -31,40 +31,31 @@ these_slot_flags r m q addr len id flags some fits =
 
 -- ---- what waits
 
--- a store of the driver in slots after those that wait, of a slot without its flags or of a slot further on
-pub waiting_behind : (r : DescriptorRing) (m : Bytes) (from q : ℕ) (st : Store) → waiting_end r m from ≤ q → q < from + r.size → LiesInSlot r (q % r.size) 14 st → waiting r (after_store st m) from ≡ waiting r m from
-waiting_behind r m from q st behind near lies =
+-- a store in a slot that isn't one of those that wait, nor changes the flags of the first after them
+waiting_kept : (r : DescriptorRing) (m : Bytes) (from q : ℕ) (st : Store) → LiesInSlot r (q % r.size) 16 st → (waiting_end r m from ≤ q) ⊎ (q < from) → q < from + r.size → waiting_end r m from < from + r.size → waiting_end r m from ≤ q + r.size
+    → (words_of r (after_store st m)).flags (waiting_end r m from % r.size) ≡ (words_of r m).flags (waiting_end r m from % r.size) → waiting r (after_store st m) from ≡ waiting r m from
+waiting_kept r m from q st lies side near less far still =
     let some : 0 < r.size = omega arith in
     let w : SlotWords = words_of r m in
     let s : SlotWords = words_of r (after_store st m) in
     let e : ℕ = waiting_end r m from in
     let stop : available_at r.size w e ≡ false = ends-buffers_from r.size w r.size from (omega arith) in
-    let still : s.flags (e % r.size) ≡ w.flags (e % r.size) = lies_flags r m (q % r.size) st lies (e % r.size) in
-    buffers_kept r.size w s from (omega arith) (others_agree r m q from e st some (lies_less r (q % r.size) st lies) (inl behind) near (omega arith))
-    (subst (λ f. is_available f (wrap_at r.size e) ≡ false) (sym still) stop)
+    buffers_kept r.size w s from (omega arith) (others_agree r m q from e st some lies side near far) (subst (λ f. is_available f (wrap_at r.size e) ≡ false) (sym still) stop)
+
+-- a store of the driver in slots after those that wait, of a slot without its flags or of a slot further on
+pub waiting_behind : (r : DescriptorRing) (m : Bytes) (from q : ℕ) (st : Store) → waiting_end r m from ≤ q → q < from + r.size → LiesInSlot r (q % r.size) 14 st → waiting r (after_store st m) from ≡ waiting r m from
+waiting_behind r m from q st behind near lies =
+    waiting_kept r m from q st (lies_less r (q % r.size) st lies) (inl behind) near (omega arith) (omega arith) (lies_flags r m (q % r.size) st lies (waiting_end r m from % r.size))
 
 pub waiting_further : (r : DescriptorRing) (m : Bytes) (from q : ℕ) (st : Store) → waiting_end r m from < q → q < from + r.size → LiesInSlot r (q % r.size) 16 st → waiting r (after_store st m) from ≡ waiting r m from
 waiting_further r m from q st behind near lies =
     let some : 0 < r.size = omega arith in
-    let w : SlotWords = words_of r m in
-    let s : SlotWords = words_of r (after_store st m) in
-    let e : ℕ = waiting_end r m from in
-    let stop : available_at r.size w e ≡ false = ends-buffers_from r.size w r.size from (omega arith) in
-    let still : s.flags (e % r.size) ≡ w.flags (e % r.size) = other_flags r m e q st some lies (λ same. omega (arith, same, behind)) (omega arith) (omega arith) in
-    buffers_kept r.size w s from (omega arith) (others_agree r m q from e st some lies (inl (omega arith)) near (omega arith))
-    (subst (λ f. is_available f (wrap_at r.size e) ≡ false) (sym still) stop)
+    waiting_kept r m from q st lies (inl (omega arith)) near (omega arith) (omega arith) (other_flags r m (waiting_end r m from) q st some lies (λ same. omega (arith, same, behind)) (omega arith) (omega arith))
 
 -- a store of the device in slots before those that wait, at most a lap from their end
 pub waiting_before : (r : DescriptorRing) (m : Bytes) (from q : ℕ) (st : Store) → q < from → waiting_end r m from ≤ q + r.size → LiesInSlot r (q % r.size) 14 st → waiting r (after_store st m) from ≡ waiting r m from
 waiting_before r m from q st before far lies =
-    let some : 0 < r.size = omega arith in
-    let w : SlotWords = words_of r m in
-    let s : SlotWords = words_of r (after_store st m) in
-    let e : ℕ = waiting_end r m from in
-    let stop : available_at r.size w e ≡ false = ends-buffers_from r.size w r.size from (omega arith) in
-    let still : s.flags (e % r.size) ≡ w.flags (e % r.size) = lies_flags r m (q % r.size) st lies (e % r.size) in
-    buffers_kept r.size w s from (omega arith) (others_agree r m q from e st some (lies_less r (q % r.size) st lies) (inr before) (omega arith) far)
-    (subst (λ f. is_available f (wrap_at r.size e) ≡ false) (sym still) stop)
+    waiting_kept r m from q st (lies_less r (q % r.size) st lies) (inr before) (omega arith) (omega arith) far (lies_flags r m (q % r.size) st lies (waiting_end r m from % r.size))
 
 -- flags of this lap there
 pub waiting_flags_before : (r : DescriptorRing) (m : Bytes) (from q flags : ℕ) → q < from → waiting_end r m from ≤ q + r.size → flags < 2 ^ 16 → is_of_lap r.size flags q ≡ true → waiting r (after_store (flags_store r (q % r.size) flags) m) from ≡ waiting r m from

@@ -1,41 +1,37 @@
 -- What the device stores in outstanding slots keeps what is known of all.
-use Rattle.std.proofs.Common.{◌≡◌, ◌≤◌, ◌<◌, ℕ, ◌+◌, ◌-◌, ◌%◌, true, false, List, ◌∷◌, ◌++◌, ap, sym, ◌∙◌, subst, inl, inr, arith}
+use Rattle.std.proofs.Common.{◌≡◌, ◌≤◌, ◌<◌, ℕ, ◌+◌, ◌-◌, ◌%◌, true, false, List, ◌∷◌, ◌++◌, refl, ap, sym, ◌∙◌, subst, inl, inr, arith}
 use Rattle.std.proofs.lemmas.Bool.Decides.{nat_tests}
 use Rattle.std.proofs.lemmas.Bool.{cases_lt, cases_eq}
 use Rattle.vub_base.specs.declared.position.Position.{Position}
 use Rattle.vub_base.specs.Positions.{avail_bit, same_bool, is_available, is_used, wrap_at, position_of}
 use Rattle.vub_slots.specs.Slots.{SlotWords, with_at, IsAvailable, Element, slots_of, Shows, Buffer, buffer_slots, Waits}
-use Rattle.vub_slots.specs.Stands.{DriverSlots, Stand, IsSlots}
+use Rattle.vub_slots.specs.Stands.{DriverSlots, IsWindow, Stand, Stands, IsSlots}
 use Rattle.vub_slots.specs.Stands.Stand.{Hidden, Shown}
-use Rattle.vub_slots.proofs.SlotLemmas.{other_slot, this_slot, agree_elsewhere, len_elsewhere, id_elsewhere, flags_elsewhere, shows_agree, shows_append, slots_of-append, waits_agree}
+use Rattle.vub_slots.proofs.SlotLemmas.{other_slot, this_slot, Elsewhere, agree_elsewhere, len_elsewhere, id_elsewhere, flags_elsewhere, shows_agree, shows_append, slots_of-append, waits_agree}
 use Rattle.vub_slots.proofs.WindowLemmas.{window_device}
+
+-- words that differ in a slot of open requests, and not in its flags
+slots_beside : (n : ℕ) (dr : DriverSlots) (d u v a : ℕ) (r s : SlotWords) (used old_used : Position) (st : Stand) (q : ℕ) → u ≤ q → q < v → Elsewhere (q % n) r s → r.flags ≡ s.flags → IsSlots n dr d u v a r used old_used st
+    → IsSlots n dr d u v a s used old_used st
+slots_beside n dr d u v a r s used old_used st q from upto same flags f = (let few = f.window.few in let ui = f.used_is in let oi = f.offered_is in record {
+  some = f.some;
+  window = subst (λ x. IsWindow n d a dr.known dr.ready x) flags f.window;
+  stands = subst (λ x. Stands n u v a x used old_used st) flags f.stands;
+  used_is = f.used_is;
+  offered_is = f.offered_is;
+  in_order = f.in_order;
+  shows = shows_agree n r s d dr.shown (agree_elsewhere n r s q d (d + slots_of dr.shown) f.some same (inl (omega arith)) (omega arith) (omega arith)) f.shows;
+  waits = waits_agree n r s v dr.waiting (agree_elsewhere n r s q v (v + buffer_slots dr.waiting) f.some same (inr (omega arith)) (omega arith) (omega arith)) f.waits;
+})
 
 -- len and id of a slot of open requests
 pub slots_len : (n : ℕ) (dr : DriverSlots) (d u v a : ℕ) (r : SlotWords) (used old_used : Position) (st : Stand) (q x : ℕ) → u ≤ q → q < v → IsSlots n dr d u v a r used old_used st
     → IsSlots n dr d u v a (record r { len = with_at r.len (q % n) x }) used old_used st
-slots_len n dr d u v a r used old_used st q x from upto f = (let few = f.window.few in let ui = f.used_is in let oi = f.offered_is in record {
-  some = f.some;
-  window = f.window;
-  stands = f.stands;
-  used_is = f.used_is;
-  offered_is = f.offered_is;
-  in_order = f.in_order;
-  shows = shows_agree n r (record r { len = with_at r.len (q % n) x }) d dr.shown (agree_elsewhere n r (record r { len = with_at r.len (q % n) x }) q d (d + slots_of dr.shown) f.some (len_elsewhere r (q % n) x) (inl (omega arith)) (omega arith) (omega arith)) f.shows;
-  waits = waits_agree n r (record r { len = with_at r.len (q % n) x }) v dr.waiting (agree_elsewhere n r (record r { len = with_at r.len (q % n) x }) q v (v + buffer_slots dr.waiting) f.some (len_elsewhere r (q % n) x) (inr (omega arith)) (omega arith) (omega arith)) f.waits;
-})
+slots_len n dr d u v a r used old_used st q x from upto f = slots_beside n dr d u v a r (record r { len = with_at r.len (q % n) x }) used old_used st q from upto (len_elsewhere r (q % n) x) refl f
 
 pub slots_id : (n : ℕ) (dr : DriverSlots) (d u v a : ℕ) (r : SlotWords) (used old_used : Position) (st : Stand) (q x : ℕ) → u ≤ q → q < v → IsSlots n dr d u v a r used old_used st
     → IsSlots n dr d u v a (record r { id = with_at r.id (q % n) x }) used old_used st
-slots_id n dr d u v a r used old_used st q x from upto f = (let few = f.window.few in let ui = f.used_is in let oi = f.offered_is in record {
-  some = f.some;
-  window = f.window;
-  stands = f.stands;
-  used_is = f.used_is;
-  offered_is = f.offered_is;
-  in_order = f.in_order;
-  shows = shows_agree n r (record r { id = with_at r.id (q % n) x }) d dr.shown (agree_elsewhere n r (record r { id = with_at r.id (q % n) x }) q d (d + slots_of dr.shown) f.some (id_elsewhere r (q % n) x) (inl (omega arith)) (omega arith) (omega arith)) f.shows;
-  waits = waits_agree n r (record r { id = with_at r.id (q % n) x }) v dr.waiting (agree_elsewhere n r (record r { id = with_at r.id (q % n) x }) q v (v + buffer_slots dr.waiting) f.some (id_elsewhere r (q % n) x) (inr (omega arith)) (omega arith) (omega arith)) f.waits;
-})
+slots_id n dr d u v a r used old_used st q x from upto f = slots_beside n dr d u v a r (record r { id = with_at r.id (q % n) x }) used old_used st q from upto (id_elsewhere r (q % n) x) refl f
 
 -- flags of this lap in a slot of a batch that isn't shown, but not in its first
 pub slots_carried : (n : ℕ) (dr : DriverSlots) (d u v a : ℕ) (r : SlotWords) (used old_used : Position) (t q x : ℕ) → u < q → q < u + t → same_bool (avail_bit x) (wrap_at n q) ≡ true
