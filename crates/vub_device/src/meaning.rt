@@ -167,7 +167,8 @@ pub(crate) fn is_effect(asked: &Asked, index: usize, sector: u64, value: &[u8; S
             index < bytes.len() / SECTOR_SIZE
                 && sector >= *first
                 && sector - *first == index as u64
-                && &bytes[SECTOR_SIZE * index..SECTOR_SIZE * index + SECTOR_SIZE] == value.as_slice()
+                && &bytes[SECTOR_SIZE * index..SECTOR_SIZE * index + SECTOR_SIZE]
+                    == value.as_slice()
         }
         Asked::Discard(parts) | Asked::Zero(parts) => is_zeroed(parts, index, sector, value),
         _ => false,

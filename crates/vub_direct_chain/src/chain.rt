@@ -76,7 +76,11 @@ fn descriptor_at<M: Shared>(ring: &SplitRing, mem: &mut M, index: u16) -> Result
     ensures cause { HasCause (M.faults mem.old) (M.faults mem.new) result }
 {
     let mut bytes = [0u8; DESC_SIZE];
-    mem.load(ring.desc.0, ring.desc.1 + DESC_SIZE as u64 * u64::from(index), &mut bytes)?;
+    mem.load(
+        ring.desc.0,
+        ring.desc.1 + DESC_SIZE as u64 * u64::from(index),
+        &mut bytes,
+    )?;
     Ok(Desc {
         addr: get_u64(&bytes, DESC_ADDR),
         len: get_u32(&bytes, DESC_LEN),

@@ -295,7 +295,11 @@ impl Guest {
         let buffer = buffer_of(self.area, chain.head);
         let place = self.area + DESC_SIZE as u64 * u64::from(chain.head);
         let next = Some(chain.second());
-        mem.store_run(self.memory, place, &descriptor(buffer, REQUEST_HEADER_SIZE as u32, false, next))
+        mem.store_run(
+            self.memory,
+            place,
+            &descriptor(buffer, REQUEST_HEADER_SIZE as u32, false, next),
+        )
     }
 
     fn store_data_descriptor<M: Shared>(&self, mem: &mut M, pending: &Pending) -> Result<(), Failed>
@@ -421,7 +425,11 @@ impl Guest {
             return Ok(None);
         }
         let element = u64::from(self.seen % self.size);
-        let id = load_u32(mem, self.memory, self.area + USED + (USED_RING + USED_ELEMENT_SIZE * element))?;
+        let id = load_u32(
+            mem,
+            self.memory,
+            self.area + USED + (USED_RING + USED_ELEMENT_SIZE * element),
+        )?;
         Ok(Some((id & 0xffff) as u16))
     }
 

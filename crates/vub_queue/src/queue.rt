@@ -3,14 +3,14 @@ ghost use Rattle.std.specs.Prelude.{◌≡◌, ◌<◌, ◌≤◌, ◌+◌, ℕ,
 ghost use Rattle.vub_split.specs.Split.{RingLies};
 ghost use Rattle.vub_queue.specs.QueueParts.{element, is_taken, taken_count, without_heads, phase_fits};
 
-use vub_task::{Task, TaskStep};
 use std::alloc::Global;
 use vub_base::standard::SECTOR_SIZE;
 use vub_base::{Failed, Memory, RingFault, Tag};
 use vub_disk::Disk;
-use vub_steps::{Choice, Phase, Standing, Step, Turn, after_step, is_ready, next_step};
 use vub_shared::Shared;
 use vub_split::SplitRing;
+use vub_steps::{Choice, Phase, Standing, Step, Turn, after_step, is_ready, next_step};
+use vub_task::{Task, TaskStep};
 
 /// Why a queue stopped.
 #[derive(Clone, Copy, Debug, PartialEq, Eq)]

@@ -148,7 +148,10 @@ fn put_written(out: &mut Vec<u8>, bytes: &[u8]) -> Result<(), Memory>
         if place > 0 {
             put_text(out, b",")?;
         }
-        put_bytes(out, &bytes[SECTOR_SIZE * place..SECTOR_SIZE * place + SECTOR_SIZE])?;
+        put_bytes(
+            out,
+            &bytes[SECTOR_SIZE * place..SECTOR_SIZE * place + SECTOR_SIZE],
+        )?;
     }
     Ok(())
 }
@@ -288,7 +291,12 @@ fn put_at_queue(out: &mut Vec<u8>, word: &[u8], queue: u16) -> Result<(), Memory
 }
 
 /// The number of a request and a sector with its value.
-fn put_value(out: &mut Vec<u8>, number: u64, sector: u64, value: &[u8; SECTOR_SIZE]) -> Result<(), Memory>
+fn put_value(
+    out: &mut Vec<u8>,
+    number: u64,
+    sector: u64,
+    value: &[u8; SECTOR_SIZE],
+) -> Result<(), Memory>
     ensures { OnOk result (out.new.items ≡ out.old.items ++ (decimal number ++ 32 ∷ (decimal sector ++ 32 ∷ bytes_text value.now))) }
 {
     put_number(out, number)?;

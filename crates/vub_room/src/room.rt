@@ -1,13 +1,13 @@
 //! Memory that is reserved for the items of an event before it changes anything.
 ghost use Rattle.std.specs.Prelude.{◌≡◌, ◌<◌, ◌≤◌, ◌+◌, ◌-◌, ◌*◌, ◌++◌, ◌∷◌, [], All, IfOk, OnOk, length, min, replicate, flat_map, vec_len, vec_capacity};
 
-use vub_report::{Item, Items};
 use crate::spare::Spare;
 use std::alloc::Global;
 use std::marker::Model;
 use vub_base::standard::SECTOR_SIZE;
 use vub_base::{Bytes, Memory};
 use vub_device::Answered;
+use vub_report::{Item, Items};
 
 /// Items so far, with room for so many more, for so many lists of bytes of eight sectors, and for so
 /// many lists of answers.

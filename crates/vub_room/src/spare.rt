@@ -1,12 +1,12 @@
 //! Memory that is kept from one event for the next.
 ghost use Rattle.std.specs.Prelude.{◌≡◌, ◌≤◌, ◌+◌, [], All, IfOk, OnOk, length, vec_capacity};
 
-use vub_report::{Item, Items};
 use std::alloc::Global;
 use std::marker::Model;
 use std::mem;
 use vub_base::Memory;
 use vub_device::{Answered, Asked, Entry};
+use vub_report::{Item, Items};
 
 /// The bytes that a list has room for: eight sectors.
 const LIST: usize = 4096;

@@ -57,4 +57,3 @@ TracksFrom h s (r ∷ rs) = AfterEach h.size (EveryTracks h) s r.items × Tracks
 
 abbrev pub TracksAlways : Header1 → List Record → Type 0
 TracksAlways h records = TracksFrom h (opening_scene h) records
-

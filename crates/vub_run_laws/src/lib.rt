@@ -3,4 +3,6 @@
 
 mod laws;
 
-pub use laws::{every_drain_ends, every_open_request_is_meant, every_run_is_legal, every_schedule_runs};
+pub use laws::{
+    every_drain_ends, every_open_request_is_meant, every_run_is_legal, every_schedule_runs,
+};

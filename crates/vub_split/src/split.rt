@@ -7,7 +7,8 @@ ghost use Rattle.vub_shared.specs.Stores.{one_store};
 ghost use Rattle.vub_shared.specs.Frames.{OnlyLoads, MakesStore};
 
 use crate::layout::{
-    AVAIL_ENTRY_SIZE, AVAIL_IDX, AVAIL_RING, USED_ELEMENT_LEN, USED_ELEMENT_SIZE, USED_IDX, USED_RING,
+    AVAIL_ENTRY_SIZE, AVAIL_IDX, AVAIL_RING, USED_ELEMENT_LEN, USED_ELEMENT_SIZE, USED_IDX,
+    USED_RING,
 };
 use vub_base::{Failed, Space};
 use vub_shared::{Shared, load_u16};
@@ -46,7 +47,11 @@ impl SplitRing {
         ensures cause { HasCause (M.faults mem.old) (M.faults mem.new) result }
     {
         let entry = u64::from(index % self.size);
-        load_u16(mem, self.avail.0, self.avail.1 + (AVAIL_RING + AVAIL_ENTRY_SIZE * entry))
+        load_u16(
+            mem,
+            self.avail.0,
+            self.avail.1 + (AVAIL_RING + AVAIL_ENTRY_SIZE * entry),
+        )
     }
 
     /// The word used.idx: the index at which the device places its next element.
@@ -66,7 +71,11 @@ impl SplitRing {
         ensures cause { HasCause (M.faults mem.old) (M.faults mem.new) result }
     {
         let element = u64::from(index % self.size);
-        mem.store4(self.used.0, self.used.1 + (USED_RING + USED_ELEMENT_SIZE * element), id)
+        mem.store4(
+            self.used.0,
+            self.used.1 + (USED_RING + USED_ELEMENT_SIZE * element),
+            id,
+        )
     }
 
     /// Stores the length of the used element of an index, which is taken modulo the size.
@@ -76,7 +85,11 @@ impl SplitRing {
         ensures cause { HasCause (M.faults mem.old) (M.faults mem.new) result }
     {
         let element = u64::from(index % self.size);
-        mem.store4(self.used.0, self.used.1 + (USED_RING + USED_ELEMENT_LEN + USED_ELEMENT_SIZE * element), len)
+        mem.store4(
+            self.used.0,
+            self.used.1 + (USED_RING + USED_ELEMENT_LEN + USED_ELEMENT_SIZE * element),
+            len,
+        )
     }
 
     /// Stores the word used.idx.

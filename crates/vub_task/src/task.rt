@@ -15,12 +15,12 @@ ghost use Rattle.vub_direct_chain.specs.declared.chain.Sectors.{Sectors};
 ghost use Rattle.vub_task.specs.declared.task.TaskStep.TheVariants as answers;
 ghost use Rattle.vub_task.specs.declared.task.Work.TheVariants as work;
 
-use vub_direct_chain::{Parts, Sectors, Span, Unread, lies_in, read_chain};
 use vub_base::standard::{
     REQUEST_HEADER_SIZE, REQUEST_SECTOR, REQUEST_TYPE, SECTOR_SIZE, VIRTIO_BLK_S_IOERR,
     VIRTIO_BLK_S_OK, VIRTIO_BLK_S_UNSUPP, VIRTIO_BLK_T_FLUSH, VIRTIO_BLK_T_IN, VIRTIO_BLK_T_OUT,
 };
 use vub_base::{ChainFault, Failed, RingFault, Tag, get_u32, get_u64};
+use vub_direct_chain::{Parts, Sectors, Span, Unread, lies_in, read_chain};
 use vub_disk::Disk;
 use vub_shared::Shared;
 use vub_split::SplitRing;
@@ -139,7 +139,11 @@ fn transfer_of(
         return Err(refused);
     };
     let count = u64::from(span.len / SECTOR_SIZE as u32);
-    if is != writable || span.len % SECTOR_SIZE as u32 != 0 || sector > capacity || count > capacity - sector {
+    if is != writable
+        || span.len % SECTOR_SIZE as u32 != 0
+        || sector > capacity
+        || count > capacity - sector
+    {
         return Err(refused);
     }
     let read = span.len.saturating_add(1);

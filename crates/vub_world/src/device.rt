@@ -12,8 +12,8 @@ ghost use Rattle.vub_queue.specs.Queue.{ring_in};
 ghost use Rattle.vub_queue_in_run.specs.QueueAt.{IsMainRing};
 ghost use Rattle.vub_split.specs.Split.{RingLies};
 
-use vub_queue::{Choice, Queue, Stepped};
 use vub_memdisk::MemDisk;
+use vub_queue::{Choice, Queue, Stepped};
 use vub_shared::WatchedShared;
 
 /// Turns one after another.

@@ -8,10 +8,6 @@ ghost use Rattle.vub_device.specs.Requests.{request_of};
 
 use crate::device::{Sequence, turn_queue};
 use crate::log::Log;
-use vub_queue::{Choice, Queue, QueueSetup, Stepped, Turn};
-use vub_report::{Item, Items, Record};
-use vub_room::Room;
-use vub_room::Spare;
 use std::alloc::Global;
 use std::mem;
 use vub_base::standard::{SECTOR_SIZE, VIRTIO_BLK_S_OK};
@@ -21,6 +17,9 @@ use vub_disk::Disk;
 use vub_guest::layout::{AREA, AVAIL, SECTORS, STATUS, buffer_of, ring_of};
 use vub_guest::{Collected, Guest, GuestStep};
 use vub_memdisk::MemDisk;
+use vub_queue::{Choice, Queue, QueueSetup, Stepped, Turn};
+use vub_report::{Item, Items, Record};
+use vub_room::{Room, Spare};
 use vub_schedule::Event;
 use vub_shared::{Shared, WatchedShared};
 use vub_split::SplitRing;
@@ -199,7 +198,10 @@ impl Machine {
         requires { IsSound self.now }
         ensures { result ≡ head_shown self.now }
     {
-        let index = self.memory.word16(self.space, AVAIL + AVAIL_IDX).wrapping_sub(1);
+        let index = self
+            .memory
+            .word16(self.space, AVAIL + AVAIL_IDX)
+            .wrapping_sub(1);
         let entry = u64::from(index % self.header.size);
         self.memory.word16(self.space, AVAIL + (AVAIL_RING + AVAIL_ENTRY_SIZE * entry))
     }

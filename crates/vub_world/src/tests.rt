@@ -1,7 +1,7 @@
 use crate::World;
-use vub_report::{head_text, record_text};
 use std::test::Fail;
 use vub_base::{CacheMode, Format, Header1};
+use vub_report::{head_text, record_text};
 use vub_schedule::Event;
 
 /// A queue of four places and a disk of eight sectors.

@@ -2,11 +2,11 @@ ghost use Rattle.std.specs.Prelude.{◌≡◌, ◌<◌, [], IfOk};
 ghost use Rattle.vub_schedule.specs.Spelling.{IsHeader, IsEvent};
 
 use crate::machine::Machine;
-use vub_report::Record;
 use std::alloc::Global;
 use std::marker::Model;
 use vub_base::standard::SECTOR_SIZE;
 use vub_base::{Header1, Memory};
+use vub_report::Record;
 use vub_schedule::Event;
 
 /// A guest with its driver, the device and its disk, between two events of a schedule. It stands

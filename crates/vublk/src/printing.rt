@@ -13,9 +13,9 @@ ghost use Rattle.vublk.specs.Records.{head_of, piece_of, records_text};
 use crate::words::Command;
 use std::alloc::Global;
 use vub_base::{Header1, Memory, Sink};
+use vub_report::{Record, head_text, put_entries, put_record};
 use vub_schedule::Event;
 use vub_world::World;
-use vub_report::{Record, head_text, put_entries, put_record};
 
 /// Why a run stopped.
 #[derive(Clone, Copy, Debug, PartialEq, Eq)]
