@@ -2,7 +2,7 @@
 ghost use Rattle.std.specs.Prelude.{◌≡◌, ◌<◌, ℕ, ◌+◌, ◌*◌, ◌^◌, IfOk};
 ghost use Rattle.vub_base.specs.Causes.{HasCause};
 ghost use Rattle.vub_base.specs.Told.{WhereTold};
-ghost use Rattle.vub_shared.specs.Stores.{Stores, Trails};
+ghost use Rattle.vub_shared.specs.Frames.{OnlyLoads, MakesStore, KeepsSpaces};
 ghost use Rattle.vub_slots.specs.Flags.{restored_flags};
 ghost use Rattle.vub_slots.specs.Stores.{len_store, id_store, flags_store};
 
@@ -71,9 +71,7 @@ impl PackedRing {
         requires lies { RingLies (M.sizes mem.old) self.now }
         requires below { index < self.now.size }
         ensures loaded { IfOk result (λ d. WhereTold (M.told mem.old) (λ m. d ≡ slot_in self.now m index)) }
-        ensures told { M.told mem.new ≡ M.told mem.old }
-        ensures trail { M.trail mem.new ≡ M.trail mem.old }
-        ensures sizes { (s : ℕ) → M.sizes mem.new s ≡ M.sizes mem.old s }
+        ensures only_loads { OnlyLoads M.told M.trail M.names M.handed M.sizes mem.old mem.new }
         ensures cause { HasCause (M.faults mem.old) (M.faults mem.new) result }
     {
         let mut bytes = [0u8; SLOT_BYTES];
@@ -90,9 +88,7 @@ impl PackedRing {
     pub fn write_slot_len<M: Shared>(&self, mem: &mut M, index: u16, len: u32) -> Result<(), Failed>
         requires lies { RingLies (M.sizes mem.old) self.now }
         requires below { index < self.now.size }
-        ensures stores { Stores (M.told mem.old) (M.told mem.new) result (len_store (ring_of_packed self.now) index len) }
-        ensures trails { Trails (M.trail mem.old) (M.trail mem.new) result (len_store (ring_of_packed self.now) index len) }
-        ensures sizes { (s : ℕ) → M.sizes mem.new s ≡ M.sizes mem.old s }
+        ensures makes_store { MakesStore M.told M.trail M.names M.handed M.sizes mem.old mem.new result (len_store (ring_of_packed self.now) index len) }
         ensures cause { HasCause (M.faults mem.old) (M.faults mem.new) result }
     {
         mem.store4(self.ring.0, self.place(index, LEN_AT), len)
@@ -102,9 +98,7 @@ impl PackedRing {
     pub fn write_slot_id<M: Shared>(&self, mem: &mut M, index: u16, id: u16) -> Result<(), Failed>
         requires lies { RingLies (M.sizes mem.old) self.now }
         requires below { index < self.now.size }
-        ensures stores { Stores (M.told mem.old) (M.told mem.new) result (id_store (ring_of_packed self.now) index id) }
-        ensures trails { Trails (M.trail mem.old) (M.trail mem.new) result (id_store (ring_of_packed self.now) index id) }
-        ensures sizes { (s : ℕ) → M.sizes mem.new s ≡ M.sizes mem.old s }
+        ensures makes_store { MakesStore M.told M.trail M.names M.handed M.sizes mem.old mem.new result (id_store (ring_of_packed self.now) index id) }
         ensures cause { HasCause (M.faults mem.old) (M.faults mem.new) result }
     {
         mem.store2(self.ring.0, self.place(index, ID_AT), id)
@@ -119,9 +113,7 @@ impl PackedRing {
     ) -> Result<(), Failed>
         requires lies { RingLies (M.sizes mem.old) self.now }
         requires below { index < self.now.size }
-        ensures stores { Stores (M.told mem.old) (M.told mem.new) result (flags_store (ring_of_packed self.now) index flags) }
-        ensures trails { Trails (M.trail mem.old) (M.trail mem.new) result (flags_store (ring_of_packed self.now) index flags) }
-        ensures sizes { (s : ℕ) → M.sizes mem.new s ≡ M.sizes mem.old s }
+        ensures makes_store { MakesStore M.told M.trail M.names M.handed M.sizes mem.old mem.new result (flags_store (ring_of_packed self.now) index flags) }
         ensures cause { HasCause (M.faults mem.old) (M.faults mem.new) result }
     {
         mem.store2(self.ring.0, self.place(index, FLAGS_AT), flags)
@@ -133,7 +125,7 @@ impl PackedRing {
         requires lies { RingLies (M.sizes mem.old) self.now }
         requires below { index < self.now.size }
         ensures restores { Restores self.now index wrap (M.told mem.old) (M.told mem.new) (M.trail mem.old) (M.trail mem.new) result }
-        ensures sizes { (s : ℕ) → M.sizes mem.new s ≡ M.sizes mem.old s }
+        ensures keeps_spaces { KeepsSpaces M.names M.handed M.sizes mem.old mem.new }
         ensures cause { HasCause (M.faults mem.old) (M.faults mem.new) result }
     {
         let flags = load_u16(mem, self.ring.0, self.place(index, FLAGS_AT))?;
