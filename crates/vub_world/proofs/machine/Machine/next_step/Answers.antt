@@ -28,5 +28,5 @@ returns-clause-goes c m reached at small =
         | in_default b ↦ i.accepted-is ∙ count_same x taken b.in_default.not-Accepted
       ]
     ] in
-    step_chosen (not c.is_idle.result) t u w now m c.args.room.now.items c.step-stepped.new.room.items taken c.if-matches.accepted (accepts x) (ap (λ (choice : Choice). turn_here w.header choice m) c.next.ensures) counts
+    step_chosen (not c.is_idle.result) t u w now m c.args.room.now.items c.step-stepped.new.room.items taken c.if-matches.accepted (accepts x) (λ attached. ap (λ (choice : Choice). turn_here w.header choice m) c.next.ensures) counts
     (subst (λ (b : Bool). StepGoes (not b) t w now m c.args.room.now.items c.step-stepped.new.room.items 0 (accepts x)) (sym c.is_idle.ensures) (c.step-stepped.ensures.goes m reached at))

@@ -1,15 +1,15 @@
-use Rattle.std.proofs.Common.{◌≡◌, ap, sym, ◌∙◌, subst, true, false, not, Bool, ◌++◌}
-use Rattle.vub_memdisk.specs.MemDisks.{values_of}
+use Rattle.std.proofs.Common.{◌≡◌, ap, sym, ◌∙◌, subst, true, false, not, Bool, ◌++◌, ℕ}
+use Rattle.vub_memdisk.specs.MemDisks.{values_of, capacity_of}
 use Rattle.vub_steps.specs.declared.readiness.Turn.{Turn}
 use Rattle.vub_shared.specs.Watched.{stores_in}
 use Rattle.vub_world.specs.declared.machine.Machine.{Machine}
 use Rattle.vub_queue.specs.declared.queue.Stepped.{Stepped}
-use Rattle.vub_world.specs.MachineDevice.{noted, shown_in, accepts, turn_here}
+use Rattle.vub_world.specs.MachineDevice.{noted, shown_in, accepts, turn_here, SectorFits}
 use Rattle.vub_world.specs.MachineSteps.{StepGoes}
 use Rattle.vub_queue.specs.QueueState.{is_idle}
 use Rattle.vub_world.proofs.MachineBatches.{batch_fits, shows_some}
 use Rattle.vub_world.proofs.MachineTurnsNext.{reached_plain, reached_holds}
-use Rattle.vub_world.proofs.MachineTurnsSteps.{same_items, step_ends, step_made}
+use Rattle.vub_world.proofs.MachineTurnsSteps.{same_items, step_ends, step_goes, step_made}
 use Rattle.vub_world.proofs.machine.Machine.step.Goals as goal
 
 pub answers-answers-requires-clause-fits : goal.answers-answers-requires-clause-fits
@@ -23,6 +23,23 @@ answers-answers-requires-clause-some c =
     let w : Machine = c.args.self.now in
     let s = c.requires.stands in
     shows_some w s.0 (reached_holds w.header s.0 s.1).0 s.2
+
+pub note_turn-requires-clause-stores : goal.note_turn-requires-clause-stores
+note_turn-requires-clause-stores c =
+    let w : Machine = c.args.self.now in
+    let s = c.requires.stands in
+    let other : is_idle c.turn-stepped.result ≡ false = search in
+    (step_goes (turn_here w.header c.args.choice s.0) w c.turn-stepped.new.self s.0 c.turn-stepped.result other (c.turn-stepped.ensures.turns s.0 s.1 s.2)).1.store
+
+pub note_turn-requires-clause-sector : goal.note_turn-requires-clause-sector
+note_turn-requires-clause-sector c =
+    let w : Machine = c.args.self.now in
+    let now : Machine = c.turn-stepped.new.self in
+    let s = c.requires.stands in
+    let other : is_idle c.turn-stepped.result ≡ false = search in
+    let capacity : capacity_of now.disk ≡ w.header.capacity = c.turn-stepped.ensures.sound.disk ∙ ap (λ (m : Machine). m.header.capacity) c.turn-stepped.ensures.frame in
+    subst (λ (k : ℕ). SectorFits k c.turn-stepped.result) (sym capacity)
+    (step_goes (turn_here w.header c.args.choice s.0) w now s.0 c.turn-stepped.result other (c.turn-stepped.ensures.turns s.0 s.1 s.2)).1.sector
 
 pub returns-then-is_idle-clause-goes : goal.returns-then-is_idle-clause-goes
 returns-then-is_idle-clause-goes c m reached at =
