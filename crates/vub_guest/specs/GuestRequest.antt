@@ -1,5 +1,5 @@
 -- The data of a request: one descriptor between header and status.
-use Rattle.std.specs.Prelude.{ℕ, ◌*◌, Bool, true, false, List, length, unwrap_or, Option, Some, None}
+use Rattle.std.specs.Prelude.{ℕ, ◌*◌, Bool, true, false, List, length, unwrap_or, Option}
 use Rattle.vub_base.specs.declared.request.Ask.{Ask}
 use Rattle.vub_base.specs.declared.request.Ask.TheVariants.{Read, Id}
 use Rattle.vub_driver.specs.GuestChain.{next_flag}

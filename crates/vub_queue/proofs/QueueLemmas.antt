@@ -19,7 +19,6 @@ use Rattle.vub_ring.specs.Ring.{used_idx_place, used_id_place, used_len_place}
 use Rattle.vub_steps.specs.Rows.{Row, row}
 use Rattle.vub_steps.specs.Steps.{element_steps, publish_steps, next_step, after_step}
 use Rattle.vub_steps.specs.Readiness.{is_publication, is_fetch}
-use Rattle.vub_steps.specs.declared.readiness.Standing.{Standing}
 use Rattle.vub_steps.specs.declared.readiness.Turn.TheVariants as turns
 use Rattle.vub_task.specs.declared.task.Task.{Task}
 use Rattle.vub_task.specs.declared.task.TaskStep as made
@@ -30,7 +29,7 @@ use Rattle.vub_queue.specs.declared.queue.Stepped.{Stepped}
 use Rattle.vub_queue.specs.declared.queue.Stepped.TheVariants as says
 use Rattle.vub_queue.specs.QueueParts.{element, is_taken, taken_count, without_heads, phase_fits}
 use Rattle.vub_split.specs.Split.{used_side}
-use Rattle.vub_queue.specs.QueueState.{QueueState, row_at, next_row, Moves, StoresRow, TrailsRow, outcome, publishes, Unless, is_idle, worked, done_at, Works, StepsAt, StepsOut, WorksOut, IfStepped, Advances, concluded, said, sector_at, IsDue, Rests, halted}
+use Rattle.vub_queue.specs.QueueState.{QueueState, row_at, next_row, Moves, StoresRow, TrailsRow, outcome, publishes, Unless, worked, done_at, Works, StepsAt, StepsOut, WorksOut, IfStepped, Advances, concluded, said, sector_at, IsDue, Rests, halted}
 use Rattle.vub_task.specs.TaskState.{Making, IfMade, HasMade, LooksAt, answer_in, answer_to, memory_after, values_after, store_in, with_maybe, head_in}
 use Rattle.vub_steps.specs.Tasks as Tasks
 use Rattle.vub_task.proofs.ArmLemmas.{next_still}

@@ -1,5 +1,5 @@
 //! The words of a split virtqueue (VIRTIO 1.2, 2.7).
-ghost use Rattle.std.specs.Prelude.{◌≡◌, ℕ, IfOk};
+ghost use Rattle.std.specs.Prelude.{◌≡◌, IfOk};
 ghost use Rattle.byteorder.specs.Endian.{little_bytes};
 ghost use Rattle.vub_base.specs.Causes.{HasCause};
 ghost use Rattle.vub_base.specs.Told.{WhereTold};

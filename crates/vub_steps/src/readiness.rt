@@ -2,7 +2,7 @@ ghost use Rattle.std.specs.Prelude.{◌≡◌, ℕ, false};
 ghost use Rattle.vub_steps.specs.declared.readiness.Choice.TheVariants.{Only};
 ghost use Rattle.vub_steps.specs.declared.readiness.Standing.{Standing};
 ghost use Rattle.vub_steps.specs.declared.readiness.Turn.{Turn};
-ghost use Rattle.vub_steps.specs.Readiness.{is_ready, first_ready, publication_under_way, any_turn, draining_turn, chosen};
+ghost use Rattle.vub_steps.specs.Readiness.{is_ready, first_ready, any_turn, draining_turn, chosen};
 
 use crate::steps::Phase;
 

@@ -1,9 +1,6 @@
 -- Where the rings of a sound machine lie.
-use Rattle.std.proofs.Common.{◌≡◌, ◌≤◌, ℕ, ◌%◌, sym, subst, arith, true, refl, lit≤, inl, inr}
+use Rattle.std.proofs.Common.{◌≡◌, ◌≤◌, ℕ, ◌%◌, sym, subst, arith, true, refl}
 use Rattle.std.specs.Int.{◌∣◌}
-use Rattle.std.proofs.lemmas.Bool.Decides.{nat_tests}
-use Rattle.std.proofs.lemmas.Bool.{cases_eq}
-use Rattle.std.proofs.lemmas.Nat.Gcd.{dvd_of_mod-eq-zero}
 use Rattle.vub_schedule.specs.Spelling.{is_size}
 use Rattle.vub_run_laws.proofs.Sizes.{size_laps}
 use Rattle.vub_split.specs.declared.split.SplitRing.{SplitRing}
