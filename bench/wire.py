@@ -3,7 +3,7 @@
 
 usage: bench/wire.py [FOLDER]
 
-Builds the program bench/wire.rt over the crates of this repository, in FOLDER, or in a temporary folder
+Builds the program bench/wire.rt.in over the crates of this repository, in FOLDER, or in a temporary folder
 that is removed again (a first build proves the crates, which takes minutes). The stream is like a
 recorded one: front ends join again and again, each with 1 to 4 queues and 1 to 8 memory regions, read
 the config space, set up the in-flight region and the queues, and stop them again; each join has a
@@ -119,7 +119,7 @@ def build(folder):
     for name in lines:
         shutil.copytree(os.path.join(ROOT, "crates", name), os.path.join(crates, name), dirs_exist_ok=True)
     os.makedirs(os.path.join(crates, NAME, "src"), exist_ok=True)
-    shutil.copy(os.path.join(ROOT, "bench", "wire.rt"), os.path.join(crates, NAME, "src", "main.rt"))
+    shutil.copy(os.path.join(ROOT, "bench", "wire.rt.in"), os.path.join(crates, NAME, "src", "main.rt"))
     with open(os.path.join(folder, "crates.txt"), "w") as file:
         file.writelines([*lines.values(), f"{NAME}: vub_memtable vub_wire\n"])
     run = subprocess.run(["rt", "run"], cwd=os.path.join(crates, NAME), stdin=subprocess.DEVNULL, stdout=subprocess.PIPE, text=True)
