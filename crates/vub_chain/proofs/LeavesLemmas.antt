@@ -1,11 +1,10 @@
 -- A store elsewhere leaves descriptors, tables and chains.
-use Rattle.std.proofs.Common.{◌≡◌, ◌≤◌, ◌<◌, ◌⊎◌, ℕ, zero, suc, ◌+◌, ◌*◌, Bool, true, false, cond, ◌&&◌, List, [], ◌∷◌, length, map, refl, ap, sym, ◌∙◌, subst, inl, inr, arith}
+use Rattle.std.proofs.Common.{◌≡◌, ◌≤◌, ◌<◌, ℕ, zero, suc, ◌+◌, ◌*◌, Bool, true, false, cond, ◌&&◌, List, [], ◌∷◌, length, refl, ap, ◌∙◌, inl, inr, arith}
 use Rattle.std.specs.Prelude.{nat_lt, ◌==◌, Option, Some, None}
 use Rattle.std.specs.List.{AllByRecursion}
 use Rattle.std.specs.Bool.{OnTrue}
-use Rattle.std.proofs.lemmas.Bool.{cases_Bool}
 use Rattle.std.proofs.lemmas.Bool.Decides.{nat_tests}
-use Rattle.vub_shared.specs.Bytes.{Bytes, Apart, word}
+use Rattle.vub_shared.specs.Bytes.{Bytes, word}
 use Rattle.vub_shared.specs.Stores.{Store, after_store}
 use Rattle.vub_shared.proofs.BytesLemmas.{word-put_other}
 use Rattle.vub_memtable.specs.declared.region.Mapped.{Mapped}
@@ -61,7 +60,7 @@ entries_off m st s zero i below off = refl
 entries_off m st s (suc most) i below off =
     go_step m (after_store st m) s i true most (linked_off m st s i (each_off st s i below off))
     ∙ taken (linked true s (linked_desc m s i)) (goes_on (linked_desc m s i) && nat_lt (linked_desc m s i).next s.count) _ _
-        (λ both. entries_off m st s most (linked_desc m s i).next (let low : nat_lt (linked_desc m s i).next s.count ≡ true = low_of (goes_on (linked_desc m s i)) (nat_lt (linked_desc m s i).next s.count) both in grind (arith, nat_tests)) off)
+    (λ both. entries_off m st s most (linked_desc m s i).next (let low : nat_lt (linked_desc m s i).next s.count ≡ true = low_of (goes_on (linked_desc m s i)) (nat_lt (linked_desc m s i).next s.count) both in grind (arith, nat_tests)) off)
 
 listed_all_off : (m : Bytes) (st : Store) (s : Source) (n i : ℕ) → i + n ≤ s.count → OffTable st (Some s) → listed_from (after_store st m) s n i ≡ listed_from m s n i
 listed_all_off m st s zero i within off = refl
@@ -101,7 +100,7 @@ ring_off x m st s zero i off = refl
 ring_off x m st s (suc most) i off =
     go_step m (after_store st m) s i false most (linked_off m st s i off.0.0)
     ∙ taken (linked false s (linked_desc m s i)) (goes_on (linked_desc m s i) && nat_lt (linked_desc m s i).next s.count) _ _
-        (λ both. ring_off x m st s most (linked_desc m s i).next (all_here (OffLinked st x m s) (goes_on (linked_desc m s i) && nat_lt (linked_desc m s i).next s.count) (indices_from m s most (linked_desc m s i).next) off.1 both))
+    (λ both. ring_off x m st s most (linked_desc m s i).next (all_here (OffLinked st x m s) (goes_on (linked_desc m s i) && nat_lt (linked_desc m s i).next s.count) (indices_from m s most (linked_desc m s i).next) off.1 both))
 
 with_taken : (table : List Mapped) (e f : Option Source → List Link) (b : Bool) (ls : List Link) → (b ≡ true → with_entries table e ls ≡ with_entries table f ls) → with_entries table e (cond b ls []) ≡ with_entries table f (cond b ls [])
 with_taken table e f true ls same = same refl
@@ -112,9 +111,9 @@ entries_same : (x : Limits) (m : Bytes) (st : Store) (s : Source) (most i : ℕ)
 entries_same x m st s zero i off = refl
 entries_same x m st s (suc most) i off =
     either_same (linked false s (linked_desc m s i)) (is_table (linked_desc m s i)) _ _ _ _
-      (λ table. named_off x m st (source_in x.table (linked_desc m s i)) (named_here (is_table (linked_desc m s i)) (OffTable st (source_in x.table (linked_desc m s i))) off.0.1 table))
-      (λ bytes. with_taken x.table (linked_entries x (after_store st m)) (linked_entries x m) (goes_on (linked_desc m s i) && nat_lt (linked_desc m s i).next s.count) (linked_from false m s most (linked_desc m s i).next)
-        (λ both. entries_same x m st s most (linked_desc m s i).next (all_here (OffLinked st x m s) (goes_on (linked_desc m s i) && nat_lt (linked_desc m s i).next s.count) (indices_from m s most (linked_desc m s i).next) off.1 both)))
+    (λ table. named_off x m st (source_in x.table (linked_desc m s i)) (named_here (is_table (linked_desc m s i)) (OffTable st (source_in x.table (linked_desc m s i))) off.0.1 table))
+    (λ bytes. with_taken x.table (linked_entries x (after_store st m)) (linked_entries x m) (goes_on (linked_desc m s i) && nat_lt (linked_desc m s i).next s.count) (linked_from false m s most (linked_desc m s i).next)
+    (λ both. entries_same x m st s most (linked_desc m s i).next (all_here (OffLinked st x m s) (goes_on (linked_desc m s i) && nat_lt (linked_desc m s i).next s.count) (indices_from m s most (linked_desc m s i).next) off.1 both)))
 
 pub split_off : (x : Limits) (m : Bytes) (st : Store) (space place head : ℕ) → OffSplit st x m space place head → split_chain x (after_store st m) space place head ≡ split_chain x m space place head
 split_off x m st space place head off =
@@ -126,8 +125,8 @@ listed_same : (table : List Mapped) (m : Bytes) (st : Store) (alone : Bool) (ds 
 listed_same table m st alone [] off = refl
 listed_same table m st alone (d ∷ ds) off =
     either_same (listed false alone d) (is_table d) _ _ _ _
-      (λ names. listed_named_off m st (source_in table d) (named_here (is_table d) (OffTable st (source_in table d)) off.0 names))
-      (λ bytes. listed_same table m st alone ds off.1)
+    (λ names. listed_named_off m st (source_in table d) (named_here (is_table d) (OffTable st (source_in table d)) off.0 names))
+    (λ bytes. listed_same table m st alone ds off.1)
 
 pub list_off : (x : Limits) (m : Bytes) (st : Store) (ds : List Desc) → OffList st x ds → list_chain x (after_store st m) ds ≡ list_chain x m ds
 list_off x m st ds off = listed_same x.table m st (length ds == 1) ds off

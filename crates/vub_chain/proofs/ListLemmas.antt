@@ -1,6 +1,6 @@
 -- Lists of descriptors, and tables of the packed format.
-use Rattle.std.proofs.Common.{◌≡◌, ◌≤◌, ◌<◌, ℕ, zero, suc, ◌+◌, ◌-◌, ◌*◌, ◌/◌, Bool, true, false, cond, List, [], ◌∷◌, length, refl, ap, sym, ◌∙◌, subst, inl, inr, arith, add-zero}
-use Rattle.std.specs.Prelude.{◌==◌, nat_le, take, drop, slice_index_or, Option, Some, None, Result, Ok, Err}
+use Rattle.std.proofs.Common.{◌≡◌, ◌≤◌, ◌<◌, ℕ, suc, ◌+◌, ◌-◌, ◌*◌, Bool, true, false, cond, List, [], ◌∷◌, length, refl, ap, sym, ◌∙◌, subst, inl, inr, arith, add-zero}
+use Rattle.std.specs.Prelude.{◌==◌, nat_le, take, drop, slice_index_or, Option, Result, Ok, Err}
 use Rattle.std.proofs.lemmas.Bool.Decides.{nat_tests}
 use Rattle.vub_base.specs.Fields.{field}
 use Rattle.vub_base.specs.declared.ring_fault.ChainFault.{ChainFault}
@@ -11,7 +11,7 @@ use Rattle.vub_chain.specs.declared.walk.Desc.{Desc}
 use Rattle.vub_chain.specs.declared.walk.Source as sources
 use Rattle.vub_chain.specs.Chains.{Limits}
 use Rattle.vub_chain.specs.Descs.{Source, is_table, listed_desc, listed_from}
-use Rattle.vub_chain.specs.Steps.{Chain, Walked, Adds, Answers, NamesTable, then_walk, named, with_table, may_name, plain, chain_in, of_table, of_list, is_single}
+use Rattle.vub_chain.specs.Steps.{Chain, Walked, Adds, Answers, NamesTable, then_walk, named, with_table, plain, chain_in, of_table, of_list, is_single}
 use Rattle.vub_chain.specs.Spans.{SpanLists}
 use Rattle.vub_chain.proofs.RingLemmas.{added_ok, answers_along}
 use Rattle.vub_chain.proofs.DescLemmas.{field_of_loaded, make}

@@ -1,18 +1,17 @@
 -- What a walk in a ring's table is, by its first descriptor.
-use Rattle.std.proofs.Common.{◌≡◌, ◌≤◌, ◌<◌, ℕ, zero, suc, ◌+◌, ◌-◌, ◌*◌, ◌/◌, Bool, true, false, cond, List, refl, ap, sym, ◌∙◌, subst, inl, inr, arith}
-use Rattle.std.specs.Prelude.{not, ◌&&◌, nat_lt, nat_le, Option, Some, None, Result, Ok, Err}
+use Rattle.std.proofs.Common.{◌≡◌, ◌≤◌, ◌<◌, ℕ, zero, suc, ◌-◌, Bool, true, false, cond, refl, ap, sym, ◌∙◌, subst, inl, inr, arith}
+use Rattle.std.specs.Prelude.{nat_lt, Option, Result, Ok, Err}
 use Rattle.std.proofs.lemmas.Bool.Decides.{nat_tests}
 use Rattle.vub_base.specs.declared.ring_fault.ChainFault.{ChainFault}
 use Rattle.vub_base.specs.declared.ring_fault.ChainFault.TheVariants as faults
 use Rattle.vub_shared.specs.Bytes.{Bytes}
-use Rattle.vub_memtable.specs.declared.region.Mapped.{Mapped}
 use Rattle.vub_memtable.specs.Tables.{guest_place}
 use Rattle.vub_chain.specs.declared.walk.Desc.{Desc}
 use Rattle.vub_chain.specs.declared.walk.Source as sources
 use Rattle.vub_chain.specs.Spans.{SpanLists}
 use Rattle.vub_chain.specs.Chains.{Limits}
 use Rattle.vub_chain.specs.Descs.{Source, goes_on, is_table, linked_desc}
-use Rattle.vub_chain.specs.Steps.{Chain, Walked, Adds, Answers, NamesTable, then_walk, to_next, with_table, named, may_name, plain, in_table, in_ring, chain_in}
+use Rattle.vub_chain.specs.Steps.{Chain, Walked, Adds, Answers, NamesTable, then_walk, to_next, with_table, named, plain, in_table, in_ring, chain_in}
 
 -- what was added is what the walk of one descriptor gives
 pub added_err : (f : ChainFault) (s : SpanLists) (w : Walked) → Adds (Err f) s w → w ≡ Err f

@@ -1,5 +1,5 @@
 -- The walk, part by part, finds what the rules say of its chain.
-use Rattle.std.proofs.Common.{◌≡◌, ◌≤◌, ◌<◌, ℕ, zero, suc, ◌+◌, ◌-◌, ◌/◌, ◌%◌, Bool, true, false, cond, not, ◌&&◌, ◌||◌, List, [], ◌∷◌, ◌++◌, length, map, refl, ap, sym, ◌∙◌, subst, inl, inr, arith}
+use Rattle.std.proofs.Common.{◌≡◌, ◌≤◌, ◌<◌, ℕ, zero, suc, ◌+◌, ◌-◌, ◌/◌, ◌%◌, Bool, true, false, cond, not, ◌&&◌, ◌||◌, List, [], ◌∷◌, ◌++◌, length, refl, ap, sym, ◌∙◌, subst, inl, inr, arith}
 use Rattle.std.specs.Prelude.{◌==◌, nat_le, nat_lt, filter, Option, Some, None, option_map, is_none, Result, Ok, Err}
 use Rattle.std.specs.List.{filter_map, list_any, cons_option}
 use Rattle.std.specs.Option.{option_or}
@@ -18,7 +18,7 @@ use Rattle.vub_chain.specs.declared.walk.Desc.{Desc}
 use Rattle.vub_chain.specs.Descs.{Source, goes_on, is_writable, is_table, linked_desc, listed_from}
 use Rattle.vub_chain.specs.Spans.{SpanLists}
 use Rattle.vub_chain.specs.Chains.{Limits, Link, Finds, Walks, all_listed, fault_at, first_broken, first_fault, is_unmapped, linked, linked_entries, linked_from, list_chain, listed, listed_entries, names_bytes, names_writable, positions, readable_span, rules_of, source_in, source_of, span_at, split_chain, with_entries, writable_span}
-use Rattle.vub_chain.specs.Steps.{Answers, Chain, Walked, in_ring, in_table, is_single, list_walk, may_name, named, no_chain, of_list, of_table, plain, split_walk, then_walk, to_next, with_place, with_span, with_table}
+use Rattle.vub_chain.specs.Steps.{Answers, Chain, Walked, in_ring, in_table, list_walk, named, of_list, of_table, plain, split_walk, then_walk, to_next, with_place, with_table}
 
 -- ---- what was found along a chain
 
@@ -90,7 +90,7 @@ written r w s = ap (λ (v : List Span). record { readable = v; writable = w ++ s
 plain_by : (b w t z : Bool) (o : Option (ℕ × ℕ)) (p addr len : ℕ) (r ws : List Span) → b ≡ false
     → cond {A = Walked} (not w && t) (Err (faults.BadOrder p)) (cond z (Ok (record { readable = r; writable = ws; turned = t || w })) (with_place w addr len o (record { readable = r; writable = ws; turned = t })))
     ≡ either (cond (not w && t) (Some (faults.BadOrder p)) (cond (not z && is_none o) (Some (faults.Unmapped addr)) None))
-        (Ok (record { readable = r ++ cons_option (cond (not b && not w) (cond z None (option_map (span_at len) o)) None) []; writable = ws ++ cons_option (cond (not b && w) (cond z None (option_map (span_at len) o)) None) []; turned = t || (not b && w) }))
+    (Ok (record { readable = r ++ cons_option (cond (not b && not w) (cond z None (option_map (span_at len) o)) None) []; writable = ws ++ cons_option (cond (not b && w) (cond z None (option_map (span_at len) o)) None) []; turned = t || (not b && w) }))
 plain_by true w t z o p addr len r ws h = absurd cc
 plain_by false false true z o p addr len r ws h = refl
 plain_by false false false true o p addr len r ws h = ap (λ (c : Chain). Ok c) (kept r ws false)
@@ -202,7 +202,7 @@ within_by true false o p w = refl
 named_by : (ind go within alone z m : Bool) (o : Option (ℕ × ℕ)) (p : ℕ) (d : Desc) (k : Source → Walked) (R : Option Source → Walked) → within ≡ false → ((y : ℕ × ℕ) → z ≡ false → m ≡ true → k (source_of d y) ≡ R (Some (source_of d y)))
     → cond {A = Walked} (ind && not go && alone && not z && m) (with_table d o k) (Err (faults.BadIndirect p))
     ≡ either (cond (not ind) (Some (faults.BadIndirect p)) (cond go (Some (faults.BadIndirect p)) (cond within (Some (faults.BadIndirect p)) (cond (not alone) (Some (faults.BadIndirect p)) (cond (z || not m) (Some (faults.BadIndirect p)) (cond (is_none o) (Some (faults.Unmapped d.addr)) None))))))
-        (R (option_map (source_of d) o))
+    (R (option_map (source_of d) o))
 named_by ind go true alone z m o p d k R out on = absurd cc
 named_by false go false alone z m o p d k R out on = refl
 named_by true true false alone z m o p d k R out on = refl
@@ -265,7 +265,7 @@ in_table_is x m s (suc left) i (suc most) before sum less =
           ∙ ap (λ (p : ℕ). then_walk (plain x.table p d (chain_of x.table before)) (to_next s d (in_table x m s left))) place
           ∙ ap (λ (w : Walked). then_walk w (to_next s d (in_table x m s left))) (plain_is x before l bytes)
           ∙ link_by (plain_fault x before l) (goes_on d) (nat_lt d.next s.count) d.next (chain_of x.table (before ++ l ∷ [])) (in_table x m s left) (rest_of x (before ++ l ∷ [])) (linked_from true m s most d.next)
-              (λ low. in_table_is x m s left d.next most (before ++ l ∷ []) (omega (arith, sum, one_more x before l bytes)) (omega arith)) (sym (rest_nil x (before ++ l ∷ [])))
+          (λ low. in_table_is x m s left d.next most (before ++ l ∷ []) (omega (arith, sum, one_more x before l bytes)) (omega arith)) (sym (rest_nil x (before ++ l ∷ [])))
           ∙ sym (ends x before l tail _ (bytes_is x before l below bytes))
     ]
 
@@ -290,10 +290,10 @@ in_ring_is x m s (suc left) i (suc most) before sum less =
           ap (λ (b : Bool). cond b (named x true (x.size - suc left) d (λ t. in_table x m t (suc left) 0 (chain_of x.table before))) (then_walk (plain x.table (x.size - suc left) d (chain_of x.table before)) (to_next s d (in_ring x m s left)))) table
           ∙ ap (λ (p : ℕ). named x true p d (λ t. in_table x m t (suc left) 0 (chain_of x.table before))) place
           ∙ named_by x.indirect (goes_on d) false true (d.len == 0) (d.len % 16 == 0) (guest_place x.table d.addr d.len) (positions before) d (λ t. in_table x m t (suc left) 0 (chain_of x.table before)) (λ o. rest_of x (before ++ l ∷ []) (linked_entries x m o)) refl
-              (λ (y : ℕ × ℕ). λ some whole.
-                  ap (in_table x m (source_of d y) (suc left) 0) (sym (same_chain x.table before l table))
-                  ∙ in_table_is x m (source_of d y) (suc left) 0 (x.size + 1) (before ++ l ∷ []) (omega (arith, sum, no_more before l table)) (omega (arith, sum))
-                  ∙ sym (ap (λ (b : Bool). rest_of x (before ++ l ∷ []) (cond b [] (linked_from true m (source_of d y) (x.size + 1) 0))) (has_entries d some whole)))
+          (λ (y : ℕ × ℕ). λ some whole.
+          ap (in_table x m (source_of d y) (suc left) 0) (sym (same_chain x.table before l table))
+          ∙ in_table_is x m (source_of d y) (suc left) 0 (x.size + 1) (before ++ l ∷ []) (omega (arith, sum, no_more before l table)) (omega (arith, sum))
+          ∙ sym (ap (λ (b : Bool). rest_of x (before ++ l ∷ []) (cond b [] (linked_from true m (source_of d y) (x.size + 1) 0))) (has_entries d some whole)))
           ∙ sym (ends x before l entries (table_fault x before l) (table_is x before l below table))
           ∙ sym (ap (λ (b : Bool). rest_of x before (cond b (l ∷ entries) (l ∷ rest))) table)
       | inr bytes ↦
@@ -301,7 +301,7 @@ in_ring_is x m s (suc left) i (suc most) before sum less =
           ∙ ap (λ (p : ℕ). then_walk (plain x.table p d (chain_of x.table before)) (to_next s d (in_ring x m s left))) place
           ∙ ap (λ (w : Walked). then_walk w (to_next s d (in_ring x m s left))) (plain_is x before l bytes)
           ∙ link_by (plain_fault x before l) (goes_on d) (nat_lt d.next s.count) d.next (chain_of x.table (before ++ l ∷ [])) (in_ring x m s left) (λ ls. rest_of x (before ++ l ∷ []) (with_entries x.table (linked_entries x m) ls)) (linked_from false m s most d.next)
-              (λ low. in_ring_is x m s left d.next most (before ++ l ∷ []) (omega (arith, sum, one_more x before l bytes)) (omega arith)) (sym (rest_nil x (before ++ l ∷ [])))
+          (λ low. in_ring_is x m s left d.next most (before ++ l ∷ []) (omega (arith, sum, one_more x before l bytes)) (omega arith)) (sym (rest_nil x (before ++ l ∷ [])))
           ∙ sym (ends x before l rest _ (bytes_is x before l below bytes))
           ∙ sym (ap (λ (b : Bool). rest_of x before (cond b (l ∷ entries) (l ∷ rest))) bytes)
     ]
@@ -354,7 +354,7 @@ list_step x m alone p d ds before place later =
                 ap (λ (b : Bool). cond b (named x alone p d k) (then_walk (plain x.table p d (chain_of x.table before)) (of_list x m false (p + 1) ds))) table
                 ∙ ap (λ (q : ℕ). named x alone q d k) place
                 ∙ named_by x.indirect (goes_on d) false alone (d.len == 0) (d.len % 16 == 0) (guest_place x.table d.addr d.len) (positions before) d k (λ o. rest_of x (before ++ l ∷ []) (listed_entries m o)) refl
-                    (λ (y : ℕ × ℕ). λ some whole. ap (of_table x p (listed_from m (source_of d y) (source_of d y).count 0)) (sym (same_chain x.table before l table)) ∙ of_table_is x p (listed_from m (source_of d y) (source_of d y).count 0) (before ++ l ∷ []) (omega (arith, place, no_more before l table)))
+                (λ (y : ℕ × ℕ). λ some whole. ap (of_table x p (listed_from m (source_of d y) (source_of d y).count 0)) (sym (same_chain x.table before l table)) ∙ of_table_is x p (listed_from m (source_of d y) (source_of d y).count 0) (before ++ l ∷ []) (omega (arith, place, no_more before l table)))
                 ∙ sym (ends x before l entries (table_fault x before l) (table_is x before l below table))
                 ∙ sym (ap (λ (b : Bool). rest_of x before (cond b (l ∷ entries) (l ∷ tail))) table)
             | inr bytes ↦

@@ -52,9 +52,6 @@ plain table position d c =
 abbrev pub may_name : Bool → Bool → Desc → Bool
 may_name indirect alone d = indirect && not (goes_on d) && alone && not (d.len == 0) && (d.len % 16 == 0)
 
-
-
-
 -- the table must be mapped as a whole
 abbrev pub with_table : Desc → Option (ℕ × ℕ) → (Source → Walked) → Walked
 with_table d None k = Err (faults.Unmapped d.addr)
@@ -146,4 +143,3 @@ NamesTable (Ok t) table indirect alone position d =
     (may_name indirect alone d ≡ true) × (guest_place table d.addr d.len ≡ Some (t.space.number, t.place)) × (t.count ≡ d.len / 16)
 NamesTable (Err e) table indirect alone position d =
     ((may_name indirect alone d ≡ false) × (e ≡ faults.BadIndirect position)) ⊎ ((may_name indirect alone d ≡ true) × (guest_place table d.addr d.len ≡ None) × (e ≡ faults.Unmapped d.addr))
-

@@ -30,6 +30,7 @@ const TABLE: u64 = B + 0x400;
 type Wanted = Result<(&'static [(u64, u32)], &'static [(u64, u32)]), ChainFault>;
 
 // Descriptors by address, length, flags and next: a ring's or a list's, and a table's.
+#[derive(Clone, Copy)]
 struct Case {
     first: &'static [(u64, u32, u16, u16)],
     table: &'static [(u64, u32, u16, u16)],
@@ -37,7 +38,7 @@ struct Case {
     wanted: Wanted,
 }
 
-const fn case(first: &'static [(u64, u32, u16, u16)], wanted: Wanted) -> Case {
+const fn plain_case(first: &'static [(u64, u32, u16, u16)], wanted: Wanted) -> Case {
     Case {
         first,
         table: &[],
@@ -46,7 +47,11 @@ const fn case(first: &'static [(u64, u32, u16, u16)], wanted: Wanted) -> Case {
     }
 }
 
-const fn with_table(first: &'static [(u64, u32, u16, u16)], table: &'static [(u64, u32, u16, u16)], wanted: Wanted) -> Case {
+const fn table_case(
+    first: &'static [(u64, u32, u16, u16)],
+    table: &'static [(u64, u32, u16, u16)],
+    wanted: Wanted,
+) -> Case {
     Case {
         first,
         table,
@@ -58,80 +63,120 @@ const fn with_table(first: &'static [(u64, u32, u16, u16)], table: &'static [(u6
 fn split_cases() -> [Case; 27] {
     [
         // header, data, status; then exactly as many positions as the ring has
-        case(
-            &[(B + 0x500, 16, N, 1), (B + 0x600, 64, N | W, 3), (0, 0, 0, 0), (B + 0x510, 1, W | OTHER, 9)],
+        plain_case(
+            &[
+                (B + 0x500, 16, N, 1),
+                (B + 0x600, 64, N | W, 3),
+                (0, 0, 0, 0),
+                (B + 0x510, 1, W | OTHER, 9),
+            ],
             Ok((&[(0x500, 16)], &[(0x600, 64), (0x510, 1)])),
         ),
-        case(
-            &[(B, 1, N, 2), (B + 1, 2, W, 0), (B + 2, 3, N, 3), (B + 3, 4, N, 1)],
+        plain_case(
+            &[
+                (B, 1, N, 2),
+                (B + 1, 2, W, 0),
+                (B + 2, 3, N, 3),
+                (B + 3, 4, N, 1),
+            ],
             Ok((&[(0, 1), (2, 3), (3, 4)], &[(1, 2)])),
         ),
         // one that follows itself
-        case(&[(B, 1, N, 0)], Err(ChainFault::Loop)),
+        plain_case(&[(B, 1, N, 0)], Err(ChainFault::Loop)),
         // a next past the table
-        case(&[(B, 1, N, 4)], Err(ChainFault::BadIndex(4))),
-        case(&[(B, 1, N, 65535)], Err(ChainFault::BadIndex(65535))),
+        plain_case(&[(B, 1, N, 4)], Err(ChainFault::BadIndex(4))),
+        plain_case(&[(B, 1, N, 65535)], Err(ChainFault::BadIndex(65535))),
         // a length of 0 in each place, mapped or not
-        case(
+        plain_case(
             &[(0, 0, N, 1), (B + 1, 2, N, 2), (B + 2, 1, W, 0)],
             Ok((&[(1, 2)], &[(2, 1)])),
         ),
-        case(
+        plain_case(
             &[(B, 1, N, 1), (0, 0, N, 2), (B + 2, 1, W, 0)],
             Ok((&[(0, 1)], &[(2, 1)])),
         ),
-        case(
+        plain_case(
             &[(B, 1, N, 1), (B + 1, 2, N, 2), (0, 0, W, 0)],
             Ok((&[(0, 1), (1, 2)], &[])),
         ),
         // a readable one after a writable one, also where that has length 0
-        case(&[(B, 1, N | W, 1), (B, 1, 0, 0)], Err(ChainFault::BadOrder(1))),
-        case(&[(B, 0, N | W, 1), (B, 0, 0, 0)], Err(ChainFault::BadOrder(1))),
+        plain_case(
+            &[(B, 1, N | W, 1), (B, 1, 0, 0)],
+            Err(ChainFault::BadOrder(1)),
+        ),
+        plain_case(
+            &[(B, 0, N | W, 1), (B, 0, 0, 0)],
+            Err(ChainFault::BadOrder(1)),
+        ),
         // the order comes before the range, and the range before the next
-        case(&[(B, 1, N | W, 1), (0, 1, N, 9)], Err(ChainFault::BadOrder(1))),
-        case(&[(B + 0x7ff, 2, N, 9)], Err(ChainFault::Unmapped(B + 0x7ff))),
-        case(&[(B + 0x7ff, 1, 0, 9)], Ok((&[(0x7ff, 1)], &[]))),
-        case(&[(0, 1, 0, 0)], Err(ChainFault::Unmapped(0))),
+        plain_case(
+            &[(B, 1, N | W, 1), (0, 1, N, 9)],
+            Err(ChainFault::BadOrder(1)),
+        ),
+        plain_case(
+            &[(B + 0x7ff, 2, N, 9)],
+            Err(ChainFault::Unmapped(B + 0x7ff)),
+        ),
+        plain_case(&[(B + 0x7ff, 1, 0, 9)], Ok((&[(0x7ff, 1)], &[]))),
+        plain_case(&[(0, 1, 0, 0)], Err(ChainFault::Unmapped(0))),
         // a table; its WRITE flag is ignored
-        with_table(
+        table_case(
             &[(TABLE, 48, I, 0)],
-            &[(B + 0x500, 16, N, 2), (B + 0x510, 1, W, 0), (B + 0x600, 64, N, 1)],
+            &[
+                (B + 0x500, 16, N, 2),
+                (B + 0x510, 1, W, 0),
+                (B + 0x600, 64, N, 1),
+            ],
             Ok((&[(0x500, 16), (0x600, 64)], &[(0x510, 1)])),
         ),
-        with_table(
+        table_case(
             &[(TABLE, 16, I | W | OTHER, 0)],
             &[(B + 0x500, 16, 0, 0)],
             Ok((&[(0x500, 16)], &[])),
         ),
         // a table after a descriptor, which counts as no position
-        with_table(
+        table_case(
             &[(B, 1, N, 1), (B + 1, 1, N, 2), (TABLE, 32, I, 0)],
             &[(B + 2, 1, N | W, 1), (B + 3, 1, W, 0)],
             Ok((&[(0, 1), (1, 1)], &[(2, 1), (3, 1)])),
         ),
-        with_table(
+        table_case(
             &[(B, 1, N | W, 1), (TABLE, 16, I, 0)],
             &[(B + 2, 1, 0, 0)],
             Err(ChainFault::BadOrder(1)),
         ),
         // more entries than the ring has places
-        with_table(
+        table_case(
             &[(TABLE, 80, I, 0)],
-            &[(B, 1, N, 1), (B, 1, N, 2), (B, 1, N, 3), (B, 1, N, 4), (B, 1, 0, 0)],
+            &[
+                (B, 1, N, 1),
+                (B, 1, N, 2),
+                (B, 1, N, 3),
+                (B, 1, N, 4),
+                (B, 1, 0, 0),
+            ],
             Err(ChainFault::Loop),
         ),
         // a next past the named table
-        with_table(&[(TABLE, 16, I, 0)], &[(B, 1, N, 1)], Err(ChainFault::BadIndex(1))),
+        table_case(
+            &[(TABLE, 16, I, 0)],
+            &[(B, 1, N, 1)],
+            Err(ChainFault::BadIndex(1)),
+        ),
         // a table within a table
-        with_table(
+        table_case(
             &[(TABLE, 32, I, 0)],
             &[(B, 1, N, 1), (TABLE, 16, I, 0)],
             Err(ChainFault::BadIndirect(1)),
         ),
         // one that goes on, of no length, of another length, and without the feature
-        with_table(&[(B, 1, N, 1), (TABLE, 16, I | N, 2)], &[(B, 1, 0, 0)], Err(ChainFault::BadIndirect(1))),
-        case(&[(TABLE, 0, I, 0)], Err(ChainFault::BadIndirect(0))),
-        case(&[(TABLE, 17, I, 0)], Err(ChainFault::BadIndirect(0))),
+        table_case(
+            &[(B, 1, N, 1), (TABLE, 16, I | N, 2)],
+            &[(B, 1, 0, 0)],
+            Err(ChainFault::BadIndirect(1)),
+        ),
+        plain_case(&[(TABLE, 0, I, 0)], Err(ChainFault::BadIndirect(0))),
+        plain_case(&[(TABLE, 17, I, 0)], Err(ChainFault::BadIndirect(0))),
         Case {
             first: &[(0, 16, I, 0)],
             table: &[],
@@ -139,9 +184,12 @@ fn split_cases() -> [Case; 27] {
             wanted: Err(ChainFault::BadIndirect(0)),
         },
         // a table that isn't mapped as a whole
-        case(&[(B + 0x7f0, 32, I, 0)], Err(ChainFault::Unmapped(B + 0x7f0))),
+        plain_case(
+            &[(B + 0x7f0, 32, I, 0)],
+            Err(ChainFault::Unmapped(B + 0x7f0)),
+        ),
         // the position comes before the table in it
-        with_table(
+        table_case(
             &[(B, 1, N, 1), (B, 1, N, 2), (B, 1, N, 3), (TABLE, 32, I, 0)],
             &[(B, 1, N, 1), (TABLE, 16, I, 0)],
             Err(ChainFault::Loop),
@@ -151,64 +199,107 @@ fn split_cases() -> [Case; 27] {
 
 fn list_cases() -> [Case; 18] {
     [
-        case(&[], Ok((&[], &[]))),
+        plain_case(&[], Ok((&[], &[]))),
         // other flags than WRITE and INDIRECT are ignored, and so is what the last one names next
-        case(
-            &[(B + 0x500, 16, N | OTHER, 7), (B + 0x600, 64, N | W, 7), (B + 0x510, 1, W, 7)],
+        plain_case(
+            &[
+                (B + 0x500, 16, N | OTHER, 7),
+                (B + 0x600, 64, N | W, 7),
+                (B + 0x510, 1, W, 7),
+            ],
             Ok((&[(0x500, 16)], &[(0x600, 64), (0x510, 1)])),
         ),
-        case(
-            &[(B, 1, 0, 0), (B + 1, 1, 0, 0), (B + 2, 1, 0, 0), (B + 3, 1, W, 0)],
+        plain_case(
+            &[
+                (B, 1, 0, 0),
+                (B + 1, 1, 0, 0),
+                (B + 2, 1, 0, 0),
+                (B + 3, 1, W, 0),
+            ],
             Ok((&[(0, 1), (1, 1), (2, 1)], &[(3, 1)])),
         ),
-        case(
-            &[(B, 1, 0, 0), (B, 1, 0, 0), (B, 1, 0, 0), (B, 1, 0, 0), (0, 9, I, 0)],
+        plain_case(
+            &[
+                (B, 1, 0, 0),
+                (B, 1, 0, 0),
+                (B, 1, 0, 0),
+                (B, 1, 0, 0),
+                (0, 9, I, 0),
+            ],
             Err(ChainFault::Loop),
         ),
-        case(
-            &[(0, 0, 0, 0), (B + 1, 2, 0, 0), (0, 0, 0, 0), (B + 2, 1, W, 0)],
+        plain_case(
+            &[
+                (0, 0, 0, 0),
+                (B + 1, 2, 0, 0),
+                (0, 0, 0, 0),
+                (B + 2, 1, W, 0),
+            ],
             Ok((&[(1, 2)], &[(2, 1)])),
         ),
-        case(&[(B, 0, W, 0), (0, 1, 0, 0)], Err(ChainFault::BadOrder(1))),
-        case(&[(B, 1, 0, 0), (B + 0x7ff, 2, W, 0)], Err(ChainFault::Unmapped(B + 0x7ff))),
+        plain_case(&[(B, 0, W, 0), (0, 1, 0, 0)], Err(ChainFault::BadOrder(1))),
+        plain_case(
+            &[(B, 1, 0, 0), (B + 0x7ff, 2, W, 0)],
+            Err(ChainFault::Unmapped(B + 0x7ff)),
+        ),
         // entries of a table in their order, whatever their other flags
-        with_table(
+        table_case(
             &[(TABLE, 48, I | W, 0)],
-            &[(B + 0x500, 16, 0, 9), (B + 0x600, 64, N | OTHER, 9), (B + 0x510, 1, W, 9)],
+            &[
+                (B + 0x500, 16, 0, 9),
+                (B + 0x600, 64, N | OTHER, 9),
+                (B + 0x510, 1, W, 9),
+            ],
             Ok((&[(0x500, 16), (0x600, 64)], &[(0x510, 1)])),
         ),
-        with_table(
+        table_case(
             &[(TABLE, 80, I, 0)],
-            &[(B, 1, 0, 0), (B, 1, 0, 0), (B, 1, 0, 0), (B, 1, 0, 0), (B, 1, 0, 0)],
+            &[
+                (B, 1, 0, 0),
+                (B, 1, 0, 0),
+                (B, 1, 0, 0),
+                (B, 1, 0, 0),
+                (B, 1, 0, 0),
+            ],
             Err(ChainFault::Loop),
         ),
-        with_table(
+        table_case(
             &[(TABLE, 64, I, 0)],
             &[(B, 1, 0, 0), (B, 1, 0, 0), (B, 1, 0, 0), (B + 1, 1, 0, 0)],
             Ok((&[(0, 1), (0, 1), (0, 1), (1, 1)], &[])),
         ),
-        with_table(
+        table_case(
             &[(TABLE, 32, I, 0)],
             &[(B, 1, 0, 0), (TABLE, 16, I, 0)],
             Err(ChainFault::BadIndirect(1)),
         ),
-        with_table(
+        table_case(
             &[(TABLE, 32, I, 0)],
             &[(B, 1, W, 0), (B, 1, 0, 0)],
             Err(ChainFault::BadOrder(1)),
         ),
-        with_table(&[(TABLE, 16, I, 0)], &[(0, 1, 0, 0)], Err(ChainFault::Unmapped(0))),
+        table_case(
+            &[(TABLE, 16, I, 0)],
+            &[(0, 1, 0, 0)],
+            Err(ChainFault::Unmapped(0)),
+        ),
         // a table beside others, one that goes on, of another length, without the feature, not mapped
-        case(&[(TABLE, 16, I, 0), (B, 1, 0, 0)], Err(ChainFault::BadIndirect(0))),
-        case(&[(TABLE, 16, I | N, 0)], Err(ChainFault::BadIndirect(0))),
-        case(&[(TABLE, 24, I, 0)], Err(ChainFault::BadIndirect(0))),
+        plain_case(
+            &[(TABLE, 16, I, 0), (B, 1, 0, 0)],
+            Err(ChainFault::BadIndirect(0)),
+        ),
+        plain_case(&[(TABLE, 16, I | N, 0)], Err(ChainFault::BadIndirect(0))),
+        plain_case(&[(TABLE, 24, I, 0)], Err(ChainFault::BadIndirect(0))),
         Case {
             first: &[(TABLE, 16, I, 0)],
             table: &[],
             indirect: false,
             wanted: Err(ChainFault::BadIndirect(0)),
         },
-        case(&[(B + 0x7f8, 16, I, 0)], Err(ChainFault::Unmapped(B + 0x7f8))),
+        plain_case(
+            &[(B + 0x7f8, 16, I, 0)],
+            Err(ChainFault::Unmapped(B + 0x7f8)),
+        ),
     ]
 }
 
@@ -230,10 +321,9 @@ fn put_all(bytes: &mut [u8], place: usize, packed: bool, descs: &[(u64, u32, u16
 
 fn lists(spans: &[Span], wanted: &[(u64, u32)]) -> bool {
     spans.len() == wanted.len()
-        && spans
-            .iter()
-            .zip(wanted)
-            .all(|(span, place)| span.space.number == 0 && span.place == place.0 && span.len == place.1)
+        && spans.iter().zip(wanted).all(|(span, place)| span.space.number == 0
+            && span.place == place.0
+            && span.len == place.1)
 }
 
 // Whether the walk answers as the case wants it.
@@ -274,10 +364,19 @@ fn walks(alloc: Global, case: &Case, packed: bool) -> Result<bool, Fail> {
         }
         walk_list(&mut memory, &table, &list, SIZE, case.indirect, &mut spans)
     } else {
-        walk_split(&mut memory, &table, (space, 0), SIZE, 0, case.indirect, &mut spans)
+        walk_split(
+            &mut memory,
+            &table,
+            (space, 0),
+            SIZE,
+            0,
+            case.indirect,
+            &mut spans,
+        )
     };
     Ok(match (result, case.wanted) {
-        (Ok(()), Ok((readable, writable))) => lists(spans.readable(), readable) && lists(spans.writable(), writable),
+        (Ok(()), Ok((readable, writable))) => lists(spans.readable(), readable)
+            && lists(spans.writable(), writable),
         (Err(fault), Err(wanted)) => fault == wanted,
         _ => false,
     })

@@ -12,20 +12,28 @@ use vub_base::{ChainFault, Failed, Space, get_u16, get_u32, get_u64};
 use vub_memtable::{MemTable, TableFault};
 use vub_shared::Shared;
 
-const NEXT: u16 = 1;
+/// Another descriptor follows.
+const VIRTQ_DESC_F_NEXT: u16 = 1;
 
-const WRITE: u16 = 2;
+/// The device may write the buffer, and else read it.
+const VIRTQ_DESC_F_WRITE: u16 = 2;
 
-const INDIRECT: u16 = 4;
+/// The buffer is a table of descriptors.
+const VIRTQ_DESC_F_INDIRECT: u16 = 4;
 
-/// One descriptor.
+/// The bytes of a descriptor in a table.
+const DESC_BYTES: u32 = 16;
+
+/// A descriptor (VIRTIO 1.2, 2.7.5 and 2.8.6).
 #[derive(Clone, Copy, Debug, PartialEq, Eq)]
 pub struct Desc {
     /// The guest address of the buffer.
     pub addr: u64,
     /// The bytes of the buffer.
     pub len: u32,
+    /// NEXT, WRITE and INDIRECT; other bits are ignored.
     pub flags: u16,
+    /// Where NEXT is set, the index of the next one in the same table. A list has no use for it.
     pub next: u16,
 }
 
@@ -42,21 +50,21 @@ impl Desc {
     fn goes_on(&self) -> bool
         ensures { result ≡ goes_on self.now }
     {
-        self.flags & NEXT != 0
+        self.flags & VIRTQ_DESC_F_NEXT != 0
     }
 
     #[tactic(auto, using(crate::proofs::DescLemmas::tested_write))]
     fn is_writable(&self) -> bool
         ensures { result ≡ is_writable self.now }
     {
-        self.flags & WRITE != 0
+        self.flags & VIRTQ_DESC_F_WRITE != 0
     }
 
     #[tactic(auto, using(crate::proofs::DescLemmas::tested_indirect))]
     fn is_table(&self) -> bool
         ensures { result ≡ is_table self.now }
     {
-        self.flags & INDIRECT != 0
+        self.flags & VIRTQ_DESC_F_INDIRECT != 0
     }
 }
 
@@ -71,7 +79,11 @@ fn linked_desc<M: Shared>(mem: &mut M, source: Source, index: u32) -> Result<Des
     ensures cause { HasCause (M.faults mem.old) (M.faults mem.new) result }
 {
     let mut bytes = [0u8; 16];
-    mem.load(source.space, source.place + 16 * u64::from(index), &mut bytes)?;
+    mem.load(
+        source.space,
+        source.place + 16 * u64::from(index),
+        &mut bytes,
+    )?;
     Ok(Desc {
         addr: get_u64(&bytes, 0),
         len: get_u32(&bytes, 8),
@@ -81,7 +93,13 @@ fn linked_desc<M: Shared>(mem: &mut M, source: Source, index: u32) -> Result<Des
 }
 
 /// Adds the span of a descriptor that names bytes, and answers whether a writable one has come.
-fn plain(table: &MemTable, position: u16, desc: &Desc, turned: bool, into: &mut Spans) -> Result<bool, ChainFault>
+fn plain(
+    table: &MemTable,
+    position: u16,
+    desc: &Desc,
+    turned: bool,
+    into: &mut Spans,
+) -> Result<bool, ChainFault>
     requires { HasRoom into.old 1 }
     ensures adds { Adds result into.new (plain table.now position desc.now (chain_in turned into.old)) }
     ensures room { into.new.room ≡ into.old.room }
@@ -115,7 +133,16 @@ fn plain(table: &MemTable, position: u16, desc: &Desc, turned: bool, into: &mut 
 }
 
 /// Walks the entries of a table from one on, so many positions being left.
-fn in_table<M: Shared>(mem: &mut M, table: &MemTable, size: u16, source: Source, left: u16, index: u32, turned: bool, into: &mut Spans) -> Result<(), ChainFault>
+fn in_table<M: Shared>(
+    mem: &mut M,
+    table: &MemTable,
+    size: u16,
+    source: Source,
+    left: u16,
+    index: u32,
+    turned: bool,
+    into: &mut Spans,
+) -> Result<(), ChainFault>
     requires lies { source.place + 16 * source.count ≤ M.sizes mem.old source.space.number }
     requires below { index < source.count }
     requires fits { left ≤ size }
@@ -154,20 +181,26 @@ fn in_table<M: Shared>(mem: &mut M, table: &MemTable, size: u16, source: Source,
 }
 
 /// Where the table of a descriptor stands that names one at this position.
-fn table_of(table: &MemTable, indirect: bool, alone: bool, position: u16, desc: &Desc) -> Result<Source, ChainFault>
+fn table_of(
+    table: &MemTable,
+    indirect: bool,
+    alone: bool,
+    position: u16,
+    desc: &Desc,
+) -> Result<Source, ChainFault>
     ensures names { NamesTable result table.now indirect alone position desc.now }
     ensures some { IfOk result (λ t. 0 < t.count) }
     ensures lies { IfOk result (λ t. (sizes : ℕ → ℕ) → All (IsHeld sizes) table.now → t.place + 16 * t.count ≤ sizes t.space.number) }
 {
     let len = desc.len;
-    if !indirect || desc.goes_on() || !alone || len == 0 || len % 16 != 0 {
+    if !indirect || desc.goes_on() || !alone || len == 0 || len % DESC_BYTES != 0 {
         return Err(ChainFault::BadIndirect(position));
     }
     match table.guest_to_space(desc.addr, u64::from(len)) {
         Ok((space, place)) => Ok(Source {
             space,
             place,
-            count: len / 16,
+            count: len / DESC_BYTES,
         }),
         Err(_) => Err(ChainFault::Unmapped(desc.addr)),
     }
@@ -175,7 +208,17 @@ fn table_of(table: &MemTable, indirect: bool, alone: bool, position: u16, desc: 
 
 /// Walks the descriptors of a ring's table from one on, so many positions being left.
 #[tactic(auto, using(crate::proofs::RingLemmas::ring_plain_fault, crate::proofs::RingLemmas::ring_bad_next, crate::proofs::RingLemmas::ring_table_fault, crate::proofs::RingLemmas::ring_table))]
-fn in_ring<M: Shared>(mem: &mut M, table: &MemTable, size: u16, indirect: bool, source: Source, left: u16, index: u32, turned: bool, into: &mut Spans) -> Result<(), ChainFault>
+fn in_ring<M: Shared>(
+    mem: &mut M,
+    table: &MemTable,
+    size: u16,
+    indirect: bool,
+    source: Source,
+    left: u16,
+    index: u32,
+    turned: bool,
+    into: &mut Spans,
+) -> Result<(), ChainFault>
     requires held { All (IsHeld (M.sizes mem.old)) table.now }
     requires lies { source.place + 16 * source.count ≤ M.sizes mem.old source.space.number }
     requires below { index < source.count }
@@ -215,7 +258,17 @@ fn in_ring<M: Shared>(mem: &mut M, table: &MemTable, size: u16, indirect: bool, 
     if next >= source.count {
         return Err(ChainFault::BadIndex(desc.next));
     }
-    in_ring(mem, table, size, indirect, source, left - 1, next, turned, into)
+    in_ring(
+        mem,
+        table,
+        size,
+        indirect,
+        source,
+        left - 1,
+        next,
+        turned,
+        into,
+    )
 }
 
 /// A descriptor of a table of the packed format, which names no next one.
@@ -229,7 +282,11 @@ fn listed_desc<M: Shared>(mem: &mut M, source: Source, index: u32) -> Result<Des
     ensures cause { HasCause (M.faults mem.old) (M.faults mem.new) result }
 {
     let mut bytes = [0u8; 16];
-    mem.load(source.space, source.place + 16 * u64::from(index), &mut bytes)?;
+    mem.load(
+        source.space,
+        source.place + 16 * u64::from(index),
+        &mut bytes,
+    )?;
     Ok(Desc {
         addr: get_u64(&bytes, 0),
         len: get_u32(&bytes, 8),
@@ -240,7 +297,16 @@ fn listed_desc<M: Shared>(mem: &mut M, source: Source, index: u32) -> Result<Des
 
 /// Walks the entries of a table of the packed format in their order, from one on.
 #[tactic(auto, using(crate::proofs::ListLemmas::listed_more, crate::proofs::ListLemmas::listed_none))]
-fn of_table<M: Shared>(mem: &mut M, table: &MemTable, size: u16, source: Source, index: u32, position: u16, turned: bool, into: &mut Spans) -> Result<(), ChainFault>
+fn of_table<M: Shared>(
+    mem: &mut M,
+    table: &MemTable,
+    size: u16,
+    source: Source,
+    index: u32,
+    position: u16,
+    turned: bool,
+    into: &mut Spans,
+) -> Result<(), ChainFault>
     requires lies { source.place + 16 * source.count ≤ M.sizes mem.old source.space.number }
     requires upto { index ≤ source.count }
     requires fits { position ≤ size }
@@ -270,13 +336,32 @@ fn of_table<M: Shared>(mem: &mut M, table: &MemTable, size: u16, source: Source,
         Ok(turned) => turned,
         Err(fault) => return Err(fault),
     };
-    of_table(mem, table, size, source, index + 1, position + 1, turned, into)
+    of_table(
+        mem,
+        table,
+        size,
+        source,
+        index + 1,
+        position + 1,
+        turned,
+        into,
+    )
 }
 
 /// Walks the descriptors of a list in their order, of which only one that stands alone may name a
 /// table.
 #[tactic(auto, using(crate::proofs::ListLemmas::named_fault, crate::proofs::ListLemmas::named_table))]
-fn of_list<M: Shared>(mem: &mut M, table: &MemTable, size: u16, indirect: bool, alone: bool, list: &[Desc], position: u16, turned: bool, into: &mut Spans) -> Result<(), ChainFault>
+fn of_list<M: Shared>(
+    mem: &mut M,
+    table: &MemTable,
+    size: u16,
+    indirect: bool,
+    alone: bool,
+    list: &[Desc],
+    position: u16,
+    turned: bool,
+    into: &mut Spans,
+) -> Result<(), ChainFault>
     requires held { All (IsHeld (M.sizes mem.old)) table.now }
     requires fits { position ≤ size }
     requires room { HasRoom into.old (size - position) }
@@ -305,15 +390,36 @@ fn of_list<M: Shared>(mem: &mut M, table: &MemTable, size: u16, indirect: bool, 
                 Ok(turned) => turned,
                 Err(fault) => return Err(fault),
             };
-            of_list(mem, table, size, indirect, false, rest, position + 1, turned, into)
+            of_list(
+                mem,
+                table,
+                size,
+                indirect,
+                false,
+                rest,
+                position + 1,
+                turned,
+                into,
+            )
         }
     }
 }
 
 /// Walks the chain that begins at `head` of the descriptor table at `place`, which has `size`
-/// descriptors. The spans are those of the chain where it answers Ok; after a fault they are open.
-/// Takes no memory.
-pub fn walk_split<M: Shared>(mem: &mut M, table: &MemTable, place: (Space, u64), size: u16, head: u16, indirect: bool, into: &mut Spans) -> Result<(), ChainFault>
+/// descriptors (VIRTIO 1.2, 2.7.5). On Ok the spans are those of the chain, the readable and the
+/// writable ones in its order; else the fault is that of the first descriptor that breaks a rule, and
+/// what `into` holds is open. `indirect` says whether descriptors may name tables (2.7.5.3); the
+/// entries of one are linked from its first on. A chain has at most `size` positions, the entries of
+/// a table included. Takes no memory and stores nothing.
+pub fn walk_split<M: Shared>(
+    mem: &mut M,
+    table: &MemTable,
+    place: (Space, u64),
+    size: u16,
+    head: u16,
+    indirect: bool,
+    into: &mut Spans,
+) -> Result<(), ChainFault>
     requires below { head < size }
     requires lies { place.1 + 16 * size ≤ M.sizes mem.old place.0.number }
     requires held { All (IsHeld (M.sizes mem.old)) table.now }
@@ -332,13 +438,31 @@ pub fn walk_split<M: Shared>(mem: &mut M, table: &MemTable, place: (Space, u64),
         place: place.1,
         count: u32::from(size),
     };
-    in_ring(mem, table, size, indirect, source, size, u32::from(head), false, into)
+    in_ring(
+        mem,
+        table,
+        size,
+        indirect,
+        source,
+        size,
+        u32::from(head),
+        false,
+        into,
+    )
 }
 
+/// Walks the descriptors of a list in their order, as a packed buffer has them (VIRTIO 1.2, 2.8.6).
+/// Only one that stands alone may name a table, whose entries follow one another (2.8.7). The rest
+/// is as of `walk_split`.
 #[tactic(auto, using(crate::proofs::ListLemmas::single_is))]
-/// Walks the descriptors of a list in their order, as a packed buffer has them. The rest is as of
-/// `walk_split`.
-pub fn walk_list<M: Shared>(mem: &mut M, table: &MemTable, list: &[Desc], size: u16, indirect: bool, into: &mut Spans) -> Result<(), ChainFault>
+pub fn walk_list<M: Shared>(
+    mem: &mut M,
+    table: &MemTable,
+    list: &[Desc],
+    size: u16,
+    indirect: bool,
+    into: &mut Spans,
+) -> Result<(), ChainFault>
     requires held { All (IsHeld (M.sizes mem.old)) table.now }
     requires room { size ≤ into.old.room }
     ensures walks { WhereTold (M.told mem.old) (λ m. Walks (record { table = table.now; size = size; indirect = indirect }) result into.new (list_chain (record { table = table.now; size = size; indirect = indirect }) m list.now)) }

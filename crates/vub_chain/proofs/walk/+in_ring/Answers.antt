@@ -1,4 +1,4 @@
-use Rattle.std.proofs.Common.{◌≡◌, ◌<◌, ◌≤◌, ℕ, true, false, ◌∙◌, sym, arith}
+use Rattle.std.proofs.Common.{◌≡◌, ◌<◌, ◌≤◌, true, false, ◌∙◌, arith}
 use Rattle.std.proofs.lemmas.Bool.Decides.{nat_tests}
 use Rattle.vub_chain.specs.Descs.{is_table, goes_on}
 use Rattle.vub_chain.proofs.RingLemmas.{done_answers, fault_answers, more_answers, next_answers, plain_answers, table_answers}
