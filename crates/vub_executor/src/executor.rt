@@ -57,6 +57,7 @@ impl<T> Executor<T> {
     pub fn new(alloc: Global, room: usize) -> Result<Executor<T>, Memory>
         ensures unfinished { IfOk result (λ e. e.unfinished ≡ []) }
         ensures finished { IfOk result (λ e. e.finished ≡ []) }
+        ensures items { IfOk result (λ e. (key : ℕ) → item_of e key ≡ None) }
         ensures room { IfOk result (λ e. e.room ≡ room) }
     {
         let unfinished = VecDeque::with_capacity(alloc, room).map_err(|_| Memory)?;
@@ -70,7 +71,8 @@ impl<T> Executor<T> {
         })
     }
 
-    /// Adds an item that isn't finished, and answers its key. Takes constant time.
+    /// Adds an unfinished item behind all others, and answers its key. `order` is above that of every
+    /// other unfinished item. Takes constant time.
     pub fn add(&mut self, order: u64, item: T) -> usize
         requires room { length self.old.unfinished + length self.old.finished < self.old.room }
         requires rising { All (λ u. u.order < order) self.old.unfinished }
@@ -87,7 +89,8 @@ impl<T> Executor<T> {
         key
     }
 
-    /// The key of the unfinished item in a place of the order of acceptance. Takes constant time.
+    /// The key of the unfinished item in a place, from 0, of the order of acceptance, if so many are
+    /// there. Takes constant time.
     pub fn nth(&self, place: usize) -> Option<usize>
         ensures key { result ≡ option_map key_of (slice_get self.now.unfinished place) }
         ensures item { IfSome result (λ key. IsSome (item_of self.now key)) }
@@ -97,8 +100,8 @@ impl<T> Executor<T> {
         Some(self.unfinished.get(place)?.key)
     }
 
-    /// Moves an unfinished item to the end of the finished ones. Takes as many steps as unfinished
-    /// items stand before it.
+    /// Moves an unfinished item to the end of the finished ones, under its key. Takes as many steps as
+    /// unfinished items stand before it.
     pub fn finish(&mut self, key: usize)
         requires { IsSome (position (has_key key) self.old.unfinished) }
         ensures unfinished { self.new.unfinished ≡ without key self.old.unfinished }
@@ -131,7 +134,8 @@ impl<T> Executor<T> {
         self.finished.items()
     }
 
-    /// Takes out the first finished item. Takes constant time.
+    /// Takes out the first finished item, if there is one; its key may be given again. Takes constant
+    /// time.
     pub fn remove_first(&mut self) -> Option<T>
         ensures first { IfSome result (TakesFirst self.old self.new) }
         ensures unfinished { self.new.unfinished ≡ self.old.unfinished }
