@@ -1,6 +1,7 @@
 ghost use Rattle.std.specs.Prelude.{◌≡◌, ◌<◌, ◌≤◌, ◌+◌, ◌-◌, ◌*◌, ℕ, Bool, All, length, IfOk, OnOk};
 ghost use Rattle.vub_base.specs.Causes.{HasCause};
 ghost use Rattle.vub_base.specs.Told.{WhereTold};
+ghost use Rattle.vub_shared.specs.Frames.{OnlyLoads};
 ghost use Rattle.vub_memtable.specs.Regions.{IsHeld};
 ghost use Rattle.vub_chain.specs.Chains.{Walks, failure, list_chain, split_chain};
 ghost use Rattle.vub_chain.specs.Descs.{goes_on, is_table, is_writable, linked_desc, listed_desc, listed_from};
@@ -8,18 +9,10 @@ ghost use Rattle.vub_chain.specs.Spans.{KeepsLying, SpansLie};
 ghost use Rattle.vub_chain.specs.Steps.{Adds, Answers, HasRoom, NamesTable, chain_in, in_ring, in_table, list_walk, of_list, of_table, plain, split_walk};
 
 use crate::spans::{Span, Spans};
+use vub_base::standard::{VIRTQ_DESC_F_INDIRECT, VIRTQ_DESC_F_NEXT, VIRTQ_DESC_F_WRITE};
 use vub_base::{ChainFault, Failed, Space, get_u16, get_u32, get_u64};
 use vub_memtable::{MemTable, TableFault};
 use vub_shared::Shared;
-
-/// Another descriptor follows.
-const VIRTQ_DESC_F_NEXT: u16 = 1;
-
-/// The device may write the buffer, and else read it.
-const VIRTQ_DESC_F_WRITE: u16 = 2;
-
-/// The buffer is a table of descriptors.
-const VIRTQ_DESC_F_INDIRECT: u16 = 4;
 
 /// The bytes of a descriptor in a table.
 const DESC_BYTES: u32 = 16;
@@ -73,9 +66,7 @@ fn linked_desc<M: Shared>(mem: &mut M, source: Source, index: u32) -> Result<Des
     requires lies { source.place + 16 * source.count ≤ M.sizes mem.old source.space.number }
     requires below { index < source.count }
     ensures loaded { IfOk result (λ d. WhereTold (M.told mem.old) (λ m. d ≡ linked_desc m (record { space = source.space.number; place = source.place; count = source.count }) index)) }
-    ensures told { M.told mem.new ≡ M.told mem.old }
-    ensures trail { M.trail mem.new ≡ M.trail mem.old }
-    ensures sizes { (s : ℕ) → M.sizes mem.new s ≡ M.sizes mem.old s }
+    ensures only_loads { OnlyLoads M.told M.trail M.names M.handed M.sizes mem.old mem.new }
     ensures cause { HasCause (M.faults mem.old) (M.faults mem.new) result }
 {
     let mut bytes = [0u8; 16];
@@ -150,9 +141,7 @@ fn in_table<M: Shared>(
     ensures walks { (indirect : Bool) → WhereTold (M.told mem.old) (λ m. Answers result into.new (in_table (record { table = table.now; size = size; indirect = indirect }) m (record { space = source.space.number; place = source.place; count = source.count }) left index (chain_in turned into.old))) }
     ensures room { into.new.room ≡ into.old.room }
     ensures lying { KeepsLying table.now into.old into.new }
-    ensures told { M.told mem.new ≡ M.told mem.old }
-    ensures trail { M.trail mem.new ≡ M.trail mem.old }
-    ensures sizes { (s : ℕ) → M.sizes mem.new s ≡ M.sizes mem.old s }
+    ensures only_loads { OnlyLoads M.told M.trail M.names M.handed M.sizes mem.old mem.new }
     ensures cause { HasCause (M.faults mem.old) (M.faults mem.new) (failure result) }
 {
     if left == 0 {
@@ -227,9 +216,7 @@ fn in_ring<M: Shared>(
     ensures walks { WhereTold (M.told mem.old) (λ m. Answers result into.new (in_ring (record { table = table.now; size = size; indirect = indirect }) m (record { space = source.space.number; place = source.place; count = source.count }) left index (chain_in turned into.old))) }
     ensures room { into.new.room ≡ into.old.room }
     ensures lying { KeepsLying table.now into.old into.new }
-    ensures told { M.told mem.new ≡ M.told mem.old }
-    ensures trail { M.trail mem.new ≡ M.trail mem.old }
-    ensures sizes { (s : ℕ) → M.sizes mem.new s ≡ M.sizes mem.old s }
+    ensures only_loads { OnlyLoads M.told M.trail M.names M.handed M.sizes mem.old mem.new }
     ensures cause { HasCause (M.faults mem.old) (M.faults mem.new) (failure result) }
 {
     if left == 0 {
@@ -276,9 +263,7 @@ fn listed_desc<M: Shared>(mem: &mut M, source: Source, index: u32) -> Result<Des
     requires lies { source.place + 16 * source.count ≤ M.sizes mem.old source.space.number }
     requires below { index < source.count }
     ensures loaded { IfOk result (λ d. WhereTold (M.told mem.old) (λ m. d ≡ listed_desc m (record { space = source.space.number; place = source.place; count = source.count }) index)) }
-    ensures told { M.told mem.new ≡ M.told mem.old }
-    ensures trail { M.trail mem.new ≡ M.trail mem.old }
-    ensures sizes { (s : ℕ) → M.sizes mem.new s ≡ M.sizes mem.old s }
+    ensures only_loads { OnlyLoads M.told M.trail M.names M.handed M.sizes mem.old mem.new }
     ensures cause { HasCause (M.faults mem.old) (M.faults mem.new) result }
 {
     let mut bytes = [0u8; 16];
@@ -314,9 +299,7 @@ fn of_table<M: Shared>(
     ensures walks { (indirect : Bool) → WhereTold (M.told mem.old) (λ m. Answers result into.new (of_table (record { table = table.now; size = size; indirect = indirect }) position (listed_from m (record { space = source.space.number; place = source.place; count = source.count }) (source.count - index) index) (chain_in turned into.old))) }
     ensures room { into.new.room ≡ into.old.room }
     ensures lying { KeepsLying table.now into.old into.new }
-    ensures told { M.told mem.new ≡ M.told mem.old }
-    ensures trail { M.trail mem.new ≡ M.trail mem.old }
-    ensures sizes { (s : ℕ) → M.sizes mem.new s ≡ M.sizes mem.old s }
+    ensures only_loads { OnlyLoads M.told M.trail M.names M.handed M.sizes mem.old mem.new }
     ensures cause { HasCause (M.faults mem.old) (M.faults mem.new) (failure result) }
 {
     if index == source.count {
@@ -368,9 +351,7 @@ fn of_list<M: Shared>(
     ensures walks { WhereTold (M.told mem.old) (λ m. Answers result into.new (of_list (record { table = table.now; size = size; indirect = indirect }) m alone position list.now (chain_in turned into.old))) }
     ensures room { into.new.room ≡ into.old.room }
     ensures lying { KeepsLying table.now into.old into.new }
-    ensures told { M.told mem.new ≡ M.told mem.old }
-    ensures trail { M.trail mem.new ≡ M.trail mem.old }
-    ensures sizes { (s : ℕ) → M.sizes mem.new s ≡ M.sizes mem.old s }
+    ensures only_loads { OnlyLoads M.told M.trail M.names M.handed M.sizes mem.old mem.new }
     ensures cause { HasCause (M.faults mem.old) (M.faults mem.new) (failure result) }
 {
     match list {
@@ -427,9 +408,7 @@ pub fn walk_split<M: Shared>(
     ensures walks { WhereTold (M.told mem.old) (λ m. Walks (record { table = table.now; size = size; indirect = indirect }) result into.new (split_chain (record { table = table.now; size = size; indirect = indirect }) m place.0.number place.1 head)) }
     ensures lie { OnOk result (SpansLie (M.sizes mem.old) into.new) }
     ensures room { into.new.room ≡ into.old.room }
-    ensures told { M.told mem.new ≡ M.told mem.old }
-    ensures trail { M.trail mem.new ≡ M.trail mem.old }
-    ensures sizes { (s : ℕ) → M.sizes mem.new s ≡ M.sizes mem.old s }
+    ensures only_loads { OnlyLoads M.told M.trail M.names M.handed M.sizes mem.old mem.new }
     ensures cause { HasCause (M.faults mem.old) (M.faults mem.new) (failure result) }
 {
     into.clear();
@@ -468,9 +447,7 @@ pub fn walk_list<M: Shared>(
     ensures walks { WhereTold (M.told mem.old) (λ m. Walks (record { table = table.now; size = size; indirect = indirect }) result into.new (list_chain (record { table = table.now; size = size; indirect = indirect }) m list.now)) }
     ensures lie { OnOk result (SpansLie (M.sizes mem.old) into.new) }
     ensures room { into.new.room ≡ into.old.room }
-    ensures told { M.told mem.new ≡ M.told mem.old }
-    ensures trail { M.trail mem.new ≡ M.trail mem.old }
-    ensures sizes { (s : ℕ) → M.sizes mem.new s ≡ M.sizes mem.old s }
+    ensures only_loads { OnlyLoads M.told M.trail M.names M.handed M.sizes mem.old mem.new }
     ensures cause { HasCause (M.faults mem.old) (M.faults mem.new) (failure result) }
 {
     into.clear();
