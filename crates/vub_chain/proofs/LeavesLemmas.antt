@@ -25,7 +25,7 @@ first_off w m st s i within (inl other) = word-put_other w m st.space st.place s
 first_off w m st s i within (inr (inl before)) = word-put_other w m st.space st.place st.bytes s.space (s.place + 16 * i) (inr (inl (omega (arith, before, within))))
 first_off w m st s i within (inr (inr after)) = word-put_other w m st.space st.place st.bytes s.space (s.place + 16 * i) (inr (inr (omega (arith, after))))
 
-same_desc : (a b c d k l n o : ℕ) → a ≡ k → b ≡ l → c ≡ n → d ≡ o → make a b c d ≡ make k l n o
+pub same_desc : (a b c d k l n o : ℕ) → a ≡ k → b ≡ l → c ≡ n → d ≡ o → make a b c d ≡ make k l n o
 same_desc a b c d k l n o e f g h = ap (λ (v : ℕ). make v b c d) e ∙ ap (λ (v : ℕ). make k v c d) f ∙ ap (λ (v : ℕ). make k l v d) g ∙ ap (make k l n) h
 
 pub linked_off : (m : Bytes) (st : Store) (s : Source) (i : ℕ) → OffDesc st s i → linked_desc (after_store st m) s i ≡ linked_desc m s i

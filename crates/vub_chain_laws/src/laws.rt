@@ -2,10 +2,13 @@
 ghost use Rattle.std.specs.Prelude.{◌≡◌, ◌≤◌, ℕ, List, [], ◌∷◌, length, true};
 ghost use Rattle.vub_base.specs.declared.request.Ask.{Ask};
 ghost use Rattle.vub_shared.specs.Bytes.{Bytes};
-ghost use Rattle.vub_driver.specs.Requests.{pieces};
+ghost use Rattle.vub_ring.specs.Ring.{Ring};
+ghost use Rattle.vub_driver.specs.Requests.{Piece, pieces};
+ghost use Rattle.vub_driver.specs.Stores.{chain_stores};
 ghost use Rattle.vub_chain.specs.declared.walk.Desc.{Desc};
 ghost use Rattle.vub_chain.specs.Descs.{Source, linked_desc, listed_from};
 ghost use Rattle.vub_chain.specs.Chains.{Limits, list_chain, split_chain};
+ghost use Rattle.vub_chain_laws.specs.Made.{ChainFits, after_all, table_of};
 ghost use Rattle.vub_chain_laws.specs.Pieces.{AreMapped, Gives, LinkedAs, ListedAs, NamesTable, numbers_from};
 
 /// A request that stands in the ring itself, as descriptors that are linked from its head on, or as
@@ -30,4 +33,10 @@ pub fn indirect_chains_give_the_request()
         → x.indirect ≡ true → NamesTable x.table d (length (pieces buffer ask)) s
         → ListedAs (listed_from m s (length (pieces buffer ask)) 0) (pieces buffer ask) → length (pieces buffer ask) ≤ x.size → AreMapped x.table (pieces buffer ask)
         → Gives x (list_chain x m (d ∷ [])) (pieces buffer ask) }
+{}
+
+/// The driver's stores of a request's descriptors, each into a descriptor of its own, link its
+/// pieces as `direct_chains_give_the_request` wants them.
+pub fn the_drivers_stores_link_its_pieces()
+    ensures { (r : Ring) (m : Bytes) (ds : List ℕ) (ps : List Piece) → r.size ≤ 65536 → ChainFits r.size ds ps → LinkedAs (after_all (chain_stores r ps ds) m) (table_of r) ds ps }
 {}
