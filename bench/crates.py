@@ -4,9 +4,11 @@ lines of code, of definitions and of proofs, must-fail edits.
 
 With --check it also clones HEAD into a temporary folder, checks each crate there from nothing,
 one after another, and prints the seconds of each check: those that passed, and those that the
-processors worked (half an hour on a quiet machine).
+processors worked (half an hour on a quiet machine). What the kit keeps of earlier runs on this
+machine is hidden from these checks, which needs root.
 """
 
+import os
 import re
 import resource
 import subprocess
@@ -80,10 +82,21 @@ def table(clone):
         print(row, flush=True)
 
 
+def hide_kept():
+    """Hides what the kit keeps of earlier runs on this machine from this process and its children."""
+    if "--hidden" not in sys.argv[1:]:
+        os.execvp("unshare", ["unshare", "--mount", sys.executable, *sys.argv, "--hidden"])
+    page = subprocess.run(["rt", "doc"], capture_output=True, text=True, check=True).stdout.strip()
+    kept = Path(page).parent.parent / "rattle-kept"
+    if kept.is_dir():
+        subprocess.run(["mount", "-t", "tmpfs", "none", str(kept)], check=True)
+
+
 def main():
     if "--check" not in sys.argv[1:]:
         table(None)
         return
+    hide_kept()
     with tempfile.TemporaryDirectory() as folder:
         clone = Path(folder) / "vublk"
         subprocess.run(["git", "clone", "-q", str(ROOT), str(clone)], check=True)
