@@ -118,6 +118,6 @@ reads_broken unread.Failed fault y is h = absurd (cc is)
 reads_broken (unread.Broken f) fault y is h = h
 
 -- a read that isn't broken by memory has its cause
-pub cause_at_err : (T U : Type 0) (e : Unread) (before after : ℕ) → before ≤ after → read_outcome {T = T} (Err e) ≡ Ok tt → HasCause before after (read_outcome {T = U} (Err e))
-cause_at_err T U unread.Failed before after later is = absurd (cc is)
-cause_at_err T U (unread.Broken fault) before after later is = record { later = later; failed = tt }
+pub cause_at_err : (T U : Type 0) (e : Unread) (before after : ℕ) → after ≡ before → read_outcome {T = T} (Err e) ≡ Ok tt → HasCause before after (read_outcome {T = U} (Err e))
+cause_at_err T U unread.Failed before after same is = absurd (cc is)
+cause_at_err T U (unread.Broken fault) before after same is = record { later = omega (arith, same); failed = tt; quiet = same }

@@ -11,7 +11,9 @@ pub trait Disk {
     /// The value of each sector now, where it is told.
     ghost values: { Self → Option Values };
 
-    /// The values that a power stop keeps, where they are told.
+    /// The values that the last flush made stable, where they are told. A disk may make a value
+    /// stable by itself at any time: a power stop keeps of each sector this value or one that was
+    /// written to it since.
     ghost stable: { Self → Option Values };
 
     /// The number of sectors.
@@ -33,10 +35,12 @@ pub trait Disk {
         ensures capacity { capacity self.new ≡ capacity self.old }
         ensures cause { HasCause (faults self.old) (faults self.new) result };
 
-    /// Makes `from` the value of the sector. A write that fails has done so or not.
+    /// Makes `from` the value of the sector. A write that fails has done so or not. It takes a flush
+    /// to make it stable.
     fn write(&mut self, sector: u64, from: &[u8; SECTOR_SIZE]) -> Result<(), Failed>
         requires { sector < capacity self.old }
         ensures writes { Writes (values self.old) (values self.new) result sector from.now }
+        ensures stable { stable self.new ≡ stable self.old }
         ensures capacity { capacity self.new ≡ capacity self.old }
         ensures cause { HasCause (faults self.old) (faults self.new) result };
 

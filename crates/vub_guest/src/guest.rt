@@ -171,8 +171,9 @@ impl Guest {
     ghost use Rattle.vub_guest.specs.Guest.{GuestLies};
     ghost use Rattle.vub_guest.specs.GuestState.{ring_in, driver_in, pending_store, seen_in, is_busy, owner_at, FindsFree, Chooses, StoresNext, TrailsNext, Steps, outcome, next_store, Shows, ShowsNext, Collects, fetched};
 
-    /// The driver of a queue whose area lies in this space.
+    /// The driver of one of the header's queues, whose area lies in this space.
     pub fn new(alloc: Global, header: &Header1, queue: u16, memory: Space) -> Result<Guest, Memory>
+        requires exists { queue < header.now.queues }
         requires some { 1 ≤ header.now.size }
         requires few { header.now.size ≤ 64 }
         ensures ring { IfOk result (λ g. ring_in g ≡ record (ring_of queue header.now.size) { space = memory.number }) }
@@ -421,6 +422,8 @@ impl Guest {
         ensures only_loads { OnlyLoads M.told M.trail M.names M.handed M.sizes mem.old mem.new }
         ensures cause { HasCause (M.faults mem.old) (M.faults mem.new) result }
     {
+        // used.idx is loaded before the element that it announces (VIRTIO 1.2, 2.7.8.2 and 2.7.14):
+        // in the other order the element could be an old one.
         if load_u16(mem, self.memory, self.area + USED + USED_IDX)? == self.seen {
             return Ok(None);
         }

@@ -7,7 +7,6 @@ use Rattle.std.proofs.lemmas.Option.{slice_get-get_or, slice_get-map}
 use Rattle.std.specs.Prelude.{remove, ◌==◌, ◌&&◌, ◌||◌, not, if◌then◌else◌, nat_le, nat_lt, set, slice_get, option_map, Option, Some, None, Result, Ok, Err}
 use Rattle.byteorder.specs.Endian.{little_bytes}
 use Rattle.vub_base.specs.declared.store.Tag.TheVariants.{SP1, SP2, SP5}
-use Rattle.vub_base.specs.Causes.{Rose, HasCause}
 use Rattle.vub_base.specs.Told.{WhereTold}
 use Rattle.vub_shared.specs.Bytes.{Bytes}
 use Rattle.vub_shared.specs.Stores.{Store, Stores, Trails}
@@ -452,12 +451,3 @@ stepped_map P Q says.Published f h = f h
 stepped_map P Q says.Started f h = f h
 stepped_map P Q says.SharedFault f h = h
 stepped_map P Q (says.Broken fault) f h = f h
-
--- ---- causes
-
-rose_later : (before mid now : ℕ) → before ≤ mid → Rose mid now → Rose before now
-rose_later before mid now later rose = omega (arith, later, rose)
-
-pub cause_later : (before mid now : ℕ) (r : Result (Unit {0}) (Unit {0})) → before ≤ mid → HasCause mid now r → HasCause before now r
-cause_later before mid now (Ok x) later h = record { later = omega (arith, later, h.later); failed = h.failed }
-cause_later before mid now (Err e) later h = record { later = omega (arith, later, h.later); failed = rose_later before mid now later h.failed }

@@ -270,6 +270,8 @@ impl Queue {
         ensures only_loads { OnlyLoads M.told M.trail M.names M.handed M.sizes mem.old mem.new }
         ensures cause { HasCause (M.faults mem.old) (M.faults mem.new) (found_outcome result) }
     {
+        // avail.idx is loaded before the entry that it announces (VIRTIO 1.2, 2.7.13.3.1): in the other
+        // order the entry could be an old one.
         let Ok(waiting) = self.waiting(mem) else {
             return Err(Stop::Shared);
         };

@@ -5,4 +5,4 @@ mod room;
 mod spare;
 
 pub use room::Room;
-pub use spare::Spare;
+pub use spare::{MOST_LISTS, Spare};

@@ -1,7 +1,7 @@
 //! Memory that is reserved for the items of an event before it changes anything.
 ghost use Rattle.std.specs.Prelude.{◌≡◌, ◌<◌, ◌≤◌, ◌+◌, ◌-◌, ◌*◌, ◌++◌, ◌∷◌, [], All, IfOk, OnOk, length, min, replicate, flat_map, vec_len, vec_capacity};
 
-use crate::spare::Spare;
+use crate::spare::{MOST_LISTS, Spare};
 use std::alloc::Global;
 use std::marker::Model;
 use vub_base::standard::SECTOR_SIZE;
@@ -16,7 +16,7 @@ pub struct Room {
     alloc: Global,
     items: Vec<Item>,
     item_room: usize,
-    // Each empty, with room for eight sectors; there may be more than may be used.
+    // At most `MOST_LISTS`, each empty, with room for eight sectors; there may be more than may be used.
     lists: Vec<Vec<u8>>,
     list_room: usize,
     // Each empty, with room for so many answers.
@@ -32,7 +32,7 @@ impl Model for Room {
 
     ghost view = { λ r. record { items = r.items.items; item_room = r.item_room; lists = r.list_room; answer_lists = length r.answer_lists.items; answers = r.answers } };
 
-    ghost invariant = { λ r. (vec_len r.items + r.item_room ≤ vec_capacity r.items) × (r.list_room ≤ length r.lists.items) × All (λ l. (l.items ≡ []) × (4096 ≤ vec_capacity l)) r.lists.items × All (λ l. (l.items ≡ []) × (r.answers ≤ vec_capacity l)) r.answer_lists.items };
+    ghost invariant = { λ r. (vec_len r.items + r.item_room ≤ vec_capacity r.items) × (r.list_room ≤ length r.lists.items) × (length r.lists.items ≤ 1411) × All (λ l. (l.items ≡ []) × (4096 ≤ vec_capacity l)) r.lists.items × All (λ l. (l.items ≡ []) × (r.answers ≤ vec_capacity l)) r.answer_lists.items };
 }
 
 /// So many lists of answers, each with room for so many.
@@ -64,7 +64,8 @@ fn add_answer_list(
 impl Room {
     ghost use Rattle.vub_room.specs.Rooms.{HasRoom};
 
-    /// Room for so many items, lists of bytes, and lists of so many answers. It takes what is spare.
+    /// Room for so many items, lists of bytes, at most `MOST_LISTS` of them, and lists of so many
+    /// answers. It takes what is spare.
     pub fn new(
         alloc: Global,
         spare: &mut Spare,
@@ -73,6 +74,7 @@ impl Room {
         answer_lists: usize,
         answers: usize,
     ) -> Result<Room, Memory>
+        requires { lists ≤ MOST_LISTS }
         ensures { IfOk result (λ r. r ≡ record { items = []; item_room = items; lists = lists; answer_lists = answer_lists; answers = answers }) }
     {
         Ok(Room {

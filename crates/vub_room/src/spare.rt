@@ -11,23 +11,27 @@ use vub_report::{Item, Items};
 /// The bytes that a list has room for: eight sectors.
 const LIST: usize = 4096;
 
+/// The most lists that are spare: as many as the turns of one event can need (`Room::for_turns`),
+/// with 64 requests that aren't published.
+pub const MOST_LISTS: usize = 1411;
+
 /// Vectors that no record holds. Contracts see nothing of it.
 #[derive(Drop)]
 pub struct Spare {
-    // Each empty, with room for eight sectors.
+    // At most `MOST_LISTS`, each empty, with room for eight sectors.
     lists: Vec<Vec<u8>>,
     // Empty.
     items: Vec<Item>,
 }
 
 impl Model for Spare {
-    ghost use Rattle.std.specs.Prelude.{◌≡◌, ◌≤◌, [], All, vec_capacity, ⊤};
+    ghost use Rattle.std.specs.Prelude.{◌≡◌, ◌≤◌, [], All, length, vec_capacity, ⊤};
 
     ghost Value = { ⊤ };
 
     ghost view = { λ _. tt };
 
-    ghost invariant = { λ s. All (λ l. (l.items ≡ []) × (4096 ≤ vec_capacity l)) s.lists.items × (s.items.items ≡ []) };
+    ghost invariant = { λ s. All (λ l. (l.items ≡ []) × (4096 ≤ vec_capacity l)) s.lists.items × (length s.lists.items ≤ 1411) × (s.items.items ≡ []) };
 }
 
 fn add_list(alloc: Global, lists: &mut Vec<Vec<u8>>) -> Result<(), Memory>
@@ -61,9 +65,18 @@ impl Spare {
         Vec::with_capacity(alloc, count).map_err(|_| Memory)
     }
 
+    /// How many lists are spare.
+    pub fn lists(&self) -> usize
+        ensures { result ≤ MOST_LISTS }
+    {
+        self.lists.len()
+    }
+
     /// At least so many lists of bytes, each empty, with room for eight sectors.
     pub fn take_lists(&mut self, alloc: Global, count: usize) -> Result<Vec<Vec<u8>>, Memory>
+        requires { count ≤ MOST_LISTS }
         ensures count { IfOk result (λ v. count ≤ length v.items) }
+        ensures few { IfOk result (λ v. length v.items ≤ MOST_LISTS) }
         ensures room { IfOk result (λ v. All (λ l. (l.items ≡ []) × (4096 ≤ vec_capacity l)) v.items) }
     {
         let mut lists = mem::replace(&mut self.lists, Vec::new(alloc));
@@ -75,7 +88,8 @@ impl Spare {
 
     /// Gives back lists that weren't used.
     pub fn give_lists(&mut self, lists: Vec<Vec<u8>>)
-        requires { All (λ l. (l.items ≡ []) × (4096 ≤ vec_capacity l)) lists.items }
+        requires room { All (λ l. (l.items ≡ []) × (4096 ≤ vec_capacity l)) lists.items }
+        requires few { length lists.items ≤ MOST_LISTS }
     {
         self.lists = lists;
     }
@@ -109,12 +123,15 @@ impl Spare {
         }
     }
 
-    /// Keeps a list that has room for eight sectors, if there is memory to keep it in.
+    /// Keeps a list that has room for eight sectors. It is let go where `MOST_LISTS` are kept already,
+    /// or there is no memory to keep it in.
     fn keep_list(&mut self, list: Vec<u8>) {
-        let mut list = list;
-        if list.capacity() >= LIST {
-            list.clear();
-            let _ = self.lists.push(list);
+        let is_full = self.lists.len() >= MOST_LISTS;
+        if list.capacity() < LIST || is_full || self.lists.reserve(1).is_err() {
+            return;
         }
+        let mut list = list;
+        list.clear();
+        self.lists.push_reserved(list);
     }
 }

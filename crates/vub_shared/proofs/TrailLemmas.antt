@@ -14,12 +14,10 @@ pub total-append : (xs : List Store) (st : Store) → total_of (xs ++ st ∷ [])
 total-append [] st = grind arith
 total-append (x ∷ xs) st = omega (arith, total-append xs st)
 
--- one store more, none of them longer than a limit
-pub short-push : (xs : List Store) (st : Store) (limit : ℕ) → total_of xs ≤ length xs * limit → length st.bytes ≤ limit → total_of (xs ++ st ∷ []) ≤ length (xs ++ st ∷ []) * limit
-short-push xs st limit short small =
-    let more : (length xs + 1) * limit ≡ length xs * limit + limit = omega arith in
-    let len : length (xs ++ st ∷ []) ≡ length xs + 1 = length-append xs (st ∷ []) in
-    subst (λ (n : ℕ). total_of (xs ++ st ∷ []) ≤ n * limit) (sym len) (omega (arith, more, total-append xs st))
+-- a first store takes half of the room at most
+pub short-push : (xs : List Store) (st : Store) (room : ℕ) → 2 * length st.bytes ≤ room → length (xs ++ st ∷ []) < 2 → 2 * total_of (xs ++ st ∷ []) ≤ room
+short-push [] st room small few = omega (arith, total-append [] st)
+short-push (x ∷ xs) st room small few = absurd (omega (arith, length-append (x ∷ xs) (st ∷ [])))
 
 -- a range stays as it is where bytes are added past it
 range-append : (bytes bs : List ℕ) (a b : ℕ) → a ≤ b → b ≤ length bytes → slice_range (bytes ++ bs) a b ≡ slice_range bytes a b

@@ -1,5 +1,5 @@
 -- The spaces that were handed out, and the names that mean them.
-use Rattle.std.specs.Prelude.{◌≡◌, ◌≢◌, ◌≤◌, ℕ, Bool, true, false, if◌then◌else◌, List, Option, Some, None, Result, IfErr}
+use Rattle.std.specs.Prelude.{◌≡◌, ◌≢◌, ◌≤◌, ℕ, Bool, true, false, if◌then◌else◌, List, Option, Some, None, Result, OnOk, IfErr}
 use Rattle.std.specs.Str.{bytes_eq}
 use Rattle.vub_base.specs.Causes.{Rose}
 use Rattle.vub_shared.specs.declared.fault.SharedFault.{SharedFault}
@@ -31,8 +31,10 @@ pub record HandsNew (before : ℕ → Bool) (old_sizes : ℕ → ℕ) (now : ℕ
   pub sizes : (s : ℕ) → s ≢ space → new_sizes s ≡ old_sizes s
 
 -- The count of faults didn't fall. A call failed only where it rose, and found nothing of a name
--- only where the told names lack it.
+-- only where the told names lack it. Every answer but a failure leaves the count.
 pub record HasReason {T : Type 0} (before now : ℕ) (names : Option Names) (name : List ℕ) (result : Result T SharedFault) : Type 0 where
   pub later : before ≤ now
   pub failed : IfErr result (λ e. e ≡ Failed → Rose before now)
+  pub quiet : OnOk result (now ≡ before)
+  pub others_quiet : IfErr result (λ e. e ≢ Failed → now ≡ before)
   pub lacking : IfErr result (λ e. e ≡ NoSuch → Lacks names name)

@@ -1,9 +1,13 @@
 -- What a `WatchedShared` holds.
-use Rattle.std.specs.Prelude.{◌≡◌, ℕ, Bool, if◌then◌else◌, nat_lt, List, length}
+use Rattle.std.specs.Prelude.{◌≡◌, ◌≤◌, ◌+◌, ◌-◌, ◌*◌, ◌^◌, ◌↔◌, ℕ, Bool, false, List, Result, IsErrOf}
+use Rattle.std.proofs.Common.{min}
 use Rattle.vub_shared.specs.Bytes.{Bytes}
 use Rattle.vub_shared.specs.Spaces.{Names}
 use Rattle.vub_shared.specs.Stores.{Store}
-use Rattle.vub_shared.specs.MemSpaces.{bytes_of, sizes_of, handed_of, names_of, count_of}
+use Rattle.vub_shared.specs.MemSpaces.{bytes_of, sizes_of, handed_of, names_of, count_of, faults_of}
+use Rattle.vub_base.specs.declared.store.Space.{Space}
+use Rattle.vub_shared.specs.declared.fault.SharedFault.{SharedFault}
+use Rattle.vub_shared.specs.declared.fault.SharedFault.TheVariants.{Failed}
 use Rattle.vub_shared.specs.declared.mem_shared.MemShared.{MemShared}
 use Rattle.vub_shared.specs.declared.watched_shared.WatchedShared.{WatchedShared}
 
@@ -28,17 +32,26 @@ names_in w = names_of w.memory
 abbrev pub count_in : WatchedShared → ℕ
 count_in w = count_of w.memory
 
--- the most bytes of a space
-abbrev pub limit_in : WatchedShared → ℕ
-limit_in w = w.limit
-
 -- the stores since the last restart
 abbrev pub stores_in : WatchedShared → List Store
 stores_in w = w.trail.stores
 
--- how often a store had no room; none is refused while fewer than two are kept
+-- how often a call has failed: creates past the last space, and stores without room; cut at the end of its type
 abbrev pub faults_in : WatchedShared → ℕ
-faults_in w = if nat_lt (length (stores_in w)) 2 then 0 else w.refused
+faults_in w = min (faults_of w.memory + w.refused) (2 ^ 64 - 1)
+
+-- no call of it has failed, and a number is left for a further space
+pub record IsUnfailed (w : WatchedShared) : Type 0 where
+  pub faults : faults_in w ≡ 0
+  pub left : handed_in w 65535 ≡ false
+
+-- two stores of so many bytes have room
+abbrev pub HasRoomFor : WatchedShared → ℕ → Type 0
+HasRoomFor w size = 2 * size ≤ w.trail.bytes_room
+
+-- a create fails exactly where all spaces are handed out
+abbrev pub FailsFull : WatchedShared → Result Space SharedFault → Type 0
+FailsFull before result = IsErrOf result Failed ↔ (count_in before ≡ 65536)
 
 -- the spaces and their names are as they were
 pub record SamePlaces (before now : WatchedShared) : Type 0 where

@@ -52,6 +52,13 @@ impl MemShared {
         }
     }
 
+    /// Whether all 65,536 spaces are handed out.
+    pub fn is_full(&self) -> bool
+        ensures { IsTrue result ↔ (count_of self.now ≡ 65536) }
+    {
+        self.spaces.len() == 65536
+    }
+
     // Counts a load or store, and tells whether it is to fail.
     fn is_failing(&mut self) -> bool
         ensures fails { IsTrue result ↔ Contains (fails_of self.old) (call_of self.old) }

@@ -128,53 +128,44 @@ fn stores_past_the_room_fail(rt: HostRuntime) -> Result<(), Fail> {
     Ok(())
 }
 
-fn put_watched(memory: &mut WatchedShared, space: Space, place: u64, bytes: &[u8]) -> bool {
-    let size = memory.size(space);
-    place <= size
-        && bytes.len() as u64 <= size - place
-        && memory.store_run(space, place, bytes).is_ok()
-}
-
 #[test]
-fn two_stores_have_room(rt: HostRuntime) -> Result<(), Fail> {
+fn a_third_store_is_refused(rt: HostRuntime) -> Result<(), Fail> {
     let alloc = rt.alloc();
-    let mut memory = WatchedShared::new(alloc, 4).map_err(|_| "room")?;
-    assert_eq!(rt; memory.create("large", 5), Err(SharedFault::Memory));
+    let mut memory = WatchedShared::new(alloc).map_err(|_| "room")?;
+    assert_eq!(rt; memory.create("large", u64::MAX), Err(SharedFault::Memory));
     let space = memory.create("m", 4).map_err(|_| "created")?;
     assert!(rt; memory.last_store().is_none());
-    assert!(rt; put_watched(&mut memory, space, 0, b"four"));
-    assert!(rt; put_watched(&mut memory, space, 1, b"wxy"));
-    assert!(rt; !put_watched(&mut memory, space, 0, b"z"));
+    if memory.size(space) == 4 {
+        assert!(rt; memory.store_run(space, 0, b"four").is_ok());
+        assert!(rt; memory.store_run(space, 1, b"wxy").is_ok());
+        assert!(rt; memory.store_run(space, 0, b"z").is_err());
+        assert_eq!(rt; memory.bytes(space, 0, 4), b"fwxy".as_slice());
+        assert_eq!(rt; memory.byte(space, 2), b'x');
+        assert_eq!(rt; memory.word16(space, 2), 0x7978);
+    }
     let (of, place, bytes) = memory.last_store().ok_or("kept")?;
     assert_eq!(rt; (of, place), (space, 1));
     assert_eq!(rt; bytes, b"wxy".as_slice());
-    memory.restart();
-    assert!(rt; memory.last_store().is_none());
-    assert!(rt; put_watched(&mut memory, space, 3, b"z"));
-    if memory.size(space) == 4 {
-        assert_eq!(rt; memory.bytes(space, 0, 4), b"fwxz".as_slice());
-        assert_eq!(rt; memory.byte(space, 2), b'x');
-        assert_eq!(rt; memory.word16(space, 2), 0x7a78);
-    }
     Ok(())
 }
 
 #[test]
 fn watched_words_are_kept(rt: HostRuntime) -> Result<(), Fail> {
     let alloc = rt.alloc();
-    let mut memory = WatchedShared::new(alloc, 16).map_err(|_| "room")?;
+    let mut memory = WatchedShared::new(alloc).map_err(|_| "room")?;
     let space = memory.create("m", 16).map_err(|_| "created")?;
-    assert_eq!(rt; memory.find("m"), Ok(space));
-    assert_eq!(rt; memory.find("r"), Err(SharedFault::NoSuch));
     if memory.size(space) == 16 {
-        assert!(rt; memory.store1(space, 1, 0x11).is_ok());
-        assert!(rt; memory.store2(space, 2, 0x2122).is_ok());
+        memory.store1(space, 1, 0x11).map_err(|_| "stored")?;
+        memory.store2(space, 2, 0x2122).map_err(|_| "stored")?;
         memory.restart();
+        assert!(rt; memory.last_store().is_none());
         assert!(rt; memory.store4(space, 4, 0x3132_3334).is_ok());
         assert!(rt; memory.store8(space, 8, 0x4142_4344_4546_4748).is_ok());
         let mut loaded = [0u8; 7];
         assert!(rt; memory.load(space, 1, &mut loaded).is_ok());
         assert_eq!(rt; loaded, [0x11, 0x22, 0x21, 0x34, 0x33, 0x32, 0x31]);
     }
+    assert_eq!(rt; memory.find("m"), Ok(space));
+    assert_eq!(rt; memory.find("r"), Err(SharedFault::NoSuch));
     Ok(())
 }

@@ -57,6 +57,21 @@ impl Trail {
         Ok(())
     }
 
+    // Reserves room for so many bytes, if there was less. Refused, it changes nothing.
+    pub fn reserve(&mut self, bytes: usize) -> Result<(), Memory>
+        ensures frame { self.new ≡ record self.old { bytes_room = self.new.bytes_room } }
+        ensures grows { self.old.bytes_room ≤ self.new.bytes_room }
+        ensures done { OnOk result (bytes ≤ self.new.bytes_room) }
+        ensures refused { OnErr result (self.new ≡ self.old) }
+    {
+        if bytes > self.bytes_room {
+            let more = bytes - self.bytes.len();
+            self.bytes.reserve(more).map_err(|_| Memory)?;
+            self.bytes_room = bytes;
+        }
+        Ok(())
+    }
+
     // Empties the list.
     pub fn clear(&mut self)
         ensures { self.new ≡ record self.old { stores = [] } }

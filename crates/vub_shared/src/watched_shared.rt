@@ -1,6 +1,6 @@
-ghost use Rattle.std.specs.Prelude.{◌≡◌, ◌≤◌, ◌*◌, ◌^◌, ℕ, [], length};
+ghost use Rattle.std.specs.Prelude.{◌≡◌, ◌<◌, ◌≤◌, ◌*◌, ℕ, [], length};
 ghost use Rattle.vub_shared.specs.Trails.{total_of};
-ghost use Rattle.vub_shared.specs.MemSpaces.{sizes_of, fails_of};
+ghost use Rattle.vub_shared.specs.MemSpaces.{sizes_of, fails_of, count_of, faults_of};
 
 use crate::trail::Trail;
 use crate::{MemShared, Shared, SharedFault};
@@ -9,51 +9,50 @@ use std::alloc::Global;
 use vub_base::{Failed, Memory, Space};
 
 /// Shared memory that this process holds itself, and that keeps the stores since the last restart.
-/// It has room for two stores of any size: while it keeps fewer, no load and no store fails.
+/// It has room for two stores of any size: while it keeps fewer, no load and no store fails. A third
+/// one is refused, and ends the restarts.
 #[derive(Drop)]
 pub struct WatchedShared {
     memory: MemShared,
     trail: Trail,
-    limit: u64,
     refused: u64,
-    ghost small: { limit ≤ 2 ^ 40 },
     ghost never: { fails_of memory ≡ [] },
-    ghost within: { (s : ℕ) → sizes_of memory s ≤ limit },
+    ghost within: { (s : ℕ) → 2 * sizes_of memory s ≤ trail.bytes_room },
     ghost stores_room: { trail.stores_room ≡ 2 },
-    ghost bytes_room: { trail.bytes_room ≡ 2 * limit },
-    ghost short: { total_of trail.stores ≤ length trail.stores * limit },
+    ghost short: { length trail.stores < 2 → 2 * total_of trail.stores ≤ trail.bytes_room },
+    ghost unrefused: { length trail.stores < 2 → refused ≡ 0 },
+    ghost unfailed: { count_of memory < 65536 → faults_of memory ≡ 0 },
 }
 
 impl WatchedShared {
-    ghost use Rattle.std.specs.Prelude.{◌≡◌, ◌<◌, ◌≤◌, ◌+◌, ◌^◌, ℕ, List, [], ◌∷◌, ◌++◌, false, Some, length, IfOk, IsSomeAnd, IsNone};
+    ghost use Rattle.std.specs.Prelude.{◌≡◌, ◌<◌, ◌≤◌, ◌+◌, ℕ, List, [], ◌∷◌, ◌++◌, false, Some, length, IfOk, IsOk, OnOk, IsSomeAnd, IsNone};
     ghost use Rattle.vub_base.specs.Causes.{HasCause};
     ghost use Rattle.vub_shared.specs.Bytes.{bytes_from, word};
     ghost use Rattle.vub_shared.specs.Stores.{Store, Stores, Trails, one_store};
-    ghost use Rattle.vub_shared.specs.Watched.{memory_in, bytes_in, sizes_in, handed_in, count_in, limit_in, stores_in, faults_in, SamePlaces};
+    ghost use Rattle.vub_shared.specs.Watched.{memory_in, bytes_in, sizes_in, handed_in, count_in, stores_in, faults_in, HasRoomFor, SamePlaces};
 
-    /// A memory without spaces that keeps no store. A space of it has at most `limit` bytes.
-    pub fn new(alloc: Global, limit: u64) -> Result<WatchedShared, Memory>
-        requires { limit ≤ 2 ^ 40 }
+    /// A memory without spaces that keeps no store.
+    pub fn new(alloc: Global) -> Result<WatchedShared, Memory>
         ensures zero { IfOk result (λ w. (s p : ℕ) → bytes_in w s p ≡ 0) }
         ensures unhanded { IfOk result (λ w. (s : ℕ) → handed_in w s ≡ false) }
         ensures count { IfOk result (λ w. count_in w ≡ 0) }
         ensures stores { IfOk result (λ w. stores_in w ≡ []) }
-        ensures limit { IfOk result (λ w. limit_in w ≡ limit) }
+        ensures faults { IfOk result (λ w. faults_in w ≡ 0) }
     {
-        let trail = Trail::new(alloc, 2, 2 * limit as usize)?;
+        let trail = Trail::new(alloc, 2, 0)?;
         Ok(WatchedShared {
             memory: MemShared::new(alloc, Vec::new(alloc)),
             trail,
-            limit,
             refused: 0,
         })
     }
 
-    /// Empties the list of stores. Takes no memory.
+    /// Empties the list of stores of a memory of which no call has failed. Takes no memory.
     pub fn restart(&mut self)
+        requires { faults_in self.old ≡ 0 }
         ensures memory { memory_in self.new ≡ memory_in self.old }
         ensures stores { stores_in self.new ≡ [] }
-        ensures limit { limit_in self.new ≡ limit_in self.old }
+        ensures faults { faults_in self.new ≡ faults_in self.old }
     {
         self.trail.clear();
     }
@@ -93,6 +92,21 @@ impl WatchedShared {
         LittleEndian::read_u16(self.bytes(space, place, 2))
     }
 
+    // Reserves room for two stores of so many bytes, none where all spaces are handed out.
+    fn reserve(&mut self, size: u64) -> Result<(), Memory>
+        ensures memory { memory_in self.new ≡ memory_in self.old }
+        ensures stores { stores_in self.new ≡ stores_in self.old }
+        ensures faults { faults_in self.new ≡ faults_in self.old }
+        ensures room { OnOk result (count_in self.old < 65536 → HasRoomFor self.new size) }
+        ensures full { count_in self.old ≡ 65536 → IsOk result }
+    {
+        if self.memory.is_full() {
+            return Ok(());
+        }
+        let bytes = (size as usize).checked_mul(2).ok_or(Memory)?;
+        self.trail.reserve(bytes)
+    }
+
     // One store.
     fn store(&mut self, space: Space, place: u64, bytes: &[u8]) -> Result<(), Failed>
         requires { place + length bytes.now ≤ sizes_in self.old space.number }
@@ -119,7 +133,7 @@ impl Shared for WatchedShared {
     ghost use Rattle.vub_shared.specs.Stores.{Stores, Trails, one_store};
     ghost use Rattle.vub_shared.specs.Spaces.{with_name, KeepsHanded, HandsNew, HasReason};
     ghost use Rattle.vub_shared.specs.declared.fault.SharedFault.TheVariants.{NoSuch};
-    ghost use Rattle.vub_shared.specs.Watched.{bytes_in, sizes_in, handed_in, names_in, count_in, limit_in, stores_in, faults_in, SamePlaces};
+    ghost use Rattle.vub_shared.specs.Watched.{bytes_in, sizes_in, handed_in, names_in, count_in, stores_in, faults_in, SamePlaces, FailsFull};
     ghost use Rattle.vub_shared.specs.MemLaws.{image_fits, size_fits, unhanded_empty};
 
     ghost told = { λ w. Some (bytes_in w) };
@@ -142,16 +156,12 @@ impl Shared for WatchedShared {
 
     fn find(&mut self, name: &str) -> Result<Space, SharedFault>
         ensures found { IfOk result (λ space. names_in self.old name.now ≡ Some space.number) }
-        ensures lacking { IfErr result (λ e. e ≡ NoSuch → names_in self.old name.now ≡ None) }
+        ensures lacking { IfErr result (λ e. (e ≡ NoSuch) × (names_in self.old name.now ≡ None)) }
         ensures is_handed { IfOk result (λ space. handed_in self.old space.number ≡ true) }
         ensures unchanged { self.new ≡ self.old }
         ensures reason { HasReason (faults_in self.old) (faults_in self.new) (Some (names_in self.old)) name.now result }
     {
-        match self.memory.find(name) {
-            Ok(space) => Ok(space),
-            Err(SharedFault::NoSuch) => Err(SharedFault::NoSuch),
-            Err(SharedFault::Failed | SharedFault::Memory) => Err(SharedFault::Memory),
-        }
+        self.memory.find(name)
     }
 
     fn create(&mut self, name: &str, size: u64) -> Result<Space, SharedFault>
@@ -162,18 +172,14 @@ impl Shared for WatchedShared {
         ensures keeps { OnErr result (SamePlaces self.old self.new) }
         ensures keeps_told { OnErr result (bytes_in self.new ≡ bytes_in self.old) }
         ensures stores { stores_in self.new ≡ stores_in self.old }
-        ensures faults { faults_in self.new ≡ faults_in self.old }
-        ensures limit { OnOk result (size ≤ limit_in self.old) }
+        ensures full { FailsFull self.old result }
         ensures reason { HasReason (faults_in self.old) (faults_in self.new) (Some (names_in self.old)) name.now result }
         ensures never_lacking { IfErr result (λ e. e ≢ NoSuch) }
     {
-        if size > self.limit {
+        if self.reserve(size).is_err() {
             return Err(SharedFault::Memory);
         }
-        match self.memory.create(name, size) {
-            Ok(space) => Ok(space),
-            Err(_) => Err(SharedFault::Memory),
-        }
+        self.memory.create(name, size)
     }
 
     fn size(&self, space: Space) -> u64 {

@@ -1,5 +1,6 @@
 pub mod MachineBatches
 pub mod MachineEvents
+pub mod MachineFaults
 pub mod MachineGuestAsks
 pub mod MachineGuestCollects
 pub mod MachineGuestFits

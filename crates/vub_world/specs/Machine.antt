@@ -20,12 +20,13 @@ use Rattle.vub_world.specs.declared.machine.Machine.{Machine}
 abbrev pub sizes_in : Machine → ℕ → ℕ
 sizes_in m = watched.sizes_in m.memory
 
--- driver and ring are those of the first queue, whose area is guest memory, an attached queue is on that ring, and the
--- disk has the header's capacity
+-- driver and ring are those of the first queue, whose area is guest memory, no call of memory has failed, an attached
+-- queue is on that ring, and the disk has the header's capacity
 pub record IsSound (m : Machine) : Type 0 where
   pub header : IsHeader m.header
   pub space : m.space.number ≡ 0
   pub room : sizes_in m 0 ≡ 1048576
+  pub unfailed : watched.IsUnfailed m.memory
   pub guest : ring_in m.guest ≡ ring_of 0 m.header.size
   pub ring : IsMainRing m.ring m.header.size
   pub queue : RingOfLife (λ q. q ≡ m.ring) m.life

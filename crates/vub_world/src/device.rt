@@ -2,7 +2,7 @@
 ghost use Rattle.std.specs.Prelude.{◌≡◌, ◌≤◌, ℕ, []};
 ghost use Rattle.vub_base.specs.declared.header.Header1.{Header1};
 ghost use Rattle.vub_memdisk.specs.MemDisks.{capacity_of};
-ghost use Rattle.vub_shared.specs.Watched.{stores_in, sizes_in};
+ghost use Rattle.vub_shared.specs.Watched.{stores_in, sizes_in, IsUnfailed};
 ghost use Rattle.vub_world.specs.declared.log.Log.{Log};
 ghost use Rattle.vub_split.specs.declared.split.SplitRing.{SplitRing};
 ghost use Rattle.vub_world.specs.MachineAt.{IsReached, LogAt};
@@ -39,7 +39,7 @@ impl Sequence {
     }
 }
 
-/// A turn of a queue. Where memory keeps no store yet, nothing fails in it.
+/// A turn of a queue. Where memory keeps no store yet and hasn't failed, nothing fails in it.
 pub fn turn_queue(
     queue: &mut Queue,
     choice: Choice,
@@ -48,8 +48,10 @@ pub fn turn_queue(
 ) -> Stepped
     requires lies { RingLies (sizes_in memory.old) (ring_in queue.old) }
     requires fresh { stores_in memory.old ≡ [] }
+    requires unfailed { IsUnfailed memory.old }
     ensures ring { ring_in queue.new ≡ ring_in queue.old }
     ensures sizes { (s : ℕ) → sizes_in memory.new s ≡ sizes_in memory.old s }
+    ensures unfailed { IsUnfailed memory.new }
     ensures capacity { capacity_of disk.new ≡ capacity_of disk.old }
     ensures turns { (h : Header1) (r : SplitRing) (m : Moment) (log : Log) → IsReached h m → capacity_of disk.old ≡ h.capacity → IsMainRing r h.size → 1048576 ≤ sizes_in memory.old 0
         → DeviceAt h r m (device queue.old memory.old disk.old) → LogAt h.size m.scene.past (m.scene.heads 0) log

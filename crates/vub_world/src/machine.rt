@@ -1,6 +1,6 @@
 //! The parts of a world, and what each event does with them.
 ghost use Rattle.std.specs.Prelude.{◌≡◌, ◌<◌, ◌≤◌, ◌+◌, ◌-◌, ◌*◌, ◌++◌, ◌∷◌, [], ℕ, min, not, List, IfOk, OnOk, OnErr, length, true, false, Some, None};
-ghost use Rattle.vub_shared.specs.Watched.{bytes_in, stores_in, sizes_in};
+ghost use Rattle.vub_shared.specs.Watched.{bytes_in, stores_in, sizes_in, IsUnfailed};
 ghost use Rattle.vub_driver.specs.Layout.{ring_of as main_ring};
 ghost use Rattle.vub_schedule.specs.Spelling.{IsHeader, IsEvent};
 ghost use Rattle.vub_room.specs.Rooms.{SpendsLists};
@@ -21,7 +21,7 @@ use vub_queue::{Choice, Queue, QueueSetup, Stepped, Turn};
 use vub_report::{Item, Items, Record};
 use vub_room::{Room, Spare};
 use vub_schedule::Event;
-use vub_shared::{Shared, WatchedShared};
+use vub_shared::{Shared, SharedFault, WatchedShared};
 use vub_split::SplitRing;
 use vub_split::layout::{AVAIL_ENTRY_SIZE, AVAIL_IDX, AVAIL_RING};
 
@@ -76,11 +76,13 @@ fn guest_memory(alloc: Global) -> Result<(WatchedShared, Space), Memory>
     ensures space { IfOk result (λ m. m.1.number ≡ 0) }
     ensures size { IfOk result (λ m. sizes_in m.0 0 ≡ AREA) }
     ensures zero { IfOk result (λ m. (s p : ℕ) → bytes_in m.0 s p ≡ 0) }
+    ensures unfailed { IfOk result (λ m. IsUnfailed m.0) }
 {
-    let mut memory = WatchedShared::new(alloc, AREA)?;
+    let mut memory = WatchedShared::new(alloc)?;
     match memory.create("mem", AREA) {
         Ok(space) => Ok((memory, space)),
-        Err(_) => Err(Memory),
+        Err(SharedFault::Memory) => Err(Memory),
+        Err(SharedFault::Failed | SharedFault::NoSuch) => unreachable!(),
     }
 }
 

@@ -1,5 +1,5 @@
 //! A request of the driver as bytes (VIRTIO 1.2, 5.2.6 and 2.7.5).
-ghost use Rattle.std.specs.Prelude.{◌≡◌, ◌<◌, ◌≤◌, ◌+◌, ◌^◌, List, length, nat_lt, replicate, flat_map};
+ghost use Rattle.std.specs.Prelude.{◌≡◌, ◌<◌, ◌≤◌, ◌+◌, ◌++◌, ◌^◌, List, length, nat_lt, replicate, flat_map};
 ghost use Rattle.vub_driver.specs.Requests.{request_type, first_sector, header_bytes, part_bytes, written_bytes, data_place};
 ghost use Rattle.vub_guest.specs.GuestRequest.{is_read, data_len, table_entry};
 
@@ -41,7 +41,7 @@ fn first_sector(ask: &Ask) -> u64
 {
     match ask {
         Ask::Read { sector, .. } | Ask::Write { sector, .. } => *sector,
-        _ => 0,
+        Ask::Flush | Ask::Id | Ask::Discard(_) | Ask::Zero(_) => 0,
     }
 }
 
@@ -83,7 +83,17 @@ pub fn has_written(ask: &Ask) -> bool
     match ask {
         Ask::Write { fills, .. } => !fills.is_empty(),
         Ask::Discard(parts) | Ask::Zero(parts) => !parts.is_empty(),
-        _ => false,
+        Ask::Read { .. } | Ask::Flush | Ask::Id => false,
+    }
+}
+
+/// Appends bytes for which there is room.
+fn append(bytes: &mut ArrayVec<u8, MOST_WRITTEN>, more: &[u8])
+    requires { length bytes.old.items + length more.now ≤ 4096 }
+    ensures { bytes.new.items ≡ bytes.old.items ++ more.now }
+{
+    if bytes.try_extend_from_slice(more).is_err() {
+        unreachable!();
     }
 }
 
@@ -94,7 +104,7 @@ fn filled_sectors(fills: &[u8]) -> ArrayVec<u8, MOST_WRITTEN>
 {
     let mut sectors = ArrayVec::new();
     for fill in fills {
-        let _ = sectors.try_extend_from_slice(&[*fill; SECTOR_SIZE]);
+        append(&mut sectors, &[*fill; SECTOR_SIZE]);
     }
     sectors
 }
@@ -117,7 +127,7 @@ fn part_records(parts: &[Part]) -> ArrayVec<u8, MOST_WRITTEN>
 {
     let mut records = ArrayVec::new();
     for part in parts {
-        let _ = records.try_extend_from_slice(&part_record(part));
+        append(&mut records, &part_record(part));
     }
     records
 }
@@ -129,7 +139,7 @@ pub fn written(ask: &Ask) -> ArrayVec<u8, MOST_WRITTEN>
     match ask {
         Ask::Write { fills, .. } => filled_sectors(fills),
         Ask::Discard(parts) | Ask::Zero(parts) => part_records(parts),
-        _ => ArrayVec::new(),
+        Ask::Read { .. } | Ask::Flush | Ask::Id => ArrayVec::new(),
     }
 }
 
@@ -140,7 +150,7 @@ pub fn data_start(buffer: u64, ask: &Ask) -> u64
 {
     match ask {
         Ask::Discard(_) | Ask::Zero(_) => buffer + PARTS,
-        _ => buffer + SECTORS,
+        Ask::Read { .. } | Ask::Write { .. } | Ask::Flush | Ask::Id => buffer + SECTORS,
     }
 }
 

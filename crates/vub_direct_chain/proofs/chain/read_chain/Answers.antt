@@ -17,14 +17,14 @@ returns-in_err-second-clause-read g c l buffer request m told means is =
 pub returns-in_err-span_of-in-Some-clause-cause : goal.returns-in_err-span_of-in-Some-clause-cause
 returns-in_err-span_of-in-Some-clause-cause g c =
     let p = err_from_is_err_and c.from_residual-in_err-span_of-in-Some.result c.from_residual-in_err-span_of-in-Some.ensures.1 in
-    rw (p.1, p.2) (cause_at_err Span Parts c.in_err-span_of-in-Some.field-0.0 _ _ (omega (arith, c.descriptor_at.ensures.cause.later, c.tail_of.ensures.cause.later)) c.in_err-span_of-in-Some.ensures.cause)
+    rw (p.1, p.2) (cause_at_err Span Parts c.in_err-span_of-in-Some.field-0.0 _ _ (c.in_ok-second.ensures.cause.quiet ∙ c.in-Ok.ensures.cause.quiet) c.in_err-span_of-in-Some.ensures.cause)
 
 pub returns-in_err-span_of-clause-cause : goal.returns-in_err-span_of-clause-cause
 returns-in_err-span_of-clause-cause g c =
     let p = err_from_is_err_and c.from_residual-in_err-span_of.result c.from_residual-in_err-span_of.ensures.1 in
-    rw (p.1, p.2) (cause_at_err Span Parts c.in_err-span_of.field-0.0 _ _ (omega (arith, c.descriptor_at.ensures.cause.later, c.tail_of.ensures.cause.later)) c.in_err-span_of.ensures.cause)
+    rw (p.1, p.2) (cause_at_err Span Parts c.in_err-span_of.field-0.0 _ _ (c.in_ok-second.ensures.cause.quiet ∙ c.in-Ok.ensures.cause.quiet) c.in_err-span_of.ensures.cause)
 
 pub returns-in_err-span_of-2-clause-cause : goal.returns-in_err-span_of-2-clause-cause
 returns-in_err-span_of-2-clause-cause g c =
     let p = err_from_is_err_and c.from_residual-in_err-span_of-2.result c.from_residual-in_err-span_of-2.ensures.1 in
-    rw (p.1, p.2) (cause_at_err Span Parts c.in_err-span_of-2.field-0.0 _ _ (omega (arith, c.descriptor_at.ensures.cause.later, c.tail_of.ensures.cause.later)) c.in_err-span_of-2.ensures.cause)
+    rw (p.1, p.2) (cause_at_err Span Parts c.in_err-span_of-2.field-0.0 _ _ (c.in_ok-second.ensures.cause.quiet ∙ c.in-Ok.ensures.cause.quiet) c.in_err-span_of-2.ensures.cause)

@@ -5,15 +5,28 @@ use Rattle.vub_steps.specs.declared.readiness.Standing.{Standing}
 use Rattle.vub_steps.specs.declared.readiness.Turn.{Turn}
 use Rattle.vub_steps.specs.declared.readiness.Turn.TheVariants as turns
 use Rattle.vub_shared.specs.Bytes.{Bytes}
-use Rattle.vub_shared.specs.Watched.{bytes_in, sizes_in}
+use Rattle.vub_shared.specs.Watched.{bytes_in, sizes_in, stores_in, faults_in, IsUnfailed}
+use Rattle.vub_shared.proofs.WatchedLemmas.{still_unfailed}
 use Rattle.vub_queue.specs.declared.queue.Stepped.{Stepped}
 use Rattle.vub_world.specs.MachineDevice.{Device, device, turn_here}
 use Rattle.vub_run.specs.Moments.{standing}
 use Rattle.vub_queue.specs.QueueState.{QueueState, state_of, standing_at, waiting, IsDue}
 use Rattle.vub_world.proofs.MachineTurns.{DeviceDoes}
 use Rattle.vub_world.proofs.MachineTurnsWork.{RestsAt, device_turns, work_asked}
-use Rattle.vub_world.proofs.MachineTurnsNext.{IsAsHere, as_here, reached_plain, reached_holds, never_fails, served_is, turn_same}
+use Rattle.vub_world.proofs.MachineTurnsNext.{IsAsHere, as_here, reached_plain, reached_holds, turn_same}
+use Rattle.vub_world.proofs.MachineFaults.{turn_stores, turn_made, served_is}
 use Rattle.vub_world.proofs.device.turn_queue.Goals as goal
+
+unfailed_after : (c : goal.After-turn) → IsUnfailed c.turn.new.mem
+unfailed_after c =
+    let q : QueueState = state_of c.args.queue.now in
+    let b : Bytes = bytes_in c.args.memory.now in
+    let t : Turn = chosen q.ring.size c.args.choice (standing_at q (waiting q b)) in
+    let few = turn_stores (stores_in c.args.memory.now) (stores_in c.turn.new.mem) t c.turn.result q (is_some q.stopped) c.requires.fresh (λ s. (c.turn.ensures.stopped s).3) (λ r. c.turn.ensures.trails r b refl) in
+    still_unfailed c.args.memory.now c.turn.new.mem c.requires.unfailed few c.turn.ensures.keeps_spaces.same_handed
+
+pub returns-clause-unfailed : goal.returns-clause-unfailed
+returns-clause-unfailed c = unfailed_after c
 
 pub returns-clause-turns : goal.returns-clause-turns
 returns-clause-turns c h r m log reached cap main room at numbered =
@@ -27,7 +40,7 @@ returns-clause-turns c h r m log reached cap main room at numbered =
     let holds = reached_holds h m reached in
     let trails = c.turn.ensures.trails runs b refl in
     let does : DeviceDoes t h.capacity (sizes_in c.args.memory.now) d now x = record {
-      fine = never_fails t c.args.memory.now c.turn.new.mem x q c.requires.fresh trails c.turn.ensures.cause;
+      fine = turn_made (faults_in c.args.memory.now) (faults_in c.turn.new.mem) x c.requires.unfailed.faults (unfailed_after c).faults c.turn.ensures.cause;
       served = served_is x c.turn.ensures.disk_cause;
       does = c.turn.ensures.does runs b refl;
       stores_are = c.turn.ensures.stores runs b refl;

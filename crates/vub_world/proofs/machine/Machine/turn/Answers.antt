@@ -4,6 +4,7 @@ use Rattle.vub_queue.specs.declared.queue.Queue.{Queue}
 use Rattle.vub_world.specs.MachineDevice.{turn_here}
 use Rattle.vub_world.proofs.MachineTurnsNext.{reached_holds}
 use Rattle.vub_world.proofs.MachineTurnsAt.{with_queue, has_no_queue, HasQueue, turn_goes, turn_none, queue_lies_still, kept_room, kept_bytes}
+use Rattle.vub_shared.proofs.WatchedLemmas.{restarted_unfailed}
 use Rattle.vub_world.proofs.machine.Machine.turn.Goals as goal
 
 pub turn_queue-requires-clause-lies : goal.turn_queue-requires-clause-lies
@@ -13,6 +14,9 @@ turn_queue-requires-clause-lies c =
     let queue_is : c.in-Some-Some.field-0.queue ≡ Some q = search in
     let life_is : w.life ≡ with_queue q = c.in-Some-Some.is ∙ ap (λ o. Some (record { queue = o })) queue_is in
     queue_lies_still w q c.restart.new.self c.requires.sound life_is c.restart.ensures.memory
+
+pub turn_queue-requires-clause-unfailed : goal.turn_queue-requires-clause-unfailed
+turn_queue-requires-clause-unfailed c = restarted_unfailed c.args.self.now.memory c.restart.new.self c.requires.sound.unfailed c.restart.ensures.memory c.restart.ensures.faults
 
 pub returns-in-Some-Some-clause-turns : goal.returns-in-Some-Some-clause-turns
 returns-in-Some-Some-clause-turns c m reached at =
