@@ -11,7 +11,7 @@ use vub_base::standard::SECTOR_SIZE;
 use vub_base::{Area, Bytes, Header1, Memory, Tag};
 use vub_device::{Answered, Asked, Entry, SectorValue};
 use vub_schedule::writing::{
-    put_byte_pair, put_event, put_header, put_number, put_parts, put_text,
+    put_byte_pair, put_commas, put_event, put_header, put_number, put_text,
 };
 
 /// How many bytes at the front are this one.
@@ -176,11 +176,11 @@ fn put_asked(out: &mut Vec<u8>, asked: &Asked) -> Result<(), Memory>
         Asked::Id => put_text(out, b"id"),
         Asked::Discard(parts) => {
             put_text(out, b"discard ")?;
-            put_parts(out, parts)
+            put_commas(out, parts)
         }
         Asked::Zero(parts) => {
             put_text(out, b"zero ")?;
-            put_parts(out, parts)
+            put_commas(out, parts)
         }
     }
 }
@@ -198,86 +198,69 @@ fn put_answer_bytes(out: &mut Vec<u8>, bytes: &[u8]) -> Result<(), Memory>
     }
 }
 
-fn put_answered(out: &mut Vec<u8>, answered: &Answered) -> Result<(), Memory>
-    ensures { OnOk result (out.new.items ≡ out.old.items ++ answered_text answered.now) }
-{
-    put_number(out, answered.number)?;
-    put_text(out, b":")?;
-    put_number(out, u64::from(answered.status))?;
-    put_answer_bytes(out, answered.bytes.items())
+/// What stands in a list of an entry.
+trait EntryPart {
+    /// Its text.
+    ghost text: { Self → List ℕ };
+
+    /// Appends its text.
+    fn put(&self, out: &mut Vec<u8>) -> Result<(), Memory>
+        ensures { OnOk result (out.new.items ≡ out.old.items ++ text self.now) };
 }
 
-fn put_more_answers(out: &mut Vec<u8>, answers: &[Answered]) -> Result<(), Memory>
-    ensures { OnOk result (out.new.items ≡ out.old.items ++ each_after 44 answered_text answers.now) }
+/// The texts of some parts, with a comma before each.
+fn put_after_commas<T: EntryPart>(out: &mut Vec<u8>, parts: &[T]) -> Result<(), Memory>
+    ensures { OnOk result (out.new.items ≡ out.old.items ++ each_after 44 T.text parts.now) }
 {
-    for answered in answers {
+    for part in parts {
         put_text(out, b",")?;
-        put_answered(out, answered)?;
+        part.put(out)?;
     }
     Ok(())
 }
 
-fn put_answers(out: &mut Vec<u8>, answers: &[Answered]) -> Result<(), Memory>
-    ensures { OnOk result (out.new.items ≡ out.old.items ++ listed answered_text answers.now) }
+/// The texts of some parts with a comma between them, or a dash where there is none.
+fn put_listed<T: EntryPart>(out: &mut Vec<u8>, parts: &[T]) -> Result<(), Memory>
+    ensures { OnOk result (out.new.items ≡ out.old.items ++ listed T.text parts.now) }
 {
-    match answers {
+    match parts {
         [] => put_text(out, b"-"),
         [first, rest @ ..] => {
-            put_answered(out, first)?;
-            put_more_answers(out, rest)
+            first.put(out)?;
+            put_after_commas(out, rest)
         }
     }
 }
 
-fn put_more_numbers(out: &mut Vec<u8>, numbers: &[u64]) -> Result<(), Memory>
-    ensures { OnOk result (out.new.items ≡ out.old.items ++ each_after 44 decimal numbers.now) }
-{
-    for number in numbers {
-        put_text(out, b",")?;
-        put_number(out, *number)?;
-    }
-    Ok(())
-}
+/// A number and a status, and what was read.
+impl EntryPart for Answered {
+    ghost text = { answered_text };
 
-fn put_numbers(out: &mut Vec<u8>, numbers: &[u64]) -> Result<(), Memory>
-    ensures { OnOk result (out.new.items ≡ out.old.items ++ listed decimal numbers.now) }
-{
-    match numbers {
-        [] => put_text(out, b"-"),
-        [first, rest @ ..] => {
-            put_number(out, *first)?;
-            put_more_numbers(out, rest)
-        }
+    fn put(&self, out: &mut Vec<u8>) -> Result<(), Memory> {
+        put_number(out, self.number)?;
+        put_text(out, b":")?;
+        put_number(out, u64::from(self.status))?;
+        put_answer_bytes(out, self.bytes.items())
     }
 }
 
-fn put_sector(out: &mut Vec<u8>, held: &SectorValue) -> Result<(), Memory>
-    ensures { OnOk result (out.new.items ≡ out.old.items ++ sector_text held.now) }
-{
-    put_number(out, held.sector)?;
-    put_text(out, b"=")?;
-    put_bytes(out, &held.value)
-}
+/// A number of a request.
+impl EntryPart for u64 {
+    ghost text = { decimal };
 
-fn put_more_sectors(out: &mut Vec<u8>, sectors: &[SectorValue]) -> Result<(), Memory>
-    ensures { OnOk result (out.new.items ≡ out.old.items ++ each_after 44 sector_text sectors.now) }
-{
-    for held in sectors {
-        put_text(out, b",")?;
-        put_sector(out, held)?;
+    fn put(&self, out: &mut Vec<u8>) -> Result<(), Memory> {
+        put_number(out, *self)
     }
-    Ok(())
 }
 
-fn put_sectors(out: &mut Vec<u8>, sectors: &[SectorValue]) -> Result<(), Memory>
-    ensures { OnOk result (out.new.items ≡ out.old.items ++ listed sector_text sectors.now) }
-{
-    match sectors {
-        [] => put_text(out, b"-"),
-        [first, rest @ ..] => {
-            put_sector(out, first)?;
-            put_more_sectors(out, rest)
-        }
+/// A sector and its value.
+impl EntryPart for SectorValue {
+    ghost text = { sector_text };
+
+    fn put(&self, out: &mut Vec<u8>) -> Result<(), Memory> {
+        put_number(out, self.sector)?;
+        put_text(out, b"=")?;
+        put_bytes(out, &self.value)
     }
 }
 
@@ -336,12 +319,12 @@ fn put_entry(out: &mut Vec<u8>, entry: &Entry) -> Result<(), Memory>
         }
         Entry::Publish(queue, answers) => {
             put_at_queue(out, b"publish ", *queue)?;
-            put_answers(out, answers.items())
+            put_listed(out, answers.items())
         }
         Entry::Kill => put_text(out, b"kill"),
         Entry::Start(queue, numbers) => {
             put_at_queue(out, b"start ", *queue)?;
-            put_numbers(out, numbers.items())
+            put_listed(out, numbers.items())
         }
         Entry::Collect(queue, number) => {
             put_at_queue(out, b"collect ", *queue)?;
@@ -349,7 +332,7 @@ fn put_entry(out: &mut Vec<u8>, entry: &Entry) -> Result<(), Memory>
         }
         Entry::Power(sectors) => {
             put_text(out, b"power ")?;
-            put_sectors(out, sectors.items())
+            put_listed(out, sectors.items())
         }
     }
 }

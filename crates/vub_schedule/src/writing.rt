@@ -1,7 +1,7 @@
 //! Schedules as text. Each `put` appends one piece of a text to a vector. The pieces are spelled for
 //! all values of their types, whether the grammar has them yet or not. After want of memory no clause
 //! says what the vector holds: let it go.
-ghost use Rattle.std.specs.Prelude.{◌≡◌, ◌++◌, ◌∷◌, ◌<◌, false, length, codes, OnOk, IfOk};
+ghost use Rattle.std.specs.Prelude.{◌≡◌, ◌++◌, ◌∷◌, ◌<◌, false, ℕ, List, length, codes, OnOk, IfOk};
 ghost use Rattle.std.specs.Fmt.{decimal, digit_glyph};
 ghost use Rattle.std.specs.List.{flat_map};
 ghost use Rattle.vub_schedule.specs.Spelling.{line, commas, hex_pair, format_text, mode_text, header_numbers, header_text, shape_text, part_text, ask_text, event_text, event_line, spelling};
@@ -45,62 +45,59 @@ pub fn put_byte_pair(out: &mut Vec<u8>, byte: u8) -> Result<(), Memory>
     put_text(out, &[hex_digit(byte / 16), hex_digit(byte % 16)])
 }
 
-/// Fill bytes, with a comma before each.
-fn put_more_fills(out: &mut Vec<u8>, fills: &[u8]) -> Result<(), Memory>
-    ensures { OnOk result (out.new.items ≡ out.old.items ++ flat_map (λ b. 44 ∷ hex_pair b) fills.now) }
-{
-    for fill in fills {
-        put_text(out, b",")?;
-        put_byte_pair(out, *fill)?;
-    }
-    Ok(())
+/// What stands in a list of a request.
+pub trait AskPart {
+    /// Its text.
+    ghost text: { Self → List ℕ };
+
+    /// Appends its text.
+    fn put(&self, out: &mut Vec<u8>) -> Result<(), Memory>
+        ensures { OnOk result (out.new.items ≡ out.old.items ++ text self.now) };
 }
 
-/// The fill bytes of a write, with commas between them.
-fn put_fills(out: &mut Vec<u8>, fills: &[u8]) -> Result<(), Memory>
-    ensures { OnOk result (out.new.items ≡ out.old.items ++ commas hex_pair fills.now) }
-{
-    match fills {
-        [] => Ok(()),
-        [first, rest @ ..] => {
-            put_byte_pair(out, *first)?;
-            put_more_fills(out, rest)
-        }
-    }
-}
-
-/// A part of a discard or a zeroing: its sector, count and flags.
-fn put_part(out: &mut Vec<u8>, part: &Part) -> Result<(), Memory>
-    ensures { OnOk result (out.new.items ≡ out.old.items ++ part_text part.now) }
-{
-    put_number(out, part.sector)?;
-    put_text(out, b":")?;
-    put_number(out, u64::from(part.count))?;
-    put_text(out, b":")?;
-    put_number(out, u64::from(part.flags))
-}
-
-/// Parts, with a comma before each.
-fn put_more_parts(out: &mut Vec<u8>, parts: &[Part]) -> Result<(), Memory>
-    ensures { OnOk result (out.new.items ≡ out.old.items ++ flat_map (λ p. 44 ∷ part_text p) parts.now) }
+/// The texts of some parts, with a comma before each.
+fn put_after_commas<T: AskPart>(out: &mut Vec<u8>, parts: &[T]) -> Result<(), Memory>
+    ensures { OnOk result (out.new.items ≡ out.old.items ++ flat_map (λ x. 44 ∷ T.text x) parts.now) }
 {
     for part in parts {
         put_text(out, b",")?;
-        put_part(out, part)?;
+        part.put(out)?;
     }
     Ok(())
 }
 
-/// The parts of a discard or a zeroing, with commas between them.
-pub fn put_parts(out: &mut Vec<u8>, parts: &[Part]) -> Result<(), Memory>
-    ensures { OnOk result (out.new.items ≡ out.old.items ++ commas part_text parts.now) }
+/// The texts of some parts, with a comma between them.
+pub fn put_commas<T: AskPart>(out: &mut Vec<u8>, parts: &[T]) -> Result<(), Memory>
+    ensures { OnOk result (out.new.items ≡ out.old.items ++ commas T.text parts.now) }
 {
     match parts {
         [] => Ok(()),
         [first, rest @ ..] => {
-            put_part(out, first)?;
-            put_more_parts(out, rest)
+            first.put(out)?;
+            put_after_commas(out, rest)
         }
+    }
+}
+
+/// A fill byte.
+impl AskPart for u8 {
+    ghost text = { hex_pair };
+
+    fn put(&self, out: &mut Vec<u8>) -> Result<(), Memory> {
+        put_byte_pair(out, *self)
+    }
+}
+
+/// A part of a discard or a zeroing: its sector, count and flags.
+impl AskPart for Part {
+    ghost text = { part_text };
+
+    fn put(&self, out: &mut Vec<u8>) -> Result<(), Memory> {
+        put_number(out, self.sector)?;
+        put_text(out, b":")?;
+        put_number(out, u64::from(self.count))?;
+        put_text(out, b":")?;
+        put_number(out, u64::from(self.flags))
     }
 }
 
@@ -120,17 +117,17 @@ pub fn put_ask(out: &mut Vec<u8>, ask: &Ask) -> Result<(), Memory>
             put_text(out, b"write ")?;
             put_number(out, *sector)?;
             put_text(out, b" ")?;
-            put_fills(out, fills)
+            put_commas(out, fills)
         }
         Ask::Flush => put_text(out, b"flush"),
         Ask::Id => put_text(out, b"id"),
         Ask::Discard(parts) => {
             put_text(out, b"discard ")?;
-            put_parts(out, parts)
+            put_commas(out, parts)
         }
         Ask::Zero(parts) => {
             put_text(out, b"zero ")?;
-            put_parts(out, parts)
+            put_commas(out, parts)
         }
     }
 }
