@@ -167,7 +167,14 @@ impl Guest {
     ghost use Rattle.vub_driver.specs.Lawful.{IsLawful};
     ghost use Rattle.vub_driver.specs.Requests.{written_bytes};
     ghost use Rattle.vub_driver.specs.Drivers.{new_driver, can_take, after_ask, after_collect, is_head, without_owner};
-    ghost use Rattle.vub_guest.specs.declared.guest.Stage.TheVariants.{Header, Data, Status, HeaderDescriptor, DataDescriptor, StatusDescriptor, AvailEntry, AvailIdx};
+    ghost use Rattle.vub_guest.specs.declared.guest.Stage.TheVariants.{Data};
+    ghost use Rattle.vub_ring.specs.Ring.{desc_place};
+    ghost use Rattle.vub_driver.specs.Layout.{status_place};
+    ghost use Rattle.vub_driver.specs.Requests.{readable_piece, writable_piece};
+    ghost use Rattle.vub_driver.specs.GuestChain.{second};
+    ghost use Rattle.vub_guest.specs.GuestRequest.{data_piece, table_entry};
+    ghost use Rattle.vub_guest.specs.GuestStores.{links_of};
+    ghost use Rattle.vub_guest.specs.GuestStores.{buffer_of as links_buffer};
     ghost use Rattle.vub_guest.specs.Guest.{GuestLies};
     ghost use Rattle.vub_guest.specs.GuestState.{ring_in, driver_in, pending_store, seen_in, is_busy, owner_at, FindsFree, Chooses, StoresNext, TrailsNext, Steps, outcome, next_store, Shows, ShowsNext, Collects, fetched};
 
@@ -254,121 +261,92 @@ impl Guest {
         true
     }
 
-    fn store_header<M: Shared>(&self, mem: &mut M, pending: &Pending) -> Result<(), Failed>
-        requires { GuestLies (M.sizes mem.old) self.now }
-        ensures makes_store { MakesStore M.told M.trail M.names M.handed M.sizes mem.old mem.new result (pending_store self.now pending.now Header) }
-        ensures cause { HasCause (M.faults mem.old) (M.faults mem.new) result }
-    {
-        let place = buffer_of(self.area, pending.chain.head);
-        mem.store_run(self.memory, place, &header(&pending.ask))
-    }
-
-    fn store_data<M: Shared>(&self, mem: &mut M, pending: &Pending) -> Result<(), Failed>
-        requires { GuestLies (M.sizes mem.old) self.now }
-        ensures makes_store { MakesStore M.told M.trail M.names M.handed M.sizes mem.old mem.new result (pending_store self.now pending.now Data) }
-        ensures small { length (written_bytes pending.now.ask) ≤ 4096 }
-        ensures cause { HasCause (M.faults mem.old) (M.faults mem.new) result }
-    {
-        let buffer = buffer_of(self.area, pending.chain.head);
-        let place = data_start(buffer, &pending.ask);
-        mem.store_run(self.memory, place, &written(&pending.ask))
-    }
-
-    fn store_status<M: Shared>(&self, mem: &mut M, pending: &Pending) -> Result<(), Failed>
-        requires { GuestLies (M.sizes mem.old) self.now }
-        ensures makes_store { MakesStore M.told M.trail M.names M.handed M.sizes mem.old mem.new result (pending_store self.now pending.now Status) }
-        ensures cause { HasCause (M.faults mem.old) (M.faults mem.new) result }
-    {
-        let place = buffer_of(self.area, pending.chain.head) + STATUS;
-        mem.store1(self.memory, place, NO_STATUS)
-    }
-
-    fn store_header_descriptor<M: Shared>(
-        &self,
-        mem: &mut M,
-        pending: &Pending,
-    ) -> Result<(), Failed>
-        requires { GuestLies (M.sizes mem.old) self.now }
-        ensures makes_store { MakesStore M.told M.trail M.names M.handed M.sizes mem.old mem.new result (pending_store self.now pending.now HeaderDescriptor) }
-        ensures cause { HasCause (M.faults mem.old) (M.faults mem.new) result }
+    /// Where the store of a stage goes.
+    fn place_of(&self, pending: &Pending) -> u64
+        ensures { result ≡ (pending_store self.now pending.now pending.now.stage).place }
     {
         let chain = &pending.chain;
         let buffer = buffer_of(self.area, chain.head);
-        let place = self.area + DESC_SIZE as u64 * u64::from(chain.head);
-        let next = Some(chain.second());
-        mem.store_run(
-            self.memory,
-            place,
-            &descriptor(buffer, REQUEST_HEADER_SIZE as u32, false, next),
+        let avail = self.area + AVAIL;
+        match pending.stage {
+            Stage::Header => buffer,
+            Stage::Data => data_start(buffer, &pending.ask),
+            Stage::Status => buffer + STATUS,
+            Stage::HeaderDescriptor => self.descriptor_place(chain.head),
+            Stage::DataDescriptor => self.descriptor_place(chain.second()),
+            Stage::StatusDescriptor => self.descriptor_place(chain.status),
+            Stage::AvailEntry => {
+                avail + (AVAIL_RING + AVAIL_ENTRY_SIZE * u64::from(self.avail_idx % self.size))
+            }
+            Stage::AvailIdx => avail + AVAIL_IDX,
+        }
+    }
+
+    fn descriptor_place(&self, index: u16) -> u64
+        requires { index < 64 }
+        ensures { result ≡ desc_place (ring_in self.now) index }
+    {
+        self.area + DESC_SIZE as u64 * u64::from(index)
+    }
+
+    /// The descriptor of the header.
+    fn header_descriptor(&self, chain: &Chain) -> [u8; DESC_SIZE]
+        ensures { result ≡ table_entry (readable_piece (links_buffer (ring_in self.now) (links_of chain.now)) 16) (Some (second (links_of chain.now))) }
+    {
+        let buffer = buffer_of(self.area, chain.head);
+        descriptor(
+            buffer,
+            REQUEST_HEADER_SIZE as u32,
+            false,
+            Some(chain.second()),
         )
     }
 
-    fn store_data_descriptor<M: Shared>(&self, mem: &mut M, pending: &Pending) -> Result<(), Failed>
-        requires { GuestLies (M.sizes mem.old) self.now }
-        ensures makes_store { MakesStore M.told M.trail M.names M.handed M.sizes mem.old mem.new result (pending_store self.now pending.now DataDescriptor) }
-        ensures cause { HasCause (M.faults mem.old) (M.faults mem.new) result }
+    /// The descriptor of the data.
+    fn data_descriptor(&self, pending: &Pending) -> [u8; DESC_SIZE]
+        ensures { result ≡ table_entry (data_piece (links_buffer (ring_in self.now) (links_of pending.now.chain)) pending.now.ask) (Some pending.now.chain.status) }
     {
-        let chain = &pending.chain;
         let ask = &pending.ask;
-        let place = self.area + DESC_SIZE as u64 * u64::from(chain.second());
-        let data = data_start(buffer_of(self.area, chain.head), ask);
-        let next = Some(chain.status);
-        mem.store_run(
-            self.memory,
-            place,
-            &descriptor(data, data_len(ask), is_read(ask), next),
+        let data = data_start(buffer_of(self.area, pending.chain.head), ask);
+        descriptor(
+            data,
+            data_len(ask),
+            is_read(ask),
+            Some(pending.chain.status),
         )
     }
 
-    fn store_status_descriptor<M: Shared>(
-        &self,
-        mem: &mut M,
-        pending: &Pending,
-    ) -> Result<(), Failed>
-        requires { GuestLies (M.sizes mem.old) self.now }
-        ensures makes_store { MakesStore M.told M.trail M.names M.handed M.sizes mem.old mem.new result (pending_store self.now pending.now StatusDescriptor) }
-        ensures cause { HasCause (M.faults mem.old) (M.faults mem.new) result }
+    /// The descriptor of the status.
+    fn status_descriptor(&self, chain: &Chain) -> [u8; DESC_SIZE]
+        ensures { result ≡ table_entry (writable_piece (status_place (links_buffer (ring_in self.now) (links_of chain.now))) 1) None }
     {
-        let chain = &pending.chain;
-        let status = buffer_of(self.area, chain.head) + STATUS;
-        let place = self.area + DESC_SIZE as u64 * u64::from(chain.status);
-        mem.store_run(self.memory, place, &descriptor(status, 1, true, None))
+        descriptor(buffer_of(self.area, chain.head) + STATUS, 1, true, None)
     }
 
-    fn store_entry<M: Shared>(&self, mem: &mut M, pending: &Pending) -> Result<(), Failed>
-        requires { GuestLies (M.sizes mem.old) self.now }
-        ensures makes_store { MakesStore M.told M.trail M.names M.handed M.sizes mem.old mem.new result (pending_store self.now pending.now AvailEntry) }
-        ensures cause { HasCause (M.faults mem.old) (M.faults mem.new) result }
-    {
-        let entry = u64::from(self.avail_idx % self.size);
-        let place = self.area + AVAIL + (AVAIL_RING + AVAIL_ENTRY_SIZE * entry);
-        mem.store2(self.memory, place, pending.chain.head)
-    }
-
-    fn store_index<M: Shared>(&self, mem: &mut M, pending: &Pending) -> Result<(), Failed>
-        requires { GuestLies (M.sizes mem.old) self.now }
-        ensures makes_store { MakesStore M.told M.trail M.names M.handed M.sizes mem.old mem.new result (pending_store self.now pending.now AvailIdx) }
-        ensures cause { HasCause (M.faults mem.old) (M.faults mem.new) result }
-    {
-        let index = self.avail_idx.wrapping_add(1);
-        mem.store2(self.memory, self.area + AVAIL + AVAIL_IDX, index)
-    }
-
+    /// Makes the store of the stage: the status byte, a word of the avail ring, or a run of bytes.
     fn make_store<M: Shared>(&self, mem: &mut M, pending: &Pending) -> Result<(), Failed>
         requires { GuestLies (M.sizes mem.old) self.now }
         ensures makes_store { MakesStore M.told M.trail M.names M.handed M.sizes mem.old mem.new result (pending_store self.now pending.now pending.now.stage) }
         ensures small { pending.now.stage ≡ Data → length (written_bytes pending.now.ask) ≤ 4096 }
         ensures cause { HasCause (M.faults mem.old) (M.faults mem.new) result }
     {
+        let chain = &pending.chain;
+        let place = self.place_of(pending);
         match pending.stage {
-            Stage::Header => self.store_header(mem, pending),
-            Stage::Data => self.store_data(mem, pending),
-            Stage::Status => self.store_status(mem, pending),
-            Stage::HeaderDescriptor => self.store_header_descriptor(mem, pending),
-            Stage::DataDescriptor => self.store_data_descriptor(mem, pending),
-            Stage::StatusDescriptor => self.store_status_descriptor(mem, pending),
-            Stage::AvailEntry => self.store_entry(mem, pending),
-            Stage::AvailIdx => self.store_index(mem, pending),
+            Stage::Header => mem.store_run(self.memory, place, &header(&pending.ask)),
+            Stage::Data => mem.store_run(self.memory, place, &written(&pending.ask)),
+            Stage::Status => mem.store1(self.memory, place, NO_STATUS),
+            Stage::HeaderDescriptor => {
+                mem.store_run(self.memory, place, &self.header_descriptor(chain))
+            }
+            Stage::DataDescriptor => {
+                mem.store_run(self.memory, place, &self.data_descriptor(pending))
+            }
+            Stage::StatusDescriptor => {
+                mem.store_run(self.memory, place, &self.status_descriptor(chain))
+            }
+            Stage::AvailEntry => mem.store2(self.memory, place, chain.head),
+            Stage::AvailIdx => mem.store2(self.memory, place, self.avail_idx.wrapping_add(1)),
         }
     }
 
