@@ -1,5 +1,5 @@
 -- An event leads from where the machine stood to where it stands.
-use Rattle.std.proofs.Common.{◌≡◌, ℕ, true, List, [], ◌∷◌, ◌++◌, sym, subst}
+use Rattle.std.proofs.Common.{◌≡◌, ◌≤◌, ℕ, ◌+◌, true, List, [], ◌∷◌, ◌++◌, length, sym, subst, arith}
 use Rattle.std.specs.Prelude.{Result, Ok, Err, IfOk, Option, Some, None, ⊤}
 use Rattle.vub_base.specs.declared.header.Header1.{Header1}
 use Rattle.vub_schedule.specs.declared.types.Event.{Event}
@@ -8,13 +8,17 @@ use Rattle.vub_schedule.specs.Spelling.{IsEvent}
 use Rattle.vub_world.specs.declared.machine.Life.{Life}
 use Rattle.vub_world.specs.declared.machine.Machine.{Machine}
 use Rattle.vub_queue.specs.declared.queue.Queue.{Queue}
+use Rattle.vub_world.specs.Logs.{offered_in}
+use Rattle.vub_report.specs.declared.items.Item.{Item}
 use Rattle.vub_report.specs.declared.items.Record.{Record}
 use Rattle.vub_run.specs.LegalRuns.{IsServed}
-use Rattle.vub_world.specs.MachineAt.{MachineAt, LifeAt, AttachedAt, IsStanding, Performs, StandsOn, ServesAll, is_attached, has_queue}
-use Rattle.vub_run.specs.Moments.{Moment}
+use Rattle.vub_world.specs.MachineAt.{MachineAt, LifeAt, AttachedAt, StandsFor, IsStanding, Performs, StandsOn, ServesAll, is_attached, has_queue}
+use Rattle.vub_run.specs.Moments.{Moment, opening}
 use Rattle.vub_run.specs.Run.{Stands, Plays}
+use Rattle.vub_run_laws.proofs.RunEntries.{event_offers, run_offers}
 use Rattle.vub_run_laws.proofs.RunServes.{drain_serves, stands_legal}
-use Rattle.vub_run_laws.proofs.RunsTo.{stands_more}
+use Rattle.vub_run_laws.proofs.RunsLegal.{opening_held}
+use Rattle.vub_run_laws.proofs.RunsTo.{stands_more, stands_held}
 
 pub ok_then : {T E : Type 0} (P Q : T → Type 0) (r : Result T E) → ((x : T) → P x → Q x) → IfOk r P → IfOk r Q
 ok_then P Q (Ok x) f p = f x p
@@ -70,6 +74,24 @@ stands_on w now e r spare fits same is goes es rs stood =
       runs = stands_legal w.header (es ++ e ∷ []) (rs ++ r ∷ []) went.0 stands;
       serves = serves_all w e es rs m went.0 r fits stood.2 stood.1 stands went.1;
     }
+
+-- an event offers one request at most
+pub one_offer : (w now : Machine) (e : Event) (is : List Item) → IsEvent w.header e → IsStanding w → Performs w now e is → offered_in now.log ≤ offered_in w.log + 1
+one_offer w now e is fits stood goes =
+    let m : Moment = stood.2.0 in
+    let stands : Stands w.header stood.0 stood.1 m = stood.2.1 in
+    let at : MachineAt w m = stood.2.2 in
+    let went = goes stood.0 stood.1 m stands at in
+    let few : length (went.0.scene.heads 0) ≤ length (m.scene.heads 0) + 1 = event_offers w.header m e is went.0 stands.header (stands_held w.header stood.0 stood.1 m stands) fits went.1 in
+    omega (arith, few, went.2.log.offers_are, at.log.offers_are)
+
+-- no more requests were offered than events were played
+pub offers_few : (w : Machine) (es : List Event) (rs : List Record) → StandsFor w es rs → offered_in w.log ≤ length es
+offers_few w es rs stood =
+    let m : Moment = stood.0 in
+    let stands : Stands w.header es rs m = stood.1 in
+    let few : length (m.scene.heads 0) ≤ 0 + length es = run_offers w.header (opening w.header) es rs m stands.header (opening_held w.header stands.header) stands.events stands.run in
+    omega (arith, few, stood.2.log.offers_are)
 
 pub standing_on : (w now : Machine) (e : Event) (r : Record) → IsStanding w → StandsOn w now e r → IsStanding now
 standing_on w now e r s on = (s.0 ++ e ∷ [], s.1 ++ r ∷ [], (on s.0 s.1 s.2).stands)
