@@ -31,6 +31,11 @@ pub allowed_at : (capacity : ℕ) (mode : CacheMode) (past es : List Entry) (e :
 allowed_at capacity mode past [] e more legal = legal.0
 allowed_at capacity mode past (x ∷ es) e more legal = allowed_at capacity mode (x ∷ past) es e more legal.1
 
+-- the front of a legal history is legal
+pub front_legal : (capacity : ℕ) (mode : CacheMode) (past front rest : List Entry) → LegalFrom capacity mode past (front ++ rest) → LegalFrom capacity mode past front
+front_legal capacity mode past [] rest legal = tt
+front_legal capacity mode past (e ∷ front) rest legal = (legal.0, front_legal capacity mode (e ∷ past) front rest legal.1)
+
 -- ---- the checker's step
 
 split_at : (history : List Entry) (i : ℕ) (e : Entry) → i < length history → e ≡ get_or history i e → take i history ++ e ∷ drop (suc i) history ≡ history

@@ -9,7 +9,7 @@ mod meaning;
 mod past;
 
 pub use entry::{AnswerList, Answered, Asked, Entry, NumberList, SectorList, SectorValue};
-pub use laws::published_once;
+pub use laws::{each_front_is_legal, published_once};
 pub use legal::{is_allowed, is_legal};
 pub use meaning::refusal;
 

@@ -13,6 +13,7 @@ pub mod RunDrains
 pub mod RunEfforts
 pub mod RunElements
 pub mod RunEnds
+pub mod RunEntries
 pub mod RunEvents
 pub mod RunExists
 pub mod RunFrames
@@ -23,6 +24,7 @@ pub mod RunNumbers
 pub mod RunOffers
 pub mod RunPhases
 pub mod RunPublications
+pub mod RunServes
 pub mod RunShown
 pub mod RunSteps
 pub mod RunTracks

@@ -73,10 +73,10 @@ turned_stays h (turns.Publish most) m = under_stays h (turns.Publish most) m
 turned_stays h (turns.Work place) m = work_stays h m.scene (m.lanes 0) (slice_get (unfinished 0 m) place)
 
 -- a queue that is attached stays so, and nothing is collected
-abbrev Stays : Moment → Moment → Type 0
+abbrev pub Stays : Moment → Moment → Type 0
 Stays m n = ((n.lanes 0).attached ≡ (m.lanes 0).attached) × (collected n.scene.past 0 ≡ collected m.scene.past 0)
 
-turns_stay : (count : ℕ) (choose : Moment → Turn) (h : Header1) (m : Moment) → IsPlain h → Good h m → Stays m (many_turns count choose h 0 m).next
+pub turns_stay : (count : ℕ) (choose : Moment → Turn) (h : Header1) (m : Moment) → IsPlain h → Good h m → Stays m (many_turns count choose h 0 m).next
 turns_stay zero choose h m plain good = (refl, refl)
 turns_stay (suc count) choose h m plain good = go (is_due h 0 (choose m) m) refl (λ good'. turns_stay count choose h (one_turn h 0 (choose m) m).next plain good')
   where

@@ -1,5 +1,6 @@
 //! Laws of all runs.
 ghost use Rattle.std.specs.Prelude.{◌≡◌, ◌<◌, ℕ, true, false, List, [], length, slice_index};
+ghost use Rattle.std.specs.List.{AllByRecursion};
 ghost use Rattle.vub_base.specs.declared.header.Header1.{Header1};
 ghost use Rattle.vub_device.specs.Legal.{Legal};
 ghost use Rattle.vub_device.specs.Past.{asked, accepted, offers, published, is_among, open_numbers};
@@ -13,7 +14,9 @@ ghost use Rattle.vub_direct_chain.specs.ChainState.{IsFirstRing, Meant};
 ghost use Rattle.vub_run.specs.Moments.{Moment};
 ghost use Rattle.vub_run.specs.Run.{Run, Stands, Plays};
 ghost use Rattle.vub_run.specs.Tracking.{TracksAlways};
+ghost use Rattle.vub_report.specs.Entries.{IsEntry};
 ghost use Rattle.vub_report.specs.Histories.{history_of};
+ghost use Rattle.vub_run.specs.LegalRuns.{EveryDrainServes};
 
 /// The history of every run of a schedule is legal: the device answers each request at most once,
 /// and rightly. Memory tracks it after each item, a store taken together with the offer or the
@@ -21,6 +24,18 @@ ghost use Rattle.vub_report.specs.Histories.{history_of};
 pub fn every_run_is_legal()
     ensures legal { (s : Schedule) (records : List Record) → IsSchedule s → Run s records → Legal s.header.capacity s.header.mode (history_of records) }
     ensures tracked { (s : Schedule) (records : List Record) → IsSchedule s → Run s records → TracksAlways s.header records }
+{}
+
+/// The entries of every run of a schedule are of those that there are: no read or write is of no
+/// sector, and none of a part of one.
+pub fn every_entry_is_whole()
+    ensures { (s : Schedule) (records : List Record) → IsSchedule s → Run s records → AllByRecursion IsEntry (history_of records) }
+{}
+
+/// In every run of a schedule a drain of an attached queue serves it: after its record no request of
+/// the queue is open, and every offer is accepted. The records tell whether it is attached.
+pub fn every_drain_serves()
+    ensures { (s : Schedule) (records : List Record) → IsSchedule s → Run s records → EveryDrainServes records }
 {}
 
 /// Every schedule of the grammar has a run, so that the law above says something of each.

@@ -4,7 +4,6 @@ use Rattle.std.specs.Prelude.{Option, Some, None, slice_index, is_some, ◌==◌
 use Rattle.std.proofs.lemmas.Bool.Decides.{nat_tests}
 use Rattle.std.proofs.lemmas.Bool.{cases_Bool, cases_lt}
 use Rattle.std.proofs.lemmas.List.{length_push}
-use Rattle.vub_base.specs.MemForms.{next_count}
 use Rattle.vub_base.specs.declared.header.Header1.{Header1}
 use Rattle.vub_base.specs.declared.request.Ask.{Ask}
 use Rattle.vub_base.specs.declared.request.Ask.TheVariants as wants
@@ -60,9 +59,9 @@ slot number reads = record { number = number; reads = reads }
 
 -- under the head of the request stand its number and what it reads, and others keep their slots
 pub offered_log : (n cap base : ℕ) (past : List Entry) (heads : List ℕ) (a : Ask) (head : ℕ) (v : Driver) (l now : Log) → LogAt n past heads l → Known n cap past heads
-    → Driven n cap base (entries.Offer 0 (request_of a) ∷ past) (heads ++ head ∷ []) v → next_count (offered_in l) ≡ offered_in l + 1 → Offers l now head a
+    → Driven n cap base (entries.Offer 0 (request_of a) ∷ past) (heads ++ head ∷ []) v → Offers l now head a
     → LogAt n (entries.Offer 0 (request_of a) ∷ past) (heads ++ head ∷ []) now
-offered_log n cap base past heads a head v l now at known driven more offers =
+offered_log n cap base past heads a head v l now at known driven offers =
     let r : Asked = request_of a in
     let past' : List Entry = entries.Offer 0 r ∷ past in
     let heads' : List ℕ = heads ++ head ∷ [] in
@@ -78,7 +77,7 @@ offered_log n cap base past heads a head v l now at known driven more offers =
     } in
     let last_head_is : slice_index heads' c ≡ head = new_head heads head in
     record {
-      offers_are = offers.offered ∙ more ∙ ap (λ (k : ℕ). k + 1) at.offers_are ∙ sym long;
+      offers_are = offers.offered ∙ ap (λ (k : ℕ). k + 1) at.offers_are ∙ sym long;
       collects_are = offers.collected ∙ at.collects_are;
       places = offers.size ∙ at.places;
       slots = λ k below kept. elim (cases_lt k c) [
@@ -152,10 +151,10 @@ stored_moment h count x m = (guest_stores h 0 count (Some x) m).next
 
 -- where these are all that were left
 offered_at : (w : Machine) (memory : WatchedShared) (guest' : Guest) (asked' : Option Ask) (log : Log) (es : List Event) (rs : List Record) (m : Moment) (x : Waiting) (is : List Item) (count : ℕ)
-    → seen_in guest' ≡ seen_in w.guest → next_count (offered_in w.log) ≡ offered_in w.log + 1 → Stands w.header es rs m → MachineAt w m → count < 65536 → 0 < length x.left → length x.left ≤ count
+    → seen_in guest' ≡ seen_in w.guest → Stands w.header es rs m → MachineAt w m → count < 65536 → 0 < length x.left → length x.left ≤ count
     → played is (stored_moment w.header count x m) ≡ guest w.header 0 count m → GuestGoes count x w (with_front w memory guest' asked' log) m [] is
     → MachineAt (with_front w memory guest' asked' log) (stored_moment w.header count x m)
-offered_at w memory guest' asked' log es rs m x is count position more s at fits some few plays goes =
+offered_at w memory guest' asked' log es rs m x is count position s at fits some few plays goes =
     let h : Header1 = w.header in
     let now : Machine = with_front w memory guest' asked' log in
     let good : Good h m = stands_good h es rs m s in
@@ -175,7 +174,7 @@ offered_at w memory guest' asked' log es rs m x is count position more s at fits
       position = position ∙ at.position;
       life = offered_life h w.ring count m x r b w.life good at.life;
       disk = at.disk;
-      log = offered_log h.size h.capacity h.base m.scene.past (m.scene.heads 0) x.ask (last_head (the_ring h.size) b) (stored_lane count x m).driver w.log log at.log good.holds.known good_next.holds.driven more offers;
+      log = offered_log h.size h.capacity h.base m.scene.past (m.scene.heads 0) x.ask (last_head (the_ring h.size) b) (stored_lane count x m).driver w.log log at.log good.holds.known good_next.holds.driven offers;
     } in
     subst (λ (n : Moment). MachineAt now n) (sym whole) stands
 
@@ -199,15 +198,15 @@ partly_at w memory guest' asked' log m x is count position at part goes =
 
 -- the event is played
 pub guest_performs : (w now : Machine) (es : List Event) (rs : List Record) (m : Moment) (x : Waiting) (is : List Item) (count : ℕ) → now ≡ record w { memory = now.memory; guest = now.guest; asked = now.asked; log = now.log }
-    → seen_in now.guest ≡ seen_in w.guest → next_count (offered_in w.log) ≡ offered_in w.log + 1 → Stands w.header es rs m → MachineAt w m → count < 65536 → 0 < length x.left → (m.lanes 0).driver.waiting ≡ Some x
+    → seen_in now.guest ≡ seen_in w.guest → Stands w.header es rs m → MachineAt w m → count < 65536 → 0 < length x.left → (m.lanes 0).driver.waiting ≡ Some x
     → GuestGoes count x w now m [] is → (next : Moment) × (played is next ≡ guest w.header 0 count m) × MachineAt now next
-guest_performs w now es rs m x is count frame position more s at fits some waits goes =
+guest_performs w now es rs m x is count frame position s at fits some waits goes =
     let h : Header1 = w.header in
     let next : Moment = stored_moment h count x m in
     let plays : played is next ≡ guest h 0 count m = ap (λ (js : List Item). played js next) goes.items ∙ ap (λ (o : Option Waiting). if_ready (is_some o) (guest_stores h 0 count o m) m) (sym waits) in
     let here : GuestGoes count x w (with_front w now.memory now.guest now.asked now.log) m [] is = subst (λ (u : Machine). GuestGoes count x w u m [] is) frame goes in
     let stands : MachineAt (with_front w now.memory now.guest now.asked now.log) next = elim (cases_lt count (length x.left)) [
       | inl part ↦ partly_at w now.memory now.guest now.asked now.log m x is count position at part here
-      | inr all ↦ offered_at w now.memory now.guest now.asked now.log es rs m x is count position more s at fits some (omega arith) plays here
+      | inr all ↦ offered_at w now.memory now.guest now.asked now.log es rs m x is count position s at fits some (omega arith) plays here
     ] in
     (next, plays, subst (λ (u : Machine). MachineAt u next) (sym frame) stands)

@@ -141,6 +141,7 @@ pub record GuestLoop (done : ℕ) (w now : Machine) (r room : RoomState) : Type 
   pub frame : now ≡ record w { memory = now.memory; guest = now.guest; asked = now.asked; log = now.log }
   pub sound : IsSound now
   pub fits : FrontFits now
+  pub log : now.log ≡ w.log
   pub position : seen_in now.guest ≡ seen_in w.guest
   pub items_left : room.item_room + done ≡ r.item_room
   pub lists_left : room.lists + done ≡ r.lists
@@ -151,6 +152,7 @@ loop_begins w r sound fits = record {
   frame = refl;
   sound = sound;
   fits = fits;
+  log = refl;
   position = refl;
   items_left = omega arith;
   lists_left = omega arith;
@@ -163,12 +165,13 @@ pub frame_more : (w v now : Machine) → v ≡ record w { memory = v.memory; gue
 frame_more w v now first last = last ∙ ap (λ (u : Machine). record u { memory = now.memory; guest = now.guest; asked = now.asked; log = now.log }) first
 
 -- one store that isn't the last
-pub loop_more : (done : ℕ) (w v now : Machine) (r mid room : RoomState) → GuestLoop done w v r mid → now ≡ record v { memory = now.memory; guest = now.guest; asked = now.asked; log = now.log } → IsSound now → FrontFits now → seen_in now.guest ≡ seen_in v.guest → Spends 1 1 mid room
+pub loop_more : (done : ℕ) (w v now : Machine) (r mid room : RoomState) → GuestLoop done w v r mid → now ≡ record v { memory = now.memory; guest = now.guest; asked = now.asked; log = now.log } → IsSound now → FrontFits now → now.log ≡ v.log → seen_in now.guest ≡ seen_in v.guest → Spends 1 1 mid room
     → ((n : Moment) → FrontAt v n → GuestSteps (n.lanes 0).driver.waiting v now n mid.items room.items true) → GuestLoop (suc done) w now r room
-loop_more done w v now r mid room loop frame sound fits position spent step = record {
+loop_more done w v now r mid room loop frame sound fits log position spent step = record {
   frame = frame_more w v now loop.frame frame;
   sound = sound;
   fits = fits;
+  log = log ∙ loop.log;
   position = position ∙ loop.position;
   items_left = omega (arith, spent.item_room, loop.items_left);
   lists_left = omega (arith, spent.lists_left, loop.lists_left);

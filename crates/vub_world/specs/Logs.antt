@@ -1,6 +1,5 @@
 -- What a log tells of a queue's requests.
-use Rattle.std.specs.Prelude.{◌≡◌, ℕ, ◌==◌, ◌&&◌, nat_lt, if◌then◌else◌, length, get_or}
-use Rattle.vub_base.specs.MemForms.{next_count}
+use Rattle.std.specs.Prelude.{◌≡◌, ℕ, ◌+◌, ◌==◌, ◌&&◌, nat_lt, if◌then◌else◌, length, get_or}
 use Rattle.vub_base.specs.declared.request.Ask.{Ask}
 use Rattle.vub_base.specs.declared.request.Ask.TheVariants as asks
 use Rattle.vub_world.specs.declared.log.Log.{Log}
@@ -34,7 +33,7 @@ new_slot l a = record { number = offered_in l; reads = reads_in a }
 
 -- a request is noted under a head, if the log has a slot for it
 pub record Offers (before now : Log) (head : ℕ) (a : Ask) : Type 0 where
-  pub offered : offered_in now ≡ next_count (offered_in before)
+  pub offered : offered_in now ≡ offered_in before + 1
   pub collected : collected_in now ≡ collected_in before
   pub size : size_in now ≡ size_in before
   pub slots : (d : ℕ) → slot_in now d ≡ (if (d == head) && nat_lt d (size_in before) then new_slot before a else slot_in before d)

@@ -1,5 +1,5 @@
 -- The parts of a world, between two steps.
-use Rattle.std.specs.Prelude.{◌≡◌, ℕ, Result, MatchResult, ⊤}
+use Rattle.std.specs.Prelude.{◌≡◌, ◌≤◌, ℕ, ◌+◌, Result, MatchResult, ⊤}
 use Rattle.std.specs.Borrow.{follows_so, MutBor, Bor, Fml}
 use mathlib.Core.Option.{none}
 use Rattle.vub_base.specs.declared.faults.Memory.{Memory}
@@ -14,6 +14,7 @@ use Rattle.vub_driver.specs.Layout.{ring_of}
 use Rattle.vub_guest.specs.GuestState.{ring_in}
 use Rattle.vub_queue_in_run.specs.QueueAt.{IsMainRing}
 use Rattle.vub_world.specs.Lives.{RingOfLife}
+use Rattle.vub_world.specs.Logs.{offered_in}
 use Rattle.vub_world.specs.declared.machine.Machine.{Machine}
 
 -- the size of each space of its memory
@@ -33,8 +34,8 @@ pub record IsSound (m : Machine) : Type 0 where
   pub disk : capacity_of m.disk ≡ m.header.capacity
 
 -- an event lends its record, and the parts go on: sound, standing for some events, and for all that they stood for and
--- this one more
+-- this one more; it offers one request at most
 abbrev pub LendsSound : MutBor Machine → Event → Result (Bor Record) Memory → Fml
 LendsSound m event result =
     follows_so the_row the_row m.ghost_name none (λ _ _. ⊤)
-    (λ now. IsSound now × IsStanding now × (now.header ≡ m.now.header) × MatchResult result (λ r. (r.now.event ≡ event) × StandsOn m.now now event r.now) (λ _. now ≡ m.now))
+    (λ now. IsSound now × IsStanding now × (now.header ≡ m.now.header) × MatchResult result (λ r. (r.now.event ≡ event) × StandsOn m.now now event r.now) (λ _. now ≡ m.now) × (offered_in now.log ≤ offered_in m.now.log + 1))

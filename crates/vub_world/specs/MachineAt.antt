@@ -85,7 +85,7 @@ is_attached (Some l) = has_queue l.queue
 
 -- a drain of an attached queue serves all
 abbrev pub ServesAll : Machine → Event → List Record → Type 0
-ServesAll w (events.Drain q) rs = is_attached w.life ≡ true → IsServed rs
+ServesAll w (events.Drain q) rs = is_attached w.life ≡ true → IsServed q rs
 ServesAll w e rs = ⊤
 
 -- what an event with its record leads to, after these events and records

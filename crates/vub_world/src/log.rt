@@ -1,6 +1,5 @@
 //! What the records tell of one queue's requests.
-ghost use Rattle.std.specs.Prelude.{◌≡◌, ◌<◌, ◌+◌, ◌-◌, ◌^◌, ◌↔◌, ℕ, false, IsTrue, IfOk};
-ghost use Rattle.vub_base.specs.MemForms.{next_count};
+ghost use Rattle.std.specs.Prelude.{◌≡◌, ◌<◌, ◌+◌, ◌-◌, ◌^◌, ℕ, IfOk};
 ghost use Rattle.vub_world.specs.Logs.{reads_in};
 
 use std::alloc::Global;
@@ -55,16 +54,9 @@ impl Log {
         })
     }
 
-    /// Whether no number is left for a further request.
-    pub fn is_full(&self) -> bool
-        ensures full { IsTrue result ↔ (offered_in self.now ≡ 2 ^ 64 - 1) }
-        ensures more { result ≡ false → next_count (offered_in self.now) ≡ offered_in self.now + 1 }
-    {
-        self.offered == u64::MAX
-    }
-
     /// Notes that the request was offered under a head.
     pub fn offer(&mut self, head: u16, ask: &Ask)
+        requires more { offered_in self.old < 2 ^ 64 - 1 }
         ensures { Offers self.old self.new head ask.now }
     {
         let slot = Outstanding {
@@ -75,7 +67,7 @@ impl Log {
         if place < self.outstanding.len() {
             self.outstanding[place] = slot;
         }
-        self.offered = self.offered.saturating_add(1);
+        self.offered += 1;
     }
 
     /// The request that was offered last under a head.

@@ -1,5 +1,5 @@
 //! The parts of a world, and what each event does with them.
-ghost use Rattle.std.specs.Prelude.{◌≡◌, ◌<◌, ◌≤◌, ◌+◌, ◌-◌, ◌*◌, ◌++◌, ◌∷◌, [], ℕ, min, not, List, IfOk, OnOk, OnErr, length, true, false, Some, None};
+ghost use Rattle.std.specs.Prelude.{◌≡◌, ◌<◌, ◌≤◌, ◌+◌, ◌-◌, ◌*◌, ◌^◌, ◌++◌, ◌∷◌, [], ℕ, min, not, List, IfOk, OnOk, OnErr, length, true, false, Some, None};
 ghost use Rattle.vub_shared.specs.Watched.{bytes_in, stores_in, sizes_in, IsUnfailed};
 ghost use Rattle.vub_driver.specs.Layout.{ring_of as main_ring};
 ghost use Rattle.vub_schedule.specs.Spelling.{IsHeader, IsEvent};
@@ -117,6 +117,7 @@ impl Machine {
         ensures header { IfOk result (λ m. m.header ≡ header.now) }
         ensures sound { IfOk result IsSound }
         ensures stands { IfOk result (λ m. MachineAt m (opening header.now)) }
+        ensures offers { IfOk result (λ m. offered_in m.log ≡ 0) }
     {
         let (memory, space) = guest_memory(alloc)?;
         Ok(Machine {
@@ -211,6 +212,7 @@ impl Machine {
     /// Notes that the waiting request is offered.
     fn note_offer(&mut self, room: &mut Room)
         requires sound { IsSound self.old }
+        requires more { offered_in self.old.log < 2 ^ 64 - 1 }
         requires items { 1 ≤ room.old.item_room }
         requires lists { 1 ≤ room.old.lists }
         ensures frame { self.new ≡ record self.old { asked = None; log = self.new.log } }
@@ -245,6 +247,7 @@ impl Machine {
     /// One store of the driver with its items; false where the driver has none to make after it.
     fn guest_store(&mut self, room: &mut Room) -> bool
         requires sound { IsSound self.old }
+        requires more { offered_in self.old.log < 2 ^ 64 - 1 }
         requires fits { FrontFits self.old }
         requires items { 2 ≤ room.old.item_room }
         requires lists { 2 ≤ room.old.lists }
@@ -253,6 +256,7 @@ impl Machine {
         ensures fits { FrontFits self.new }
         ensures position { seen_in self.new.guest ≡ seen_in self.old.guest }
         ensures spent { result ≡ true → Spends 1 1 room.old room.new }
+        ensures log { result ≡ true → self.new.log ≡ self.old.log }
         ensures goes { (m : Moment) → FrontAt self.old m → GuestSteps (m.lanes 0).driver.waiting self.old self.new m room.old.items room.new.items result }
     {
         match self.step_guest() {
@@ -272,6 +276,7 @@ impl Machine {
     /// At most so many stores of the driver.
     fn guest_stores(&mut self, stores: u16, room: &mut Room)
         requires sound { IsSound self.old }
+        requires more { offered_in self.old.log < 2 ^ 64 - 1 }
         requires fits { FrontFits self.old }
         requires items { stores + 1 ≤ room.old.item_room }
         requires lists { stores + 1 ≤ room.old.lists }
@@ -289,6 +294,7 @@ impl Machine {
 
     fn guest(&mut self, stores: u16) -> Result<Items, Memory>
         requires sound { IsSound self.old }
+        requires more { offered_in self.old.log < 2 ^ 64 - 1 }
         requires stands { IsStanding self.old }
         ensures header { self.new.header ≡ self.old.header }
         ensures sound { IsSound self.new }
@@ -297,9 +303,6 @@ impl Machine {
     {
         if self.asked.is_none() {
             return self.idle();
-        }
-        if self.log.is_full() {
-            return Err(Memory);
         }
         let most = stores.min(MOST_STORES);
         let noted = usize::from(most) + 1;
@@ -653,6 +656,7 @@ impl Machine {
 
     fn items_of(&mut self, event: &Event) -> Result<Items, Memory>
         requires fits { IsEvent self.old.header event.now }
+        requires more { offered_in self.old.log < 2 ^ 64 - 1 }
         requires sound { IsSound self.old }
         requires stands { IsStanding self.old }
         ensures header { self.new.header ≡ self.old.header }
@@ -678,12 +682,14 @@ impl Machine {
     /// Plays an event, and keeps its record.
     pub fn perform(&mut self, event: &Event) -> Result<(), Memory>
         requires fits { IsEvent self.old.header event.now }
+        requires more { offered_in self.old.log < 2 ^ 64 - 1 }
         requires sound { IsSound self.old }
         requires stands { IsStanding self.old }
         ensures header { self.new.header ≡ self.old.header }
         ensures sound { IsSound self.new }
         ensures stands { IsStanding self.new }
         ensures kept { OnErr result (self.new ≡ self.old) }
+        ensures offers { offered_in self.new.log ≤ offered_in self.old.log + 1 }
         ensures event { OnOk result (self.new.last.event ≡ event.now) }
         ensures on { OnOk result (StandsOn self.old self.new event.now self.new.last) }
     {
@@ -697,6 +703,7 @@ impl Machine {
     /// Plays an event, and lends its record.
     pub fn event(&mut self, event: &Event) -> Result<&Record, Memory>
         requires fits { IsEvent self.old.header event.now }
+        requires more { offered_in self.old.log < 2 ^ 64 - 1 }
         requires sound { IsSound self.old }
         requires stands { IsStanding self.old }
         ensures* after { sem 𝓛 (LendsSound self.entry event.now result) }

@@ -1,4 +1,4 @@
-ghost use Rattle.std.specs.Prelude.{◌≡◌, ◌<◌, [], IfOk};
+ghost use Rattle.std.specs.Prelude.{◌≡◌, ◌<◌, ◌-◌, ◌^◌, [], IfOk};
 ghost use Rattle.vub_schedule.specs.Spelling.{IsHeader, IsEvent};
 
 use crate::machine::Machine;
@@ -32,22 +32,25 @@ impl World {
     ghost use Rattle.std.specs.Borrow.{sem};
     ghost use Rattle.vub_memdisk.specs.MemDisks.{values_of};
     ghost use Rattle.vub_world.specs.MachineAt.{StandsFor};
-    ghost use Rattle.vub_world.specs.World.{header_in, disk_in, LendsRecord};
+    ghost use Rattle.vub_world.specs.World.{header_in, disk_in, offers_in, LendsRecord};
 
     /// A world in which nothing has happened: the driver's memory and the disk are zero.
     pub fn new(alloc: Global, header: &Header1) -> Result<World, Memory>
         requires { IsHeader header.now }
         ensures header { IfOk result (λ w. header_in w ≡ header.now) }
         ensures stands { IfOk result (λ w. StandsFor w [] []) }
+        ensures offers { IfOk result (λ w. offers_in w ≡ 0) }
     {
         let machine = Machine::new(alloc, header)?;
         Ok(World { machine })
     }
 
     /// Plays an event, and lends its record. All memory that the event can need is reserved before
-    /// its first change: refused, it changes nothing.
+    /// its first change: refused, it changes nothing. A further offer has a number of 64 bits, and an
+    /// event offers one request at most.
     pub fn event(&mut self, event: &Event) -> Result<&Record, Memory>
-        requires { IsEvent (header_in self.old) event.now }
+        requires event { IsEvent (header_in self.old) event.now }
+        requires more { offers_in self.old < 2 ^ 64 - 1 }
         ensures* after { sem 𝓛 (LendsRecord self.entry event.now result) }
     {
         self.machine.event(event)

@@ -1,5 +1,5 @@
 -- What a command writes of one record more, or a part of it.
-use Rattle.std.proofs.Common.{◌≡◌, ℕ, ◌<◌, ◌+◌, List, [], ◌∷◌, ◌++◌, take, length, get_or, sym, ap, ◌∙◌, subst, append_assoc, Option}
+use Rattle.std.proofs.Common.{◌≡◌, ℕ, ◌<◌, ◌+◌, List, [], ◌∷◌, ◌++◌, take, length, get_or, refl, sym, ap, ◌∙◌, subst, append_assoc, Option}
 use Rattle.std.proofs.lemmas.List.{take_more, append-nil}
 use Rattle.std.proofs.lemmas.Grind.{flat_map-append}
 use Rattle.std.specs.List.{flat_map}
@@ -7,15 +7,15 @@ use Rattle.vub_base.specs.declared.header.Header1.{Header1}
 use Rattle.vub_schedule.specs.declared.types.Event.{Event}
 use Rattle.vub_world.specs.declared.machine.Machine.{Machine}
 use Rattle.vub_report.specs.declared.items.Record.{Record}
-use Rattle.vub_run.specs.LegalRuns.{IsLegalRun}
+use Rattle.vub_run.specs.LegalRuns.{IsLegalRun, EveryDrainServes}
 use Rattle.vub_world.specs.MachineAt.{StandsFor, StandsOn, GoesOn}
 use Rattle.vub_report.specs.RecordText.{record_spelling, entry_line, entries_spelling}
 use Rattle.vub_report.specs.Histories.{entries_of, history_of}
-use Rattle.vublk.specs.Flows.{Wrote, WrotePart}
+use Rattle.vublk.specs.Flows.{WrotePart, WroteBut}
 use Rattle.vublk.specs.Records.{piece_of, records_text}
 use Rattle.vublk.specs.declared.words.Command.{Command}
 use Rattle.vublk.specs.declared.words.Command.TheVariants.{Replay, Entries}
-use Rattle.vublk.proofs.Streams.{Wrote-then, Part-then}
+use Rattle.vublk.proofs.Streams.{But-none, But-then, But-part}
 
 history-more : (rs : List Record) (r : Record) → history_of (rs ++ r ∷ []) ≡ history_of rs ++ entries_of r.items
 history-more [] r = append-nil (entries_of r.items)
@@ -30,6 +30,21 @@ pub record IsPlayed (h : Header1) (w : Machine) (events : List Event) (rs : List
   pub stands : StandsFor w events rs
   pub runs : IsLegalRun h events rs
 
+none_drained : EveryDrainServes []
+none_drained [] r later q parts is attached = absurd (cc)
+none_drained (x ∷ before) r later q parts is attached = absurd (cc)
+
+-- before the first
+pub no_run : (h : Header1) → IsLegalRun h [] []
+no_run h = record { run = tt; entries = tt; legal = tt; tracked = tt; drained = none_drained }
+
+no_text : (c : Command) → records_text c [] ≡ []
+no_text Replay = refl
+no_text Entries = refl
+
+pub none_played : (c : Command) (h : Header1) (w : Machine) (at : Option (List ℕ)) (first : List ℕ) → StandsFor w [] [] → (rs : List Record) × IsPlayed h w [] rs × WroteBut at at first (first ++ records_text c rs)
+none_played c h w at first stands = ([], record { stands = stands; runs = no_run h }, But-none at first (first ++ records_text c []) (sym (ap (λ (t : List ℕ). first ++ t) (no_text c) ∙ append-nil first)))
+
 -- and after one more
 pub played_more : (h : Header1) (w now : Machine) (events : List Event) (i : ℕ) (e : Event) (rs : List Record) (r : Record) → i < length events → e ≡ get_or events i e → w.header ≡ h → IsPlayed h w (take i events) rs → StandsOn w now e r
     → IsPlayed h now (take (i + 1) events) (rs ++ r ∷ [])
@@ -40,14 +55,18 @@ played_more h w now events i e rs r lt is same so on =
       runs = subst (λ (k : Header1). IsLegalRun k (take (i + 1) events) (rs ++ r ∷ [])) same (subst (λ (es : List Event). IsLegalRun w.header es (rs ++ r ∷ [])) at went.runs);
     }
 
-pub Whole-more : (c : Command) (h : Header1) (w now : Machine) (events : List Event) (i : ℕ) (e : Event) (rs : List Record) (r : Record) (before at after : Option (List ℕ))
-    → i < length events → e ≡ get_or events i e → w.header ≡ h → IsPlayed h w (take i events) rs → StandsOn w now e r → Wrote before at (records_text c rs) → Wrote at after (piece_of c r)
-    → (rs : List Record) × IsPlayed h now (take (i + 1) events) rs × Wrote before after (records_text c rs)
-Whole-more c h w now events i e rs r before at after lt is same so on wrote next =
-    (rs ++ r ∷ [], played_more h w now events i e rs r lt is same so on, rw (records_text-more c rs r) (Wrote-then before at after (records_text c rs) (piece_of c r) wrote next))
+-- the text after what waited at first grows by the piece of one record more
+put_more : (c : Command) (first : List ℕ) (rs : List Record) (r : Record) → (first ++ records_text c rs) ++ piece_of c r ≡ first ++ records_text c (rs ++ r ∷ [])
+put_more c first rs r = append_assoc first (records_text c rs) (piece_of c r) ∙ ap (λ (t : List ℕ). first ++ t) (sym (records_text-more c rs r))
 
-pub Part-more : (c : Command) (h : Header1) (w now : Machine) (events : List Event) (i : ℕ) (e : Event) (rs : List Record) (r : Record) (before at after : Option (List ℕ))
-    → i < length events → e ≡ get_or events i e → w.header ≡ h → IsPlayed h w (take i events) rs → StandsOn w now e r → Wrote before at (records_text c rs) → WrotePart at after (piece_of c r)
-    → (n : ℕ) × (rs : List Record) × IsLegalRun h (take n events) rs × WrotePart before after (records_text c rs)
-Part-more c h w now events i e rs r before at after lt is same so on wrote part =
-    (i + 1, rs ++ r ∷ [], (played_more h w now events i e rs r lt is same so on).runs, rw (records_text-more c rs r) (Part-then before at after (records_text c rs) (piece_of c r) wrote part))
+pub Whole-more : (c : Command) (h : Header1) (w now : Machine) (events : List Event) (i : ℕ) (e : Event) (rs : List Record) (r : Record) (before at after : Option (List ℕ)) (first waiting later : List ℕ)
+    → i < length events → e ≡ get_or events i e → w.header ≡ h → IsPlayed h w (take i events) rs → StandsOn w now e r → WroteBut before at waiting (first ++ records_text c rs) → WroteBut at after later (waiting ++ piece_of c r)
+    → (rs : List Record) × IsPlayed h now (take (i + 1) events) rs × WroteBut before after later (first ++ records_text c rs)
+Whole-more c h w now events i e rs r before at after first waiting later lt is same so on wrote next =
+    (rs ++ r ∷ [], played_more h w now events i e rs r lt is same so on, rw (← put_more c first rs r) (But-then before at after waiting later (first ++ records_text c rs) (piece_of c r) wrote next))
+
+pub Part-more : (c : Command) (h : Header1) (w now : Machine) (events : List Event) (i : ℕ) (e : Event) (rs : List Record) (r : Record) (before at after : Option (List ℕ)) (first waiting : List ℕ)
+    → i < length events → e ≡ get_or events i e → w.header ≡ h → IsPlayed h w (take i events) rs → StandsOn w now e r → WroteBut before at waiting (first ++ records_text c rs) → WrotePart at after (waiting ++ piece_of c r)
+    → (n : ℕ) × (rs : List Record) × IsLegalRun h (take n events) rs × WrotePart before after (first ++ records_text c rs)
+Part-more c h w now events i e rs r before at after first waiting lt is same so on wrote part =
+    (i + 1, rs ++ r ∷ [], (played_more h w now events i e rs r lt is same so on).runs, rw (← put_more c first rs r) (But-part before at after waiting (first ++ records_text c rs) (piece_of c r) wrote part))

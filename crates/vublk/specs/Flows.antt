@@ -31,3 +31,7 @@ Wrote (Some held) new text = new ≡ Some (held ++ text)
 -- the sink grew by a front of the text
 abbrev pub WrotePart : Option (List ℕ) → Option (List ℕ) → List ℕ → Type 0
 WrotePart old new text = (k : ℕ) × Wrote old new (take k text)
+
+-- the sink grew by a front of the text, and these bytes, the rest of it, wait
+abbrev pub WroteBut : Option (List ℕ) → Option (List ℕ) → List ℕ → List ℕ → Type 0
+WroteBut old new waiting text = (sent : List ℕ) × Wrote old new sent × (sent ++ waiting ≡ text)

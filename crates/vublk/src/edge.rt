@@ -1,5 +1,11 @@
-//! The outside as the operating system gives it. None of it is told, but how often a call failed.
-ghost use Rattle.std.specs.Prelude.{None};
+//! The outside as the operating system gives it. Of the content of its streams std tells nothing, so
+//! source and sink tell none; of a reader or writer whose content is told, they take and give just
+//! that.
+ghost use Rattle.std.specs.Prelude.{◌≡◌, ◌≤◌, None, length, IfOk, OnOk};
+ghost use Rattle.std.specs.Io.KnownBytes.{ReadConsumes, Appends};
+ghost use Rattle.vub_base.specs.Causes.{HasCause};
+ghost use Rattle.vub_base.specs.Sources.{Reads};
+ghost use Rattle.vub_base.specs.Sinks.{Writes};
 
 use std::io::{Read, Write};
 use vub_base::{Bell, Failed, Sink, Source};
@@ -23,7 +29,14 @@ impl<R: Read> Source for FileSource<R> {
 
     ghost faults = { λ s. s.faults };
 
-    fn read(&mut self, into: &mut [u8]) -> Result<usize, Failed> {
+    fn read(&mut self, into: &mut [u8]) -> Result<usize, Failed>
+        ensures within { IfOk result (λ n. n ≤ length into.new) }
+        ensures reads { Reads None None result into.new }
+        ensures cause { HasCause self.old.faults self.new.faults result }
+
+        // What it gives is what it took off the reader: none only at the end, and none where it fails.
+        ensures consumes { ReadConsumes (R.remaining self.old.inner) (R.remaining self.new.inner) result into.new }
+    {
         match self.inner.read(into) {
             Ok(count) => Ok(count),
             Err(_) => {
@@ -53,7 +66,13 @@ impl<W: Write> Sink for FileSink<W> {
 
     ghost faults = { λ s. s.faults };
 
-    fn write(&mut self, piece: &[u8]) -> Result<(), Failed> {
+    fn write(&mut self, piece: &[u8]) -> Result<(), Failed>
+        ensures writes { Writes None None result piece.now }
+        ensures cause { HasCause self.old.faults self.new.faults result }
+
+        // The writer grew by the whole piece.
+        ensures appends { OnOk result (Appends (W.contents self.old.inner) (W.contents self.new.inner) piece.now) }
+    {
         match self.inner.write_all(piece) {
             Ok(()) => Ok(()),
             Err(_) => {

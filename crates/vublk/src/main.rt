@@ -6,6 +6,7 @@ mod command;
 mod edge;
 #[cfg(test)]
 mod interleavings;
+mod pieces;
 mod printing;
 mod reading;
 mod replay;

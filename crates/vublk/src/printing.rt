@@ -1,15 +1,16 @@
-//! Prints what a command writes of a run, each record's part as it is made.
-ghost use Rattle.std.specs.Prelude.{◌≡◌, ◌≤◌, ◌++◌, [], List, ℕ, take, IfOk, OnOk, OnErr, IsErrOf};
+//! Puts what a command writes of a run into pieces, each record's part as it is made.
+ghost use Rattle.std.specs.Prelude.{◌≡◌, ◌<◌, ◌≤◌, ◌-◌, ◌^◌, ◌++◌, [], List, ℕ, take, IfOk, OnOk, OnErr, IsErrOf};
 ghost use Rattle.std.specs.List.{AllByRecursion};
 ghost use Rattle.vub_base.specs.Causes.{Rose};
 ghost use Rattle.vub_schedule.specs.Spelling.{IsEvent};
 ghost use Rattle.vub_report.specs.declared.items.Record.{Record};
 ghost use Rattle.vub_run.specs.LegalRuns.{IsLegalRun};
 ghost use Rattle.vub_world.specs.MachineAt.{StandsFor, StandsOn};
-ghost use Rattle.vub_world.specs.World.{header_in};
-ghost use Rattle.vublk.specs.Flows.{Wrote, WrotePart};
+ghost use Rattle.vub_world.specs.World.{header_in, offers_in};
+ghost use Rattle.vublk.specs.Flows.{Wrote, WrotePart, WroteBut};
 ghost use Rattle.vublk.specs.Records.{head_of, piece_of, records_text};
 
+use crate::pieces::Pieces;
 use crate::words::Command;
 use std::alloc::Global;
 use vub_base::{Header1, Memory, Sink};
@@ -65,37 +66,41 @@ fn put_piece(
     }
 }
 
-/// Prints what the command writes before all records.
+/// Puts what the command writes before all records. For want of memory nothing is put.
 pub fn print_head<O: Sink>(
     alloc: Global,
     command: Command,
     header: &Header1,
+    pieces: &mut Pieces,
     out: &mut O,
 ) -> Result<(), PrintFault>
-    ensures ok { OnOk result (Wrote (O.held out.old) (O.held out.new) (head_of command header.now)) }
-    ensures memory { IsErrOf result PrintFault.Memory → O.held out.new ≡ O.held out.old }
-    ensures part { IsErrOf result PrintFault.Failed → WrotePart (O.held out.old) (O.held out.new) (head_of command header.now) }
+    ensures ok { OnOk result (WroteBut (O.held out.old) (O.held out.new) pieces.new (pieces.old ++ head_of command header.now)) }
+    ensures memory { IsErrOf result PrintFault.Memory → (O.held out.new ≡ O.held out.old) × (pieces.new ≡ pieces.old) }
+    ensures part { IsErrOf result PrintFault.Failed → WrotePart (O.held out.old) (O.held out.new) (pieces.old ++ head_of command header.now) }
     ensures later { O.faults out.old ≤ O.faults out.new }
     ensures failed { IsErrOf result PrintFault.Failed → Rose (O.faults out.old) (O.faults out.new) }
 {
     let text = head(alloc, command, header).map_err(|_| PrintFault::Memory)?;
-    put(out, &text)
+    pieces.put(out, &text).map_err(|_| PrintFault::Failed)
 }
 
-/// Plays an event and prints what the command writes of its record. `text` is used for it.
+/// Plays an event and puts what the command writes of its record. `text` is used for it. For want of
+/// memory nothing is put.
 fn print_next<O: Sink>(
     alloc: Global,
     command: Command,
     world: &mut World,
     event: &Event,
     text: &mut Vec<u8>,
+    pieces: &mut Pieces,
     out: &mut O,
 ) -> Result<(), PrintFault>
     requires event { IsEvent (header_in world.old) event.now }
+    requires more { offers_in world.old < 2 ^ 64 - 1 }
     ensures header { header_in world.new ≡ header_in world.old }
-    ensures ok { OnOk result ((r : Record) × StandsOn world.old world.new event.now r × Wrote (O.held out.old) (O.held out.new) (piece_of command r)) }
-    ensures memory { IsErrOf result PrintFault.Memory → O.held out.new ≡ O.held out.old }
-    ensures part { IsErrOf result PrintFault.Failed → (r : Record) × StandsOn world.old world.new event.now r × WrotePart (O.held out.old) (O.held out.new) (piece_of command r) }
+    ensures ok { OnOk result ((r : Record) × StandsOn world.old world.new event.now r × WroteBut (O.held out.old) (O.held out.new) pieces.new (pieces.old ++ piece_of command r)) }
+    ensures memory { IsErrOf result PrintFault.Memory → (O.held out.new ≡ O.held out.old) × (pieces.new ≡ pieces.old) }
+    ensures part { IsErrOf result PrintFault.Failed → (r : Record) × StandsOn world.old world.new event.now r × WrotePart (O.held out.old) (O.held out.new) (pieces.old ++ piece_of command r) }
     ensures later { O.faults out.old ≤ O.faults out.new }
     ensures failed { IsErrOf result PrintFault.Failed → Rose (O.faults out.old) (O.faults out.new) }
 {
@@ -105,31 +110,32 @@ fn print_next<O: Sink>(
     };
     text.clear();
     put_piece(alloc, command, text, made).map_err(|_| PrintFault::Memory)?;
-    put(out, text)
+    pieces.put(out, text).map_err(|_| PrintFault::Failed)
 }
 
-/// Plays events in order in a new world, and prints what the command writes of each record as it
-/// is made.
+/// Plays events in order in a new world, and puts what the command writes of each record as it is
+/// made.
 pub fn print_all<O: Sink>(
     alloc: Global,
     command: Command,
     world: &mut World,
     events: &[Event],
+    pieces: &mut Pieces,
     out: &mut O,
 ) -> Result<(), PrintFault>
     requires events { AllByRecursion (IsEvent (header_in world.old)) events.now }
     requires new { StandsFor world.old [] [] }
-    ensures ok { OnOk result ((rs : List Record) × IsLegalRun (header_in world.old) events.now rs × Wrote (O.held out.old) (O.held out.new) (records_text command rs)) }
+    ensures ok { OnOk result ((rs : List Record) × IsLegalRun (header_in world.old) events.now rs × WroteBut (O.held out.old) (O.held out.new) pieces.new (pieces.old ++ records_text command rs)) }
     ensures memory { IsErrOf result PrintFault.Memory →
-        (n : ℕ) × (rs : List Record) × IsLegalRun (header_in world.old) (take n events.now) rs × Wrote (O.held out.old) (O.held out.new) (records_text command rs) }
+        (n : ℕ) × (rs : List Record) × IsLegalRun (header_in world.old) (take n events.now) rs × WroteBut (O.held out.old) (O.held out.new) pieces.new (pieces.old ++ records_text command rs) }
     ensures part { IsErrOf result PrintFault.Failed →
-        (n : ℕ) × (rs : List Record) × IsLegalRun (header_in world.old) (take n events.now) rs × WrotePart (O.held out.old) (O.held out.new) (records_text command rs) }
+        (n : ℕ) × (rs : List Record) × IsLegalRun (header_in world.old) (take n events.now) rs × WrotePart (O.held out.old) (O.held out.new) (pieces.old ++ records_text command rs) }
     ensures later { O.faults out.old ≤ O.faults out.new }
     ensures failed { IsErrOf result PrintFault.Failed → Rose (O.faults out.old) (O.faults out.new) }
 {
     let mut text = Vec::new(alloc);
     for event in events {
-        print_next(alloc, command, world, event, &mut text, out)?;
+        print_next(alloc, command, world, event, &mut text, pieces, out)?;
     }
     Ok(())
 }

@@ -7,6 +7,7 @@ ghost use Rattle.vub_world.specs.World.{header_in};
 ghost use Rattle.vublk.specs.Flows.{Wrote, WrotePart, TakesAtMost, input_limit};
 ghost use Rattle.vublk.specs.Ends.{Prints, Plays, Replays, IsBadEnd, bad_line_text};
 
+use crate::pieces::Pieces;
 use crate::printing::{PrintFault, print_all, print_head, put};
 use crate::reading::{ReadFault, read_all};
 use crate::words::Command;
@@ -33,29 +34,38 @@ pub enum End {
     TooLong,
 }
 
-/// Prints what the command writes of the records that the world makes.
+/// Prints what the command writes of the records that the world makes, those before a want of memory
+/// too.
 fn print_world<O: Sink>(
     alloc: Global,
     command: Command,
     world: &mut World,
     schedule: &Schedule,
+    pieces: &mut Pieces,
     out: &mut O,
 ) -> End
     requires schedule { IsSchedule schedule.now }
     requires header { header_in world.old ≡ schedule.now.header }
     requires new { StandsFor world.old [] [] }
+    requires empty { pieces.old ≡ [] }
     ensures ends { Prints command schedule.now (O.held out.old) (O.held out.new) result }
     ensures later { O.faults out.old ≤ O.faults out.new }
     ensures failed { result ≡ End.WriteFault → Rose (O.faults out.old) (O.faults out.new) }
 {
-    match print_head(alloc, command, &schedule.header, out) {
+    match print_head(alloc, command, &schedule.header, pieces, out) {
         Ok(()) => {}
         Err(PrintFault::Memory) => return End::Memory,
         Err(PrintFault::Failed) => return End::WriteFault,
     }
-    match print_all(alloc, command, world, schedule.events.items(), out) {
-        Ok(()) => End::Done,
-        Err(PrintFault::Memory) => End::Memory,
+    match print_all(alloc, command, world, schedule.events.items(), pieces, out) {
+        Ok(()) => match pieces.flush(out) {
+            Ok(()) => End::Done,
+            Err(_) => End::WriteFault,
+        },
+        Err(PrintFault::Memory) => match pieces.flush(out) {
+            Ok(()) => End::Memory,
+            Err(_) => End::WriteFault,
+        },
         Err(PrintFault::Failed) => End::WriteFault,
     }
 }
@@ -67,8 +77,11 @@ fn print_run<O: Sink>(alloc: Global, command: Command, schedule: &Schedule, out:
     ensures later { O.faults out.old ≤ O.faults out.new }
     ensures failed { result ≡ End.WriteFault → Rose (O.faults out.old) (O.faults out.new) }
 {
+    let Ok(mut pieces) = Pieces::new(alloc) else {
+        return End::Memory;
+    };
     match World::new(alloc, &schedule.header) {
-        Ok(mut world) => print_world(alloc, command, &mut world, schedule, out),
+        Ok(mut world) => print_world(alloc, command, &mut world, schedule, &mut pieces, out),
         Err(Memory) => End::Memory,
     }
 }

@@ -48,4 +48,4 @@ returns-clause-performs c es rs m s at = go (m.lanes 0).driver.waiting refl
           | inl more ↦ all_gone most c.args.stores x w now m [] is (omega (arith, few, more, c.min-most.ensures)) (omega (arith, more, c.min-most.ensures)) made
           | inr less ↦ subst (λ (k : ℕ). GuestGoes k x w now m [] is) (omega (arith, less, c.min-most.ensures)) made
         ] in
-        guest_performs w now es rs m x is c.args.stores c.guest_stores.ensures.frame c.guest_stores.ensures.position (c.is_full.ensures.more c.if-is_full.false) s at (omega (arith, c.ranges.stores.fits)) (left_some w.guest x waits) e here
+        guest_performs w now es rs m x is c.args.stores c.guest_stores.ensures.frame c.guest_stores.ensures.position s at (omega (arith, c.ranges.stores.fits)) (left_some w.guest x waits) e here

@@ -1,0 +1,190 @@
+-- Each drain of an attached queue in a run serves it.
+use Rattle.std.proofs.Common.{◌≡◌, ℕ, Bool, true, false, not, List, [], ◌∷◌, ◌++◌, refl, ap, sym, ◌∙◌, subst, inl, inr}
+use Rattle.std.specs.Prelude.{Option, Some, None, is_some, ◌&&◌}
+use Rattle.std.specs.List.{AllByRecursion}
+use Rattle.vub_base.specs.declared.header.Header1.{Header1}
+use Rattle.vub_steps.specs.declared.readiness.Turn.{Turn}
+use Rattle.vub_steps.specs.declared.readiness.Turn.TheVariants as turns
+use Rattle.vub_driver.specs.Drivers.{Waiting, can_take}
+use Rattle.vub_device.specs.declared.entry.Entry.{Entry}
+use Rattle.vub_device.specs.Past.{accepted, offers, open_numbers}
+use Rattle.vub_schedule.specs.declared.types.Event.{Event}
+use Rattle.vub_schedule.specs.declared.types.Event.TheVariants as events
+use Rattle.vub_schedule.specs.Spelling.{IsHeader, IsEvent}
+use Rattle.vub_report.specs.declared.items.Item.{Item}
+use Rattle.vub_report.specs.declared.items.Record.{Record}
+use Rattle.vub_run.specs.LegalRuns.{past_of, attached_after, attached_from, IsServed, EveryDrainServes, IsLegalRun}
+use Rattle.vub_run.specs.Moments.{Moment, opening, fresh}
+use Rattle.vub_run.specs.Run.{Played, played, if_ready, ask, guest, guest_stores, take_first, collect, one_turn, is_due, turns as many_turns, single, up_to, any_choice, drain_choice, Drains, Plays, RunFrom, RunTo, Stands}
+use Rattle.vub_run_laws.proofs.RunEntries.{run_enters}
+use Rattle.vub_run_laws.proofs.RunTurns.{IsPlain, Good}
+use Rattle.vub_run_laws.proofs.RunDrains.{turned_stays, turns_stay}
+use Rattle.vub_run_laws.proofs.Runs.{plain_header}
+use Rattle.vub_run_laws.proofs.RunsLegal.{IsHeld, opening_held, held_next}
+use Rattle.vub_run_laws.proofs.RunsTo.{run_of, stands_more, stands_past, stands_true, stands_drained}
+
+-- ---- what records say of attached queues
+
+abbrev is_on : Moment → Bool
+is_on m = (m.lanes 0).attached
+
+abbrev Stays : Moment → Moment → Type 0
+Stays m n = is_on n ≡ is_on m
+
+tested : (ready : Bool) (p : Played) (m : Moment) → Stays m p.next → Stays m (if_ready ready p m).next
+tested true p m stays = stays
+tested false p m stays = refl
+
+made_stays : (m : Moment) (is : List Item) (next : Moment) (p : Played) → played is next ≡ p → Stays m p.next → Stays m next
+made_stays m is next p e stays = subst (λ (x : Played). Stays m x.next) (sym e) stays
+
+stores_stay : (h : Header1) (m : Moment) (count : ℕ) (o : Option Waiting) → Stays m (guest_stores h 0 count o m).next
+stores_stay h m count None = refl
+stores_stay h m count (Some w) = refl
+
+taken_stays : (h : Header1) (m : Moment) (xs : List (ℕ × ℕ)) → Stays m (take_first h 0 xs m).next
+taken_stays h m [] = refl
+taken_stays h m (x ∷ xs) = refl
+
+single_stays : (h : Header1) (m : Moment) (t : Turn) → Stays m (single h 0 t m).next
+single_stays h m t = tested (is_due h 0 t m) (one_turn h 0 t m) m (turned_stays h t m)
+
+drain_stays : (h : Header1) (m : Moment) (choose : Moment → Turn) (is : List Item) (next : Moment) → IsPlain h → Good h m → Drains h 0 m choose is next → Stays m next
+drain_stays h m choose is next plain good (inl none) = ap (λ (p : Played). is_on p.next) none.1
+drain_stays h m choose is next plain good (inr some) = made_stays m is next (many_turns some.1.count choose h 0 m) some.1.made (turns_stay some.1.count choose h m plain good).0
+
+-- items and moment of an event that has a test are these
+tested_is : (P : List Item → Moment → Type 0) (test : Bool) (p : Played) (m : Moment) (is : List Item) (next : Moment) → played is next ≡ if_ready test p m → P p.items p.next → P (if_ready false p m).items m → P is next
+tested_is P true p m is next e ready idle = subst (λ (x : Played). P x.items x.next) (sym e) ready
+tested_is P false p m is next e ready idle = subst (λ (x : Played). P x.items x.next) (sym e) idle
+
+-- after an event
+event_attaches : (h : Header1) (m : Moment) (e : Event) (is : List Item) (next : Moment) → IsPlain h → Good h m → IsEvent h e → Plays h m e is next → is_on next ≡ attached_after e is (is_on m)
+event_attaches h m (events.Ask q shape a) is next plain good fits plays =
+    let here : Plays h m (events.Ask 0 shape a) is next = subst (λ (p : ℕ). Plays h m (events.Ask p shape a) is next) fits.0 plays in
+    made_stays m is next (ask h 0 shape a m) here (tested (can_take h.size shape a (m.lanes 0).driver) _ m refl)
+event_attaches h m (events.Guest q k) is next plain good fits plays =
+    let here : Plays h m (events.Guest 0 k) is next = subst (λ (p : ℕ). Plays h m (events.Guest p k) is next) fits.0 plays in
+    made_stays m is next (guest h 0 k m) here (tested (is_some (m.lanes 0).driver.waiting) _ m (stores_stay h m k (m.lanes 0).driver.waiting))
+event_attaches h m (events.Collect q) is next plain good fits plays =
+    let here : Plays h m (events.Collect 0) is next = subst (λ (p : ℕ). Plays h m (events.Collect p) is next) fits plays in
+    made_stays m is next (collect h 0 m) here (taken_stays h m _)
+event_attaches h m events.Boot is next plain good fits plays =
+    tested_is (λ js n. is_on n ≡ attached_after events.Boot js (is_on m)) (not m.lives) (played [] (record m { lives = true; joined = false; lanes = λ q. fresh (m.lanes q) })) m is next plays refl refl
+event_attaches h m events.Join is next plain good fits plays =
+    tested_is (λ js n. is_on n ≡ attached_after events.Join js (is_on m)) (m.lives && not m.joined) (played [] (record m { joined = true; lanes = λ q. record (m.lanes q) { attached = true } })) m is next plays refl refl
+event_attaches h m (events.Start q) is next plain good fits plays =
+    let here : Plays h m (events.Start 0) is next = subst (λ (p : ℕ). Plays h m (events.Start p) is next) fits plays in
+    made_stays m is next (single h 0 turns.Start m) here (single_stays h m turns.Start)
+event_attaches h m (events.Fetch q) is next plain good fits plays =
+    let here : Plays h m (events.Fetch 0) is next = subst (λ (p : ℕ). Plays h m (events.Fetch p) is next) fits plays in
+    made_stays m is next (single h 0 turns.Fetch m) here (single_stays h m turns.Fetch)
+event_attaches h m (events.Work q place) is next plain good fits plays =
+    let here : Plays h m (events.Work 0 place) is next = subst (λ (p : ℕ). Plays h m (events.Work p place) is next) fits.0 plays in
+    made_stays m is next (single h 0 (turns.Work place) m) here (single_stays h m (turns.Work place))
+event_attaches h m (events.Publish q most) is next plain good fits plays =
+    let here : Plays h m (events.Publish 0 most) is next = subst (λ (p : ℕ). Plays h m (events.Publish p most) is next) fits.0 plays in
+    made_stays m is next (single h 0 (turns.Publish most) m) here (single_stays h m (turns.Publish most))
+event_attaches h m (events.Turn q count) is next plain good fits plays =
+    let here : Plays h m (events.Turn 0 count) is next = subst (λ (p : ℕ). Plays h m (events.Turn p count) is next) fits.0 plays in
+    made_stays m is next (up_to count (any_choice h 0) h 0 m) here
+    (tested (is_due h 0 (any_choice h 0 m) m) (many_turns count (any_choice h 0) h 0 m) m (turns_stay count (any_choice h 0) h m plain good).0)
+event_attaches h m (events.Drain q) is next plain good fits plays =
+    let here : Plays h m (events.Drain 0) is next = subst (λ (p : ℕ). Plays h m (events.Drain p) is next) fits plays in
+    drain_stays h m (drain_choice h 0 (accepted m.scene.past 0)) is next plain good here
+
+-- and after a run
+run_attaches : (h : Header1) (m : Moment) (es : List Event) (rs : List Record) (n : Moment) → IsHeader h → IsHeld h m → AllByRecursion (IsEvent h) es → RunTo h m es rs n → is_on n ≡ attached_from (is_on m) rs
+run_attaches h m [] [] n header held fits run = ap is_on run
+run_attaches h m [] (r ∷ rs) n header held fits run = absurd run
+run_attaches h m (e ∷ es) [] n header held fits run = absurd run
+run_attaches h m (e ∷ es) (r ∷ rs) n header held fits run =
+    let next : Moment = run.1.0 in
+    let first : is_on next ≡ attached_after e r.items (is_on m) = event_attaches h m e r.items next (plain_header h header) held.0 fits.0 run.1.1 in
+    run_attaches h next es rs n header (held_next h m e r.items next header held fits.0 run.1.1) fits.1 run.1.2
+    ∙ ap (λ (b : Bool). attached_from b rs) (first ∙ ap (λ (x : Event). attached_after x r.items (is_on m)) (sym run.0))
+
+-- ---- a run is parted at a record
+
+pub record PartedAt (h : Header1) (m : Moment) (es : List Event) (before : List Record) (r : Record) : Type 0 where
+  pub first : List Event
+  pub at : Moment
+  pub next : Moment
+  pub fits : AllByRecursion (IsEvent h) first
+  pub upto : RunTo h m first before at
+  pub is_event : IsEvent h r.event
+  pub plays : Plays h at r.event r.items next
+
+parted : (h : Header1) (m : Moment) (es : List Event) (before : List Record) (r : Record) (later : List Record) (n : Moment) → AllByRecursion (IsEvent h) es → RunTo h m es (before ++ r ∷ later) n → PartedAt h m es before r
+parted h m [] [] r later n fits run = absurd run
+parted h m (e ∷ es) [] r later n fits run = record {
+  first = [];
+  at = m;
+  next = run.1.0;
+  fits = tt;
+  upto = refl;
+  is_event = subst (λ (x : Event). IsEvent h x) (sym run.0) fits.0;
+  plays = subst (λ (x : Event). Plays h m x r.items run.1.0) (sym run.0) run.1.1;
+}
+parted h m [] (x ∷ before) r later n fits run = absurd run
+parted h m (e ∷ es) (x ∷ before) r later n fits run =
+    let rest : PartedAt h run.1.0 es before r = parted h run.1.0 es before r later n fits.1 run.1.2 in
+    record {
+      first = e ∷ rest.first;
+      at = rest.at;
+      next = rest.next;
+      fits = (fits.0, rest.fits);
+      upto = (run.0, (run.1.0, run.1.1, rest.upto));
+      is_event = rest.is_event;
+      plays = rest.plays;
+    }
+
+-- ---- drains
+
+pub drain_serves : (h : Header1) (es : List Event) (rs : List Record) (m k : Moment) (r : Record) → Stands h es rs m → Stands h (es ++ events.Drain 0 ∷ []) (rs ++ r ∷ []) k → is_on m ≡ true → Plays h m (events.Drain 0) r.items k → IsServed 0 (rs ++ r ∷ [])
+drain_serves h es rs m k r stands next attached plays =
+    let both = stands_drained h es rs m k r.items stands attached plays in
+    let past : k.scene.past ≡ past_of (rs ++ r ∷ []) = stands_past h (es ++ events.Drain 0 ∷ []) (rs ++ r ∷ []) k next in
+    record {
+      none_open = subst (λ (p : List Entry). open_numbers p 0 ≡ []) past both.0;
+      all_accepted = subst (λ (p : List Entry). accepted p 0 ≡ offers p 0) past both.1;
+    }
+
+stands_serves : (h : Header1) (es : List Event) (rs : List Record) (n : Moment) → Stands h es rs n → EveryDrainServes rs
+stands_serves h es rs n s before r later q parts is attached =
+    let run : RunTo h (opening h) es (before ++ r ∷ later) n = subst (λ (xs : List Record). RunTo h (opening h) es xs n) parts s.run in
+    let p : PartedAt h (opening h) es before r = parted h (opening h) es before r later n s.events run in
+    let stands : Stands h p.first before p.at = record { header = s.header; events = p.fits; run = p.upto } in
+    let first : q ≡ 0 = subst (λ (x : Event). IsEvent h x) is p.is_event in
+    let drains : r.event ≡ events.Drain 0 = is ∙ ap (λ (k : ℕ). events.Drain k) first in
+    let plays : Plays h p.at (events.Drain 0) r.items p.next = subst (λ (x : Event). Plays h p.at x r.items p.next) drains p.plays in
+    let next : Stands h (p.first ++ events.Drain 0 ∷ []) (before ++ r ∷ []) p.next = stands_more h p.first before p.at p.next (events.Drain 0) r stands refl drains plays in
+    let on : is_on p.at ≡ true = run_attaches h (opening h) p.first before p.at s.header (opening_held h s.header) p.fits p.upto ∙ attached in
+    subst (λ (k : ℕ). IsServed k (before ++ r ∷ [])) (sym first) (drain_serves h p.first before p.at p.next r stands next on plays)
+
+-- ---- all that is true of a run
+
+pub stands_legal : (h : Header1) (es : List Event) (rs : List Record) (n : Moment) → Stands h es rs n → IsLegalRun h es rs
+stands_legal h es rs n s =
+    let both = stands_true h es rs n s in
+    let run : RunFrom h (opening h) es rs = run_of h (opening h) es rs n s.run in record {
+      run = run;
+      entries = run_enters h (opening h) es rs s.header (opening_held h s.header) s.events run;
+      legal = both.0;
+      tracked = both.1;
+      drained = stands_serves h es rs n s;
+    }
+
+-- a run leads somewhere
+ends_at : (h : Header1) (m : Moment) (es : List Event) (rs : List Record) → RunFrom h m es rs → (n : Moment) × RunTo h m es rs n
+ends_at h m [] [] run = (m, refl)
+ends_at h m [] (r ∷ rs) run = absurd run
+ends_at h m (e ∷ es) [] run = absurd run
+ends_at h m (e ∷ es) (r ∷ rs) run =
+    let rest = ends_at h run.1.0 es rs run.1.2 in
+    (rest.0, (run.0, (run.1.0, run.1.1, rest.1)))
+
+pub run_legal : (h : Header1) (es : List Event) (rs : List Record) → IsHeader h → AllByRecursion (IsEvent h) es → RunFrom h (opening h) es rs → IsLegalRun h es rs
+run_legal h es rs header fits run =
+    let end = ends_at h (opening h) es rs run in
+    stands_legal h es rs end.0 (record { header = header; events = fits; run = end.1 })
