@@ -121,7 +121,7 @@ pub record MadeElement (u : QueueState) (x : Stepped) (made : List Item) (y : Ro
 
 -- the scene after the store of a row
 abbrev pub after_row : Header1 → Row → Scene → Scene
-after_row h y s = after_items h.size (items.Store SP5 M y.store.place y.store.bytes ∷ []) s
+after_row h y s = after_items h (items.Store SP5 M y.store.place y.store.bytes ∷ []) s
 
 -- used.idx was stored, which publishes the batch
 pub record MadeIndex (h : Header1) (s : Scene) (batch : List ℕ) (u : QueueState) (x : Stepped) (made : List Item) (y : Row) : Type 0 where

@@ -74,7 +74,7 @@ does_of t told x q q' made fine = subst (λ (b : Bool). Unless b (DoesOf t told 
 
 -- where the queue stands after these items
 abbrev pub StandsAfter : Header1 → SplitRing → Scene → Turned → QueueState → Type 0
-StandsAfter h r s t q = QueueAt h r (after_items h.size t.items s).past ((after_items h.size t.items s).heads 0) t.lane.phase t.lane.batch t.lane.completed t.lane.made q
+StandsAfter h r s t q = QueueAt h r (after_items h t.items s).past ((after_items h t.items s).heads 0) t.lane.phase t.lane.batch t.lane.completed t.lane.made q
 
 pub stands_after : (h : Header1) (r : SplitRing) (m : Moment) (t : Turn) (q : QueueState) → StandsAfter h r m.scene (turned h 0 t m) q → QueueStands h r (one_turn h 0 t m).next q
 stands_after h r m t q z = z

@@ -164,30 +164,30 @@ work_items h sizes m r q place v w plain good main a disk =
 
 abbrev LeavesMemory : Header1 → Moment → QueueState → ℕ → Task → Links → Asked → TaskStep → Type 0
 LeavesMemory h m q k task links request step =
-    (after_items h.size (task_items h 0 k (buffer_of 0 k m.scene) m.scene.past request step) m.scene).memory ≡ memory_after q.ring (making_of h m k links request step) (sector_at q (head_in task)) m.scene.memory
+    (after_items h (task_items h 0 k (buffer_of 0 k m.scene) m.scene.past request step) m.scene).memory ≡ memory_after q.ring (making_of h m k links request step) (sector_at q (head_in task)) m.scene.memory
 
 -- the memory after one store in guest memory
 stored_memory : (q : QueueState) (mem : Bytes) (p : ℕ) (bs sector : List ℕ) → q.ring.desc.0.number ≡ 0 → sector ≡ bs → after_store (one_store 0 p bs) mem ≡ after_store (one_store q.ring.desc.0.number p sector) mem
 stored_memory q mem p bs sector space held = ap (λ (t : ℕ). after_store (one_store t p bs) mem) (sym space) ∙ ap (λ (xs : List ℕ). after_store (one_store q.ring.desc.0.number p xs) mem) (sym held)
 
-acts_memory : (n k : ℕ) (s : Scene) (o : Option SectorValue) → (after_items n (act_items 0 k o) s).memory ≡ s.memory
-acts_memory n k s None = refl
-acts_memory n k s (Some x) = refl
+acts_memory : (h : Header1) (k : ℕ) (s : Scene) (o : Option SectorValue) → (after_items h (act_items 0 k o) s).memory ≡ s.memory
+acts_memory h k s None = refl
+acts_memory h k s (Some x) = refl
 
-looks_memory : (n k : ℕ) (s : Scene) (o : Option ℕ) → (after_items n (look_items 0 k s.past o) s).memory ≡ s.memory
-looks_memory n k s None = refl
-looks_memory n k s (Some x) = refl
+looks_memory : (h : Header1) (k : ℕ) (s : Scene) (o : Option ℕ) → (after_items h (look_items 0 k s.past o) s).memory ≡ s.memory
+looks_memory h k s None = refl
+looks_memory h k s (Some x) = refl
 
 memory_step : (h : Header1) (sizes : ℕ → ℕ) (m : Moment) (r : SplitRing) (q : QueueState) (place : ℕ) (w : WorkReady h sizes m q place) → IsMainRing r h.size → QueueStands h r m q
     → Kind h w.request ((m.lanes 0).made w.k) w.step → LeavesMemory h m q w.k w.task w.links w.request w.step
 memory_step h sizes m r q place w main a (inl x) =
-    subst (λ (s : TaskStep). LeavesMemory h m q w.k w.task w.links w.request s) (sym x.next) (looks_memory h.size w.k m.scene (look_at w.request x.place))
+    subst (λ (s : TaskStep). LeavesMemory h m q w.k w.task w.links w.request s) (sym x.next) (looks_memory h w.k m.scene (look_at w.request x.place))
 memory_step h sizes m r q place w main a (inr (inl x)) =
     subst (λ (s : TaskStep). LeavesMemory h m q w.k w.task w.links w.request s) (sym x.next)
     (subst (λ (o : Asked). LeavesMemory h m q w.k w.task w.links o (Put x.place)) (sym x.is)
     (stored_memory q m.scene.memory (sectors_place (buffer_of 0 w.k m.scene) + 512 * x.place) (slice_range (seen m.scene.past 0 w.k) (512 * x.place) (512 * x.place + 512)) (sector_at q (head_in w.task)) (ring_space h m r q main a) (held_sector h sizes m r q place x.place w a x.next)))
 memory_step h sizes m r q place w main a (inr (inr (inl x))) =
-    subst (λ (s : TaskStep). LeavesMemory h m q w.k w.task w.links w.request s) (sym x.next) (acts_memory h.size w.k m.scene (effect_at w.request x.place))
+    subst (λ (s : TaskStep). LeavesMemory h m q w.k w.task w.links w.request s) (sym x.next) (acts_memory h w.k m.scene (effect_at w.request x.place))
 memory_step h sizes m r q place w main a (inr (inr (inr (inl x)))) = subst (λ (s : TaskStep). LeavesMemory h m q w.k w.task w.links w.request s) (sym x.next) refl
 memory_step h sizes m r q place w main a (inr (inr (inr (inr x)))) =
     subst (λ (s : TaskStep). LeavesMemory h m q w.k w.task w.links w.request s) (sym x.next)
@@ -197,32 +197,32 @@ memory_step h sizes m r q place w main a (inr (inr (inr (inr x)))) =
 pub work_memory : (h : Header1) (sizes : ℕ → ℕ) (m : Moment) (r : SplitRing) (q : QueueState) (place : ℕ) (w : WorkReady h sizes m q place) → IsPlain h → Good h m → IsMainRing r h.size → QueueStands h r m q
     → (one_turn h 0 (turns.Work place) m).next.scene.memory ≡ memory_after q.ring (making w) (sector_at q (head_in w.task)) m.scene.memory
 work_memory h sizes m r q place w plain good main a =
-    ap (λ (t : Turned). (after_items h.size t.items m.scene).memory) (work_turned h sizes m q place w)
+    ap (λ (t : Turned). (after_items h t.items m.scene).memory) (work_turned h sizes m q place w)
     ∙ memory_step h sizes m r q place w main a (work_kind h sizes m q place w plain good)
 
 -- ---- the disk
 
 abbrev LeavesDisk : Header1 → Moment → Values → ℕ → Asked → TaskStep → Type 0
-LeavesDisk h m v k request step = DiskAt h.capacity (after_items h.size (task_items h 0 k (buffer_of 0 k m.scene) m.scene.past request step) m.scene).past (values_after request step v)
+LeavesDisk h m v k request step = DiskAt h.capacity (after_items h (task_items h 0 k (buffer_of 0 k m.scene) m.scene.past request step) m.scene).past (values_after request step v)
 
 -- an act changes its sector
-disk_act : (cap n k : ℕ) (s : Scene) (v : Values) (o : Option SectorValue) → DiskAt cap s.past v → DiskAt cap (after_items n (act_items 0 k o) s).past (with_effect o v)
-disk_act cap n k s v None disk = disk
-disk_act cap n k s v (Some x) disk = λ t low.
+disk_act : (cap : ℕ) (h : Header1) (k : ℕ) (s : Scene) (v : Values) (o : Option SectorValue) → DiskAt cap s.past v → DiskAt cap (after_items h (act_items 0 k o) s).past (with_effect o v)
+disk_act cap h k s v None disk = disk
+disk_act cap h k s v (Some x) disk = λ t low.
     let old : v t ≡ value s.past t = disk t low in
     elim (cases_eq t x.sector) [
       | inl same ↦ let turned : x.sector ≡ t = sym same in grind (arith, nat_tests)
       | inr apart ↦ let turned : x.sector ≢ t = λ e. apart (sym e) in grind (arith, nat_tests)
     ]
 
-disk_look : (cap n k : ℕ) (s : Scene) (v : Values) (o : Option ℕ) → DiskAt cap s.past v → DiskAt cap (after_items n (look_items 0 k s.past o) s).past v
-disk_look cap n k s v None disk = disk
-disk_look cap n k s v (Some x) disk = λ t low. disk t low
+disk_look : (cap : ℕ) (h : Header1) (k : ℕ) (s : Scene) (v : Values) (o : Option ℕ) → DiskAt cap s.past v → DiskAt cap (after_items h (look_items 0 k s.past o) s).past v
+disk_look cap h k s v None disk = disk
+disk_look cap h k s v (Some x) disk = λ t low. disk t low
 
 disk_step : (h : Header1) (m : Moment) (v : Values) (k made : ℕ) (request : Asked) (step : TaskStep) → DiskAt h.capacity m.scene.past v → Kind h request made step → LeavesDisk h m v k request step
-disk_step h m v k made request step disk (inl x) = subst (λ (s : TaskStep). LeavesDisk h m v k request s) (sym x.next) (disk_look h.capacity h.size k m.scene v (look_at request x.place) disk)
+disk_step h m v k made request step disk (inl x) = subst (λ (s : TaskStep). LeavesDisk h m v k request s) (sym x.next) (disk_look h.capacity h k m.scene v (look_at request x.place) disk)
 disk_step h m v k made request step disk (inr (inl x)) = subst (λ (s : TaskStep). LeavesDisk h m v k request s) (sym x.next) (λ t low. disk t low)
-disk_step h m v k made request step disk (inr (inr (inl x))) = subst (λ (s : TaskStep). LeavesDisk h m v k request s) (sym x.next) (disk_act h.capacity h.size k m.scene v (effect_at request x.place) disk)
+disk_step h m v k made request step disk (inr (inr (inl x))) = subst (λ (s : TaskStep). LeavesDisk h m v k request s) (sym x.next) (disk_act h.capacity h k m.scene v (effect_at request x.place) disk)
 disk_step h m v k made request step disk (inr (inr (inr (inl x)))) = subst (λ (s : TaskStep). LeavesDisk h m v k request s) (sym x.next) (λ t low. disk t low)
 disk_step h m v k made request step disk (inr (inr (inr (inr x)))) = subst (λ (s : TaskStep). LeavesDisk h m v k request s) (sym x.next) (λ t low. disk t low)
 
@@ -230,42 +230,42 @@ disk_step h m v k made request step disk (inr (inr (inr (inr x)))) = subst (λ (
 pub work_disk : (h : Header1) (sizes : ℕ → ℕ) (m : Moment) (q : QueueState) (place : ℕ) (v : Values) (w : WorkReady h sizes m q place) → IsPlain h → Good h m → DiskAt h.capacity m.scene.past v
     → DiskAt h.capacity (one_turn h 0 (turns.Work place) m).next.scene.past (values_after (making w).request (making w).step v)
 work_disk h sizes m q place v w plain good disk =
-    subst (λ (t : Turned). DiskAt h.capacity (after_items h.size t.items m.scene).past (values_after w.request w.step v)) (sym (work_turned h sizes m q place w))
+    subst (λ (t : Turned). DiskAt h.capacity (after_items h t.items m.scene).past (values_after w.request w.step v)) (sym (work_turned h sizes m q place w))
     (disk_step h m v w.k ((m.lanes 0).made w.k) w.request w.step disk (work_kind h sizes m q place w plain good))
 
 -- an item that changes no sector
-abbrev IsQuiet : ℕ → Item → Type 0
-IsQuiet n i = (s : Scene) (x : ℕ) → value (after_item n i s).past x ≡ value s.past x
+abbrev IsQuiet : Header1 → Item → Type 0
+IsQuiet h i = (s : Scene) (x : ℕ) → value (after_item h i s).past x ≡ value s.past x
 
-quiet_items : (n : ℕ) (is : List Item) (s : Scene) (x : ℕ) → AllByRecursion (IsQuiet n) is → value (after_items n is s).past x ≡ value s.past x
-quiet_items n [] s x all = refl
-quiet_items n (i ∷ is) s x all = quiet_items n is (after_item n i s) x all.1 ∙ all.0 s x
+quiet_items : (h : Header1) (is : List Item) (s : Scene) (x : ℕ) → AllByRecursion (IsQuiet h) is → value (after_items h is s).past x ≡ value s.past x
+quiet_items h [] s x all = refl
+quiet_items h (i ∷ is) s x all = quiet_items h is (after_item h i s) x all.1 ∙ all.0 s x
 
-quiet_append : (n : ℕ) (is js : List Item) → AllByRecursion (IsQuiet n) is → AllByRecursion (IsQuiet n) js → AllByRecursion (IsQuiet n) (is ++ js)
-quiet_append n [] js all rest = rest
-quiet_append n (i ∷ is) js all rest = (all.0, quiet_append n is js all.1 rest)
+quiet_append : (h : Header1) (is js : List Item) → AllByRecursion (IsQuiet h) is → AllByRecursion (IsQuiet h) js → AllByRecursion (IsQuiet h) (is ++ js)
+quiet_append h [] js all rest = rest
+quiet_append h (i ∷ is) js all rest = (all.0, quiet_append h is js all.1 rest)
 
-quiet_row : (n : ℕ) (o : Option Row) → AllByRecursion (IsQuiet n) (row_items o)
-quiet_row n None = tt
-quiet_row n (Some x) = (λ s t. refl, tt)
+quiet_row : (h : Header1) (o : Option Row) → AllByRecursion (IsQuiet h) (row_items o)
+quiet_row h None = tt
+quiet_row h (Some x) = (λ s t. refl, tt)
 
-quiet_entry : (n : ℕ) (batch : List ℕ) (step : Step) (s : Scene) → AllByRecursion (IsQuiet n) (entry_items 0 batch step s)
-quiet_entry n batch steps.Start s = (λ t x. refl, tt)
-quiet_entry n batch steps.Accept s = (λ t x. refl, tt)
-quiet_entry n batch steps.Index s = (λ t x. refl, tt)
-quiet_entry n batch (steps.Id e) s = tt
-quiet_entry n batch (steps.Len e) s = tt
+quiet_entry : (h : Header1) (batch : List ℕ) (step : Step) (s : Scene) → AllByRecursion (IsQuiet h) (entry_items 0 batch step s)
+quiet_entry h batch steps.Start s = (λ t x. refl, tt)
+quiet_entry h batch steps.Accept s = (λ t x. refl, tt)
+quiet_entry h batch steps.Index s = (λ t x. refl, tt)
+quiet_entry h batch (steps.Id e) s = tt
+quiet_entry h batch (steps.Len e) s = tt
 
-phase_quiet : (h : Header1) (s : Scene) (l : Lane) (o : Option Step) → AllByRecursion (IsQuiet h.size) (phase_turn h 0 s l o).items
+phase_quiet : (h : Header1) (s : Scene) (l : Lane) (o : Option Step) → AllByRecursion (IsQuiet h) (phase_turn h 0 s l o).items
 phase_quiet h s l None = tt
-phase_quiet h s l (Some step) = quiet_append h.size (step_stores h 0 l.batch step s) (entry_items 0 l.batch step (after_items h.size (step_stores h 0 l.batch step s) s)) (quiet_row h.size _) (quiet_entry h.size l.batch step _)
+phase_quiet h s l (Some step) = quiet_append h (step_stores h 0 l.batch step s) (entry_items 0 l.batch step (after_items h (step_stores h 0 l.batch step s) s)) (quiet_row h _) (quiet_entry h l.batch step _)
 
 -- it isn't a turn of work
 abbrev pub IsNoWork : Turn → Type 0
 IsNoWork (turns.Work place) = ⊥
 IsNoWork t = ⊤
 
-turn_quiet : (h : Header1) (m : Moment) (t : Turn) → IsNoWork t → AllByRecursion (IsQuiet h.size) (turned h 0 t m).items
+turn_quiet : (h : Header1) (m : Moment) (t : Turn) → IsNoWork t → AllByRecursion (IsQuiet h) (turned h 0 t m).items
 turn_quiet h m turns.Start none = phase_quiet h m.scene (under_way turns.Start (m.lanes 0)) (next_step (length (under_way turns.Start (m.lanes 0)).batch) (under_way turns.Start (m.lanes 0)).phase)
 turn_quiet h m turns.Fetch none = phase_quiet h m.scene (under_way turns.Fetch (m.lanes 0)) (next_step (length (under_way turns.Fetch (m.lanes 0)).batch) (under_way turns.Fetch (m.lanes 0)).phase)
 turn_quiet h m (turns.Publish most) none = phase_quiet h m.scene (under_way (turns.Publish most) (m.lanes 0)) (next_step (length (under_way (turns.Publish most) (m.lanes 0)).batch) (under_way (turns.Publish most) (m.lanes 0)).phase)
@@ -273,4 +273,4 @@ turn_quiet h m (turns.Work place) none = absurd none
 
 -- any other turn leaves the disk
 pub turn_disk : (h : Header1) (m : Moment) (t : Turn) (v : Values) → IsNoWork t → DiskAt h.capacity m.scene.past v → DiskAt h.capacity (one_turn h 0 t m).next.scene.past v
-turn_disk h m t v none disk = λ s low. disk s low ∙ sym (quiet_items h.size (turned h 0 t m).items m.scene s (turn_quiet h m t none))
+turn_disk h m t v none disk = λ s low. disk s low ∙ sym (quiet_items h (turned h 0 t m).items m.scene s (turn_quiet h m t none))

@@ -254,7 +254,7 @@ finished h sizes m r q place w sector good a = record {
 -- where the queue stands after a step of the k-th request
 abbrev StandsAfter : Header1 → SplitRing → Moment → ℕ → QueueState → Asked → TaskStep → Type 0
 StandsAfter h r m k q request step =
-    QueueAt h r (after_items h.size (task_items h 0 k (buffer_of 0 k m.scene) m.scene.past request step) m.scene).past ((after_items h.size (task_items h 0 k (buffer_of 0 k m.scene) m.scene.past request step) m.scene).heads 0)
+    QueueAt h r (after_items h (task_items h 0 k (buffer_of 0 k m.scene) m.scene.past request step) m.scene).past ((after_items h (task_items h 0 k (buffer_of 0 k m.scene) m.scene.past request step) m.scene).heads 0)
     (after_task_step k step (m.lanes 0)).phase (after_task_step k step (m.lanes 0)).batch (after_task_step k step (m.lanes 0)).completed (after_task_step k step (m.lanes 0)).made q
 
 -- the last sector of some
@@ -285,7 +285,7 @@ next_put h request c p next = ap (slice_get (task_steps h request)) (let same : 
 -- where the queue stands after a look, if any
 abbrev LookStands : Header1 → SplitRing → Moment → ℕ → QueueState → Option ℕ → Type 0
 LookStands h r m k q o =
-    QueueAt h r (after_items h.size (look_items 0 k m.scene.past o) m.scene).past ((after_items h.size (look_items 0 k m.scene.past o) m.scene).heads 0) (m.lanes 0).phase (m.lanes 0).batch (m.lanes 0).completed (with_at (m.lanes 0).made k ((m.lanes 0).made k + 1)) q
+    QueueAt h r (after_items h (look_items 0 k m.scene.past o) m.scene).past ((after_items h (look_items 0 k m.scene.past o) m.scene).heads 0) (m.lanes 0).phase (m.lanes 0).batch (m.lanes 0).completed (with_at (m.lanes 0).made k ((m.lanes 0).made k + 1)) q
 
 look_stands : (h : Header1) (sizes : ℕ → ℕ) (m : Moment) (r : SplitRing) (q q' : QueueState) (place : ℕ) (v : Values) (w : WorkReady h sizes m q place) (x : IsLook h w.request ((m.lanes 0).made w.k) w.step) → IsPlain h → Good h m → QueueStands h r m q → DiskAt h.capacity m.scene.past v
     → HasWorked (Some v) place w.task (making w) q q' → StandsAfter h r m w.k q' w.request w.step
@@ -343,7 +343,7 @@ put_stands h sizes m r q q' place v w x plain good a made =
 -- where the queue stands after an act, if any
 abbrev ActStands : Header1 → SplitRing → Moment → ℕ → QueueState → Option SectorValue → Type 0
 ActStands h r m k q o =
-    QueueAt h r (after_items h.size (act_items 0 k o) m.scene).past ((after_items h.size (act_items 0 k o) m.scene).heads 0) (m.lanes 0).phase (m.lanes 0).batch (m.lanes 0).completed (with_at (m.lanes 0).made k ((m.lanes 0).made k + 1)) q
+    QueueAt h r (after_items h (act_items 0 k o) m.scene).past ((after_items h (act_items 0 k o) m.scene).heads 0) (m.lanes 0).phase (m.lanes 0).batch (m.lanes 0).completed (with_at (m.lanes 0).made k ((m.lanes 0).made k + 1)) q
 
 act_stands : (h : Header1) (sizes : ℕ → ℕ) (m : Moment) (r : SplitRing) (q q' : QueueState) (place : ℕ) (v : Values) (w : WorkReady h sizes m q place) (x : IsAct h w.request ((m.lanes 0).made w.k) w.step) → IsPlain h → Good h m → QueueStands h r m q
     → HasWorked (Some v) place w.task (making w) q q' → StandsAfter h r m w.k q' w.request w.step
@@ -390,5 +390,5 @@ step_stands h sizes m r q q' place v w plain good a disk made (inr (inr (inr (in
 pub work_stands : (h : Header1) (sizes : ℕ → ℕ) (m : Moment) (r : SplitRing) (q q' : QueueState) (place : ℕ) (v : Values) (w : WorkReady h sizes m q place) → IsPlain h → Good h m → QueueStands h r m q → DiskAt h.capacity m.scene.past v
     → HasWorked (Some v) place w.task (making w) q q' → QueueStands h r (one_turn h 0 (turns.Work place) m).next q'
 work_stands h sizes m r q q' place v w plain good a disk made =
-    subst (λ (t : Turned). QueueAt h r (after_items h.size t.items m.scene).past ((after_items h.size t.items m.scene).heads 0) t.lane.phase t.lane.batch t.lane.completed t.lane.made q') (sym (work_turned h sizes m q place w))
+    subst (λ (t : Turned). QueueAt h r (after_items h t.items m.scene).past ((after_items h t.items m.scene).heads 0) t.lane.phase t.lane.batch t.lane.completed t.lane.made q') (sym (work_turned h sizes m q place w))
     (step_stands h sizes m r q q' place v w plain good a disk made (work_kind h sizes m q place w plain good))

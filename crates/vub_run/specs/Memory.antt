@@ -49,18 +49,18 @@ opening_scene h = record { memory = opening_memory h; past = []; heads = λ q. [
 abbrev pub with_at : {A : Type 0} → (ℕ → A) → ℕ → A → ℕ → A
 with_at f q x i = if i == q then x else f i
 
--- an offer is made under the head that avail.idx has just passed, on a queue of so many places
-abbrev pub after_entry : ℕ → Entry → Scene → Scene
-after_entry size (entries.Offer q request) s =
-    record s { past = entries.Offer q request ∷ s.past; heads = with_at s.heads q (s.heads q ++ last_head (ring_of q size) s.memory ∷ []) }
-after_entry size e s = record s { past = e ∷ s.past }
+-- an offer is made under the head that avail.idx has just passed
+abbrev pub after_entry : Header1 → Entry → Scene → Scene
+after_entry h (entries.Offer q request) s =
+    record s { past = entries.Offer q request ∷ s.past; heads = with_at s.heads q (s.heads q ++ last_head (ring_of q h.size) s.memory ∷ []) }
+after_entry h e s = record s { past = e ∷ s.past }
 
 -- a store changes memory, and an entry lengthens the history
-abbrev pub after_item : ℕ → Item → Scene → Scene
-after_item size (items.Store tag area place bytes) s = record s { memory = after_store (one_store (space_of area) place bytes) s.memory }
-after_item size (items.Made e) s = after_entry size e s
-after_item size items.Idle s = s
+abbrev pub after_item : Header1 → Item → Scene → Scene
+after_item h (items.Store tag area place bytes) s = record s { memory = after_store (one_store (space_of area) place bytes) s.memory }
+after_item h (items.Made e) s = after_entry h e s
+after_item h items.Idle s = s
 
-abbrev pub after_items : ℕ → List Item → Scene → Scene
-after_items size [] s = s
-after_items size (i ∷ is) s = after_items size is (after_item size i s)
+abbrev pub after_items : Header1 → List Item → Scene → Scene
+after_items h [] s = s
+after_items h (i ∷ is) s = after_items h is (after_item h i s)

@@ -44,7 +44,7 @@ with_lane q l m = record m { lanes = with_at m.lanes q l }
 
 -- these items come about, and that lane is then the one of the queue
 abbrev pub comes_about : Header1 → ℕ → List Item → Lane → Moment → Played
-comes_about h q is l m = played is (with_lane q l (record m { scene = after_items h.size is m.scene }))
+comes_about h q is l m = played is (with_lane q l (record m { scene = after_items h is m.scene }))
 
 -- ---- the driver
 

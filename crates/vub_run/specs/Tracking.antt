@@ -46,14 +46,14 @@ GoesOn (items.Store tag area place bytes) (items.Made (Publish q list) ∷ is) =
 GoesOn i is = ⊥
 
 -- a fact after each item, taken together with the entry that it makes
-abbrev pub AfterEach : ℕ → (Scene → Type 0) → Scene → List Item → Type 0
-AfterEach size P s [] = ⊤
-AfterEach size P s (i ∷ is) = (GoesOn i is ⊎ P (after_item size i s)) × AfterEach size P (after_item size i s) is
+abbrev pub AfterEach : Header1 → (Scene → Type 0) → Scene → List Item → Type 0
+AfterEach h P s [] = ⊤
+AfterEach h P s (i ∷ is) = (GoesOn i is ⊎ P (after_item h i s)) × AfterEach h P (after_item h i s) is
 
 -- memory and history agree on every queue, through all of these records
 abbrev pub TracksFrom : Header1 → Scene → List Record → Type 0
 TracksFrom h s [] = ⊤
-TracksFrom h s (r ∷ rs) = AfterEach h.size (EveryTracks h) s r.items × TracksFrom h (after_items h.size r.items s) rs
+TracksFrom h s (r ∷ rs) = AfterEach h (EveryTracks h) s r.items × TracksFrom h (after_items h r.items s) rs
 
 abbrev pub TracksAlways : Header1 → List Record → Type 0
 TracksAlways h records = TracksFrom h (opening_scene h) records

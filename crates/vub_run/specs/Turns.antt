@@ -90,7 +90,7 @@ step_stores h q batch step s = row_items (row_of (ring_of q h.size) (used_idx (r
 
 -- the items of a step: its store, and the entry that it makes
 abbrev pub step_items : Header1 → ℕ → List ℕ → Step → Scene → List Item
-step_items h q batch step s = step_stores h q batch step s ++ entry_items q batch step (after_items h.size (step_stores h q batch step s) s)
+step_items h q batch step s = step_stores h q batch step s ++ entry_items q batch step (after_items h (step_stores h q batch step s) s)
 
 -- the phase goes on, and nothing is left of the batch at its end
 abbrev pub with_phase : Phase → Lane → Lane

@@ -50,10 +50,10 @@ tested h m false p c then = c
 -- some of the stores, or all that are left
 guest_some : (h : Header1) (count : ℕ) (m : Moment) (w : Waiting) → IsPlain h → h.capacity ≤ 4096 → Good h m → ChainedAt h m → (m.lanes 0).driver.waiting ≡ Some w → ChainedAt h (guest_stores h 0 count (Some w) m).next
 guest_some h count m w plain few good c waiting = elim (cases_lt count (length w.left)) [
-  | inl part ↦ subst (λ (x : Scene). Chained h.size x (after_stores count w v)) (sym (part_scene h.size count w.ask w.left m.scene part)) (part_chained h m.scene v w count plain.good good.holds.known good.holds.driven waits part ready c)
+  | inl part ↦ subst (λ (x : Scene). Chained h.size x (after_stores count w v)) (sym (part_scene h count w.ask w.left m.scene part)) (part_chained h m.scene v w count plain.good good.holds.known good.holds.driven waits part ready c)
   | inr all ↦
       let none : drop count w.left ≡ [] = drop_all count w.left (omega arith) in
-      subst (λ (rest : List Store). Chained h.size (after_items h.size (guest_items count 0 w.ask w.left) m.scene) (with_left w rest v)) (sym none) (guest_chained h m.scene v w count plain.good few good.holds.known good.holds.driven waits (omega arith) ready c)
+      subst (λ (rest : List Store). Chained h.size (after_items h (guest_items count 0 w.ask w.left) m.scene) (with_left w rest v)) (sym none) (guest_chained h m.scene v w count plain.good few good.holds.known good.holds.driven waits (omega arith) ready c)
 ]
   where
     v : Driver
@@ -96,7 +96,7 @@ join_all h m c = tested h m (m.lives && not m.joined) _ c (λ ready. record { li
 
 pub one_turn_chained : (h : Header1) (t : Turn) (m : Moment) → IsPlain h → Good h m → ChainedAt h m → ChainedAt h (one_turn h 0 t m).next
 one_turn_chained h t m plain good c =
-    let s' : Scene = after_items h.size (turned h 0 t m).items m.scene in
+    let s' : Scene = after_items h (turned h 0 t m).items m.scene in
     let kept : Chained h.size s' (m.lanes 0).driver = gentle_chained h.size h.capacity m.scene s' (m.lanes 0).driver plain.good.size good.holds.driven.waits (turn_gentle h t m plain good) c in
     subst (λ (v : Driver). Chained h.size s' v) (sym (turn_driver h t m)) kept
 

@@ -73,19 +73,19 @@ chain_stays cap owner other head body status r (st ∷ sts) m simple fh fb fs ap
 -- ---- the scene after them
 
 -- all of the stores, and the offer
-pub guest_scene : (size count : ℕ) (a : Ask) (sts : List Store) (s : Scene) → 0 < length sts → length sts ≤ count → after_items size (guest_items count 0 a sts) s ≡ after_item size (items.Made (entries.Offer 0 (request_of a))) (record s { memory = put_all sts s.memory })
-guest_scene size zero a [] s some few = absurd (omega arith)
-guest_scene size zero a (st ∷ sts) s some few = absurd (omega arith)
-guest_scene size (suc count) a [] s some few = absurd (omega arith)
-guest_scene size (suc count) a (st ∷ []) s some few = refl
-guest_scene size (suc count) a (st ∷ st' ∷ sts) s some few = guest_scene size count a (st' ∷ sts) (record s { memory = put s.memory 0 st.place st.bytes }) (omega arith) (omega arith)
+pub guest_scene : (h : Header1) (count : ℕ) (a : Ask) (sts : List Store) (s : Scene) → 0 < length sts → length sts ≤ count → after_items h (guest_items count 0 a sts) s ≡ after_item h (items.Made (entries.Offer 0 (request_of a))) (record s { memory = put_all sts s.memory })
+guest_scene h zero a [] s some few = absurd (omega arith)
+guest_scene h zero a (st ∷ sts) s some few = absurd (omega arith)
+guest_scene h (suc count) a [] s some few = absurd (omega arith)
+guest_scene h (suc count) a (st ∷ []) s some few = refl
+guest_scene h (suc count) a (st ∷ st' ∷ sts) s some few = guest_scene h count a (st' ∷ sts) (record s { memory = put s.memory 0 st.place st.bytes }) (omega arith) (omega arith)
 
 -- a part of the stores
-pub part_scene : (size count : ℕ) (a : Ask) (sts : List Store) (s : Scene) → count < length sts → after_items size (guest_items count 0 a sts) s ≡ record s { memory = put_all (take count sts) s.memory }
-part_scene size zero a sts s part = refl
-part_scene size (suc count) a [] s part = absurd (omega arith)
-part_scene size (suc count) a (st ∷ []) s part = absurd (omega arith)
-part_scene size (suc count) a (st ∷ st' ∷ sts) s part = part_scene size count a (st' ∷ sts) (record s { memory = put s.memory 0 st.place st.bytes }) (omega arith)
+pub part_scene : (h : Header1) (count : ℕ) (a : Ask) (sts : List Store) (s : Scene) → count < length sts → after_items h (guest_items count 0 a sts) s ≡ record s { memory = put_all (take count sts) s.memory }
+part_scene h zero a sts s part = refl
+part_scene h (suc count) a [] s part = absurd (omega arith)
+part_scene h (suc count) a (st ∷ []) s part = absurd (omega arith)
+part_scene h (suc count) a (st ∷ st' ∷ sts) s part = part_scene h count a (st' ∷ sts) (record s { memory = put s.memory 0 st.place st.bytes }) (omega arith)
 
 -- the head that an offer shows
 offered_head : (n index head : ℕ) (m : Bytes) → IsSize n → index < 65536 → head < 65536 → last_head (the_ring n) (put_all (offer_stores (the_ring n) index head) m) ≡ head
@@ -181,7 +181,7 @@ front_stores n index head body status a true = split n index head a (head ∷ bo
 front_stores n index head body status a false = split n index head a (head ∷ status ∷ [])
 
 pub guest_chained : (h : Header1) (s : Scene) (v : Driver) (w : Waiting) (count : ℕ) → IsGood h → h.capacity ≤ 4096 → Known h.size h.capacity s.past (s.heads 0) → Driven h.size h.capacity h.base s.past (s.heads 0) v
-    → IsWaiting h.size h.capacity s.past (s.heads 0) v w → length w.left ≤ count → IsPrepared h.size s.memory v w → Chained h.size s v → Chained h.size (after_items h.size (guest_items count 0 w.ask w.left) s) (offered_driver v)
+    → IsWaiting h.size h.capacity s.past (s.heads 0) v w → length w.left ≤ count → IsPrepared h.size s.memory v w → Chained h.size s v → Chained h.size (after_items h (guest_items count 0 w.ask w.left) s) (offered_driver v)
 guest_chained h s v w count good few known driven waits whole ready c =
     let n : ℕ = h.size in
     let r : Asked = request_of w.ask in
@@ -227,6 +227,6 @@ guest_chained h s v w count good few known driven waits whole ready c =
       ];
       waits = tt;
     } in
-    let shown : Chained n (after_item n (items.Made (entries.Offer 0 r)) (record s { memory = m })) (offered_driver v) =
+    let shown : Chained n (after_item h (items.Made (entries.Offer 0 r)) (record s { memory = m })) (offered_driver v) =
     subst (λ (x : ℕ). Chained n (record { memory = m; past = past; heads = with_at s.heads 0 (s.heads 0 ++ x ∷ []) }) (offered_driver v)) (sym shows) stands in
-    subst (λ (x : Scene). Chained n x (offered_driver v)) (sym (guest_scene n count w.ask w.left s ready.some whole)) shown
+    subst (λ (x : Scene). Chained n x (offered_driver v)) (sym (guest_scene h count w.ask w.left s ready.some whole)) shown

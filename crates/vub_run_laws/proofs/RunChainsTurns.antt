@@ -144,7 +144,7 @@ publish_gentle n s list shown = record {
   made = λ head sts unused serve stand. stand;
 }
 
-step_gentle : (h : Header1) (s : Scene) (l : Lane) (batch : List ℕ) (step : Step) → IsGood h → Holds h s l → IsGentle h.size s (after_items h.size (step_items h 0 batch step s) s)
+step_gentle : (h : Header1) (s : Scene) (l : Lane) (batch : List ℕ) (step : Step) → IsGood h → Holds h s l → IsGentle h.size s (after_items h (step_items h 0 batch step s) s)
 step_gentle h s l batch steps.Start good x = record { heads = refl; same = λ k. refl; out = λ k o. record { below = o.below; kept = o.kept }; chain = λ k body status r out fb fs is c. c; made = λ head sts unused serve stand. stand }
 step_gentle h s l batch steps.Accept good x = record { heads = refl; same = λ k. refl; out = λ k o. record { below = o.below; kept = o.kept }; chain = λ k body status r out fb fs is c. c; made = λ head sts unused serve stand. stand }
 step_gentle h s l batch (steps.Id e) good x = go (slice_get (map (element_of h 0 s) batch) e)
@@ -152,7 +152,7 @@ step_gentle h s l batch (steps.Id e) good x = go (slice_get (map (element_of h 0
     i : ℕ
     i = used_idx (the_ring h.size) s.memory + e
 
-    go : (o : Option (ℕ × ℕ)) → IsGentle h.size s (after_items h.size (row_items (option_map (λ (y : ℕ × ℕ). row (the_ring h.size) SP1 (used_id_place (the_ring h.size) i) (little_bytes 4 y.0)) o) ++ []) s)
+    go : (o : Option (ℕ × ℕ)) → IsGentle h.size s (after_items h (row_items (option_map (λ (y : ℕ × ℕ). row (the_ring h.size) SP1 (used_id_place (the_ring h.size) i) (little_bytes 4 y.0)) o) ++ []) s)
     go None = gentle_none h.size s
     go (Some y) = let low = entry_small h.size i good.size in ring_gentle h s l (used_id_place (the_ring h.size) i) (little_bytes 4 y.0) good x (omega arith) (omega (arith, length_little 4 y.0))
 step_gentle h s l batch (steps.Len e) good x = go (slice_get (map (element_of h 0 s) batch) e)
@@ -160,7 +160,7 @@ step_gentle h s l batch (steps.Len e) good x = go (slice_get (map (element_of h 
     i : ℕ
     i = used_idx (the_ring h.size) s.memory + e
 
-    go : (o : Option (ℕ × ℕ)) → IsGentle h.size s (after_items h.size (row_items (option_map (λ (y : ℕ × ℕ). row (the_ring h.size) SP2 (used_len_place (the_ring h.size) i) (little_bytes 4 y.1)) o) ++ []) s)
+    go : (o : Option (ℕ × ℕ)) → IsGentle h.size s (after_items h (row_items (option_map (λ (y : ℕ × ℕ). row (the_ring h.size) SP2 (used_len_place (the_ring h.size) i) (little_bytes 4 y.1)) o) ++ []) s)
     go None = gentle_none h.size s
     go (Some y) = let low = entry_small h.size i good.size in ring_gentle h s l (used_len_place (the_ring h.size) i) (little_bytes 4 y.1) good x (omega arith) (omega (arith, length_little 4 y.1))
 step_gentle h s l batch steps.Index good x =
@@ -172,7 +172,7 @@ step_gentle h s l batch steps.Index good x =
     let shows = publish_gentle h.size s (map (answer_at 0 s') batch) x.known.shown in
     record { heads = refl; same = λ k. refl; out = shows.out; chain = ring.chain; made = ring.made }
 
-phase_gentle : (h : Header1) (s : Scene) (l l' : Lane) (o : Option Step) → IsGood h → Holds h s l → IsGentle h.size s (after_items h.size (phase_turn h 0 s l' o).items s)
+phase_gentle : (h : Header1) (s : Scene) (l l' : Lane) (o : Option Step) → IsGood h → Holds h s l → IsGentle h.size s (after_items h (phase_turn h 0 s l' o).items s)
 phase_gentle h s l l' None good x = gentle_none h.size s
 phase_gentle h s l l' (Some step) good x = step_gentle h s l l'.batch step good x
 
@@ -229,19 +229,19 @@ sync_gentle : (n : ℕ) (s : Scene) (k : ℕ) → IsGentle n s (record s { past 
 sync_gentle n s k = record { heads = refl; same = λ j. refl; out = λ j o. record { below = o.below; kept = o.kept }; chain = λ j body status r out fb fs is c. c; made = λ head sts unused serve stand. stand }
 
 -- any step of a request at work
-request_gentle : (h : Header1) (s : Scene) (l : Lane) (k : ℕ) → IsPlain h → Holds h s l → IsOpen s.past 0 k → IsGentle h.size s (after_items h.size (request_turn h 0 s l k (asked s.past 0 k)).items s)
+request_gentle : (h : Header1) (s : Scene) (l : Lane) (k : ℕ) → IsPlain h → Holds h s l → IsOpen s.past 0 k → IsGentle h.size s (after_items h (request_turn h 0 s l k (asked s.past 0 k)).items s)
 request_gentle h s l k plain x is_open =
     let low : k < length (s.heads 0) = omega (arith, is_open.taken, x.known.offered) in
     go (wide_cases h.capacity (asked s.past 0 k) (x.known.wide k low))
   where
     Gentle : Asked → Option TaskStep → Type 0
-    Gentle r o = IsGentle h.size s (after_items h.size (task_turn h 0 s l k r o).items s)
+    Gentle r o = IsGentle h.size s (after_items h (task_turn h 0 s l k r o).items s)
 
-    looks_of : (o : Option ℕ) → IsGentle h.size s (after_items h.size (look_items 0 k s.past o) s)
+    looks_of : (o : Option ℕ) → IsGentle h.size s (after_items h (look_items 0 k s.past o) s)
     looks_of None = gentle_none h.size s
     looks_of (Some y) = look_gentle h.size s k y (value s.past y)
 
-    acts_of : (o : Option SectorValue) → IsGentle h.size s (after_items h.size (act_items 0 k o) s)
+    acts_of : (o : Option SectorValue) → IsGentle h.size s (after_items h (act_items 0 k o) s)
     acts_of None = gentle_none h.size s
     acts_of (Some y) = act_gentle h.size s k y.sector y.value
 
@@ -259,12 +259,12 @@ request_gentle h s l k plain x is_open =
     flushes (suc zero) = status_gentle h s l k (status_of h asks.Flush) plain.good x is_open
     flushes (suc (suc made)) = gentle_none h.size s
 
-    of_steps : (r : Asked) → asked s.past 0 k ≡ Some r → IsWide h.capacity (Some r) → Gentle r (slice_get (disk_steps r ++ Status ∷ []) (l.made k)) → IsGentle h.size s (after_items h.size (request_turn h 0 s l k (asked s.past 0 k)).items s)
+    of_steps : (r : Asked) → asked s.past 0 k ≡ Some r → IsWide h.capacity (Some r) → Gentle r (slice_get (disk_steps r ++ Status ∷ []) (l.made k)) → IsGentle h.size s (after_items h (request_turn h 0 s l k (asked s.past 0 k)).items s)
     of_steps r is wide fine =
-        subst (λ (o : Option Asked). IsGentle h.size s (after_items h.size (request_turn h 0 s l k o).items s)) (sym is)
+        subst (λ (o : Option Asked). IsGentle h.size s (after_items h (request_turn h 0 s l k o).items s)) (sym is)
         (subst (λ (steps : List TaskStep). Gentle r (slice_get steps (l.made k))) (sym (wide_steps h r plain.back wide)) fine)
 
-    go : WideCases h.capacity (asked s.past 0 k) → IsGentle h.size s (after_items h.size (request_turn h 0 s l k (asked s.past 0 k)).items s)
+    go : WideCases h.capacity (asked s.past 0 k) → IsGentle h.size s (after_items h (request_turn h 0 s l k (asked s.past 0 k)).items s)
     go (AtRead sector c wide is) = of_steps (asks.Read sector c) is wide (elim (cases_lt (2 * c) (l.made k)) [
       | inl over ↦ subst (Gentle (asks.Read sector c)) (sym (read_over 0 c (l.made k) over)) (gentle_none h.size s)
       | inr under ↦ reads sector c wide.few is (slice_get (look_steps 0 c ++ Status ∷ []) (l.made k)) (read_at 0 c (l.made k) (omega arith))
@@ -275,10 +275,10 @@ request_gentle h s l k plain x is_open =
     ])
     go (AtFlush is) = of_steps asks.Flush is tt (flushes (l.made k))
 
-work_gentle : (h : Header1) (m : Moment) (place : ℕ) → IsPlain h → Good h m → IsGentle h.size m.scene (after_items h.size (turned h 0 (turns.Work place) m).items m.scene)
+work_gentle : (h : Header1) (m : Moment) (place : ℕ) → IsPlain h → Good h m → IsGentle h.size m.scene (after_items h (turned h 0 (turns.Work place) m).items m.scene)
 work_gentle h m place plain good = go (slice_get (unfinished 0 m) place) refl
   where
-    go : (o : Option ℕ) → slice_get (unfinished 0 m) place ≡ o → IsGentle h.size m.scene (after_items h.size (work_turn h 0 m.scene (m.lanes 0) o).items m.scene)
+    go : (o : Option ℕ) → slice_get (unfinished 0 m) place ≡ o → IsGentle h.size m.scene (after_items h (work_turn h 0 m.scene (m.lanes 0) o).items m.scene)
     go None is = gentle_none h.size m.scene
     go (Some k) is =
         let l : Lane = m.lanes 0 in
@@ -286,7 +286,7 @@ work_gentle h m place plain good = go (slice_get (unfinished 0 m) place) refl
         let opened = missing-among (published m.scene.past 0) (accepted m.scene.past 0) k kept.0 in
         request_gentle h m.scene l k plain good.holds (record { taken = opened.0; unpublished = opened.1 })
 
-pub turn_gentle : (h : Header1) (t : Turn) (m : Moment) → IsPlain h → Good h m → IsGentle h.size m.scene (after_items h.size (turned h 0 t m).items m.scene)
+pub turn_gentle : (h : Header1) (t : Turn) (m : Moment) → IsPlain h → Good h m → IsGentle h.size m.scene (after_items h (turned h 0 t m).items m.scene)
 turn_gentle h turns.Start m plain good = phase_gentle h m.scene (m.lanes 0) (under_way turns.Start (m.lanes 0)) (next_step (length (under_way turns.Start (m.lanes 0)).batch) (under_way turns.Start (m.lanes 0)).phase) plain.good good.holds
 turn_gentle h turns.Fetch m plain good = phase_gentle h m.scene (m.lanes 0) (under_way turns.Fetch (m.lanes 0)) (next_step (length (under_way turns.Fetch (m.lanes 0)).batch) (under_way turns.Fetch (m.lanes 0)).phase) plain.good good.holds
 turn_gentle h (turns.Publish most) m plain good =

@@ -176,7 +176,7 @@ phase_makes : (h : Header1) (s : Scene) (l : Lane) (o : Option Step) → Makes (
 phase_makes h s l None = tt
 phase_makes h s l (Some step) =
     let stores : List Item = step_stores h 0 l.batch step s in
-    makes-append stores (entry_items 0 l.batch step (after_items h.size stores s)) (subst AreMade (sym (row_makes _)) tt) (step_makes l.batch step (after_items h.size stores s))
+    makes-append stores (entry_items 0 l.batch step (after_items h stores s)) (subst AreMade (sym (row_makes _)) tt) (step_makes l.batch step (after_items h stores s))
 
 zeros_long : length zeros ≡ 512
 unfolding zeros

@@ -47,8 +47,8 @@ use Rattle.vub_run_laws.proofs.RunCollects.{IsTaken, next_number, after_taken, t
 -- items from one moment to another
 pub record Right (h : Header1) (m : Moment) (is : List Item) (next : Moment) : Type 0 where
   pub good : Good h next
-  pub each : AfterEach h.size (EveryTracks h) m.scene is
-  pub scene : next.scene ≡ after_items h.size is m.scene
+  pub each : AfterEach h (EveryTracks h) m.scene is
+  pub scene : next.scene ≡ after_items h is m.scene
   pub legal : LegalFrom h.capacity h.mode m.scene.past (entries_of is)
 
 abbrev pub Leads : Header1 → Moment → Played → Type 0
@@ -58,10 +58,10 @@ Leads h m p = Right h m p.items p.next
 pub right-append : (h : Header1) (m n k : Moment) (xs ys : List Item) → Right h m xs n → Right h n ys k → Right h m (xs ++ ys) k
 right-append h m n k xs ys p q =
     let legal_next : LegalFrom h.capacity h.mode (after m.scene.past (entries_of xs)) (entries_of ys) =
-    subst (λ (past : List Entry). LegalFrom h.capacity h.mode past (entries_of ys)) (ap (λ (s : Scene). s.past) p.scene ∙ past_after h.size xs m.scene) q.legal in record {
+    subst (λ (past : List Entry). LegalFrom h.capacity h.mode past (entries_of ys)) (ap (λ (s : Scene). s.past) p.scene ∙ past_after h xs m.scene) q.legal in record {
       good = q.good;
-      each = each-append h.size (EveryTracks h) m.scene xs ys p.each (subst (λ (s : Scene). AfterEach h.size (EveryTracks h) s ys) p.scene q.each);
-      scene = q.scene ∙ ap (after_items h.size ys) p.scene ∙ sym (after-append h.size xs ys m.scene);
+      each = each-append h (EveryTracks h) m.scene xs ys p.each (subst (λ (s : Scene). AfterEach h (EveryTracks h) s ys) p.scene q.each);
+      scene = q.scene ∙ ap (after_items h ys) p.scene ∙ sym (after-append h xs ys m.scene);
       legal = subst (λ (es : List Entry). LegalFrom h.capacity h.mode m.scene.past es) (sym (entries-append xs ys)) (legal-append h.capacity h.mode m.scene.past (entries_of xs) (entries_of ys) p.legal legal_next);
     }
 
@@ -122,7 +122,7 @@ guest_part h m w count first plain good waiting harmless few less =
     let stores : List Store = first ++ offer_stores (the_ring h.size) l.driver.avail_idx w.head in
     let is : List Item = guest_items count 0 w.ask stores in
     let part : Unoffered h m.scene l is = part_holds h m.scene l w count first plain.good (waits_well h m.scene l w waiting good.holds) harmless less good.holds in
-    let s' : Scene = after_items h.size is m.scene in
+    let s' : Scene = after_items h is m.scene in
     let rest : IsLeft h.size l.driver.avail_idx w.head (drop count stores) = left_after h.size l.driver.avail_idx w.head count first harmless few less in
     let v' : Driver = record (l.driver) { waiting = Some (record w { left = drop count stores }) } in
     let next : Leads h m (comes_about h 0 is (with_driver v' l) m) = record {

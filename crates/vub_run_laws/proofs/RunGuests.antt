@@ -67,10 +67,10 @@ offered l = record l { driver = record (l.driver) { avail_idx = (l.driver.avail_
 
 -- what the two last stores and the offer leave
 pub record Offered (h : Header1) (mode : CacheMode) (s : Scene) (l : Lane) (r : Asked) (is : List Item) : Type 0 where
-  pub each : AfterEach h.size (EveryTracks h) s is
-  pub holds : Holds h (after_items h.size is s) (offered l)
+  pub each : AfterEach h (EveryTracks h) s is
+  pub holds : Holds h (after_items h is s) (offered l)
   pub legal : LegalFrom h.capacity mode s.past (entries_of is)
-  pub past : (after_items h.size is s).past ≡ entries.Offer 0 r ∷ s.past
+  pub past : (after_items h is s).past ≡ entries.Offer 0 r ∷ s.past
 
 entry_holds : (h : Header1) (s : Scene) (l : Lane) (w : Waiting) → IsGood h → IsWaiting h.size h.capacity s.past (s.heads 0) l.driver w → Holds h s l
     → Holds h (stored_at (avail_entry_place (the_ring h.size) l.driver.avail_idx) (little_bytes 2 w.head) s) l
@@ -98,7 +98,7 @@ entry_holds h s l w good waits holds =
     )
 
 index_holds : (h : Header1) (s : Scene) (l : Lane) (w : Waiting) → IsGood h → IsWaiting h.size h.capacity s.past (s.heads 0) l.driver w → Holds h s l → head_at (the_ring h.size) s.memory (h.base + length (s.heads 0)) ≡ w.head
-    → Holds h (after_item h.size (items.Made (entries.Offer 0 (request_of w.ask))) (stored_at (avail_idx_place (the_ring h.size)) (little_bytes 2 ((l.driver.avail_idx + 1) % 65536)) s)) (offered l)
+    → Holds h (after_item h (items.Made (entries.Offer 0 (request_of w.ask))) (stored_at (avail_idx_place (the_ring h.size)) (little_bytes 2 ((l.driver.avail_idx + 1) % 65536)) s)) (offered l)
 index_holds h s l w good waits holds stands =
     let p : ℕ = avail_idx_place (the_ring h.size) in
     let x : ℕ = (l.driver.avail_idx + 1) % 65536 in
@@ -128,7 +128,7 @@ guest_holds h mode s l w (suc (suc count)) [] good waits harmless enough holds =
     let entry = entry_holds h s l w good waits holds in
     let s' : Scene = stored_at (avail_entry_place (the_ring h.size) l.driver.avail_idx) (little_bytes 2 w.head) s in
     let done = index_holds h s' l w good waits entry.0 entry.1 in record {
-      each = (inr (holds_track h s' l good entry.0), (inl tt, (inr (holds_track h (after_item h.size (items.Made (entries.Offer 0 (request_of w.ask))) (stored_at (avail_idx_place (the_ring h.size)) (little_bytes 2 ((l.driver.avail_idx + 1) % 65536)) s')) (offered l) good done), tt)));
+      each = (inr (holds_track h s' l good entry.0), (inl tt, (inr (holds_track h (after_item h (items.Made (entries.Offer 0 (request_of w.ask))) (stored_at (avail_idx_place (the_ring h.size)) (little_bytes 2 ((l.driver.avail_idx + 1) % 65536)) s')) (offered l) good done), tt)));
       holds = done;
       legal = (tt, tt);
       past = refl;
@@ -160,7 +160,7 @@ pub last_holds : (h : Header1) (mode : CacheMode) (s : Scene) (l : Lane) (w : Wa
 last_holds h mode s l w zero good waits some holds stands = absurd (omega arith)
 last_holds h mode s l w (suc count) good waits some holds stands =
     let done = index_holds h s l w good waits holds stands in record {
-      each = (inl tt, (inr (holds_track h (after_item h.size (items.Made (entries.Offer 0 (request_of w.ask))) (stored_at (avail_idx_place (the_ring h.size)) (little_bytes 2 ((l.driver.avail_idx + 1) % 65536)) s)) (offered l) good done), tt));
+      each = (inl tt, (inr (holds_track h (after_item h (items.Made (entries.Offer 0 (request_of w.ask))) (stored_at (avail_idx_place (the_ring h.size)) (little_bytes 2 ((l.driver.avail_idx + 1) % 65536)) s)) (offered l) good done), tt));
       holds = done;
       legal = (tt, tt);
       past = refl;
@@ -174,10 +174,10 @@ waits_well h s l w waiting holds = subst (λ (o : Option Waiting). WaitsWell h.s
 
 -- what stores before the last leave
 pub record Unoffered (h : Header1) (s : Scene) (l : Lane) (is : List Item) : Type 0 where
-  pub each : AfterEach h.size (EveryTracks h) s is
-  pub holds : Holds h (after_items h.size is s) l
+  pub each : AfterEach h (EveryTracks h) s is
+  pub holds : Holds h (after_items h is s) l
   pub none : entries_of is ≡ []
-  pub past : (after_items h.size is s).past ≡ s.past
+  pub past : (after_items h is s).past ≡ s.past
 
 -- one store, and then these
 store_then : (h : Header1) (s : Scene) (l : Lane) (p : ℕ) (bs : List ℕ) (is : List Item) → IsGood h → Holds h (stored_at p bs s) l → Unoffered h (stored_at p bs s) l is → Unoffered h s l (items.Store G M p bs ∷ is)

@@ -1,5 +1,6 @@
 -- Items one after another.
 use Rattle.std.proofs.Common.{◌≡◌, ℕ, List, [], ◌∷◌, ◌++◌, refl, ap, ◌∙◌, inl, inr}
+use Rattle.vub_base.specs.declared.header.Header1.{Header1}
 use Rattle.vub_base.specs.declared.header.CacheMode.{CacheMode}
 use Rattle.vub_device.specs.declared.entry.Entry.{Entry}
 use Rattle.vub_device.specs.declared.entry.Entry.TheVariants as entries
@@ -28,40 +29,40 @@ goes_on-append (items.Store tag area place bytes) (items.Idle ∷ is) js g = abs
 goes_on-append (items.Made e) is js g = absurd g
 goes_on-append items.Idle is js g = absurd g
 
-pub after-append : (size : ℕ) (xs ys : List Item) (s : Scene) → after_items size (xs ++ ys) s ≡ after_items size ys (after_items size xs s)
-after-append size [] ys s = refl
-after-append size (x ∷ xs) ys s = after-append size xs ys (after_item size x s)
+pub after-append : (h : Header1) (xs ys : List Item) (s : Scene) → after_items h (xs ++ ys) s ≡ after_items h ys (after_items h xs s)
+after-append h [] ys s = refl
+after-append h (x ∷ xs) ys s = after-append h xs ys (after_item h x s)
 
-pub each-append : (size : ℕ) (P : Scene → Type 0) (s : Scene) (xs ys : List Item) → AfterEach size P s xs → AfterEach size P (after_items size xs s) ys → AfterEach size P s (xs ++ ys)
-each-append size P s [] ys p q = q
-each-append size P s (x ∷ xs) ys p q = (
+pub each-append : (h : Header1) (P : Scene → Type 0) (s : Scene) (xs ys : List Item) → AfterEach h P s xs → AfterEach h P (after_items h xs s) ys → AfterEach h P s (xs ++ ys)
+each-append h P s [] ys p q = q
+each-append h P s (x ∷ xs) ys p q = (
   elim p.0 [
     | inl goes ↦ inl (goes_on-append x xs ys goes)
     | inr holds ↦ inr holds
   ],
-  each-append size P (after_item size x s) xs ys p.1 q,
+  each-append h P (after_item h x s) xs ys p.1 q,
 )
 
 pub legal-append : (capacity : ℕ) (mode : CacheMode) (past es fs : List Entry) → LegalFrom capacity mode past es → LegalFrom capacity mode (after past es) fs → LegalFrom capacity mode past (es ++ fs)
 legal-append capacity mode past [] fs p q = q
 legal-append capacity mode past (e ∷ es) fs p q = (p.0, legal-append capacity mode (e ∷ past) es fs p.1 q)
 
-entry_past : (size : ℕ) (e : Entry) (s : Scene) → (after_item size (items.Made e) s).past ≡ e ∷ s.past
-entry_past size (entries.Offer q r) s = refl
-entry_past size (entries.Accept q k) s = refl
-entry_past size (entries.Look q k t v) s = refl
-entry_past size (entries.Act q k t v) s = refl
-entry_past size (entries.Sync q k) s = refl
-entry_past size (entries.Fault q k) s = refl
-entry_past size (entries.Publish q list) s = refl
-entry_past size entries.Kill s = refl
-entry_past size (entries.Start q list) s = refl
-entry_past size (entries.Collect q k) s = refl
-entry_past size (entries.Power image) s = refl
+entry_past : (h : Header1) (e : Entry) (s : Scene) → (after_item h (items.Made e) s).past ≡ e ∷ s.past
+entry_past h (entries.Offer q r) s = refl
+entry_past h (entries.Accept q k) s = refl
+entry_past h (entries.Look q k t v) s = refl
+entry_past h (entries.Act q k t v) s = refl
+entry_past h (entries.Sync q k) s = refl
+entry_past h (entries.Fault q k) s = refl
+entry_past h (entries.Publish q list) s = refl
+entry_past h entries.Kill s = refl
+entry_past h (entries.Start q list) s = refl
+entry_past h (entries.Collect q k) s = refl
+entry_past h (entries.Power image) s = refl
 
 -- the past of a scene is that of its entries
-pub past_after : (size : ℕ) (is : List Item) (s : Scene) → (after_items size is s).past ≡ after s.past (entries_of is)
-past_after size [] s = refl
-past_after size (items.Made e ∷ is) s = past_after size is (after_item size (items.Made e) s) ∙ ap (λ (past : List Entry). after past (entries_of is)) (entry_past size e s)
-past_after size (items.Store tag area place bytes ∷ is) s = past_after size is (after_item size (items.Store tag area place bytes) s)
-past_after size (items.Idle ∷ is) s = past_after size is s
+pub past_after : (h : Header1) (is : List Item) (s : Scene) → (after_items h is s).past ≡ after s.past (entries_of is)
+past_after h [] s = refl
+past_after h (items.Made e ∷ is) s = past_after h is (after_item h (items.Made e) s) ∙ ap (λ (past : List Entry). after past (entries_of is)) (entry_past h e s)
+past_after h (items.Store tag area place bytes ∷ is) s = past_after h is (after_item h (items.Store tag area place bytes) s)
+past_after h (items.Idle ∷ is) s = past_after h is s

@@ -88,12 +88,12 @@ among_apart xs j k held out same = let both : is_among xs j ≡ is_among xs k = 
 
 -- from that lane on these items and their lane are right, and less is left to do
 pub record Fine (h : Header1) (s : Scene) (l : Lane) (t : Turned) : Type 0 where
-  pub each : AfterEach h.size (EveryTracks h) s t.items
-  pub holds : Holds h (after_items h.size t.items s) t.lane
+  pub each : AfterEach h (EveryTracks h) s t.items
+  pub holds : Holds h (after_items h t.items s) t.lane
   pub legal : LegalFrom h.capacity h.mode s.past (entries_of t.items)
-  pub runs : started (after_items h.size t.items s).past 0 ≡ true
-  pub collects : collected (after_items h.size t.items s).past 0 ≡ collected s.past 0
-  pub falls : effort (after_items h.size t.items s).past (length ((after_items h.size t.items s).heads 0)) t.lane + 1 ≤ effort s.past (length (s.heads 0)) l
+  pub runs : started (after_items h t.items s).past 0 ≡ true
+  pub collects : collected (after_items h t.items s).past 0 ≡ collected s.past 0
+  pub falls : effort (after_items h t.items s).past (length ((after_items h t.items s).heads 0)) t.lane + 1 ≤ effort s.past (length (s.heads 0)) l
 
 -- a request that is worked on
 pub record IsLeft (h : Header1) (s : Scene) (l : Lane) (k : ℕ) : Type 0 where

@@ -39,7 +39,7 @@ held_next h m e is next header held fits plays = ((held_right h m e is next head
 
 -- the past after the items of an event
 pub right_past : (h : Header1) (m : Moment) (is : List Item) (next : Moment) → Right h m is next → next.scene.past ≡ after m.scene.past (entries_of is)
-right_past h m is next right = ap (λ (s : Scene). s.past) right.scene ∙ past_after h.size is m.scene
+right_past h m is next right = ap (λ (s : Scene). s.past) right.scene ∙ past_after h is m.scene
 
 -- from a moment on: legal, and tracked after each item with its entry
 pub run_from : (h : Header1) (m : Moment) (es : List Event) (rs : List Record) → IsHeader h → IsHeld h m → AllByRecursion (IsEvent h) es → RunFrom h m es rs

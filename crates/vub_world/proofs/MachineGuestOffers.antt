@@ -118,17 +118,17 @@ abbrev pub stored_lane : ℕ → Waiting → Moment → Lane
 stored_lane count x m = with_driver (after_stores count x (m.lanes 0).driver) (m.lanes 0)
 
 -- the scene after the offer, where memory is that
-abbrev pub offered_scene : ℕ → Asked → Bytes → Scene → Scene
-offered_scene size r b s = after_item size (items.Made (entries.Offer 0 r)) (record s { memory = b })
+abbrev pub offered_scene : Header1 → Asked → Bytes → Scene → Scene
+offered_scene h r b s = after_item h (items.Made (entries.Offer 0 r)) (record s { memory = b })
 
 abbrev pub moment_with : ℕ → Waiting → Moment → Scene → Moment
 moment_with count x m s = with_lane 0 (stored_lane count x m) (record m { scene = s })
 
-offered_life : (h : Header1) (ring : SplitRing) (count : ℕ) (m : Moment) (x : Waiting) (r : Asked) (b : Bytes) (life : Option Life) → Good h m → LifeAt h ring m life → LifeAt h ring (moment_with count x m (offered_scene h.size r b m.scene)) life
+offered_life : (h : Header1) (ring : SplitRing) (count : ℕ) (m : Moment) (x : Waiting) (r : Asked) (b : Bytes) (life : Option Life) → Good h m → LifeAt h ring m life → LifeAt h ring (moment_with count x m (offered_scene h r b m.scene)) life
 offered_life h ring count m x r b None good at = at
 offered_life h ring count m x r b (Some l) good at = (at.0, attached l.queue at.1)
   where
-    attached : (o : Option Queue) → AttachedAt h ring m o → AttachedAt h ring (moment_with count x m (offered_scene h.size r b m.scene)) o
+    attached : (o : Option Queue) → AttachedAt h ring m o → AttachedAt h ring (moment_with count x m (offered_scene h r b m.scene)) o
     attached None a = a
     attached (Some q) a = (a.0, a.1, at_offer h ring m.scene.past (m.scene.heads 0) (m.lanes 0).phase (m.lanes 0).batch (m.lanes 0).completed (m.lanes 0).made (state_of q) r (last_head (the_ring h.size) b) good.holds.known good.holds.worked a.2)
 
@@ -163,13 +163,13 @@ offered_at w memory guest' asked' log es rs m x is count position s at fits some
     let record_of : Record = record { event = events.Guest 0 count; items = is } in
     let later : Good h next = stands_good h (es ++ events.Guest 0 count ∷ []) (rs ++ record_of ∷ []) next (stands_more h es rs m next (events.Guest 0 count) record_of s (refl, omega (arith, some, few), fits) refl plays) in
     let b : Bytes = put_all x.left m.scene.memory in
-    let scene : after_items h.size (guest_items count 0 x.ask x.left) m.scene ≡ offered_scene h.size r b m.scene = guest_scene h.size count x.ask x.left m.scene some few in
-    let whole : next ≡ moment_with count x m (offered_scene h.size r b m.scene) = ap (moment_with count x m) scene in
-    let front : FrontAt now (moment_with count x m (offered_scene h.size r b m.scene)) = subst (λ (n : Moment). FrontAt now n) whole goes.front in
-    let good_next : Good h (moment_with count x m (offered_scene h.size r b m.scene)) = subst (λ (n : Moment). Good h n) whole later in
+    let scene : after_items h (guest_items count 0 x.ask x.left) m.scene ≡ offered_scene h r b m.scene = guest_scene h count x.ask x.left m.scene some few in
+    let whole : next ≡ moment_with count x m (offered_scene h r b m.scene) = ap (moment_with count x m) scene in
+    let front : FrontAt now (moment_with count x m (offered_scene h r b m.scene)) = subst (λ (n : Moment). FrontAt now n) whole goes.front in
+    let good_next : Good h (moment_with count x m (offered_scene h r b m.scene)) = subst (λ (n : Moment). Good h n) whole later in
     let shown : head_shown now ≡ last_head (the_ring h.size) b = ap (λ (bs : Bytes). last_head (the_ring h.size) bs) front.memory in
     let offers : Offers w.log log (last_head (the_ring h.size) b) x.ask = subst (λ (d : ℕ). Offers w.log log d x.ask) shown (goes.log.offers few) in
-    let stands : MachineAt now (moment_with count x m (offered_scene h.size r b m.scene)) = record {
+    let stands : MachineAt now (moment_with count x m (offered_scene h r b m.scene)) = record {
       front = front;
       position = position ∙ at.position;
       life = offered_life h w.ring count m x r b w.life good at.life;
@@ -185,7 +185,7 @@ partly_at w memory guest' asked' log m x is count position at part goes =
     let h : Header1 = w.header in
     let now : Machine = with_front w memory guest' asked' log in
     let b : Bytes = put_all (take count x.left) m.scene.memory in
-    let scene : after_items h.size (guest_items count 0 x.ask x.left) m.scene ≡ record m.scene { memory = b } = part_scene h.size count x.ask x.left m.scene part in
+    let scene : after_items h (guest_items count 0 x.ask x.left) m.scene ≡ record m.scene { memory = b } = part_scene h count x.ask x.left m.scene part in
     let whole : stored_moment h count x m ≡ moment_with count x m (record m.scene { memory = b }) = ap (moment_with count x m) scene in
     let stands : MachineAt now (moment_with count x m (record m.scene { memory = b })) = record {
       front = subst (λ (n : Moment). FrontAt now n) whole goes.front;

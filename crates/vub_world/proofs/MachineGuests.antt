@@ -106,7 +106,7 @@ one_gone count x w v now m before mid after more same less went step =
     let goes : GuestGoes 1 y v now n mid after = made.1 in
     let is : List Item = guest_items 1 0 x.ask (c.first ∷ c.rest) in
     let whole : guest_items (suc count) 0 x.ask x.left ≡ guest_items count 0 x.ask x.left ++ is = items_more count x.ask x.left less ∙ ap (λ (left : List Store). guest_items count 0 x.ask x.left ++ guest_items 1 0 x.ask left) c.here in
-    let scene : after_items h.size (guest_items (suc count) 0 x.ask x.left) m.scene ≡ after_items h.size is n.scene = ap (λ (js : List Item). after_items h.size js m.scene) whole ∙ after-append h.size (guest_items count 0 x.ask x.left) is m.scene in
+    let scene : after_items h (guest_items (suc count) 0 x.ask x.left) m.scene ≡ after_items h is n.scene = ap (λ (js : List Item). after_items h js m.scene) whole ∙ after-append h (guest_items count 0 x.ask x.left) is m.scene in
     let front : FrontAt now (guest_stores h 0 1 (Some y) n).next = subst (λ (k : Header1). FrontAt now (guest_stores k 0 1 (Some y) n).next) same goes.front in
     let after_one : after_stores 1 y (n.lanes 0).driver ≡ after_stores (suc count) x d = ap (λ (t : Driver). with_left y c.rest t) driver ∙ left_one x d c.first c.rest ∙ ap (λ (left : List Store). with_left x left d) (sym c.next) in
     let log : v.log ≡ w.log = went.log.before less in
@@ -129,7 +129,7 @@ all_gone count most x w now m before after last le went =
     let same : guest_items most 0 x.ask x.left ≡ guest_items count 0 x.ask x.left = items_all count most x.ask x.left last le in
     let none : drop most x.left ≡ drop count x.left = drop_all most x.left (omega arith) ∙ sym (drop_all count x.left last) in
     record {
-      front = front_of now (guest_stores h 0 count (Some x) m).next (guest_stores h 0 most (Some x) m).next (ap (λ (js : List Item). (after_items h.size js m.scene).memory) same) (ap (λ (left : List Store). with_left x left (m.lanes 0).driver) none) went.front;
+      front = front_of now (guest_stores h 0 count (Some x) m).next (guest_stores h 0 most (Some x) m).next (ap (λ (js : List Item). (after_items h js m.scene).memory) same) (ap (λ (left : List Store). with_left x left (m.lanes 0).driver) none) went.front;
       items = went.items ∙ ap (λ (js : List Item). before ++ js) (sym same);
       log = record { before = λ less. absurd (omega arith); offers = λ l. went.log.offers last };
     }

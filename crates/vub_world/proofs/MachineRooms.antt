@@ -45,27 +45,27 @@ use Rattle.vub_run_laws.proofs.RunTurns.{Good, phase_cases}
 abbrev count_in : Scene → ℕ
 count_in s = length (published s.past 0)
 
-look_shows : (size k : ℕ) (s : Scene) (o : Option ℕ) → count_in (after_items size (look_items 0 k s.past o) s) ≡ count_in s
-look_shows size k s None = refl
-look_shows size k s (Some sector) = refl
+look_shows : (h : Header1) (k : ℕ) (s : Scene) (o : Option ℕ) → count_in (after_items h (look_items 0 k s.past o) s) ≡ count_in s
+look_shows h k s None = refl
+look_shows h k s (Some sector) = refl
 
-act_shows : (size k : ℕ) (s : Scene) (o : Option SectorValue) → count_in (after_items size (act_items 0 k o) s) ≡ count_in s
-act_shows size k s None = refl
-act_shows size k s (Some x) = refl
+act_shows : (h : Header1) (k : ℕ) (s : Scene) (o : Option SectorValue) → count_in (after_items h (act_items 0 k o) s) ≡ count_in s
+act_shows h k s None = refl
+act_shows h k s (Some x) = refl
 
-task_shows : (h : Header1) (s : Scene) (l : Lane) (k : ℕ) (r : Asked) (o : Option TaskStep) → count_in (after_items h.size (task_turn h 0 s l k r o).items s) ≡ count_in s
+task_shows : (h : Header1) (s : Scene) (l : Lane) (k : ℕ) (r : Asked) (o : Option TaskStep) → count_in (after_items h (task_turn h 0 s l k r o).items s) ≡ count_in s
 task_shows h s l k r None = refl
-task_shows h s l k r (Some (Look place)) = look_shows h.size k s (look_at r place)
+task_shows h s l k r (Some (Look place)) = look_shows h k s (look_at r place)
 task_shows h s l k r (Some (Put place)) = refl
-task_shows h s l k r (Some (Act place)) = act_shows h.size k s (effect_at r place)
+task_shows h s l k r (Some (Act place)) = act_shows h k s (effect_at r place)
 task_shows h s l k r (Some Sync) = refl
 task_shows h s l k r (Some Status) = refl
 
-request_shows : (h : Header1) (s : Scene) (l : Lane) (k : ℕ) (o : Option Asked) → count_in (after_items h.size (request_turn h 0 s l k o).items s) ≡ count_in s
+request_shows : (h : Header1) (s : Scene) (l : Lane) (k : ℕ) (o : Option Asked) → count_in (after_items h (request_turn h 0 s l k o).items s) ≡ count_in s
 request_shows h s l k None = refl
 request_shows h s l k (Some r) = task_shows h s l k r (slice_get (task_steps h r) (l.made k))
 
-work_shows : (h : Header1) (s : Scene) (l : Lane) (o : Option ℕ) → count_in (after_items h.size (work_turn h 0 s l o).items s) ≡ count_in s
+work_shows : (h : Header1) (s : Scene) (l : Lane) (o : Option ℕ) → count_in (after_items h (work_turn h 0 s l o).items s) ≡ count_in s
 work_shows h s l None = refl
 work_shows h s l (Some k) = request_shows h s l k (asked s.past 0 k)
 
@@ -76,20 +76,20 @@ shown_by batch p = if is_index (next_step batch p) then batch else 0
 abbrev step_shown : ℕ → Option Step → ℕ
 step_shown batch o = if is_index o then batch else 0
 
-row_shows : (size : ℕ) (s : Scene) (o : Option Row) → count_in (after_items size (row_items o ++ []) s) ≡ count_in s
-row_shows size s None = refl
-row_shows size s (Some x) = refl
+row_shows : (h : Header1) (s : Scene) (o : Option Row) → count_in (after_items h (row_items o ++ []) s) ≡ count_in s
+row_shows h s None = refl
+row_shows h s (Some x) = refl
 
-step_shows : (h : Header1) (s : Scene) (l : Lane) (step : Step) → count_in (after_items h.size (phase_turn h 0 s l (Some step)).items s) ≡ count_in s + step_shown (length l.batch) (Some step)
+step_shows : (h : Header1) (s : Scene) (l : Lane) (step : Step) → count_in (after_items h (phase_turn h 0 s l (Some step)).items s) ≡ count_in s + step_shown (length l.batch) (Some step)
 step_shows h s l steps.Start = omega arith
 step_shows h s l steps.Accept = omega arith
-step_shows h s l (steps.Id e) = row_shows h.size s (row_of (ring_of 0 h.size) (used_idx (ring_of 0 h.size) s.memory) (map (element_of h 0 s) l.batch) (steps.Id e)) ∙ omega arith
-step_shows h s l (steps.Len e) = row_shows h.size s (row_of (ring_of 0 h.size) (used_idx (ring_of 0 h.size) s.memory) (map (element_of h 0 s) l.batch) (steps.Len e)) ∙ omega arith
+step_shows h s l (steps.Id e) = row_shows h s (row_of (ring_of 0 h.size) (used_idx (ring_of 0 h.size) s.memory) (map (element_of h 0 s) l.batch) (steps.Id e)) ∙ omega arith
+step_shows h s l (steps.Len e) = row_shows h s (row_of (ring_of 0 h.size) (used_idx (ring_of 0 h.size) s.memory) (map (element_of h 0 s) l.batch) (steps.Len e)) ∙ omega arith
 step_shows h s l steps.Index =
-    let s' : Scene = after_items h.size (step_stores h 0 l.batch steps.Index s) s in
+    let s' : Scene = after_items h (step_stores h 0 l.batch steps.Index s) s in
     length-append (published s.past 0) (numbers (map (answer_at 0 s') l.batch)) ∙ ap (λ (ks : List ℕ). length (published s.past 0) + length ks) (numbers_answers s' l.batch)
 
-phase_shows : (h : Header1) (s : Scene) (l : Lane) (o : Option Step) → count_in (after_items h.size (phase_turn h 0 s l o).items s) ≡ count_in s + step_shown (length l.batch) o
+phase_shows : (h : Header1) (s : Scene) (l : Lane) (o : Option Step) → count_in (after_items h (phase_turn h 0 s l o).items s) ≡ count_in s + step_shown (length l.batch) o
 phase_shows h s l None = omega arith
 phase_shows h s l (Some step) = step_shows h s l step
 
@@ -105,19 +105,19 @@ begun_shows most l none = go (length (take most l.completed))
     go zero = refl
     go (suc n) = refl
 
-rests : (h : Header1) (s : Scene) (l : Lane) (t : Turn) → IsOfQueue t → is_rest l.phase ≡ true → l.batch ≡ [] → count_in (after_items h.size (phase_goes_on h 0 s (under_way t l)).items s) ≡ count_in s
-rests h s l t of_queue rest none = subst (λ (b : Bool). count_in (after_items h.size (phase_goes_on h 0 s (if b then begun t l else l)).items s) ≡ count_in s) (sym rest) (go t of_queue)
+rests : (h : Header1) (s : Scene) (l : Lane) (t : Turn) → IsOfQueue t → is_rest l.phase ≡ true → l.batch ≡ [] → count_in (after_items h (phase_goes_on h 0 s (under_way t l)).items s) ≡ count_in s
+rests h s l t of_queue rest none = subst (λ (b : Bool). count_in (after_items h (phase_goes_on h 0 s (if b then begun t l else l)).items s) ≡ count_in s) (sym rest) (go t of_queue)
   where
-    go : (t : Turn) → IsOfQueue t → count_in (after_items h.size (phase_goes_on h 0 s (begun t l)).items s) ≡ count_in s
+    go : (t : Turn) → IsOfQueue t → count_in (after_items h (phase_goes_on h 0 s (begun t l)).items s) ≡ count_in s
     go turns.Start is = refl
     go turns.Fetch is = refl
     go (turns.Publish most) is =
         phase_shows h s (begun (turns.Publish most) l) (next_step (length (take most l.completed)) (phases.Publish 0)) ∙ (let none' = begun_shows most l none in omega (arith, none'))
     go (turns.Work place) is = absurd is
 
-goes_on : (h : Header1) (s : Scene) (l : Lane) (t : Turn) → is_rest l.phase ≡ false → count_in (after_items h.size (phase_goes_on h 0 s (under_way t l)).items s) ≡ count_in s + shown_by (length l.batch) l.phase
+goes_on : (h : Header1) (s : Scene) (l : Lane) (t : Turn) → is_rest l.phase ≡ false → count_in (after_items h (phase_goes_on h 0 s (under_way t l)).items s) ≡ count_in s + shown_by (length l.batch) l.phase
 goes_on h s l t busy =
-    subst (λ (b : Bool). count_in (after_items h.size (phase_goes_on h 0 s (if b then begun t l else l)).items s) ≡ count_in s + shown_by (length l.batch) l.phase) (sym busy)
+    subst (λ (b : Bool). count_in (after_items h (phase_goes_on h 0 s (if b then begun t l else l)).items s) ≡ count_in s + shown_by (length l.batch) l.phase) (sym busy)
     (phase_shows h s l (next_step (length l.batch) l.phase))
 
 -- while a batch is published no work on a request comes first
@@ -152,7 +152,7 @@ pub chosen_shows : (h : Header1) (m : Moment) (sequence : Sequence) (taken : ℕ
 chosen_shows h m sequence taken good t is = elim (phase_cases l.batch l.phase good.holds.worked.phase_is) [
   | inl rest ↦
       let none : shown_by (length l.batch) l.phase ≡ 0 = ap (λ (p : Phase). shown_by (length l.batch) p) rest.0 in
-      let same : count_in (after_items h.size (turned h 0 t m).items s) ≡ count_in s = resting t (ap is_rest rest.0) rest.1 in
+      let same : count_in (after_items h (turned h 0 t m).items s) ≡ count_in s = resting t (ap is_rest rest.0) rest.1 in
       omega (arith, none, same)
   | inr shows ↦ publishes t (subst IsOfQueue (sym is) (publishing_turn h m sequence taken (ap is_publication shows.1))) (ap is_rest shows.1)
 ]
@@ -163,13 +163,13 @@ chosen_shows h m sequence taken good t is = elim (phase_cases l.batch l.phase go
     l : Lane
     l = m.lanes 0
 
-    resting : (t : Turn) → is_rest l.phase ≡ true → l.batch ≡ [] → count_in (after_items h.size (turned h 0 t m).items s) ≡ count_in s
+    resting : (t : Turn) → is_rest l.phase ≡ true → l.batch ≡ [] → count_in (after_items h (turned h 0 t m).items s) ≡ count_in s
     resting turns.Start rest none = rests h s l turns.Start tt rest none
     resting turns.Fetch rest none = rests h s l turns.Fetch tt rest none
     resting (turns.Publish most) rest none = rests h s l (turns.Publish most) tt rest none
     resting (turns.Work place) rest none = work_shows h s l (slice_get (unfinished 0 m) place)
 
-    publishes : (t : Turn) → IsOfQueue t → is_rest l.phase ≡ false → count_in (after_items h.size (turned h 0 t m).items s) ≡ count_in s + shown_by (length l.batch) l.phase
+    publishes : (t : Turn) → IsOfQueue t → is_rest l.phase ≡ false → count_in (after_items h (turned h 0 t m).items s) ≡ count_in s + shown_by (length l.batch) l.phase
     publishes turns.Start of_queue busy = goes_on h s l turns.Start busy
     publishes turns.Fetch of_queue busy = goes_on h s l turns.Fetch busy
     publishes (turns.Publish most) of_queue busy = goes_on h s l (turns.Publish most) busy

@@ -104,12 +104,12 @@ pub start_made : (h : Header1) (r : SplitRing) (m : Moment) (log : Log) (cap : �
 start_made h r m log cap sizes d now x a ready does =
     let s = start_stands h r m (Some d.memory) x d.queue now.queue a.plain a.good a.main a.at.stands ready does.fine does.does in
     let none : accepts x ≡ 0 = ap accepts s.said in
-    let same : accepted (one_turn h 0 turns.Start m).next.scene.past 0 ≡ accepted m.scene.past 0 = ap (λ (is : List Item). accepted (after_items h.size is m.scene).past 0) s.made in
+    let same : accepted (one_turn h 0 turns.Start m).next.scene.past 0 ≡ accepted m.scene.past 0 = ap (λ (is : List Item). accepted (after_items h is m.scene).past 0) s.made in
     record {
       goes = ap is_idle s.said;
       at = record {
         stands = s.stands;
-        memory_is = some_is now.memory d.memory does.stores_are ∙ a.at.memory_is ∙ sym (ap (λ (is : List Item). (after_items h.size is m.scene).memory) s.made);
+        memory_is = some_is now.memory d.memory does.stores_are ∙ a.at.memory_is ∙ sym (ap (λ (is : List Item). (after_items h is m.scene).memory) s.made);
         disk = disk_same h.capacity (one_turn h 0 turns.Start m).next.scene.past d.values now.values (some_is now.values d.values does.values_are) (turn_disk h m turns.Start d.values tt a.at.disk);
       };
       items_are = s.made ∙ sym (ap (noted log now.values now.stores (shown_of log d.memory d.queue)) s.said);
@@ -146,12 +146,12 @@ fetch_made h r m log cap sizes d now x a ready does =
     let slot = a.numbered.slots k (more_offered h m a.plain a.good ready) new in
     let number : number_at log head ≡ k = ap (λ (o : Outstanding). o.number) slot in
     let one : accepts x ≡ 1 = ap accepts s.said in
-    let more : accepted (one_turn h 0 turns.Fetch m).next.scene.past 0 ≡ k + 1 = ap (λ (is : List Item). accepted (after_items h.size is m.scene).past 0) s.made in
+    let more : accepted (one_turn h 0 turns.Fetch m).next.scene.past 0 ≡ k + 1 = ap (λ (is : List Item). accepted (after_items h is m.scene).past 0) s.made in
     record {
       goes = ap is_idle s.said;
       at = record {
         stands = s.stands;
-        memory_is = some_is now.memory d.memory does.stores_are ∙ a.at.memory_is ∙ sym (ap (λ (is : List Item). (after_items h.size is m.scene).memory) s.made);
+        memory_is = some_is now.memory d.memory does.stores_are ∙ a.at.memory_is ∙ sym (ap (λ (is : List Item). (after_items h is m.scene).memory) s.made);
         disk = disk_same h.capacity (one_turn h 0 turns.Fetch m).next.scene.past d.values now.values (some_is now.values d.values does.values_are) (turn_disk h m turns.Fetch d.values tt a.at.disk);
       };
       items_are = s.made ∙ ap (λ (n : ℕ). items.Made (entries.Accept 0 n) ∷ []) (sym number) ∙ sym (ap (noted log now.values now.stores (shown_of log d.memory d.queue)) s.said);
@@ -210,7 +210,7 @@ one_small : (d now : Device) (y : Row) → StoredRow d now y → IsSmall y.store
 one_small d now y s small = subst (λ (l : List Store). OneSmall l) (sym s.stores_are) small
 
 -- memory after the store, as the items have it
-row_memory : (h : Header1) (m : Moment) (d now : Device) (tag : Tag) (y : Row) → d.memory ≡ m.scene.memory → y.store.space ≡ 0 → StoredRow d now y → now.memory ≡ (after_items h.size (items.Store tag M y.store.place y.store.bytes ∷ []) m.scene).memory
+row_memory : (h : Header1) (m : Moment) (d now : Device) (tag : Tag) (y : Row) → d.memory ≡ m.scene.memory → y.store.space ≡ 0 → StoredRow d now y → now.memory ≡ (after_items h (items.Store tag M y.store.place y.store.bytes ∷ []) m.scene).memory
 row_memory h m d now tag y same space s =
     s.memory_is ∙ ap (λ (b : Bytes). put b y.store.space y.store.place y.store.bytes) same ∙ ap (λ (k : ℕ). put m.scene.memory k y.store.place y.store.bytes) space
 
@@ -291,7 +291,7 @@ shown_is log m q next = ap (λ (o : Option Step). cond {A = List Answered} (is_i
 
 -- what a turn of a publication leaves, whichever step it makes
 left_at : (h : Header1) (r : SplitRing) (m : Moment) (log : Log) (most : ℕ) (d now : Device) (tag : Tag) (y : Row) → TurnAt h r m log d → QueueStands h r (one_turn h 0 (turns.Publish most) m).next now.queue → now.values ≡ d.values
-    → y.store.space ≡ 0 → StoredRow d now y → (one_turn h 0 (turns.Publish most) m).next.scene.memory ≡ (after_items h.size (items.Store tag M y.store.place y.store.bytes ∷ []) m.scene).memory
+    → y.store.space ≡ 0 → StoredRow d now y → (one_turn h 0 (turns.Publish most) m).next.scene.memory ≡ (after_items h (items.Store tag M y.store.place y.store.bytes ∷ []) m.scene).memory
     → DeviceAt h r (one_turn h 0 (turns.Publish most) m).next now
 left_at h r m log most d now tag y a stands values space s memory = record {
   stands = stands;
@@ -305,7 +305,7 @@ show_made : (h : Header1) (r : SplitRing) (m : Moment) (log : Log) (most : ℕ) 
 show_made h r m log most d now x y a at has next s small off =
     let list : List Answered = map (answer_at 0 (after_row h y m.scene)) (m.lanes 0).batch in
     let none : accepts x ≡ 0 = ap accepts has.said in
-    let same : accepted (one_turn h 0 (turns.Publish most) m).next.scene.past 0 ≡ accepted m.scene.past 0 = ap (λ (is : List Item). accepted (after_items h.size is m.scene).past 0) has.items in
+    let same : accepted (one_turn h 0 (turns.Publish most) m).next.scene.past 0 ≡ accepted m.scene.past 0 = ap (λ (is : List Item). accepted (after_items h is m.scene).past 0) has.items in
     let answers : shown_of log d.memory d.queue ≡ list = shown_is log d.memory d.queue next ∙ answers_same h r m log d y a off in
     record {
       goes = ap is_idle has.said;
@@ -324,7 +324,7 @@ part_made : (h : Header1) (r : SplitRing) (m : Moment) (log : Log) (most : ℕ) 
     → MadeElement (states.under_way most d.queue) x (turned h 0 (turns.Publish most) m).items y → StoredRow d now y → IsSmall y.store → TurnMade h r m (turns.Publish most) log d now x
 part_made h r m log most d now x y at part s small =
     let none : accepts x ≡ 0 = ap accepts part.said in
-    let same : accepted (one_turn h 0 (turns.Publish most) m).next.scene.past 0 ≡ accepted m.scene.past 0 = ap (λ (is : List Item). accepted (after_items h.size is m.scene).past 0) part.items in
+    let same : accepted (one_turn h 0 (turns.Publish most) m).next.scene.past 0 ≡ accepted m.scene.past 0 = ap (λ (is : List Item). accepted (after_items h is m.scene).past 0) part.items in
     record {
       goes = ap is_idle part.said;
       at = at;
@@ -360,12 +360,12 @@ publish_made h r m log cap sizes most d now x a ready does =
           let has : HasShown h m most x y = shown_stands h r m most x d.queue now.queue y a.at.stands p next in
           let s : StoredRow d now y = stored_row d now x (publish_row most d.queue) y (ap outcome has.said) p.row a.fresh does.stores_are does.trails in
           let off = index_place d.queue most y next p.row (ap (λ (z : SplitRing). z.used.1) a.at.stands.ring ∙ a.main.used) in
-          let at = left_at h r m log most d now SP5 y a p.stands values p.space s (ap (λ (is : List Item). (after_items h.size is m.scene).memory) has.items) in
+          let at = left_at h r m log most d now SP5 y a p.stands values p.space s (ap (λ (is : List Item). (after_items h is m.scene).memory) has.items) in
           show_made h r m log most d now x y a at has next s small off
       | inr other ↦
           let part = stored_stands h r m most x d.queue now.queue y a.good a.at.stands ready p other in
           let s : StoredRow d now y = stored_row d now x (publish_row most d.queue) y (ap outcome part.said) p.row a.fresh does.stores_are does.trails in
-          let at = left_at h r m log most d now y.tag y a p.stands values p.space s (ap (λ (is : List Item). (after_items h.size is m.scene).memory) part.items) in
+          let at = left_at h r m log most d now y.tag y a p.stands values p.space s (ap (λ (is : List Item). (after_items h is m.scene).memory) part.items) in
           part_made h r m log most d now x y at part s small
     ]
 

@@ -102,7 +102,7 @@ stores_noted h m t log d now tag x task n fresh trails shows goes none notes fit
       items_are = shows.items ∙ sym (ap (stored_items tag) kept) ∙ sym notes;
       store = subst (λ (T : Type 0). T) (sym fits) small;
       none = none;
-      same = ap (λ (is : List Item). accepted (after_items h.size is m.scene).past 0) shows.items;
+      same = ap (λ (is : List Item). accepted (after_items h is m.scene).past 0) shows.items;
     }
 
 -- what is known of the step that is made
@@ -122,7 +122,7 @@ work_noted h m t log d now k task n (says.Looked head sector) g shows =
       items_are = shows.1 ∙ ap (λ (j : ℕ). items.Made (entries.Look 0 j sector (d.values sector)) ∷ []) (sym number) ∙ ap (λ (v : Values). items.Made (entries.Look 0 (number_at log head) sector (v sector)) ∷ []) (sym values);
       store = tt;
       none = refl;
-      same = ap (λ (is : List Item). accepted (after_items h.size is m.scene).past 0) shows.1;
+      same = ap (λ (is : List Item). accepted (after_items h is m.scene).past 0) shows.1;
     }
 work_noted h m t log d now k task n (says.Acted head sector) g shows =
     let number : number_at log head ≡ k = ap (number_at log) shows.0 ∙ g.number in
@@ -133,7 +133,7 @@ work_noted h m t log d now k task n (says.Acted head sector) g shows =
           ∙ ap (λ (v : Values). items.Made (entries.Act 0 (number_at log head) sector (v sector)) ∷ []) (sym g.values_are);
       store = tt;
       none = refl;
-      same = ap (λ (is : List Item). accepted (after_items h.size is m.scene).past 0) shows.1;
+      same = ap (λ (is : List Item). accepted (after_items h is m.scene).past 0) shows.1;
     }
 work_noted h m t log d now k task n (says.Stored tag) g shows =
     stores_noted h m t log d now T2 (says.Stored tag) task n g.fresh g.trails shows.1 refl refl (ap (λ (y : Tag). stored_items y now.stores) shows.0) refl
@@ -147,7 +147,7 @@ work_noted h m t log d now k task n (says.Synced head) g shows =
       items_are = shows.1 ∙ ap (λ (j : ℕ). items.Made (entries.Sync 0 j) ∷ []) (sym number);
       store = tt;
       none = refl;
-      same = ap (λ (is : List Item). accepted (after_items h.size is m.scene).past 0) shows.1;
+      same = ap (λ (is : List Item). accepted (after_items h is m.scene).past 0) shows.1;
     }
 work_noted h m t log d now k task n (says.Faulted head) g shows = absurd shows
 work_noted h m t log d now k task n says.Published g shows = absurd shows
