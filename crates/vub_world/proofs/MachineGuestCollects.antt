@@ -1,7 +1,8 @@
 -- Where the machine stands after the driver took an element of the used ring.
-use Rattle.std.proofs.Common.{◌≡◌, ◌≢◌, ◌≤◌, ◌<◌, ℕ, zero, suc, ◌+◌, ◌*◌, ◌%◌, false, List, [], ◌∷◌, ◌++◌, length, take, refl, ap, sym, ◌∙◌, subst, arith}
+use Rattle.std.proofs.Common.{◌≡◌, ◌≢◌, ◌≤◌, ◌<◌, ℕ, zero, suc, ◌+◌, ◌*◌, ◌%◌, false, List, [], ◌∷◌, ◌++◌, length, take, refl, ap, sym, ◌∙◌, subst, inl, inr, arith}
 use Rattle.std.specs.Prelude.{Option, Some, None, slice_index, ◌||◌}
 use Rattle.std.proofs.lemmas.Bool.Decides.{nat_tests}
+use Rattle.std.proofs.lemmas.Bool.{cases_lt}
 use Rattle.std.proofs.lemmas.List.{take_more}
 use Rattle.vub_base.specs.declared.header.Header1.{Header1}
 use Rattle.vub_shared.specs.Bytes.{Bytes, word}
@@ -24,7 +25,7 @@ use Rattle.vub_report.specs.declared.items.Item.TheVariants as items
 use Rattle.vub_report.specs.declared.items.Record.{Record}
 use Rattle.vub_guest.specs.GuestState.{driver_in, seen_in}
 use Rattle.vub_world.specs.OutstandingRequests.{offered_in, collected_in, size_in, slot_in}
-use Rattle.vub_world.specs.MachineAt.{AskAt, LifeAt, AttachedAt, MachineAt}
+use Rattle.vub_world.specs.MachineAt.{AskAt, LifeAt, AttachedAt, MachineAt, IsStanding}
 use Rattle.vub_run.specs.Moments.{Lane, Moment}
 use Rattle.vub_queue.specs.QueueState.{state_of}
 use Rattle.vub_run.specs.Run.{Stands, played, next_collected, take_first, collect}
@@ -85,7 +86,7 @@ fewer_among xs c k less out =
 
 -- what the table of outstanding requests notes of a collection
 pub record TakesOne (l now : OutstandingRequests) : Type 0 where
-  pub collects : collected_in l < offered_in l → collected_in now ≡ collected_in l + 1
+  pub collects : collected_in now ≡ collected_in l + 1
   pub offers : offered_in now ≡ offered_in l
   pub places : size_in now ≡ size_in l
   pub slots : (d : ℕ) → slot_in now d ≡ slot_in l d
@@ -104,6 +105,27 @@ head_plays h m x xs number is sees =
     let next : Moment = (take_first h 0 (x ∷ xs) m).next in
     let here : played (items.Made (entries.Collect 0 number) ∷ []) next ≡ take_first h 0 (x ∷ xs) m = ap (λ (j : ℕ). played (items.Made (entries.Collect 0 j) ∷ []) next) is in
     here ∙ sym (ap (λ (ys : List (ℕ × ℕ)). take_first h 0 ys m) sees)
+
+-- an element that is shown and not taken is that of a request that isn't collected
+pub one_is_left : (w : Machine) → IsStanding w → used_idx (the_ring w.header.size) (bytes_in w.memory) ≢ seen_in w.guest → collected_in w.outstanding < offered_in w.outstanding
+one_is_left w stood shown =
+    let h : Header1 = w.header in
+    let r : Ring = the_ring h.size in
+    let m : Moment = stood.2.0 in
+    let s : Stands h stood.0 stood.1 m = stood.2.1 in
+    let at : MachineAt w m = stood.2.2 in
+    let good : Good h m = stands_good h stood.0 stood.1 m s in
+    let known : Known h.size h.capacity m.scene.past (m.scene.heads 0) = good.holds.known in
+    let c : ℕ = collected m.scene.past 0 in
+    let ps : List ℕ = published m.scene.past 0 in
+    let u : ℕ = used_idx r m.scene.memory in
+    let index : u ≡ (h.base + length ps) % 65536 = good.holds.ringed.used_idx_is in
+    let apart : u ≢ (h.base + c) % 65536 = λ same. shown (ap (used_idx r) at.front.memory ∙ same ∙ sym at.position) in
+    let more : c < length ps = elim (cases_lt c (length ps)) [
+      | inl less ↦ less
+      | inr none ↦ absurd (apart (index ∙ ap (λ (n : ℕ). (h.base + n) % 65536) (let all : length ps ≡ c = omega (arith, none, known.shown) in all)))
+    ] in
+    omega (arith, at.outstanding.collects_are, at.outstanding.offers_are, more, known.fewer, known.offered)
 
 pub head_performs : (w : Machine) (memory : WatchedShared) (guest' : Guest) (outstanding : OutstandingRequests) (es : List Event) (rs : List Record) (m : Moment) (head : ℕ) → Stands w.header es rs m → MachineAt w m → bytes_in memory ≡ bytes_in w.memory
     → used_idx (the_ring w.header.size) (bytes_in w.memory) ≢ seen_in w.guest → head ≡ (element_at (the_ring w.header.size) (bytes_in w.memory) (seen_in w.guest)).0 % 65536
@@ -137,8 +159,7 @@ head_performs w memory guest' outstanding es rs m head s at bytes shown head_is 
     ap (λ (b : Bytes). (element_at r b (seen_in w.guest)).0) at.front.memory ∙ ap (λ (i : ℕ). (element_at r m.scene.memory i).0) at.position ∙ ap (λ (y : ℕ × ℕ). y.0) (same_element r m.scene.memory p) in
     let is_first : head ≡ x.0 = omega (arith, head_is, read, first, low, small) in
     let number : (slot_in w.outstanding head).number ≡ k = ap (λ (d : ℕ). (slot_in w.outstanding d).number) (is_first ∙ first) ∙ ap (λ (o : OutstandingRequest). o.number) (at.outstanding.slots k there kept) in
-    let next : Moment = (take_first h 0 (x ∷ some.0) m).next in
-    let room : collected_in w.outstanding < offered_in w.outstanding = omega (arith, at.outstanding.collects_are, at.outstanding.offers_are, t.more, known.fewer, known.offered) in (
+    let next : Moment = (take_first h 0 (x ∷ some.0) m).next in (
       next,
       head_plays h m x some.0 (slot_in w.outstanding head).number number sees,
       record {
@@ -152,7 +173,7 @@ head_performs w memory guest' outstanding es rs m head s at bytes shown head_is 
         disk = at.disk;
         outstanding = record {
           offers_are = takes.offers ∙ at.outstanding.offers_are;
-          collects_are = takes.collects room ∙ ap (λ (i : ℕ). i + 1) at.outstanding.collects_are;
+          collects_are = takes.collects ∙ ap (λ (i : ℕ). i + 1) at.outstanding.collects_are;
           places = takes.places ∙ at.outstanding.places;
           slots = λ j below out. takes.slots (slice_index (m.scene.heads 0) j) ∙ at.outstanding.slots j below (fewer_among ps c j t.more out);
         };

@@ -80,16 +80,15 @@ impl OutstandingRequests {
         }
     }
 
-    /// Notes that a request was collected, if one is outstanding.
+    /// Notes that a request was collected.
     pub fn collect(&mut self)
-        ensures collected { collected_in self.old < offered_in self.old → collected_in self.new ≡ collected_in self.old + 1 }
+        requires some { collected_in self.old < offered_in self.old }
+        ensures collected { collected_in self.new ≡ collected_in self.old + 1 }
         ensures offered { offered_in self.new ≡ offered_in self.old }
         ensures size { size_in self.new ≡ size_in self.old }
         ensures slots { (d : ℕ) → slot_in self.new d ≡ slot_in self.old d }
     {
-        if self.collected < self.offered {
-            self.collected += 1;
-        }
+        self.collected += 1;
     }
 
     /// How many requests are offered and not collected.

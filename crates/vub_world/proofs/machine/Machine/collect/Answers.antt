@@ -1,4 +1,4 @@
-use Rattle.std.proofs.Common.{◌≡◌, ◌++◌, ◌∷◌, List, [], sym, ap, subst, ◌∙◌, inl, inr}
+use Rattle.std.proofs.Common.{◌≡◌, ◌<◌, ◌++◌, ◌∷◌, List, [], sym, ap, subst, ◌∙◌, inl, inr}
 use Rattle.vub_device.specs.declared.entry.Entry.TheVariants as entries
 use Rattle.vub_driver.specs.Layout.{ring_of}
 use Rattle.vub_shared.specs.Watched.{bytes_in}
@@ -10,13 +10,21 @@ use Rattle.vub_world.specs.declared.machine.Machine.{Machine}
 use Rattle.vub_report.specs.declared.items.Item.{Item}
 use Rattle.vub_report.specs.declared.items.Item.TheVariants as items
 use Rattle.vub_guest.specs.GuestState.{driver_in, seen_in, Shows, Collects}
-use Rattle.vub_world.specs.OutstandingRequests.{slot_in}
+use Rattle.vub_world.specs.OutstandingRequests.{offered_in, collected_in, slot_in}
 use Rattle.vub_world.specs.MachineAt.{MachineAt}
 use Rattle.vub_room.specs.Rooms.{RoomState}
 use Rattle.vub_run.specs.Run.{played}
-use Rattle.vub_world.proofs.MachineGuestCollects.{TakesOne, none_performs, head_performs}
+use Rattle.vub_world.proofs.MachineGuestCollects.{TakesOne, one_is_left, none_performs, head_performs}
 use Rattle.vub_world.proofs.machine.Machine.collect.Goals.{in-Nothing, in-Head}
 use Rattle.vub_world.proofs.machine.Machine.collect.Goals as goal
+
+pub collect-requires : goal.collect-requires
+collect-requires c =
+    let w : Machine = c.args.self.now in
+    let t = c.take_element.ensures in
+    let same : c.take_element.new.self.outstanding ≡ w.outstanding = ap (λ (u : Machine). u.outstanding) t.frame in
+    let shown = subst (λ (x : Collected). Shows x (ring_of 0 w.header.size) (bytes_in w.memory) (seen_in w.guest)) c.in-Head.is t.shown in
+    record { some = subst (λ (l : OutstandingRequests). collected_in l < offered_in l) (sym same) (one_is_left w c.requires.stands shown.0) }
 
 pub returns-clause-performs : goal.returns-clause-performs
 returns-clause-performs c es rs m s at = elim c.match-take_element.branch [
