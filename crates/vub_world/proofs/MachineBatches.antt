@@ -10,14 +10,14 @@ use Rattle.vub_steps.specs.Steps.{next_step}
 use Rattle.vub_device.specs.declared.entry.Asked.{Asked}
 use Rattle.vub_device.specs.declared.entry.Asked.TheVariants as asks
 use Rattle.vub_device.specs.Past.{asked, is_among}
-use Rattle.vub_world.specs.declared.log.Log.{Log}
-use Rattle.vub_world.specs.declared.log.Outstanding.{Outstanding}
+use Rattle.vub_world.specs.declared.outstanding.OutstandingRequests.{OutstandingRequests}
+use Rattle.vub_world.specs.declared.outstanding.OutstandingRequest.{OutstandingRequest}
 use Rattle.vub_world.specs.declared.machine.Life.{Life}
 use Rattle.vub_world.specs.declared.machine.Machine.{Machine}
 use Rattle.vub_queue.specs.declared.queue.Queue.{Queue}
 use Rattle.vub_split.specs.declared.split.SplitRing.{SplitRing}
-use Rattle.vub_world.specs.Logs.{slot_in}
-use Rattle.vub_world.specs.MachineAt.{MachineAt, LifeAt, AttachedAt, LogAt, reads_of}
+use Rattle.vub_world.specs.OutstandingRequests.{slot_in}
+use Rattle.vub_world.specs.MachineAt.{MachineAt, LifeAt, AttachedAt, OutstandingAt, reads_of}
 use Rattle.vub_world.specs.MachineDevice.{BatchFits, ShowsSome, QueueShowsSome, batch_in, queue_batch, is_index, is_showing}
 use Rattle.vub_run.specs.Moments.{Moment}
 use Rattle.vub_queue_in_run.specs.QueueAt.{QueueStands, spot_of}
@@ -66,8 +66,8 @@ few_reads cap (Some (asks.Discard parts)) is = absurd is
 few_reads cap (Some (asks.Zero parts)) is = absurd is
 few_reads cap None is = absurd is
 
-pub queue_batch_fits : (h : Header1) (r : SplitRing) (m : Moment) (q : QueueState) (log : Log) → h.size ≤ 64 → Good h m → QueueStands h r m q → LogAt h.size m.scene.past (m.scene.heads 0) log → BatchFits log q.batch
-queue_batch_fits h r m q log small good at numbered i x found =
+pub queue_batch_fits : (h : Header1) (r : SplitRing) (m : Moment) (q : QueueState) (outstanding : OutstandingRequests) → h.size ≤ 64 → Good h m → QueueStands h r m q → OutstandingAt h.size m.scene.past (m.scene.heads 0) outstanding → BatchFits outstanding q.batch
+queue_batch_fits h r m q outstanding small good at numbered i x found =
     let lane = m.lanes 0 in
     let past = m.scene.past in
     let heads = m.scene.heads 0 in
@@ -75,7 +75,7 @@ queue_batch_fits h r m q log small good at numbered i x found =
     let mapped : option_map (spot_of h past heads) (slice_get lane.batch i) ≡ Some x = sym (slice_get-map (spot_of h past heads) lane.batch i) ∙ spots in
     pick (slice_get lane.batch i) refl mapped
   where
-    pick : (o : Option ℕ) → slice_get (m.lanes 0).batch i ≡ o → option_map (spot_of h m.scene.past (m.scene.heads 0)) o ≡ Some x → (x.0 < 64) × ((slot_in log x.0).reads ≤ 8)
+    pick : (o : Option ℕ) → slice_get (m.lanes 0).batch i ≡ o → option_map (spot_of h m.scene.past (m.scene.heads 0)) o ≡ Some x → (x.0 < 64) × ((slot_in outstanding x.0).reads ≤ 8)
     pick None here is = absurd (cc is)
     pick (Some k) here is =
         let past = m.scene.past in
@@ -86,20 +86,20 @@ queue_batch_fits h r m q log small good at numbered i x found =
         let among : is_among ((m.lanes 0).completed ++ (m.lanes 0).batch) k ≡ true = among_right (m.lanes 0).completed (m.lanes 0).batch k (among_get (m.lanes 0).batch i k here) in
         let out : IsOut past heads k = open_out h.size h.capacity past heads k holds.known (holds.worked.opens k among) in
         let below : slice_index heads k < h.size = holds.driven.below k out in
-        let slot : (slot_in log x.0).reads ≡ reads_of (asked past 0 k) = ap (λ (d : ℕ). (slot_in log d).reads) head ∙ ap (λ (o : Outstanding). o.reads) (numbered.slots k out.below out.kept) in
+        let slot : (slot_in outstanding x.0).reads ≡ reads_of (asked past 0 k) = ap (λ (d : ℕ). (slot_in outstanding d).reads) head ∙ ap (λ (o : OutstandingRequest). o.reads) (numbered.slots k out.below out.kept) in
         let few : reads_of (asked past 0 k) ≤ 8 = few_reads h.capacity (asked past 0 k) (holds.known.wide k out.below) in
         (omega (arith, below, head, small), omega (arith, slot, few))
 
-pub batch_fits : (w : Machine) (m : Moment) → w.header.size ≤ 64 → Good w.header m → MachineAt w m → BatchFits w.log (batch_in w.life)
+pub batch_fits : (w : Machine) (m : Moment) → w.header.size ≤ 64 → Good w.header m → MachineAt w m → BatchFits w.outstanding (batch_in w.life)
 batch_fits w m small good at = go w.life at.life
   where
-    none_fits : BatchFits w.log []
+    none_fits : BatchFits w.outstanding []
     none_fits i x found = absurd (cc found)
 
-    of_queue : (queue : Option Queue) → AttachedAt w.header w.ring m queue → BatchFits w.log (queue_batch queue)
+    of_queue : (queue : Option Queue) → AttachedAt w.header w.ring m queue → BatchFits w.outstanding (queue_batch queue)
     of_queue None here = none_fits
-    of_queue (Some q) here = queue_batch_fits w.header w.ring m (state_of q) w.log small good here.2 at.log
+    of_queue (Some q) here = queue_batch_fits w.header w.ring m (state_of q) w.outstanding small good here.2 at.outstanding
 
-    go : (life : Option Life) → LifeAt w.header w.ring m life → BatchFits w.log (batch_in life)
+    go : (life : Option Life) → LifeAt w.header w.ring m life → BatchFits w.outstanding (batch_in life)
     go None here = none_fits
     go (Some l) here = of_queue l.queue here.1

@@ -8,7 +8,7 @@ use Rattle.vub_schedule.specs.Spelling.{IsEvent}
 use Rattle.vub_world.specs.declared.machine.Life.{Life}
 use Rattle.vub_world.specs.declared.machine.Machine.{Machine}
 use Rattle.vub_queue.specs.declared.queue.Queue.{Queue}
-use Rattle.vub_world.specs.Logs.{offered_in}
+use Rattle.vub_world.specs.OutstandingRequests.{offered_in}
 use Rattle.vub_report.specs.declared.items.Item.{Item}
 use Rattle.vub_report.specs.declared.items.Record.{Record}
 use Rattle.vub_run.specs.LegalRuns.{IsServed}
@@ -34,7 +34,7 @@ kept_at w r spare m at = record {
   position = at.position;
   life = at.life;
   disk = at.disk;
-  log = at.log;
+  outstanding = at.outstanding;
 }
 
 -- a machine with an attached queue
@@ -76,22 +76,22 @@ stands_on w now e r spare fits same is goes es rs stood =
     }
 
 -- an event offers one request at most
-pub one_offer : (w now : Machine) (e : Event) (is : List Item) → IsEvent w.header e → IsStanding w → Performs w now e is → offered_in now.log ≤ offered_in w.log + 1
+pub one_offer : (w now : Machine) (e : Event) (is : List Item) → IsEvent w.header e → IsStanding w → Performs w now e is → offered_in now.outstanding ≤ offered_in w.outstanding + 1
 one_offer w now e is fits stood goes =
     let m : Moment = stood.2.0 in
     let stands : Stands w.header stood.0 stood.1 m = stood.2.1 in
     let at : MachineAt w m = stood.2.2 in
     let went = goes stood.0 stood.1 m stands at in
     let few : length (went.0.scene.heads 0) ≤ length (m.scene.heads 0) + 1 = event_offers w.header m e is went.0 stands.header (stands_held w.header stood.0 stood.1 m stands) fits went.1 in
-    omega (arith, few, went.2.log.offers_are, at.log.offers_are)
+    omega (arith, few, went.2.outstanding.offers_are, at.outstanding.offers_are)
 
 -- no more requests were offered than events were played
-pub offers_few : (w : Machine) (es : List Event) (rs : List Record) → StandsFor w es rs → offered_in w.log ≤ length es
+pub offers_few : (w : Machine) (es : List Event) (rs : List Record) → StandsFor w es rs → offered_in w.outstanding ≤ length es
 offers_few w es rs stood =
     let m : Moment = stood.0 in
     let stands : Stands w.header es rs m = stood.1 in
     let few : length (m.scene.heads 0) ≤ 0 + length es = run_offers w.header (opening w.header) es rs m stands.header (opening_held w.header stands.header) stands.events stands.run in
-    omega (arith, few, stood.2.log.offers_are)
+    omega (arith, few, stood.2.outstanding.offers_are)
 
 pub standing_on : (w now : Machine) (e : Event) (r : Record) → IsStanding w → StandsOn w now e r → IsStanding now
 standing_on w now e r s on = (s.0 ++ e ∷ [], s.1 ++ r ∷ [], (on s.0 s.1 s.2).stands)

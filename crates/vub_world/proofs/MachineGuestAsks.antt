@@ -51,6 +51,6 @@ ask_performs w guest' m shape a ready sound at says taken driver position =
         position = position ∙ at.position;
         life = life_driven h w.ring m (after_ask (ring_of 0 h.size) a v) w.life at.life;
         disk = at.disk;
-        log = at.log;
+        outstanding = at.outstanding;
       },
     )

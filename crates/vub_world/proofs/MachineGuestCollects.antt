@@ -1,7 +1,8 @@
 -- Where the machine stands after the driver took an element of the used ring.
-use Rattle.std.proofs.Common.{◌≡◌, ◌≢◌, ◌≤◌, ◌<◌, ℕ, zero, suc, ◌+◌, ◌*◌, ◌%◌, false, List, [], ◌∷◌, ◌++◌, length, take, refl, ap, sym, ◌∙◌, subst, arith}
+use Rattle.std.proofs.Common.{◌≡◌, ◌≢◌, ◌≤◌, ◌<◌, ℕ, zero, suc, ◌+◌, ◌*◌, ◌%◌, false, List, [], ◌∷◌, ◌++◌, length, take, refl, ap, sym, ◌∙◌, subst, inl, inr, arith}
 use Rattle.std.specs.Prelude.{Option, Some, None, slice_index, ◌||◌}
 use Rattle.std.proofs.lemmas.Bool.Decides.{nat_tests}
+use Rattle.std.proofs.lemmas.Bool.{cases_lt}
 use Rattle.std.proofs.lemmas.List.{take_more}
 use Rattle.vub_base.specs.declared.header.Header1.{Header1}
 use Rattle.vub_shared.specs.Bytes.{Bytes, word}
@@ -14,8 +15,8 @@ use Rattle.vub_device.specs.Past.{published, collected, is_among}
 use Rattle.vub_device.proofs.Numbers.{is_among_append}
 use Rattle.vub_schedule.specs.declared.types.Event.{Event}
 use Rattle.vub_guest.specs.declared.guest.Guest.{Guest}
-use Rattle.vub_world.specs.declared.log.Log.{Log}
-use Rattle.vub_world.specs.declared.log.Outstanding.{Outstanding}
+use Rattle.vub_world.specs.declared.outstanding.OutstandingRequests.{OutstandingRequests}
+use Rattle.vub_world.specs.declared.outstanding.OutstandingRequest.{OutstandingRequest}
 use Rattle.vub_world.specs.declared.machine.Life.{Life}
 use Rattle.vub_world.specs.declared.machine.Machine.{Machine}
 use Rattle.vub_queue.specs.declared.queue.Queue.{Queue}
@@ -23,8 +24,8 @@ use Rattle.vub_split.specs.declared.split.SplitRing.{SplitRing}
 use Rattle.vub_report.specs.declared.items.Item.TheVariants as items
 use Rattle.vub_report.specs.declared.items.Record.{Record}
 use Rattle.vub_guest.specs.GuestState.{driver_in, seen_in}
-use Rattle.vub_world.specs.Logs.{offered_in, collected_in, size_in, slot_in}
-use Rattle.vub_world.specs.MachineAt.{AskAt, LifeAt, AttachedAt, MachineAt}
+use Rattle.vub_world.specs.OutstandingRequests.{offered_in, collected_in, size_in, slot_in}
+use Rattle.vub_world.specs.MachineAt.{AskAt, LifeAt, AttachedAt, MachineAt, IsStanding}
 use Rattle.vub_run.specs.Moments.{Lane, Moment}
 use Rattle.vub_queue.specs.QueueState.{state_of}
 use Rattle.vub_run.specs.Run.{Stands, played, next_collected, take_first, collect}
@@ -37,14 +38,14 @@ use Rattle.vub_run_laws.proofs.RunsTo.{stands_good}
 use Rattle.vub_queue_in_run.proofs.QueueAtMoves.{at_collect}
 
 -- the machine after a collection
-abbrev pub with_taken : Machine → WatchedShared → Guest → Log → Machine
-with_taken w memory guest' log = record w { memory = memory; guest = guest'; log = log }
+abbrev pub with_taken : Machine → WatchedShared → Guest → OutstandingRequests → Machine
+with_taken w memory guest' outstanding = record w { memory = memory; guest = guest'; outstanding = outstanding }
 
 -- ---- nothing is shown
 
 pub none_performs : (w : Machine) (memory : WatchedShared) (guest' : Guest) (m : Moment) → MachineAt w m → bytes_in memory ≡ bytes_in w.memory → used_idx (the_ring w.header.size) (bytes_in w.memory) ≡ seen_in w.guest
     → driver_in guest' ≡ driver_in w.guest → seen_in guest' ≡ seen_in w.guest
-    → (next : Moment) × (played (items.Idle ∷ []) next ≡ collect w.header 0 m) × MachineAt (with_taken w memory guest' w.log) next
+    → (next : Moment) × (played (items.Idle ∷ []) next ≡ collect w.header 0 m) × MachineAt (with_taken w memory guest' w.outstanding) next
 none_performs w memory guest' m at bytes shown driver position =
     let h : Header1 = w.header in
     let r : Ring = the_ring h.size in
@@ -59,7 +60,7 @@ none_performs w memory guest' m at bytes shown driver position =
         position = position ∙ at.position;
         life = at.life;
         disk = at.disk;
-        log = at.log;
+        outstanding = at.outstanding;
       },
     )
 
@@ -83,9 +84,9 @@ fewer_among xs c k less out =
     let none : (is_among (take c xs) k || is_among (slice_index xs c ∷ []) k) ≡ false = sym joined ∙ ap (λ (ks : List ℕ). is_among ks k) (sym more) ∙ out in
     grind (arith, nat_tests)
 
--- what the log notes of a collection
-pub record TakesOne (l now : Log) : Type 0 where
-  pub collects : collected_in l < offered_in l → collected_in now ≡ collected_in l + 1
+-- what the table of outstanding requests notes of a collection
+pub record TakesOne (l now : OutstandingRequests) : Type 0 where
+  pub collects : collected_in now ≡ collected_in l + 1
   pub offers : offered_in now ≡ offered_in l
   pub places : size_in now ≡ size_in l
   pub slots : (d : ℕ) → slot_in now d ≡ slot_in l d
@@ -105,11 +106,32 @@ head_plays h m x xs number is sees =
     let here : played (items.Made (entries.Collect 0 number) ∷ []) next ≡ take_first h 0 (x ∷ xs) m = ap (λ (j : ℕ). played (items.Made (entries.Collect 0 j) ∷ []) next) is in
     here ∙ sym (ap (λ (ys : List (ℕ × ℕ)). take_first h 0 ys m) sees)
 
-pub head_performs : (w : Machine) (memory : WatchedShared) (guest' : Guest) (log : Log) (es : List Event) (rs : List Record) (m : Moment) (head : ℕ) → Stands w.header es rs m → MachineAt w m → bytes_in memory ≡ bytes_in w.memory
+-- an element that is shown and not taken is that of a request that isn't collected
+pub one_is_left : (w : Machine) → IsStanding w → used_idx (the_ring w.header.size) (bytes_in w.memory) ≢ seen_in w.guest → collected_in w.outstanding < offered_in w.outstanding
+one_is_left w stood shown =
+    let h : Header1 = w.header in
+    let r : Ring = the_ring h.size in
+    let m : Moment = stood.2.0 in
+    let s : Stands h stood.0 stood.1 m = stood.2.1 in
+    let at : MachineAt w m = stood.2.2 in
+    let good : Good h m = stands_good h stood.0 stood.1 m s in
+    let known : Known h.size h.capacity m.scene.past (m.scene.heads 0) = good.holds.known in
+    let c : ℕ = collected m.scene.past 0 in
+    let ps : List ℕ = published m.scene.past 0 in
+    let u : ℕ = used_idx r m.scene.memory in
+    let index : u ≡ (h.base + length ps) % 65536 = good.holds.ringed.used_idx_is in
+    let apart : u ≢ (h.base + c) % 65536 = λ same. shown (ap (used_idx r) at.front.memory ∙ same ∙ sym at.position) in
+    let more : c < length ps = elim (cases_lt c (length ps)) [
+      | inl less ↦ less
+      | inr none ↦ absurd (apart (index ∙ ap (λ (n : ℕ). (h.base + n) % 65536) (let all : length ps ≡ c = omega (arith, none, known.shown) in all)))
+    ] in
+    omega (arith, at.outstanding.collects_are, at.outstanding.offers_are, more, known.fewer, known.offered)
+
+pub head_performs : (w : Machine) (memory : WatchedShared) (guest' : Guest) (outstanding : OutstandingRequests) (es : List Event) (rs : List Record) (m : Moment) (head : ℕ) → Stands w.header es rs m → MachineAt w m → bytes_in memory ≡ bytes_in w.memory
     → used_idx (the_ring w.header.size) (bytes_in w.memory) ≢ seen_in w.guest → head ≡ (element_at (the_ring w.header.size) (bytes_in w.memory) (seen_in w.guest)).0 % 65536
-    → driver_in guest' ≡ after_collect head (driver_in w.guest) → seen_in guest' ≡ (seen_in w.guest + 1) % 65536 → TakesOne w.log log
-    → (next : Moment) × (played (items.Made (entries.Collect 0 (slot_in w.log head).number) ∷ []) next ≡ collect w.header 0 m) × MachineAt (with_taken w memory guest' log) next
-head_performs w memory guest' log es rs m head s at bytes shown head_is driver position takes =
+    → driver_in guest' ≡ after_collect head (driver_in w.guest) → seen_in guest' ≡ (seen_in w.guest + 1) % 65536 → TakesOne w.outstanding outstanding
+    → (next : Moment) × (played (items.Made (entries.Collect 0 (slot_in w.outstanding head).number) ∷ []) next ≡ collect w.header 0 m) × MachineAt (with_taken w memory guest' outstanding) next
+head_performs w memory guest' outstanding es rs m head s at bytes shown head_is driver position takes =
     let h : Header1 = w.header in
     let r : Ring = the_ring h.size in
     let plain : IsPlain h = plain_header h s.header in
@@ -136,11 +158,10 @@ head_performs w memory guest' log es rs m head s at bytes shown head_is driver p
     let read : (element_at r (bytes_in w.memory) (seen_in w.guest)).0 ≡ x.0 =
     ap (λ (b : Bytes). (element_at r b (seen_in w.guest)).0) at.front.memory ∙ ap (λ (i : ℕ). (element_at r m.scene.memory i).0) at.position ∙ ap (λ (y : ℕ × ℕ). y.0) (same_element r m.scene.memory p) in
     let is_first : head ≡ x.0 = omega (arith, head_is, read, first, low, small) in
-    let number : (slot_in w.log head).number ≡ k = ap (λ (d : ℕ). (slot_in w.log d).number) (is_first ∙ first) ∙ ap (λ (o : Outstanding). o.number) (at.log.slots k there kept) in
-    let next : Moment = (take_first h 0 (x ∷ some.0) m).next in
-    let room : collected_in w.log < offered_in w.log = omega (arith, at.log.collects_are, at.log.offers_are, t.more, known.fewer, known.offered) in (
+    let number : (slot_in w.outstanding head).number ≡ k = ap (λ (d : ℕ). (slot_in w.outstanding d).number) (is_first ∙ first) ∙ ap (λ (o : OutstandingRequest). o.number) (at.outstanding.slots k there kept) in
+    let next : Moment = (take_first h 0 (x ∷ some.0) m).next in (
       next,
-      head_plays h m x some.0 (slot_in w.log head).number number sees,
+      head_plays h m x some.0 (slot_in w.outstanding head).number number sees,
       record {
         front = record {
           memory = bytes ∙ at.front.memory;
@@ -150,11 +171,11 @@ head_performs w memory guest' log es rs m head s at bytes shown head_is driver p
         position = omega (arith, position, at.position);
         life = taken_life h w.ring m x some.0 w.life at.life;
         disk = at.disk;
-        log = record {
-          offers_are = takes.offers ∙ at.log.offers_are;
-          collects_are = takes.collects room ∙ ap (λ (i : ℕ). i + 1) at.log.collects_are;
-          places = takes.places ∙ at.log.places;
-          slots = λ j below out. takes.slots (slice_index (m.scene.heads 0) j) ∙ at.log.slots j below (fewer_among ps c j t.more out);
+        outstanding = record {
+          offers_are = takes.offers ∙ at.outstanding.offers_are;
+          collects_are = takes.collects ∙ ap (λ (i : ℕ). i + 1) at.outstanding.collects_are;
+          places = takes.places ∙ at.outstanding.places;
+          slots = λ j below out. takes.slots (slice_index (m.scene.heads 0) j) ∙ at.outstanding.slots j below (fewer_among ps c j t.more out);
         };
       },
     )

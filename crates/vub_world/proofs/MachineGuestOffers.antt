@@ -18,8 +18,8 @@ use Rattle.vub_device.specs.Past.{asked, published, collected, is_among}
 use Rattle.vub_schedule.specs.declared.types.Event.{Event}
 use Rattle.vub_schedule.specs.declared.types.Event.TheVariants as events
 use Rattle.vub_guest.specs.declared.guest.Guest.{Guest}
-use Rattle.vub_world.specs.declared.log.Log.{Log}
-use Rattle.vub_world.specs.declared.log.Outstanding.{Outstanding}
+use Rattle.vub_world.specs.declared.outstanding.OutstandingRequests.{OutstandingRequests}
+use Rattle.vub_world.specs.declared.outstanding.OutstandingRequest.{OutstandingRequest}
 use Rattle.vub_world.specs.declared.machine.Life.{Life}
 use Rattle.vub_world.specs.declared.machine.Machine.{Machine}
 use Rattle.vub_queue.specs.declared.queue.Queue.{Queue}
@@ -28,8 +28,8 @@ use Rattle.vub_report.specs.declared.items.Item.{Item}
 use Rattle.vub_report.specs.declared.items.Item.TheVariants as items
 use Rattle.vub_report.specs.declared.items.Record.{Record}
 use Rattle.vub_guest.specs.GuestState.{seen_in}
-use Rattle.vub_world.specs.Logs.{offered_in, size_in, slot_in, reads_in, new_slot, Offers}
-use Rattle.vub_world.specs.MachineAt.{FrontAt, LifeAt, AttachedAt, LogAt, MachineAt, reads_of}
+use Rattle.vub_world.specs.OutstandingRequests.{offered_in, size_in, slot_in, reads_in, new_slot, Offers}
+use Rattle.vub_world.specs.MachineAt.{FrontAt, LifeAt, AttachedAt, OutstandingAt, MachineAt, reads_of}
 use Rattle.vub_world.specs.MachineFront.{head_shown, GuestGoes}
 use Rattle.vub_run.specs.Memory.{Scene, after_item, after_items}
 use Rattle.vub_run.specs.Moments.{Lane, Moment}
@@ -44,7 +44,7 @@ use Rattle.vub_run_laws.proofs.RunChainsStores.{put_all}
 use Rattle.vub_run_laws.proofs.RunChainsGuests.{guest_scene, part_scene}
 use Rattle.vub_queue_in_run.proofs.QueueAtMoves.{at_offer}
 
--- ---- the log
+-- ---- the outstanding requests
 
 reads_are : (a : Ask) → reads_of (Some (request_of a)) ≡ reads_in a
 reads_are (wants.Read s n) = refl
@@ -54,14 +54,14 @@ reads_are wants.Id = refl
 reads_are (wants.Discard parts) = refl
 reads_are (wants.Zero parts) = refl
 
-abbrev slot : ℕ → ℕ → Outstanding
+abbrev slot : ℕ → ℕ → OutstandingRequest
 slot number reads = record { number = number; reads = reads }
 
 -- under the head of the request stand its number and what it reads, and others keep their slots
-pub offered_log : (n cap base : ℕ) (past : List Entry) (heads : List ℕ) (a : Ask) (head : ℕ) (v : Driver) (l now : Log) → LogAt n past heads l → Known n cap past heads
+pub offered_outstanding : (n cap base : ℕ) (past : List Entry) (heads : List ℕ) (a : Ask) (head : ℕ) (v : Driver) (l now : OutstandingRequests) → OutstandingAt n past heads l → Known n cap past heads
     → Driven n cap base (entries.Offer 0 (request_of a) ∷ past) (heads ++ head ∷ []) v → Offers l now head a
-    → LogAt n (entries.Offer 0 (request_of a) ∷ past) (heads ++ head ∷ []) now
-offered_log n cap base past heads a head v l now at known driven offers =
+    → OutstandingAt n (entries.Offer 0 (request_of a) ∷ past) (heads ++ head ∷ []) now
+offered_outstanding n cap base past heads a head v l now at known driven offers =
     let r : Asked = request_of a in
     let past' : List Entry = entries.Offer 0 r ∷ past in
     let heads' : List ℕ = heads ++ head ∷ [] in
@@ -86,7 +86,7 @@ offered_log n cap base past heads a head v l now at known driven offers =
             let head_is : d ≡ slice_index heads k = same_head heads head k low in
             let apart : d ≢ head = λ same. (let one : k ≡ c = driven.apart k c (record { below = below; kept = kept }) last_out (same ∙ sym last_head_is) in omega (arith, one)) in
             let other : (d == head) ≡ false = grind (arith, nat_tests) in
-            let still : slot_in now d ≡ slot_in l d = offers.slots d ∙ ap (λ (b : Bool). cond {A = Outstanding} (b && nat_lt d (size_in l)) (new_slot l a) (slot_in l d)) other in
+            let still : slot_in now d ≡ slot_in l d = offers.slots d ∙ ap (λ (b : Bool). cond {A = OutstandingRequest} (b && nat_lt d (size_in l)) (new_slot l a) (slot_in l d)) other in
             let asks_it : asked past' 0 k ≡ asked past 0 k = same_asked past r k (omega (arith, low, known.offers_are)) in
             still ∙ ap (λ (e : ℕ). slot_in l e) head_is ∙ at.slots k low kept ∙ ap (λ (o : Option Asked). slot k (reads_of o)) (sym asks_it)
         | inr high ↦
@@ -96,7 +96,7 @@ offered_log n cap base past heads a head v l now at known driven offers =
             let fits : slice_index heads' c < n = driven.below c last_out in
             let fits_here : d < size_in l = omega (arith, fits, here, last_head_is, at.places) in
             let yes : ((d == head) && nat_lt d (size_in l)) ≡ true = grind (arith, nat_tests) in
-            let new : slot_in now d ≡ new_slot l a = offers.slots d ∙ ap (λ (b : Bool). cond {A = Outstanding} b (new_slot l a) (slot_in l d)) yes in
+            let new : slot_in now d ≡ new_slot l a = offers.slots d ∙ ap (λ (b : Bool). cond {A = OutstandingRequest} b (new_slot l a) (slot_in l d)) yes in
             let number : offered_in l ≡ k = at.offers_are ∙ sym is in
             let asks_it : asked past' 0 k ≡ Some r = new_asked past r k (is ∙ known.offers_are) in
             new ∙ ap (λ (i : ℕ). slot i (reads_in a)) number ∙ ap (λ (i : ℕ). slot k i) (sym (reads_are a)) ∙ ap (λ (o : Option Asked). slot k (reads_of o)) (sym asks_it)
@@ -142,21 +142,21 @@ stored_life h ring count m x b (Some l) at = (at.0, attached l.queue at.1)
     attached (Some q) a = a
 
 -- the machine with other parts of the front
-abbrev pub with_front : Machine → WatchedShared → Guest → Option Ask → Log → Machine
-with_front w memory guest asked log = record w { memory = memory; guest = guest; asked = asked; log = log }
+abbrev pub with_front : Machine → WatchedShared → Guest → Option Ask → OutstandingRequests → Machine
+with_front w memory guest asked outstanding = record w { memory = memory; guest = guest; asked = asked; outstanding = outstanding }
 
 -- the moment that so many stores of a request lead to
 abbrev pub stored_moment : Header1 → ℕ → Waiting → Moment → Moment
 stored_moment h count x m = (guest_stores h 0 count (Some x) m).next
 
 -- where these are all that were left
-offered_at : (w : Machine) (memory : WatchedShared) (guest' : Guest) (asked' : Option Ask) (log : Log) (es : List Event) (rs : List Record) (m : Moment) (x : Waiting) (is : List Item) (count : ℕ)
+offered_at : (w : Machine) (memory : WatchedShared) (guest' : Guest) (asked' : Option Ask) (outstanding : OutstandingRequests) (es : List Event) (rs : List Record) (m : Moment) (x : Waiting) (is : List Item) (count : ℕ)
     → seen_in guest' ≡ seen_in w.guest → Stands w.header es rs m → MachineAt w m → count < 65536 → 0 < length x.left → length x.left ≤ count
-    → played is (stored_moment w.header count x m) ≡ guest w.header 0 count m → GuestGoes count x w (with_front w memory guest' asked' log) m [] is
-    → MachineAt (with_front w memory guest' asked' log) (stored_moment w.header count x m)
-offered_at w memory guest' asked' log es rs m x is count position s at fits some few plays goes =
+    → played is (stored_moment w.header count x m) ≡ guest w.header 0 count m → GuestGoes count x w (with_front w memory guest' asked' outstanding) m [] is
+    → MachineAt (with_front w memory guest' asked' outstanding) (stored_moment w.header count x m)
+offered_at w memory guest' asked' outstanding es rs m x is count position s at fits some few plays goes =
     let h : Header1 = w.header in
-    let now : Machine = with_front w memory guest' asked' log in
+    let now : Machine = with_front w memory guest' asked' outstanding in
     let good : Good h m = stands_good h es rs m s in
     let r : Asked = request_of x.ask in
     let next : Moment = stored_moment h count x m in
@@ -168,22 +168,27 @@ offered_at w memory guest' asked' log es rs m x is count position s at fits some
     let front : FrontAt now (moment_with count x m (offered_scene h r b m.scene)) = subst (λ (n : Moment). FrontAt now n) whole goes.front in
     let good_next : Good h (moment_with count x m (offered_scene h r b m.scene)) = subst (λ (n : Moment). Good h n) whole later in
     let shown : head_shown now ≡ last_head (the_ring h.size) b = ap (λ (bs : Bytes). last_head (the_ring h.size) bs) front.memory in
+<<<<<<< HEAD
     let offers : Offers w.log log (last_head (the_ring h.size) b) x.ask = subst (λ (d : ℕ). Offers w.log log d x.ask) shown (goes.log.offers few) in
     let stands : MachineAt now (moment_with count x m (offered_scene h r b m.scene)) = record {
+=======
+    let offers : Offers w.outstanding outstanding (last_head (the_ring h.size) b) x.ask = subst (λ (d : ℕ). Offers w.outstanding outstanding d x.ask) shown (goes.outstanding.offers few) in
+    let stands : MachineAt now (moment_with count x m (offered_scene h.size r b m.scene)) = record {
+>>>>>>> f785269063db1ec5b86aa2827372b5458e7c5c8d
       front = front;
       position = position ∙ at.position;
       life = offered_life h w.ring count m x r b w.life good at.life;
       disk = at.disk;
-      log = offered_log h.size h.capacity h.base m.scene.past (m.scene.heads 0) x.ask (last_head (the_ring h.size) b) (stored_lane count x m).driver w.log log at.log good.holds.known good_next.holds.driven offers;
+      outstanding = offered_outstanding h.size h.capacity h.base m.scene.past (m.scene.heads 0) x.ask (last_head (the_ring h.size) b) (stored_lane count x m).driver w.outstanding outstanding at.outstanding good.holds.known good_next.holds.driven offers;
     } in
     subst (λ (n : Moment). MachineAt now n) (sym whole) stands
 
 -- where some are left
-partly_at : (w : Machine) (memory : WatchedShared) (guest' : Guest) (asked' : Option Ask) (log : Log) (m : Moment) (x : Waiting) (is : List Item) (count : ℕ) → seen_in guest' ≡ seen_in w.guest → MachineAt w m → count < length x.left
-    → GuestGoes count x w (with_front w memory guest' asked' log) m [] is → MachineAt (with_front w memory guest' asked' log) (stored_moment w.header count x m)
-partly_at w memory guest' asked' log m x is count position at part goes =
+partly_at : (w : Machine) (memory : WatchedShared) (guest' : Guest) (asked' : Option Ask) (outstanding : OutstandingRequests) (m : Moment) (x : Waiting) (is : List Item) (count : ℕ) → seen_in guest' ≡ seen_in w.guest → MachineAt w m → count < length x.left
+    → GuestGoes count x w (with_front w memory guest' asked' outstanding) m [] is → MachineAt (with_front w memory guest' asked' outstanding) (stored_moment w.header count x m)
+partly_at w memory guest' asked' outstanding m x is count position at part goes =
     let h : Header1 = w.header in
-    let now : Machine = with_front w memory guest' asked' log in
+    let now : Machine = with_front w memory guest' asked' outstanding in
     let b : Bytes = put_all (take count x.left) m.scene.memory in
     let scene : after_items h (guest_items count 0 x.ask x.left) m.scene ≡ record m.scene { memory = b } = part_scene h count x.ask x.left m.scene part in
     let whole : stored_moment h count x m ≡ moment_with count x m (record m.scene { memory = b }) = ap (moment_with count x m) scene in
@@ -192,21 +197,21 @@ partly_at w memory guest' asked' log m x is count position at part goes =
       position = position ∙ at.position;
       life = stored_life h w.ring count m x b w.life at.life;
       disk = at.disk;
-      log = subst (λ (l : Log). LogAt h.size m.scene.past (m.scene.heads 0) l) (sym (goes.log.before part)) at.log;
+      outstanding = subst (λ (l : OutstandingRequests). OutstandingAt h.size m.scene.past (m.scene.heads 0) l) (sym (goes.outstanding.before part)) at.outstanding;
     } in
     subst (λ (n : Moment). MachineAt now n) (sym whole) stands
 
 -- the event is played
-pub guest_performs : (w now : Machine) (es : List Event) (rs : List Record) (m : Moment) (x : Waiting) (is : List Item) (count : ℕ) → now ≡ record w { memory = now.memory; guest = now.guest; asked = now.asked; log = now.log }
+pub guest_performs : (w now : Machine) (es : List Event) (rs : List Record) (m : Moment) (x : Waiting) (is : List Item) (count : ℕ) → now ≡ record w { memory = now.memory; guest = now.guest; asked = now.asked; outstanding = now.outstanding }
     → seen_in now.guest ≡ seen_in w.guest → Stands w.header es rs m → MachineAt w m → count < 65536 → 0 < length x.left → (m.lanes 0).driver.waiting ≡ Some x
     → GuestGoes count x w now m [] is → (next : Moment) × (played is next ≡ guest w.header 0 count m) × MachineAt now next
 guest_performs w now es rs m x is count frame position s at fits some waits goes =
     let h : Header1 = w.header in
     let next : Moment = stored_moment h count x m in
     let plays : played is next ≡ guest h 0 count m = ap (λ (js : List Item). played js next) goes.items ∙ ap (λ (o : Option Waiting). if_ready (is_some o) (guest_stores h 0 count o m) m) (sym waits) in
-    let here : GuestGoes count x w (with_front w now.memory now.guest now.asked now.log) m [] is = subst (λ (u : Machine). GuestGoes count x w u m [] is) frame goes in
-    let stands : MachineAt (with_front w now.memory now.guest now.asked now.log) next = elim (cases_lt count (length x.left)) [
-      | inl part ↦ partly_at w now.memory now.guest now.asked now.log m x is count position at part here
-      | inr all ↦ offered_at w now.memory now.guest now.asked now.log es rs m x is count position s at fits some (omega arith) plays here
+    let here : GuestGoes count x w (with_front w now.memory now.guest now.asked now.outstanding) m [] is = subst (λ (u : Machine). GuestGoes count x w u m [] is) frame goes in
+    let stands : MachineAt (with_front w now.memory now.guest now.asked now.outstanding) next = elim (cases_lt count (length x.left)) [
+      | inl part ↦ partly_at w now.memory now.guest now.asked now.outstanding m x is count position at part here
+      | inr all ↦ offered_at w now.memory now.guest now.asked now.outstanding es rs m x is count position s at fits some (omega arith) plays here
     ] in
     (next, plays, subst (λ (u : Machine). MachineAt u next) (sym frame) stands)

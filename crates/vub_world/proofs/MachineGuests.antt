@@ -9,14 +9,14 @@ use Rattle.vub_base.specs.declared.store.Tag.TheVariants.{G}
 use Rattle.vub_base.specs.declared.store.Area.TheVariants.{M}
 use Rattle.vub_shared.specs.Stores.{Store}
 use Rattle.vub_driver.specs.Drivers.{Driver, Waiting, with_left, after_stores}
-use Rattle.vub_world.specs.declared.log.Log.{Log}
+use Rattle.vub_world.specs.declared.outstanding.OutstandingRequests.{OutstandingRequests}
 use Rattle.vub_world.specs.declared.machine.Machine.{Machine}
 use Rattle.vub_report.specs.declared.items.Item.{Item}
 use Rattle.vub_report.specs.declared.items.Item.TheVariants as items
 use Rattle.vub_guest.proofs.GuestLemmas.{left_some}
 use Rattle.vub_guest.specs.GuestState.{seen_in}
 use Rattle.vub_room.specs.Rooms.{RoomState, Spends}
-use Rattle.vub_world.specs.Logs.{Offers}
+use Rattle.vub_world.specs.OutstandingRequests.{Offers}
 use Rattle.vub_run.specs.Memory.{Scene, after_items}
 use Rattle.vub_run.specs.Moments.{Moment}
 use Rattle.vub_run.specs.Run.{guest_items, guest_stores}
@@ -84,7 +84,7 @@ none_gone w m x before f waits =
     record {
       front = front_of w m (guest_stores w.header 0 0 (Some x) m).next refl (left_whole x (m.lanes 0).driver x.left waits refl some) f;
       items = sym (append-nil before);
-      log = record { before = λ less. refl; offers = λ none. absurd (omega arith) };
+      outstanding = record { before = λ less. refl; offers = λ none. absurd (omega arith) };
     }
 
 left_one : (x : Waiting) (v : Driver) (st : Store) (rest : List Store) → with_left (record x { left = st ∷ rest }) rest (with_left x (st ∷ rest) v) ≡ with_left x rest v
@@ -109,14 +109,14 @@ one_gone count x w v now m before mid after more same less went step =
     let scene : after_items h (guest_items (suc count) 0 x.ask x.left) m.scene ≡ after_items h is n.scene = ap (λ (js : List Item). after_items h js m.scene) whole ∙ after-append h (guest_items count 0 x.ask x.left) is m.scene in
     let front : FrontAt now (guest_stores h 0 1 (Some y) n).next = subst (λ (k : Header1). FrontAt now (guest_stores k 0 1 (Some y) n).next) same goes.front in
     let after_one : after_stores 1 y (n.lanes 0).driver ≡ after_stores (suc count) x d = ap (λ (t : Driver). with_left y c.rest t) driver ∙ left_one x d c.first c.rest ∙ ap (λ (left : List Store). with_left x left d) (sym c.next) in
-    let log : v.log ≡ w.log = went.log.before less in
+    let outstanding : v.outstanding ≡ w.outstanding = went.outstanding.before less in
     let long : length x.left ≡ count + 1 + length c.rest = c.long in (
       record {
         front = front_of now (guest_stores h 0 1 (Some y) n).next (guest_stores h 0 (suc count) (Some x) m).next (ap (λ (s : Scene). s.memory) scene) (sym after_one) front;
         items = goes.items ∙ ap (λ (js : List Item). js ++ is) went.items ∙ append_assoc before (guest_items count 0 x.ask x.left) is ∙ ap (λ (js : List Item). before ++ js) (sym whole);
-        log = record {
-          before = λ left. goes.log.before (omega arith) ∙ log;
-          offers = λ last. subst (λ (l : Log). Offers l now.log (head_shown now) x.ask) log (goes.log.offers (omega arith));
+        outstanding = record {
+          before = λ left. goes.outstanding.before (omega arith) ∙ outstanding;
+          offers = λ last. subst (λ (l : OutstandingRequests). Offers l now.outstanding (head_shown now) x.ask) outstanding (goes.outstanding.offers (omega arith));
         };
       },
       made.0 ∙ (let t : nat_lt 1 (length (c.first ∷ c.rest)) ≡ nat_lt (suc count) (length x.left) = grind (arith, nat_tests) in t),
@@ -131,17 +131,17 @@ all_gone count most x w now m before after last le went =
     record {
       front = front_of now (guest_stores h 0 count (Some x) m).next (guest_stores h 0 most (Some x) m).next (ap (λ (js : List Item). (after_items h js m.scene).memory) same) (ap (λ (left : List Store). with_left x left (m.lanes 0).driver) none) went.front;
       items = went.items ∙ ap (λ (js : List Item). before ++ js) (sym same);
-      log = record { before = λ less. absurd (omega arith); offers = λ l. went.log.offers last };
+      outstanding = record { before = λ less. absurd (omega arith); offers = λ l. went.outstanding.offers last };
     }
 
 -- ---- the loop
 
 -- after so many stores, where none is the last yet
 pub record GuestLoop (done : ℕ) (w now : Machine) (r room : RoomState) : Type 0 where
-  pub frame : now ≡ record w { memory = now.memory; guest = now.guest; asked = now.asked; log = now.log }
+  pub frame : now ≡ record w { memory = now.memory; guest = now.guest; asked = now.asked; outstanding = now.outstanding }
   pub sound : IsSound now
   pub fits : FrontFits now
-  pub log : now.log ≡ w.log
+  pub outstanding : now.outstanding ≡ w.outstanding
   pub position : seen_in now.guest ≡ seen_in w.guest
   pub items_left : room.item_room + done ≡ r.item_room
   pub lists_left : room.lists + done ≡ r.lists
@@ -152,7 +152,7 @@ loop_begins w r sound fits = record {
   frame = refl;
   sound = sound;
   fits = fits;
-  log = refl;
+  outstanding = refl;
   position = refl;
   items_left = omega arith;
   lists_left = omega arith;
@@ -160,18 +160,18 @@ loop_begins w r sound fits = record {
 }
 
 -- a frame after a frame
-pub frame_more : (w v now : Machine) → v ≡ record w { memory = v.memory; guest = v.guest; asked = v.asked; log = v.log } → now ≡ record v { memory = now.memory; guest = now.guest; asked = now.asked; log = now.log }
-    → now ≡ record w { memory = now.memory; guest = now.guest; asked = now.asked; log = now.log }
-frame_more w v now first last = last ∙ ap (λ (u : Machine). record u { memory = now.memory; guest = now.guest; asked = now.asked; log = now.log }) first
+pub frame_more : (w v now : Machine) → v ≡ record w { memory = v.memory; guest = v.guest; asked = v.asked; outstanding = v.outstanding } → now ≡ record v { memory = now.memory; guest = now.guest; asked = now.asked; outstanding = now.outstanding }
+    → now ≡ record w { memory = now.memory; guest = now.guest; asked = now.asked; outstanding = now.outstanding }
+frame_more w v now first last = last ∙ ap (λ (u : Machine). record u { memory = now.memory; guest = now.guest; asked = now.asked; outstanding = now.outstanding }) first
 
 -- one store that isn't the last
-pub loop_more : (done : ℕ) (w v now : Machine) (r mid room : RoomState) → GuestLoop done w v r mid → now ≡ record v { memory = now.memory; guest = now.guest; asked = now.asked; log = now.log } → IsSound now → FrontFits now → now.log ≡ v.log → seen_in now.guest ≡ seen_in v.guest → Spends 1 1 mid room
+pub loop_more : (done : ℕ) (w v now : Machine) (r mid room : RoomState) → GuestLoop done w v r mid → now ≡ record v { memory = now.memory; guest = now.guest; asked = now.asked; outstanding = now.outstanding } → IsSound now → FrontFits now → now.outstanding ≡ v.outstanding → seen_in now.guest ≡ seen_in v.guest → Spends 1 1 mid room
     → ((n : Moment) → FrontAt v n → GuestSteps (n.lanes 0).driver.waiting v now n mid.items room.items true) → GuestLoop (suc done) w now r room
-loop_more done w v now r mid room loop frame sound fits log position spent step = record {
+loop_more done w v now r mid room loop frame sound fits outstanding position spent step = record {
   frame = frame_more w v now loop.frame frame;
   sound = sound;
   fits = fits;
-  log = log ∙ loop.log;
+  outstanding = outstanding ∙ loop.outstanding;
   position = position ∙ loop.position;
   items_left = omega (arith, spent.item_room, loop.items_left);
   lists_left = omega (arith, spent.lists_left, loop.lists_left);

@@ -35,7 +35,7 @@ booted_at w m quiet at = record {
   position = at.position;
   life = (refl, (refl, refl, quiet));
   disk = at.disk;
-  log = at.log;
+  outstanding = at.outstanding;
 }
 
 -- a machine with no life
@@ -88,5 +88,5 @@ joined_at w m q plain good base new lives made at =
       position = at.position;
       life = (lives, (refl, refl, stands));
       disk = at.disk;
-      log = at.log;
+      outstanding = at.outstanding;
     }

@@ -95,10 +95,10 @@ turns_begin h sequence m w items most all r at few room = record {
 }
 
 -- what is offered and not published is outstanding
-pub undone_few : (h : Header1) (m : Moment) (w : Machine) → Good h m → MachineAt w m → undone m ≤ w.log.offered - w.log.collected
+pub undone_few : (h : Header1) (m : Moment) (w : Machine) → Good h m → MachineAt w m → undone m ≤ w.outstanding.offered - w.outstanding.collected
 undone_few h m w good at =
     let shown = good.holds.known.shown in
-    omega (arith, shown, at.log.offers_are, at.log.collects_are)
+    omega (arith, shown, at.outstanding.offers_are, at.outstanding.collects_are)
 
 -- the moments of turns are reached
 pub reached : (h : Header1) (sequence : Sequence) (es : List Event) (rs : List Record) (m : Moment) (done : ℕ) → Stands h es rs m → IsReached h (so_far h sequence m done).next
@@ -126,7 +126,7 @@ turn_is h sequences.Drain m n taken is = ap (λ (a : ℕ). drain_turn h.size a (
 
 -- how many turns a machine reserves for, where so many are asked for
 abbrev pub room_of : ℕ → Machine → ℕ
-room_of count w = min count (21 * (w.log.offered - w.log.collected) + 3)
+room_of count w = min count (21 * (w.outstanding.offered - w.outstanding.collected) + 3)
 
 -- there is room for one turn more: for as many as are asked for, or for all that can follow
 pub room_left : (h : Header1) (sequence : Sequence) (es : List Event) (rs : List Record) (m : Moment) (count undone_all done : ℕ) (now : Machine) (before after : List Item) (taken : ℕ) (r : RoomState) → Stands h es rs m → undone m ≤ undone_all → done < count
@@ -260,7 +260,7 @@ turns_stop h sequence es rs m most done count now next w before after after' tak
     items_are = step.2 ∙ e.here.items_are
 
 -- no more are outstanding than the ring has places
-pub outstanding_few : (h : Header1) (m : Moment) (w : Machine) → IsPlain h → Good h m → MachineAt w m → w.log.offered - w.log.collected ≤ 64
+pub outstanding_few : (h : Header1) (m : Moment) (w : Machine) → IsPlain h → Good h m → MachineAt w m → w.outstanding.offered - w.outstanding.collected ≤ 64
 outstanding_few h m w plain good at =
     let few : h.size ≤ 64 = plain.good.size.small in
-    omega (arith, few, good.holds.known.room, at.log.offers_are, at.log.collects_are)
+    omega (arith, few, good.holds.known.room, at.outstanding.offers_are, at.outstanding.collects_are)

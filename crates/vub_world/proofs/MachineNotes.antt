@@ -4,8 +4,8 @@ use Rattle.std.specs.Prelude.{zero, suc, if◌then◌else◌, ◌==◌, map, sli
 use Rattle.std.proofs.lemmas.List.{map-append, take_more}
 use Rattle.std.proofs.lemmas.Option.{slice_get-get_or, slice_get_within, get_or_from_slice_get}
 use Rattle.vub_device.specs.declared.entry.Answered.{Answered}
-use Rattle.vub_world.specs.declared.log.Log.{Log}
-use Rattle.vub_world.specs.Logs.{slot_in}
+use Rattle.vub_world.specs.declared.outstanding.OutstandingRequests.{OutstandingRequests}
+use Rattle.vub_world.specs.OutstandingRequests.{slot_in}
 use Rattle.vub_room.specs.Rooms.{RoomState, SpendsAnswers, SpendsLists, SpendsUpTo}
 use Rattle.vub_queue.specs.QueueState.{QueueState}
 use Rattle.vub_steps.specs.Steps.{next_step}
@@ -77,10 +77,10 @@ no_head batch i within none =
     let found : Some (get_or batch i (0, 0)).0 ≡ None = ap (option_map (λ (x : ℕ × ℕ). x.0)) (sym some) ∙ none in
     cc found
 
-pub answers_more : (log : Log) (m : Bytes) (batch : List (ℕ × ℕ)) (i : ℕ) (x : ℕ × ℕ) → slice_get batch i ≡ Some x
-    → answers_for log m (take (i + 1) batch) ≡ answers_for log m (take i batch) ++ answer_for (slot_in log x.0) m x.0 ∷ []
-answers_more log m batch i x at =
-    let f : ℕ × ℕ → Answered = λ (y : ℕ × ℕ). answer_for (slot_in log y.0) m y.0 in
+pub answers_more : (outstanding : OutstandingRequests) (m : Bytes) (batch : List (ℕ × ℕ)) (i : ℕ) (x : ℕ × ℕ) → slice_get batch i ≡ Some x
+    → answers_for outstanding m (take (i + 1) batch) ≡ answers_for outstanding m (take i batch) ++ answer_for (slot_in outstanding x.0) m x.0 ∷ []
+answers_more outstanding m batch i x at =
+    let f : ℕ × ℕ → Answered = λ (y : ℕ × ℕ). answer_for (slot_in outstanding y.0) m y.0 in
     let within : i < length batch = slice_get_within batch i x at in
     let is : get_or batch i x ≡ x = get_or_from_slice_get batch i x x at in
     let more : take (i + 1) batch ≡ take i batch ++ x ∷ [] = take_more batch i x within ∙ ap (λ (y : ℕ × ℕ). take i batch ++ y ∷ []) is in

@@ -27,11 +27,11 @@ use Rattle.vub_run_laws.proofs.RunsTo.{stands_good}
 -- ---- room
 
 -- no more are outstanding than the ring has places
-pub standing_few : (w : Machine) → IsStanding w → w.log.offered - w.log.collected ≤ 64
+pub standing_few : (w : Machine) → IsStanding w → w.outstanding.offered - w.outstanding.collected ≤ 64
 standing_few w s = outstanding_few w.header s.2.0 w (plain_header w.header s.2.1.header) (stands_good w.header s.0 s.1 s.2.0 s.2.1) s.2.2
 
 -- room for one turn
-pub single_room : (w : Machine) (r : RoomState) → IsStanding w → HasRoom (min 1 (21 * (w.log.offered - w.log.collected) + 3)) (w.log.offered - w.log.collected) r → HasTurnRoom (length (batch_in w.life)) r
+pub single_room : (w : Machine) (r : RoomState) → IsStanding w → HasRoom (min 1 (21 * (w.outstanding.offered - w.outstanding.collected) + 3)) (w.outstanding.offered - w.outstanding.collected) r → HasTurnRoom (length (batch_in w.life)) r
 single_room w r s room =
     let m : Moment = s.2.0 in
     let good = stands_good w.header s.0 s.1 m s.2.1 in

@@ -30,16 +30,16 @@ use Rattle.vub_device.specs.declared.entry.Entry.{Entry}
 use Rattle.vub_device.specs.declared.entry.Entry.TheVariants as entries
 use Rattle.vub_device.specs.Past.{asked, accepted, published, collected, is_among}
 use Rattle.vub_device.proofs.Numbers.{is_among_append}
-use Rattle.vub_world.specs.declared.log.Log.{Log}
-use Rattle.vub_world.specs.declared.log.Outstanding.{Outstanding}
+use Rattle.vub_world.specs.declared.outstanding.OutstandingRequests.{OutstandingRequests}
+use Rattle.vub_world.specs.declared.outstanding.OutstandingRequest.{OutstandingRequest}
 use Rattle.vub_report.specs.declared.items.Item.{Item}
 use Rattle.vub_report.specs.declared.items.Item.TheVariants as items
 use Rattle.vub_queue.specs.declared.queue.Stepped.{Stepped}
 use Rattle.vub_queue.specs.declared.queue.Stepped.TheVariants as says
 use Rattle.vub_split.specs.declared.split.SplitRing.{SplitRing}
 use Rattle.vub_task.specs.declared.task.Task.{Task}
-use Rattle.vub_world.specs.Logs.{slot_in}
-use Rattle.vub_world.specs.MachineAt.{LogAt, reads_of}
+use Rattle.vub_world.specs.OutstandingRequests.{slot_in}
+use Rattle.vub_world.specs.MachineAt.{OutstandingAt, reads_of}
 use Rattle.vub_world.specs.MachineDevice.{Device, DeviceAt, TurnMade, StoreFits, SectorFits, answer_for, answers_for, noted, stored_items, shown_of, is_index, accepts, number_at}
 use Rattle.vub_world.specs.MachineFront.{IsSmall, OneSmall}
 use Rattle.vub_run.specs.Memory.{after_items}
@@ -65,14 +65,14 @@ use Rattle.vub_queue_in_run.proofs.WorkAtItems.{turn_disk}
 -- ---- what a turn is given, and what it does
 
 -- the device stands at a moment of a run, and its memory keeps no store
-pub record TurnAt (h : Header1) (r : SplitRing) (m : Moment) (log : Log) (d : Device) : Type 0 where
+pub record TurnAt (h : Header1) (r : SplitRing) (m : Moment) (outstanding : OutstandingRequests) (d : Device) : Type 0 where
   pub plain : IsPlain h
   pub good : Good h m
   pub chained : ChainedAt h m
   pub main : IsMainRing r h.size
   pub at : DeviceAt h r m d
   pub fresh : d.stores ≡ []
-  pub numbered : LogAt h.size m.scene.past (m.scene.heads 0) log
+  pub numbered : OutstandingAt h.size m.scene.past (m.scene.heads 0) outstanding
 
 -- the disk didn't fail
 abbrev pub IsServed : Stepped → Type 0
@@ -99,9 +99,9 @@ disk_same cap past v w same disk = subst (λ (u : Values). DiskAt cap past u) (s
 
 -- ---- a start
 
-pub start_made : (h : Header1) (r : SplitRing) (m : Moment) (log : Log) (cap : ℕ) (sizes : ℕ → ℕ) (d now : Device) (x : Stepped) → TurnAt h r m log d → is_ready (standing h 0 m) turns.Start ≡ true → DeviceDoes turns.Start cap sizes d now x
-    → TurnMade h r m turns.Start log d now x
-start_made h r m log cap sizes d now x a ready does =
+pub start_made : (h : Header1) (r : SplitRing) (m : Moment) (outstanding : OutstandingRequests) (cap : ℕ) (sizes : ℕ → ℕ) (d now : Device) (x : Stepped) → TurnAt h r m outstanding d → is_ready (standing h 0 m) turns.Start ≡ true → DeviceDoes turns.Start cap sizes d now x
+    → TurnMade h r m turns.Start outstanding d now x
+start_made h r m outstanding cap sizes d now x a ready does =
     let s = start_stands h r m (Some d.memory) x d.queue now.queue a.plain a.good a.main a.at.stands ready does.fine does.does in
     let none : accepts x ≡ 0 = ap accepts s.said in
     let same : accepted (one_turn h 0 turns.Start m).next.scene.past 0 ≡ accepted m.scene.past 0 = ap (λ (is : List Item). accepted (after_items h is m.scene).past 0) s.made in
@@ -112,7 +112,7 @@ start_made h r m log cap sizes d now x a ready does =
         memory_is = some_is now.memory d.memory does.stores_are ∙ a.at.memory_is ∙ sym (ap (λ (is : List Item). (after_items h is m.scene).memory) s.made);
         disk = disk_same h.capacity (one_turn h 0 turns.Start m).next.scene.past d.values now.values (some_is now.values d.values does.values_are) (turn_disk h m turns.Start d.values tt a.at.disk);
       };
-      items_are = s.made ∙ sym (ap (noted log now.values now.stores (shown_of log d.memory d.queue)) s.said);
+      items_are = s.made ∙ sym (ap (noted outstanding now.values now.stores (shown_of outstanding d.memory d.queue)) s.said);
       store = subst (λ (y : Stepped). StoreFits y now.stores) (sym s.said) tt;
       sector = subst (λ (y : Stepped). SectorFits h.capacity y) (sym s.said) tt;
       taken = omega (arith, none, same);
@@ -135,16 +135,16 @@ more_offered h m plain good ready =
     let waits = waits_there (m.lanes 0).batch (m.lanes 0).phase st.started st.waiting st.unfinished st.completed good.holds.worked.phase_is ready in
     omega (arith, some, waits)
 
-pub fetch_made : (h : Header1) (r : SplitRing) (m : Moment) (log : Log) (cap : ℕ) (sizes : ℕ → ℕ) (d now : Device) (x : Stepped) → TurnAt h r m log d → is_ready (standing h 0 m) turns.Fetch ≡ true → DeviceDoes turns.Fetch cap sizes d now x
-    → TurnMade h r m turns.Fetch log d now x
-fetch_made h r m log cap sizes d now x a ready does =
+pub fetch_made : (h : Header1) (r : SplitRing) (m : Moment) (outstanding : OutstandingRequests) (cap : ℕ) (sizes : ℕ → ℕ) (d now : Device) (x : Stepped) → TurnAt h r m outstanding d → is_ready (standing h 0 m) turns.Fetch ≡ true → DeviceDoes turns.Fetch cap sizes d now x
+    → TurnMade h r m turns.Fetch outstanding d now x
+fetch_made h r m outstanding cap sizes d now x a ready does =
     let k : ℕ = accepted m.scene.past 0 in
     let head : ℕ = slice_index (m.scene.heads 0) k in
     let told : Turns turns.Fetch (Some m.scene.memory) x d.queue now.queue = subst (λ (b : Bytes). Turns turns.Fetch (Some b) x d.queue now.queue) a.at.memory_is does.does in
     let s = fetch_stands h r m x d.queue now.queue a.plain a.good a.main a.at.stands ready does.fine told in
     let new = not_among-take (published m.scene.past 0) (collected m.scene.past 0) k (new_unpublished h.size h.capacity m.scene.past (m.scene.heads 0) a.good.holds.known) in
     let slot = a.numbered.slots k (more_offered h m a.plain a.good ready) new in
-    let number : number_at log head ≡ k = ap (λ (o : Outstanding). o.number) slot in
+    let number : number_at outstanding head ≡ k = ap (λ (o : OutstandingRequest). o.number) slot in
     let one : accepts x ≡ 1 = ap accepts s.said in
     let more : accepted (one_turn h 0 turns.Fetch m).next.scene.past 0 ≡ k + 1 = ap (λ (is : List Item). accepted (after_items h is m.scene).past 0) s.made in
     record {
@@ -154,7 +154,7 @@ fetch_made h r m log cap sizes d now x a ready does =
         memory_is = some_is now.memory d.memory does.stores_are ∙ a.at.memory_is ∙ sym (ap (λ (is : List Item). (after_items h is m.scene).memory) s.made);
         disk = disk_same h.capacity (one_turn h 0 turns.Fetch m).next.scene.past d.values now.values (some_is now.values d.values does.values_are) (turn_disk h m turns.Fetch d.values tt a.at.disk);
       };
-      items_are = s.made ∙ ap (λ (n : ℕ). items.Made (entries.Accept 0 n) ∷ []) (sym number) ∙ sym (ap (noted log now.values now.stores (shown_of log d.memory d.queue)) s.said);
+      items_are = s.made ∙ ap (λ (n : ℕ). items.Made (entries.Accept 0 n) ∷ []) (sym number) ∙ sym (ap (noted outstanding now.values now.stores (shown_of outstanding d.memory d.queue)) s.said);
       store = subst (λ (y : Stepped). StoreFits y now.stores) (sym s.said) tt;
       sector = subst (λ (y : Stepped). SectorFits h.capacity y) (sym s.said) tt;
       taken = omega (arith, one, more);
@@ -269,66 +269,76 @@ index_place q most y next is lies =
     let same_row : z ≡ y = some_is z y (sym (ap (row_at q) next) ∙ found) in
     subst (λ (x : Row). x.store.place + length x.store.bytes ≤ 65536) same_row (omega (arith, lies, length_little 2 last))
 
-answers_same : (h : Header1) (r : SplitRing) (m : Moment) (log : Log) (d : Device) (y : Row) → TurnAt h r m log d → y.store.place + length y.store.bytes ≤ 65536
-    → answers_for log d.memory d.queue.batch ≡ map (answer_at 0 (after_row h y m.scene)) (m.lanes 0).batch
-answers_same h r m log d y a off =
+answers_same : (h : Header1) (r : SplitRing) (m : Moment) (outstanding : OutstandingRequests) (d : Device) (y : Row) → TurnAt h r m outstanding d → y.store.place + length y.store.bytes ≤ 65536
+    → answers_for outstanding d.memory d.queue.batch ≡ map (answer_at 0 (after_row h y m.scene)) (m.lanes 0).batch
+answers_same h r m outstanding d y a off =
     let l : Lane = m.lanes 0 in
     let past : List Entry = m.scene.past in
     let heads : List ℕ = m.scene.heads 0 in
-    let f : ℕ × ℕ → Answered = λ x. answer_for (slot_in log x.0) m.scene.memory x.0 in
-    ap (λ (b : Bytes). answers_for log b d.queue.batch) a.at.memory_is
-    ∙ ap (λ (xs : List (ℕ × ℕ)). answers_for log m.scene.memory xs) a.at.stands.batch
+    let f : ℕ × ℕ → Answered = λ x. answer_for (slot_in outstanding x.0) m.scene.memory x.0 in
+    ap (λ (b : Bytes). answers_for outstanding b d.queue.batch) a.at.memory_is
+    ∙ ap (λ (xs : List (ℕ × ℕ)). answers_for outstanding m.scene.memory xs) a.at.stands.batch
     ∙ map_over f (answer_at 0 (after_row h y m.scene)) (spot_of h past heads) l.batch (λ k held.
     let done : is_among (l.completed ++ l.batch) k ≡ true = among_right l.completed l.batch k held in
     let out : IsOut past heads k = open_out h.size h.capacity past heads k a.good.holds.known (a.good.holds.worked.opens k done) in
     let head : ℕ = slice_index heads k in
-    ap (λ (o : Outstanding). answer_for o m.scene.memory head) (a.numbered.slots k out.below out.kept)
+    ap (λ (o : OutstandingRequest). answer_for o m.scene.memory head) (a.numbered.slots k out.below out.kept)
     ∙ answer_same h.capacity (asked past 0 k) m.scene.memory y.store.place y.store.bytes k head (a.good.holds.known.wide k out.below) off (a.good.holds.stored.status k done))
 
 -- which answers a turn notes
-shown_is : (log : Log) (m : Bytes) (q : QueueState) → ShowsNext q → shown_of log m q ≡ answers_for log m q.batch
-shown_is log m q next = ap (λ (o : Option Step). cond {A = List Answered} (is_index o) (answers_for log m q.batch) []) next
+shown_is : (outstanding : OutstandingRequests) (m : Bytes) (q : QueueState) → ShowsNext q → shown_of outstanding m q ≡ answers_for outstanding m q.batch
+shown_is outstanding m q next = ap (λ (o : Option Step). cond {A = List Answered} (is_index o) (answers_for outstanding m q.batch) []) next
 
 -- what a turn of a publication leaves, whichever step it makes
+<<<<<<< HEAD
 left_at : (h : Header1) (r : SplitRing) (m : Moment) (log : Log) (most : ℕ) (d now : Device) (tag : Tag) (y : Row) → TurnAt h r m log d → QueueStands h r (one_turn h 0 (turns.Publish most) m).next now.queue → now.values ≡ d.values
     → y.store.space ≡ 0 → StoredRow d now y → (one_turn h 0 (turns.Publish most) m).next.scene.memory ≡ (after_items h (items.Store tag M y.store.place y.store.bytes ∷ []) m.scene).memory
+=======
+left_at : (h : Header1) (r : SplitRing) (m : Moment) (outstanding : OutstandingRequests) (most : ℕ) (d now : Device) (tag : Tag) (y : Row) → TurnAt h r m outstanding d → QueueStands h r (one_turn h 0 (turns.Publish most) m).next now.queue → now.values ≡ d.values
+    → y.store.space ≡ 0 → StoredRow d now y → (one_turn h 0 (turns.Publish most) m).next.scene.memory ≡ (after_items h.size (items.Store tag M y.store.place y.store.bytes ∷ []) m.scene).memory
+>>>>>>> f785269063db1ec5b86aa2827372b5458e7c5c8d
     → DeviceAt h r (one_turn h 0 (turns.Publish most) m).next now
-left_at h r m log most d now tag y a stands values space s memory = record {
+left_at h r m outstanding most d now tag y a stands values space s memory = record {
   stands = stands;
   memory_is = row_memory h m d now tag y a.at.memory_is space s ∙ sym memory;
   disk = disk_same h.capacity (one_turn h 0 (turns.Publish most) m).next.scene.past d.values now.values values (turn_disk h m (turns.Publish most) d.values tt a.at.disk);
 }
 
 -- the store of used.idx
-show_made : (h : Header1) (r : SplitRing) (m : Moment) (log : Log) (most : ℕ) (d now : Device) (x : Stepped) (y : Row) → TurnAt h r m log d → DeviceAt h r (one_turn h 0 (turns.Publish most) m).next now → HasShown h m most x y → ShowsNext d.queue
-    → StoredRow d now y → IsSmall y.store → y.store.place + length y.store.bytes ≤ 65536 → TurnMade h r m (turns.Publish most) log d now x
-show_made h r m log most d now x y a at has next s small off =
+show_made : (h : Header1) (r : SplitRing) (m : Moment) (outstanding : OutstandingRequests) (most : ℕ) (d now : Device) (x : Stepped) (y : Row) → TurnAt h r m outstanding d → DeviceAt h r (one_turn h 0 (turns.Publish most) m).next now → HasShown h m most x y → ShowsNext d.queue
+    → StoredRow d now y → IsSmall y.store → y.store.place + length y.store.bytes ≤ 65536 → TurnMade h r m (turns.Publish most) outstanding d now x
+show_made h r m outstanding most d now x y a at has next s small off =
     let list : List Answered = map (answer_at 0 (after_row h y m.scene)) (m.lanes 0).batch in
     let none : accepts x ≡ 0 = ap accepts has.said in
+<<<<<<< HEAD
     let same : accepted (one_turn h 0 (turns.Publish most) m).next.scene.past 0 ≡ accepted m.scene.past 0 = ap (λ (is : List Item). accepted (after_items h is m.scene).past 0) has.items in
     let answers : shown_of log d.memory d.queue ≡ list = shown_is log d.memory d.queue next ∙ answers_same h r m log d y a off in
+=======
+    let same : accepted (one_turn h 0 (turns.Publish most) m).next.scene.past 0 ≡ accepted m.scene.past 0 = ap (λ (is : List Item). accepted (after_items h.size is m.scene).past 0) has.items in
+    let answers : shown_of outstanding d.memory d.queue ≡ list = shown_is outstanding d.memory d.queue next ∙ answers_same h r m outstanding d y a off in
+>>>>>>> f785269063db1ec5b86aa2827372b5458e7c5c8d
     record {
       goes = ap is_idle has.said;
       at = at;
       items_are = has.items
           ∙ ap (λ (is : List Item). is ++ items.Made (entries.Publish 0 list) ∷ []) (sym (store_made d now SP5 y s))
           ∙ ap (λ (xs : List Answered). stored_items SP5 now.stores ++ items.Made (entries.Publish 0 xs) ∷ []) (sym answers)
-          ∙ sym (ap (noted log now.values now.stores (shown_of log d.memory d.queue)) has.said);
+          ∙ sym (ap (noted outstanding now.values now.stores (shown_of outstanding d.memory d.queue)) has.said);
       store = subst (λ (z : Stepped). StoreFits z now.stores) (sym has.said) (one_small d now y s small);
       sector = subst (λ (z : Stepped). SectorFits h.capacity z) (sym has.said) tt;
       taken = omega (arith, none, same);
     }
 
 -- any other store
-part_made : (h : Header1) (r : SplitRing) (m : Moment) (log : Log) (most : ℕ) (d now : Device) (x : Stepped) (y : Row) → DeviceAt h r (one_turn h 0 (turns.Publish most) m).next now
-    → MadeElement (states.under_way most d.queue) x (turned h 0 (turns.Publish most) m).items y → StoredRow d now y → IsSmall y.store → TurnMade h r m (turns.Publish most) log d now x
-part_made h r m log most d now x y at part s small =
+part_made : (h : Header1) (r : SplitRing) (m : Moment) (outstanding : OutstandingRequests) (most : ℕ) (d now : Device) (x : Stepped) (y : Row) → DeviceAt h r (one_turn h 0 (turns.Publish most) m).next now
+    → MadeElement (states.under_way most d.queue) x (turned h 0 (turns.Publish most) m).items y → StoredRow d now y → IsSmall y.store → TurnMade h r m (turns.Publish most) outstanding d now x
+part_made h r m outstanding most d now x y at part s small =
     let none : accepts x ≡ 0 = ap accepts part.said in
     let same : accepted (one_turn h 0 (turns.Publish most) m).next.scene.past 0 ≡ accepted m.scene.past 0 = ap (λ (is : List Item). accepted (after_items h is m.scene).past 0) part.items in
     record {
       goes = ap is_idle part.said;
       at = at;
-      items_are = part.items ∙ sym (store_made d now y.tag y s) ∙ sym (ap (noted log now.values now.stores (shown_of log d.memory d.queue)) part.said);
+      items_are = part.items ∙ sym (store_made d now y.tag y s) ∙ sym (ap (noted outstanding now.values now.stores (shown_of outstanding d.memory d.queue)) part.said);
       store = subst (λ (z : Stepped). StoreFits z now.stores) (sym part.said) (one_small d now y s small);
       sector = subst (λ (z : Stepped). SectorFits h.capacity z) (sym part.said) tt;
       taken = omega (arith, none, same);
@@ -346,9 +356,9 @@ shows_cases q = go (next_step (length q.batch) q.phase)
     go (Some (steps.Len k)) = inr (λ e. let fails : Some (steps.Len k) ≡ Some steps.Index = e in cc)
     go (Some steps.Index) = inl refl
 
-pub publish_made : (h : Header1) (r : SplitRing) (m : Moment) (log : Log) (cap : ℕ) (sizes : ℕ → ℕ) (most : ℕ) (d now : Device) (x : Stepped) → TurnAt h r m log d → is_ready (standing h 0 m) (turns.Publish most) ≡ true
-    → DeviceDoes (turns.Publish most) cap sizes d now x → TurnMade h r m (turns.Publish most) log d now x
-publish_made h r m log cap sizes most d now x a ready does =
+pub publish_made : (h : Header1) (r : SplitRing) (m : Moment) (outstanding : OutstandingRequests) (cap : ℕ) (sizes : ℕ → ℕ) (most : ℕ) (d now : Device) (x : Stepped) → TurnAt h r m outstanding d → is_ready (standing h 0 m) (turns.Publish most) ≡ true
+    → DeviceDoes (turns.Publish most) cap sizes d now x → TurnMade h r m (turns.Publish most) outstanding d now x
+publish_made h r m outstanding cap sizes most d now x a ready does =
     let t : Turn = turns.Publish most in
     let found = row_stands h r m most (Some d.memory) x d.queue now.queue a.plain a.good a.main a.at.stands ready does.fine does.does in
     let y : Row = found.0 in
@@ -360,6 +370,7 @@ publish_made h r m log cap sizes most d now x a ready does =
           let has : HasShown h m most x y = shown_stands h r m most x d.queue now.queue y a.at.stands p next in
           let s : StoredRow d now y = stored_row d now x (publish_row most d.queue) y (ap outcome has.said) p.row a.fresh does.stores_are does.trails in
           let off = index_place d.queue most y next p.row (ap (λ (z : SplitRing). z.used.1) a.at.stands.ring ∙ a.main.used) in
+<<<<<<< HEAD
           let at = left_at h r m log most d now SP5 y a p.stands values p.space s (ap (λ (is : List Item). (after_items h is m.scene).memory) has.items) in
           show_made h r m log most d now x y a at has next s small off
       | inr other ↦
@@ -367,6 +378,15 @@ publish_made h r m log cap sizes most d now x a ready does =
           let s : StoredRow d now y = stored_row d now x (publish_row most d.queue) y (ap outcome part.said) p.row a.fresh does.stores_are does.trails in
           let at = left_at h r m log most d now y.tag y a p.stands values p.space s (ap (λ (is : List Item). (after_items h is m.scene).memory) part.items) in
           part_made h r m log most d now x y at part s small
+=======
+          let at = left_at h r m outstanding most d now SP5 y a p.stands values p.space s (ap (λ (is : List Item). (after_items h.size is m.scene).memory) has.items) in
+          show_made h r m outstanding most d now x y a at has next s small off
+      | inr other ↦
+          let part = stored_stands h r m most x d.queue now.queue y a.good a.at.stands ready p other in
+          let s : StoredRow d now y = stored_row d now x (publish_row most d.queue) y (ap outcome part.said) p.row a.fresh does.stores_are does.trails in
+          let at = left_at h r m outstanding most d now y.tag y a p.stands values p.space s (ap (λ (is : List Item). (after_items h.size is m.scene).memory) part.items) in
+          part_made h r m outstanding most d now x y at part s small
+>>>>>>> f785269063db1ec5b86aa2827372b5458e7c5c8d
     ]
 
 -- ---- a turn that isn't due
@@ -399,9 +419,9 @@ idle_memory (turns.Publish most) d now x is (inl unready) stores =
     some_is now.memory d.memory (subst (λ (o : Option Row). StoresRow (Some d.memory) (Some now.memory) x o) none stores)
 idle_memory (turns.Publish most) d now x is (inr early) stores = absurd early
 
-pub idle_made : (h : Header1) (r : SplitRing) (m : Moment) (log : Log) (cap : ℕ) (sizes : ℕ → ℕ) (t : Turn) (d now : Device) (x : Stepped) → TurnAt h r m log d → IsPhaseTurn t → is_ready (standing h 0 m) t ≡ false
+pub idle_made : (h : Header1) (r : SplitRing) (m : Moment) (outstanding : OutstandingRequests) (cap : ℕ) (sizes : ℕ → ℕ) (t : Turn) (d now : Device) (x : Stepped) → TurnAt h r m outstanding d → IsPhaseTurn t → is_ready (standing h 0 m) t ≡ false
     → DeviceDoes t cap sizes d now x → (x ≡ says.Idle) × DeviceAt h r m now
-idle_made h r m log cap sizes t d now x a is unready does =
+idle_made h r m outstanding cap sizes t d now x a is unready does =
     let told : Turns t (Some m.scene.memory) x d.queue now.queue = subst (λ (b : Bytes). Turns t (Some b) x d.queue now.queue) a.at.memory_is does.does in
     let idle = idle_stands h r m t x d.queue now.queue a.main a.at.stands is unready does.fine told in
     let values : now.values ≡ d.values = idle_values t d.values now.values is does.values_are in (

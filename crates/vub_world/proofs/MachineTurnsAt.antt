@@ -23,7 +23,7 @@ use Rattle.vub_device.specs.declared.entry.Answered.{Answered}
 use Rattle.vub_device.specs.declared.entry.Asked.{Asked}
 use Rattle.vub_device.specs.declared.entry.Entry.TheVariants as entries
 use Rattle.vub_device.specs.Past.{asked, published, collected, numbers, is_among}
-use Rattle.vub_world.specs.declared.log.Log.{Log}
+use Rattle.vub_world.specs.declared.outstanding.OutstandingRequests.{OutstandingRequests}
 use Rattle.vub_world.specs.declared.machine.Life.{Life}
 use Rattle.vub_world.specs.declared.machine.Machine.{Machine}
 use Rattle.vub_queue.specs.declared.queue.Queue.{Queue}
@@ -36,8 +36,8 @@ use Rattle.vub_world.specs.Lives.{RingOfLife}
 use Rattle.vub_world.specs.Machine.{IsSound}
 use Rattle.vub_queue.specs.Queue.{ring_in}
 use Rattle.vub_split.specs.Split.{RingLies}
-use Rattle.vub_world.specs.Logs.{slot_in}
-use Rattle.vub_world.specs.MachineAt.{AskAt, AttachedAt, LifeAt, LogAt, MachineAt, reads_of}
+use Rattle.vub_world.specs.OutstandingRequests.{slot_in}
+use Rattle.vub_world.specs.MachineAt.{AskAt, AttachedAt, LifeAt, OutstandingAt, MachineAt, reads_of}
 use Rattle.vub_world.specs.MachineDevice.{Device, device, DeviceAt, TurnMade, DeviceTurns, noted, stored_items, shown_of, answers_shown}
 use Rattle.vub_world.specs.MachineSteps.{TurnGoes}
 use Rattle.vub_run.specs.Memory.{Scene, after_items}
@@ -50,7 +50,7 @@ use Rattle.vub_run_laws.proofs.RunDrains.{turned_stays}
 use Rattle.vub_run_laws.proofs.RunTurns.{Good}
 use Rattle.vub_run_laws.proofs.RunChainsTurns.{turn_driver}
 
--- ---- what the items of a turn leave of a log
+-- ---- what the items of a turn leave of the outstanding requests
 
 pub record Keeps (s s' : Scene) : Type 0 where
   pub heads_are : s'.heads 0 ≡ s.heads 0
@@ -76,6 +76,7 @@ shows_keeps h tag [] answers s = record { heads_are = refl; collects = refl; ask
 shows_keeps h tag (st ∷ []) answers s = record { heads_are = refl; collects = refl; asked_are = λ k. refl; more = numbers answers; shown = refl }
 shows_keeps h tag (st ∷ next ∷ stores) answers s = record { heads_are = refl; collects = refl; asked_are = λ k. refl; more = numbers answers; shown = refl }
 
+<<<<<<< HEAD
 noted_keeps : (h : Header1) (log : Log) (v : Values) (stores : List Store) (answers : List Answered) (x : Stepped) (s : Scene) → Keeps s (after_items h (noted log v stores answers x) s)
 noted_keeps h log v stores answers (says.Stored tag) s = same_keeps s _ (stores_same h tag stores s)
 noted_keeps h log v stores answers (says.Completed head) s = same_keeps s _ (stores_same h T5 stores s)
@@ -89,14 +90,29 @@ noted_keeps h log v stores answers (says.Faulted head) s = same_keeps s _ (refl,
 noted_keeps h log v stores answers says.Idle s = same_keeps s _ (refl, refl, λ k. refl, refl)
 noted_keeps h log v stores answers says.SharedFault s = same_keeps s _ (refl, refl, λ k. refl, refl)
 noted_keeps h log v stores answers (says.Broken fault) s = same_keeps s _ (refl, refl, λ k. refl, refl)
+=======
+noted_keeps : (size : ℕ) (outstanding : OutstandingRequests) (v : Values) (stores : List Store) (answers : List Answered) (x : Stepped) (s : Scene) → Keeps s (after_items size (noted outstanding v stores answers x) s)
+noted_keeps size outstanding v stores answers (says.Stored tag) s = same_keeps s _ (stores_same size tag stores s)
+noted_keeps size outstanding v stores answers (says.Completed head) s = same_keeps s _ (stores_same size T5 stores s)
+noted_keeps size outstanding v stores answers says.Published s = shows_keeps size SP5 stores answers s
+noted_keeps size outstanding v stores answers says.Started s = same_keeps s _ (refl, refl, λ k. refl, refl)
+noted_keeps size outstanding v stores answers (says.Accepted head) s = same_keeps s _ (refl, refl, λ k. refl, refl)
+noted_keeps size outstanding v stores answers (says.Looked head sector) s = same_keeps s _ (refl, refl, λ k. refl, refl)
+noted_keeps size outstanding v stores answers (says.Acted head sector) s = same_keeps s _ (refl, refl, λ k. refl, refl)
+noted_keeps size outstanding v stores answers (says.Synced head) s = same_keeps s _ (refl, refl, λ k. refl, refl)
+noted_keeps size outstanding v stores answers (says.Faulted head) s = same_keeps s _ (refl, refl, λ k. refl, refl)
+noted_keeps size outstanding v stores answers says.Idle s = same_keeps s _ (refl, refl, λ k. refl, refl)
+noted_keeps size outstanding v stores answers says.SharedFault s = same_keeps s _ (refl, refl, λ k. refl, refl)
+noted_keeps size outstanding v stores answers (says.Broken fault) s = same_keeps s _ (refl, refl, λ k. refl, refl)
+>>>>>>> f785269063db1ec5b86aa2827372b5458e7c5c8d
 
 take_more : (xs ys : List ℕ) (n : ℕ) → n ≤ length xs → take n (xs ++ ys) ≡ take n xs
 take_more [] ys n few = let none : n ≡ 0 = omega (arith, few) in ap (λ (j : ℕ). take j ys) none ∙ sym (ap (λ (j : ℕ). take {A = ℕ} j []) none)
 take_more (x ∷ xs) ys zero few = refl
 take_more (x ∷ xs) ys (suc n) few = ap (λ (l : List ℕ). x ∷ l) (take_more xs ys n (omega (arith, few)))
 
-kept_slots : (size : ℕ) (s s' : Scene) (log : Log) → Keeps s s' → collected s.past 0 ≤ length (published s.past 0) → LogAt size s.past (s.heads 0) log → LogAt size s'.past (s'.heads 0) log
-kept_slots size s s' log k few at = record {
+kept_slots : (size : ℕ) (s s' : Scene) (outstanding : OutstandingRequests) → Keeps s s' → collected s.past 0 ≤ length (published s.past 0) → OutstandingAt size s.past (s.heads 0) outstanding → OutstandingAt size s'.past (s'.heads 0) outstanding
+kept_slots size s s' outstanding k few at = record {
   offers_are = at.offers_are ∙ sym (ap (λ (l : List ℕ). length l) k.heads_are);
   collects_are = at.collects_are ∙ sym k.collects;
   places = at.places;
@@ -105,7 +121,7 @@ kept_slots size s s' log k few at = record {
       ap (λ (j : ℕ). take j (published s'.past 0)) k.collects ∙ ap (λ (l : List ℕ). take (collected s.past 0) l) k.shown ∙ take_more (published s.past 0) k.more (collected s.past 0) few in
       let low_too : n < length (s.heads 0) = subst (λ (l : List ℕ). n < length l) k.heads_are low in
       let out_too : is_among (take (collected s.past 0) (published s.past 0)) n ≡ false = sym (ap (λ (l : List ℕ). is_among l n) first) ∙ out in
-      ap (λ (l : List ℕ). slot_in log (slice_index l n)) k.heads_are ∙ at.slots n low_too out_too ∙ ap (λ (o : Option Asked). record { number = n; reads = reads_of o }) (sym (k.asked_are n));
+      ap (λ (l : List ℕ). slot_in outstanding (slice_index l n)) k.heads_are ∙ at.slots n low_too out_too ∙ ap (λ (o : Option Asked). record { number = n; reads = reads_of o }) (sym (k.asked_are n));
 }
 
 -- ---- the machine with other parts of its device
@@ -129,11 +145,15 @@ abbrev after_turn : Machine → Turn → Moment → Moment
 after_turn w t m = (one_turn w.header 0 t m).next
 
 -- after a turn that was made
-made_at : (w : Machine) (m : Moment) (q q' : Queue) (t : Turn) (memory : WatchedShared) (disk : MemDisk) (d : Device) (x : Stepped) → HasQueue w m q → TurnMade w.header w.ring m t w.log d (device q' memory disk) x
+made_at : (w : Machine) (m : Moment) (q q' : Queue) (t : Turn) (memory : WatchedShared) (disk : MemDisk) (d : Device) (x : Stepped) → HasQueue w m q → TurnMade w.header w.ring m t w.outstanding d (device q' memory disk) x
     → MachineAt (with_device w memory q' disk) (after_turn w t m)
 made_at w m q q' t memory disk d x has made =
     let life = life_at w m q has in
+<<<<<<< HEAD
     let keeps : Keeps m.scene (after_turn w t m).scene = subst (λ (is : List Item). Keeps m.scene (after_items w.header is m.scene)) (sym made.items_are) (noted_keeps w.header w.log (values_of disk) (stores_in memory) (shown_of w.log d.memory d.queue) x m.scene) in
+=======
+    let keeps : Keeps m.scene (after_turn w t m).scene = subst (λ (is : List Item). Keeps m.scene (after_items w.header.size is m.scene)) (sym made.items_are) (noted_keeps w.header.size w.outstanding (values_of disk) (stores_in memory) (shown_of w.outstanding d.memory d.queue) x m.scene) in
+>>>>>>> f785269063db1ec5b86aa2827372b5458e7c5c8d
     let driver : (turned w.header 0 t m).lane.driver ≡ (m.lanes 0).driver = turn_driver w.header t m in
     record {
       front = record {
@@ -144,7 +164,7 @@ made_at w m q q' t memory disk d x has made =
       position = has.at.position ∙ ap (λ (n : ℕ). (w.header.base + n) % 65536) (sym keeps.collects);
       life = (life.0, (life.1.0, turned_stays w.header t m ∙ life.1.1, made.at.stands));
       disk = made.at.disk;
-      log = kept_slots w.header.size m.scene (after_turn w t m).scene w.log keeps has.good.holds.known.shown has.at.log;
+      outstanding = kept_slots w.header.size m.scene (after_turn w t m).scene w.outstanding keeps has.good.holds.known.shown has.at.outstanding;
     }
 
 -- after a turn in which nothing was made
@@ -156,25 +176,25 @@ idle_at w m q q' memory disk has at =
       position = has.at.position;
       life = (life.0, (life.1.0, life.1.1, at.stands));
       disk = at.disk;
-      log = has.at.log;
+      outstanding = has.at.outstanding;
     }
 
 -- a turn of the device is one of the machine
 pub turn_goes : (w : Machine) (m : Moment) (q q' : Queue) (t : Turn) (kept memory : WatchedShared) (disk : MemDisk) (x : Stepped) → HasQueue w m q → bytes_in kept ≡ bytes_in w.memory
-    → (DeviceAt w.header w.ring m (device q kept w.disk) → DeviceTurns w.header w.ring m t w.log (device q kept w.disk) (device q' memory disk) x) → TurnGoes t w (with_device w memory q' disk) m x
+    → (DeviceAt w.header w.ring m (device q kept w.disk) → DeviceTurns w.header w.ring m t w.outstanding (device q kept w.disk) (device q' memory disk) x) → TurnGoes t w (with_device w memory q' disk) m x
 turn_goes w m q q' t kept memory disk x has same turns =
     let life = life_at w m q has in
     let d : Device = device q kept w.disk in
     let does = turns (record { stands = life.1.2; memory_is = same ∙ has.at.front.memory; disk = has.at.disk }) in (
       λ due.
           let ready : is_ready (standing w.header 0 m) t ≡ true = grind (arith, nat_tests) in
-          let made : TurnMade w.header w.ring m t w.log d (device q' memory disk) x = does.0 ready in
-          let shown : shown_of w.log (bytes_in kept) (state_of q) ≡ answers_shown w.log (bytes_in w.memory) w.life =
-          ap (λ (b : Bytes). shown_of w.log b (state_of q)) same ∙ sym (ap (answers_shown w.log (bytes_in w.memory)) has.life_is) in
+          let made : TurnMade w.header w.ring m t w.outstanding d (device q' memory disk) x = does.0 ready in
+          let shown : shown_of w.outstanding (bytes_in kept) (state_of q) ≡ answers_shown w.outstanding (bytes_in w.memory) w.life =
+          ap (λ (b : Bytes). shown_of w.outstanding b (state_of q)) same ∙ sym (ap (answers_shown w.outstanding (bytes_in w.memory)) has.life_is) in
           record {
             goes = made.goes;
             at = made_at w m q q' t memory disk d x has made;
-            items_are = made.items_are ∙ ap (λ (as_shown : List Answered). noted w.log (values_of disk) (stores_in memory) as_shown x) shown;
+            items_are = made.items_are ∙ ap (λ (as_shown : List Answered). noted w.outstanding (values_of disk) (stores_in memory) as_shown x) shown;
             store = made.store;
             sector = made.sector;
             taken = made.taken;
@@ -214,7 +234,7 @@ turn_none w m t kept good at none same = (
       position = at.position;
       life = at.life;
       disk = at.disk;
-      log = at.log;
+      outstanding = at.outstanding;
     },
   ),
 )

@@ -41,13 +41,13 @@ step_goes t w now m x other goes = elim (cases_Bool (is_due w.header 0 t m)) [
 ]
 
 -- the items that are noted of it
-pub step_made : (t : Turn) (w now : Machine) (m : Moment) (x : Stepped) (before noted_items : List Item) (answers : List Answered) → is_idle x ≡ false → TurnGoes t w now m x → answers ≡ answers_shown w.log (bytes_in w.memory) w.life
-    → noted_items ≡ before ++ noted now.log (values_of now.disk) (stores_in now.memory) answers x → StepGoes true t w now m before noted_items 0 (accepts x)
+pub step_made : (t : Turn) (w now : Machine) (m : Moment) (x : Stepped) (before noted_items : List Item) (answers : List Answered) → is_idle x ≡ false → TurnGoes t w now m x → answers ≡ answers_shown w.outstanding (bytes_in w.memory) w.life
+    → noted_items ≡ before ++ noted now.outstanding (values_of now.disk) (stores_in now.memory) answers x → StepGoes true t w now m before noted_items 0 (accepts x)
 step_made t w now m x before noted_items answers other goes shown notes =
     let made = step_goes t w now m x other goes in (
       made.0,
       made.1.at,
-      notes ∙ ap (λ (l : List Answered). before ++ noted now.log (values_of now.disk) (stores_in now.memory) l x) shown ∙ ap (λ (l : List Item). before ++ l) (sym made.1.items_are),
+      notes ∙ ap (λ (l : List Answered). before ++ noted now.outstanding (values_of now.disk) (stores_in now.memory) l x) shown ∙ ap (λ (l : List Item). before ++ l) (sym made.1.items_are),
       omega (arith, made.1.taken),
     )
 

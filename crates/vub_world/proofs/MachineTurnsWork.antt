@@ -15,8 +15,8 @@ use Rattle.vub_steps.proofs.ReadinessLemmas.{any_works, drain_works}
 use Rattle.vub_device.specs.declared.entry.Asked.{Asked}
 use Rattle.vub_device.specs.declared.entry.Entry.TheVariants as entries
 use Rattle.vub_device.specs.Past.{accepted}
-use Rattle.vub_world.specs.declared.log.Log.{Log}
-use Rattle.vub_world.specs.declared.log.Outstanding.{Outstanding}
+use Rattle.vub_world.specs.declared.outstanding.OutstandingRequests.{OutstandingRequests}
+use Rattle.vub_world.specs.declared.outstanding.OutstandingRequest.{OutstandingRequest}
 use Rattle.vub_report.specs.declared.items.Item.{Item}
 use Rattle.vub_report.specs.declared.items.Item.TheVariants as items
 use Rattle.vub_queue.specs.declared.queue.Stepped.{Stepped}
@@ -82,18 +82,18 @@ says_well h head made request step (inr (inr (inr (inr x)))) =
     (record { looks = λ d t v e. refl; sector = tt })
 
 -- what a turn of work notes
-pub record NotesWork (h : Header1) (m : Moment) (t : Turn) (log : Log) (d now : Device) (x : Stepped) : Type 0 where
+pub record NotesWork (h : Header1) (m : Moment) (t : Turn) (outstanding : OutstandingRequests) (d now : Device) (x : Stepped) : Type 0 where
   pub goes : is_idle x ≡ false
-  pub items_are : (one_turn h 0 t m).items ≡ noted log now.values now.stores (shown_of log d.memory d.queue) x
+  pub items_are : (one_turn h 0 t m).items ≡ noted outstanding now.values now.stores (shown_of outstanding d.memory d.queue) x
   pub store : StoreFits x now.stores
   pub none : accepts x ≡ 0
   pub same : accepted (one_turn h 0 t m).next.scene.past 0 ≡ accepted m.scene.past 0
 
 -- of one store
-stores_noted : (h : Header1) (m : Moment) (t : Turn) (log : Log) (d now : Device) (tag : Tag) (x : Stepped) (task : Task) (n : Making) → d.stores ≡ [] → Some now.stores ≡ option_map (with_maybe (due_store d.queue task n)) (Some d.stores)
-    → ShowsStore tag d.queue task n (turned h 0 t m).items → is_idle x ≡ false → accepts x ≡ 0 → noted log now.values now.stores (shown_of log d.memory d.queue) x ≡ stored_items tag now.stores → StoreFits x now.stores ≡ OneSmall now.stores
-    → NotesWork h m t log d now x
-stores_noted h m t log d now tag x task n fresh trails shows goes none notes fits =
+stores_noted : (h : Header1) (m : Moment) (t : Turn) (outstanding : OutstandingRequests) (d now : Device) (tag : Tag) (x : Stepped) (task : Task) (n : Making) → d.stores ≡ [] → Some now.stores ≡ option_map (with_maybe (due_store d.queue task n)) (Some d.stores)
+    → ShowsStore tag d.queue task n (turned h 0 t m).items → is_idle x ≡ false → accepts x ≡ 0 → noted outstanding now.values now.stores (shown_of outstanding d.memory d.queue) x ≡ stored_items tag now.stores → StoreFits x now.stores ≡ OneSmall now.stores
+    → NotesWork h m t outstanding d now x
+stores_noted h m t outstanding d now tag x task n fresh trails shows goes none notes fits =
     let st : Store = one_store 0 shows.place shows.bytes in
     let kept : now.stores ≡ st ∷ [] = some_is now.stores (with_maybe (due_store d.queue task n) d.stores) trails ∙ ap (λ (o : Option Store). with_maybe o d.stores) shows.due ∙ ap (λ (l : List Store). with_maybe (Some st) l) fresh in
     let small : OneSmall now.stores = subst (λ (l : List Store). OneSmall l) (sym kept) (record { space = refl; few = omega (arith, shows.few) }) in
@@ -106,42 +106,42 @@ stores_noted h m t log d now tag x task n fresh trails shows goes none notes fit
     }
 
 -- what is known of the step that is made
-pub record Makes (log : Log) (d now : Device) (k : ℕ) (task : Task) (n : Making) (x : Stepped) : Type 0 where
+pub record Makes (outstanding : OutstandingRequests) (d now : Device) (k : ℕ) (task : Task) (n : Making) (x : Stepped) : Type 0 where
   pub fresh : d.stores ≡ []
-  pub number : number_at log (head_in task) ≡ k
+  pub number : number_at outstanding (head_in task) ≡ k
   pub values_are : now.values ≡ values_after n.request n.step d.values
   pub trails : Some now.stores ≡ option_map (with_maybe (due_store d.queue task n)) (Some d.stores)
   pub looks : (head sector : ℕ) (v : Values) → x ≡ says.Looked head sector → values_after n.request n.step v ≡ v
 
-work_noted : (h : Header1) (m : Moment) (t : Turn) (log : Log) (d now : Device) (k : ℕ) (task : Task) (n : Making) (x : Stepped) → Makes log d now k task n x → Shows d.values d.queue k task n (turned h 0 t m).items x → NotesWork h m t log d now x
-work_noted h m t log d now k task n (says.Looked head sector) g shows =
+work_noted : (h : Header1) (m : Moment) (t : Turn) (outstanding : OutstandingRequests) (d now : Device) (k : ℕ) (task : Task) (n : Making) (x : Stepped) → Makes outstanding d now k task n x → Shows d.values d.queue k task n (turned h 0 t m).items x → NotesWork h m t outstanding d now x
+work_noted h m t outstanding d now k task n (says.Looked head sector) g shows =
     let values : now.values ≡ d.values = g.values_are ∙ g.looks head sector d.values refl in
-    let number : number_at log head ≡ k = ap (number_at log) shows.0 ∙ g.number in
+    let number : number_at outstanding head ≡ k = ap (number_at outstanding) shows.0 ∙ g.number in
     record {
       goes = refl;
-      items_are = shows.1 ∙ ap (λ (j : ℕ). items.Made (entries.Look 0 j sector (d.values sector)) ∷ []) (sym number) ∙ ap (λ (v : Values). items.Made (entries.Look 0 (number_at log head) sector (v sector)) ∷ []) (sym values);
+      items_are = shows.1 ∙ ap (λ (j : ℕ). items.Made (entries.Look 0 j sector (d.values sector)) ∷ []) (sym number) ∙ ap (λ (v : Values). items.Made (entries.Look 0 (number_at outstanding head) sector (v sector)) ∷ []) (sym values);
       store = tt;
       none = refl;
       same = ap (λ (is : List Item). accepted (after_items h is m.scene).past 0) shows.1;
     }
-work_noted h m t log d now k task n (says.Acted head sector) g shows =
-    let number : number_at log head ≡ k = ap (number_at log) shows.0 ∙ g.number in
+work_noted h m t outstanding d now k task n (says.Acted head sector) g shows =
+    let number : number_at outstanding head ≡ k = ap (number_at outstanding) shows.0 ∙ g.number in
     record {
       goes = refl;
       items_are = shows.1
           ∙ ap (λ (j : ℕ). items.Made (entries.Act 0 j sector (values_after n.request n.step d.values sector)) ∷ []) (sym number)
-          ∙ ap (λ (v : Values). items.Made (entries.Act 0 (number_at log head) sector (v sector)) ∷ []) (sym g.values_are);
+          ∙ ap (λ (v : Values). items.Made (entries.Act 0 (number_at outstanding head) sector (v sector)) ∷ []) (sym g.values_are);
       store = tt;
       none = refl;
       same = ap (λ (is : List Item). accepted (after_items h is m.scene).past 0) shows.1;
     }
-work_noted h m t log d now k task n (says.Stored tag) g shows =
-    stores_noted h m t log d now T2 (says.Stored tag) task n g.fresh g.trails shows.1 refl refl (ap (λ (y : Tag). stored_items y now.stores) shows.0) refl
-work_noted h m t log d now k task n (says.Completed head) g shows = stores_noted h m t log d now T5 (says.Completed head) task n g.fresh g.trails shows.1 refl refl refl refl
-work_noted h m t log d now k task n says.Idle g shows = absurd shows
-work_noted h m t log d now k task n (says.Accepted head) g shows = absurd shows
-work_noted h m t log d now k task n (says.Synced head) g shows =
-    let number : number_at log head ≡ k = ap (number_at log) shows.0 ∙ g.number in
+work_noted h m t outstanding d now k task n (says.Stored tag) g shows =
+    stores_noted h m t outstanding d now T2 (says.Stored tag) task n g.fresh g.trails shows.1 refl refl (ap (λ (y : Tag). stored_items y now.stores) shows.0) refl
+work_noted h m t outstanding d now k task n (says.Completed head) g shows = stores_noted h m t outstanding d now T5 (says.Completed head) task n g.fresh g.trails shows.1 refl refl refl refl
+work_noted h m t outstanding d now k task n says.Idle g shows = absurd shows
+work_noted h m t outstanding d now k task n (says.Accepted head) g shows = absurd shows
+work_noted h m t outstanding d now k task n (says.Synced head) g shows =
+    let number : number_at outstanding head ≡ k = ap (number_at outstanding) shows.0 ∙ g.number in
     record {
       goes = refl;
       items_are = shows.1 ∙ ap (λ (j : ℕ). items.Made (entries.Sync 0 j) ∷ []) (sym number);
@@ -149,15 +149,15 @@ work_noted h m t log d now k task n (says.Synced head) g shows =
       none = refl;
       same = ap (λ (is : List Item). accepted (after_items h is m.scene).past 0) shows.1;
     }
-work_noted h m t log d now k task n (says.Faulted head) g shows = absurd shows
-work_noted h m t log d now k task n says.Published g shows = absurd shows
-work_noted h m t log d now k task n says.Started g shows = absurd shows
-work_noted h m t log d now k task n says.SharedFault g shows = absurd shows
-work_noted h m t log d now k task n (says.Broken fault) g shows = absurd shows
+work_noted h m t outstanding d now k task n (says.Faulted head) g shows = absurd shows
+work_noted h m t outstanding d now k task n says.Published g shows = absurd shows
+work_noted h m t outstanding d now k task n says.Started g shows = absurd shows
+work_noted h m t outstanding d now k task n says.SharedFault g shows = absurd shows
+work_noted h m t outstanding d now k task n (says.Broken fault) g shows = absurd shows
 
-pub work_made : (h : Header1) (r : SplitRing) (m : Moment) (log : Log) (sizes : ℕ → ℕ) (place : ℕ) (d now : Device) (x : Stepped) → TurnAt h r m log d → 1048576 ≤ sizes 0 → is_ready (standing h 0 m) (turns.Work place) ≡ true
-    → DeviceDoes (turns.Work place) h.capacity sizes d now x → TurnMade h r m (turns.Work place) log d now x
-work_made h r m log sizes place d now x a room ready does =
+pub work_made : (h : Header1) (r : SplitRing) (m : Moment) (outstanding : OutstandingRequests) (sizes : ℕ → ℕ) (place : ℕ) (d now : Device) (x : Stepped) → TurnAt h r m outstanding d → 1048576 ≤ sizes 0 → is_ready (standing h 0 m) (turns.Work place) ≡ true
+    → DeviceDoes (turns.Work place) h.capacity sizes d now x → TurnMade h r m (turns.Work place) outstanding d now x
+work_made h r m outstanding sizes place d now x a room ready does =
     let q : QueueState = d.queue in
     let w : WorkReady h sizes m q place = work_ready h m r sizes q place a.plain a.good a.chained a.main room a.at.stands ready in
     let n : Making = making w in
@@ -169,9 +169,9 @@ work_made h r m log sizes place d now x a room ready does =
     let shows : Shows d.values q w.k w.task n (turned h 0 (turns.Work place) m).items x =
     subst (λ (y : Stepped). Shows d.values q w.k w.task n (turned h 0 (turns.Work place) m).items y) (sym out.says) (work_items h sizes m r q place d.values w a.plain a.good a.main a.at.stands a.at.disk) in
     let is_out : IsOut m.scene.past (m.scene.heads 0) w.k = open_out h.size h.capacity m.scene.past (m.scene.heads 0) w.k a.good.holds.known w.is_open in
-    let number : number_at log (head_in w.task) ≡ w.k = ap (number_at log) w.head ∙ ap (λ (o : Outstanding). o.number) (a.numbered.slots w.k is_out.below is_out.kept) in
+    let number : number_at outstanding (head_in w.task) ≡ w.k = ap (number_at outstanding) w.head ∙ ap (λ (o : OutstandingRequest). o.number) (a.numbered.slots w.k is_out.below is_out.kept) in
     let values : now.values ≡ values_after w.request w.step d.values = some_is now.values (values_after w.request w.step d.values) out.values in
-    let notes : NotesWork h m (turns.Work place) log d now x = work_noted h m (turns.Work place) log d now w.k w.task n x (record { fresh = a.fresh; number = number; values_are = values; trails = out.trails; looks = well_too.looks }) shows in
+    let notes : NotesWork h m (turns.Work place) outstanding d now x = work_noted h m (turns.Work place) outstanding d now w.k w.task n x (record { fresh = a.fresh; number = number; values_are = values; trails = out.trails; looks = well_too.looks }) shows in
     let memory : now.memory ≡ memory_after q.ring n (sector_at q (head_in w.task)) m.scene.memory =
     some_is now.memory (memory_after q.ring n (sector_at q (head_in w.task)) d.memory) out.stores ∙ ap (memory_after q.ring n (sector_at q (head_in w.task))) a.at.memory_is in
     record {
@@ -199,8 +199,8 @@ work_asked size s (choices.Drain accepted) place is unready = absurd (let fails 
 abbrev pub RestsAt : Device → Device → Stepped → Type 0
 RestsAt d now x = Rests (Some d.memory) (Some now.memory) (Some d.stores) (Some now.stores) (Some d.values) (Some now.values) x d.queue now.queue
 
-rests_at : (h : Header1) (r : SplitRing) (m : Moment) (log : Log) (d now : Device) (x : Stepped) → TurnAt h r m log d → RestsAt d now x → (x ≡ says.Idle) × DeviceAt h r m now
-rests_at h r m log d now x a rests = (
+rests_at : (h : Header1) (r : SplitRing) (m : Moment) (outstanding : OutstandingRequests) (d now : Device) (x : Stepped) → TurnAt h r m outstanding d → RestsAt d now x → (x ≡ says.Idle) × DeviceAt h r m now
+rests_at h r m outstanding d now x a rests = (
   rests.idle,
   record {
     stands = subst (λ (q : QueueState). QueueStands h r m q) (sym rests.state) a.at.stands;
@@ -212,11 +212,11 @@ rests_at h r m log d now x a rests = (
 -- ---- any turn
 
 -- it is made where it is due, and else nothing is
-pub device_turns : (h : Header1) (r : SplitRing) (m : Moment) (log : Log) (sizes : ℕ → ℕ) (t : Turn) (d now : Device) (x : Stepped) → TurnAt h r m log d → 1048576 ≤ sizes 0
-    → ((place : ℕ) → t ≡ turns.Work place → is_ready (standing h 0 m) (turns.Work place) ≡ false → RestsAt d now x) → DeviceDoes t h.capacity sizes d now x → DeviceTurns h r m t log d now x
-device_turns h r m log sizes turns.Start d now x a room rests does = (λ ready. start_made h r m log h.capacity sizes d now x a ready does, λ unready. idle_made h r m log h.capacity sizes turns.Start d now x a tt unready does)
-device_turns h r m log sizes turns.Fetch d now x a room rests does = (λ ready. fetch_made h r m log h.capacity sizes d now x a ready does, λ unready. idle_made h r m log h.capacity sizes turns.Fetch d now x a tt unready does)
-device_turns h r m log sizes (turns.Publish most) d now x a room rests does =
-    (λ ready. publish_made h r m log h.capacity sizes most d now x a ready does, λ unready. idle_made h r m log h.capacity sizes (turns.Publish most) d now x a tt unready does)
-device_turns h r m log sizes (turns.Work place) d now x a room rests does =
-    (λ ready. work_made h r m log sizes place d now x a room ready does, λ unready. rests_at h r m log d now x a (rests place refl unready))
+pub device_turns : (h : Header1) (r : SplitRing) (m : Moment) (outstanding : OutstandingRequests) (sizes : ℕ → ℕ) (t : Turn) (d now : Device) (x : Stepped) → TurnAt h r m outstanding d → 1048576 ≤ sizes 0
+    → ((place : ℕ) → t ≡ turns.Work place → is_ready (standing h 0 m) (turns.Work place) ≡ false → RestsAt d now x) → DeviceDoes t h.capacity sizes d now x → DeviceTurns h r m t outstanding d now x
+device_turns h r m outstanding sizes turns.Start d now x a room rests does = (λ ready. start_made h r m outstanding h.capacity sizes d now x a ready does, λ unready. idle_made h r m outstanding h.capacity sizes turns.Start d now x a tt unready does)
+device_turns h r m outstanding sizes turns.Fetch d now x a room rests does = (λ ready. fetch_made h r m outstanding h.capacity sizes d now x a ready does, λ unready. idle_made h r m outstanding h.capacity sizes turns.Fetch d now x a tt unready does)
+device_turns h r m outstanding sizes (turns.Publish most) d now x a room rests does =
+    (λ ready. publish_made h r m outstanding h.capacity sizes most d now x a ready does, λ unready. idle_made h r m outstanding h.capacity sizes (turns.Publish most) d now x a tt unready does)
+device_turns h r m outstanding sizes (turns.Work place) d now x a room rests does =
+    (λ ready. work_made h r m outstanding sizes place d now x a room ready does, λ unready. rests_at h r m outstanding d now x a (rests place refl unready))

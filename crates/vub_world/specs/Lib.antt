@@ -1,9 +1,9 @@
 pub mod Lives
-pub mod Logs
 pub mod Machine
 pub mod MachineAt
 pub mod MachineDevice
 pub mod MachineFront
 pub mod MachineSteps
+pub mod OutstandingRequests
 pub mod Sequences
 pub mod World

@@ -14,7 +14,7 @@ use Rattle.vub_driver.specs.Layout.{ring_of}
 use Rattle.vub_guest.specs.GuestState.{ring_in}
 use Rattle.vub_queue_in_run.specs.QueueAt.{IsMainRing}
 use Rattle.vub_world.specs.Lives.{RingOfLife}
-use Rattle.vub_world.specs.Logs.{offered_in}
+use Rattle.vub_world.specs.OutstandingRequests.{offered_in}
 use Rattle.vub_world.specs.declared.machine.Machine.{Machine}
 
 -- the size of each space of its memory
@@ -38,4 +38,4 @@ pub record IsSound (m : Machine) : Type 0 where
 abbrev pub LendsSound : MutBor Machine → Event → Result (Bor Record) Memory → Fml
 LendsSound m event result =
     follows_so the_row the_row m.ghost_name none (λ _ _. ⊤)
-    (λ now. IsSound now × IsStanding now × (now.header ≡ m.now.header) × MatchResult result (λ r. (r.now.event ≡ event) × StandsOn m.now now event r.now) (λ _. now ≡ m.now) × (offered_in now.log ≤ offered_in m.now.log + 1))
+    (λ now. IsSound now × IsStanding now × (now.header ≡ m.now.header) × MatchResult result (λ r. (r.now.event ≡ event) × StandsOn m.now now event r.now) (λ _. now ≡ m.now) × (offered_in now.outstanding ≤ offered_in m.now.outstanding + 1))

@@ -15,11 +15,11 @@ use Rattle.vub_schedule.specs.declared.types.Event.TheVariants as events
 use Rattle.vub_report.specs.declared.items.Item.{Item}
 use Rattle.vub_report.specs.declared.items.Record.{Record}
 use Rattle.vub_split.specs.declared.split.SplitRing.{SplitRing}
-use Rattle.vub_world.specs.declared.log.Log.{Log}
+use Rattle.vub_world.specs.declared.outstanding.OutstandingRequests.{OutstandingRequests}
 use Rattle.vub_queue.specs.declared.queue.Queue.{Queue}
 use Rattle.vub_world.specs.declared.machine.Life.{Life}
 use Rattle.vub_world.specs.declared.machine.Machine.{Machine}
-use Rattle.vub_world.specs.Logs.{offered_in, collected_in, size_in, slot_in}
+use Rattle.vub_world.specs.OutstandingRequests.{offered_in, collected_in, size_in, slot_in}
 use Rattle.vub_guest.specs.GuestState.{driver_in, seen_in}
 use Rattle.vub_queue.specs.QueueState.{state_of}
 use Rattle.vub_queue_in_run.specs.QueueAt.{QueueStands, DiskAt}
@@ -53,18 +53,18 @@ reads_of r = 0
 
 -- the numbers of a queue's requests: under the head of each that is offered and not collected stand its number and how
 -- many sectors it reads
-pub record LogAt (size : ℕ) (past : List Entry) (heads : List ℕ) (log : Log) : Type 0 where
-  pub offers_are : offered_in log ≡ length heads
-  pub collects_are : collected_in log ≡ collected past 0
-  pub places : size_in log ≡ size
-  pub slots : (k : ℕ) → k < length heads → is_among (take (collected past 0) (published past 0)) k ≡ false → slot_in log (slice_index heads k) ≡ record { number = k; reads = reads_of (asked past 0 k) }
+pub record OutstandingAt (size : ℕ) (past : List Entry) (heads : List ℕ) (outstanding : OutstandingRequests) : Type 0 where
+  pub offers_are : offered_in outstanding ≡ length heads
+  pub collects_are : collected_in outstanding ≡ collected past 0
+  pub places : size_in outstanding ≡ size
+  pub slots : (k : ℕ) → k < length heads → is_among (take (collected past 0) (published past 0)) k ≡ false → slot_in outstanding (slice_index heads k) ≡ record { number = k; reads = reads_of (asked past 0 k) }
 
 pub record MachineAt (w : Machine) (m : Moment) : Type 0 where
   pub front : FrontAt w m
   pub position : seen_in w.guest ≡ (w.header.base + collected m.scene.past 0) % 65536
   pub life : LifeAt w.header w.ring m w.life
   pub disk : DiskAt w.header.capacity m.scene.past (values_of w.disk)
-  pub log : LogAt w.header.size m.scene.past (m.scene.heads 0) w.log
+  pub outstanding : OutstandingAt w.header.size m.scene.past (m.scene.heads 0) w.outstanding
 
 -- the machine stands for these events and their records
 abbrev pub StandsFor : Machine → List Event → List Record → Type 0

@@ -22,14 +22,14 @@ use Rattle.vub_memdisk.specs.declared.mem_disk.MemDisk.{MemDisk}
 use Rattle.vub_device.specs.Past.{accepted}
 use Rattle.vub_report.specs.declared.items.Item.{Item}
 use Rattle.vub_report.specs.declared.items.Item.TheVariants as items
-use Rattle.vub_world.specs.declared.log.Log.{Log}
-use Rattle.vub_world.specs.declared.log.Outstanding.{Outstanding}
+use Rattle.vub_world.specs.declared.outstanding.OutstandingRequests.{OutstandingRequests}
+use Rattle.vub_world.specs.declared.outstanding.OutstandingRequest.{OutstandingRequest}
 use Rattle.vub_world.specs.declared.machine.Life.{Life}
 use Rattle.vub_queue.specs.declared.queue.Queue.{Queue}
 use Rattle.vub_split.specs.declared.split.SplitRing.{SplitRing}
 use Rattle.vub_queue.specs.declared.queue.Stepped.{Stepped}
 use Rattle.vub_queue.specs.declared.queue.Stepped.TheVariants as says
-use Rattle.vub_world.specs.Logs.{slot_in}
+use Rattle.vub_world.specs.OutstandingRequests.{slot_in}
 use Rattle.vub_run.specs.Moments.{Moment, standing}
 use Rattle.vub_steps.specs.declared.readiness.Choice.{Choice}
 use Rattle.vub_steps.specs.Readiness.{chosen}
@@ -42,7 +42,7 @@ use Rattle.vub_world.specs.MachineFront.{store_item, OneSmall}
 -- ---- the device's turns
 
 -- the answer to the request under a head, which stands in its buffer
-abbrev pub answer_for : Outstanding → Bytes → ℕ → Answered
+abbrev pub answer_for : OutstandingRequest → Bytes → ℕ → Answered
 answer_for o m head = record {
   number = o.number;
   status = m guest_space (status_place (buffer_place (area_place 0) head));
@@ -50,29 +50,29 @@ answer_for o m head = record {
 }
 
 -- the answers to the requests of a batch, by head and length
-abbrev pub answers_for : Log → Bytes → List (ℕ × ℕ) → List Answered
-answers_for log m batch = map (λ (x : ℕ × ℕ). answer_for (slot_in log x.0) m x.0) batch
+abbrev pub answers_for : OutstandingRequests → Bytes → List (ℕ × ℕ) → List Answered
+answers_for outstanding m batch = map (λ (x : ℕ × ℕ). answer_for (slot_in outstanding x.0) m x.0) batch
 
-abbrev pub number_at : Log → ℕ → ℕ
-number_at log head = (slot_in log head).number
+abbrev pub number_at : OutstandingRequests → ℕ → ℕ
+number_at outstanding head = (slot_in outstanding head).number
 
 abbrev pub stored_items : Tag → List Store → List Item
 stored_items tag (st ∷ []) = store_item tag st ∷ []
 stored_items tag sts = []
 
--- the items of a turn, where the log, the values of the disk, the stores of the turn and the answers of the batch that
+-- the items of a turn, where the outstanding requests, the values of the disk, the stores of the turn and the answers of the batch that
 -- it shows are these
-abbrev pub noted : Log → Values → List Store → List Answered → Stepped → List Item
-noted log v stores answers (says.Stored tag) = stored_items tag stores
-noted log v stores answers (says.Completed head) = stored_items T5 stores
-noted log v stores answers says.Published = stored_items SP5 stores ++ items.Made (entries.Publish 0 answers) ∷ []
-noted log v stores answers says.Started = items.Made (entries.Start 0 []) ∷ []
-noted log v stores answers (says.Accepted head) = items.Made (entries.Accept 0 (number_at log head)) ∷ []
-noted log v stores answers (says.Looked head sector) = items.Made (entries.Look 0 (number_at log head) sector (v sector)) ∷ []
-noted log v stores answers (says.Acted head sector) = items.Made (entries.Act 0 (number_at log head) sector (v sector)) ∷ []
-noted log v stores answers (says.Synced head) = items.Made (entries.Sync 0 (number_at log head)) ∷ []
-noted log v stores answers (says.Faulted head) = items.Made (entries.Fault 0 (number_at log head)) ∷ []
-noted log v stores answers x = []
+abbrev pub noted : OutstandingRequests → Values → List Store → List Answered → Stepped → List Item
+noted outstanding v stores answers (says.Stored tag) = stored_items tag stores
+noted outstanding v stores answers (says.Completed head) = stored_items T5 stores
+noted outstanding v stores answers says.Published = stored_items SP5 stores ++ items.Made (entries.Publish 0 answers) ∷ []
+noted outstanding v stores answers says.Started = items.Made (entries.Start 0 []) ∷ []
+noted outstanding v stores answers (says.Accepted head) = items.Made (entries.Accept 0 (number_at outstanding head)) ∷ []
+noted outstanding v stores answers (says.Looked head sector) = items.Made (entries.Look 0 (number_at outstanding head) sector (v sector)) ∷ []
+noted outstanding v stores answers (says.Acted head sector) = items.Made (entries.Act 0 (number_at outstanding head) sector (v sector)) ∷ []
+noted outstanding v stores answers (says.Synced head) = items.Made (entries.Sync 0 (number_at outstanding head)) ∷ []
+noted outstanding v stores answers (says.Faulted head) = items.Made (entries.Fault 0 (number_at outstanding head)) ∷ []
+noted outstanding v stores answers x = []
 
 -- ---- the device
 
@@ -100,8 +100,8 @@ abbrev pub is_showing : QueueState → Bool
 is_showing q = is_index (next_step (length q.batch) q.phase)
 
 -- the answers to the batch that the next step shows, if it shows one
-abbrev pub shown_of : Log → Bytes → QueueState → List Answered
-shown_of log m q = if is_showing q then answers_for log m q.batch else []
+abbrev pub shown_of : OutstandingRequests → Bytes → QueueState → List Answered
+shown_of outstanding m q = if is_showing q then answers_for outstanding m q.batch else []
 
 -- a turn that says so stores once, a sector at most
 abbrev pub StoreFits : Stepped → List Store → Type 0
@@ -117,12 +117,12 @@ SectorFits capacity (says.Acted head sector) = sector < capacity
 SectorFits capacity x = ⊤
 
 -- the entry of a turn that stores nothing
-abbrev pub IsEntry : Log → Values → Stepped → Option Entry → Type 0
-IsEntry log v (says.Stored tag) e = ⊤
-IsEntry log v (says.Completed head) e = ⊤
-IsEntry log v says.Published e = ⊤
-IsEntry log v x None = noted log v [] [] x ≡ []
-IsEntry log v x (Some e) = noted log v [] [] x ≡ items.Made e ∷ []
+abbrev pub IsEntry : OutstandingRequests → Values → Stepped → Option Entry → Type 0
+IsEntry outstanding v (says.Stored tag) e = ⊤
+IsEntry outstanding v (says.Completed head) e = ⊤
+IsEntry outstanding v says.Published e = ⊤
+IsEntry outstanding v x None = noted outstanding v [] [] x ≡ []
+IsEntry outstanding v x (Some e) = noted outstanding v [] [] x ≡ items.Made e ∷ []
 
 -- the turn that a choice comes to at a moment
 abbrev pub turn_here : Header1 → Choice → Moment → Turn
@@ -134,18 +134,18 @@ accepts (says.Accepted head) = 1
 accepts x = 0
 
 -- a turn that is due was made
-pub record TurnMade (h : Header1) (r : SplitRing) (m : Moment) (t : Turn) (log : Log) (d now : Device) (x : Stepped) : Type 0 where
+pub record TurnMade (h : Header1) (r : SplitRing) (m : Moment) (t : Turn) (outstanding : OutstandingRequests) (d now : Device) (x : Stepped) : Type 0 where
   pub goes : is_idle x ≡ false
   pub at : DeviceAt h r (one_turn h 0 t m).next now
-  pub items_are : (one_turn h 0 t m).items ≡ noted log now.values now.stores (shown_of log d.memory d.queue) x
+  pub items_are : (one_turn h 0 t m).items ≡ noted outstanding now.values now.stores (shown_of outstanding d.memory d.queue) x
   pub store : StoreFits x now.stores
   pub sector : SectorFits h.capacity x
   pub taken : accepts x + accepted m.scene.past 0 ≡ accepted (one_turn h 0 t m).next.scene.past 0
 
 -- the turn is made where it is due, and else nothing is
-abbrev pub DeviceTurns : Header1 → SplitRing → Moment → Turn → Log → Device → Device → Stepped → Type 0
-DeviceTurns h r m t log d now x =
-    (is_ready (standing h 0 m) t ≡ true → TurnMade h r m t log d now x)
+abbrev pub DeviceTurns : Header1 → SplitRing → Moment → Turn → OutstandingRequests → Device → Device → Stepped → Type 0
+DeviceTurns h r m t outstanding d now x =
+    (is_ready (standing h 0 m) t ≡ true → TurnMade h r m t outstanding d now x)
     × (is_ready (standing h 0 m) t ≡ false → (x ≡ says.Idle) × DeviceAt h r m now)
 
 -- ---- a life
@@ -159,13 +159,13 @@ abbrev pub batch_in : Option Life → List (ℕ × ℕ)
 batch_in None = []
 batch_in (Some l) = queue_batch l.queue
 
-abbrev pub queue_shown : Log → Bytes → Option Queue → List Answered
-queue_shown log m None = []
-queue_shown log m (Some q) = shown_of log m (state_of q)
+abbrev pub queue_shown : OutstandingRequests → Bytes → Option Queue → List Answered
+queue_shown outstanding m None = []
+queue_shown outstanding m (Some q) = shown_of outstanding m (state_of q)
 
-abbrev pub answers_shown : Log → Bytes → Option Life → List Answered
-answers_shown log m None = []
-answers_shown log m (Some l) = queue_shown log m l.queue
+abbrev pub answers_shown : OutstandingRequests → Bytes → Option Life → List Answered
+answers_shown outstanding m None = []
+answers_shown outstanding m (Some l) = queue_shown outstanding m l.queue
 
 abbrev pub queue_shows : Option Queue → ℕ
 queue_shows None = 0
@@ -191,5 +191,5 @@ is_joining None = false
 is_joining (Some l) = not (has_queue l.queue)
 
 -- each head of a batch has a buffer, and its request reads eight sectors at most
-abbrev pub BatchFits : Log → List (ℕ × ℕ) → Type 0
-BatchFits log batch = (i : ℕ) (x : ℕ × ℕ) → slice_get batch i ≡ Some x → (x.0 < 64) × ((slot_in log x.0).reads ≤ 8)
+abbrev pub BatchFits : OutstandingRequests → List (ℕ × ℕ) → Type 0
+BatchFits outstanding batch = (i : ℕ) (x : ℕ × ℕ) → slice_get batch i ≡ Some x → (x.0 < 64) × ((slot_in outstanding x.0).reads ≤ 8)

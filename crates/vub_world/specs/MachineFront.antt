@@ -11,7 +11,7 @@ use Rattle.vub_driver.specs.Drivers.{Waiting}
 use Rattle.vub_report.specs.declared.items.Item.{Item}
 use Rattle.vub_report.specs.declared.items.Item.TheVariants as items
 use Rattle.vub_world.specs.declared.machine.Machine.{Machine}
-use Rattle.vub_world.specs.Logs.{Offers}
+use Rattle.vub_world.specs.OutstandingRequests.{Offers}
 use Rattle.vub_guest.specs.GuestState.{driver_in}
 use Rattle.vub_run.specs.Moments.{Moment}
 use Rattle.vub_run.specs.Run.{guest_stores}
@@ -43,19 +43,19 @@ OneSmall sts = ⊥
 abbrev pub head_shown : Machine → ℕ
 head_shown w = last_head (ring_of 0 w.header.size) (bytes_in w.memory)
 
--- the log after so many stores of a request: it is noted with its last store
-pub record LogGoes (count : ℕ) (x : Waiting) (w now : Machine) : Type 0 where
-  pub before : count < length x.left → now.log ≡ w.log
-  pub offers : length x.left ≤ count → Offers w.log now.log (head_shown now) x.ask
+-- the outstanding requests after so many stores of a request: it is one of them with its last store
+pub record OutstandingGoes (count : ℕ) (x : Waiting) (w now : Machine) : Type 0 where
+  pub before : count < length x.left → now.outstanding ≡ w.outstanding
+  pub offers : length x.left ≤ count → Offers w.outstanding now.outstanding (head_shown now) x.ask
 
 -- from a moment on so many stores of the driver lead to where the machine stands, and have these items; more tells
 -- whether some are left
 pub record GuestGoes (count : ℕ) (x : Waiting) (w now : Machine) (m : Moment) (before after : List Item) : Type 0 where
   pub front : FrontAt now (guest_stores w.header 0 count (Some x) m).next
   pub items : after ≡ before ++ (guest_stores w.header 0 count (Some x) m).items
-  pub log : LogGoes count x w now
+  pub outstanding : OutstandingGoes count x w now
 
 -- one store; none where no request waits
 abbrev pub GuestSteps : Option Waiting → Machine → Machine → Moment → List Item → List Item → Bool → Type 0
-GuestSteps None w now m before after more = (more ≡ false) × FrontAt now m × (after ≡ before) × (now.log ≡ w.log)
+GuestSteps None w now m before after more = (more ≡ false) × FrontAt now m × (after ≡ before) × (now.outstanding ≡ w.outstanding)
 GuestSteps (Some x) w now m before after more = (more ≡ nat_lt 1 (length x.left)) × GuestGoes 1 x w now m before after

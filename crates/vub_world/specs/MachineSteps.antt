@@ -24,7 +24,7 @@ use Rattle.vub_world.specs.MachineDevice.{noted, StoreFits, SectorFits, accepts,
 pub record MachineTurns (t : Turn) (w now : Machine) (m : Moment) (x : Stepped) : Type 0 where
   pub goes : is_idle x ≡ false
   pub at : MachineAt now (one_turn w.header 0 t m).next
-  pub items_are : (one_turn w.header 0 t m).items ≡ noted now.log (values_of now.disk) (stores_in now.memory) (answers_shown w.log (bytes_in w.memory) w.life) x
+  pub items_are : (one_turn w.header 0 t m).items ≡ noted now.outstanding (values_of now.disk) (stores_in now.memory) (answers_shown w.outstanding (bytes_in w.memory) w.life) x
   pub store : StoreFits x (stores_in now.memory)
   pub sector : SectorFits w.header.capacity x
   pub taken : accepts x + accepted m.scene.past 0 ≡ accepted (one_turn w.header 0 t m).next.scene.past 0

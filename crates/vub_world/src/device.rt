@@ -2,10 +2,15 @@
 ghost use Rattle.std.specs.Prelude.{◌≡◌, ◌≤◌, ℕ, []};
 ghost use Rattle.vub_base.specs.declared.header.Header1.{Header1};
 ghost use Rattle.vub_memdisk.specs.MemDisks.{capacity_of};
+<<<<<<< HEAD
 ghost use Rattle.vub_shared.specs.Watched.{stores_in, sizes_in, IsUnfailed};
 ghost use Rattle.vub_world.specs.declared.log.Log.{Log};
+=======
+ghost use Rattle.vub_shared.specs.Watched.{stores_in, sizes_in};
+ghost use Rattle.vub_world.specs.declared.outstanding.OutstandingRequests.{OutstandingRequests};
+>>>>>>> f785269063db1ec5b86aa2827372b5458e7c5c8d
 ghost use Rattle.vub_split.specs.declared.split.SplitRing.{SplitRing};
-ghost use Rattle.vub_world.specs.MachineAt.{IsReached, LogAt};
+ghost use Rattle.vub_world.specs.MachineAt.{IsReached, OutstandingAt};
 ghost use Rattle.vub_world.specs.MachineDevice.{DeviceAt, DeviceTurns, device, turn_here};
 ghost use Rattle.vub_run.specs.Moments.{Moment};
 ghost use Rattle.vub_queue.specs.Queue.{ring_in};
@@ -53,9 +58,9 @@ pub fn turn_queue(
     ensures sizes { (s : ℕ) → sizes_in memory.new s ≡ sizes_in memory.old s }
     ensures unfailed { IsUnfailed memory.new }
     ensures capacity { capacity_of disk.new ≡ capacity_of disk.old }
-    ensures turns { (h : Header1) (r : SplitRing) (m : Moment) (log : Log) → IsReached h m → capacity_of disk.old ≡ h.capacity → IsMainRing r h.size → 1048576 ≤ sizes_in memory.old 0
-        → DeviceAt h r m (device queue.old memory.old disk.old) → LogAt h.size m.scene.past (m.scene.heads 0) log
-        → DeviceTurns h r m (turn_here h choice m) log (device queue.old memory.old disk.old) (device queue.new memory.new disk.new) result }
+    ensures turns { (h : Header1) (r : SplitRing) (m : Moment) (outstanding : OutstandingRequests) → IsReached h m → capacity_of disk.old ≡ h.capacity → IsMainRing r h.size → 1048576 ≤ sizes_in memory.old 0
+        → DeviceAt h r m (device queue.old memory.old disk.old) → OutstandingAt h.size m.scene.past (m.scene.heads 0) outstanding
+        → DeviceTurns h r m (turn_here h choice m) outstanding (device queue.old memory.old disk.old) (device queue.new memory.new disk.new) result }
 {
     queue.turn(choice, memory, disk)
 }

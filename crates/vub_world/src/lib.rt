@@ -3,8 +3,8 @@
 #![tactic(auto)]
 
 mod device;
-mod log;
 mod machine;
+mod outstanding;
 #[cfg(test)]
 mod tests;
 mod world;

@@ -7,7 +7,7 @@ ghost use Rattle.vub_room.specs.Rooms.{SpendsLists};
 ghost use Rattle.vub_device.specs.Requests.{request_of};
 
 use crate::device::{Sequence, turn_queue};
-use crate::log::Log;
+use crate::outstanding::OutstandingRequests;
 use std::alloc::Global;
 use std::mem;
 use vub_base::standard::{SECTOR_SIZE, VIRTIO_BLK_S_OK};
@@ -47,7 +47,7 @@ pub struct Machine {
     asked: Option<Ask>,
     life: Option<Life>,
     disk: MemDisk,
-    log: Log,
+    outstanding: OutstandingRequests,
     last: Record,
     spare: Spare,
 }
@@ -98,7 +98,7 @@ impl Machine {
     ghost use Rattle.vub_report.specs.declared.items.Item.TheVariants as items;
     ghost use Rattle.vub_report.specs.declared.items.Record.{Record};
     ghost use Rattle.vub_guest.specs.GuestState.{driver_in, seen_in, next_store, Steps, Shows, Collects};
-    ghost use Rattle.vub_world.specs.Logs.{offered_in, collected_in, slot_in, Offers};
+    ghost use Rattle.vub_world.specs.OutstandingRequests.{offered_in, collected_in, slot_in, Offers};
     ghost use Rattle.vub_world.specs.Machine.{IsSound, LendsSound};
     ghost use Rattle.vub_world.specs.MachineAt.{FrontAt, MachineAt, IsReached, IsStanding, Performs, StandsOn};
     ghost use Rattle.vub_world.specs.MachineDevice.{BatchFits, ShowsSome, StoreFits, SectorFits, IsEntry, stored_items, is_joining, answer_for, answers_for, answers_shown, batch_in, shown_in, noted, accepts, turn_here};
@@ -117,7 +117,7 @@ impl Machine {
         ensures header { IfOk result (λ m. m.header ≡ header.now) }
         ensures sound { IfOk result IsSound }
         ensures stands { IfOk result (λ m. MachineAt m (opening header.now)) }
-        ensures offers { IfOk result (λ m. offered_in m.log ≡ 0) }
+        ensures offers { IfOk result (λ m. offered_in m.outstanding ≡ 0) }
     {
         let (memory, space) = guest_memory(alloc)?;
         Ok(Machine {
@@ -130,7 +130,7 @@ impl Machine {
             asked: None,
             life: None,
             disk: MemDisk::new(alloc, header.capacity)?,
-            log: Log::new(alloc, header.size)?,
+            outstanding: OutstandingRequests::new(alloc, header.size)?,
             last: Record {
                 event: Event::Boot,
                 items: Items::new(Vec::new(alloc)),
@@ -212,19 +212,19 @@ impl Machine {
     /// Notes that the waiting request is offered.
     fn note_offer(&mut self, room: &mut Room)
         requires sound { IsSound self.old }
-        requires more { offered_in self.old.log < 2 ^ 64 - 1 }
+        requires more { offered_in self.old.outstanding < 2 ^ 64 - 1 }
         requires items { 1 ≤ room.old.item_room }
         requires lists { 1 ≤ room.old.lists }
-        ensures frame { self.new ≡ record self.old { asked = None; log = self.new.log } }
+        ensures frame { self.new ≡ record self.old { asked = None; outstanding = self.new.outstanding } }
         ensures sound { IsSound self.new }
-        ensures log { (ask : Ask) → self.old.asked ≡ Some ask → Offers self.old.log self.new.log (head_shown self.old) ask }
+        ensures outstanding { (ask : Ask) → self.old.asked ≡ Some ask → Offers self.old.outstanding self.new.outstanding (head_shown self.old) ask }
         ensures items { (ask : Ask) → self.old.asked ≡ Some ask → room.new.items ≡ room.old.items ++ items.Made (entries.Offer 0 (request_of ask)) ∷ [] }
     {
         let Some(ask) = self.asked.take() else {
             return;
         };
         let head = self.last_head();
-        self.log.offer(head, &ask);
+        self.outstanding.offer(head, &ask);
         let asked = asked_of(ask, room);
         room.note(Item::Made(Entry::Offer(0, asked)));
     }
@@ -247,16 +247,16 @@ impl Machine {
     /// One store of the driver with its items; false where the driver has none to make after it.
     fn guest_store(&mut self, room: &mut Room) -> bool
         requires sound { IsSound self.old }
-        requires more { offered_in self.old.log < 2 ^ 64 - 1 }
+        requires more { offered_in self.old.outstanding < 2 ^ 64 - 1 }
         requires fits { FrontFits self.old }
         requires items { 2 ≤ room.old.item_room }
         requires lists { 2 ≤ room.old.lists }
-        ensures frame { self.new ≡ record self.old { memory = self.new.memory; guest = self.new.guest; asked = self.new.asked; log = self.new.log } }
+        ensures frame { self.new ≡ record self.old { memory = self.new.memory; guest = self.new.guest; asked = self.new.asked; outstanding = self.new.outstanding } }
         ensures sound { IsSound self.new }
         ensures fits { FrontFits self.new }
         ensures position { seen_in self.new.guest ≡ seen_in self.old.guest }
         ensures spent { result ≡ true → Spends 1 1 room.old room.new }
-        ensures log { result ≡ true → self.new.log ≡ self.old.log }
+        ensures outstanding { result ≡ true → self.new.outstanding ≡ self.old.outstanding }
         ensures goes { (m : Moment) → FrontAt self.old m → GuestSteps (m.lanes 0).driver.waiting self.old self.new m room.old.items room.new.items result }
     {
         match self.step_guest() {
@@ -276,11 +276,11 @@ impl Machine {
     /// At most so many stores of the driver.
     fn guest_stores(&mut self, stores: u16, room: &mut Room)
         requires sound { IsSound self.old }
-        requires more { offered_in self.old.log < 2 ^ 64 - 1 }
+        requires more { offered_in self.old.outstanding < 2 ^ 64 - 1 }
         requires fits { FrontFits self.old }
         requires items { stores + 1 ≤ room.old.item_room }
         requires lists { stores + 1 ≤ room.old.lists }
-        ensures frame { self.new ≡ record self.old { memory = self.new.memory; guest = self.new.guest; asked = self.new.asked; log = self.new.log } }
+        ensures frame { self.new ≡ record self.old { memory = self.new.memory; guest = self.new.guest; asked = self.new.asked; outstanding = self.new.outstanding } }
         ensures sound { IsSound self.new }
         ensures position { seen_in self.new.guest ≡ seen_in self.old.guest }
         ensures goes { (m : Moment) (x : Waiting) → FrontAt self.old m → (m.lanes 0).driver.waiting ≡ Some x → GuestGoes stores x self.old self.new m room.old.items room.new.items }
@@ -294,7 +294,7 @@ impl Machine {
 
     fn guest(&mut self, stores: u16) -> Result<Items, Memory>
         requires sound { IsSound self.old }
-        requires more { offered_in self.old.log < 2 ^ 64 - 1 }
+        requires more { offered_in self.old.outstanding < 2 ^ 64 - 1 }
         requires stands { IsStanding self.old }
         ensures header { self.new.header ≡ self.old.header }
         ensures sound { IsSound self.new }
@@ -352,8 +352,8 @@ impl Machine {
         match self.take_element() {
             Collected::Nothing | Collected::Failed => room.note(Item::Idle),
             Collected::Head(head) => {
-                let number = self.log.at(head).number;
-                self.log.collect();
+                let number = self.outstanding.at(head).number;
+                self.outstanding.collect();
                 room.note(Item::Made(Entry::Collect(0, number)));
             }
         }
@@ -407,22 +407,22 @@ impl Machine {
     fn answer(&self, head: u16, room: &mut Room) -> Answered
         requires sound { IsSound self.now }
         requires fits { head < 64 }
-        requires few { (slot_in self.now.log head).reads ≤ 8 }
+        requires few { (slot_in self.now.outstanding head).reads ≤ 8 }
         requires lists { 1 ≤ room.old.lists }
-        ensures answer { result ≡ answer_for (slot_in self.now.log head) (bytes_in self.now.memory) head }
+        ensures answer { result ≡ answer_for (slot_in self.now.outstanding head) (bytes_in self.now.memory) head }
         ensures room { SpendsLists 1 room.old room.new }
     {
         let buffer = buffer_of(0, head);
-        let outstanding = self.log.at(head);
+        let request = self.outstanding.at(head);
         let status = self.memory.byte(self.space, buffer + STATUS);
         let read = if status == VIRTIO_BLK_S_OK {
-            SECTOR_SIZE * usize::from(outstanding.reads)
+            SECTOR_SIZE * usize::from(request.reads)
         } else {
             0
         };
         let bytes = self.memory.bytes(self.space, buffer + SECTORS, read);
         Answered {
-            number: outstanding.number,
+            number: request.number,
             status,
             bytes: room.copy(bytes),
         }
@@ -431,9 +431,9 @@ impl Machine {
     /// The answers of a batch.
     fn batch_answers(&self, queue: &Queue, room: &mut Room) -> Vec<Answered>
         requires sound { IsSound self.now }
-        requires fits { BatchFits self.now.log (state_of queue.now).batch }
+        requires fits { BatchFits self.now.outstanding (state_of queue.now).batch }
         requires room { HasTurnRoom (length (state_of queue.now).batch) room.old }
-        ensures answers { result.items ≡ answers_for self.now.log (bytes_in self.now.memory) (state_of queue.now).batch }
+        ensures answers { result.items ≡ answers_for self.now.outstanding (bytes_in self.now.memory) (state_of queue.now).batch }
         ensures room { SpendsAnswers (length (state_of queue.now).batch) room.old room.new }
     {
         let mut answers = room.answers();
@@ -449,10 +449,10 @@ impl Machine {
     /// The answers of the batch that the next store shows; none if it shows none.
     fn answers(&self, room: &mut Room) -> Vec<Answered>
         requires sound { IsSound self.now }
-        requires fits { BatchFits self.now.log (batch_in self.now.life) }
+        requires fits { BatchFits self.now.outstanding (batch_in self.now.life) }
         requires some { ShowsSome self.now.life }
         requires room { HasTurnRoom (length (batch_in self.now.life)) room.old }
-        ensures answers { result.items ≡ answers_shown self.now.log (bytes_in self.now.memory) self.now.life }
+        ensures answers { result.items ≡ answers_shown self.now.outstanding (bytes_in self.now.memory) self.now.life }
         ensures room { SpendsUpTo (shown_in self.now.life) room.old room.new }
     {
         match &self.life {
@@ -493,21 +493,21 @@ impl Machine {
 
     /// The entry of a turn that stores nothing.
     fn entry_of(&self, stepped: Stepped) -> Option<Entry>
-        ensures { SectorFits (capacity_of self.now.disk) stepped → IsEntry self.now.log (values_of self.now.disk) stepped result }
+        ensures { SectorFits (capacity_of self.now.disk) stepped → IsEntry self.now.outstanding (values_of self.now.disk) stepped result }
     {
         match stepped {
             Stepped::Started => Some(Entry::Start(0, NumberList::new(Vec::new(self.alloc)))),
-            Stepped::Accepted(head) => Some(Entry::Accept(0, self.log.at(head).number)),
+            Stepped::Accepted(head) => Some(Entry::Accept(0, self.outstanding.at(head).number)),
             Stepped::Looked(head, sector) => {
                 let value = self.value_of(sector);
-                Some(Entry::Look(0, self.log.at(head).number, sector, value))
+                Some(Entry::Look(0, self.outstanding.at(head).number, sector, value))
             }
             Stepped::Acted(head, sector) => {
                 let value = self.value_of(sector);
-                Some(Entry::Act(0, self.log.at(head).number, sector, value))
+                Some(Entry::Act(0, self.outstanding.at(head).number, sector, value))
             }
-            Stepped::Synced(head) => Some(Entry::Sync(0, self.log.at(head).number)),
-            Stepped::Faulted(head) => Some(Entry::Fault(0, self.log.at(head).number)),
+            Stepped::Synced(head) => Some(Entry::Sync(0, self.outstanding.at(head).number)),
+            Stepped::Faulted(head) => Some(Entry::Fault(0, self.outstanding.at(head).number)),
             _ => None,
         }
     }
@@ -519,7 +519,7 @@ impl Machine {
         requires sector { SectorFits (capacity_of self.now.disk) stepped }
         requires items { 2 ≤ room.old.item_room }
         requires lists { 1 ≤ room.old.lists }
-        ensures items { room.new.items ≡ room.old.items ++ noted self.now.log (values_of self.now.disk) (stores_in self.now.memory) answers.items stepped }
+        ensures items { room.new.items ≡ room.old.items ++ noted self.now.outstanding (values_of self.now.disk) (stores_in self.now.memory) answers.items stepped }
         ensures spent { SpendsTurn room.old room.new }
     {
         match stepped {
@@ -579,7 +579,7 @@ impl Machine {
     fn turns(&mut self, sequence: Sequence, count: u64, room: &mut Room) -> bool
         requires sound { IsSound self.old }
         requires some { 1 ≤ count }
-        requires room { HasRoom (min count (21 * (offered_in self.old.log - collected_in self.old.log) + 3)) (offered_in self.old.log - collected_in self.old.log) room.old }
+        requires room { HasRoom (min count (21 * (offered_in self.old.outstanding - collected_in self.old.outstanding) + 3)) (offered_in self.old.outstanding - collected_in self.old.outstanding) room.old }
         requires stands { IsStanding self.old }
         ensures frame { self.new ≡ record self.old { memory = self.new.memory; life = self.new.life; disk = self.new.disk } }
         ensures sound { IsSound self.new }
@@ -604,7 +604,7 @@ impl Machine {
         ensures kept { OnErr result (self.new ≡ self.old) }
         ensures plays { IfOk result (λ is. PlaysSingle self.old self.new turn is) }
     {
-        let undone = self.log.outstanding();
+        let undone = self.outstanding.count();
         let mut room = Room::for_turns(self.alloc, &mut self.spare, 1, undone)?;
         if self.step(Choice::Only(turn), &mut room).is_idle() {
             room.note(Item::Idle);
@@ -622,7 +622,7 @@ impl Machine {
         ensures kept { OnErr result (self.new ≡ self.old) }
         ensures plays { IfOk result (λ is. PlaysTurns self.old self.new sequence count is) }
     {
-        let undone = self.log.outstanding();
+        let undone = self.outstanding.count();
         let mut room = Room::for_turns(self.alloc, &mut self.spare, count, undone)?;
         if !self.turns(sequence, count, &mut room) {
             room.note(Item::Idle);
@@ -656,7 +656,7 @@ impl Machine {
 
     fn items_of(&mut self, event: &Event) -> Result<Items, Memory>
         requires fits { IsEvent self.old.header event.now }
-        requires more { offered_in self.old.log < 2 ^ 64 - 1 }
+        requires more { offered_in self.old.outstanding < 2 ^ 64 - 1 }
         requires sound { IsSound self.old }
         requires stands { IsStanding self.old }
         ensures header { self.new.header ≡ self.old.header }
@@ -682,14 +682,14 @@ impl Machine {
     /// Plays an event, and keeps its record.
     pub fn perform(&mut self, event: &Event) -> Result<(), Memory>
         requires fits { IsEvent self.old.header event.now }
-        requires more { offered_in self.old.log < 2 ^ 64 - 1 }
+        requires more { offered_in self.old.outstanding < 2 ^ 64 - 1 }
         requires sound { IsSound self.old }
         requires stands { IsStanding self.old }
         ensures header { self.new.header ≡ self.old.header }
         ensures sound { IsSound self.new }
         ensures stands { IsStanding self.new }
         ensures kept { OnErr result (self.new ≡ self.old) }
-        ensures offers { offered_in self.new.log ≤ offered_in self.old.log + 1 }
+        ensures offers { offered_in self.new.outstanding ≤ offered_in self.old.outstanding + 1 }
         ensures event { OnOk result (self.new.last.event ≡ event.now) }
         ensures on { OnOk result (StandsOn self.old self.new event.now self.new.last) }
     {
@@ -703,7 +703,7 @@ impl Machine {
     /// Plays an event, and lends its record.
     pub fn event(&mut self, event: &Event) -> Result<&Record, Memory>
         requires fits { IsEvent self.old.header event.now }
-        requires more { offered_in self.old.log < 2 ^ 64 - 1 }
+        requires more { offered_in self.old.outstanding < 2 ^ 64 - 1 }
         requires sound { IsSound self.old }
         requires stands { IsStanding self.old }
         ensures* after { sem 𝓛 (LendsSound self.entry event.now result) }

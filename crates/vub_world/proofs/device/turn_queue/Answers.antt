@@ -29,7 +29,7 @@ pub returns-clause-unfailed : goal.returns-clause-unfailed
 returns-clause-unfailed c = unfailed_after c
 
 pub returns-clause-turns : goal.returns-clause-turns
-returns-clause-turns c h r m log reached cap main room at numbered =
+returns-clause-turns c h r m outstanding reached cap main room at numbered =
     let q : QueueState = state_of c.args.queue.now in
     let b : Bytes = bytes_in c.args.memory.now in
     let d : Device = device c.args.queue.now c.args.memory.now c.args.disk.now in
@@ -52,7 +52,7 @@ returns-clause-turns c h r m log reached cap main room at numbered =
     let same : t ≡ turn_here h c.args.choice m = turn_same h r m q b c.args.choice main at.stands at.memory_is in
     let rests : (place : ℕ) → turn_here h c.args.choice m ≡ turns.Work place → is_ready (standing h 0 m) (turns.Work place) ≡ false → RestsAt d now x =
     λ place is unready. c.turn.ensures.rests (waiting q b) place runs (work_asked h.size (standing h 0 m) c.args.choice place is unready) (ap (λ (s : Standing). is_ready s (turns.Work place)) here.standing_is ∙ unready) in
-    device_turns h r m log (sizes_in c.args.memory.now) (turn_here h c.args.choice m) d now x
+    device_turns h r m outstanding (sizes_in c.args.memory.now) (turn_here h c.args.choice m) d now x
     (record { plain = reached_plain h m reached; good = holds.0; chained = holds.1; main = main; at = at; fresh = c.requires.fresh; numbered = numbered })
     room rests
     (subst (λ (u : Turn). DeviceDoes u h.capacity (sizes_in c.args.memory.now) d now x) same does)

@@ -10,7 +10,7 @@ use Rattle.vub_world.proofs.machine.Machine.answers.Goals as goal
 pub batch_answers-requires-clause-fits : goal.batch_answers-requires-clause-fits
 batch_answers-requires-clause-fits c =
     let joined : c.in-Some-Some.field-0.queue ≡ Some c.in-Some-Some.queue = search rules in
-    subst (λ (o : Option Queue). BatchFits c.args.self.now.log (queue_batch o)) joined (subst (λ (life : Option Life). BatchFits c.args.self.now.log (batch_in life)) c.in-Some-Some.is c.requires.fits)
+    subst (λ (o : Option Queue). BatchFits c.args.self.now.outstanding (queue_batch o)) joined (subst (λ (life : Option Life). BatchFits c.args.self.now.outstanding (batch_in life)) c.in-Some-Some.is c.requires.fits)
 
 pub returns-in-Some-Some-clause-room : goal.returns-in-Some-Some-clause-room
 returns-in-Some-Some-clause-room c =

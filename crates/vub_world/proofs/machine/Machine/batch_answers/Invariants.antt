@@ -7,6 +7,6 @@ use Rattle.vub_world.proofs.machine.Machine.batch_answers.Given as goal
 
 abbrev pub invariant-loop-element : goal.invariant-loop-element
 invariant-loop-element l =
-    (l.answers.items ≡ answers_for l.self.log (bytes_in l.self.memory) (take l.element (state_of l.queue).batch))
+    (l.answers.items ≡ answers_for l.self.outstanding (bytes_in l.self.memory) (take l.element (state_of l.queue).batch))
     × (l.fn.room.answers ≤ vec_capacity l.answers)
     × SpendsAnswers l.element l.fn.room l.room

@@ -1,22 +1,30 @@
-use Rattle.std.proofs.Common.{◌≡◌, ◌++◌, ◌∷◌, List, [], sym, ap, subst, ◌∙◌, inl, inr}
+use Rattle.std.proofs.Common.{◌≡◌, ◌<◌, ◌++◌, ◌∷◌, List, [], sym, ap, subst, ◌∙◌, inl, inr}
 use Rattle.vub_device.specs.declared.entry.Entry.TheVariants as entries
 use Rattle.vub_driver.specs.Layout.{ring_of}
 use Rattle.vub_shared.specs.Watched.{bytes_in}
 use Rattle.vub_guest.specs.declared.guest.Collected.{Collected}
 use Rattle.vub_guest.specs.declared.guest.Collected.TheVariants as takes
-use Rattle.vub_world.specs.declared.log.Log.{Log}
-use Rattle.vub_world.specs.declared.log.Outstanding.{Outstanding}
+use Rattle.vub_world.specs.declared.outstanding.OutstandingRequests.{OutstandingRequests}
+use Rattle.vub_world.specs.declared.outstanding.OutstandingRequest.{OutstandingRequest}
 use Rattle.vub_world.specs.declared.machine.Machine.{Machine}
 use Rattle.vub_report.specs.declared.items.Item.{Item}
 use Rattle.vub_report.specs.declared.items.Item.TheVariants as items
 use Rattle.vub_guest.specs.GuestState.{driver_in, seen_in, Shows, Collects}
-use Rattle.vub_world.specs.Logs.{slot_in}
+use Rattle.vub_world.specs.OutstandingRequests.{offered_in, collected_in, slot_in}
 use Rattle.vub_world.specs.MachineAt.{MachineAt}
 use Rattle.vub_room.specs.Rooms.{RoomState}
 use Rattle.vub_run.specs.Run.{played}
-use Rattle.vub_world.proofs.MachineGuestCollects.{TakesOne, none_performs, head_performs}
+use Rattle.vub_world.proofs.MachineGuestCollects.{TakesOne, one_is_left, none_performs, head_performs}
 use Rattle.vub_world.proofs.machine.Machine.collect.Goals.{in-Nothing, in-Head}
 use Rattle.vub_world.proofs.machine.Machine.collect.Goals as goal
+
+pub collect-requires : goal.collect-requires
+collect-requires c =
+    let w : Machine = c.args.self.now in
+    let t = c.take_element.ensures in
+    let same : c.take_element.new.self.outstanding ≡ w.outstanding = ap (λ (u : Machine). u.outstanding) t.frame in
+    let shown = subst (λ (x : Collected). Shows x (ring_of 0 w.header.size) (bytes_in w.memory) (seen_in w.guest)) c.in-Head.is t.shown in
+    record { some = subst (λ (l : OutstandingRequests). collected_in l < offered_in l) (sym same) (one_is_left w c.requires.stands shown.0) }
 
 pub returns-clause-performs : goal.returns-clause-performs
 returns-clause-performs c es rs m s at = elim c.match-take_element.branch [
@@ -38,18 +46,18 @@ returns-clause-performs c es rs m s at = elim c.match-take_element.branch [
       let w : Machine = c.args.self.now in
       let t = c.take_element.ensures in
       let taken : Machine = c.take_element.new.self in
-      let log : Log = b.collect.new.self in
+      let outstanding : OutstandingRequests = b.collect.new.self in
       let head = b.in-Head.head in
-      let same : taken.log ≡ w.log = ap (λ (u : Machine). u.log) t.frame in
+      let same : taken.outstanding ≡ w.outstanding = ap (λ (u : Machine). u.outstanding) t.frame in
       let shown = subst (λ (x : Collected). Shows x (ring_of 0 w.header.size) (bytes_in w.memory) (seen_in w.guest)) b.in-Head.is t.shown in
       let driver = subst (λ (x : Collected). Collects x (driver_in w.guest) (driver_in taken.guest) (seen_in w.guest) (seen_in taken.guest)) b.in-Head.is t.driver in
-      let one : TakesOne taken.log log = record { collects = b.collect.ensures.collected; offers = b.collect.ensures.offered; places = b.collect.ensures.size; slots = b.collect.ensures.slots } in
-      let done = head_performs w taken.memory taken.guest log es rs m head s at t.memory shown.0 shown.1 driver.0 driver.1 (subst (λ (l : Log). TakesOne l log) same one) in
-      let found : b.at-number.result ≡ slot_in w.log head = b.at-number.ensures ∙ ap (λ (l : Log). slot_in l head) same in
-      let noted : c.into_items.result ≡ items.Made (entries.Collect 0 (slot_in w.log head).number) ∷ [] =
+      let one : TakesOne taken.outstanding outstanding = record { collects = b.collect.ensures.collected; offers = b.collect.ensures.offered; places = b.collect.ensures.size; slots = b.collect.ensures.slots } in
+      let done = head_performs w taken.memory taken.guest outstanding es rs m head s at t.memory shown.0 shown.1 driver.0 driver.1 (subst (λ (l : OutstandingRequests). TakesOne l outstanding) same one) in
+      let found : b.at-number.result ≡ slot_in w.outstanding head = b.at-number.ensures ∙ ap (λ (l : OutstandingRequests). slot_in l head) same in
+      let noted : c.into_items.result ≡ items.Made (entries.Collect 0 (slot_in w.outstanding head).number) ∷ [] =
       c.into_items.ensures ∙ ap (λ (r : RoomState). r.items) (b.room-is ∙ b.note-in-Head.ensures)
       ∙ ap (λ (r : RoomState). r.items ++ items.Made (entries.Collect 0 b.at-number.result.number) ∷ []) c.in_ok-room.ensures
-      ∙ ap (λ (o : Outstanding). items.Made (entries.Collect 0 o.number) ∷ []) found in
-      let self : c.match-take_element.self ≡ record w { memory = taken.memory; guest = taken.guest; log = log } = b.self-is ∙ ap (λ (u : Machine). record u { log = log }) t.frame in
+      ∙ ap (λ (o : OutstandingRequest). items.Made (entries.Collect 0 o.number) ∷ []) found in
+      let self : c.match-take_element.self ≡ record w { memory = taken.memory; guest = taken.guest; outstanding = outstanding } = b.self-is ∙ ap (λ (u : Machine). record u { outstanding = outstanding }) t.frame in
       (done.0, ap (λ (js : List Item). played js done.0) noted ∙ done.1, subst (λ (u : Machine). MachineAt u done.0) (sym self) done.2)
 ]

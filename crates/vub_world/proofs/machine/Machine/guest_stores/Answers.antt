@@ -1,7 +1,7 @@
 use Rattle.std.proofs.Common.{subst, sym, ◌<◌, ◌∙◌, ◌≡◌, ℕ, arith, Bool}
 use Rattle.vub_world.proofs.MachineGuests.{GuestLoop, loop_begins, frame_more, loop_more, loop_last}
-use Rattle.vub_world.specs.declared.log.Log.{Log}
-use Rattle.vub_world.specs.Logs.{offered_in}
+use Rattle.vub_world.specs.declared.outstanding.OutstandingRequests.{OutstandingRequests}
+use Rattle.vub_world.specs.OutstandingRequests.{offered_in}
 use Rattle.vub_world.specs.MachineFront.{GuestSteps, GuestGoes}
 use Rattle.vub_world.proofs.machine.Machine.guest_stores.Goals as goal
 
@@ -12,7 +12,7 @@ pub guest_store-requires-clause-sound : goal.guest_store-requires-clause-sound
 guest_store-requires-clause-sound c = c.loop-done.invariant.sound
 
 pub guest_store-requires-clause-more : goal.guest_store-requires-clause-more
-guest_store-requires-clause-more c = subst (λ (l : Log). offered_in l < 18446744073709551615) (sym c.loop-done.invariant.log) c.requires.more
+guest_store-requires-clause-more c = subst (λ (l : OutstandingRequests). offered_in l < 18446744073709551615) (sym c.loop-done.invariant.outstanding) c.requires.more
 
 pub guest_store-requires-clause-fits : goal.guest_store-requires-clause-fits
 guest_store-requires-clause-fits c = c.loop-done.invariant.fits
@@ -41,7 +41,7 @@ loop-done-preserved c =
     let v = c.loop-done.self in
     let now = c.guest_store.new.self in
     subst (λ (k : ℕ). GuestLoop k c.args.self.now now c.args.room.now c.guest_store.new.room) (omega arith) (loop_more c.loop-done.done c.args.self.now v now c.args.room.now c.loop-done.room c.guest_store.new.room c.loop-done.invariant
-    c.guest_store.ensures.frame c.guest_store.ensures.sound c.guest_store.ensures.fits (c.guest_store.ensures.log c.if-not-guest_store.false) c.guest_store.ensures.position (c.guest_store.ensures.spent c.if-not-guest_store.false)
+    c.guest_store.ensures.frame c.guest_store.ensures.sound c.guest_store.ensures.fits (c.guest_store.ensures.outstanding c.if-not-guest_store.false) c.guest_store.ensures.position (c.guest_store.ensures.spent c.if-not-guest_store.false)
     (λ n f. subst (λ (b : Bool). GuestSteps (n.lanes 0).driver.waiting v now n c.loop-done.room.items c.guest_store.new.room.items b) c.if-not-guest_store.false (c.guest_store.ensures.goes n f)))
 
 pub returns-clause-frame : goal.returns-clause-frame

@@ -8,7 +8,7 @@ use Rattle.vub_world.proofs.machine.Machine.several.Goals.{then-not-turns, else-
 use Rattle.vub_world.proofs.machine.Machine.several.Goals as goal
 
 pub for_turns-requires : goal.for_turns-requires
-for_turns-requires c = record { few = subst (λ (n : ℕ). n ≤ 64) (sym c.outstanding-undone.ensures) (standing_few c.args.self.now c.requires.stands) }
+for_turns-requires c = record { few = subst (λ (n : ℕ). n ≤ 64) (sym c.count-undone.ensures) (standing_few c.args.self.now c.requires.stands) }
 
 pub returns-clause-plays : goal.returns-clause-plays
 returns-clause-plays c es rs m stands at =

@@ -12,14 +12,14 @@ use Rattle.vub_world.proofs.machine.Machine.single.Goals.{then-is_idle, else-is_
 use Rattle.vub_world.proofs.machine.Machine.single.Goals as goal
 
 pub for_turns-requires : goal.for_turns-requires
-for_turns-requires c = record { few = subst (λ (n : ℕ). n ≤ 64) (sym c.outstanding-undone.ensures) (standing_few c.args.self.now c.requires.stands) }
+for_turns-requires c = record { few = subst (λ (n : ℕ). n ≤ 64) (sym c.count-undone.ensures) (standing_few c.args.self.now c.requires.stands) }
 
 pub step-requires-clause-stands : goal.step-requires-clause-stands
 step-requires-clause-stands c = standing_reached c.args.self.now c.requires.stands
 
 pub step-requires-clause-room : goal.step-requires-clause-room
 step-requires-clause-room c =
-    single_room c.args.self.now c.in_ok-room.room c.requires.stands (subst (λ (n : ℕ). HasRoom (min 1 (21 * n + 3)) n c.in_ok-room.room) c.outstanding-undone.ensures c.in_ok-room.ensures.room)
+    single_room c.args.self.now c.in_ok-room.room c.requires.stands (subst (λ (n : ℕ). HasRoom (min 1 (21 * n + 3)) n c.in_ok-room.room) c.count-undone.ensures c.in_ok-room.ensures.room)
 
 pub returns-clause-plays : goal.returns-clause-plays
 returns-clause-plays c es rs m stands at =

@@ -60,6 +60,6 @@ returns-clause-goes c m reached at =
     let t : Turn = turn_here w.header c.args.choice m in
     let other : is_idle x ≡ false = search in
     let same : c.answers-answers.new.room.items ≡ c.args.room.now.items = same_items (shown_in w.life) c.args.room.now c.answers-answers.new.room c.answers-answers.ensures.room in
-    let notes = c.note_turn.ensures.items ∙ ap (λ is. is ++ noted now.log (values_of now.disk) (stores_in now.memory) c.answers-answers.result.items x) same in
+    let notes = c.note_turn.ensures.items ∙ ap (λ is. is ++ noted now.outstanding (values_of now.disk) (stores_in now.memory) c.answers-answers.result.items x) same in
     subst (λ (b : Bool). StepGoes (not b) t w now m c.args.room.now.items c.note_turn.new.room.items 0 (accepts x)) (sym other)
     (step_made t w now m x c.args.room.now.items c.note_turn.new.room.items c.answers-answers.result.items other (c.turn-stepped.ensures.turns m reached at) c.answers-answers.ensures.answers notes)

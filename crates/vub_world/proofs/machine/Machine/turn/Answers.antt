@@ -27,7 +27,7 @@ returns-in-Some-Some-clause-turns c m reached at =
     let same = c.restart.ensures.memory in
     let has : HasQueue w m q = record { good = (reached_holds w.header m reached).0; at = at; life_is = life_is } in
     turn_goes w m q c.turn_queue.new.queue (turn_here w.header c.args.choice m) c.restart.new.self c.turn_queue.new.memory c.turn_queue.new.disk c.turn_queue.result has (kept_bytes w c.restart.new.self same)
-    (λ d. c.turn_queue.ensures.turns w.header w.ring m w.log reached c.requires.sound.disk c.requires.sound.ring (kept_room w c.restart.new.self c.requires.sound same) d at.log)
+    (λ d. c.turn_queue.ensures.turns w.header w.ring m w.outstanding reached c.requires.sound.disk c.requires.sound.ring (kept_room w c.restart.new.self c.requires.sound same) d at.outstanding)
 
 pub returns-in_default-2-clause-turns : goal.returns-in_default-2-clause-turns
 returns-in_default-2-clause-turns c m reached at =

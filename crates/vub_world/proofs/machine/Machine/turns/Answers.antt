@@ -13,7 +13,7 @@ loop-done-init c = record {
   sound = c.requires.sound;
   goes = λ es rs m stands at.
       let w : Machine = c.args.self.now in
-      turns_begin w.header c.args.sequence m w c.args.room.now.items (room_of c.args.count w) (w.log.offered - w.log.collected) c.args.room.now at (undone_few w.header m w (stands_good w.header es rs m stands) at) c.requires.room;
+      turns_begin w.header c.args.sequence m w c.args.room.now.items (room_of c.args.count w) (w.outstanding.offered - w.outstanding.collected) c.args.room.now at (undone_few w.header m w (stands_good w.header es rs m stands) at) c.requires.room;
   idle = λ none. refl;
 }
 
@@ -33,7 +33,7 @@ next_step-requires-clause-room c =
     let same = ap (λ (x : Machine). x.header) c.loop-done.invariant.frame in
     let d = c.loop-done.invariant.goes s.0 s.1 s.2.0 s.2.1 s.2.2 in
     let few = undone_few w.header s.2.0 w (stands_good w.header s.0 s.1 s.2.0 s.2.1) s.2.2 in
-    let left = room_left w.header c.args.sequence s.0 s.1 s.2.0 c.args.count (w.log.offered - w.log.collected) c.loop-done.done c.loop-done.self c.args.room.now.items c.loop-done.room.items c.loop-done.accepted c.loop-done.room s.2.1 few c.loop-done-test.true d in
+    let left = room_left w.header c.args.sequence s.0 s.1 s.2.0 c.args.count (w.outstanding.offered - w.outstanding.collected) c.loop-done.done c.loop-done.self c.args.room.now.items c.loop-done.room.items c.loop-done.accepted c.loop-done.room s.2.1 few c.loop-done-test.true d in
     turn_room w.header c.args.sequence s.0 s.1 s.2.0 (room_of c.args.count w) c.loop-done.done c.loop-done.self c.args.room.now.items c.loop-done.room.items c.loop-done.accepted c.loop-done.room s.2.1 same left d
 
 pub returns-then-not-next_step-clause-turns : goal.returns-then-not-next_step-clause-turns
@@ -61,7 +61,7 @@ loop-done-preserved c = record {
       let there = subst (λ (k : Header1). IsReached k n) (sym same) (reached w.header c.args.sequence es rs m c.loop-done.done stands) in
       let few = turns_taken w.header c.args.sequence es rs m (room_of c.args.count w) c.loop-done.done c.loop-done.self c.args.room.now.items c.loop-done.room.items c.loop-done.accepted c.loop-done.room stands d in
       let undone_are = undone_few w.header m w (stands_good w.header es rs m stands) at in
-      let left = room_left w.header c.args.sequence es rs m c.args.count (w.log.offered - w.log.collected) c.loop-done.done c.loop-done.self c.args.room.now.items c.loop-done.room.items c.loop-done.accepted c.loop-done.room stands undone_are c.loop-done-test.true d in
+      let left = room_left w.header c.args.sequence es rs m c.args.count (w.outstanding.offered - w.outstanding.collected) c.loop-done.done c.loop-done.self c.args.room.now.items c.loop-done.room.items c.loop-done.accepted c.loop-done.room stands undone_are c.loop-done-test.true d in
       let next : suc c.loop-done.done ≡ c.loop-done.done + 1 = omega arith in
       subst (λ (k : ℕ). TurnsAt w.header c.args.sequence m (room_of c.args.count w) k c.next_step.new.self c.args.room.now.items c.next_step.new.room.items c.next_step.new.accepted c.next_step.new.room) next
       (turns_go_on w.header c.args.sequence es rs m (room_of c.args.count w) c.loop-done.done c.loop-done.self c.next_step.new.self c.args.room.now.items c.loop-done.room.items c.next_step.new.room.items c.loop-done.accepted c.next_step.new.accepted c.loop-done.room c.next_step.new.room stands same left d

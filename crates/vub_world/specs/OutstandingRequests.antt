@@ -1,38 +1,38 @@
--- What a log tells of a queue's requests.
+-- What the table of a queue's outstanding requests tells.
 use Rattle.std.specs.Prelude.{◌≡◌, ℕ, ◌+◌, ◌==◌, ◌&&◌, nat_lt, if◌then◌else◌, length, get_or}
 use Rattle.vub_base.specs.declared.request.Ask.{Ask}
 use Rattle.vub_base.specs.declared.request.Ask.TheVariants as asks
-use Rattle.vub_world.specs.declared.log.Log.{Log}
-use Rattle.vub_world.specs.declared.log.Outstanding.{Outstanding}
+use Rattle.vub_world.specs.declared.outstanding.OutstandingRequests.{OutstandingRequests}
+use Rattle.vub_world.specs.declared.outstanding.OutstandingRequest.{OutstandingRequest}
 
 -- how many requests were offered, and how many collected
-abbrev pub offered_in : Log → ℕ
+abbrev pub offered_in : OutstandingRequests → ℕ
 offered_in l = l.offered
 
-abbrev pub collected_in : Log → ℕ
+abbrev pub collected_in : OutstandingRequests → ℕ
 collected_in l = l.collected
 
 -- for how many heads it has a slot
-abbrev pub size_in : Log → ℕ
-size_in l = length l.outstanding.items
+abbrev pub size_in : OutstandingRequests → ℕ
+size_in l = length l.by_head.items
 
-abbrev pub no_request : Outstanding
+abbrev pub no_request : OutstandingRequest
 no_request = record { number = 0; reads = 0 }
 
 -- what it has under a head
-abbrev pub slot_in : Log → ℕ → Outstanding
-slot_in l head = get_or l.outstanding.items head no_request
+abbrev pub slot_in : OutstandingRequests → ℕ → OutstandingRequest
+slot_in l head = get_or l.by_head.items head no_request
 
 -- how many sectors a request reads
 abbrev pub reads_in : Ask → ℕ
 reads_in (asks.Read s n) = n
 reads_in a = 0
 
-abbrev pub new_slot : Log → Ask → Outstanding
+abbrev pub new_slot : OutstandingRequests → Ask → OutstandingRequest
 new_slot l a = record { number = offered_in l; reads = reads_in a }
 
--- a request is noted under a head, if the log has a slot for it
-pub record Offers (before now : Log) (head : ℕ) (a : Ask) : Type 0 where
+-- a request is noted under a head, if the table has a slot for it
+pub record Offers (before now : OutstandingRequests) (head : ℕ) (a : Ask) : Type 0 where
   pub offered : offered_in now ≡ offered_in before + 1
   pub collected : collected_in now ≡ collected_in before
   pub size : size_in now ≡ size_in before

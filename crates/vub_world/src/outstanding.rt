@@ -1,30 +1,30 @@
-//! What the records tell of one queue's requests.
+//! A queue's outstanding requests: offered and not collected.
 ghost use Rattle.std.specs.Prelude.{◌≡◌, ◌<◌, ◌+◌, ◌-◌, ◌^◌, ℕ, IfOk};
-ghost use Rattle.vub_world.specs.Logs.{reads_in};
+ghost use Rattle.vub_world.specs.OutstandingRequests.{reads_in};
 
 use std::alloc::Global;
 use vub_base::{Ask, Memory};
 
 /// A request that was offered and not collected.
 #[derive(Clone, Copy, Debug, PartialEq, Eq)]
-pub struct Outstanding {
+pub struct OutstandingRequest {
     /// Which offer of its queue it is, from 0.
     pub number: u64,
     /// How many sectors it reads.
     pub reads: u16,
 }
 
-/// The numbers of a queue's requests.
+/// The outstanding requests of a queue, by head, and how many were offered and collected.
 #[derive(Debug, Drop)]
-pub struct Log {
+pub struct OutstandingRequests {
     offered: u64,
     collected: u64,
     // By head.
-    outstanding: Vec<Outstanding>,
+    by_head: Vec<OutstandingRequest>,
 }
 
 /// No request.
-const NONE: Outstanding = Outstanding {
+const NONE: OutstandingRequest = OutstandingRequest {
     number: 0,
     reads: 0,
 };
@@ -38,19 +38,19 @@ fn reads(ask: &Ask) -> u16
     }
 }
 
-impl Log {
-    ghost use Rattle.vub_world.specs.Logs.{offered_in, collected_in, size_in, slot_in, Offers};
+impl OutstandingRequests {
+    ghost use Rattle.vub_world.specs.OutstandingRequests.{offered_in, collected_in, size_in, slot_in, Offers};
 
-    /// The log of a queue of so many places, with no request.
-    pub fn new(alloc: Global, size: u16) -> Result<Log, Memory>
+    /// Those of a queue of so many places: none.
+    pub fn new(alloc: Global, size: u16) -> Result<OutstandingRequests, Memory>
         ensures offered { IfOk result (λ l. offered_in l ≡ 0) }
         ensures collected { IfOk result (λ l. collected_in l ≡ 0) }
         ensures size { IfOk result (λ l. size_in l ≡ size) }
     {
-        Ok(Log {
+        Ok(OutstandingRequests {
             offered: 0,
             collected: 0,
-            outstanding: vec![in alloc; NONE; usize::from(size)].map_err(|_| Memory)?,
+            by_head: vec![in alloc; NONE; usize::from(size)].map_err(|_| Memory)?,
         })
     }
 
@@ -59,41 +59,40 @@ impl Log {
         requires more { offered_in self.old < 2 ^ 64 - 1 }
         ensures { Offers self.old self.new head ask.now }
     {
-        let slot = Outstanding {
+        let slot = OutstandingRequest {
             number: self.offered,
             reads: reads(ask),
         };
         let place = usize::from(head);
-        if place < self.outstanding.len() {
-            self.outstanding[place] = slot;
+        if place < self.by_head.len() {
+            self.by_head[place] = slot;
         }
         self.offered += 1;
     }
 
     /// The request that was offered last under a head.
-    pub fn at(&self, head: u16) -> Outstanding
+    pub fn at(&self, head: u16) -> OutstandingRequest
         ensures { result ≡ slot_in self.now head }
     {
-        match self.outstanding.get(usize::from(head)) {
+        match self.by_head.get(usize::from(head)) {
             Some(found) => *found,
             None => NONE,
         }
     }
 
-    /// Notes that a request was collected, if one is outstanding.
+    /// Notes that a request was collected.
     pub fn collect(&mut self)
-        ensures collected { collected_in self.old < offered_in self.old → collected_in self.new ≡ collected_in self.old + 1 }
+        requires some { collected_in self.old < offered_in self.old }
+        ensures collected { collected_in self.new ≡ collected_in self.old + 1 }
         ensures offered { offered_in self.new ≡ offered_in self.old }
         ensures size { size_in self.new ≡ size_in self.old }
         ensures slots { (d : ℕ) → slot_in self.new d ≡ slot_in self.old d }
     {
-        if self.collected < self.offered {
-            self.collected += 1;
-        }
+        self.collected += 1;
     }
 
     /// How many requests are offered and not collected.
-    pub fn outstanding(&self) -> u64
+    pub fn count(&self) -> u64
         ensures { result ≡ offered_in self.now - collected_in self.now }
     {
         self.offered.saturating_sub(self.collected)
