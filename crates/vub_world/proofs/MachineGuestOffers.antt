@@ -168,13 +168,8 @@ offered_at w memory guest' asked' outstanding es rs m x is count position s at f
     let front : FrontAt now (moment_with count x m (offered_scene h r b m.scene)) = subst (λ (n : Moment). FrontAt now n) whole goes.front in
     let good_next : Good h (moment_with count x m (offered_scene h r b m.scene)) = subst (λ (n : Moment). Good h n) whole later in
     let shown : head_shown now ≡ last_head (the_ring h.size) b = ap (λ (bs : Bytes). last_head (the_ring h.size) bs) front.memory in
-<<<<<<< HEAD
-    let offers : Offers w.log log (last_head (the_ring h.size) b) x.ask = subst (λ (d : ℕ). Offers w.log log d x.ask) shown (goes.log.offers few) in
-    let stands : MachineAt now (moment_with count x m (offered_scene h r b m.scene)) = record {
-=======
     let offers : Offers w.outstanding outstanding (last_head (the_ring h.size) b) x.ask = subst (λ (d : ℕ). Offers w.outstanding outstanding d x.ask) shown (goes.outstanding.offers few) in
-    let stands : MachineAt now (moment_with count x m (offered_scene h.size r b m.scene)) = record {
->>>>>>> f785269063db1ec5b86aa2827372b5458e7c5c8d
+    let stands : MachineAt now (moment_with count x m (offered_scene h r b m.scene)) = record {
       front = front;
       position = position ∙ at.position;
       life = offered_life h w.ring count m x r b w.life good at.life;

@@ -290,13 +290,8 @@ shown_is : (outstanding : OutstandingRequests) (m : Bytes) (q : QueueState) → 
 shown_is outstanding m q next = ap (λ (o : Option Step). cond {A = List Answered} (is_index o) (answers_for outstanding m q.batch) []) next
 
 -- what a turn of a publication leaves, whichever step it makes
-<<<<<<< HEAD
-left_at : (h : Header1) (r : SplitRing) (m : Moment) (log : Log) (most : ℕ) (d now : Device) (tag : Tag) (y : Row) → TurnAt h r m log d → QueueStands h r (one_turn h 0 (turns.Publish most) m).next now.queue → now.values ≡ d.values
-    → y.store.space ≡ 0 → StoredRow d now y → (one_turn h 0 (turns.Publish most) m).next.scene.memory ≡ (after_items h (items.Store tag M y.store.place y.store.bytes ∷ []) m.scene).memory
-=======
 left_at : (h : Header1) (r : SplitRing) (m : Moment) (outstanding : OutstandingRequests) (most : ℕ) (d now : Device) (tag : Tag) (y : Row) → TurnAt h r m outstanding d → QueueStands h r (one_turn h 0 (turns.Publish most) m).next now.queue → now.values ≡ d.values
-    → y.store.space ≡ 0 → StoredRow d now y → (one_turn h 0 (turns.Publish most) m).next.scene.memory ≡ (after_items h.size (items.Store tag M y.store.place y.store.bytes ∷ []) m.scene).memory
->>>>>>> f785269063db1ec5b86aa2827372b5458e7c5c8d
+    → y.store.space ≡ 0 → StoredRow d now y → (one_turn h 0 (turns.Publish most) m).next.scene.memory ≡ (after_items h (items.Store tag M y.store.place y.store.bytes ∷ []) m.scene).memory
     → DeviceAt h r (one_turn h 0 (turns.Publish most) m).next now
 left_at h r m outstanding most d now tag y a stands values space s memory = record {
   stands = stands;
@@ -310,13 +305,8 @@ show_made : (h : Header1) (r : SplitRing) (m : Moment) (outstanding : Outstandin
 show_made h r m outstanding most d now x y a at has next s small off =
     let list : List Answered = map (answer_at 0 (after_row h y m.scene)) (m.lanes 0).batch in
     let none : accepts x ≡ 0 = ap accepts has.said in
-<<<<<<< HEAD
     let same : accepted (one_turn h 0 (turns.Publish most) m).next.scene.past 0 ≡ accepted m.scene.past 0 = ap (λ (is : List Item). accepted (after_items h is m.scene).past 0) has.items in
-    let answers : shown_of log d.memory d.queue ≡ list = shown_is log d.memory d.queue next ∙ answers_same h r m log d y a off in
-=======
-    let same : accepted (one_turn h 0 (turns.Publish most) m).next.scene.past 0 ≡ accepted m.scene.past 0 = ap (λ (is : List Item). accepted (after_items h.size is m.scene).past 0) has.items in
     let answers : shown_of outstanding d.memory d.queue ≡ list = shown_is outstanding d.memory d.queue next ∙ answers_same h r m outstanding d y a off in
->>>>>>> f785269063db1ec5b86aa2827372b5458e7c5c8d
     record {
       goes = ap is_idle has.said;
       at = at;
@@ -370,23 +360,13 @@ publish_made h r m outstanding cap sizes most d now x a ready does =
           let has : HasShown h m most x y = shown_stands h r m most x d.queue now.queue y a.at.stands p next in
           let s : StoredRow d now y = stored_row d now x (publish_row most d.queue) y (ap outcome has.said) p.row a.fresh does.stores_are does.trails in
           let off = index_place d.queue most y next p.row (ap (λ (z : SplitRing). z.used.1) a.at.stands.ring ∙ a.main.used) in
-<<<<<<< HEAD
-          let at = left_at h r m log most d now SP5 y a p.stands values p.space s (ap (λ (is : List Item). (after_items h is m.scene).memory) has.items) in
-          show_made h r m log most d now x y a at has next s small off
-      | inr other ↦
-          let part = stored_stands h r m most x d.queue now.queue y a.good a.at.stands ready p other in
-          let s : StoredRow d now y = stored_row d now x (publish_row most d.queue) y (ap outcome part.said) p.row a.fresh does.stores_are does.trails in
-          let at = left_at h r m log most d now y.tag y a p.stands values p.space s (ap (λ (is : List Item). (after_items h is m.scene).memory) part.items) in
-          part_made h r m log most d now x y at part s small
-=======
-          let at = left_at h r m outstanding most d now SP5 y a p.stands values p.space s (ap (λ (is : List Item). (after_items h.size is m.scene).memory) has.items) in
+          let at = left_at h r m outstanding most d now SP5 y a p.stands values p.space s (ap (λ (is : List Item). (after_items h is m.scene).memory) has.items) in
           show_made h r m outstanding most d now x y a at has next s small off
       | inr other ↦
           let part = stored_stands h r m most x d.queue now.queue y a.good a.at.stands ready p other in
           let s : StoredRow d now y = stored_row d now x (publish_row most d.queue) y (ap outcome part.said) p.row a.fresh does.stores_are does.trails in
-          let at = left_at h r m outstanding most d now y.tag y a p.stands values p.space s (ap (λ (is : List Item). (after_items h.size is m.scene).memory) part.items) in
+          let at = left_at h r m outstanding most d now y.tag y a p.stands values p.space s (ap (λ (is : List Item). (after_items h is m.scene).memory) part.items) in
           part_made h r m outstanding most d now x y at part s small
->>>>>>> f785269063db1ec5b86aa2827372b5458e7c5c8d
     ]
 
 -- ---- a turn that isn't due

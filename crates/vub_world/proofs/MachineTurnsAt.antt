@@ -76,35 +76,19 @@ shows_keeps h tag [] answers s = record { heads_are = refl; collects = refl; ask
 shows_keeps h tag (st ∷ []) answers s = record { heads_are = refl; collects = refl; asked_are = λ k. refl; more = numbers answers; shown = refl }
 shows_keeps h tag (st ∷ next ∷ stores) answers s = record { heads_are = refl; collects = refl; asked_are = λ k. refl; more = numbers answers; shown = refl }
 
-<<<<<<< HEAD
-noted_keeps : (h : Header1) (log : Log) (v : Values) (stores : List Store) (answers : List Answered) (x : Stepped) (s : Scene) → Keeps s (after_items h (noted log v stores answers x) s)
-noted_keeps h log v stores answers (says.Stored tag) s = same_keeps s _ (stores_same h tag stores s)
-noted_keeps h log v stores answers (says.Completed head) s = same_keeps s _ (stores_same h T5 stores s)
-noted_keeps h log v stores answers says.Published s = shows_keeps h SP5 stores answers s
-noted_keeps h log v stores answers says.Started s = same_keeps s _ (refl, refl, λ k. refl, refl)
-noted_keeps h log v stores answers (says.Accepted head) s = same_keeps s _ (refl, refl, λ k. refl, refl)
-noted_keeps h log v stores answers (says.Looked head sector) s = same_keeps s _ (refl, refl, λ k. refl, refl)
-noted_keeps h log v stores answers (says.Acted head sector) s = same_keeps s _ (refl, refl, λ k. refl, refl)
-noted_keeps h log v stores answers (says.Synced head) s = same_keeps s _ (refl, refl, λ k. refl, refl)
-noted_keeps h log v stores answers (says.Faulted head) s = same_keeps s _ (refl, refl, λ k. refl, refl)
-noted_keeps h log v stores answers says.Idle s = same_keeps s _ (refl, refl, λ k. refl, refl)
-noted_keeps h log v stores answers says.SharedFault s = same_keeps s _ (refl, refl, λ k. refl, refl)
-noted_keeps h log v stores answers (says.Broken fault) s = same_keeps s _ (refl, refl, λ k. refl, refl)
-=======
-noted_keeps : (size : ℕ) (outstanding : OutstandingRequests) (v : Values) (stores : List Store) (answers : List Answered) (x : Stepped) (s : Scene) → Keeps s (after_items size (noted outstanding v stores answers x) s)
-noted_keeps size outstanding v stores answers (says.Stored tag) s = same_keeps s _ (stores_same size tag stores s)
-noted_keeps size outstanding v stores answers (says.Completed head) s = same_keeps s _ (stores_same size T5 stores s)
-noted_keeps size outstanding v stores answers says.Published s = shows_keeps size SP5 stores answers s
-noted_keeps size outstanding v stores answers says.Started s = same_keeps s _ (refl, refl, λ k. refl, refl)
-noted_keeps size outstanding v stores answers (says.Accepted head) s = same_keeps s _ (refl, refl, λ k. refl, refl)
-noted_keeps size outstanding v stores answers (says.Looked head sector) s = same_keeps s _ (refl, refl, λ k. refl, refl)
-noted_keeps size outstanding v stores answers (says.Acted head sector) s = same_keeps s _ (refl, refl, λ k. refl, refl)
-noted_keeps size outstanding v stores answers (says.Synced head) s = same_keeps s _ (refl, refl, λ k. refl, refl)
-noted_keeps size outstanding v stores answers (says.Faulted head) s = same_keeps s _ (refl, refl, λ k. refl, refl)
-noted_keeps size outstanding v stores answers says.Idle s = same_keeps s _ (refl, refl, λ k. refl, refl)
-noted_keeps size outstanding v stores answers says.SharedFault s = same_keeps s _ (refl, refl, λ k. refl, refl)
-noted_keeps size outstanding v stores answers (says.Broken fault) s = same_keeps s _ (refl, refl, λ k. refl, refl)
->>>>>>> f785269063db1ec5b86aa2827372b5458e7c5c8d
+noted_keeps : (h : Header1) (outstanding : OutstandingRequests) (v : Values) (stores : List Store) (answers : List Answered) (x : Stepped) (s : Scene) → Keeps s (after_items h (noted outstanding v stores answers x) s)
+noted_keeps h outstanding v stores answers (says.Stored tag) s = same_keeps s _ (stores_same h tag stores s)
+noted_keeps h outstanding v stores answers (says.Completed head) s = same_keeps s _ (stores_same h T5 stores s)
+noted_keeps h outstanding v stores answers says.Published s = shows_keeps h SP5 stores answers s
+noted_keeps h outstanding v stores answers says.Started s = same_keeps s _ (refl, refl, λ k. refl, refl)
+noted_keeps h outstanding v stores answers (says.Accepted head) s = same_keeps s _ (refl, refl, λ k. refl, refl)
+noted_keeps h outstanding v stores answers (says.Looked head sector) s = same_keeps s _ (refl, refl, λ k. refl, refl)
+noted_keeps h outstanding v stores answers (says.Acted head sector) s = same_keeps s _ (refl, refl, λ k. refl, refl)
+noted_keeps h outstanding v stores answers (says.Synced head) s = same_keeps s _ (refl, refl, λ k. refl, refl)
+noted_keeps h outstanding v stores answers (says.Faulted head) s = same_keeps s _ (refl, refl, λ k. refl, refl)
+noted_keeps h outstanding v stores answers says.Idle s = same_keeps s _ (refl, refl, λ k. refl, refl)
+noted_keeps h outstanding v stores answers says.SharedFault s = same_keeps s _ (refl, refl, λ k. refl, refl)
+noted_keeps h outstanding v stores answers (says.Broken fault) s = same_keeps s _ (refl, refl, λ k. refl, refl)
 
 take_more : (xs ys : List ℕ) (n : ℕ) → n ≤ length xs → take n (xs ++ ys) ≡ take n xs
 take_more [] ys n few = let none : n ≡ 0 = omega (arith, few) in ap (λ (j : ℕ). take j ys) none ∙ sym (ap (λ (j : ℕ). take {A = ℕ} j []) none)
@@ -149,11 +133,7 @@ made_at : (w : Machine) (m : Moment) (q q' : Queue) (t : Turn) (memory : Watched
     → MachineAt (with_device w memory q' disk) (after_turn w t m)
 made_at w m q q' t memory disk d x has made =
     let life = life_at w m q has in
-<<<<<<< HEAD
-    let keeps : Keeps m.scene (after_turn w t m).scene = subst (λ (is : List Item). Keeps m.scene (after_items w.header is m.scene)) (sym made.items_are) (noted_keeps w.header w.log (values_of disk) (stores_in memory) (shown_of w.log d.memory d.queue) x m.scene) in
-=======
-    let keeps : Keeps m.scene (after_turn w t m).scene = subst (λ (is : List Item). Keeps m.scene (after_items w.header.size is m.scene)) (sym made.items_are) (noted_keeps w.header.size w.outstanding (values_of disk) (stores_in memory) (shown_of w.outstanding d.memory d.queue) x m.scene) in
->>>>>>> f785269063db1ec5b86aa2827372b5458e7c5c8d
+    let keeps : Keeps m.scene (after_turn w t m).scene = subst (λ (is : List Item). Keeps m.scene (after_items w.header is m.scene)) (sym made.items_are) (noted_keeps w.header w.outstanding (values_of disk) (stores_in memory) (shown_of w.outstanding d.memory d.queue) x m.scene) in
     let driver : (turned w.header 0 t m).lane.driver ≡ (m.lanes 0).driver = turn_driver w.header t m in
     record {
       front = record {

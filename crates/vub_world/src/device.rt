@@ -2,13 +2,8 @@
 ghost use Rattle.std.specs.Prelude.{◌≡◌, ◌≤◌, ℕ, []};
 ghost use Rattle.vub_base.specs.declared.header.Header1.{Header1};
 ghost use Rattle.vub_memdisk.specs.MemDisks.{capacity_of};
-<<<<<<< HEAD
 ghost use Rattle.vub_shared.specs.Watched.{stores_in, sizes_in, IsUnfailed};
-ghost use Rattle.vub_world.specs.declared.log.Log.{Log};
-=======
-ghost use Rattle.vub_shared.specs.Watched.{stores_in, sizes_in};
 ghost use Rattle.vub_world.specs.declared.outstanding.OutstandingRequests.{OutstandingRequests};
->>>>>>> f785269063db1ec5b86aa2827372b5458e7c5c8d
 ghost use Rattle.vub_split.specs.declared.split.SplitRing.{SplitRing};
 ghost use Rattle.vub_world.specs.MachineAt.{IsReached, OutstandingAt};
 ghost use Rattle.vub_world.specs.MachineDevice.{DeviceAt, DeviceTurns, device, turn_here};
