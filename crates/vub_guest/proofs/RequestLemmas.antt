@@ -2,9 +2,6 @@ use Rattle.std.proofs.Common.{◌≡◌, ◌<◌, ◌≤◌, ℕ, zero, suc, ◌
 use Rattle.std.proofs.lemmas.Bool.Decides.{nat_tests}
 use Rattle.std.proofs.Common.{mul-le-mul_left}
 use Rattle.std.proofs.lemmas.List.{flat_map_more, take_more}
-use Rattle.std.specs.Result.{IsOk, OnOk}
-use Rattle.std.proofs.lemmas.Bool.{false≢true}
-use Rattle.std.specs.Prelude.{Result, Ok, Err}
 use Rattle.std.specs.List.{flat_map}
 use Rattle.std.specs.Prelude.{nat_lt, not, ◌==◌, ◌⊎◌}
 use Rattle.std.proofs.Common.{inl, inr}
@@ -48,11 +45,6 @@ some_written_of_write ask sector fills is = some_written 512 (length fills.items
 
 pub some_written_of_parts : (ask : Ask) (parts : ArrayVec Part) → (ask ≡ Discard parts) ⊎ (ask ≡ Zero parts) → not (length parts.items == 0) ≡ nat_lt 0 (length (written_bytes ask))
 some_written_of_parts ask parts is = some_written 16 (length parts.items) (omega arith) (written_bytes ask) (length_of_parts ask parts is)
-
--- a fact of an `Ok`
-pub of_ok : {T E : Type 0} (r : Result T E) (P : Type 0) → OnOk r P → IsOk r → P
-of_ok (Ok x) P h is = h
-of_ok (Err e) P h is = absurd (false≢true is)
 
 -- one more of the pieces
 pub flat_map-more : {X : Type 0} (f : X → List ℕ) (xs : List X) (i : ℕ) (d : X) → i < length xs → flat_map f (take i xs) ++ f (get_or xs i d) ≡ flat_map f (take (i + 1) xs)

@@ -1,5 +1,5 @@
 -- No call fails in a turn: before it memory keeps no store and hasn't failed, and it makes one store at most.
-use Rattle.std.proofs.Common.{◌≡◌, ◌≤◌, ℕ, false, true, List, [], ◌∷◌, length, refl, ap, ◌∙◌, subst, inl, inr, arith}
+use Rattle.std.proofs.Common.{◌≡◌, ◌≤◌, ℕ, false, true, List, [], ◌∷◌, length, refl, ap, subst, inl, inr, arith}
 use Rattle.std.specs.Prelude.{Bool, Option, Some, None, Result, Ok, Err}
 use Rattle.vub_base.specs.Causes.{HasCause}
 use Rattle.vub_shared.specs.Stores.{Store, Trails, after_in_trail}

@@ -1,4 +1,4 @@
-use Rattle.std.proofs.Common.{◌∙◌, sym, ap, arith}
+use Rattle.std.proofs.Common.{◌∙◌, sym, ap}
 use Rattle.std.proofs.lemmas.Result.{err_from_is_err_and}
 use Rattle.vub_direct_chain.specs.declared.chain.Span.{Span}
 use Rattle.vub_direct_chain.specs.declared.chain.Parts.{Parts}

@@ -1,4 +1,4 @@
-use Rattle.std.proofs.Common.{◌≡◌, ◌≤◌, ◌<◌, ap, sym, subst, length, ◌*◌, arith}
+use Rattle.std.proofs.Common.{◌≤◌, ◌<◌, ap, sym, subst, length, ◌*◌, arith}
 use Rattle.vub_shared.specs.Stores.{Store, one_store}
 use Rattle.vub_shared.specs.Trails.{TrailState, total_of}
 use Rattle.vub_shared.proofs.TrailLemmas.{short-push}
