@@ -123,7 +123,9 @@ fn run_on(
 {
     let bytes = Vec::from_slice(alloc, text.as_bytes())?;
     let mut input = MemSource::new(bytes, piece, source_fails);
-    let mut out = MemSink::new(alloc, 4096, sink_fails).ok().ok_or("memory")?;
+    let mut out = MemSink::new(alloc, 131_072, sink_fails)
+        .ok()
+        .ok_or("memory")?;
     let mut regions = MemShared::new(alloc, Vec::new(alloc));
     let status = run(
         alloc,
@@ -174,16 +176,39 @@ fn worked_rows(rt: HostRuntime) -> Result<(), Fail> {
     let started = "vub 1 split 1 4 8 0 back\nboot\njoin\n";
     check_row(&rt, rt.alloc(), "replay", started, (Some(0), None), (4, ""))?;
     check_row(&rt, rt.alloc(), "replay", started, (None, Some(0)), (5, ""))?;
-    // The sink fails in mid-stream, at the third record.
-    let front = "record 1 split 1 4 8 0 back\n> boot\n> join\n";
-    check_row(
-        &rt,
-        rt.alloc(),
-        "replay",
-        WRITE_AND_READ,
-        (None, Some(3)),
-        (5, front),
-    )
+    Ok(())
+}
+
+/// A text, and so many lines after it.
+fn repeated(alloc: Global, first: &str, line: &str, count: usize) -> Result<String, Fail> {
+    let mut text = String::from_str(alloc, first)?;
+    for _ in 0..count {
+        text.push_str(line)?;
+    }
+    Ok(text)
+}
+
+/// The sink is called once for as many records as 65,536 bytes hold: 65,535 bytes here, and the next
+/// record doesn't fit. It fails in mid-stream, at the second call.
+#[test]
+fn pieces(rt: HostRuntime) -> Result<(), Fail> {
+    let start = "vub 1 split 1 4 8 0 back\nboot\njoin\n";
+    let schedule = repeated(rt.alloc(), start, "collect 0\n", 3500)?;
+    let first = "record 1 split 1 4 8 0 back\n> boot\n> join\n";
+    let idle = "> collect 0\n- idle\n";
+    let whole = repeated(rt.alloc(), first, idle, 3500)?;
+    let front = repeated(rt.alloc(), first, idle, 3447)?;
+    for (call, status, out) in [(None, 0, whole.as_str()), (Some(1), 5, front.as_str())] {
+        check_row(
+            &rt,
+            rt.alloc(),
+            "replay",
+            &schedule,
+            (None, call),
+            (status, out),
+        )?;
+    }
+    Ok(())
 }
 
 #[test]
@@ -197,15 +222,13 @@ fn histories(rt: HostRuntime) -> Result<(), Fail> {
     ] {
         check_row(&rt, rt.alloc(), "entries", text, whole, (status, out))?;
     }
-    // The sink fails at the second record that has an entry.
-    let front = "offer 0 write 0 aa*512\n";
     check_row(
         &rt,
         rt.alloc(),
         "entries",
         WRITE_AND_READ,
-        (None, Some(1)),
-        (5, front),
+        (None, Some(0)),
+        (5, ""),
     )
 }
 
