@@ -6,7 +6,7 @@ use Rattle.vub_base.specs.Fields.{field}
 use Rattle.vub_shared.specs.Bytes.{Bytes, word, bytes_from}
 use Rattle.vub_split.specs.declared.split.SplitRing.{SplitRing}
 use Rattle.vub_direct_chain.specs.declared.chain.Desc.{Desc}
-use Rattle.std.specs.Prelude.{Option, Some, None, option_map, Result, Ok, Err, unwrap_or, ◌<◌}
+use Rattle.std.specs.Prelude.{bit_and, Option, Some, None, option_map, Result, Ok, Err, unwrap_or, ◌<◌}
 use Rattle.vub_driver.specs.Requests.{Piece, writable_piece}
 use Rattle.vub_driver.specs.Layout.{status_place}
 use Rattle.vub_device.specs.declared.entry.Asked.{Asked}
@@ -121,3 +121,11 @@ reads_broken (unread.Broken f) fault y is h = h
 pub cause_at_err : (T U : Type 0) (e : Unread) (before after : ℕ) → after ≡ before → read_outcome {T = T} (Err e) ≡ Ok tt → HasCause before after (read_outcome {T = U} (Err e))
 cause_at_err T U unread.Failed before after same is = absurd (cc is)
 cause_at_err T U (unread.Broken fault) before after same is = record { later = omega (arith, same); failed = tt; quiet = same }
+
+pub is_none : {T : Type 0} (o : Option T) → ((x : T) → o ≡ Some x → ⊥) → o ≡ None
+is_none None not = refl
+is_none (Some x) not = absurd (not x refl)
+
+-- the descriptor of a status names no next one
+pub ends_there : (r : SplitRing) (m : Bytes) (status buffer : ℕ) (y : Desc) (o : Option Desc) (x : Desc) → desc_in r m status ≡ desc_of (writable_piece (status_place buffer) 1) None → ◌≡◌ {A = Option Desc × Desc} (Some y, x) (o, desc_in r m status) → bit_and x.flags 1 ≡ 0
+ends_there r m status buffer y o x last same = ap (λ (p : Option Desc × Desc). bit_and p.1.flags 1) same ∙ ap (λ (d : Desc). bit_and d.flags 1) last

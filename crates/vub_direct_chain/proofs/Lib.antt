@@ -1,1 +1,2 @@
 pub mod ChainReading
+pub mod ChainRules

@@ -3,13 +3,12 @@ ghost use Rattle.std.specs.Prelude.{◌≡◌, ◌<◌, ◌≤◌, ◌+◌, ◌*
 ghost use Rattle.vub_base.specs.Causes.{HasCause};
 ghost use Rattle.vub_base.specs.Told.{WhereTold};
 ghost use Rattle.vub_shared.specs.Frames.{OnlyLoads};
-ghost use Rattle.vub_base.specs.declared.ring_fault.RingFault.TheVariants as faults;
-ghost use Rattle.vub_direct_chain.specs.declared.chain.Unread.TheVariants as unread;
 ghost use Rattle.vub_split.specs.Split.{RingLies};
 ghost use Rattle.vub_driver.specs.Requests.{Piece};
 ghost use Rattle.vub_device.specs.declared.entry.Asked.{Asked};
 ghost use Rattle.vub_driver.specs.GuestChain.{Links};
-ghost use Rattle.vub_direct_chain.specs.ChainState.{MeansRequest, Reads, desc_in, desc_of, parts_of, read_outcome, span_at};
+ghost use Rattle.vub_direct_chain.specs.ChainState.{MeansRequest, Reads, desc_in, desc_of, parts_of, read_outcome, span_at, NextIn, TailIn, SpanIn, Meaning, PartsLie};
+ghost use Rattle.vub_shared.specs.Bytes.{Bytes};
 
 use vub_base::standard::{VIRTQ_DESC_F_NEXT, VIRTQ_DESC_F_WRITE};
 use vub_base::{ChainFault, Failed, RingFault, Space, get_u16, get_u32, get_u64};
@@ -93,6 +92,7 @@ fn descriptor_at<M: Shared>(ring: &SplitRing, mem: &mut M, index: u16) -> Result
 fn next_of<M: Shared>(ring: &SplitRing, mem: &mut M, desc: &Desc) -> Result<Option<Desc>, Unread>
     requires { RingLies (M.sizes mem.old) ring.now }
     ensures ends { (p : Piece) → desc.now ≡ desc_of p None → result ≡ Ok None }
+    ensures next { WhereTold (M.told mem.old) (λ m. NextIn ring.now m desc.now result) }
     ensures follows { (p : Piece) (next : ℕ) → desc.now ≡ desc_of p (Some next) → next < ring.now.size → WhereTold (M.told mem.old) (λ m. Reads result (Some (desc_in ring.now m next))) }
     ensures only_loads { OnlyLoads M.told M.trail M.names M.handed M.sizes mem.old mem.new }
     ensures cause { HasCause (M.faults mem.old) (M.faults mem.new) (read_outcome result) }
@@ -101,7 +101,7 @@ fn next_of<M: Shared>(ring: &SplitRing, mem: &mut M, desc: &Desc) -> Result<Opti
         return Ok(None);
     }
     if desc.next >= ring.size {
-        return Err(broken(ChainFault::BadIndex(desc.next)));
+        return Err(Unread::Broken(RingFault::Chain(ChainFault::BadIndex(desc.next))));
     }
     match descriptor_at(ring, mem, desc.next) {
         Ok(next) => Ok(Some(next)),
@@ -109,15 +109,10 @@ fn next_of<M: Shared>(ring: &SplitRing, mem: &mut M, desc: &Desc) -> Result<Opti
     }
 }
 
-fn broken(fault: ChainFault) -> Unread
-    ensures { result ≡ unread.Broken (faults.Chain fault) }
-{
-    Unread::Broken(RingFault::Chain(fault))
-}
-
 /// The buffer of a descriptor, which lies in the space of the table.
 fn span_of<M: Shared>(ring: &SplitRing, mem: &M, desc: &Desc) -> Result<Span, Unread>
     ensures cause { read_outcome result ≡ Ok tt }
+    ensures exact { SpanIn (M.sizes mem.now) ring.now desc.now result }
     ensures span { desc.now.addr + desc.now.len ≤ M.sizes mem.now ring.now.desc.0.number → result ≡ Ok (span_at ring.now desc.now.addr desc.now.len) }
 {
     let span = Span {
@@ -128,11 +123,12 @@ fn span_of<M: Shared>(ring: &SplitRing, mem: &M, desc: &Desc) -> Result<Span, Un
     if lies_in(mem, &span) {
         Ok(span)
     } else {
-        Err(broken(ChainFault::Unmapped(desc.addr)))
+        Err(Unread::Broken(RingFault::Chain(ChainFault::Unmapped(desc.addr))))
     }
 }
 
-/// The descriptors behind the head: sectors and status, or the status alone.
+/// The descriptors behind the head: sectors and status, or the status alone. A chain of more is
+/// refused.
 fn tail_of<M: Shared>(
     ring: &SplitRing,
     mem: &mut M,
@@ -140,6 +136,7 @@ fn tail_of<M: Shared>(
     first: &Desc,
 ) -> Result<(Option<Desc>, Desc), Unread>
     requires { RingLies (M.sizes mem.old) ring.now }
+    ensures exact { (sizes : ℕ → ℕ) → WhereTold (M.told mem.old) (λ m. first.now ≡ desc_in ring.now m head → TailIn sizes ring.now m head result) }
     ensures tail { (l : Links) (buffer : ℕ) (request : Asked) → WhereTold (M.told mem.old) (λ m. MeansRequest (M.sizes mem.old) ring.now m l buffer request → first.now ≡ desc_in ring.now m l.head → Reads result (option_map (desc_in ring.now m) l.body, desc_in ring.now m l.status)) }
     ensures only_loads { OnlyLoads M.told M.trail M.names M.handed M.sizes mem.old mem.new }
     ensures cause { HasCause (M.faults mem.old) (M.faults mem.new) (read_outcome result) }
@@ -147,17 +144,25 @@ fn tail_of<M: Shared>(
     let Some(second) = next_of(ring, mem, first)? else {
         return Err(Unread::Broken(RingFault::NoStatus(head)));
     };
-    match next_of(ring, mem, &second)? {
-        None => Ok((None, second)),
-        Some(third) => Ok((Some(second), third)),
+    let Some(third) = next_of(ring, mem, &second)? else {
+        return Ok((None, second));
+    };
+    if third.flags & VIRTQ_DESC_F_NEXT != 0 {
+        return Err(Unread::Broken(RingFault::NoRoom(head)));
     }
+    Ok((Some(second), third))
 }
 
 /// The parts of the request whose chain begins at a head: a header, at most one descriptor of
-/// sectors, and a status. A chain without a writable byte for the status at its end has none.
+/// sectors, and a status, each in the space of the table. Else the first rule that the chain breaks:
+/// `BadIndex` of a next one past the table, `NoRoom` of the head where a fourth descriptor follows,
+/// `NoStatus` of the head where it has no writable byte at its end, `Unmapped` of the address of a
+/// buffer that ends past the space.
 pub fn read_chain<M: Shared>(ring: &SplitRing, mem: &mut M, head: u16) -> Result<Parts, Unread>
     requires lies { RingLies (M.sizes mem.old) ring.now }
     requires fits { head < ring.now.size }
+    ensures means { WhereTold (M.told mem.old) (λ m. Meaning (M.sizes mem.old) ring.now m head result) }
+    ensures lie { IfOk result (λ p. PartsLie (M.sizes mem.old) p) }
     ensures read { (l : Links) (buffer : ℕ) (request : Asked) → WhereTold (M.told mem.old) (λ m. MeansRequest (M.sizes mem.old) ring.now m l buffer request → l.head ≡ head → Reads result (parts_of ring.now buffer request)) }
     ensures only_loads { OnlyLoads M.told M.trail M.names M.handed M.sizes mem.old mem.new }
     ensures cause { HasCause (M.faults mem.old) (M.faults mem.new) (read_outcome result) }
@@ -170,6 +175,7 @@ pub fn read_chain<M: Shared>(ring: &SplitRing, mem: &mut M, head: u16) -> Result
     if last.flags & VIRTQ_DESC_F_WRITE == 0 || last.len == 0 {
         return Err(Unread::Broken(RingFault::NoStatus(head)));
     }
+    let header = span_of(ring, mem, &first)?;
     let sectors = match second {
         None => None,
         Some(second) => Some(Sectors {
@@ -177,9 +183,10 @@ pub fn read_chain<M: Shared>(ring: &SplitRing, mem: &mut M, head: u16) -> Result
             writable: second.flags & VIRTQ_DESC_F_WRITE != 0,
         }),
     };
+    let status = span_of(ring, mem, &last)?;
     Ok(Parts {
-        header: span_of(ring, mem, &first)?,
+        header,
         sectors,
-        status: span_of(ring, mem, &last)?,
+        status,
     })
 }

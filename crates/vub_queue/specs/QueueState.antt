@@ -20,13 +20,13 @@ use Rattle.vub_steps.specs.Rows.{Row, row_of}
 use Rattle.vub_steps.specs.Steps.{next_step, after_step}
 use Rattle.vub_steps.specs.Readiness.{is_ready, is_publication}
 use Rattle.vub_split.specs.declared.split.SplitRing.{SplitRing}
-use Rattle.vub_split.specs.Split.{avail_idx_word, head_word, used_side}
+use Rattle.vub_split.specs.Split.{RingLies, avail_idx_word, head_word, used_side}
 use Rattle.vub_task.specs.declared.task.Task.{Task}
 use Rattle.vub_task.specs.declared.task.TaskStep as made
 use Rattle.vub_task.specs.declared.task.TaskStep.TheVariants as answers
 use Rattle.vub_steps.specs.Tasks as Tasks
 use Rattle.vub_steps.specs.Tasks.{Status, status_of, used_len}
-use Rattle.vub_task.specs.TaskState.{Making, IsNext, IsReady, HasMade, LooksAt, GainsOne, fresh_task, answer_in, memory_after, values_after, store_in, with_maybe, head_in}
+use Rattle.vub_task.specs.TaskState.{Making, IsNext, IsReady, HasMade, LooksAt, GainsOne, fresh_task, answer_in, memory_after, values_after, store_in, with_maybe, head_in, TaskLies, OwesFailure}
 use Rattle.vub_queue.specs.QueueParts.{element, is_taken, without_heads}
 use Rattle.vub_queue.specs.declared.queue.Stop.{Stop}
 use Rattle.vub_queue.specs.declared.queue.Stop.TheVariants as stops
@@ -89,6 +89,27 @@ pub record IsNew (ring : SplitRing) (base : ℕ) (s : QueueState) : Type 0 where
   pub sectors : List (List ℕ)
   pub is : s ≡ new_state ring base sectors
   pub buffers : length sectors ≡ ring.size
+
+-- ---- where a queue lies
+
+-- a task lies in memory and on the disk, and its head in the table
+abbrev pub TaskFits : (ℕ → ℕ) → ℕ → SplitRing → Task → Type 0
+TaskFits sizes capacity r task = TaskLies sizes capacity task × (head_in task < r.size)
+
+abbrev pub TasksFit : (ℕ → ℕ) → ℕ → SplitRing → List Task → Type 0
+TasksFit sizes capacity r [] = ⊤
+TasksFit sizes capacity r (task ∷ tasks) = TaskFits sizes capacity r task × TasksFit sizes capacity r tasks
+
+-- its ring lies in its space, and so do the tasks of the requests that aren't completed
+pub record QueueLies (sizes : ℕ → ℕ) (capacity : ℕ) (s : QueueState) : Type 0 where
+  pub ring : RingLies sizes s.ring
+  pub tasks : TasksFit sizes capacity s.ring s.unfinished
+
+-- what lies before lies after
+abbrev pub KeepsLying : QueueState → QueueState → Type 0
+KeepsLying s t = (sizes : ℕ → ℕ) (capacity : ℕ) → QueueLies sizes capacity s → QueueLies sizes capacity t
+
+-- ---- steps
 
 -- how many requests wait in the avail ring
 abbrev pub waiting : QueueState → Bytes → ℕ
@@ -325,6 +346,15 @@ pub record Rests (told told_after : Option Bytes) (trail trail_after : Option (L
   pub stores : told_after ≡ told
   pub trails : trail_after ≡ trail
   pub values : v_after ≡ v
+
+-- the task of the request of this head, in this place, owes the answer of a disk call that failed
+abbrev pub OwesAt : ℕ → ℕ → QueueState → Type 0
+OwesAt place head t = (task : Task) × (slice_get t.unfinished place ≡ Some task) × (head_in task ≡ head) × OwesFailure task
+
+-- after a turn in which the disk failed its request is left, and owes that answer
+abbrev pub Owes : Stepped → QueueState → Type 0
+Owes (says.Faulted head) t = (place : ℕ) × OwesAt place head t
+Owes x t = ⊤
 
 -- ---- turns
 

@@ -90,13 +90,12 @@ pub struct Queue {
     ghost fits: { phase_fits phase batch started ≡ true },
 }
 
+/// Whether a head is taken.
 fn is_taken(taken: &[bool], head: u16) -> bool
+    requires { head < length taken.now }
     ensures { result ≡ is_taken taken.now head }
 {
-    match taken.get(usize::from(head)) {
-        Some(taken) => *taken,
-        None => true,
-    }
+    taken[usize::from(head)]
 }
 
 #[tactic(auto, using(crate::proofs::QueueLemmas::set_beyond))]
@@ -144,7 +143,7 @@ impl Queue {
     ghost use Rattle.vub_shared.specs.Frames.{OnlyLoads, KeepsSpaces};
     ghost use Rattle.vub_task.specs.declared.task.Task.{Task};
     ghost use Rattle.vub_task.specs.TaskState as TaskState;
-    ghost use Rattle.vub_task.specs.TaskState.{Making, IfMade, GainsOne, memory_outcome};
+    ghost use Rattle.vub_task.specs.TaskState.{Making, IfMade, IfFaulted, GainsOne, memory_outcome};
     ghost use Rattle.vub_steps.specs.Readiness.{is_publication, is_ready, chosen};
     ghost use Rattle.vub_steps.specs.declared.readiness.Turn.{Turn};
     ghost use Rattle.vub_steps.specs.declared.readiness.Turn.TheVariants.{Fetch, Work};
@@ -155,13 +154,14 @@ impl Queue {
     ghost use Rattle.vub_steps.specs.declared.steps.Phase.TheVariants.{Rest};
     ghost use Rattle.vub_steps.specs.declared.steps.Step.TheVariants.{Id, Len, Index};
     ghost use Rattle.vub_queue.specs.Queue.{ring_in};
-    ghost use Rattle.vub_queue.specs.QueueState.{state_of, IsNew, started_from, said, concluded, StepsAt, step_in, IsDue, IfStepped, StepsOut, WorksOut, Rests, disk_outcome, standing_at, waiting, IsFree, Finds, Fetches, accepted, may_fetch, begun, under_way, next_row, moved, with_phase, Moves, outcome, found_outcome, MakesRow, publishes, publish_row, Publishes, is_idle, is_fault, Unless, Works, Does, DoesStore, DoesTrail, DoesDisk, halted, Turns};
+    ghost use Rattle.vub_queue.specs.QueueState.{QueueLies, KeepsLying, Owes, OwesAt, state_of, IsNew, started_from, said, concluded, StepsAt, IsDue, IfStepped, StepsOut, WorksOut, Rests, disk_outcome, standing_at, waiting, IsFree, Finds, Fetches, accepted, may_fetch, begun, under_way, next_row, moved, with_phase, Moves, outcome, found_outcome, MakesRow, publishes, publish_row, Publishes, is_idle, is_fault, Unless, Works, Does, DoesStore, DoesTrail, DoesDisk, halted, Turns};
 
     /// A queue that isn't started. All memory that it needs is reserved here.
     pub fn new(alloc: Global, setup: &QueueSetup) -> Result<Queue, Memory>
         requires { setup.now.ring.size ≤ 1024 }
         ensures ring { IfOk result (λ q. ring_in q ≡ setup.now.ring) }
         ensures state { IfOk result (λ q. IsNew setup.now.ring setup.now.base (state_of q)) }
+        ensures lies { IfOk result (λ q. (sizes : ℕ → ℕ) → (capacity : ℕ) → RingLies sizes setup.now.ring → QueueLies sizes capacity (state_of q)) }
     {
         let size = usize::from(setup.ring.size);
         Ok(Queue {
@@ -242,6 +242,7 @@ impl Queue {
         ensures ring { ring_in self.new ≡ ring_in self.old }
         ensures said { result ≡ started_from (state_of self.old) }
         ensures state { state_of self.new ≡ record (state_of self.old) { started = true } }
+        ensures lies { KeepsLying (state_of self.old) (state_of self.new) }
         ensures no_disk { disk_outcome result ≡ Ok tt }
     {
         if self.started {
@@ -310,6 +311,7 @@ impl Queue {
         ensures ring { ring_in self.new ≡ ring_in self.old }
         ensures ready { Unless (is_fault result) (WhereTold (M.told mem.old) (λ m. is_ready (standing_at (state_of self.old) (waiting (state_of self.old) m)) Fetch ≡ not (is_idle result))) }
         ensures fetches { Fetches (M.told mem.old) result (state_of self.old) (state_of self.new) }
+        ensures lies { KeepsLying (state_of self.old) (state_of self.new) }
         ensures only_loads { OnlyLoads M.told M.trail M.names M.handed M.sizes mem.old mem.new }
         ensures cause { HasCause (M.faults mem.old) (M.faults mem.new) (outcome result) }
         ensures no_disk { disk_outcome result ≡ Ok tt }
@@ -344,24 +346,24 @@ impl Queue {
         place: usize,
         mem: &mut M,
         disk: &mut D,
-    ) -> Option<(u16, TaskStep)>
-        requires { RingLies (M.sizes mem.old) (ring_in self.old) }
+    ) -> (u16, TaskStep)
+        requires lies { QueueLies (M.sizes mem.old) (D.capacity disk.old) (state_of self.old) }
+        requires within { place < vec_len self.old.unfinished }
         ensures ring { ring_in self.new ≡ ring_in self.old }
-        ensures steps { StepsAt place result (state_of self.old) (state_of self.new) }
-        ensures made { (task : Task) (n : Making) → WhereTold (M.told mem.old) (λ m. IsDue (D.capacity disk.old) (M.sizes mem.old) (state_of self.old) m place task n → IfMade (step_in result) (λ step. StepsOut place task n m (M.told mem.new) (M.trail mem.old) (M.trail mem.new) (D.values disk.old) (D.values disk.new) result (state_of self.old) (state_of self.new))) }
+        ensures lies { QueueLies (M.sizes mem.old) (D.capacity disk.old) (state_of self.new) }
+        ensures failed { IfFaulted result.1 (OwesAt place result.0 (state_of self.new)) }
+        ensures steps { StepsAt place (Some result) (state_of self.old) (state_of self.new) }
+        ensures made { (task : Task) (n : Making) → WhereTold (M.told mem.old) (λ m. IsDue (D.capacity disk.old) (M.sizes mem.old) (state_of self.old) m place task n → IfMade (Some result.1) (λ step. StepsOut place task n m (M.told mem.new) (M.trail mem.old) (M.trail mem.new) (D.values disk.old) (D.values disk.new) (Some result) (state_of self.old) (state_of self.new))) }
         ensures trail { GainsOne (M.trail mem.old) (M.trail mem.new) }
-        ensures cause { HasCause (M.faults mem.old) (M.faults mem.new) (memory_outcome (step_in result)) }
-        ensures disk_cause { HasCause (D.faults disk.old) (D.faults disk.new) (TaskState.disk_outcome (step_in result)) }
+        ensures cause { HasCause (M.faults mem.old) (M.faults mem.new) (memory_outcome (Some result.1)) }
+        ensures disk_cause { HasCause (D.faults disk.old) (D.faults disk.new) (TaskState.disk_outcome (Some result.1)) }
         ensures keeps_spaces { KeepsSpaces M.names M.handed M.sizes mem.old mem.new }
         ensures capacity { D.capacity disk.new ≡ D.capacity disk.old }
     {
-        let task = self.unfinished.get_mut(place)?;
+        let task = &mut self.unfinished[place];
         let head = task.head();
-        if head >= self.ring.size {
-            return None;
-        }
-        let sector = self.sectors.get_mut(usize::from(head))?;
-        Some((head, task.step(&self.ring, mem, disk, sector)))
+        let sector = &mut self.sectors[usize::from(head)];
+        (head, task.step(&self.ring, mem, disk, sector))
     }
 
     /// Notes the end of a request whose status was stored, and says what its step was.
@@ -370,6 +372,7 @@ impl Queue {
         ensures ring { ring_in self.new ≡ ring_in self.old }
         ensures says { result ≡ said head step }
         ensures state { state_of self.new ≡ concluded place head step (state_of self.old) }
+        ensures lies { KeepsLying (state_of self.old) (state_of self.new) }
     {
         match step {
             TaskStep::Stored(tag) => Stepped::Stored(tag),
@@ -387,7 +390,9 @@ impl Queue {
     }
 
     fn work<M: Shared, D: Disk>(&mut self, place: u16, mem: &mut M, disk: &mut D) -> Stepped
-        requires { RingLies (M.sizes mem.old) (ring_in self.old) }
+        requires { QueueLies (M.sizes mem.old) (D.capacity disk.old) (state_of self.old) }
+        ensures lies { QueueLies (M.sizes mem.old) (D.capacity disk.old) (state_of self.new) }
+        ensures failed { Owes result (state_of self.new) }
         ensures ring { ring_in self.new ≡ ring_in self.old }
         ensures works { Works place result (state_of self.old) (state_of self.new) }
         ensures made { (task : Task) (n : Making) → WhereTold (M.told mem.old) (λ m. IsDue (D.capacity disk.old) (M.sizes mem.old) (state_of self.old) m place task n → IfStepped result (WorksOut place task n m (M.told mem.new) (M.trail mem.old) (M.trail mem.new) (D.values disk.old) (D.values disk.new) result (state_of self.old) (state_of self.new))) }
@@ -402,10 +407,8 @@ impl Queue {
         if !self.started || place >= self.unfinished.len() {
             return Stepped::Idle;
         }
-        match self.step_at(place, mem, disk) {
-            Some((head, step)) => self.conclude(place, head, step),
-            None => Stepped::Idle,
-        }
+        let (head, step) = self.step_at(place, mem, disk);
+        self.conclude(place, head, step)
     }
 
     /// Begins a batch of the first completed requests, at most so many.
@@ -531,15 +534,16 @@ impl Queue {
             Some(Step::Id(element)) => self.store_id(element, mem),
             Some(Step::Len(element)) => self.store_len(element, mem),
             Some(Step::Index) => self.show(mem),
-            Some(Step::Start) => Stepped::Idle,
-            Some(Step::Accept) => Stepped::Idle,
-            None => Stepped::Idle,
+            Some(Step::Start) => unreachable!(),
+            Some(Step::Accept) => unreachable!(),
+            None => unreachable!(),
         }
     }
 
     fn publish<M: Shared>(&mut self, most: u16, mem: &mut M) -> Stepped
         requires { RingLies (M.sizes mem.old) (ring_in self.old) }
         ensures ring { ring_in self.new ≡ ring_in self.old }
+        ensures lies { KeepsLying (state_of self.old) (state_of self.new) }
         ensures publishes { Publishes (publishes most (state_of self.old)) result (state_of self.old) (under_way most (state_of self.old)) (state_of self.new) }
         ensures makes_row { MakesRow M.told M.trail M.names M.handed M.sizes mem.old mem.new result (publish_row most (state_of self.old)) }
         ensures cause { HasCause (M.faults mem.old) (M.faults mem.new) (outcome result) }
@@ -567,7 +571,9 @@ impl Queue {
 
     /// Makes a step of this turn, if it is ready.
     fn make<M: Shared, D: Disk>(&mut self, turn: Turn, mem: &mut M, disk: &mut D) -> Stepped
-        requires lies { RingLies (M.sizes mem.old) (ring_in self.old) }
+        requires lies { QueueLies (M.sizes mem.old) (D.capacity disk.old) (state_of self.old) }
+        ensures lies { QueueLies (M.sizes mem.old) (D.capacity disk.old) (state_of self.new) }
+        ensures failed { Owes result (state_of self.new) }
         ensures ring { ring_in self.new ≡ ring_in self.old }
         ensures does { Does turn (M.told mem.old) result (state_of self.old) (state_of self.new) }
         ensures stores { DoesStore turn (M.told mem.old) (M.told mem.new) result (state_of self.old) }
@@ -589,7 +595,9 @@ impl Queue {
     }
 
     fn step_of<M: Shared, D: Disk>(&mut self, choice: Choice, mem: &mut M, disk: &mut D) -> Stepped
-        requires lies { RingLies (M.sizes mem.old) (ring_in self.old) }
+        requires lies { QueueLies (M.sizes mem.old) (D.capacity disk.old) (state_of self.old) }
+        ensures lies { QueueLies (M.sizes mem.old) (D.capacity disk.old) (state_of self.new) }
+        ensures failed { Owes result (state_of self.new) }
         ensures ring { ring_in self.new ≡ ring_in self.old }
         ensures does { WhereTold (M.told mem.old) (λ m. Does (chosen self.old.ring.size choice (standing_at (state_of self.old) (waiting (state_of self.old) m))) (M.told mem.old) result (state_of self.old) (state_of self.new)) }
         ensures stores { WhereTold (M.told mem.old) (λ m. DoesStore (chosen self.old.ring.size choice (standing_at (state_of self.old) (waiting (state_of self.old) m))) (M.told mem.old) (M.told mem.new) result (state_of self.old)) }
@@ -616,7 +624,16 @@ impl Queue {
         match stepped {
             Stepped::Broken(fault) => self.stopped = Some(Stop::Broken(fault)),
             Stepped::SharedFault => self.stopped = Some(Stop::Shared),
-            _ => {}
+            Stepped::Idle
+            | Stepped::Stored(_)
+            | Stepped::Accepted(_)
+            | Stepped::Looked(_, _)
+            | Stepped::Acted(_, _)
+            | Stepped::Synced(_)
+            | Stepped::Faulted(_)
+            | Stepped::Completed(_)
+            | Stepped::Published
+            | Stepped::Started => {}
         }
     }
 
@@ -624,7 +641,9 @@ impl Queue {
     /// memory, or a ring that breaks a rule, stops the queue: later turns are `Idle`. A disk fault
     /// stops nothing. Takes no memory.
     pub fn turn<M: Shared, D: Disk>(&mut self, choice: Choice, mem: &mut M, disk: &mut D) -> Stepped
-        requires { RingLies (M.sizes mem.old) (ring_in self.old) }
+        requires { QueueLies (M.sizes mem.old) (D.capacity disk.old) (state_of self.old) }
+        ensures lies { QueueLies (M.sizes mem.new) (D.capacity disk.new) (state_of self.new) }
+        ensures failed { Owes result (state_of self.new) }
         ensures ring { ring_in self.new ≡ ring_in self.old }
         ensures stopped { is_some (state_of self.old).stopped ≡ true → (result ≡ Idle) × (state_of self.new ≡ state_of self.old) × (M.told mem.new ≡ M.told mem.old) × (M.trail mem.new ≡ M.trail mem.old) × (D.values disk.new ≡ D.values disk.old) }
         ensures does { is_some (state_of self.old).stopped ≡ false → WhereTold (M.told mem.old) (λ m. Turns (chosen (ring_in self.old).size choice (standing_at (state_of self.old) (waiting (state_of self.old) m))) (M.told mem.old) result (state_of self.old) (state_of self.new)) }

@@ -9,7 +9,7 @@ use Rattle.vub_direct_chain.proofs.ChainReading.{field_of_loaded}
 use Rattle.vub_disk.specs.Values.{Values, Writes, with_value}
 use Rattle.std.proofs.Common.{◌/◌, ◌%◌, ◌++◌}
 use Rattle.std.proofs.lemmas.Bool.Decides.{nat_tests}
-use Rattle.std.specs.Prelude.{unwrap_or, slice_get, nat_lt, if◌then◌else◌}
+use Rattle.std.specs.Prelude.{unwrap_or, slice_get, nat_lt, nat_le, not, ◌==◌, ◌&&◌, if◌then◌else◌}
 use Rattle.vub_base.specs.declared.header.Header1.{Header1}
 use Rattle.vub_base.specs.declared.header.CacheMode.{CacheMode}
 use Rattle.vub_base.specs.declared.header.CacheMode.TheVariants.{Back}
@@ -19,7 +19,7 @@ use Rattle.vub_device.specs.Requests.{refusal}
 use Rattle.vub_driver.specs.Layout.{status_place}
 use Rattle.vub_steps.specs.Tasks.{TaskStep, Look, Act, Sync, Status, task_steps, status_of, used_len, unless_refused, disk_steps, act_steps}
 use Rattle.vub_direct_chain.specs.ChainState.{parts_of, span_at, type_of, sector_of, data_start}
-use Rattle.vub_task.specs.TaskState.{IsServed, IsBasic, answer_of, work_for, whole_transfer, plain_answer_of, plain_len_of}
+use Rattle.vub_task.specs.TaskState.{FirstWork, can_move, IsServed, IsBasic, answer_of, work_for, whole_transfer, plain_answer_of, plain_len_of}
 use Rattle.vub_split.specs.declared.split.SplitRing.{SplitRing}
 use Rattle.vub_direct_chain.specs.declared.chain.Parts.{Parts}
 use Rattle.vub_direct_chain.specs.declared.chain.Sectors.{Sectors}
@@ -30,16 +30,13 @@ use Rattle.vub_task.specs.declared.task.Work.TheVariants as work
 use Rattle.vub_direct_chain.specs.declared.chain.Span.{Span}
 
 -- what was loaded is written
-pub act_written : {T E F : Type 0} (before after : Option Values) (s n : ℕ) (into : List ℕ) (told : Option Bytes) (m : Bytes) (span there : Span) (w : ℕ) (loads : Result T E) (writes : Result T F)
-    → Some span ≡ Some there → n ≡ s → w ≡ 512 → told ≡ Some m → is_err loads ≡ false → OnOk loads (WhereTold told (λ m. into ≡ bytes_from w m span.space.number span.place))
-    → is_err writes ≡ false → Writes before after writes n into → after ≡ option_map (with_value s (bytes_from 512 m there.space.number there.place)) before
-act_written before after s n into told m span there w (Ok x) (Ok y) same at whole is_told e loaded f is =
-    let place : span ≡ there = cc same in
-    let bytes : into ≡ bytes_from 512 m there.space.number there.place =
-    loaded m is_told ∙ ap (λ (k : ℕ). bytes_from k m span.space.number span.place) whole ∙ ap (λ (q : Span). bytes_from 512 m q.space.number q.place) place in
-    is ∙ ap (λ (k : ℕ). option_map (with_value k into) before) at ∙ ap (λ (bs : List ℕ). option_map (with_value s bs) before) bytes
-act_written before after s n into told m span there w (Ok x) (Err y) same at whole is_told e loaded f is = absurd (false≢true (sym f))
-act_written before after s n into told m span there w (Err x) writes same at whole is_told e loaded f is = absurd (false≢true (sym e))
+pub act_written : {T E F : Type 0} (before after : Option Values) (s : ℕ) (into : List ℕ) (told : Option Bytes) (m : Bytes) (space p q w : ℕ) (loads : Result T E) (writes : Result T F) → p ≡ q → w ≡ 512 → told ≡ Some m → is_err loads ≡ false
+    → OnOk loads (WhereTold told (λ m. into ≡ bytes_from w m space p)) → is_err writes ≡ false → Writes before after writes s into → after ≡ option_map (with_value s (bytes_from 512 m space q)) before
+act_written before after s into told m space p q w (Ok x) (Ok y) place whole is_told e loaded f is =
+    let bytes : into ≡ bytes_from 512 m space q = loaded m is_told ∙ ap (λ (k : ℕ). bytes_from k m space p) whole ∙ ap (bytes_from 512 m space) place in
+    is ∙ ap (λ (bs : List ℕ). option_map (with_value s bs) before) bytes
+act_written before after s into told m space p q w (Ok x) (Err y) place whole is_told e loaded f is = absurd (false≢true (sym f))
+act_written before after s into told m space p q w (Err x) writes place whole is_told e loaded f is = absurd (false≢true (sym e))
 
 -- ---- the first work of a request
 
@@ -148,36 +145,41 @@ first_flush h r buffer w step cached is syncs =
     let status : 0 ≡ status_of h Flush = sym (ap (λ (o : Option ℕ). unwrap_or o 0) refused) in
     to_step h r buffer Flush _ step Sync w is (ap (first_of Flush) refused) (syncs ∙ ap work.Sync (answer_is h r buffer Flush 0 1 1 status refl refl))
 
--- what the code finds first, by its parts
-pub record FirstFacts (p : Parts) (kind sector capacity : ℕ) (w : Work) : Type 0 where
-  pub read : (x : Sectors) → kind ≡ 0 → p.sectors ≡ Some x → x.writable ≡ true → x.span.len % 512 ≡ 0 → sector + x.span.len / 512 ≤ capacity → 0 < x.span.len / 512 → w ≡ work.Look (whole_transfer p sector x)
-  pub read_nothing : (x : Sectors) → kind ≡ 0 → p.sectors ≡ Some x → x.writable ≡ true → x.span.len ≡ 0 → sector ≤ capacity → w ≡ work.Reply (whole_transfer p sector x).answer
-  pub read_past : (x : Sectors) → kind ≡ 0 → p.sectors ≡ Some x → capacity < sector + x.span.len / 512 → w ≡ work.Reply (plain_answer_of p 1)
-  pub write : (x : Sectors) → kind ≡ 1 → p.sectors ≡ Some x → x.writable ≡ false → x.span.len % 512 ≡ 0 → sector + x.span.len / 512 ≤ capacity → 0 < x.span.len / 512 → w ≡ work.Act (whole_transfer p sector x)
-  pub write_nothing : (x : Sectors) → kind ≡ 1 → p.sectors ≡ Some x → x.writable ≡ false → x.span.len ≡ 0 → sector ≤ capacity → w ≡ work.Reply (whole_transfer p sector x).answer
-  pub write_past : (x : Sectors) → kind ≡ 1 → p.sectors ≡ Some x → capacity < sector + x.span.len / 512 → w ≡ work.Reply (plain_answer_of p 1)
-  pub flush : kind ≡ 4 → w ≡ work.Sync (plain_answer_of p 0)
+-- whole sectors in the right direction and within the capacity can be moved
+moves : (sector capacity : ℕ) (writable : Bool) (x : Sectors) → x.writable ≡ writable → x.span.len % 512 ≡ 0 → sector + x.span.len / 512 ≤ capacity → can_move sector capacity writable (Some x) ≡ true
+moves sector capacity true x is whole within = grind (arith, nat_tests)
+moves sector capacity false x is whole within = grind (arith, nat_tests)
+
+and_false : (a b c : Bool) → c ≡ false → a && (b && c) ≡ false
+and_false true true c is = is
+and_false true false c is = refl
+and_false false b c is = refl
+
+moves_past : (sector capacity : ℕ) (writable : Bool) (x : Sectors) → capacity < sector + x.span.len / 512 → can_move sector capacity writable (Some x) ≡ false
+moves_past sector capacity writable x past =
+    let past_it : nat_le (sector + x.span.len / 512) capacity ≡ false = grind (arith, nat_tests) in
+    and_false (if writable then x.writable else not x.writable) (x.span.len % 512 == 0) (nat_le (sector + x.span.len / 512) capacity) past_it
 
 first_by : (h : Header1) (r : SplitRing) (buffer : ℕ) (request : Asked) (w : Work) (step : TaskStep) → IsBasic request → h.mode ≡ Back → slice_get (task_steps h request) 0 ≡ Some step
-    → FirstFacts (parts_of r buffer request) (type_of request) (sector_of request) h.capacity w → w ≡ work_for h r buffer request step
+    → FirstWork (parts_of r buffer request) (type_of request) (sector_of request) h.capacity w → w ≡ work_for h r buffer request step
 first_by h r buffer (Read s n) w step basic cached is f =
     let x : Sectors = sectors_at r buffer (512 * n) true in
-    first_read h r buffer s n w step is (λ low some. f.read x refl refl refl (omega arith) low some) (λ none low. f.read_nothing x refl refl refl none low) (λ past. f.read_past x refl refl past)
+    first_read h r buffer s n w step is (λ low some. f.read x refl refl (moves s h.capacity true x refl (omega arith) low) some) (λ none low. f.read_nothing x refl refl (moves s h.capacity true x refl (omega arith) (omega (arith, none, low))) none) (λ past. f.read_refused refl (moves_past s h.capacity true x past))
 first_by h r buffer (Write s bytes) w step basic cached is f =
     let x : Sectors = sectors_at r buffer (length bytes) false in
-    first_write h r buffer s bytes w step cached basic is (λ low some. f.write x refl refl refl basic low some) (λ none low. f.write_nothing x refl refl refl none low) (λ past. f.write_past x refl refl past)
+    first_write h r buffer s bytes w step cached basic is (λ low some. f.write x refl refl (moves s h.capacity false x refl basic low) some) (λ none low. f.write_nothing x refl refl (moves s h.capacity false x refl basic (omega (arith, none, low))) none) (λ past. f.write_refused refl (moves_past s h.capacity false x past))
 first_by h r buffer Flush w step basic cached is f = first_flush h r buffer w step cached is (f.flush refl)
 first_by h r buffer Id w step basic cached is f = absurd basic
 first_by h r buffer (Discard parts) w step basic cached is f = absurd basic
 first_by h r buffer (Zero parts) w step basic cached is f = absurd basic
 
 pub first_is : (h : Header1) (r : SplitRing) (buffer : ℕ) (request : Asked) (w : Work) (step : TaskStep) (p : Parts) (kind sector capacity : ℕ) → p ≡ parts_of r buffer request → kind ≡ type_of request → sector ≡ sector_of request
-    → IsServed h capacity request → slice_get (task_steps h request) 0 ≡ Some step → FirstFacts p kind sector capacity w → w ≡ work_for h r buffer request step
+    → IsServed h capacity request → slice_get (task_steps h request) 0 ≡ Some step → FirstWork p kind sector capacity w → w ≡ work_for h r buffer request step
 first_is h r buffer request w step p kind sector capacity same kinds sectors served is f =
-    let a : FirstFacts (parts_of r buffer request) kind sector capacity w = subst (λ (q : Parts). FirstFacts q kind sector capacity w) same f in
-    let b : FirstFacts (parts_of r buffer request) (type_of request) sector capacity w = subst (λ (k : ℕ). FirstFacts (parts_of r buffer request) k sector capacity w) kinds a in
-    let d : FirstFacts (parts_of r buffer request) (type_of request) (sector_of request) capacity w = subst (λ (k : ℕ). FirstFacts (parts_of r buffer request) (type_of request) k capacity w) sectors b in
-    first_by h r buffer request w step served.basic served.cached is (subst (λ (k : ℕ). FirstFacts (parts_of r buffer request) (type_of request) (sector_of request) k w) (sym served.capacity) d)
+    let a : FirstWork (parts_of r buffer request) kind sector capacity w = subst (λ (q : Parts). FirstWork q kind sector capacity w) same f in
+    let b : FirstWork (parts_of r buffer request) (type_of request) sector capacity w = subst (λ (k : ℕ). FirstWork (parts_of r buffer request) k sector capacity w) kinds a in
+    let d : FirstWork (parts_of r buffer request) (type_of request) (sector_of request) capacity w = subst (λ (k : ℕ). FirstWork (parts_of r buffer request) (type_of request) k capacity w) sectors b in
+    first_by h r buffer request w step served.basic served.cached is (subst (λ (k : ℕ). FirstWork (parts_of r buffer request) (type_of request) (sector_of request) k w) (sym served.capacity) d)
 
 -- a field of what was loaded
 pub loaded_field : {T E : Type 0} (at w n : ℕ) (into : List ℕ) (told : Option Bytes) (m : Bytes) (space place s p : ℕ) (loads : Result T E) → told ≡ Some m → is_err loads ≡ false → at + w ≤ n → space ≡ s → place ≡ p

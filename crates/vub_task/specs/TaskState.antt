@@ -1,10 +1,12 @@
 -- A request at work: which step its task makes next, and what that step leaves (VIRTIO 1.2, 5.2.6).
-use Rattle.std.specs.Prelude.{◌≡◌, ◌⊎◌, ◌<◌, ℕ, ◌+◌, ◌*◌, ◌/◌, ◌%◌, Bool, false, not, ◌==◌, ◌&&◌, if◌then◌else◌, min, List, [], ◌∷◌, length, slice_get, Option, Some, None, option_map, Result, Ok, Err, ⊤}
+use Rattle.std.specs.Prelude.{◌≡◌, ◌≢◌, ◌⊎◌, ◌<◌, ◌≤◌, ℕ, ◌+◌, ◌-◌, ◌*◌, ◌/◌, ◌%◌, Bool, true, false, not, nat_le, ◌==◌, ◌&&◌, if◌then◌else◌, min, List, [], ◌∷◌, length, slice_get, Option, Some, None, option_map, Result, Ok, Err, ⊤}
 use Rattle.vub_base.specs.declared.header.Header1.{Header1}
 use Rattle.vub_base.specs.declared.header.CacheMode.TheVariants.{Back}
 use Rattle.vub_base.specs.declared.store.Tag.TheVariants.{T2}
-use Rattle.vub_shared.specs.Bytes.{Bytes}
+use Rattle.byteorder.specs.Endian.{little_bytes}
+use Rattle.vub_shared.specs.Bytes.{Bytes, word, bytes_from}
 use Rattle.vub_shared.specs.Stores.{Store, one_store, after_store, after_in_trail}
+use Rattle.vub_base.specs.Told.{WhereTold}
 use Rattle.vub_disk.specs.Values.{Values, with_value}
 use Rattle.vub_driver.specs.Layout.{status_place}
 use Rattle.vub_device.specs.declared.entry.Asked.{Asked}
@@ -13,7 +15,8 @@ use Rattle.vub_device.specs.declared.entry.SectorValue.{SectorValue}
 use Rattle.vub_device.specs.Requests.{effect_at}
 use Rattle.vub_driver.specs.GuestChain.{Links}
 use Rattle.vub_steps.specs.Tasks.{TaskStep, Look, Put, Act, Sync, Status, task_steps, status_of, used_len}
-use Rattle.vub_direct_chain.specs.ChainState.{MeansRequest, sector_of, data_start, data_len, span_at}
+use Rattle.vub_direct_chain.specs.ChainState.{MeansRequest, sector_of, data_start, data_len, span_at, SpanLies, HasParts, BreaksRule}
+use Rattle.vub_direct_chain.specs.declared.chain.Unread.{Unread}
 use Rattle.vub_split.specs.declared.split.SplitRing.{SplitRing}
 use Rattle.vub_direct_chain.specs.declared.chain.Sectors.{Sectors}
 use Rattle.vub_direct_chain.specs.declared.chain.Parts.{Parts}
@@ -111,6 +114,106 @@ whole_transfer p sector x = record {
   };
 }
 
+-- whether sectors can be moved: in the direction that the descriptor allows, whole ones, and none past the capacity
+abbrev pub can_move : ℕ → ℕ → Bool → Option Sectors → Bool
+can_move sector capacity writable None = false
+can_move sector capacity writable (Some x) = (if writable then x.writable else not x.writable) && ((x.span.len % 512 == 0) && nat_le (sector + x.span.len / 512) capacity)
+
+-- what a request does first, by the type and the sector of its header (5.2.6)
+pub record FirstWork (p : Parts) (kind sector capacity : ℕ) (w : Work) : Type 0 where
+  pub read : (x : Sectors) → kind ≡ 0 → p.sectors ≡ Some x → can_move sector capacity true p.sectors ≡ true → 0 < x.span.len / 512 → w ≡ work.Look (whole_transfer p sector x)
+  pub read_nothing : (x : Sectors) → kind ≡ 0 → p.sectors ≡ Some x → can_move sector capacity true p.sectors ≡ true → x.span.len ≡ 0 → w ≡ work.Reply (whole_transfer p sector x).answer
+  pub read_refused : kind ≡ 0 → can_move sector capacity true p.sectors ≡ false → w ≡ work.Reply (plain_answer_of p 1)
+  pub write : (x : Sectors) → kind ≡ 1 → p.sectors ≡ Some x → can_move sector capacity false p.sectors ≡ true → 0 < x.span.len / 512 → w ≡ work.Act (whole_transfer p sector x)
+  pub write_nothing : (x : Sectors) → kind ≡ 1 → p.sectors ≡ Some x → can_move sector capacity false p.sectors ≡ true → x.span.len ≡ 0 → w ≡ work.Reply (whole_transfer p sector x).answer
+  pub write_refused : kind ≡ 1 → can_move sector capacity false p.sectors ≡ false → w ≡ work.Reply (plain_answer_of p 1)
+  pub flush : kind ≡ 4 → w ≡ work.Sync (plain_answer_of p 0)
+  pub unsupported : kind ≢ 0 → kind ≢ 1 → kind ≢ 4 → w ≡ work.Reply (plain_answer_of p 2)
+
+-- the same of the parts of a chain: a header that is too short is refused, else its bytes hold type and sector
+pub record StartsAs (m : Bytes) (p : Parts) (capacity : ℕ) (w : Work) : Type 0 where
+  pub short : p.header.len < 16 → w ≡ work.Reply (plain_answer_of p 1)
+  pub whole : 16 ≤ p.header.len → FirstWork p (word 4 m p.header.space.number p.header.place) (word 8 m p.header.space.number (p.header.place + 8)) capacity w
+
+-- a chain that was begun, or wasn't read
+abbrev pub Starts : (ℕ → ℕ) → SplitRing → Bytes → ℕ → ℕ → Result Work Unread → Type 0
+Starts sizes r m head capacity (Ok w) = (p : Parts) × HasParts sizes r m head p × StartsAs m p capacity w
+Starts sizes r m head capacity (Err e) = BreaksRule sizes r m head e
+
+-- ---- where a task lies
+
+-- the status has a byte, and lies in its space
+pub record AnswerLies (sizes : ℕ → ℕ) (a : Answer) : Type 0 where
+  pub some : 1 ≤ a.span.len
+  pub status : SpanLies sizes a.span
+
+-- a sector is left, all lie in their space and on the disk
+pub record TransferLies (sizes : ℕ → ℕ) (capacity : ℕ) (t : Transfer) : Type 0 where
+  pub left : t.done < t.count
+  pub sectors : t.span.place + 512 * t.count ≤ sizes t.span.space.number
+  pub disk : t.sector + t.count ≤ capacity
+  pub answer : AnswerLies sizes t.answer
+
+abbrev pub WorkLies : (ℕ → ℕ) → ℕ → Work → Type 0
+WorkLies sizes capacity work.Begin = ⊤
+WorkLies sizes capacity (work.Look t) = TransferLies sizes capacity t
+WorkLies sizes capacity (work.Store t) = TransferLies sizes capacity t
+WorkLies sizes capacity (work.Act t) = TransferLies sizes capacity t
+WorkLies sizes capacity (work.Sync a) = AnswerLies sizes a
+WorkLies sizes capacity (work.Reply a) = AnswerLies sizes a
+
+abbrev pub TaskLies : (ℕ → ℕ) → ℕ → Task → Type 0
+TaskLies sizes capacity task = WorkLies sizes capacity task.work
+
+-- whether the chain of a task was read
+abbrev pub is_begun : Work → Bool
+is_begun work.Begin = false
+is_begun w = true
+
+-- ---- what a step is and what is next, by the work
+
+-- the answer where a disk call failed
+abbrev pub failed_answer : Answer → Answer
+failed_answer a = record a { status = 1; len = a.plain_len }
+
+-- the same with one sector more, or the status after the last one
+abbrev pub one_more : Transfer → Transfer
+one_more t = record t { done = t.done + 1 }
+
+abbrev pub after_put : Transfer → Work
+after_put t = if nat_le t.count (t.done + 1) then work.Reply t.answer else work.Look (one_more t)
+
+abbrev pub after_act : Transfer → Work
+after_act t = if nat_le t.count (t.done + 1) then work.Reply t.answer else work.Act (one_more t)
+
+-- what a step of this work answers, with the work after it
+abbrev pub Makes : Work → made.TaskStep → Work → Type 0
+Makes (work.Look t) (answers.Looked s) next = (s ≡ t.sector + t.done) × (next ≡ work.Store t)
+Makes (work.Look t) answers.Faulted next = next ≡ work.Reply (failed_answer t.answer)
+Makes (work.Store t) (answers.Stored tag) next = (tag ≡ T2) × (next ≡ after_put t)
+Makes (work.Store t) answers.Failed next = next ≡ work.Store t
+Makes (work.Act t) (answers.Acted s) next = (s ≡ t.sector + t.done) × (next ≡ after_act t)
+Makes (work.Act t) answers.Faulted next = next ≡ work.Reply (failed_answer t.answer)
+Makes (work.Act t) answers.Failed next = next ≡ work.Act t
+Makes (work.Sync a) answers.Synced next = next ≡ work.Reply a
+Makes (work.Sync a) answers.Faulted next = next ≡ work.Reply (failed_answer a)
+Makes (work.Reply a) (answers.Done status len) next = (status ≡ a.status) × (len ≡ a.len) × (next ≡ work.Reply a)
+Makes (work.Reply a) answers.Failed next = next ≡ work.Reply a
+Makes w step next = ⊥
+
+-- the store of a step of this work, if it makes one: a sector at its place, or the status in its last byte
+abbrev pub store_by : Work → List ℕ → Option Store
+store_by (work.Store t) sector = Some (one_store t.span.space.number (t.span.place + 512 * t.done) sector)
+store_by (work.Reply a) sector = Some (one_store a.span.space.number (a.span.place + (a.span.len - 1)) (little_bytes 1 a.status))
+store_by w sector = None
+
+-- a task whose disk call failed: it owes status 1, with the used length of an answer without data
+pub record OwesFailure (task : Task) : Type 0 where
+  pub answer : Answer
+  pub next : task.work ≡ work.Reply answer
+  pub status : answer.status ≡ 1
+  pub len : answer.len ≡ answer.plain_len
+
 -- ---- what a step leaves
 
 -- a fact about what a call made, where neither memory nor disk failed in it
@@ -124,6 +227,11 @@ IfMade (Some step) P = P step
 abbrev pub IfSynced : Option made.TaskStep → Type 0 → Type 0
 IfSynced (Some answers.Synced) P = P
 IfSynced o P = ⊤
+
+-- a fact about a disk call that failed
+abbrev pub IfFaulted : made.TaskStep → Type 0 → Type 0
+IfFaulted answers.Faulted P = P
+IfFaulted step P = ⊤
 
 -- whether the memory failed in a step, and whether the disk did
 abbrev pub memory_outcome : Option made.TaskStep → Result (Unit {0}) (Unit {0})
@@ -169,6 +277,24 @@ with_effect (Some x) v = with_value x.sector x.value v
 abbrev pub values_after : Asked → TaskStep → Values → Values
 values_after request (Act place) v = with_effect (effect_at request place) v
 values_after request step v = v
+
+-- the values of the disk after a step of this work
+abbrev pub values_by : Work → Bytes → Values → Values
+values_by (work.Act t) m v = with_value (t.sector + t.done) (bytes_from 512 m t.span.space.number (t.span.place + 512 * t.done)) v
+values_by w m v = v
+
+-- a look leaves the value of its sector
+abbrev pub LooksBy : Work → Values → List ℕ → Type 0
+LooksBy (work.Look t) v sector = sector ≡ v (t.sector + t.done)
+LooksBy w v sector = ⊤
+
+-- what a step of this work leaves: of the work, of the told memory and list of stores, of the disk, and of the sector on its way
+pub record Worked (w : Work) (sector sector_after : List ℕ) (step : made.TaskStep) (next : Work) (told told_after : Option Bytes) (trail trail_after : Option (List Store)) (values values_now : Option Values) : Type 0 where
+  pub makes : Makes w step next
+  pub stored : IfMade (Some step) (λ x. told_after ≡ option_map (after_maybe (store_by w sector)) told)
+  pub trailed : IfMade (Some step) (λ x. trail_after ≡ option_map (with_maybe (store_by w sector)) trail)
+  pub written : WhereTold told (λ m. IfMade (Some step) (λ x. values_now ≡ option_map (values_by w m) values))
+  pub looked : WhereTold values (λ v. IfMade (Some step) (λ x. LooksBy w v sector_after))
 
 -- ---- one step of a request
 

@@ -1,6 +1,6 @@
 //! One request at work: its disk calls and the stores of its data and its status, one a step
 //! (VIRTIO 1.2, 5.2.6).
-ghost use Rattle.std.specs.Prelude.{◌≡◌, ◌<◌, ◌≤◌, ◌+◌, ◌*◌, ◌/◌, ◌%◌, ◌^◌, ℕ, true, false, Option, Some, None, Ok, Err, option_map};
+ghost use Rattle.std.specs.Prelude.{◌≡◌, ◌≢◌, ◌<◌, ◌≤◌, ◌+◌, ◌-◌, ◌*◌, ◌/◌, ◌%◌, ◌^◌, ℕ, true, false, Option, Some, None, Ok, Err, IfOk, option_map};
 ghost use Rattle.byteorder.specs.Endian.{little_bytes};
 ghost use Rattle.vub_base.specs.Causes.{HasCause};
 ghost use Rattle.vub_base.specs.Told.{WhereTold};
@@ -10,7 +10,8 @@ ghost use Rattle.vub_shared.specs.Stores.{one_store, after_store, after_in_trail
 ghost use Rattle.vub_shared.specs.Frames.{OnlyLoads, KeepsSpaces};
 ghost use Rattle.vub_disk.specs.Values.{with_value};
 ghost use Rattle.vub_split.specs.Split.{RingLies};
-ghost use Rattle.vub_task.specs.TaskState.{IfMade, IfSynced, GainsOne, fresh_task, head_in, memory_outcome, disk_outcome, plain_len_of, plain_answer_of, whole_transfer};
+ghost use Rattle.vub_task.specs.TaskState.{IfMade, IfSynced, IfFaulted, GainsOne, fresh_task, head_in, memory_outcome, disk_outcome, plain_len_of, plain_answer_of, whole_transfer, can_move, FirstWork, WorkLies, TransferLies, AnswerLies, is_begun, failed_answer, one_more, after_put, after_act};
+ghost use Rattle.vub_direct_chain.specs.ChainState.{PartsLie};
 ghost use Rattle.vub_direct_chain.specs.declared.chain.Sectors.{Sectors};
 ghost use Rattle.vub_task.specs.declared.task.TaskStep.TheVariants as answers;
 ghost use Rattle.vub_task.specs.declared.task.Work.TheVariants as work;
@@ -19,8 +20,8 @@ use vub_base::standard::{
     REQUEST_HEADER_SIZE, REQUEST_SECTOR, REQUEST_TYPE, SECTOR_SIZE, VIRTIO_BLK_S_IOERR,
     VIRTIO_BLK_S_OK, VIRTIO_BLK_S_UNSUPP, VIRTIO_BLK_T_FLUSH, VIRTIO_BLK_T_IN, VIRTIO_BLK_T_OUT,
 };
-use vub_base::{ChainFault, Failed, RingFault, Tag, get_u32, get_u64};
-use vub_direct_chain::{Parts, Sectors, Span, Unread, lies_in, read_chain};
+use vub_base::{RingFault, Tag, get_u32, get_u64};
+use vub_direct_chain::{Parts, Sectors, Span, Unread, read_chain};
 use vub_disk::Disk;
 use vub_shared::Shared;
 use vub_split::SplitRing;
@@ -111,16 +112,12 @@ fn plain_answer(parts: &Parts, status: u8) -> Answer
     }
 }
 
-/// The place of sector `done` of a transfer in its span, if it lies there.
-fn sector_span(transfer: &Transfer) -> Option<Span>
-    ensures { transfer.now.span.place + 512 * transfer.now.done < 2 ^ 64 → result ≡ Some (record { space = transfer.now.span.space; place = transfer.now.span.place + 512 * transfer.now.done; len = 512 }) }
+/// The place in its space of sector `done` of a transfer.
+fn sector_place(transfer: &Transfer) -> u64
+    requires { transfer.now.span.place + 512 * transfer.now.done < 2 ^ 64 }
+    ensures { result ≡ transfer.now.span.place + 512 * transfer.now.done }
 {
-    let offset = transfer.done.checked_mul(SECTOR_SIZE as u64)?;
-    Some(Span {
-        space: transfer.span.space,
-        place: transfer.span.place.checked_add(offset)?,
-        len: SECTOR_SIZE as u32,
-    })
+    transfer.span.place + SECTOR_SIZE as u64 * transfer.done
 }
 
 /// A read or a write of the sectors of a request, or the refusal of one that isn't whole or ends
@@ -131,8 +128,8 @@ fn transfer_of(
     capacity: u64,
     writable: bool,
 ) -> Result<Transfer, Answer>
-    ensures whole { (x : Sectors) → parts.now.sectors ≡ Some x → x.writable ≡ writable → x.span.len % 512 ≡ 0 → sector + x.span.len / 512 ≤ capacity → result ≡ Ok (whole_transfer parts.now sector x) }
-    ensures past { (x : Sectors) → parts.now.sectors ≡ Some x → capacity < sector + x.span.len / 512 → result ≡ Err (plain_answer_of parts.now 1) }
+    ensures whole { (x : Sectors) → parts.now.sectors ≡ Some x → can_move sector capacity writable parts.now.sectors ≡ true → result ≡ Ok (whole_transfer parts.now sector x) }
+    ensures refused { can_move sector capacity writable parts.now.sectors ≡ false → result ≡ Err (plain_answer_of parts.now 1) }
 {
     let refused = plain_answer(parts, VIRTIO_BLK_S_IOERR);
     let Some(Sectors { span, writable: is }) = parts.sectors else {
@@ -162,13 +159,9 @@ fn transfer_of(
 
 /// What a request does first, by the type and the sector of its header.
 fn first_work(kind: u32, sector: u64, parts: &Parts, capacity: u64) -> Work
-    ensures read { (x : Sectors) → kind ≡ 0 → parts.now.sectors ≡ Some x → x.writable ≡ true → x.span.len % 512 ≡ 0 → sector + x.span.len / 512 ≤ capacity → 0 < x.span.len / 512 → result ≡ work.Look (whole_transfer parts.now sector x) }
-    ensures read_nothing { (x : Sectors) → kind ≡ 0 → parts.now.sectors ≡ Some x → x.writable ≡ true → x.span.len ≡ 0 → sector ≤ capacity → result ≡ work.Reply (whole_transfer parts.now sector x).answer }
-    ensures read_past { (x : Sectors) → kind ≡ 0 → parts.now.sectors ≡ Some x → capacity < sector + x.span.len / 512 → result ≡ work.Reply (plain_answer_of parts.now 1) }
-    ensures write { (x : Sectors) → kind ≡ 1 → parts.now.sectors ≡ Some x → x.writable ≡ false → x.span.len % 512 ≡ 0 → sector + x.span.len / 512 ≤ capacity → 0 < x.span.len / 512 → result ≡ work.Act (whole_transfer parts.now sector x) }
-    ensures write_nothing { (x : Sectors) → kind ≡ 1 → parts.now.sectors ≡ Some x → x.writable ≡ false → x.span.len ≡ 0 → sector ≤ capacity → result ≡ work.Reply (whole_transfer parts.now sector x).answer }
-    ensures write_past { (x : Sectors) → kind ≡ 1 → parts.now.sectors ≡ Some x → capacity < sector + x.span.len / 512 → result ≡ work.Reply (plain_answer_of parts.now 1) }
-    ensures flush { kind ≡ 4 → result ≡ work.Sync (plain_answer_of parts.now 0) }
+    ensures first { FirstWork parts.now kind sector capacity result }
+    ensures lies { (sizes : ℕ → ℕ) → PartsLie sizes parts.now → WorkLies sizes capacity result }
+    ensures begun { is_begun result ≡ true }
 {
     match kind {
         VIRTIO_BLK_T_IN => match transfer_of(parts, sector, capacity, true) {
@@ -197,7 +190,9 @@ fn after_sector(transfer: Transfer, more: Work) -> Work
 }
 
 /// The answer of a request whose disk call failed.
-fn failed(answer: Answer) -> Answer {
+fn failed(answer: Answer) -> Answer
+    ensures { result ≡ failed_answer answer }
+{
     Answer {
         status: VIRTIO_BLK_S_IOERR,
         len: answer.plain_len,
@@ -212,13 +207,15 @@ impl Task {
     ghost use Rattle.vub_driver.specs.GuestChain.{Links};
     ghost use Rattle.vub_steps.specs.Tasks as Tasks;
     ghost use Rattle.vub_steps.specs.Tasks.{task_steps};
-    ghost use Rattle.vub_direct_chain.specs.ChainState.{MeansRequest, Reads, read_outcome};
-    ghost use Rattle.vub_task.specs.TaskState.{Making, IsNext, IsServed, IsReady, IsTaskAt, HasMade, LooksAt, answer_in, store_in, memory_after, with_maybe, values_after, work_for, work_of};
+    ghost use Rattle.vub_direct_chain.specs.ChainState.{MeansRequest, Reads, read_outcome, BreaksRule};
+    ghost use Rattle.vub_direct_chain.specs.declared.chain.Unread.TheVariants as unread;
+    ghost use Rattle.vub_task.specs.TaskState.{Starts, TaskLies, Makes, Worked, OwesFailure, Making, IsNext, IsServed, IsReady, IsTaskAt, HasMade, LooksAt, answer_in, store_in, memory_after, with_maybe, values_after, work_for, work_of};
     ghost use Rattle.vub_split.specs.declared.split.SplitRing.{SplitRing};
 
     /// A request that was accepted under this head.
     pub fn new(head: u16) -> Task
         ensures is { result ≡ fresh_task head }
+        ensures lies { (sizes : ℕ → ℕ) (capacity : ℕ) → TaskLies sizes capacity result }
         ensures fresh { (h : Header1) (r : SplitRing) (buffer : ℕ) (request : Asked) → IsTaskAt h r buffer request 0 result }
     {
         Task {
@@ -238,13 +235,16 @@ impl Task {
     fn begin<M: Shared>(&self, ring: &SplitRing, mem: &mut M, capacity: u64) -> Result<Work, Unread>
         requires lies { RingLies (M.sizes mem.old) ring.now }
         requires fits { self.now.head < ring.now.size }
+        ensures starts { WhereTold (M.told mem.old) (λ m. Starts (M.sizes mem.old) ring.now m self.now.head capacity result) }
+        ensures lies { IfOk result (λ w. WorkLies (M.sizes mem.old) capacity w) }
+        ensures begun { IfOk result (λ w. is_begun w ≡ true) }
         ensures begins { (h : Header1) (l : Links) (buffer : ℕ) (request : Asked) (step : Tasks.TaskStep) → WhereTold (M.told mem.old) (λ m. MeansRequest (M.sizes mem.old) ring.now m l buffer request → l.head ≡ self.now.head → IsServed h capacity request → slice_get (task_steps h request) 0 ≡ Some step → Reads result (work_for h ring.now buffer request step)) }
         ensures only_loads { OnlyLoads M.told M.trail M.names M.handed M.sizes mem.old mem.new }
         ensures cause { HasCause (M.faults mem.old) (M.faults mem.new) (read_outcome result) }
     {
         let parts = read_chain(ring, mem, self.head)?;
         let header = parts.header;
-        if header.len < REQUEST_HEADER_SIZE as u32 || !lies_in(mem, &header) {
+        if header.len < REQUEST_HEADER_SIZE as u32 {
             return Ok(Work::Reply(plain_answer(&parts, VIRTIO_BLK_S_IOERR)));
         }
         let mut bytes = [0u8; REQUEST_HEADER_SIZE];
@@ -256,108 +256,115 @@ impl Task {
         Ok(first_work(kind, sector, &parts, capacity))
     }
 
+    /// Reads the next sector of the disk.
     fn look<D: Disk>(
         &mut self,
         transfer: Transfer,
         disk: &mut D,
         sector: &mut [u8; SECTOR_SIZE],
-    ) -> Option<TaskStep>
-        ensures answer { transfer.sector + transfer.done < D.capacity disk.old → IfMade result (λ step. step ≡ answers.Looked (transfer.sector + transfer.done)) }
-        ensures read { transfer.sector + transfer.done < D.capacity disk.old → IfMade result (λ step. WhereTold (D.values disk.old) (λ v. sector.new ≡ v (transfer.sector + transfer.done))) }
-        ensures next { transfer.sector + transfer.done < D.capacity disk.old → IfMade result (λ step. self.new.work ≡ work.Store transfer) }
+    ) -> TaskStep
+        requires { transfer.sector + transfer.done < D.capacity disk.old }
+        ensures answer { IfMade (Some result) (λ step. step ≡ answers.Looked (transfer.sector + transfer.done)) }
+        ensures read { IfMade (Some result) (λ step. WhereTold (D.values disk.old) (λ v. sector.new ≡ v (transfer.sector + transfer.done))) }
+        ensures next { IfMade (Some result) (λ step. self.new.work ≡ work.Store transfer) }
+        ensures failed { IfFaulted result (self.new.work ≡ work.Reply (failed_answer transfer.answer)) }
         ensures head { self.new.head ≡ self.old.head }
         ensures values { D.values disk.new ≡ D.values disk.old }
         ensures capacity { D.capacity disk.new ≡ D.capacity disk.old }
-        ensures disk_cause { HasCause (D.faults disk.old) (D.faults disk.new) (disk_outcome result) }
-        ensures no_memory { memory_outcome result ≡ Ok tt }
-        ensures other { IfSynced result ⊥ }
+        ensures disk_cause { HasCause (D.faults disk.old) (D.faults disk.new) (disk_outcome (Some result)) }
+        ensures no_memory { memory_outcome (Some result) ≡ Ok tt }
+        ensures other { IfSynced (Some result) ⊥ }
     {
-        let number = transfer.sector.checked_add(transfer.done)?;
-        if number >= disk.capacity() {
-            return None;
-        }
+        let number = transfer.sector + transfer.done;
         if disk.read(number, sector).is_err() {
             self.work = Work::Reply(failed(transfer.answer));
-            return Some(TaskStep::Faulted);
+            return TaskStep::Faulted;
         }
         self.work = Work::Store(transfer);
-        Some(TaskStep::Looked(number))
+        TaskStep::Looked(number)
     }
 
+    /// Stores the sector that was read at its place in the buffer.
     fn store<M: Shared>(
         &mut self,
         transfer: Transfer,
         mem: &mut M,
         sector: &[u8; SECTOR_SIZE],
-    ) -> Option<TaskStep>
-        ensures answer { transfer.span.place + (512 * transfer.done + 512) ≤ M.sizes mem.old transfer.span.space.number → IfMade result (λ step. step ≡ answers.Stored T2) }
-        ensures stored { transfer.span.place + (512 * transfer.done + 512) ≤ M.sizes mem.old transfer.span.space.number → IfMade result (λ step. M.told mem.new ≡ option_map (after_store (one_store transfer.span.space.number (transfer.span.place + 512 * transfer.done) sector.now)) (M.told mem.old)) }
-        ensures trailed { transfer.span.place + (512 * transfer.done + 512) ≤ M.sizes mem.old transfer.span.space.number → IfMade result (λ step. M.trail mem.new ≡ option_map (after_in_trail (one_store transfer.span.space.number (transfer.span.place + 512 * transfer.done) sector.now)) (M.trail mem.old)) }
+    ) -> TaskStep
+        requires room { transfer.span.place + (512 * transfer.done + 512) ≤ M.sizes mem.old transfer.span.space.number }
+        requires left { transfer.done < transfer.count }
+        requires at_work { self.old.work ≡ work.Store transfer }
+        ensures answer { IfMade (Some result) (λ step. step ≡ answers.Stored T2) }
+        ensures stored { IfMade (Some result) (λ step. M.told mem.new ≡ option_map (after_store (one_store transfer.span.space.number (transfer.span.place + 512 * transfer.done) sector.now)) (M.told mem.old)) }
+        ensures trailed { IfMade (Some result) (λ step. M.trail mem.new ≡ option_map (after_in_trail (one_store transfer.span.space.number (transfer.span.place + 512 * transfer.done) sector.now)) (M.trail mem.old)) }
         ensures trail { GainsOne (M.trail mem.old) (M.trail mem.new) }
-        ensures more { transfer.span.place + (512 * transfer.done + 512) ≤ M.sizes mem.old transfer.span.space.number → transfer.done + 1 < transfer.count → IfMade result (λ step. self.new.work ≡ work.Look (record transfer { done = transfer.done + 1 })) }
-        ensures last { transfer.span.place + (512 * transfer.done + 512) ≤ M.sizes mem.old transfer.span.space.number → transfer.count ≤ transfer.done + 1 → IfMade result (λ step. self.new.work ≡ work.Reply transfer.answer) }
+        ensures more { transfer.done + 1 < transfer.count → IfMade (Some result) (λ step. self.new.work ≡ work.Look (one_more transfer)) }
+        ensures last { transfer.count ≤ transfer.done + 1 → IfMade (Some result) (λ step. self.new.work ≡ work.Reply transfer.answer) }
+        ensures makes { Makes (work.Store transfer) result self.new.work }
         ensures head { self.new.head ≡ self.old.head }
         ensures keeps_spaces { KeepsSpaces M.names M.handed M.sizes mem.old mem.new }
-        ensures memory_cause { HasCause (M.faults mem.old) (M.faults mem.new) (memory_outcome result) }
-        ensures no_disk { disk_outcome result ≡ Ok tt }
-        ensures other { IfSynced result ⊥ }
+        ensures memory_cause { HasCause (M.faults mem.old) (M.faults mem.new) (memory_outcome (Some result)) }
+        ensures no_disk { disk_outcome (Some result) ≡ Ok tt }
+        ensures other { IfSynced (Some result) ⊥ }
     {
-        let span = sector_span(&transfer)?;
-        if span.len != SECTOR_SIZE as u32 || !lies_in(mem, &span) {
-            return None;
-        }
-        if mem.store_run(span.space, span.place, sector).is_err() {
-            return Some(TaskStep::Failed);
+        let place = sector_place(&transfer);
+        if mem.store_run(transfer.span.space, place, sector).is_err() {
+            return TaskStep::Failed;
         }
         let next = Transfer {
-            done: transfer.done.checked_add(1)?,
+            done: transfer.done + 1,
             ..transfer
         };
         self.work = after_sector(next, Work::Look(next));
-        Some(TaskStep::Stored(Tag::T2))
+        TaskStep::Stored(Tag::T2)
     }
 
+    /// Writes the next sector of the buffer to the disk.
     fn act<M: Shared, D: Disk>(
         &mut self,
         transfer: Transfer,
         mem: &mut M,
         disk: &mut D,
         sector: &mut [u8; SECTOR_SIZE],
-    ) -> Option<TaskStep>
-        ensures answer { transfer.span.place + (512 * transfer.done + 512) ≤ M.sizes mem.old transfer.span.space.number → transfer.sector + transfer.done < D.capacity disk.old → IfMade result (λ step. step ≡ answers.Acted (transfer.sector + transfer.done)) }
-        ensures written { transfer.span.place + (512 * transfer.done + 512) ≤ M.sizes mem.old transfer.span.space.number → transfer.sector + transfer.done < D.capacity disk.old → IfMade result (λ step. WhereTold (M.told mem.old) (λ m. D.values disk.new ≡ option_map (with_value (transfer.sector + transfer.done) (bytes_from 512 m transfer.span.space.number (transfer.span.place + 512 * transfer.done))) (D.values disk.old))) }
-        ensures more { transfer.span.place + (512 * transfer.done + 512) ≤ M.sizes mem.old transfer.span.space.number → transfer.sector + transfer.done < D.capacity disk.old → transfer.done + 1 < transfer.count → IfMade result (λ step. self.new.work ≡ work.Act (record transfer { done = transfer.done + 1 })) }
-        ensures last { transfer.span.place + (512 * transfer.done + 512) ≤ M.sizes mem.old transfer.span.space.number → transfer.sector + transfer.done < D.capacity disk.old → transfer.count ≤ transfer.done + 1 → IfMade result (λ step. self.new.work ≡ work.Reply transfer.answer) }
+    ) -> TaskStep
+        requires room { transfer.span.place + (512 * transfer.done + 512) ≤ M.sizes mem.old transfer.span.space.number }
+        requires below { transfer.sector + transfer.done < D.capacity disk.old }
+        requires left { transfer.done < transfer.count }
+        requires at_work { self.old.work ≡ work.Act transfer }
+        ensures answer { IfMade (Some result) (λ step. step ≡ answers.Acted (transfer.sector + transfer.done)) }
+        ensures written { IfMade (Some result) (λ step. WhereTold (M.told mem.old) (λ m. D.values disk.new ≡ option_map (with_value (transfer.sector + transfer.done) (bytes_from 512 m transfer.span.space.number (transfer.span.place + 512 * transfer.done))) (D.values disk.old))) }
+        ensures more { transfer.done + 1 < transfer.count → IfMade (Some result) (λ step. self.new.work ≡ work.Act (one_more transfer)) }
+        ensures last { transfer.count ≤ transfer.done + 1 → IfMade (Some result) (λ step. self.new.work ≡ work.Reply transfer.answer) }
+        ensures makes { Makes (work.Act transfer) result self.new.work }
         ensures head { self.new.head ≡ self.old.head }
         ensures only_loads { OnlyLoads M.told M.trail M.names M.handed M.sizes mem.old mem.new }
         ensures capacity { D.capacity disk.new ≡ D.capacity disk.old }
-        ensures memory_cause { HasCause (M.faults mem.old) (M.faults mem.new) (memory_outcome result) }
-        ensures disk_cause { HasCause (D.faults disk.old) (D.faults disk.new) (disk_outcome result) }
-        ensures other { IfSynced result ⊥ }
+        ensures memory_cause { HasCause (M.faults mem.old) (M.faults mem.new) (memory_outcome (Some result)) }
+        ensures disk_cause { HasCause (D.faults disk.old) (D.faults disk.new) (disk_outcome (Some result)) }
+        ensures other { IfSynced (Some result) ⊥ }
     {
-        let span = sector_span(&transfer)?;
-        let number = transfer.sector.checked_add(transfer.done)?;
-        if span.len != SECTOR_SIZE as u32 || !lies_in(mem, &span) || number >= disk.capacity() {
-            return None;
-        }
-        if mem.load(span.space, span.place, sector).is_err() {
-            return Some(TaskStep::Failed);
+        let place = sector_place(&transfer);
+        let number = transfer.sector + transfer.done;
+        if mem.load(transfer.span.space, place, sector).is_err() {
+            return TaskStep::Failed;
         }
         if disk.write(number, sector).is_err() {
             self.work = Work::Reply(failed(transfer.answer));
-            return Some(TaskStep::Faulted);
+            return TaskStep::Faulted;
         }
         let next = Transfer {
-            done: transfer.done.checked_add(1)?,
+            done: transfer.done + 1,
             ..transfer
         };
         self.work = after_sector(next, Work::Act(next));
-        Some(TaskStep::Acted(number))
+        TaskStep::Acted(number)
     }
 
+    /// Flushes the disk.
     fn sync<D: Disk>(&mut self, answer: Answer, disk: &mut D) -> TaskStep
         ensures answer { IfMade (Some result) (λ step. step ≡ answers.Synced) }
         ensures next { IfMade (Some result) (λ step. self.new.work ≡ work.Reply answer) }
+        ensures failed { IfFaulted result (self.new.work ≡ work.Reply (failed_answer answer)) }
         ensures values { D.values disk.new ≡ D.values disk.old }
         ensures stable { IfSynced (Some result) (D.stable disk.new ≡ D.values disk.new) }
         ensures head { self.new.head ≡ self.old.head }
@@ -373,27 +380,26 @@ impl Task {
         TaskStep::Synced
     }
 
-    fn reply<M: Shared>(&self, answer: Answer, mem: &mut M) -> Option<TaskStep>
-        ensures answer { answer.span.len ≡ 1 → answer.span.place + 1 ≤ M.sizes mem.old answer.span.space.number → IfMade result (λ step. step ≡ answers.Done answer.status answer.len) }
-        ensures stored { answer.span.len ≡ 1 → answer.span.place + 1 ≤ M.sizes mem.old answer.span.space.number → IfMade result (λ step. M.told mem.new ≡ option_map (after_store (one_store answer.span.space.number answer.span.place (little_bytes 1 answer.status))) (M.told mem.old)) }
-        ensures trailed { answer.span.len ≡ 1 → answer.span.place + 1 ≤ M.sizes mem.old answer.span.space.number → IfMade result (λ step. M.trail mem.new ≡ option_map (after_in_trail (one_store answer.span.space.number answer.span.place (little_bytes 1 answer.status))) (M.trail mem.old)) }
+    /// Stores the status in the last byte of its span.
+    fn reply<M: Shared>(&self, answer: Answer, mem: &mut M) -> TaskStep
+        requires { AnswerLies (M.sizes mem.old) answer }
+        ensures answer { IfMade (Some result) (λ step. step ≡ answers.Done answer.status answer.len) }
+        ensures stored { IfMade (Some result) (λ step. M.told mem.new ≡ option_map (after_store (one_store answer.span.space.number (answer.span.place + (answer.span.len - 1)) (little_bytes 1 answer.status))) (M.told mem.old)) }
+        ensures trailed { IfMade (Some result) (λ step. M.trail mem.new ≡ option_map (after_in_trail (one_store answer.span.space.number (answer.span.place + (answer.span.len - 1)) (little_bytes 1 answer.status))) (M.trail mem.old)) }
         ensures trail { GainsOne (M.trail mem.old) (M.trail mem.new) }
         ensures keeps_spaces { KeepsSpaces M.names M.handed M.sizes mem.old mem.new }
-        ensures memory_cause { HasCause (M.faults mem.old) (M.faults mem.new) (memory_outcome result) }
-        ensures no_disk { disk_outcome result ≡ Ok tt }
-        ensures other { IfSynced result ⊥ }
+        ensures memory_cause { HasCause (M.faults mem.old) (M.faults mem.new) (memory_outcome (Some result)) }
+        ensures no_disk { disk_outcome (Some result) ≡ Ok tt }
+        ensures other { IfSynced (Some result) ⊥ }
     {
-        if answer.span.len == 0 || !lies_in(mem, &answer.span) {
-            return None;
-        }
         let last = answer.span.place + (u64::from(answer.span.len) - 1);
         if mem.store1(answer.span.space, last, answer.status).is_err() {
-            return Some(TaskStep::Failed);
+            return TaskStep::Failed;
         }
-        Some(TaskStep::Done {
+        TaskStep::Done {
             status: answer.status,
             len: answer.len,
-        })
+        }
     }
 
     /// What is to be done next, which the chain and the header say at first.
@@ -405,6 +411,11 @@ impl Task {
     ) -> Result<Work, Unread>
         requires lies { RingLies (M.sizes mem.old) ring.now }
         requires fits { self.now.head < ring.now.size }
+        requires task { TaskLies (M.sizes mem.old) capacity self.now }
+        ensures starts { self.now.work ≡ work.Begin → WhereTold (M.told mem.old) (λ m. Starts (M.sizes mem.old) ring.now m self.now.head capacity result) }
+        ensures goes_on { is_begun self.now.work ≡ true → result ≡ Ok self.now.work }
+        ensures lies { IfOk result (λ w. WorkLies (M.sizes mem.old) capacity w) }
+        ensures begun { IfOk result (λ w. is_begun w ≡ true) }
         ensures ready { (n : Making) → WhereTold (M.told mem.old) (λ m. IsNext capacity (M.sizes mem.old) ring.now m n → IsReady ring.now n self.now → Reads result (work_of ring.now n)) }
         ensures only_loads { OnlyLoads M.told M.trail M.names M.handed M.sizes mem.old mem.new }
         ensures cause { HasCause (M.faults mem.old) (M.faults mem.new) (read_outcome result) }
@@ -429,6 +440,10 @@ impl Task {
     ) -> TaskStep
         requires lies { RingLies (M.sizes mem.old) ring.now }
         requires fits { self.old.head < ring.now.size }
+        requires task { TaskLies (M.sizes mem.old) (D.capacity disk.old) self.old }
+        ensures task { TaskLies (M.sizes mem.new) (D.capacity disk.new) self.new }
+        ensures worked { is_begun self.old.work ≡ true → Worked self.old.work sector.old sector.new result self.new.work (M.told mem.old) (M.told mem.new) (M.trail mem.old) (M.trail mem.new) (D.values disk.old) (D.values disk.new) }
+        ensures failed { IfFaulted result (OwesFailure self.new) }
         ensures head { self.new.head ≡ self.old.head }
         ensures answer { (n : Making) → WhereTold (M.told mem.old) (λ m. IsNext (D.capacity disk.old) (M.sizes mem.old) ring.now m n → IsReady ring.now n self.old → IfMade (Some result) (λ step. step ≡ answer_in n)) }
         ensures stored { (n : Making) → WhereTold (M.told mem.old) (λ m. IsNext (D.capacity disk.old) (M.sizes mem.old) ring.now m n → IsReady ring.now n self.old → IfMade (Some result) (λ step. M.told mem.new ≡ Some (memory_after ring.now n sector.old m))) }
@@ -453,12 +468,17 @@ impl Task {
         }
     }
 
+    /// Makes the next step of a request that was begun.
     fn go_on<M: Shared, D: Disk>(
         &mut self,
         mem: &mut M,
         disk: &mut D,
         sector: &mut [u8; SECTOR_SIZE],
     ) -> TaskStep
+        requires begun { is_begun self.old.work ≡ true }
+        requires lies { TaskLies (M.sizes mem.old) (D.capacity disk.old) self.old }
+        ensures lies { TaskLies (M.sizes mem.new) (D.capacity disk.new) self.new }
+        ensures worked { Worked self.old.work sector.old sector.new result self.new.work (M.told mem.old) (M.told mem.new) (M.trail mem.old) (M.trail mem.new) (D.values disk.old) (D.values disk.new) }
         ensures head { self.new.head ≡ self.old.head }
         ensures answer { (r : SplitRing) (n : Making) → WhereTold (M.told mem.old) (λ m. IsNext (D.capacity disk.old) (M.sizes mem.old) r m n → self.old.work ≡ work_of r n → IfMade (Some result) (λ step. step ≡ answer_in n)) }
         ensures stored { (r : SplitRing) (n : Making) → WhereTold (M.told mem.old) (λ m. IsNext (D.capacity disk.old) (M.sizes mem.old) r m n → self.old.work ≡ work_of r n → IfMade (Some result) (λ step. M.told mem.new ≡ Some (memory_after r n sector.old m))) }
@@ -473,40 +493,12 @@ impl Task {
         ensures memory_cause { HasCause (M.faults mem.old) (M.faults mem.new) (memory_outcome (Some result)) }
         ensures disk_cause { HasCause (D.faults disk.old) (D.faults disk.new) (disk_outcome (Some result)) }
     {
-        match self.attempt(mem, disk, sector) {
-            Some(step) => step,
-            None => TaskStep::Broken(RingFault::Chain(ChainFault::Unmapped(0))),
-        }
-    }
-
-    /// Makes the next step of a request that was begun; `None` where its parts don't lie where they
-    /// should.
-    fn attempt<M: Shared, D: Disk>(
-        &mut self,
-        mem: &mut M,
-        disk: &mut D,
-        sector: &mut [u8; SECTOR_SIZE],
-    ) -> Option<TaskStep>
-        ensures head { self.new.head ≡ self.old.head }
-        ensures answer { (r : SplitRing) (n : Making) → WhereTold (M.told mem.old) (λ m. IsNext (D.capacity disk.old) (M.sizes mem.old) r m n → self.old.work ≡ work_of r n → IfMade result (λ step. step ≡ answer_in n)) }
-        ensures stored { (r : SplitRing) (n : Making) → WhereTold (M.told mem.old) (λ m. IsNext (D.capacity disk.old) (M.sizes mem.old) r m n → self.old.work ≡ work_of r n → IfMade result (λ step. M.told mem.new ≡ Some (memory_after r n sector.old m))) }
-        ensures trails { (r : SplitRing) (n : Making) → WhereTold (M.told mem.old) (λ m. IsNext (D.capacity disk.old) (M.sizes mem.old) r m n → self.old.work ≡ work_of r n → IfMade result (λ step. M.trail mem.new ≡ option_map (with_maybe (store_in r n sector.old)) (M.trail mem.old))) }
-        ensures trail { GainsOne (M.trail mem.old) (M.trail mem.new) }
-        ensures looked { (r : SplitRing) (n : Making) → WhereTold (M.told mem.old) (λ m. IsNext (D.capacity disk.old) (M.sizes mem.old) r m n → self.old.work ≡ work_of r n → IfMade result (λ step. WhereTold (D.values disk.old) (λ v. LooksAt n v sector.new))) }
-        ensures written { (r : SplitRing) (n : Making) → WhereTold (M.told mem.old) (λ m. IsNext (D.capacity disk.old) (M.sizes mem.old) r m n → self.old.work ≡ work_of r n → IfMade result (λ step. D.values disk.new ≡ option_map (values_after n.request n.step) (D.values disk.old))) }
-        ensures stable { IfSynced result (D.stable disk.new ≡ D.values disk.new) }
-        ensures goes_on { (r : SplitRing) (n : Making) → WhereTold (M.told mem.old) (λ m. IsNext (D.capacity disk.old) (M.sizes mem.old) r m n → self.old.work ≡ work_of r n → IfMade result (λ step. HasMade r n self.new)) }
-        ensures keeps_spaces { KeepsSpaces M.names M.handed M.sizes mem.old mem.new }
-        ensures capacity { D.capacity disk.new ≡ D.capacity disk.old }
-        ensures memory_cause { HasCause (M.faults mem.old) (M.faults mem.new) (memory_outcome result) }
-        ensures disk_cause { HasCause (D.faults disk.old) (D.faults disk.new) (disk_outcome result) }
-    {
         match self.work {
-            Work::Begin => None,
+            Work::Begin => unreachable!(),
             Work::Look(transfer) => self.look(transfer, disk, sector),
             Work::Store(transfer) => self.store(transfer, mem, sector),
             Work::Act(transfer) => self.act(transfer, mem, disk, sector),
-            Work::Sync(answer) => Some(self.sync(answer, disk)),
+            Work::Sync(answer) => self.sync(answer, disk),
             Work::Reply(answer) => self.reply(answer, mem),
         }
     }

@@ -8,6 +8,10 @@ use Rattle.vub_world.specs.declared.machine.Machine.{Machine}
 use Rattle.vub_split.specs.Split.{RingLies}
 use Rattle.vub_queue_in_run.specs.QueueAt.{IsMainRing}
 use Rattle.vub_world.specs.Machine.{IsSound, sizes_in}
+use Rattle.vub_world.specs.Lives.{LiesInLife}
+use Rattle.vub_world.specs.declared.machine.Life.{Life}
+use Rattle.std.specs.Prelude.{Option}
+use mathlib.Core.Path.{fun_ext}
 
 -- ---- the ring of the first queue
 
@@ -40,3 +44,11 @@ sound_room w sound = omega (arith, sound.room)
 
 pub sound_ring : (w : Machine) → IsSound w → RingLies (sizes_in w) w.ring
 sound_ring w sound = main_lies (sizes_in w) w.ring w.header.size (sound_room w sound) sound.header.sized sound.ring
+
+-- ---- the queue of a life
+
+-- it lies where no size changes
+pub life_lies : (old new : ℕ → ℕ) (capacity : ℕ) (l : Option Life) → ((s : ℕ) → new s ≡ old s) → LiesInLife old capacity l → LiesInLife new capacity l
+life_lies old new capacity l same h =
+    let equal : old ≡ new = fun_ext (λ s. sym (same s)) in
+    subst (λ (f : ℕ → ℕ). LiesInLife f capacity l) equal h

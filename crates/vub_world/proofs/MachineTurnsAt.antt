@@ -14,7 +14,7 @@ use Rattle.vub_shared.specs.MemSpaces.{bytes_of, sizes_of}
 use Rattle.vub_shared.specs.declared.mem_shared.MemShared.{MemShared}
 use Rattle.vub_shared.specs.declared.watched_shared.WatchedShared.{WatchedShared}
 use Rattle.vub_disk.specs.Values.{Values}
-use Rattle.vub_memdisk.specs.MemDisks.{values_of}
+use Rattle.vub_memdisk.specs.MemDisks.{values_of, capacity_of}
 use Rattle.vub_memdisk.specs.declared.mem_disk.MemDisk.{MemDisk}
 use Rattle.vub_steps.specs.declared.readiness.Turn.{Turn}
 use Rattle.vub_steps.specs.Readiness.{is_ready}
@@ -31,21 +31,19 @@ use Rattle.vub_queue.specs.declared.queue.Stepped.{Stepped}
 use Rattle.vub_queue.specs.declared.queue.Stepped.TheVariants as says
 use Rattle.vub_report.specs.declared.items.Item.{Item}
 use Rattle.vub_report.specs.declared.items.Item.TheVariants as items
-use Rattle.vub_split.specs.declared.split.SplitRing.{SplitRing}
-use Rattle.vub_world.specs.Lives.{RingOfLife}
+use Rattle.vub_world.specs.Lives.{RingOfLife, LiesInLife}
 use Rattle.vub_world.specs.Machine.{IsSound}
 use Rattle.vub_queue.specs.Queue.{ring_in}
-use Rattle.vub_split.specs.Split.{RingLies}
 use Rattle.vub_world.specs.OutstandingRequests.{slot_in}
 use Rattle.vub_world.specs.MachineAt.{AskAt, AttachedAt, LifeAt, OutstandingAt, MachineAt, reads_of}
 use Rattle.vub_world.specs.MachineDevice.{Device, device, DeviceAt, TurnMade, DeviceTurns, noted, stored_items, shown_of, answers_shown}
 use Rattle.vub_world.specs.MachineSteps.{TurnGoes}
 use Rattle.vub_run.specs.Memory.{Scene, after_items}
 use Rattle.vub_run.specs.Moments.{Moment, standing}
-use Rattle.vub_queue.specs.QueueState.{state_of}
+use Rattle.vub_queue.specs.QueueState.{state_of, QueueLies}
 use Rattle.vub_run.specs.Run.{one_turn, is_due}
 use Rattle.vub_run.specs.Turns.{turned}
-use Rattle.vub_world.proofs.MachineLemmas.{sound_room, sound_ring}
+use Rattle.vub_world.proofs.MachineLemmas.{sound_room}
 use Rattle.vub_run_laws.proofs.RunDrains.{turned_stays}
 use Rattle.vub_run_laws.proofs.RunTurns.{Good}
 use Rattle.vub_run_laws.proofs.RunChainsTurns.{turn_driver}
@@ -224,10 +222,10 @@ turn_none w m t kept good at none same = (
 pub queue_ring : (w : Machine) (q : Queue) → IsSound w → w.life ≡ with_queue q → ring_in q ≡ w.ring
 queue_ring w q sound is = subst (λ (l : Option Life). RingOfLife (λ r. r ≡ w.ring) l) is sound.queue
 
-pub queue_lies_still : (w : Machine) (q : Queue) (kept : WatchedShared) → IsSound w → w.life ≡ with_queue q → memory_in kept ≡ memory_in w.memory → RingLies (watched.sizes_in kept) (ring_in q)
+pub queue_lies_still : (w : Machine) (q : Queue) (kept : WatchedShared) → IsSound w → w.life ≡ with_queue q → memory_in kept ≡ memory_in w.memory → QueueLies (watched.sizes_in kept) (capacity_of w.disk) (state_of q)
 queue_lies_still w q kept sound is same =
-    let lies : RingLies (sizes_of (memory_in w.memory)) w.ring = sound_ring w sound in
-    subst (λ (r : SplitRing). RingLies (watched.sizes_in kept) r) (sym (queue_ring w q sound is)) (subst (λ (x : MemShared). RingLies (sizes_of x) w.ring) (sym same) lies)
+    let lies : QueueLies (sizes_of (memory_in w.memory)) (capacity_of w.disk) (state_of q) = subst (LiesInLife (sizes_of (memory_in w.memory)) (capacity_of w.disk)) is sound.lies in
+    subst (λ (x : MemShared). QueueLies (sizes_of x) (capacity_of w.disk) (state_of q)) (sym same) lies
 
 pub kept_room : (w : Machine) (kept : WatchedShared) → IsSound w → memory_in kept ≡ memory_in w.memory → 1048576 ≤ watched.sizes_in kept 0
 kept_room w kept sound same = subst (λ (x : MemShared). 1048576 ≤ sizes_of x 0) (sym same) (sound_room w sound)

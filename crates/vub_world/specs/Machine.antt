@@ -13,7 +13,7 @@ use Rattle.vub_memdisk.specs.MemDisks.{capacity_of}
 use Rattle.vub_driver.specs.Layout.{ring_of}
 use Rattle.vub_guest.specs.GuestState.{ring_in}
 use Rattle.vub_queue_in_run.specs.QueueAt.{IsMainRing}
-use Rattle.vub_world.specs.Lives.{RingOfLife}
+use Rattle.vub_world.specs.Lives.{RingOfLife, LiesInLife}
 use Rattle.vub_world.specs.OutstandingRequests.{offered_in}
 use Rattle.vub_world.specs.declared.machine.Machine.{Machine}
 
@@ -22,7 +22,7 @@ abbrev pub sizes_in : Machine → ℕ → ℕ
 sizes_in m = watched.sizes_in m.memory
 
 -- driver and ring are those of the first queue, whose area is guest memory, no call of memory has failed, an attached
--- queue is on that ring, and the disk has the header's capacity
+-- queue is on that ring and lies where it should, and the disk has the header's capacity
 pub record IsSound (m : Machine) : Type 0 where
   pub header : IsHeader m.header
   pub space : m.space.number ≡ 0
@@ -32,6 +32,7 @@ pub record IsSound (m : Machine) : Type 0 where
   pub ring : IsMainRing m.ring m.header.size
   pub queue : RingOfLife (λ q. q ≡ m.ring) m.life
   pub disk : capacity_of m.disk ≡ m.header.capacity
+  pub lies : LiesInLife (sizes_in m) (capacity_of m.disk) m.life
 
 -- an event lends its record, and the parts go on: sound, standing for some events, and for all that they stood for and
 -- this one more; it offers one request at most

@@ -10,7 +10,7 @@ ghost use Rattle.vub_world.specs.MachineDevice.{DeviceAt, DeviceTurns, device, t
 ghost use Rattle.vub_run.specs.Moments.{Moment};
 ghost use Rattle.vub_queue.specs.Queue.{ring_in};
 ghost use Rattle.vub_queue_in_run.specs.QueueAt.{IsMainRing};
-ghost use Rattle.vub_split.specs.Split.{RingLies};
+ghost use Rattle.vub_queue.specs.QueueState.{QueueLies, state_of};
 
 use vub_memdisk::MemDisk;
 use vub_queue::{Choice, Queue, Stepped};
@@ -46,9 +46,10 @@ pub fn turn_queue(
     memory: &mut WatchedShared,
     disk: &mut MemDisk,
 ) -> Stepped
-    requires lies { RingLies (sizes_in memory.old) (ring_in queue.old) }
+    requires lies { QueueLies (sizes_in memory.old) (capacity_of disk.old) (state_of queue.old) }
     requires fresh { stores_in memory.old ≡ [] }
     requires unfailed { IsUnfailed memory.old }
+    ensures lies { QueueLies (sizes_in memory.new) (capacity_of disk.new) (state_of queue.new) }
     ensures ring { ring_in queue.new ≡ ring_in queue.old }
     ensures sizes { (s : ℕ) → sizes_in memory.new s ≡ sizes_in memory.old s }
     ensures unfailed { IsUnfailed memory.new }

@@ -1,5 +1,6 @@
 use Rattle.vub_queue.specs.QueueState.{QueueState, state_of, WorksOut}
 use Rattle.vub_queue.proofs.QueueLemmas.{runs_on, rests_on, stepped_map}
+use Rattle.vub_queue.proofs.LyingLemmas.{lies_with, lies_halted, owes_halted}
 use Rattle.vub_queue.proofs.queue.Queue.turn.Goals as goal
 
 pub returns-clause-made : goal.returns-clause-made
@@ -12,3 +13,14 @@ returns-clause-made g c place task n runs m told turn due =
 pub returns-clause-rests : goal.returns-clause-rests
 returns-clause-rests g c waiting place runs turn unready =
     rests_on _ _ _ _ _ _ c.step_of-stepped.result (state_of c.args.self.now) (state_of c.step_of-stepped.new.self) (state_of c.halt.new.self) c.halt.ensures.state (c.step_of-stepped.ensures.rests waiting place turn unready)
+
+pub returns-clause-lies : goal.returns-clause-lies
+returns-clause-lies g c =
+    let sizes = g.M.Shared.sizes c.args.mem.now in
+    let capacity = g.D.Disk.capacity c.args.disk.now in
+    let t : QueueState = state_of c.halt.new.self in
+    lies_with sizes (g.M.Shared.sizes c.step_of-stepped.new.mem) capacity (g.D.Disk.capacity c.step_of-stepped.new.disk) t c.step_of-stepped.ensures.keeps_spaces.same_sizes c.step_of-stepped.ensures.capacity
+    (lies_halted c.step_of-stepped.result (state_of c.step_of-stepped.new.self) t c.halt.ensures.state sizes capacity c.step_of-stepped.ensures.lies)
+
+pub returns-clause-failed : goal.returns-clause-failed
+returns-clause-failed g c = owes_halted c.step_of-stepped.result (state_of c.step_of-stepped.new.self) (state_of c.halt.new.self) c.step_of-stepped.ensures.failed c.halt.ensures.state
