@@ -25,12 +25,12 @@ returns-in_err-span_of-in-Some-clause-cause g c =
 pub returns-in_err-header-clause-cause : goal.returns-in_err-header-clause-cause
 returns-in_err-header-clause-cause g c =
     let p = err_from_is_err_and c.from_residual-in_err-header.result c.from_residual-in_err-header.ensures.1 in
-    rw (p.1, p.2) (cause_at_err Span Parts c.in_err-header.field-0.0 _ _ (omega (arith, c.descriptor_at.ensures.cause.later, c.tail_of.ensures.cause.later)) c.in_err-header.ensures.cause)
+    rw (p.1, p.2) (cause_at_err Span Parts c.in_err-header.field-0.0 _ _ (c.in_ok-second.ensures.cause.quiet ∙ c.in-Ok.ensures.cause.quiet) c.in_err-header.ensures.cause)
 
 pub returns-in_err-status-clause-cause : goal.returns-in_err-status-clause-cause
 returns-in_err-status-clause-cause g c =
     let p = err_from_is_err_and c.from_residual-in_err-status.result c.from_residual-in_err-status.ensures.1 in
-    rw (p.1, p.2) (cause_at_err Span Parts c.in_err-status.field-0.0 _ _ (omega (arith, c.descriptor_at.ensures.cause.later, c.tail_of.ensures.cause.later)) c.in_err-status.ensures.cause)
+    rw (p.1, p.2) (cause_at_err Span Parts c.in_err-status.field-0.0 _ _ (c.in_ok-second.ensures.cause.quiet ∙ c.in-Ok.ensures.cause.quiet) c.in_err-status.ensures.cause)
 
 pub returns-in-Err-clause-means : goal.returns-in-Err-clause-means
 returns-in-Err-clause-means g c m told = failed

@@ -27,6 +27,7 @@ returns-clause-sound c =
       header = s.header;
       space = s.space;
       room = s.room;
+      unfailed = s.unfailed;
       guest = s.guest;
       ring = s.ring;
       queue = c.in_ok-queue.ensures.ring;

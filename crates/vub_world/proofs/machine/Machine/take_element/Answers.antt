@@ -1,4 +1,4 @@
-use Rattle.std.proofs.Common.{◌≡◌, ℕ, ap, ◌∙◌}
+use Rattle.std.proofs.Common.{rules, ◌≡◌, ℕ, ap, ◌∙◌}
 use Rattle.vub_memdisk.specs.MemDisks.{capacity_of}
 use Rattle.vub_shared.specs.declared.mem_shared.MemShared.{MemShared}
 use Rattle.vub_shared.specs.MemSpaces.{sizes_of}
@@ -17,6 +17,7 @@ returns-clause-sound c =
       header = s.header;
       space = s.space;
       room = sizes 0 ∙ s.room;
+      unfailed = search rules;
       guest = c.collect.ensures.ring ∙ s.guest;
       ring = s.ring;
       queue = s.queue;
