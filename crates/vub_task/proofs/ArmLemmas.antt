@@ -17,6 +17,10 @@ use Rattle.vub_direct_chain.specs.ChainState.{sector_of, data_start, data_len, h
 use Rattle.vub_task.specs.TaskState.{IfMade, Making, IsNext, IsBasic, IsTaskAt, answer_of, transfer_at, work_for, with_effect, with_maybe}
 use Rattle.vub_direct_chain.proofs.ChainReading.{means_still}
 use Rattle.vub_split.specs.declared.split.SplitRing.{SplitRing}
+use Rattle.std.specs.Prelude.{Ok}
+use Rattle.vub_base.specs.declared.ring_fault.RingFault.{RingFault}
+use Rattle.vub_task.specs.declared.task.Work.{Work}
+use Rattle.vub_task.specs.TaskState.{Makes, Starts, Begins}
 use Rattle.vub_task.specs.declared.task.Answer.{Answer}
 use Rattle.vub_task.specs.declared.task.Transfer.{Transfer}
 use Rattle.vub_task.specs.declared.task.Work.TheVariants as work
@@ -199,3 +203,23 @@ next_with sectors sizes r m n other same is = record {
   served = record { basic = is.served.basic; capacity = is.served.capacity ∙ same; cached = is.served.cached };
   next = is.next;
 }
+
+-- ---- the first step
+
+makes_unbroken : (w next : Work) (fault : RingFault) → Makes w (answers.Broken fault) next → ⊥
+makes_unbroken work.Begin next fault h = h
+makes_unbroken (work.Look t) next fault h = h
+makes_unbroken (work.Store t) next fault h = h
+makes_unbroken (work.Act t) next fault h = h
+makes_unbroken (work.Sync a) next fault h = h
+makes_unbroken (work.Reply a) next fault h = h
+
+pub begins_by : (sizes : ℕ → ℕ) (r : SplitRing) (m : Bytes) (head capacity : ℕ) (step : made.TaskStep) (next w : Work) → Starts sizes r m head capacity (Ok w) → Makes w step next → Begins sizes r m head capacity step next
+begins_by sizes r m head capacity (answers.Broken fault) next w starts makes = absurd (makes_unbroken w next fault makes)
+begins_by sizes r m head capacity answers.Failed next w starts makes = tt
+begins_by sizes r m head capacity (answers.Stored tag) next w starts makes = record { parts = starts.0; means = starts.1; first = w; starts = starts.2; makes = makes }
+begins_by sizes r m head capacity (answers.Looked k) next w starts makes = record { parts = starts.0; means = starts.1; first = w; starts = starts.2; makes = makes }
+begins_by sizes r m head capacity (answers.Acted k) next w starts makes = record { parts = starts.0; means = starts.1; first = w; starts = starts.2; makes = makes }
+begins_by sizes r m head capacity answers.Synced next w starts makes = record { parts = starts.0; means = starts.1; first = w; starts = starts.2; makes = makes }
+begins_by sizes r m head capacity answers.Faulted next w starts makes = record { parts = starts.0; means = starts.1; first = w; starts = starts.2; makes = makes }
+begins_by sizes r m head capacity (answers.Done status len) next w starts makes = record { parts = starts.0; means = starts.1; first = w; starts = starts.2; makes = makes }

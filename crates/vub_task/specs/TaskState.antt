@@ -17,6 +17,7 @@ use Rattle.vub_driver.specs.GuestChain.{Links}
 use Rattle.vub_steps.specs.Tasks.{TaskStep, Look, Put, Act, Sync, Status, task_steps, status_of, used_len}
 use Rattle.vub_direct_chain.specs.ChainState.{MeansRequest, sector_of, data_start, data_len, span_at, SpanLies, HasParts, BreaksRule}
 use Rattle.vub_direct_chain.specs.declared.chain.Unread.{Unread}
+use Rattle.vub_direct_chain.specs.declared.chain.Unread.TheVariants as unread
 use Rattle.vub_split.specs.declared.split.SplitRing.{SplitRing}
 use Rattle.vub_direct_chain.specs.declared.chain.Sectors.{Sectors}
 use Rattle.vub_direct_chain.specs.declared.chain.Parts.{Parts}
@@ -295,6 +296,20 @@ pub record Worked (w : Work) (sector sector_after : List ℕ) (step : made.TaskS
   pub trailed : IfMade (Some step) (λ x. trail_after ≡ option_map (with_maybe (store_by w sector)) trail)
   pub written : WhereTold told (λ m. IfMade (Some step) (λ x. values_now ≡ option_map (values_by w m) values))
   pub looked : WhereTold values (λ v. IfMade (Some step) (λ x. LooksBy w v sector_after))
+
+-- the work by which a task whose chain wasn't read goes on: that of the parts that its chain means
+pub record BegunAs (sizes : ℕ → ℕ) (r : SplitRing) (m : Bytes) (head capacity : ℕ) (step : made.TaskStep) (next : Work) : Type 0 where
+  pub parts : Parts
+  pub means : HasParts sizes r m head parts
+  pub first : Work
+  pub starts : StartsAs m parts capacity first
+  pub makes : Makes first step next
+
+-- the first step of a task: its chain breaks a rule, the memory failed, or it is the first step of its work
+abbrev pub Begins : (ℕ → ℕ) → SplitRing → Bytes → ℕ → ℕ → made.TaskStep → Work → Type 0
+Begins sizes r m head capacity (answers.Broken fault) next = BreaksRule sizes r m head (unread.Broken fault)
+Begins sizes r m head capacity answers.Failed next = ⊤
+Begins sizes r m head capacity step next = BegunAs sizes r m head capacity step next
 
 -- ---- one step of a request
 

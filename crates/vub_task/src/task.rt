@@ -209,7 +209,7 @@ impl Task {
     ghost use Rattle.vub_steps.specs.Tasks.{task_steps};
     ghost use Rattle.vub_direct_chain.specs.ChainState.{MeansRequest, Reads, read_outcome, BreaksRule};
     ghost use Rattle.vub_direct_chain.specs.declared.chain.Unread.TheVariants as unread;
-    ghost use Rattle.vub_task.specs.TaskState.{Starts, TaskLies, Makes, Worked, OwesFailure, Making, IsNext, IsServed, IsReady, IsTaskAt, HasMade, LooksAt, answer_in, store_in, memory_after, with_maybe, values_after, work_for, work_of};
+    ghost use Rattle.vub_task.specs.TaskState.{Begins, Starts, TaskLies, Makes, Worked, OwesFailure, Making, IsNext, IsServed, IsReady, IsTaskAt, HasMade, LooksAt, answer_in, store_in, memory_after, with_maybe, values_after, work_for, work_of};
     ghost use Rattle.vub_split.specs.declared.split.SplitRing.{SplitRing};
 
     /// A request that was accepted under this head.
@@ -442,6 +442,7 @@ impl Task {
         requires fits { self.old.head < ring.now.size }
         requires task { TaskLies (M.sizes mem.old) (D.capacity disk.old) self.old }
         ensures task { TaskLies (M.sizes mem.new) (D.capacity disk.new) self.new }
+        ensures begins { self.old.work ≡ work.Begin → WhereTold (M.told mem.old) (λ m. Begins (M.sizes mem.old) ring.now m self.old.head (D.capacity disk.old) result self.new.work) }
         ensures worked { is_begun self.old.work ≡ true → Worked self.old.work sector.old sector.new result self.new.work (M.told mem.old) (M.told mem.new) (M.trail mem.old) (M.trail mem.new) (D.values disk.old) (D.values disk.new) }
         ensures failed { IfFaulted result (OwesFailure self.new) }
         ensures head { self.new.head ≡ self.old.head }

@@ -1,8 +1,10 @@
-use Rattle.std.proofs.Common.{◌≡◌, ◌∙◌, sym, ap}
-use Rattle.std.specs.Prelude.{Some, option_map}
+use Rattle.std.proofs.Common.{ℕ, ◌≡◌, ◌∙◌, sym, ap, subst}
+use Rattle.vub_direct_chain.specs.ChainState.{BreaksRule}
+use Rattle.vub_direct_chain.specs.declared.chain.Unread.{Unread}
+use Rattle.std.specs.Prelude.{Ok, Some, option_map}
 use Rattle.vub_direct_chain.proofs.ChainReading.{reads_broken}
-use Rattle.vub_task.proofs.ArmLemmas.{made_map, next_still, next_with}
-use Rattle.vub_task.specs.TaskState.{IfMade, store_in, with_maybe}
+use Rattle.vub_task.proofs.ArmLemmas.{made_map, next_still, next_with, begins_by}
+use Rattle.vub_task.specs.TaskState.{IfMade, store_in, with_maybe, Starts}
 use Rattle.vub_task.proofs.task.Task.step.Goals as goal
 
 pub returns-in-Ok-clause-answer : goal.returns-in-Ok-clause-answer
@@ -79,3 +81,15 @@ pub returns-in-Err-Broken-clause-trails : goal.returns-in-Err-Broken-clause-trai
 returns-in-Err-Broken-clause-trails g c n m told is ready =
     let here = next_with _ _ c.args.ring.now m n c.capacity.result (sym c.capacity.ensures) is in
     absurd (reads_broken c.in-Err-Broken.field-0 c.in-Err-Broken.fault _ c.in-Err-Broken.field-0-is (c.in-Err-Broken.ensures.ready n m told here ready))
+
+pub returns-in-Ok-clause-begins : goal.returns-in-Ok-clause-begins
+returns-in-Ok-clause-begins g c fresh m told =
+    let sizes = g.M.Shared.sizes c.args.mem.now in
+    let starts = c.in-Ok.ensures.starts fresh m told in
+    let here : Starts sizes c.args.ring.now m c.args.self.now.head (g.D.Disk.capacity c.args.disk.now) (Ok c.in-Ok.work) = subst (λ (k : ℕ). Starts sizes c.args.ring.now m c.args.self.now.head k (Ok c.in-Ok.work)) c.capacity.ensures starts in
+    begins_by sizes c.args.ring.now m c.args.self.now.head (g.D.Disk.capacity c.args.disk.now) c.go_on.result c.go_on.new.self.work c.in-Ok.work here c.go_on.ensures.worked.makes
+
+pub returns-in-Err-Broken-clause-begins : goal.returns-in-Err-Broken-clause-begins
+returns-in-Err-Broken-clause-begins g c fresh m told =
+    let sizes = g.M.Shared.sizes c.args.mem.now in
+    subst (λ (e : Unread). BreaksRule sizes c.args.ring.now m c.args.self.now.head e) c.in-Err-Broken.field-0-is (c.in-Err-Broken.ensures.starts fresh m told)
