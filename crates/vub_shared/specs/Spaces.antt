@@ -1,5 +1,5 @@
 -- The spaces that were handed out, and the names that mean them.
-use Rattle.std.specs.Prelude.{◌≡◌, ◌≢◌, ◌≤◌, ℕ, Bool, true, false, if◌then◌else◌, List, Option, Some, None, Result, OnOk, IfErr}
+use Rattle.std.specs.Prelude.{◌≡◌, ◌≢◌, ◌<◌, ◌≤◌, ℕ, Bool, true, false, if◌then◌else◌, List, Option, Some, None, Result, OnOk, IfErr}
 use Rattle.std.specs.Str.{bytes_eq}
 use Rattle.vub_base.specs.Causes.{Rose}
 use Rattle.vub_shared.specs.declared.fault.SharedFault.{SharedFault}
@@ -29,6 +29,10 @@ pub record HandsNew (before : ℕ → Bool) (old_sizes : ℕ → ℕ) (now : ℕ
   pub sized : new_sizes space ≡ size
   pub handed : (s : ℕ) → s ≢ space → now s ≡ before s
   pub sizes : (s : ℕ) → s ≢ space → new_sizes s ≡ old_sizes s
+
+-- all 65,536 spaces that there can be are handed out
+abbrev pub AllHanded : (ℕ → Bool) → Type 0
+AllHanded handed = (s : ℕ) → s < 65536 → handed s ≡ true
 
 -- The count of faults didn't fall. A call failed only where it rose, and found nothing of a name
 -- only where the told names lack it. Every answer but a failure leaves the count.

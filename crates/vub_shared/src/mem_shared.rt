@@ -99,7 +99,7 @@ impl MemShared {
 }
 
 impl Shared for MemShared {
-    ghost use Rattle.std.specs.Prelude.{◌≡◌, ◌≢◌, ◌≤◌, ◌+◌, ◌%◌, ◌↔◌, ℕ, Some, None, true, length, ◌<◌, OnOk, OnErr, IfOk, IfErr};
+    ghost use Rattle.std.specs.Prelude.{◌≡◌, ◌≢◌, ◌≤◌, ◌+◌, ◌%◌, ◌↔◌, ℕ, Some, None, true, length, ◌<◌, OnOk, OnErr, IfOk, IfErr, IsErrOf};
     ghost use Rattle.std.specs.Option.{option_map};
     ghost use Rattle.byteorder.specs.Endian.{little_bytes};
     ghost use Rattle.vub_base.specs.Causes.{HasCause};
@@ -107,7 +107,7 @@ impl Shared for MemShared {
     ghost use Rattle.vub_base.specs.Told.{WhereTold};
     ghost use Rattle.vub_shared.specs.Bytes.{bytes_from, cleared};
     ghost use Rattle.vub_shared.specs.Stores.{Stores, one_store};
-    ghost use Rattle.vub_shared.specs.Spaces.{with_name, HandsNew, HasReason};
+    ghost use Rattle.vub_shared.specs.Spaces.{AllHanded, with_name, HandsNew, HasReason};
     ghost use Rattle.vub_shared.specs.MemSpaces.{bytes_of, sizes_of, handed_of, names_of, count_of, call_of, fails_of, faults_of, SameSpaces, IsCounted, IsCreated};
     ghost use Rattle.vub_shared.specs.declared.fault.SharedFault.TheVariants.{NoSuch};
     ghost use Rattle.vub_shared.specs.MemLaws.{image_fits, size_fits, unhanded_empty};
@@ -150,6 +150,7 @@ impl Shared for MemShared {
         ensures named { IfOk result (λ space. names_of self.new ≡ with_name name.now space.number (names_of self.old)) }
         ensures reason { HasReason (faults_of self.old) (faults_of self.new) (Some (names_of self.old)) name.now result }
         ensures never_lacking { IfErr result (λ e. e ≢ NoSuch) }
+        ensures all_handed { AllHanded (handed_of self.old) → IsErrOf result SharedFault.Failed }
         ensures created { IsCreated self.old self.new result }
     {
         let Ok(number) = u16::try_from(self.spaces.len()) else {

@@ -1,4 +1,4 @@
-ghost use Rattle.std.specs.Prelude.{◌≡◌, ◌≢◌, ◌≤◌, ◌<◌, ◌+◌, ◌%◌, ◌^◌, false, true, ℕ, Bool, List, length, Option, Some, OnOk, OnErr, IfOk, IfErr};
+ghost use Rattle.std.specs.Prelude.{◌≡◌, ◌≢◌, ◌≤◌, ◌<◌, ◌+◌, ◌%◌, ◌^◌, false, true, ℕ, Bool, List, length, Option, Some, OnOk, OnErr, IfOk, IfErr, IsErrOf};
 ghost use Rattle.std.specs.Option.{option_map};
 ghost use Rattle.byteorder.specs.Endian.{little_bytes};
 ghost use Rattle.vub_base.specs.Causes.{HasCause};
@@ -6,7 +6,7 @@ ghost use Rattle.vub_base.specs.Told.{WhereTold};
 ghost use Rattle.vub_shared.specs.Bytes.{Bytes, bytes_from, cleared};
 ghost use Rattle.vub_shared.specs.Stores.{Store, one_store};
 ghost use Rattle.vub_shared.specs.Frames.{OnlyLoads, MakesStore};
-ghost use Rattle.vub_shared.specs.Spaces.{Names, with_name, KeepsHanded, HandsNew, HasReason};
+ghost use Rattle.vub_shared.specs.Spaces.{Names, with_name, AllHanded, KeepsHanded, HandsNew, HasReason};
 ghost use Rattle.vub_shared.specs.declared.fault.SharedFault.TheVariants.{NoSuch};
 
 use crate::SharedFault;
@@ -43,7 +43,8 @@ pub trait Shared {
         ensures names { names self.new ≡ names self.old }
         ensures reason { HasReason (faults self.old) (faults self.new) (names self.old) name.now result };
 
-    /// Makes a new space of `size` zero bytes, which the name means from then on.
+    /// Makes a new space of `size` zero bytes, which the name means from then on. It fails where all
+    /// 65,536 spaces are handed out.
     fn create(&mut self, name: &str, size: u64) -> Result<Space, SharedFault>
         ensures made { IfOk result (λ space. HandsNew (handed self.old) (sizes self.old) (handed self.new) (sizes self.new) space.number size) }
         ensures zeroed { IfOk result (λ space. told self.new ≡ option_map (cleared space.number) (told self.old)) }
@@ -53,7 +54,8 @@ pub trait Shared {
         ensures keeps_names { OnErr result (names self.new ≡ names self.old) }
         ensures trail { trail self.new ≡ trail self.old }
         ensures reason { HasReason (faults self.old) (faults self.new) (names self.old) name.now result }
-        ensures never_lacking { IfErr result (λ e. e ≢ NoSuch) };
+        ensures never_lacking { IfErr result (λ e. e ≢ NoSuch) }
+        ensures all_handed { AllHanded (handed self.old) → IsErrOf result SharedFault.Failed };
 
     /// The size of a space in bytes, 0 for one that wasn't handed out.
     fn size(&self, space: Space) -> u64

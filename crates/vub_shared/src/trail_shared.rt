@@ -85,13 +85,13 @@ impl<M: Shared> TrailShared<M> {
 }
 
 impl<M: Shared> Shared for TrailShared<M> {
-    ghost use Rattle.std.specs.Prelude.{◌≡◌, ◌≢◌, ◌≤◌, ◌+◌, ◌%◌, ℕ, Some, true, length, OnOk, OnErr, IfOk, IfErr};
+    ghost use Rattle.std.specs.Prelude.{◌≡◌, ◌≢◌, ◌≤◌, ◌+◌, ◌%◌, ℕ, Some, true, length, OnOk, OnErr, IfOk, IfErr, IsErrOf};
     ghost use Rattle.std.specs.Option.{option_map};
     ghost use Rattle.byteorder.specs.Endian.{little_bytes};
     ghost use Rattle.vub_base.specs.Causes.{HasCause};
     ghost use Rattle.vub_base.specs.Told.{WhereTold};
     ghost use Rattle.vub_shared.specs.Bytes.{bytes_from, cleared};
-    ghost use Rattle.vub_shared.specs.Spaces.{with_name, KeepsHanded, HandsNew, HasReason};
+    ghost use Rattle.vub_shared.specs.Spaces.{AllHanded, with_name, KeepsHanded, HandsNew, HasReason};
     ghost use Rattle.vub_shared.specs.declared.fault.SharedFault.TheVariants.{NoSuch};
     ghost use Rattle.vub_shared.specs.Frames.{OnlyLoads, MakesStore};
     ghost use Rattle.vub_shared.specs.Stores.{one_store};
@@ -137,6 +137,7 @@ impl<M: Shared> Shared for TrailShared<M> {
         ensures trail { trail_of self.new ≡ trail_of self.old }
         ensures reason { HasReason (faults_with M.faults self.old) (faults_with M.faults self.new) (M.names (inner_of self.old)) name.now result }
         ensures never_lacking { IfErr result (λ e. e ≢ NoSuch) }
+        ensures all_handed { AllHanded (M.handed (inner_of self.old)) → IsErrOf result SharedFault.Failed }
     {
         self.inner.create(name, size)
     }

@@ -126,12 +126,12 @@ impl WatchedShared {
 }
 
 impl Shared for WatchedShared {
-    ghost use Rattle.std.specs.Prelude.{◌≡◌, ◌≢◌, ◌≤◌, ◌+◌, ◌%◌, ℕ, Some, None, true, length, OnOk, OnErr, IfOk, IfErr};
+    ghost use Rattle.std.specs.Prelude.{◌≡◌, ◌≢◌, ◌≤◌, ◌+◌, ◌%◌, ℕ, Some, None, true, length, OnOk, OnErr, IfOk, IfErr, IsErrOf};
     ghost use Rattle.byteorder.specs.Endian.{little_bytes};
     ghost use Rattle.vub_base.specs.Causes.{HasCause};
     ghost use Rattle.vub_shared.specs.Bytes.{bytes_from, cleared};
     ghost use Rattle.vub_shared.specs.Stores.{Stores, Trails, one_store};
-    ghost use Rattle.vub_shared.specs.Spaces.{with_name, KeepsHanded, HandsNew, HasReason};
+    ghost use Rattle.vub_shared.specs.Spaces.{AllHanded, with_name, KeepsHanded, HandsNew, HasReason};
     ghost use Rattle.vub_shared.specs.declared.fault.SharedFault.TheVariants.{NoSuch};
     ghost use Rattle.vub_shared.specs.Watched.{bytes_in, sizes_in, handed_in, names_in, count_in, stores_in, faults_in, SamePlaces, FailsFull};
     ghost use Rattle.vub_shared.specs.MemLaws.{image_fits, size_fits, unhanded_empty};
@@ -175,6 +175,7 @@ impl Shared for WatchedShared {
         ensures full { FailsFull self.old result }
         ensures reason { HasReason (faults_in self.old) (faults_in self.new) (Some (names_in self.old)) name.now result }
         ensures never_lacking { IfErr result (λ e. e ≢ NoSuch) }
+        ensures all_handed { AllHanded (handed_in self.old) → IsErrOf result SharedFault.Failed }
     {
         if self.reserve(size).is_err() {
             return Err(SharedFault::Memory);
