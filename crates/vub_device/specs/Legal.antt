@@ -8,7 +8,7 @@ use Rattle.vub_device.specs.declared.entry.Asked.TheVariants.{Read, Write, Flush
 use Rattle.vub_device.specs.declared.entry.Entry.{Entry}
 use Rattle.vub_device.specs.declared.entry.Entry.TheVariants.{Offer, Accept, Look, Act, Sync, Fault, Publish, Kill, Start, Collect, Power}
 use Rattle.vub_device.specs.Requests.{device_name, look_at, effect_at, refusal}
-use Rattle.vub_device.specs.Past.{offers, asked, accepted, published, collected, numbers, IsDistinct, open_numbers, IsOpen, started, looks, seen, acts, synced, faulted}
+use Rattle.vub_device.specs.Past.{offers, asked, accepted, published, collected, numbers, IsDistinct, open_numbers, IsOpen, started, looks, bytes_read, acts, synced, faulted}
 use Rattle.vub_device.specs.Crash.{value, IsCrashImage}
 
 -- the queue's next offer is taken
@@ -66,7 +66,7 @@ pub record MayFault (capacity : ℕ) (mode : CacheMode) (past : List Entry) (q k
 
 -- the request was done in this life, and these are the bytes of its answer
 abbrev pub IsDone : CacheMode → List Entry → ℕ → ℕ → Asked → List ℕ → Type 0
-IsDone mode past q k (Read s n) bytes = IsRead past q k (Read s n) × (bytes ≡ seen past q k)
+IsDone mode past q k (Read s n) bytes = IsRead past q k (Read s n) × (bytes ≡ bytes_read past q k)
 IsDone mode past q k (Write s values) bytes = IsWritten past q k (Write s values) × (mode ≡ Through → synced past q k ≡ true) × (bytes ≡ [])
 IsDone mode past q k Flush bytes = (synced past q k ≡ true) × (bytes ≡ [])
 IsDone mode past q k Id bytes = bytes ≡ device_name

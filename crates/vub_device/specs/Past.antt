@@ -84,13 +84,13 @@ looks (Start p list ∷ past) q k = if p == q then 0 else looks past q k
 looks (Power image ∷ past) q k = 0
 looks (e ∷ past) q k = looks past q k
 
--- in this life: what was seen by them, joined in order
-abbrev pub seen : List Entry → ℕ → ℕ → List ℕ
-seen [] q k = []
-seen (Look p j s v ∷ past) q k = if (p == q) && (j == k) then seen past q k ++ v else seen past q k
-seen (Start p list ∷ past) q k = if p == q then [] else seen past q k
-seen (Power image ∷ past) q k = []
-seen (e ∷ past) q k = seen past q k
+-- in this life: the bytes that they read, joined in order
+abbrev pub bytes_read : List Entry → ℕ → ℕ → List ℕ
+bytes_read [] q k = []
+bytes_read (Look p j s v ∷ past) q k = if (p == q) && (j == k) then bytes_read past q k ++ v else bytes_read past q k
+bytes_read (Start p list ∷ past) q k = if p == q then [] else bytes_read past q k
+bytes_read (Power image ∷ past) q k = []
+bytes_read (e ∷ past) q k = bytes_read past q k
 
 -- in this life: how many acts were made for a request
 abbrev pub acts : List Entry → ℕ → ℕ → ℕ

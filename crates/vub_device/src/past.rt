@@ -2,7 +2,7 @@
 ghost use Rattle.std.specs.Prelude.{◌≡◌, ◌≤◌, ◌+◌, ◌&&◌, ◌↔◌, ◌≢◌, ◌++◌, IsTrue, MatchOption, List, ℕ, length, reverse};
 ghost use Rattle.std.specs.Option.{option_copied};
 ghost use Rattle.vub_device.specs.Past.{offers, asked, accepted, published, numbers, is_among};
-ghost use Rattle.vub_device.specs.Past.{collected, missing_below, started, looks, seen, acts, synced};
+ghost use Rattle.vub_device.specs.Past.{collected, missing_below, started, looks, bytes_read, acts, synced};
 ghost use Rattle.vub_device.specs.Past.{faulted};
 ghost use Rattle.vub_device.specs.Places.{place_of, or_later};
 
@@ -231,10 +231,10 @@ fn without_end<'a>(bytes: &'a [u8], value: &[u8; SECTOR_SIZE]) -> Option<&'a [u8
     bytes.strip_suffix(value)
 }
 
-/// Whether these bytes are what was seen in this life for a request.
+/// Whether these bytes are what was read in this life for a request.
 #[tactic(auto, using(crate::proofs::Numbers::same_front))]
 pub(crate) fn is_seen(past: &[Entry], queue: u16, number: u64, bytes: &[u8]) -> bool
-    ensures { IsTrue result ↔ (bytes.now ≡ seen (reverse past.now) queue number) }
+    ensures { IsTrue result ↔ (bytes.now ≡ bytes_read (reverse past.now) queue number) }
 {
     match past {
         [] | [.., Entry::Power(_)] => bytes.is_empty(),

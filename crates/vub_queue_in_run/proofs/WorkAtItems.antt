@@ -23,7 +23,7 @@ use Rattle.vub_device.specs.declared.entry.Asked.TheVariants as asks
 use Rattle.vub_device.specs.declared.entry.Entry.TheVariants as entries
 use Rattle.vub_device.specs.declared.entry.SectorValue.{SectorValue}
 use Rattle.vub_device.specs.Crash.{value}
-use Rattle.vub_device.specs.Past.{seen}
+use Rattle.vub_device.specs.Past.{bytes_read}
 use Rattle.vub_device.specs.Requests.{look_at, effect_at}
 use Rattle.vub_queue.specs.declared.queue.Stepped.{Stepped}
 use Rattle.vub_queue.specs.declared.queue.Stepped.TheVariants as says
@@ -92,16 +92,16 @@ ShowsAt h m q v k task links request step =
 show_look : (h : Header1) (m : Moment) (q : QueueState) (v : Values) (k : ℕ) (task : Task) (links : Links) (sector c p : ℕ) → p < c → v (sector + p) ≡ value m.scene.past (sector + p) → ShowsAt h m q v k task links (asks.Read sector c) (Look p)
 show_look h m q v k task links sector c p low held = (refl, ap (look_items 0 k m.scene.past) (look_is sector c p low) ∙ ap (λ (bs : List ℕ). items.Made (entries.Look 0 k (sector + p) bs) ∷ []) (sym held))
 
-show_put : (h : Header1) (m : Moment) (q : QueueState) (v : Values) (k : ℕ) (task : Task) (links : Links) (sector c p : ℕ) → q.ring.desc.0.number ≡ 0 → sector_at q (head_in task) ≡ slice_range (seen m.scene.past 0 k) (512 * p) (512 * p + 512)
+show_put : (h : Header1) (m : Moment) (q : QueueState) (v : Values) (k : ℕ) (task : Task) (links : Links) (sector c p : ℕ) → q.ring.desc.0.number ≡ 0 → sector_at q (head_in task) ≡ slice_range (bytes_read m.scene.past 0 k) (512 * p) (512 * p + 512)
     → ShowsAt h m q v k task links (asks.Read sector c) (Put p)
 show_put h m q v k task links sector c p space held =
     let place : ℕ = sectors_place (buffer_of 0 k m.scene) + 512 * p in
-    let bs : List ℕ = slice_range (seen m.scene.past 0 k) (512 * p) (512 * p + 512) in (
+    let bs : List ℕ = slice_range (bytes_read m.scene.past 0 k) (512 * p) (512 * p + 512) in (
       refl,
       record {
         place = place;
         bytes = bs;
-        few = sector_few (seen m.scene.past 0 k) p;
+        few = sector_few (bytes_read m.scene.past 0 k) p;
         due = ap (λ (t : ℕ). Some (one_store t place (sector_at q (head_in task)))) space ∙ ap (λ (xs : List ℕ). Some (one_store 0 place xs)) held;
         items = refl;
       },
@@ -134,7 +134,7 @@ ring_space h m r q main a = ap (λ (x : SplitRing). x.desc.0.number) a.ring ∙ 
 
 -- before its store, what was read stands in the queue
 held_sector : (h : Header1) (sizes : ℕ → ℕ) (m : Moment) (r : SplitRing) (q : QueueState) (place p : ℕ) (w : WorkReady h sizes m q place) → QueueStands h r m q → w.step ≡ Put p
-    → sector_at q (head_in w.task) ≡ slice_range (seen m.scene.past 0 w.k) (512 * p) (512 * p + 512)
+    → sector_at q (head_in w.task) ≡ slice_range (bytes_read m.scene.past 0 w.k) (512 * p) (512 * p + 512)
 held_sector h sizes m r q place p w a put =
     ap (sector_at q) w.head ∙ a.sectors w.k p w.request (among_get (unfinished 0 m) place w.k w.at) w.is (w.due.next.next ∙ ap (λ (s : TaskStep). Some s) put)
 
@@ -185,7 +185,7 @@ memory_step h sizes m r q place w main a (inl x) =
 memory_step h sizes m r q place w main a (inr (inl x)) =
     subst (λ (s : TaskStep). LeavesMemory h m q w.k w.task w.links w.request s) (sym x.next)
     (subst (λ (o : Asked). LeavesMemory h m q w.k w.task w.links o (Put x.place)) (sym x.is)
-    (stored_memory q m.scene.memory (sectors_place (buffer_of 0 w.k m.scene) + 512 * x.place) (slice_range (seen m.scene.past 0 w.k) (512 * x.place) (512 * x.place + 512)) (sector_at q (head_in w.task)) (ring_space h m r q main a) (held_sector h sizes m r q place x.place w a x.next)))
+    (stored_memory q m.scene.memory (sectors_place (buffer_of 0 w.k m.scene) + 512 * x.place) (slice_range (bytes_read m.scene.past 0 w.k) (512 * x.place) (512 * x.place + 512)) (sector_at q (head_in w.task)) (ring_space h m r q main a) (held_sector h sizes m r q place x.place w a x.next)))
 memory_step h sizes m r q place w main a (inr (inr (inl x))) =
     subst (λ (s : TaskStep). LeavesMemory h m q w.k w.task w.links w.request s) (sym x.next) (acts_memory h w.k m.scene (effect_at w.request x.place))
 memory_step h sizes m r q place w main a (inr (inr (inr (inl x)))) = subst (λ (s : TaskStep). LeavesMemory h m q w.k w.task w.links w.request s) (sym x.next) refl

@@ -16,7 +16,7 @@ use Rattle.vub_device.specs.declared.entry.Entry.{Entry}
 use Rattle.vub_device.specs.declared.entry.Entry.TheVariants as entries
 use Rattle.vub_device.specs.declared.entry.SectorValue.{SectorValue}
 use Rattle.vub_device.specs.Crash.{value}
-use Rattle.vub_device.specs.Past.{asked, accepted, published, missing_below, open_numbers, is_among, IsOpen, started, looks, seen, acts, synced}
+use Rattle.vub_device.specs.Past.{asked, accepted, published, missing_below, open_numbers, is_among, IsOpen, started, looks, bytes_read, acts, synced}
 use Rattle.vub_device.specs.Places.{are_distinct}
 use Rattle.vub_device.specs.Requests.{look_at, effect_at}
 use Rattle.vub_split.specs.declared.split.SplitRing.{SplitRing}
@@ -51,7 +51,7 @@ record Keeps (past past' : List Entry) (k : ℕ) : Type 0 where
   accepts : accepted past' 0 ≡ accepted past 0
   publishes : published past' 0 ≡ published past 0
   requests : asked past' 0 ≡ asked past 0
-  sees : (j : ℕ) → j ≢ k → seen past' 0 j ≡ seen past 0 j
+  sees : (j : ℕ) → j ≢ k → bytes_read past' 0 j ≡ bytes_read past 0 j
 
 left_same : (past past' : List Entry) (k : ℕ) (completed batch : List ℕ) → Keeps past past' k → left_of past' completed batch ≡ left_of past completed batch
 left_same past past' k completed batch x =
@@ -107,7 +107,7 @@ task_next h sizes m r q place w past' next ring x head made = record {
 
 goes_on : (h : Header1) (sizes : ℕ → ℕ) (m : Moment) (r : SplitRing) (q : QueueState) (place : ℕ) (w : WorkReady h sizes m q place) (past' : List Entry) (next : Task) (sector : List ℕ) → Good h m → QueueStands h r m q → Keeps m.scene.past past' w.k
     → head_in next ≡ head_in w.task → HasMade q.ring (making w) next
-    → ((p : ℕ) → slice_get (task_steps h w.request) ((m.lanes 0).made w.k + 1) ≡ Some (Put p) → sector ≡ slice_range (seen past' 0 w.k) (512 * p) (512 * p + 512))
+    → ((p : ℕ) → slice_get (task_steps h w.request) ((m.lanes 0).made w.k + 1) ≡ Some (Put p) → sector ≡ slice_range (bytes_read past' 0 w.k) (512 * p) (512 * p + 512))
     → QueueAt h r past' (m.scene.heads 0) (m.lanes 0).phase (m.lanes 0).batch (m.lanes 0).completed (with_at (m.lanes 0).made w.k ((m.lanes 0).made w.k + 1)) (worked place next sector q)
 goes_on h sizes m r q place w past' next sector good a x head made put = record {
   ring = a.ring;
@@ -150,7 +150,7 @@ goes_on h sizes m r q place w past' next sector good a x head made put = record 
             let now : with_at l.made w.k (l.made w.k + 1) j ≡ l.made w.k + 1 = at_same l.made w.k (l.made w.k + 1) j here in
             let step_then : slice_get (task_steps h w.request) (l.made w.k + 1) ≡ Some (Put p) = ap (λ (o : Asked). slice_get (task_steps h o) (l.made w.k + 1)) is_request ∙ ap (slice_get (task_steps h request)) (sym now) ∙ at_step in
             ap (λ (d : ℕ). get_or (set q.sectors (head_in next) sector) d []) at_head ∙ get_or-set_same q.sectors (head_in next) sector [] fits ∙ put p step_then
-            ∙ ap (λ (n : ℕ). slice_range (seen past' 0 n) (512 * p) (512 * p + 512)) (sym here)
+            ∙ ap (λ (n : ℕ). slice_range (bytes_read past' 0 n) (512 * p) (512 * p + 512)) (sym here)
         | inr apart ↦
             let other : slice_index heads j ≢ (head_in next) = λ e. heads_apart h m j w.k good (left_open past l.completed l.batch j left_j) w.is_open apart (e ∙ head ∙ w.head) in
             let was : slice_get (task_steps h request) (l.made j) ≡ Some (Put p) = ap (slice_get (task_steps h request)) (sym (at_other l.made w.k (l.made w.k + 1) j apart)) ∙ at_step in
@@ -266,7 +266,7 @@ last_sector xs v p long one =
     let place : 512 * p + i ≡ length xs + i = omega (arith, long) in
     sector_byte (xs ++ v) p i (omega (arith, low, range)) ∙ ap (slice_index (xs ++ v)) place ∙ get_or-append-add xs v i 0)
 
-seen_other : (past : List Entry) (k s j : ℕ) (v : List ℕ) → j ≢ k → seen (entries.Look 0 k s v ∷ past) 0 j ≡ seen past 0 j
+seen_other : (past : List Entry) (k s j : ℕ) (v : List ℕ) → j ≢ k → bytes_read (entries.Look 0 k s v ∷ past) 0 j ≡ bytes_read past 0 j
 seen_other past k s j v apart = let differs : k ≢ j = λ e. apart (sym e) in grind (arith, nat_tests)
 
 put_place : (p q : ℕ) → Some (Put q) ≡ Some (Put p) → p ≡ q
@@ -297,18 +297,18 @@ look_stands h sizes m r q q' place v w x plain good a disk made =
     let c : ℕ = (m.lanes 0).made w.k in
     let goes : Advances place w.task (making w) made.sector (Look x.place) q q' = subst (λ (y : TaskStep). Advances place w.task (making w) made.sector y q q') x.next made.state in
     let asks_it : asked past 0 w.k ≡ Some (asks.Read x.sector x.count) = w.is ∙ ap (λ (y : Asked). Some y) x.is in
-    let to : IsReadTo x.count c (looks past 0 w.k) (seen past 0 w.k) = read_to x.sector x.count c (looks past 0 w.k) (acts past 0 w.k) (seen past 0 w.k) (synced past 0 w.k) (asked past 0 w.k) asks_it (good.holds.worked.progress w.k) in
+    let to : IsReadTo x.count c (looks past 0 w.k) (bytes_read past 0 w.k) = read_to x.sector x.count c (looks past 0 w.k) (acts past 0 w.k) (bytes_read past 0 w.k) (synced past 0 w.k) (asked past 0 w.k) asks_it (good.holds.worked.progress w.k) in
     let looked : looks past 0 w.k ≡ (c + 1) / 2 = to.under (omega (arith, x.at, x.within)) in
-    let before : length (seen past 0 w.k) ≡ 512 * x.place = omega (arith, to.long, looked, x.at) in
-    let now : seen past' 0 w.k ≡ seen past 0 w.k ++ read = seen_more past w.k s read in
+    let before : length (bytes_read past 0 w.k) ≡ 512 * x.place = omega (arith, to.long, looked, x.at) in
+    let now : bytes_read past' 0 w.k ≡ bytes_read past 0 w.k ++ read = seen_more past w.k s read in
     let long : length read ≡ 512 = good.holds.known.values s in
     let where_sector : sector_of w.request ≡ x.sector = ap sector_of x.is in
     let held : made.sector ≡ read = made.looks v refl x.place x.next ∙ ap (λ (n : ℕ). v (n + x.place)) where_sector ∙ disk s (omega (arith, x.within, x.wide.fits)) in
     let keeps : Keeps past past' w.k = record { runs = refl; accepts = refl; publishes = refl; requests = refl; sees = λ j apart. seen_other past w.k s j read apart } in
-    let whole : slice_range (seen past' 0 w.k) (512 * x.place) (512 * x.place + 512) ≡ read = ap (λ (xs : List ℕ). slice_range xs (512 * x.place) (512 * x.place + 512)) now ∙ last_sector (seen past 0 w.k) read x.place before long in
-    let put : (p : ℕ) → slice_get (task_steps h w.request) (c + 1) ≡ Some (Put p) → made.sector ≡ slice_range (seen past' 0 w.k) (512 * p) (512 * p + 512) = λ p next.
+    let whole : slice_range (bytes_read past' 0 w.k) (512 * x.place) (512 * x.place + 512) ≡ read = ap (λ (xs : List ℕ). slice_range xs (512 * x.place) (512 * x.place + 512)) now ∙ last_sector (bytes_read past 0 w.k) read x.place before long in
+    let put : (p : ℕ) → slice_get (task_steps h w.request) (c + 1) ≡ Some (Put p) → made.sector ≡ slice_range (bytes_read past' 0 w.k) (512 * p) (512 * p + 512) = λ p next.
     let same : p ≡ x.place = put_place p x.place (sym (step_follows h sizes m q place w (Look x.place) plain x.next).0.next ∙ next_put h w.request c p next) in
-    held ∙ sym whole ∙ ap (λ (n : ℕ). slice_range (seen past' 0 w.k) (512 * n) (512 * n + 512)) (sym same) in
+    held ∙ sym whole ∙ ap (λ (n : ℕ). slice_range (bytes_read past' 0 w.k) (512 * n) (512 * n + 512)) (sym same) in
     let stands : LookStands h r m w.k (worked place goes.0 made.sector q) (Some s) = goes_on h sizes m r q place w past' goes.0 made.sector good a keeps goes.1 goes.2 put in
     let found : look_at w.request x.place ≡ Some s = ap (λ (y : Asked). look_at y x.place) x.is ∙ look_is x.sector x.count x.place x.within in
     subst (λ (y : TaskStep). StandsAfter h r m w.k q' w.request y) (sym x.next)

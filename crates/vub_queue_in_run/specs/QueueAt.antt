@@ -7,7 +7,7 @@ use Rattle.vub_device.specs.declared.entry.Asked.{Asked}
 use Rattle.vub_device.specs.declared.entry.Entry.{Entry}
 use Rattle.vub_disk.specs.Values.{Values}
 use Rattle.vub_device.specs.Crash.{value}
-use Rattle.vub_device.specs.Past.{asked, accepted, published, open_numbers, is_among, IsOpen, started, seen}
+use Rattle.vub_device.specs.Past.{asked, accepted, published, open_numbers, is_among, IsOpen, started, bytes_read}
 use Rattle.vub_steps.specs.Tasks.{Put, task_steps}
 use Rattle.vub_run.specs.Moments.{Moment}
 use Rattle.vub_run.specs.Turns.{len_of}
@@ -46,7 +46,7 @@ pub record QueueAt (h : Header1) (r : SplitRing) (past : List Entry) (heads : Li
   pub buffers : length q.sectors ≡ r.size
   pub places : length q.taken ≡ r.size
   pub sectors : (k place : ℕ) (request : Asked) → is_among (left_of past ready in_batch) k ≡ true → asked past 0 k ≡ Some request → slice_get (task_steps h request) (made k) ≡ Some (Put place)
-      → get_or q.sectors (slice_index heads k) [] ≡ slice_range (seen past 0 k) (512 * place) (512 * place + 512)
+      → get_or q.sectors (slice_index heads k) [] ≡ slice_range (bytes_read past 0 k) (512 * place) (512 * place + 512)
   -- a head that is taken is that of an open request
   pub taken : (d : ℕ) → d < r.size → is_taken q.taken d ≡ true → (k : ℕ) × IsOpen past 0 k × (slice_index heads k ≡ d)
 

@@ -10,7 +10,7 @@ use Rattle.vub_device.specs.declared.entry.Entry.{Entry}
 use Rattle.vub_device.specs.declared.entry.Entry.TheVariants as entries
 use Rattle.vub_device.specs.Requests.{look_at, effect_at}
 use Rattle.vub_device.specs.Crash.{value}
-use Rattle.vub_device.specs.Past.{seen}
+use Rattle.vub_device.specs.Past.{bytes_read}
 use Rattle.vub_report.specs.declared.items.Item.{Item}
 use Rattle.vub_report.specs.declared.items.Item.TheVariants as items
 use Rattle.vub_steps.specs.Tasks.{TaskStep, Look, Put, Act, Sync, Status, status_of}
@@ -27,7 +27,7 @@ act_items q k (Some x) = items.Made (entries.Act q k x.sector x.value) ∷ []
 
 abbrev pub task_items : Header1 → ℕ → ℕ → ℕ → List Entry → Asked → TaskStep → List Item
 task_items h q k buffer past request (Look place) = look_items q k past (look_at request place)
-task_items h q k buffer past request (Put place) = items.Store T2 M (sectors_place buffer + 512 * place) (slice_range (seen past q k) (512 * place) (512 * place + 512)) ∷ []
+task_items h q k buffer past request (Put place) = items.Store T2 M (sectors_place buffer + 512 * place) (slice_range (bytes_read past q k) (512 * place) (512 * place + 512)) ∷ []
 task_items h q k buffer past request (Act place) = act_items q k (effect_at request place)
 task_items h q k buffer past request Sync = items.Made (entries.Sync q k) ∷ []
 task_items h q k buffer past request Status = items.Store T5 M (status_place buffer) (status_of h request ∷ []) ∷ []

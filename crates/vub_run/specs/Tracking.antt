@@ -40,15 +40,15 @@ abbrev pub EveryTracks : Header1 → Scene → Type 0
 EveryTracks h s = (q : ℕ) → q < h.queues → Tracks h q s
 
 -- a store and the offer or publication that it makes count as one
-abbrev pub GoesOn : Item → List Item → Type 0
-GoesOn (items.Store tag area place bytes) (items.Made (Offer q request) ∷ is) = ⊤
-GoesOn (items.Store tag area place bytes) (items.Made (Publish q list) ∷ is) = ⊤
-GoesOn i is = ⊥
+abbrev pub GoesWithNext : Item → List Item → Type 0
+GoesWithNext (items.Store tag area place bytes) (items.Made (Offer q request) ∷ is) = ⊤
+GoesWithNext (items.Store tag area place bytes) (items.Made (Publish q list) ∷ is) = ⊤
+GoesWithNext i is = ⊥
 
 -- a fact after each item, taken together with the entry that it makes
 abbrev pub AfterEach : Header1 → (Scene → Type 0) → Scene → List Item → Type 0
 AfterEach h P s [] = ⊤
-AfterEach h P s (i ∷ is) = (GoesOn i is ⊎ P (after_item h i s)) × AfterEach h P (after_item h i s) is
+AfterEach h P s (i ∷ is) = (GoesWithNext i is ⊎ P (after_item h i s)) × AfterEach h P (after_item h i s) is
 
 -- memory and history agree on every queue, through all of these records
 abbrev pub TracksFrom : Header1 → Scene → List Record → Type 0

@@ -24,7 +24,7 @@ use Rattle.vub_device.specs.declared.entry.Asked.{Asked}
 use Rattle.vub_device.specs.declared.entry.Asked.TheVariants as asks
 use Rattle.vub_device.specs.declared.entry.Entry.{Entry}
 use Rattle.vub_device.specs.declared.entry.Entry.TheVariants as entries
-use Rattle.vub_device.specs.Past.{asked, accepted, published, collected, is_among, IsOpen, open_numbers, seen, numbers}
+use Rattle.vub_device.specs.Past.{asked, accepted, published, collected, is_among, IsOpen, open_numbers, bytes_read, numbers}
 use Rattle.vub_run.specs.Memory.{Scene, after_items}
 use Rattle.vub_run.specs.Moments.{Lane, Moment, unfinished}
 use Rattle.vub_device.specs.declared.entry.SectorValue.{SectorValue}
@@ -192,12 +192,12 @@ own_read : (head body status sector c p : ℕ) (bs : List ℕ) → head < 64 →
 own_read head body status sector c p bs fh fb fs at = record { first = inl (omega arith); middle = inl (omega arith); last = inl (omega arith); header = inl (omega arith); handed = inl (omega arith) }
 
 put_gentle : (h : Header1) (s : Scene) (l : Lane) (k sector c q : ℕ) → IsGood h → Holds h s l → IsOpen s.past 0 k → asked s.past 0 k ≡ Some (asks.Read sector c) → q < 8
-    → IsGentle h.size s (stored_at (sectors_place (buffer (s.heads 0) k) + 512 * q) (slice_range (seen s.past 0 k) (512 * q) (512 * q + 512)) s)
+    → IsGentle h.size s (stored_at (sectors_place (buffer (s.heads 0) k) + 512 * q) (slice_range (bytes_read s.past 0 k) (512 * q) (512 * q + 512)) s)
 put_gentle h s l k sector c q good x is_open is_k low =
     let small : h.size ≤ 64 = good.size.small in
-    let bs : List ℕ = slice_range (seen s.past 0 k) (512 * q) (512 * q + 512) in
+    let bs : List ℕ = slice_range (bytes_read s.past 0 k) (512 * q) (512 * q + 512) in
     let p : ℕ = sectors_place (buffer (s.heads 0) k) + 512 * q in
-    let few : length bs ≤ 512 = sector_few (seen s.past 0 k) q in
+    let few : length bs ≤ 512 = sector_few (bytes_read s.past 0 k) q in
     let out_k = open_out h.size h.capacity s.past (s.heads 0) k x.known is_open in
     store_gentle h s l p bs x (omega arith) (offered_away s k p bs out_k (omega arith) (omega arith)) (λ j body status r out fh fb fs is simple. elim (cases_eq j k) [
       | inl same ↦

@@ -18,7 +18,7 @@ use Rattle.vub_device.specs.declared.entry.Asked.{Asked}
 use Rattle.vub_device.specs.declared.entry.Asked.TheVariants as asks
 use Rattle.vub_device.specs.declared.entry.Entry.{Entry}
 use Rattle.vub_device.specs.Crash.{value}
-use Rattle.vub_device.specs.Past.{offers, asked, accepted, published, collected, is_among, IsOpen, started, looks, seen, acts, synced, faulted}
+use Rattle.vub_device.specs.Past.{offers, asked, accepted, published, collected, is_among, IsOpen, started, looks, bytes_read, acts, synced, faulted}
 use Rattle.vub_device.specs.Places.{are_distinct}
 use Rattle.vub_run.specs.Memory.{Scene}
 use Rattle.vub_run.specs.Moments.{Lane, Moment}
@@ -182,7 +182,7 @@ pub record Worked (past : List Entry) (phase : Phase) (batch completed : List �
   pub distinct : are_distinct (completed ++ batch) ≡ true
   pub opens : (k : ℕ) → is_among (completed ++ batch) k ≡ true → IsOpen past 0 k
   pub untouched : (k : ℕ) → accepted past 0 ≤ k → made k ≡ 0
-  pub progress : (k : ℕ) → Progress (made k) (looks past 0 k) (acts past 0 k) (seen past 0 k) (synced past 0 k) (asked past 0 k)
+  pub progress : (k : ℕ) → Progress (made k) (looks past 0 k) (acts past 0 k) (bytes_read past 0 k) (synced past 0 k) (asked past 0 k)
   pub full : (k : ℕ) → is_among (completed ++ batch) k ≡ true → IsFull (made k) (asked past 0 k)
   pub pending : (k : ℕ) → IsOpen past 0 k → is_among (completed ++ batch) k ≡ false → IsPending (made k) (asked past 0 k)
   pub quiet : started past 0 ≡ false → (phase ≡ phases.Rest) × ((completed ≡ []) × ((k : ℕ) → made k ≡ 0))
@@ -204,7 +204,7 @@ pub record IsKept (made read i : ℕ) : Type 0 where
   pub looked : i < read
 
 pub record Stored (past : List Entry) (heads : List ℕ) (m : Bytes) (batch completed : List ℕ) (made : ℕ → ℕ) : Type 0 where
-  pub sectors : (k i : ℕ) → IsOpen past 0 k → IsKept (made k) (length (seen past 0 k)) i → IsRead (asked past 0 k) → m 0 (sectors_place (buffer heads k) + i) ≡ slice_index (seen past 0 k) i
+  pub sectors : (k i : ℕ) → IsOpen past 0 k → IsKept (made k) (length (bytes_read past 0 k)) i → IsRead (asked past 0 k) → m 0 (sectors_place (buffer heads k) + i) ≡ slice_index (bytes_read past 0 k) i
   pub status : (k : ℕ) → is_among (completed ++ batch) k ≡ true → m 0 (status_place (buffer heads k)) ≡ 0
 
 -- ---- what stands in the used ring of a publication under way

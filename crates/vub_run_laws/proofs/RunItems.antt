@@ -8,10 +8,10 @@ use Rattle.vub_device.specs.Legal.{LegalFrom, after}
 use Rattle.vub_report.specs.declared.items.Item.{Item}
 use Rattle.vub_report.specs.declared.items.Item.TheVariants as items
 use Rattle.vub_run.specs.Memory.{Scene, after_item, after_items}
-use Rattle.vub_run.specs.Tracking.{GoesOn, AfterEach}
+use Rattle.vub_run.specs.Tracking.{GoesWithNext, AfterEach}
 use Rattle.vub_report.specs.Histories.{entries_of}
 
-goes_on-append : (i : Item) (is js : List Item) → GoesOn i is → GoesOn i (is ++ js)
+goes_on-append : (i : Item) (is js : List Item) → GoesWithNext i is → GoesWithNext i (is ++ js)
 goes_on-append (items.Store tag area place bytes) [] js g = absurd g
 goes_on-append (items.Store tag area place bytes) (items.Made (entries.Offer q r) ∷ is) js g = tt
 goes_on-append (items.Store tag area place bytes) (items.Made (entries.Publish q list) ∷ is) js g = tt

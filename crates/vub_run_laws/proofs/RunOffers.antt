@@ -14,7 +14,7 @@ use Rattle.vub_driver.specs.Drivers.{Driver, Waiting}
 use Rattle.vub_device.specs.declared.entry.Asked.{Asked}
 use Rattle.vub_device.specs.declared.entry.Entry.{Entry}
 use Rattle.vub_device.specs.declared.entry.Entry.TheVariants as entries
-use Rattle.vub_device.specs.Past.{offers, asked, accepted, published, collected, is_among, looks, seen, acts, synced}
+use Rattle.vub_device.specs.Past.{offers, asked, accepted, published, collected, is_among, looks, bytes_read, acts, synced}
 use Rattle.vub_device.proofs.Numbers.{is_among_append}
 use Rattle.vub_run.specs.Tracking.{answered_len}
 use Rattle.vub_run_laws.proofs.RunNumbers.{among_at, few_places}
@@ -161,7 +161,7 @@ offer_worked n cap past heads r phase batch completed made known worked = record
   progress = λ k. record {
     fresh = (worked.progress k).fresh;
     begun = λ some. elim (cases_lt k (offers past 0)) [
-      | inl low ↦ subst (λ (o : Option Asked). IsBegun (made k) (looks past 0 k) (acts past 0 k) (seen past 0 k) (synced past 0 k) o) (sym (same_asked past r k low)) ((worked.progress k).begun some)
+      | inl low ↦ subst (λ (o : Option Asked). IsBegun (made k) (looks past 0 k) (acts past 0 k) (bytes_read past 0 k) (synced past 0 k) o) (sym (same_asked past r k low)) ((worked.progress k).begun some)
       | inr high ↦ absurd (let none : made k ≡ 0 = worked.untouched k (omega (arith, known.offers_are, known.offered)) in omega arith)
     ];
   };

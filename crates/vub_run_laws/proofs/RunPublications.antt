@@ -23,7 +23,7 @@ use Rattle.vub_device.specs.declared.entry.Asked.{Asked}
 use Rattle.vub_device.specs.declared.entry.Asked.TheVariants as asks
 use Rattle.vub_device.specs.declared.entry.Entry.{Entry}
 use Rattle.vub_device.specs.Legal.{IsAnswer, IsDone}
-use Rattle.vub_device.specs.Past.{asked, published, numbers, is_among, IsOpen, started, looks, seen, acts, synced}
+use Rattle.vub_device.specs.Past.{asked, published, numbers, is_among, IsOpen, started, looks, bytes_read, acts, synced}
 use Rattle.vub_device.specs.Requests.{look_at, effect_at}
 use Rattle.vub_device.proofs.Numbers.{is_among_append}
 use Rattle.vub_run.specs.Memory.{Scene}
@@ -170,21 +170,21 @@ read_answer : (h : Header1) (past : List Entry) (heads : List ℕ) (m : Bytes) (
 read_answer h past heads m batch completed made phase k sector c x =
     let is_open : IsOpen past 0 k = x.worked.opens k x.held in
     let enough : 2 * c ≤ made k = subst (λ (o : Option Asked). IsFull (made k) o) x.is (x.worked.full k x.held) in
-    let to : IsReadTo c (made k) (looks past 0 k) (seen past 0 k) = read_to sector c (made k) (looks past 0 k) (acts past 0 k) (seen past 0 k) (synced past 0 k) (asked past 0 k) x.is (x.worked.progress k) in
+    let to : IsReadTo c (made k) (looks past 0 k) (bytes_read past 0 k) = read_to sector c (made k) (looks past 0 k) (acts past 0 k) (bytes_read past 0 k) (synced past 0 k) (asked past 0 k) x.is (x.worked.progress k) in
     let looked : looks past 0 k ≡ c = to.whole enough in
-    let long : length (seen past 0 k) ≡ 512 * c = omega (arith, to.long, looked) in
+    let long : length (bytes_read past 0 k) ≡ 512 * c = omega (arith, to.long, looked) in
     let few : c ≤ 8 = x.wide.few in
     let read : IsRead (asked past 0 k) = subst (λ (o : Option Asked). IsRead o) (sym x.is) tt in (
       ap (look_at (asks.Read sector c)) looked ∙ looks_end sector c,
       answer_bytes_are h past heads m batch completed made phase k (asks.Read sector c) x
-          ∙ read_stands m (sectors_place (buffer heads k)) (512 * c) (seen past 0 k) long (λ i low. x.stored.sectors k i is_open (record { small = omega (arith, low, few); put = omega (arith, low, enough); looked = omega (arith, low, long) }) read),
+          ∙ read_stands m (sectors_place (buffer heads k)) (512 * c) (bytes_read past 0 k) long (λ i low. x.stored.sectors k i is_open (record { small = omega (arith, low, few); put = omega (arith, low, enough); looked = omega (arith, low, long) }) read),
     )
 
 write_answer : (h : Header1) (past : List Entry) (heads : List ℕ) (m : Bytes) (batch completed : List ℕ) (made : ℕ → ℕ) (phase : Phase) (k sector : ℕ) (bytes : List ℕ) → h.mode ≡ Back → IsShown h past heads m batch completed made phase k (asks.Write sector bytes)
     → IsDone h.mode past 0 k (asks.Write sector bytes) (answer_bytes past heads m k)
 write_answer h past heads m batch completed made phase k sector bytes back x =
     let enough : length bytes / 512 ≤ made k = subst (λ (o : Option Asked). IsFull (made k) o) x.is (x.worked.full k x.held) in
-    let to : IsWrittenTo (length bytes / 512) (made k) (acts past 0 k) = written_to sector (made k) (looks past 0 k) (acts past 0 k) bytes (seen past 0 k) (synced past 0 k) (asked past 0 k) x.is (x.worked.progress k) in (
+    let to : IsWrittenTo (length bytes / 512) (made k) (acts past 0 k) = written_to sector (made k) (looks past 0 k) (acts past 0 k) bytes (bytes_read past 0 k) (synced past 0 k) (asked past 0 k) x.is (x.worked.progress k) in (
       ap (effect_at (asks.Write sector bytes)) (to.whole enough) ∙ effects_end sector bytes,
       (λ through. absurd (let fails : Back ≡ Through = sym back ∙ through in cc)),
       answer_bytes_are h past heads m batch completed made phase k (asks.Write sector bytes) x,
@@ -193,7 +193,7 @@ write_answer h past heads m batch completed made phase k sector bytes back x =
 flush_answer : (h : Header1) (past : List Entry) (heads : List ℕ) (m : Bytes) (batch completed : List ℕ) (made : ℕ → ℕ) (phase : Phase) (k : ℕ) → IsShown h past heads m batch completed made phase k asks.Flush → IsDone h.mode past 0 k asks.Flush (answer_bytes past heads m k)
 flush_answer h past heads m batch completed made phase k x =
     let enough : 1 ≤ made k = subst (λ (o : Option Asked). IsFull (made k) o) x.is (x.worked.full k x.held) in (
-      flushed_to (made k) (looks past 0 k) (acts past 0 k) (seen past 0 k) (synced past 0 k) (asked past 0 k) x.is enough (x.worked.progress k),
+      flushed_to (made k) (looks past 0 k) (acts past 0 k) (bytes_read past 0 k) (synced past 0 k) (asked past 0 k) x.is enough (x.worked.progress k),
       answer_bytes_are h past heads m batch completed made phase k asks.Flush x,
     )
 

@@ -21,7 +21,7 @@ use Rattle.vub_device.specs.declared.entry.SectorValue.{SectorValue}
 use Rattle.vub_device.specs.Crash.{value}
 use Rattle.vub_device.specs.Legal.{LegalFrom, IsAtWork, MayLook, MayAct, MaySync}
 use Rattle.vub_device.specs.Requests.{look_at, effect_at, refusal}
-use Rattle.vub_device.specs.Past.{accepted, asked, published, collected, is_among, IsOpen, started, looks, seen, acts, synced}
+use Rattle.vub_device.specs.Past.{accepted, asked, published, collected, is_among, IsOpen, started, looks, bytes_read, acts, synced}
 use Rattle.vub_device.specs.Places.{are_distinct}
 use Rattle.vub_device.proofs.Numbers.{is_among_append}
 use Rattle.vub_base.specs.declared.store.Tag.TheVariants.{T5}
@@ -136,7 +136,7 @@ record Follows (past later : List Entry) (k : ℕ) : Type 0 where
   pub asks_same : (j : ℕ) → asked later 0 j ≡ asked past 0 j
   pub runs : started past 0 ≡ true
   pub runs_on : started later 0 ≡ true
-  pub others : (j : ℕ) → j ≢ k → (looks later 0 j ≡ looks past 0 j) × ((acts later 0 j ≡ acts past 0 j) × ((seen later 0 j ≡ seen past 0 j) × (synced later 0 j ≡ synced past 0 j)))
+  pub others : (j : ℕ) → j ≢ k → (looks later 0 j ≡ looks past 0 j) × ((acts later 0 j ≡ acts past 0 j) × ((bytes_read later 0 j ≡ bytes_read past 0 j) × (synced later 0 j ≡ synced past 0 j)))
 
 open_later : (past later : List Entry) (k j : ℕ) → Follows past later k → IsOpen past 0 j → IsOpen later 0 j
 open_later past later k j f is_open = record { taken = omega (arith, f.accepts, is_open.taken); unpublished = ap (λ (ks : List ℕ). is_among ks j) f.publishes ∙ is_open.unpublished }
@@ -146,28 +146,28 @@ open_before past later k j f is_open = record { taken = omega (arith, f.accepts,
 
 -- how far a number is
 abbrev Far : List Entry → (ℕ → ℕ) → ℕ → Type 0
-Far past made j = Progress (made j) (looks past 0 j) (acts past 0 j) (seen past 0 j) (synced past 0 j) (asked past 0 j)
+Far past made j = Progress (made j) (looks past 0 j) (acts past 0 j) (bytes_read past 0 j) (synced past 0 j) (asked past 0 j)
 
 far_other : (past later : List Entry) (made : ℕ → ℕ) (k j : ℕ) → Follows past later k → j ≢ k → Far past made j → Far later (with_at made k (made k + 1)) j
 far_other past later made k j f apart far =
     let same = f.others j apart in
     let n : ℕ = with_at made k (made k + 1) j in
-    let one : Progress n (looks past 0 j) (acts past 0 j) (seen past 0 j) (synced past 0 j) (asked past 0 j) = subst (λ (c : ℕ). Progress c (looks past 0 j) (acts past 0 j) (seen past 0 j) (synced past 0 j) (asked past 0 j)) (sym (at_other made k (made k + 1) j apart)) far in
-    let two : Progress n (looks later 0 j) (acts past 0 j) (seen past 0 j) (synced past 0 j) (asked past 0 j) = subst (λ (c : ℕ). Progress n c (acts past 0 j) (seen past 0 j) (synced past 0 j) (asked past 0 j)) (sym same.0) one in
-    let three : Progress n (looks later 0 j) (acts later 0 j) (seen past 0 j) (synced past 0 j) (asked past 0 j) = subst (λ (c : ℕ). Progress n (looks later 0 j) c (seen past 0 j) (synced past 0 j) (asked past 0 j)) (sym same.1.0) two in
-    let four : Progress n (looks later 0 j) (acts later 0 j) (seen later 0 j) (synced past 0 j) (asked past 0 j) = subst (λ (xs : List ℕ). Progress n (looks later 0 j) (acts later 0 j) xs (synced past 0 j) (asked past 0 j)) (sym same.1.1.0) three in
-    let five : Progress n (looks later 0 j) (acts later 0 j) (seen later 0 j) (synced later 0 j) (asked past 0 j) = subst (λ (b : Bool). Progress n (looks later 0 j) (acts later 0 j) (seen later 0 j) b (asked past 0 j)) (sym same.1.1.1) four in
-    subst (λ (o : Option Asked). Progress n (looks later 0 j) (acts later 0 j) (seen later 0 j) (synced later 0 j) o) (sym (f.asks_same j)) five
+    let one : Progress n (looks past 0 j) (acts past 0 j) (bytes_read past 0 j) (synced past 0 j) (asked past 0 j) = subst (λ (c : ℕ). Progress c (looks past 0 j) (acts past 0 j) (bytes_read past 0 j) (synced past 0 j) (asked past 0 j)) (sym (at_other made k (made k + 1) j apart)) far in
+    let two : Progress n (looks later 0 j) (acts past 0 j) (bytes_read past 0 j) (synced past 0 j) (asked past 0 j) = subst (λ (c : ℕ). Progress n c (acts past 0 j) (bytes_read past 0 j) (synced past 0 j) (asked past 0 j)) (sym same.0) one in
+    let three : Progress n (looks later 0 j) (acts later 0 j) (bytes_read past 0 j) (synced past 0 j) (asked past 0 j) = subst (λ (c : ℕ). Progress n (looks later 0 j) c (bytes_read past 0 j) (synced past 0 j) (asked past 0 j)) (sym same.1.0) two in
+    let four : Progress n (looks later 0 j) (acts later 0 j) (bytes_read later 0 j) (synced past 0 j) (asked past 0 j) = subst (λ (xs : List ℕ). Progress n (looks later 0 j) (acts later 0 j) xs (synced past 0 j) (asked past 0 j)) (sym same.1.1.0) three in
+    let five : Progress n (looks later 0 j) (acts later 0 j) (bytes_read later 0 j) (synced later 0 j) (asked past 0 j) = subst (λ (b : Bool). Progress n (looks later 0 j) (acts later 0 j) (bytes_read later 0 j) b (asked past 0 j)) (sym same.1.1.1) four in
+    subst (λ (o : Option Asked). Progress n (looks later 0 j) (acts later 0 j) (bytes_read later 0 j) (synced later 0 j) o) (sym (f.asks_same j)) five
 
-far_same : (past later : List Entry) (made : ℕ → ℕ) (k j : ℕ) → j ≡ k → Follows past later k → IsBegun (made k + 1) (looks later 0 k) (acts later 0 k) (seen later 0 k) (synced later 0 k) (asked past 0 k) → Far later (with_at made k (made k + 1)) j
+far_same : (past later : List Entry) (made : ℕ → ℕ) (k j : ℕ) → j ≡ k → Follows past later k → IsBegun (made k + 1) (looks later 0 k) (acts later 0 k) (bytes_read later 0 k) (synced later 0 k) (asked past 0 k) → Far later (with_at made k (made k + 1)) j
 far_same past later made k j same f begun =
     subst (λ (i : ℕ). Far later (with_at made k (made k + 1)) i) (sym same)
-    (subst (λ (c : ℕ). Progress c (looks later 0 k) (acts later 0 k) (seen later 0 k) (synced later 0 k) (asked later 0 k)) (sym (at_same made k (made k + 1) k refl))
-    (subst (λ (o : Option Asked). Progress (made k + 1) (looks later 0 k) (acts later 0 k) (seen later 0 k) (synced later 0 k) o) (sym (f.asks_same k)) (record { fresh = λ e. absurd (omega arith); begun = λ some. begun })))
+    (subst (λ (c : ℕ). Progress c (looks later 0 k) (acts later 0 k) (bytes_read later 0 k) (synced later 0 k) (asked later 0 k)) (sym (at_same made k (made k + 1) k refl))
+    (subst (λ (o : Option Asked). Progress (made k + 1) (looks later 0 k) (acts later 0 k) (bytes_read later 0 k) (synced later 0 k) o) (sym (f.asks_same k)) (record { fresh = λ e. absurd (omega arith); begun = λ some. begun })))
 
 -- a step that isn't the last
 step_worked : (past later : List Entry) (phase : Phase) (batch completed : List ℕ) (made : ℕ → ℕ) (k : ℕ) → Follows past later k → IsOpen past 0 k → is_among (completed ++ batch) k ≡ false
-    → IsBegun (made k + 1) (looks later 0 k) (acts later 0 k) (seen later 0 k) (synced later 0 k) (asked past 0 k) → IsPending (made k + 1) (asked past 0 k) → Worked past phase batch completed made → Worked later phase batch completed (with_at made k (made k + 1))
+    → IsBegun (made k + 1) (looks later 0 k) (acts later 0 k) (bytes_read later 0 k) (synced later 0 k) (asked past 0 k) → IsPending (made k + 1) (asked past 0 k) → Worked past phase batch completed made → Worked later phase batch completed (with_at made k (made k + 1))
 step_worked past later phase batch completed made k f is_open left begun next w = record {
   distinct = w.distinct;
   opens = λ j held. open_later past later k j f (w.opens j held);
@@ -187,13 +187,13 @@ step_worked past later phase batch completed made k f is_open left begun next w 
 
 -- what was stored of the sectors that were read was seen before too
 abbrev SeenBefore : List Entry → List Entry → (ℕ → ℕ) → ℕ → ℕ → Type 0
-SeenBefore past later made k j = (i : ℕ) → IsRead (asked past 0 j) → IsKept (with_at made k (made k + 1) j) (length (seen later 0 j)) i → IsKept (made j) (length (seen past 0 j)) i × (slice_index (seen later 0 j) i ≡ slice_index (seen past 0 j) i)
+SeenBefore past later made k j = (i : ℕ) → IsRead (asked past 0 j) → IsKept (with_at made k (made k + 1) j) (length (bytes_read later 0 j)) i → IsKept (made j) (length (bytes_read past 0 j)) i × (slice_index (bytes_read later 0 j) i ≡ slice_index (bytes_read past 0 j) i)
 
 seen_other : (past later : List Entry) (made : ℕ → ℕ) (k j : ℕ) → Follows past later k → j ≢ k → SeenBefore past later made k j
 seen_other past later made k j f apart = λ i read kept.
-    let same : seen later 0 j ≡ seen past 0 j = (f.others j apart).1.1.0 in
+    let same : bytes_read later 0 j ≡ bytes_read past 0 j = (f.others j apart).1.1.0 in
     let made_same : with_at made k (made k + 1) j ≡ made j = at_other made k (made k + 1) j apart in (
-      subst (λ (c : ℕ). IsKept c (length (seen past 0 j)) i) made_same (subst (λ (xs : List ℕ). IsKept (with_at made k (made k + 1) j) (length xs) i) same kept),
+      subst (λ (c : ℕ). IsKept c (length (bytes_read past 0 j)) i) made_same (subst (λ (xs : List ℕ). IsKept (with_at made k (made k + 1) j) (length xs) i) same kept),
       ap (λ (xs : List ℕ). slice_index xs i) same,
     )
 
@@ -202,7 +202,7 @@ step_stored : (past later : List Entry) (heads : List ℕ) (m : Bytes) (batch co
 step_stored past later heads m batch completed made k f here st = record {
   sectors = λ j i is_open kept read.
       let read_before : IsRead (asked past 0 j) = subst (λ (o : Option Asked). IsRead o) (f.asks_same j) read in
-      let before : IsKept (made j) (length (seen past 0 j)) i × (slice_index (seen later 0 j) i ≡ slice_index (seen past 0 j) i) = elim (cases_eq j k) [
+      let before : IsKept (made j) (length (bytes_read past 0 j)) i × (slice_index (bytes_read later 0 j) i ≡ slice_index (bytes_read past 0 j) i) = elim (cases_eq j k) [
         | inl same ↦ subst (λ (n : ℕ). SeenBefore past later made k n) (sym same) here i read_before kept
         | inr apart ↦ seen_other past later made k j f apart i read_before kept
       ] in
@@ -226,14 +226,14 @@ look_follows past k s v run = record {
   others = λ j apart.
       let differs : k ≢ j = λ e. apart (sym e) in
       let looked : looks (entries.Look 0 k s v ∷ past) 0 j ≡ looks past 0 j = grind (arith, nat_tests) in
-      let read : seen (entries.Look 0 k s v ∷ past) 0 j ≡ seen past 0 j = grind (arith, nat_tests) in
+      let read : bytes_read (entries.Look 0 k s v ∷ past) 0 j ≡ bytes_read past 0 j = grind (arith, nat_tests) in
       (looked, (refl, (read, refl)));
 }
 
 looks_more : (past : List Entry) (k s : ℕ) (v : List ℕ) → looks (entries.Look 0 k s v ∷ past) 0 k ≡ looks past 0 k + 1
 looks_more past k s v = grind (arith, nat_tests)
 
-pub seen_more : (past : List Entry) (k s : ℕ) (v : List ℕ) → seen (entries.Look 0 k s v ∷ past) 0 k ≡ seen past 0 k ++ v
+pub seen_more : (past : List Entry) (k s : ℕ) (v : List ℕ) → bytes_read (entries.Look 0 k s v ∷ past) 0 k ≡ bytes_read past 0 k ++ v
 seen_more past k s v = grind (arith, nat_tests)
 
 -- a request that is worked on reads
@@ -242,35 +242,35 @@ record IsReading (h : Header1) (s : Scene) (l : Lane) (k sector c : ℕ) : Type 
   pub wide : IsWideRead h.capacity sector c
   pub is : asked s.past 0 k ≡ Some (asks.Read sector c)
 
-reading_to : (h : Header1) (s : Scene) (l : Lane) (k sector c : ℕ) → IsReading h s l k sector c → IsReadTo c (l.made k) (looks s.past 0 k) (seen s.past 0 k)
-reading_to h s l k sector c x = read_to sector c (l.made k) (looks s.past 0 k) (acts s.past 0 k) (seen s.past 0 k) (synced s.past 0 k) (asked s.past 0 k) x.is (x.left.holds.worked.progress k)
+reading_to : (h : Header1) (s : Scene) (l : Lane) (k sector c : ℕ) → IsReading h s l k sector c → IsReadTo c (l.made k) (looks s.past 0 k) (bytes_read s.past 0 k)
+reading_to h s l k sector c x = read_to sector c (l.made k) (looks s.past 0 k) (acts s.past 0 k) (bytes_read s.past 0 k) (synced s.past 0 k) (asked s.past 0 k) x.is (x.left.holds.worked.progress k)
 
 look_worked : (h : Header1) (s : Scene) (l : Lane) (k sector c p place : ℕ) (v : List ℕ) → IsReading h s l k sector c → p < c → l.made k ≡ 2 * p → length v ≡ 512
     → Worked (entries.Look 0 k place v ∷ s.past) l.phase l.batch l.completed (with_at l.made k (l.made k + 1))
 look_worked h s l k sector c p place v x low at long =
     let later : List Entry = entries.Look 0 k place v ∷ s.past in
-    let to : IsReadTo c (l.made k) (looks s.past 0 k) (seen s.past 0 k) = reading_to h s l k sector c x in
+    let to : IsReadTo c (l.made k) (looks s.past 0 k) (bytes_read s.past 0 k) = reading_to h s l k sector c x in
     let looked : looks s.past 0 k ≡ (l.made k + 1) / 2 = to.under (omega arith) in
     let more : looks later 0 k ≡ looks s.past 0 k + 1 = looks_more s.past k place v in
-    let longer : length (seen later 0 k) ≡ length (seen s.past 0 k) + length v = ap (λ (xs : List ℕ). length xs) (seen_more s.past k place v) ∙ length-append (seen s.past 0 k) v in
-    let was : length (seen s.past 0 k) ≡ 512 * looks s.past 0 k = to.long in
-    let next : IsReadTo c (l.made k + 1) (looks later 0 k) (seen later 0 k) = record { under = λ e. omega (arith, looked, more, at); whole = λ e. omega (arith, looked, more, at, low); long = omega (arith, longer, was, more, long) } in
+    let longer : length (bytes_read later 0 k) ≡ length (bytes_read s.past 0 k) + length v = ap (λ (xs : List ℕ). length xs) (seen_more s.past k place v) ∙ length-append (bytes_read s.past 0 k) v in
+    let was : length (bytes_read s.past 0 k) ≡ 512 * looks s.past 0 k = to.long in
+    let next : IsReadTo c (l.made k + 1) (looks later 0 k) (bytes_read later 0 k) = record { under = λ e. omega (arith, looked, more, at); whole = λ e. omega (arith, looked, more, at, low); long = omega (arith, longer, was, more, long) } in
     step_worked s.past later l.phase l.batch l.completed l.made k (look_follows s.past k place v x.left.started) x.left.is_open x.left.left
-    (subst (λ (o : Option Asked). IsBegun (l.made k + 1) (looks later 0 k) (acts later 0 k) (seen later 0 k) (synced later 0 k) o) (sym x.is) next)
+    (subst (λ (o : Option Asked). IsBegun (l.made k + 1) (looks later 0 k) (acts later 0 k) (bytes_read later 0 k) (synced later 0 k) o) (sym x.is) next)
     (subst (λ (o : Option Asked). IsPending (l.made k + 1) o) (sym x.is) (omega arith)) x.left.holds.worked
 
 look_seen : (h : Header1) (s : Scene) (l : Lane) (k sector c p place : ℕ) (v : List ℕ) → IsReading h s l k sector c → p < c → l.made k ≡ 2 * p → SeenBefore s.past (entries.Look 0 k place v ∷ s.past) l.made k k
 look_seen h s l k sector c p place v x low at = λ i read kept.
     let now : with_at l.made k (l.made k + 1) k ≡ l.made k + 1 = at_same l.made k (l.made k + 1) k refl in
-    let to : IsReadTo c (l.made k) (looks s.past 0 k) (seen s.past 0 k) = reading_to h s l k sector c x in
+    let to : IsReadTo c (l.made k) (looks s.past 0 k) (bytes_read s.past 0 k) = reading_to h s l k sector c x in
     let looked : looks s.past 0 k ≡ (l.made k + 1) / 2 = to.under (omega arith) in
-    let was : length (seen s.past 0 k) ≡ 512 * looks s.past 0 k = to.long in
+    let was : length (bytes_read s.past 0 k) ≡ 512 * looks s.past 0 k = to.long in
     let upto : i < 512 * (with_at l.made k (l.made k + 1) k / 2) = kept.put in
     let half : with_at l.made k (l.made k + 1) k / 2 ≡ p = omega (arith, now, at) in
     let within : i < 512 * p = omega (arith, upto, half) in
-    let old : i < length (seen s.past 0 k) = omega (arith, within, was, looked, at) in (
+    let old : i < length (bytes_read s.past 0 k) = omega (arith, within, was, looked, at) in (
       record { small = kept.small; put = omega (arith, within, at); looked = old },
-      ap (λ (xs : List ℕ). slice_index xs i) (seen_more s.past k place v) ∙ get_or_append_left (seen s.past 0 k) v 0 i old,
+      ap (λ (xs : List ℕ). slice_index xs i) (seen_more s.past k place v) ∙ get_or_append_left (bytes_read s.past 0 k) v 0 i old,
     )
 
 look_holds : (h : Header1) (s : Scene) (l : Lane) (k sector c p place : ℕ) (v : List ℕ) → IsReading h s l k sector c → p < c → l.made k ≡ 2 * p → length v ≡ 512 → Holds h (record s { past = entries.Look 0 k place v ∷ s.past }) (one_more k l)
@@ -287,7 +287,7 @@ look_fine : (h : Header1) (s : Scene) (l : Lane) (k sector c p : ℕ) → IsRead
 look_fine h s l k sector c p x low at =
     let v : List ℕ = value s.past (sector + p) in
     let holds = look_holds h s l k sector c p (sector + p) v x low at (x.left.holds.known.values (sector + p)) in
-    let to : IsReadTo c (l.made k) (looks s.past 0 k) (seen s.past 0 k) = reading_to h s l k sector c x in
+    let to : IsReadTo c (l.made k) (looks s.past 0 k) (bytes_read s.past 0 k) = reading_to h s l k sector c x in
     let looked : looks s.past 0 k ≡ (l.made k + 1) / 2 = to.under (omega arith) in
     let place : looks s.past 0 k ≡ p = omega (arith, looked, at) in
     let is_look : look_at (asks.Read sector c) p ≡ Some (sector + p) = look_is sector c p low in
@@ -350,7 +350,7 @@ record IsWriting (h : Header1) (s : Scene) (l : Lane) (k sector : ℕ) (bytes : 
   pub is : asked s.past 0 k ≡ Some (asks.Write sector bytes)
 
 writing_to : (h : Header1) (s : Scene) (l : Lane) (k sector : ℕ) (bytes : List ℕ) → IsWriting h s l k sector bytes → IsWrittenTo (length bytes / 512) (l.made k) (acts s.past 0 k)
-writing_to h s l k sector bytes x = written_to sector (l.made k) (looks s.past 0 k) (acts s.past 0 k) bytes (seen s.past 0 k) (synced s.past 0 k) (asked s.past 0 k) x.is (x.left.holds.worked.progress k)
+writing_to h s l k sector bytes x = written_to sector (l.made k) (looks s.past 0 k) (acts s.past 0 k) bytes (bytes_read s.past 0 k) (synced s.past 0 k) (asked s.past 0 k) x.is (x.left.holds.worked.progress k)
 
 write_never : (sector : ℕ) (bytes : List ℕ) (o : Option Asked) → o ≡ Some (asks.Write sector bytes) → IsRead o → ⊥
 write_never sector bytes o is read = subst (λ (x : Option Asked). IsRead x) is read
@@ -362,7 +362,7 @@ act_worked h s l k sector place bytes v x low =
     let more : acts later 0 k ≡ acts s.past 0 k + 1 = acts_more s.past k place v in
     let next : IsWrittenTo (length bytes / 512) (l.made k + 1) (acts later 0 k) = record { under = λ e. omega (arith, acted, more); whole = λ e. omega (arith, acted, more, low, e) } in
     step_worked s.past later l.phase l.batch l.completed l.made k (act_follows s.past k place v x.left.started) x.left.is_open x.left.left
-    (subst (λ (o : Option Asked). IsBegun (l.made k + 1) (looks later 0 k) (acts later 0 k) (seen later 0 k) (synced later 0 k) o) (sym x.is) next)
+    (subst (λ (o : Option Asked). IsBegun (l.made k + 1) (looks later 0 k) (acts later 0 k) (bytes_read later 0 k) (synced later 0 k) o) (sym x.is) next)
     (subst (λ (o : Option Asked). IsPending (l.made k + 1) o) (sym x.is) (omega (arith, low))) x.left.holds.worked
 
 act_holds : (h : Header1) (s : Scene) (l : Lane) (k sector place : ℕ) (bytes v : List ℕ) → IsWriting h s l k sector bytes → l.made k < length bytes / 512 → length v ≡ 512 → Holds h (record s { past = entries.Act 0 k place v ∷ s.past }) (one_more k l)
@@ -449,7 +449,7 @@ sync_worked : (h : Header1) (s : Scene) (l : Lane) (k : ℕ) → IsLeft h s l k 
 sync_worked h s l k x is none =
     let later : List Entry = entries.Sync 0 k ∷ s.past in
     step_worked s.past later l.phase l.batch l.completed l.made k (sync_follows s.past k x.started) x.is_open x.left
-    (subst (λ (o : Option Asked). IsBegun (l.made k + 1) (looks later 0 k) (acts later 0 k) (seen later 0 k) (synced later 0 k) o) (sym is) (now_stable s.past k))
+    (subst (λ (o : Option Asked). IsBegun (l.made k + 1) (looks later 0 k) (acts later 0 k) (bytes_read later 0 k) (synced later 0 k) o) (sym is) (now_stable s.past k))
     (subst (λ (o : Option Asked). IsPending (l.made k + 1) o) (sym is) (omega arith)) x.holds.worked
 
 sync_holds : (h : Header1) (s : Scene) (l : Lane) (k : ℕ) → IsLeft h s l k → asked s.past 0 k ≡ Some asks.Flush → l.made k ≡ 0 → Holds h (record s { past = entries.Sync 0 k ∷ s.past }) (one_more k l)
@@ -495,11 +495,11 @@ same_follows past k run = record { accepts = refl; publishes = refl; asks_same =
 
 put_worked : (h : Header1) (s : Scene) (l : Lane) (k sector c p : ℕ) → IsReading h s l k sector c → p < c → l.made k ≡ 2 * p + 1 → Worked s.past l.phase l.batch l.completed (with_at l.made k (l.made k + 1))
 put_worked h s l k sector c p x low at =
-    let to : IsReadTo c (l.made k) (looks s.past 0 k) (seen s.past 0 k) = reading_to h s l k sector c x in
+    let to : IsReadTo c (l.made k) (looks s.past 0 k) (bytes_read s.past 0 k) = reading_to h s l k sector c x in
     let looked : looks s.past 0 k ≡ (l.made k + 1) / 2 = to.under (omega arith) in
-    let next : IsReadTo c (l.made k + 1) (looks s.past 0 k) (seen s.past 0 k) = record { under = λ e. omega (arith, looked, at); whole = λ e. omega (arith, looked, at, low, e); long = to.long } in
+    let next : IsReadTo c (l.made k + 1) (looks s.past 0 k) (bytes_read s.past 0 k) = record { under = λ e. omega (arith, looked, at); whole = λ e. omega (arith, looked, at, low, e); long = to.long } in
     step_worked s.past s.past l.phase l.batch l.completed l.made k (same_follows s.past k x.left.started) x.left.is_open x.left.left
-    (subst (λ (o : Option Asked). IsBegun (l.made k + 1) (looks s.past 0 k) (acts s.past 0 k) (seen s.past 0 k) (synced s.past 0 k) o) (sym x.is) next)
+    (subst (λ (o : Option Asked). IsBegun (l.made k + 1) (looks s.past 0 k) (acts s.past 0 k) (bytes_read s.past 0 k) (synced s.past 0 k) o) (sym x.is) next)
     (subst (λ (o : Option Asked). IsPending (l.made k + 1) o) (sym x.is) (omega (arith, at, low))) x.left.holds.worked
 
 -- a byte of a sector that was stored just now, or before
@@ -518,9 +518,9 @@ put_byte m start p i read fits low old =
     ]
 
 put_holds : (h : Header1) (s : Scene) (l : Lane) (k sector c p : ℕ) → IsReading h s l k sector c → p < c → l.made k ≡ 2 * p + 1
-    → Holds h (stored_at (sectors_place (buffer (s.heads 0) k) + 512 * p) (slice_range (seen s.past 0 k) (512 * p) (512 * p + 512)) s) (one_more k l)
+    → Holds h (stored_at (sectors_place (buffer (s.heads 0) k) + 512 * p) (slice_range (bytes_read s.past 0 k) (512 * p) (512 * p + 512)) s) (one_more k l)
 put_holds h s l k sector c p x low at =
-    let read : List ℕ = seen s.past 0 k in
+    let read : List ℕ = bytes_read s.past 0 k in
     let place : ℕ = sectors_place (buffer (s.heads 0) k) + 512 * p in
     let bs : List ℕ = slice_range read (512 * p) (512 * p + 512) in
     let few : c ≤ 8 = x.wide.few in
@@ -539,12 +539,12 @@ put_holds h s l k sector c p x low at =
               let upto : i < 512 * (with_at l.made k (l.made k + 1) j / 2) = kept.put in
               let half : with_at l.made k (l.made k + 1) j / 2 ≡ p + 1 = omega (arith, now, at) in
               let reads_k : IsRead (asked s.past 0 k) = subst (λ (n : ℕ). IsRead (asked s.past 0 n)) same reads in
-              subst (λ (n : ℕ). put s.memory 0 place bs 0 (sectors_place (buffer (s.heads 0) n) + i) ≡ slice_index (seen s.past 0 n) i) (sym same)
+              subst (λ (n : ℕ). put s.memory 0 place bs 0 (sectors_place (buffer (s.heads 0) n) + i) ≡ slice_index (bytes_read s.past 0 n) i) (sym same)
               (put_byte s.memory (sectors_place (buffer (s.heads 0) k)) p i read fits (omega (arith, upto, half)) (λ before. x.left.holds.stored.sectors k i x.left.is_open (record { small = kept.small; put = omega (arith, before, at); looked = omega (arith, before, fits) }) reads_k))
           | inr apart ↦
               let now : with_at l.made k (l.made k + 1) j ≡ l.made j = at_other l.made k (l.made k + 1) j apart in
               sector_elsewhere (s.heads 0) j i s.memory place bs kept.small (off_other h s l k j place bs x.left is_open apart (omega arith) (omega arith))
-              ∙ x.left.holds.stored.sectors j i is_open (subst (λ (n : ℕ). IsKept n (length (seen s.past 0 j)) i) now kept) reads
+              ∙ x.left.holds.stored.sectors j i is_open (subst (λ (n : ℕ). IsKept n (length (bytes_read s.past 0 j)) i) now kept) reads
         ];
         status = λ j held.
             status_elsewhere (s.heads 0) j s.memory place bs (off_other h s l k j place bs x.left (x.left.holds.worked.opens j held) (among_apart (l.completed ++ l.batch) j k held x.left.left) (omega arith) (omega arith)) ∙ x.left.holds.stored.status j held;
@@ -556,7 +556,7 @@ put_fine : (h : Header1) (s : Scene) (l : Lane) (k sector c p : ℕ) → IsReadi
 put_fine h s l k sector c p x low at =
     let holds = put_holds h s l k sector c p x low at in
     record {
-      each = (inr (holds_track h (stored_at (sectors_place (buffer (s.heads 0) k) + 512 * p) (slice_range (seen s.past 0 k) (512 * p) (512 * p + 512)) s) (one_more k l) x.left.good holds), tt);
+      each = (inr (holds_track h (stored_at (sectors_place (buffer (s.heads 0) k) + 512 * p) (slice_range (bytes_read s.past 0 k) (512 * p) (512 * p + 512)) s) (one_more k l) x.left.good holds), tt);
       holds = holds;
       legal = tt;
       runs = x.left.started;
@@ -601,13 +601,13 @@ distinct_more xs ys k d out =
     grind (arith, nat_tests))
 
 -- the status changes nothing of what a request has done
-full_begun : (past : List Entry) (made : ℕ → ℕ) (k : ℕ) (o : Option Asked) → asked past 0 k ≡ o → IsFull (made k) o → Progress (made k) (looks past 0 k) (acts past 0 k) (seen past 0 k) (synced past 0 k) o
-    → IsBegun (made k + 1) (looks past 0 k) (acts past 0 k) (seen past 0 k) (synced past 0 k) o
+full_begun : (past : List Entry) (made : ℕ → ℕ) (k : ℕ) (o : Option Asked) → asked past 0 k ≡ o → IsFull (made k) o → Progress (made k) (looks past 0 k) (acts past 0 k) (bytes_read past 0 k) (synced past 0 k) o
+    → IsBegun (made k + 1) (looks past 0 k) (acts past 0 k) (bytes_read past 0 k) (synced past 0 k) o
 full_begun past made k (Some (asks.Read s c)) is full p =
-    let to = read_to s c (made k) (looks past 0 k) (acts past 0 k) (seen past 0 k) (synced past 0 k) (Some (asks.Read s c)) refl p in
+    let to = read_to s c (made k) (looks past 0 k) (acts past 0 k) (bytes_read past 0 k) (synced past 0 k) (Some (asks.Read s c)) refl p in
     record { under = λ e. absurd (omega arith); whole = λ e. to.whole full; long = to.long }
 full_begun past made k (Some (asks.Write s bytes)) is full p =
-    let to = written_to s (made k) (looks past 0 k) (acts past 0 k) bytes (seen past 0 k) (synced past 0 k) (Some (asks.Write s bytes)) refl p in
+    let to = written_to s (made k) (looks past 0 k) (acts past 0 k) bytes (bytes_read past 0 k) (synced past 0 k) (Some (asks.Write s bytes)) refl p in
     record { under = λ e. absurd (omega arith); whole = λ e. to.whole full }
 full_begun past made k (Some asks.Flush) is full p = p.begun full
 full_begun past made k (Some asks.Id) is full p = tt
@@ -664,14 +664,14 @@ status_holds h s l k p x whole half at = record {
           let halves : (l.made k + 1) / 2 ≡ l.made k / 2 = half read_k in
           let upto : i < 512 * (with_at l.made k (l.made k + 1) j / 2) = kept.put in
           let nows : with_at l.made k (l.made k + 1) j / 2 ≡ l.made k / 2 = ap (λ (n : ℕ). n / 2) now ∙ halves in
-          let kept_k : IsKept (l.made k) (length (seen s.past 0 k)) i = record { small = kept.small; put = omega (arith, upto, nows); looked = subst (λ (n : ℕ). i < length (seen s.past 0 n)) same kept.looked } in
-          let old : s.memory 0 (sectors_place (buffer (s.heads 0) k) + i) ≡ slice_index (seen s.past 0 k) i = x.holds.stored.sectors k i x.is_open kept_k read_k in
+          let kept_k : IsKept (l.made k) (length (bytes_read s.past 0 k)) i = record { small = kept.small; put = omega (arith, upto, nows); looked = subst (λ (n : ℕ). i < length (bytes_read s.past 0 n)) same kept.looked } in
+          let old : s.memory 0 (sectors_place (buffer (s.heads 0) k) + i) ≡ slice_index (bytes_read s.past 0 k) i = x.holds.stored.sectors k i x.is_open kept_k read_k in
           let here : put s.memory 0 p (0 ∷ []) 0 (sectors_place (buffer (s.heads 0) k) + i) ≡ s.memory 0 (sectors_place (buffer (s.heads 0) k) + i) =
           put_other s.memory 0 p (0 ∷ []) 0 (sectors_place (buffer (s.heads 0) k) + i) (inr (inr (omega arith))) in
-          subst (λ (n : ℕ). put s.memory 0 p (0 ∷ []) 0 (sectors_place (buffer (s.heads 0) n) + i) ≡ slice_index (seen s.past 0 n) i) (sym same) (here ∙ old)
+          subst (λ (n : ℕ). put s.memory 0 p (0 ∷ []) 0 (sectors_place (buffer (s.heads 0) n) + i) ≡ slice_index (bytes_read s.past 0 n) i) (sym same) (here ∙ old)
       | inr apart ↦
           let now : with_at l.made k (l.made k + 1) j ≡ l.made j = at_other l.made k (l.made k + 1) j apart in
-          sector_elsewhere (s.heads 0) j i s.memory p (0 ∷ []) kept.small (off_other h s l k j p (0 ∷ []) x is_open apart (omega arith) (omega arith)) ∙ x.holds.stored.sectors j i is_open (subst (λ (n : ℕ). IsKept n (length (seen s.past 0 j)) i) now kept) read
+          sector_elsewhere (s.heads 0) j i s.memory p (0 ∷ []) kept.small (off_other h s l k j p (0 ∷ []) x is_open apart (omega arith) (omega arith)) ∙ x.holds.stored.sectors j i is_open (subst (λ (n : ℕ). IsKept n (length (bytes_read s.past 0 j)) i) now kept) read
     ];
     status = λ j held. elim (among_more l.completed l.batch k j held) [
       | inl same ↦

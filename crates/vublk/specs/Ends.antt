@@ -58,13 +58,13 @@ abbrev pub Bad : List ℕ → ℕ → (List ℕ → Type 0) → Type 0
 Bad text n P = IsFirstBad text n × P (bad_line_text n)
 
 -- at each end of the command on a text
-abbrev pub Plays : Command → List ℕ → Option (List ℕ) → Option (List ℕ) → End → Type 0
-Plays c text old new Done = Spelled text (λ s. PrintsAll c s old new)
-Plays c text old new Memory = (new ≡ old) ⊎ Spelled text (λ s. PrintsSome c s old new)
-Plays c text old new WriteFault = Spelled text (λ s. PrintsPart c s old new) ⊎ ((n : ℕ) × Bad text n (WrotePart old new))
-Plays c text old new (BadLine n) = Bad text n (Wrote old new)
-Plays c text old new ReadFault = ⊥
-Plays c text old new TooLong = ⊥
+abbrev pub PlaysText : Command → List ℕ → Option (List ℕ) → Option (List ℕ) → End → Type 0
+PlaysText c text old new Done = Spelled text (λ s. PrintsAll c s old new)
+PlaysText c text old new Memory = (new ≡ old) ⊎ Spelled text (λ s. PrintsSome c s old new)
+PlaysText c text old new WriteFault = Spelled text (λ s. PrintsPart c s old new) ⊎ ((n : ℕ) × Bad text n (WrotePart old new))
+PlaysText c text old new (BadLine n) = Bad text n (Wrote old new)
+PlaysText c text old new ReadFault = ⊥
+PlaysText c text old new TooLong = ⊥
 
 -- ---- what a source gives
 
@@ -74,11 +74,11 @@ ReadWhole left after P = (text : List ℕ) × TookAll left after text × (length
 
 -- at each end of the command: what was left before and is left after, and what the sink held and holds
 abbrev pub Replays : Command → Option (List ℕ) → Option (List ℕ) → Option (List ℕ) → Option (List ℕ) → End → Type 0
-Replays c left after old new Done = ReadWhole left after (λ text. Plays c text old new Done)
-Replays c left after old new Memory = (new ≡ old) ⊎ ReadWhole left after (λ text. Plays c text old new Memory)
+Replays c left after old new Done = ReadWhole left after (λ text. PlaysText c text old new Done)
+Replays c left after old new Memory = (new ≡ old) ⊎ ReadWhole left after (λ text. PlaysText c text old new Memory)
 Replays c left after old new ReadFault = new ≡ old
-Replays c left after old new WriteFault = ReadWhole left after (λ text. Plays c text old new WriteFault)
-Replays c left after old new (BadLine n) = ReadWhole left after (λ text. Plays c text old new (BadLine n))
+Replays c left after old new WriteFault = ReadWhole left after (λ text. PlaysText c text old new WriteFault)
+Replays c left after old new (BadLine n) = ReadWhole left after (λ text. PlaysText c text old new (BadLine n))
 Replays c left after old new TooLong = (new ≡ old) × IsPastLimit left
 
 abbrev pub status_of : End → ℕ

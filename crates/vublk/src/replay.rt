@@ -5,7 +5,7 @@ ghost use Rattle.vub_schedule.specs.Spelling.{IsSchedule};
 ghost use Rattle.vub_world.specs.MachineAt.{StandsFor};
 ghost use Rattle.vub_world.specs.World.{header_in};
 ghost use Rattle.vublk.specs.Flows.{Wrote, WrotePart, TakesAtMost, input_limit};
-ghost use Rattle.vublk.specs.Ends.{Prints, Plays, Replays, IsBadEnd, bad_line_text};
+ghost use Rattle.vublk.specs.Ends.{Prints, PlaysText, Replays, IsBadEnd, bad_line_text};
 
 use crate::pieces::Pieces;
 use crate::printing::{PrintFault, print_all, print_head, put};
@@ -116,7 +116,7 @@ fn print_bad<O: Sink>(alloc: Global, line: u64, out: &mut O) -> End
 
 /// Plays a text.
 fn play<O: Sink>(alloc: Global, command: Command, text: &[u8], out: &mut O) -> End
-    ensures ends { Plays command text.now (O.held out.old) (O.held out.new) result }
+    ensures ends { PlaysText command text.now (O.held out.old) (O.held out.new) result }
     ensures later { O.faults out.old ≤ O.faults out.new }
     ensures failed { result ≡ End.WriteFault → Rose (O.faults out.old) (O.faults out.new) }
 {
