@@ -1,0 +1,5 @@
+pub mod Bounds
+pub mod Ready
+pub mod Sound
+pub mod State
+pub mod Table

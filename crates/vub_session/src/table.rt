@@ -1,0 +1,216 @@
+//! The message table: what a message does to a session, and what its row answers.
+ghost use Rattle.std.specs.Option.{ForSome};
+ghost use Rattle.std.specs.Prelude.{◌≡◌, ◌≤◌, Some, None, length, true};
+ghost use Rattle.vub_session.specs.Sound.{IsCandidate, IsSound};
+ghost use Rattle.vub_session.specs.Table as table;
+ghost use Rattle.vub_wire.specs.Grammar.{number_of};
+
+use crate::finding::Found;
+use crate::handled::Row;
+use crate::rows::{brings_descriptor, queue_in};
+use crate::state::{Addresses, MAX_QUEUES, State, Terms};
+use crate::{Handled, Refusal};
+use arrayvec::ArrayVec;
+use vub_blkreq::{CONFIG_SIZE, config_space, offered_features, offered_protocol_features};
+use vub_memtable::{Mapped, MemTable, Region};
+use vub_wire::numbers::{
+    GET_CONFIG, GET_FEATURES, GET_INFLIGHT_FD, GET_PROTOCOL_FEATURES, GET_QUEUE_NUM,
+    GET_VRING_BASE, MAX_REGIONS, SET_CONFIG, SET_FEATURES, SET_INFLIGHT_FD, SET_MEM_TABLE,
+    SET_OWNER, SET_PROTOCOL_FEATURES, SET_VRING_ADDR, SET_VRING_BASE, SET_VRING_CALL,
+    SET_VRING_ENABLE, SET_VRING_ERR, SET_VRING_KICK, SET_VRING_NUM,
+};
+use vub_wire::{Config, Header, HeaderFlags, Inflight, Message, Reply, ReplyBody};
+
+/// The number of a message's request.
+pub(crate) fn number_of(message: &Message) -> u32
+    ensures { result ≡ number_of message.now }
+{
+    match message {
+        Message::GetFeatures => GET_FEATURES,
+        Message::SetFeatures(_) => SET_FEATURES,
+        Message::SetOwner => SET_OWNER,
+        Message::SetMemTable(_) => SET_MEM_TABLE,
+        Message::SetNum { .. } => SET_VRING_NUM,
+        Message::SetAddr { .. } => SET_VRING_ADDR,
+        Message::SetBase { .. } => SET_VRING_BASE,
+        Message::GetBase { .. } => GET_VRING_BASE,
+        Message::SetKick(_) => SET_VRING_KICK,
+        Message::SetCall(_) => SET_VRING_CALL,
+        Message::SetErr(_) => SET_VRING_ERR,
+        Message::GetProtocol => GET_PROTOCOL_FEATURES,
+        Message::SetProtocol(_) => SET_PROTOCOL_FEATURES,
+        Message::GetQueueNum => GET_QUEUE_NUM,
+        Message::SetEnable { .. } => SET_VRING_ENABLE,
+        Message::GetConfig(_) => GET_CONFIG,
+        Message::SetConfig(_) => SET_CONFIG,
+        Message::GetInflight(_) => GET_INFLIGHT_FD,
+        Message::SetInflight(_) => SET_INFLIGHT_FD,
+        Message::Other(request) => *request,
+    }
+}
+
+/// Carried out, with no reply of its own.
+fn done() -> Row
+    ensures { result ≡ record { cause = None; reply = None } }
+{
+    Row {
+        cause: None,
+        reply: None,
+    }
+}
+
+/// With a reply of its own.
+fn replied(body: ReplyBody) -> Row
+    ensures { result ≡ record { cause = None; reply = Some body } }
+{
+    Row {
+        cause: None,
+        reply: Some(body),
+    }
+}
+
+/// Refused, with no reply of its own.
+fn refused(cause: Refusal) -> Row
+    ensures { result ≡ record { cause = Some cause; reply = None } }
+{
+    Row {
+        cause: Some(cause),
+        reply: None,
+    }
+}
+
+/// Refused, with a reply of its own.
+fn refused_with(cause: Refusal, body: ReplyBody) -> Row
+    ensures { result ≡ record { cause = Some cause; reply = Some body } }
+{
+    Row {
+        cause: Some(cause),
+        reply: Some(body),
+    }
+}
+
+/// The regions with what was found for them.
+fn mapped(regions: &[Region], found: &[Found]) -> ArrayVec<Mapped, MAX_REGIONS>
+    requires { length regions.now ≤ MAX_REGIONS }
+    ensures { result.items ≡ table.mapped regions.now found.now }
+{
+    let mut mapped = ArrayVec::new();
+    for (region, found) in regions.iter().zip(found) {
+        mapped.push(Mapped {
+            region: *region,
+            space: found.space,
+            space_size: found.size,
+        });
+    }
+    mapped
+}
+
+impl State {
+    /// Takes these terms, with each ring attached that is ready; or refuses the request.
+    #[tactic(auto, unfolding(crate::specs::Table::settled))]
+    fn settle(&mut self, request: u32, terms: Option<Terms>) -> Row
+        requires sound { IsSound self.old }
+        requires candidate { ForSome terms (IsCandidate self.old.config.queues self.old.table) }
+        ensures next { self.new ≡ (table.settled self.old request terms).next }
+        ensures row { result ≡ (table.settled self.old request terms).row }
+    {
+        let Some(terms) = terms else {
+            return refused(Refusal::Row(request));
+        };
+        if let Some(ring) = terms.bad_ring(&self.table, self.config.queues) {
+            return refused(Refusal::BadRing(request, ring));
+        }
+        self.terms = terms.attach();
+        done()
+    }
+
+    /// Takes these regions as the memory table.
+    #[tactic(auto, unfolding(crate::specs::Table::table_set))]
+    fn set_table(&mut self, regions: &[Mapped]) -> Row
+        requires sound { IsSound self.old }
+        ensures next { self.new ≡ (table.table_set self.old regions.now).next }
+        ensures row { result ≡ (table.table_set self.old regions.now).row }
+    {
+        let mut table = MemTable::new();
+        if self.terms.is_running() || table.set(regions).is_err() {
+            return refused(Refusal::Row(SET_MEM_TABLE));
+        }
+        let terms = Terms {
+            has_table: true,
+            ..self.terms
+        };
+        if let Some(ring) = terms.bad_ring(&table, self.config.queues) {
+            return refused(Refusal::BadRing(SET_MEM_TABLE, ring));
+        }
+        self.terms = terms.attach();
+        self.table = table;
+        done()
+    }
+
+    /// The base of a ring.
+    #[tactic(auto, unfolding(crate::specs::Table::base_reply))]
+    fn base_reply(&self, index: u32) -> Row
+        requires { self.now.config.queues ≤ MAX_QUEUES }
+        ensures { result ≡ (table.base_reply self.now index).row }
+    {
+        let Some(ring) = self.ring(index) else {
+            let none = ReplyBody::State { index, num: 0 };
+            return refused_with(Refusal::Row(GET_VRING_BASE), none);
+        };
+        let num = ring.base.unwrap_or(0);
+        replied(ReplyBody::State { index, num })
+    }
+
+    /// The part of the config space that is asked for.
+    #[tactic(auto, unfolding(crate::specs::Table::config_part))]
+    fn config_part(&self, config: &Config) -> Config
+        requires { table.is_config_part config.now ≡ true }
+        ensures { result ≡ table.config_part self.now config.now }
+    {
+        let space = config_space(&self.config);
+        let start = config.offset as usize;
+        let end = start + config.size as usize;
+        let mut bytes = ArrayVec::new();
+        if bytes.try_extend_from_slice(&space[start..end]).is_err() {
+            unreachable!();
+        }
+        Config {
+            offset: config.offset,
+            size: config.size,
+            flags: config.flags,
+            bytes,
+        }
+    }
+
+    /// A part of the config space, or nothing where it is none.
+    #[tactic(auto, unfolding(crate::specs::Table::config_reply))]
+    fn config_reply(&self, config: &Config) -> Row
+        ensures { result ≡ (table.config_reply self.now config.now).row }
+    {
+        let end = u64::from(config.offset) + u64::from(config.size);
+        if config.bytes.len() == config.size as usize && end <= CONFIG_SIZE as u64 {
+            replied(ReplyBody::Config(self.config_part(config)))
+        } else {
+            refused_with(Refusal::Row(GET_CONFIG), ReplyBody::Empty)
+        }
+    }
+
+    /// The numbers of an in-flight region that was made, or a size of 0 where none was.
+    #[tactic(auto, unfolding(crate::specs::Table::inflight_reply))]
+    fn inflight_reply(&self, inflight: &Inflight) -> Row
+        ensures { result ≡ (table.inflight_reply self.now inflight.now).row }
+    {
+        let made = self.has_inflight_numbers(inflight);
+        let size = if made { self.inflight_size(inflight) } else { 0 };
+        let body = ReplyBody::Inflight(Inflight {
+            size,
+            offset: 0,
+            ..*inflight
+        });
+        if made {
+            replied(body)
+        } else {
+            refused_with(Refusal::Row(GET_INFLIGHT_FD), body)
+        }
+    }
+}
