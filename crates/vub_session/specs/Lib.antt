@@ -1,5 +1,7 @@
 pub mod Bounds
+pub mod Finds
 pub mod Ready
+pub mod Setup
 pub mod Sound
 pub mod State
 pub mod Table

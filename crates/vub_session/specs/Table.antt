@@ -34,7 +34,7 @@ use Rattle.vub_wire.specs.declared.messages.Message.{Message}
 use Rattle.vub_wire.specs.declared.messages.Message.TheVariants as messages
 use Rattle.vub_wire.specs.declared.messages.ReplyBody.{ReplyBody}
 use Rattle.vub_wire.specs.declared.messages.ReplyBody.TheVariants as bodies
-use Rattle.vub_wire.specs.declared.numbers.TheConstants.{GET_CONFIG, GET_INFLIGHT_FD, GET_VRING_BASE, SET_CONFIG, SET_FEATURES, SET_INFLIGHT_FD, SET_MEM_TABLE, SET_PROTOCOL_FEATURES, SET_VRING_ADDR, SET_VRING_BASE, SET_VRING_CALL, SET_VRING_ENABLE, SET_VRING_ERR, SET_VRING_KICK, SET_VRING_NUM}
+use Rattle.vub_wire.specs.declared.numbers.TheConstants.{GET_CONFIG, GET_INFLIGHT_FD, GET_VRING_BASE, SET_CONFIG, SET_MEM_TABLE}
 
 -- ---- what a row says
 
@@ -213,27 +213,47 @@ with_region s x found = with_found_region s x found
 
 -- ---- the table: a line a request
 
+-- the terms that a request leaves which changes nothing else, or None where its row refuses it
+unfoldable pub next_terms : State → Message → List Found → Option Terms
+next_terms s (messages.SetFeatures set) found = with_features s set
+next_terms s (messages.SetNum index num) found = with_size s index num
+next_terms s (messages.SetAddr index flags desc used avail log) found = with_addresses s index (record { desc = desc; avail = avail; used = used })
+next_terms s (messages.SetBase index num) found = with_base s index num
+next_terms s (messages.SetKick word) found = with_kick s word
+next_terms s (messages.SetCall word) found = with_call s word
+next_terms s (messages.SetErr word) found = with_err s word
+next_terms s (messages.SetProtocol set) found = with_protocol s set
+next_terms s (messages.SetEnable index num) found = with_enable s index num
+next_terms s (messages.SetInflight x) found = with_region s x found
+next_terms s m found = None
+
+-- and each request, the last line those above
 unfoldable pub step : State → Message → List Found → Step
 step s messages.GetFeatures found = replied s (bodies.Number (offered s.config.read_only))
-step s (messages.SetFeatures set) found = settled s SET_FEATURES (with_features s set)
 step s messages.SetOwner found = done s
 step s (messages.SetMemTable regions) found = table_set s (mapped regions.items found)
-step s (messages.SetNum index num) found = settled s SET_VRING_NUM (with_size s index num)
-step s (messages.SetAddr index flags desc used avail log) found = settled s SET_VRING_ADDR (with_addresses s index (record { desc = desc; avail = avail; used = used }))
-step s (messages.SetBase index num) found = settled s SET_VRING_BASE (with_base s index num)
 step s (messages.GetBase index num) found = base_reply s index
-step s (messages.SetKick word) found = settled s SET_VRING_KICK (with_kick s word)
-step s (messages.SetCall word) found = settled s SET_VRING_CALL (with_call s word)
-step s (messages.SetErr word) found = settled s SET_VRING_ERR (with_err s word)
 step s messages.GetProtocol found = replied s (bodies.Number offered_protocol)
-step s (messages.SetProtocol set) found = settled s SET_PROTOCOL_FEATURES (with_protocol s set)
 step s messages.GetQueueNum found = replied s (bodies.Number s.config.queues)
-step s (messages.SetEnable index num) found = settled s SET_VRING_ENABLE (with_enable s index num)
 step s (messages.GetConfig config) found = config_reply s config
 step s (messages.SetConfig config) found = refused s (refusals.Row SET_CONFIG)
 step s (messages.GetInflight x) found = inflight_reply s x
-step s (messages.SetInflight x) found = settled s SET_INFLIGHT_FD (with_region s x found)
 step s (messages.Other request) found = refused s (refusals.Row request)
+step s m found = settled s (number_of m) (next_terms s m found)
+
+-- a request of the last line
+abbrev pub changes_terms : Message → Bool
+changes_terms messages.GetFeatures = false
+changes_terms messages.SetOwner = false
+changes_terms (messages.SetMemTable regions) = false
+changes_terms (messages.GetBase index num) = false
+changes_terms messages.GetProtocol = false
+changes_terms messages.GetQueueNum = false
+changes_terms (messages.GetConfig config) = false
+changes_terms (messages.SetConfig config) = false
+changes_terms (messages.GetInflight x) = false
+changes_terms (messages.Other request) = false
+changes_terms m = true
 
 -- how many names a message takes
 unfoldable pub names_taken : State → Message → ℕ

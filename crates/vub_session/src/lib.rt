@@ -4,17 +4,17 @@
 
 mod finding;
 mod handled;
-// mod lookup;
+mod lookup;
 mod names;
 mod ready;
 mod rows;
-// mod session;
+mod session;
 mod state;
 mod table;
-// #[cfg(test)]
-// mod tests;
+#[cfg(test)]
+mod tests;
 
 pub use handled::{Handled, Refusal, SessionFault};
 pub use names::Names;
-// pub use session::Session;
+pub use session::Session;
 pub use state::{Addresses, KeptRegion, MAX_QUEUES, MAX_QUEUE_SIZE, Ring, State, Terms};

@@ -1,6 +1,6 @@
 //! The message table: what a message does to a session, and what its row answers.
 ghost use Rattle.std.specs.Option.{ForSome};
-ghost use Rattle.std.specs.Prelude.{◌≡◌, ◌≤◌, Some, None, length, true};
+ghost use Rattle.std.specs.Prelude.{◌≡◌, ◌≤◌, ◌<◌, Some, None, length, true};
 ghost use Rattle.vub_session.specs.Sound.{IsCandidate, IsSound};
 ghost use Rattle.vub_session.specs.Table as table;
 ghost use Rattle.vub_wire.specs.Grammar.{number_of};
@@ -8,10 +8,12 @@ ghost use Rattle.vub_wire.specs.Grammar.{number_of};
 use crate::finding::Found;
 use crate::handled::Row;
 use crate::rows::{brings_descriptor, queue_in};
-use crate::state::{Addresses, MAX_QUEUES, State, Terms};
+use crate::state::{Addresses, MAX_QUEUES, Ring, State, Terms};
 use crate::{Handled, Refusal};
 use arrayvec::ArrayVec;
-use vub_blkreq::{CONFIG_SIZE, config_space, offered_features, offered_protocol_features};
+use vub_blkreq::{
+    CONFIG_SIZE, ProtocolFeatures, config_space, offered_features, offered_protocol_features,
+};
 use vub_memtable::{Mapped, MemTable, Region};
 use vub_wire::numbers::{
     GET_CONFIG, GET_FEATURES, GET_INFLIGHT_FD, GET_PROTOCOL_FEATURES, GET_QUEUE_NUM,
@@ -95,7 +97,10 @@ fn mapped(regions: &[Region], found: &[Found]) -> ArrayVec<Mapped, MAX_REGIONS>
     ensures { result.items ≡ table.mapped regions.now found.now }
 {
     let mut mapped = ArrayVec::new();
-    for (region, found) in regions.iter().zip(found) {
+    for (at, region) in regions.iter().enumerate() {
+        let Some(found) = found.get(at) else {
+            break;
+        };
         mapped.push(Mapped {
             region: *region,
             space: found.space,
@@ -212,5 +217,185 @@ impl State {
         } else {
             refused_with(Refusal::Row(GET_INFLIGHT_FD), body)
         }
+    }
+}
+
+impl State {
+    /// What the row of a message makes of the session, and answers. `found` is what its look-ups or its
+    /// creation answered.
+    #[tactic(auto, unfolding(crate::specs::Table::step))]
+    fn step(&mut self, message: &Message, found: &[Found]) -> Row
+        requires { IsSound self.old }
+        ensures next { self.new ≡ (table.step self.old message.now found.now).next }
+        ensures row { result ≡ (table.step self.old message.now found.now).row }
+    {
+        match message {
+            Message::GetFeatures => {
+                let features = offered_features(self.config.read_only);
+                replied(ReplyBody::Number(features.0))
+            }
+            Message::SetOwner => done(),
+            Message::SetMemTable(regions) => self.set_table(&mapped(regions, found)),
+            Message::GetBase { index, .. } => self.base_reply(*index),
+            Message::GetProtocol => replied(ReplyBody::Number(offered_protocol_features().0)),
+            Message::GetQueueNum => replied(ReplyBody::Number(u64::from(self.config.queues))),
+            Message::GetConfig(config) => self.config_reply(config),
+            Message::SetConfig(_) => refused(Refusal::Row(SET_CONFIG)),
+            Message::GetInflight(inflight) => self.inflight_reply(inflight),
+            Message::Other(request) => refused(Refusal::Row(*request)),
+            _ => {
+                let terms = self.next_terms(message, found);
+                self.settle(number_of(message), terms)
+            }
+        }
+    }
+
+    /// The terms that a request leaves which changes nothing else, or None where its row refuses it.
+    #[tactic(auto, unfolding(crate::specs::Table::next_terms))]
+    fn next_terms(&self, message: &Message, found: &[Found]) -> Option<Terms>
+        requires few { self.now.config.queues ≤ MAX_QUEUES }
+        requires changes { table.changes_terms message.now ≡ true }
+        ensures { result ≡ table.next_terms self.now message.now found.now }
+    {
+        match message {
+            Message::SetFeatures(set) => self.with_features(*set),
+            Message::SetNum { index, num } => self.with_size(*index, *num),
+            Message::SetAddr {
+                index,
+                desc,
+                used,
+                avail,
+                ..
+            } => {
+                let addresses = Addresses {
+                    desc: *desc,
+                    avail: *avail,
+                    used: *used,
+                };
+                self.with_addresses(*index, addresses)
+            }
+            Message::SetBase { index, num } => self.with_base(*index, *num),
+            Message::SetKick(word) => self.with_kick(*word),
+            Message::SetCall(word) => self.with_call(*word),
+            Message::SetErr(word) => self.with_err(*word),
+            Message::SetProtocol(set) => self.with_protocol(*set),
+            Message::SetEnable { index, num } => self.with_enable(*index, *num),
+            Message::SetInflight(inflight) => self.with_region(inflight, found),
+            _ => unreachable!(),
+        }
+    }
+
+    /// How many names a message takes.
+    #[tactic(auto, unfolding(crate::specs::Table::names_taken))]
+    pub(crate) fn names_taken(&self, message: &Message) -> usize
+        ensures { result ≡ table.names_taken self.now message.now }
+    {
+        match message {
+            Message::SetMemTable(regions) => regions.len(),
+            Message::SetKick(word) | Message::SetCall(word) | Message::SetErr(word) => {
+                usize::from(brings_descriptor(*word))
+            }
+            Message::GetInflight(inflight) => usize::from(self.has_inflight_numbers(inflight)),
+            Message::SetInflight(_) => 1,
+            _ => 0,
+        }
+    }
+
+    /// The size of the space that a message makes, if it makes one.
+    #[tactic(auto, unfolding(crate::specs::Table::created))]
+    pub(crate) fn created(&self, message: &Message) -> Option<u64>
+        ensures { result ≡ table.created self.now message.now }
+    {
+        match message {
+            Message::GetInflight(inflight) if self.has_inflight_numbers(inflight) => {
+                Some(self.inflight_size(inflight))
+            }
+            _ => None,
+        }
+    }
+
+    /// The queue whose bell a message attaches to a call, if it brings one.
+    #[tactic(auto, unfolding(crate::specs::Table::bell_attached))]
+    pub(crate) fn bell_attached(&self, message: &Message) -> Option<u16>
+        requires { self.now.config.queues ≤ MAX_QUEUES }
+        ensures { result ≡ table.bell_attached self.now message.now }
+    {
+        let Message::SetCall(word) = message else {
+            return None;
+        };
+        let _ring = self.ring(queue_in(*word))?;
+        if brings_descriptor(*word) {
+            Some(queue_in(*word) as u16)
+        } else {
+            None
+        }
+    }
+
+    /// The attached queue that a message stops, if it stops one.
+    #[tactic(auto, unfolding(crate::specs::Table::drained))]
+    pub(crate) fn drained(&self, message: &Message) -> Option<u16>
+        requires { self.now.config.queues ≤ MAX_QUEUES }
+        ensures { result ≡ table.drained self.now message.now }
+    {
+        let Message::GetBase { index, .. } = message else {
+            return None;
+        };
+        let ring = self.ring(*index)?;
+        if ring.is_attached {
+            Some(*index as u16)
+        } else {
+            None
+        }
+    }
+
+    /// Whether a message is to be acknowledged.
+    pub(crate) fn acknowledges(&self, header: &Header) -> bool
+        ensures { result ≡ table.acknowledges self.now header.now }
+    {
+        self.terms.has_protocol_feature(ProtocolFeatures::REPLY_ACK)
+            && HeaderFlags(header.flags).needs_reply()
+    }
+
+    /// What is sent back, by the state after the row. A refusal is kept.
+    fn send_back(&mut self, header: &Header, request: u32, row: Row) -> Handled
+        ensures next { self.new ≡ table.noted self.old row.cause }
+        ensures handled { result ≡ table.handled_row request (table.acknowledges self.old header.now) row.cause row.reply }
+    {
+        let Row { cause, reply } = row;
+        let acknowledges = self.acknowledges(header);
+        if let Some(cause) = cause {
+            self.refused = Some(cause);
+        }
+        match reply {
+            Some(body) => Handled::Reply(Reply { request, body }),
+            None if acknowledges => Handled::Ack(u64::from(cause.is_some())),
+            None => Handled::Silent,
+        }
+    }
+
+    /// What a message makes of the session, and what is sent back.
+    #[tactic(auto, unfolding(crate::specs::Table::answered))]
+    pub(crate) fn answer(&mut self, header: &Header, message: &Message, found: &[Found]) -> Handled
+        requires { IsSound self.old }
+        ensures next { self.new ≡ (table.answered self.old header.now message.now found.now).0 }
+        ensures handled { result ≡ (table.answered self.old header.now message.now found.now).1 }
+    {
+        let row = self.step(message, found);
+        self.send_back(header, number_of(message), row)
+    }
+
+    /// The same with a queue stopped and its ring detached.
+    #[tactic(auto, unfolding(crate::specs::Table::stopped))]
+    pub(crate) fn stop(&mut self, queue: u16, base: u32)
+        requires { queue < MAX_QUEUES }
+        ensures { self.new ≡ table.stopped self.old queue base }
+    {
+        let ring = Ring {
+            base: Some(base),
+            has_kick: false,
+            is_attached: false,
+            ..self.terms.rings[usize::from(queue)]
+        };
+        self.terms = self.terms.with_ring(u32::from(queue), ring);
     }
 }

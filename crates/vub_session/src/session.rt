@@ -1,0 +1,145 @@
+ghost use Rattle.std.specs.Prelude.{◌≡◌, ◌≤◌, ◌<◌, Some, None};
+ghost use Rattle.vub_session.specs.Table as table;
+
+use crate::lookup::FoundList;
+use crate::names::Names;
+use crate::state::{MAX_QUEUES, State, new_terms};
+use crate::{Handled, Refusal, SessionFault};
+use std::marker::Model;
+use vub_base::Bell;
+use vub_blkreq::{DeviceConfig, DeviceMode, Features};
+use vub_memtable::MemTable;
+use vub_setup::QueueSetup;
+use vub_shared::Shared;
+use vub_wire::{Header, Message};
+
+/// A session with a front end. Contracts see it as what it keeps.
+#[derive(Debug, Drop)]
+pub struct Session {
+    state: State,
+}
+
+impl Model for Session {
+    ghost use Rattle.vub_session.specs.declared.state.State.{State};
+    ghost use Rattle.vub_session.specs.Sound.{IsSound};
+
+    ghost Value = { State };
+
+    ghost view = { λ s. s.state };
+
+    ghost invariant = { λ s. IsSound s.state };
+}
+
+impl State {
+    /// Attaches the bell of a queue to the call that a message brings, which has the first name.
+    fn attach_bell<B: Bell>(
+        &self,
+        message: &Message,
+        names: &Names,
+        bell: &mut B,
+    ) -> Result<(), SessionFault> {
+        let Some(queue) = self.bell_attached(message) else {
+            return Ok(());
+        };
+        match bell.attach(queue, names.at(0)) {
+            Ok(()) => Ok(()),
+            Err(_) => Err(SessionFault::Bell),
+        }
+    }
+
+    /// What the names of a message lead to. Too few names come before any look-up.
+    fn look_up<M: Shared, B: Bell>(
+        &self,
+        message: &Message,
+        names: &Names,
+        mem: &mut M,
+        bell: &mut B,
+    ) -> Result<FoundList, SessionFault> {
+        if names.left() < self.names_taken(message) {
+            return Err(SessionFault::NoName);
+        }
+        self.attach_bell(message, names, bell)?;
+        self.find_named(message, names, mem)
+    }
+
+    /// What a queue is made from, where its ring is ready.
+    #[tactic(auto, unfolding(crate::specs::Setup::setup_of))]
+    fn setup(&self, queue: u16) -> Option<QueueSetup> {
+        let ring = self.ring(u32::from(queue))?;
+        if !self.terms.is_ready(queue, &ring) {
+            return None;
+        }
+        let Some(rings) = self.terms.rings_of(&self.table, queue, &ring) else {
+            unreachable!()
+        };
+        let Some(base) = ring.base else {
+            unreachable!()
+        };
+        Some(QueueSetup {
+            index: queue,
+            rings,
+            base,
+            indirect: self.terms.has_feature(Features::INDIRECT_DESC),
+            bell: ring.has_bell,
+        })
+    }
+}
+
+impl Session {
+    /// A session before the first message, of a device with 1 to 16 queues.
+    pub fn new(config: DeviceConfig) -> Session {
+        Session {
+            state: State {
+                config,
+                terms: new_terms(),
+                table: MemTable::new(),
+                refused: None,
+            },
+        }
+    }
+
+    /// Handles a message: takes its names, looks them up, and answers by the message table. A
+    /// GET_VRING_BASE of a queue that is attached is answered by `Drain` and changes nothing.
+    pub fn answer<M: Shared, B: Bell>(
+        &mut self,
+        header: &Header,
+        message: &Message,
+        names: &mut Names,
+        mem: &mut M,
+        bell: &mut B,
+    ) -> Result<Handled, SessionFault> {
+        if let Some(queue) = self.state.drained(message) {
+            return Ok(Handled::Drain(queue));
+        }
+        let count = self.state.names_taken(message);
+        let found = self.state.look_up(message, names, mem, bell);
+        names.skip(count);
+        let found = found?;
+        Ok(self.state.answer(header, message, &found))
+    }
+
+    /// The memory table.
+    pub fn table(&self) -> &MemTable {
+        &self.state.table
+    }
+
+    /// What requests are told of the device.
+    pub fn mode(&self) -> DeviceMode {
+        self.state.mode()
+    }
+
+    /// What a queue is made from. None comes exactly where its ring isn't ready.
+    pub fn setup(&self, queue: u16) -> Option<QueueSetup> {
+        self.state.setup(queue)
+    }
+
+    /// Why the last message that was refused was refused.
+    pub fn refused(&self) -> Option<Refusal> {
+        self.state.refused
+    }
+
+    /// Detaches a queue that was stopped, keeps its base and forgets its kick.
+    pub fn stopped_queue(&mut self, queue: u16, base: u32) {
+        self.state.stop(queue, base);
+    }
+}
