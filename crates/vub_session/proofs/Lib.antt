@@ -1,2 +1,3 @@
 pub mod ReadyLemmas
 pub mod SoundLemmas
+pub mod AttachLemmas

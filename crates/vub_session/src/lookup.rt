@@ -1,8 +1,6 @@
 //! The names of a message: taken, looked up, or given to a new space.
-ghost use Rattle.std.specs.Prelude.{◌≡◌, ◌≤◌, ◌<◌, ◌↔◌, length, drop, IfOk, IfErr, OnErr, Ok, Err, Some, None};
-ghost use Rattle.vub_session.specs.Finds.{AreAnswered, AreFound, HasFindReason, IsFound, KeepsTold, OnlyFinds};
-ghost use Rattle.vub_session.specs.Table.{created, looked_up, names_taken};
-ghost use Rattle.vub_session.specs.declared.handled.SessionFault.TheVariants.{NoName};
+ghost use Rattle.std.specs.Prelude.{◌≤◌, length};
+ghost use Rattle.vub_session.specs.Table.{names_taken};
 
 use crate::SessionFault;
 use crate::finding::Found;

@@ -1,6 +1,8 @@
 //! What each request that changes the terms makes of them. None: its row refuses it.
-ghost use Rattle.std.specs.Prelude.{◌≡◌, ◌≤◌, ◌<◌, ◌^◌};
+ghost use Rattle.std.specs.Option.{ForSome};
+ghost use Rattle.std.specs.Prelude.{◌≡◌, ◌≤◌, ◌<◌};
 ghost use Rattle.vub_blkreq.specs.Features.{offered, offered_protocol};
+ghost use Rattle.vub_session.specs.Sound.{IsCandidate};
 ghost use Rattle.vub_session.specs.Table as table;
 
 use crate::finding::Found;
@@ -58,7 +60,9 @@ impl State {
     /// The features of the device.
     #[tactic(auto, unfolding(crate::specs::Table::with_features))]
     pub(crate) fn with_features(&self, set: u64) -> Option<Terms>
-        ensures { result ≡ table.with_features self.now set }
+        requires { IsCandidate self.now.config.queues self.now.table self.now.terms }
+        ensures is { result ≡ table.with_features self.now set }
+        ensures candidate { ForSome result (IsCandidate self.now.config.queues self.now.table) }
     {
         let offer = offered_features(self.config.read_only);
         if !is_offered(set, offer.0) || self.terms.is_running() {
@@ -73,7 +77,9 @@ impl State {
     /// The features of the protocol.
     #[tactic(auto, unfolding(crate::specs::Table::with_protocol))]
     pub(crate) fn with_protocol(&self, set: u64) -> Option<Terms>
-        ensures { result ≡ table.with_protocol self.now set }
+        requires { IsCandidate self.now.config.queues self.now.table self.now.terms }
+        ensures is { result ≡ table.with_protocol self.now set }
+        ensures candidate { ForSome result (IsCandidate self.now.config.queues self.now.table) }
     {
         if !is_offered(set, offered_protocol_features().0) || self.terms.is_running() {
             return None;
@@ -87,8 +93,10 @@ impl State {
     /// The size of a ring.
     #[tactic(auto, unfolding(crate::specs::Table::with_size))]
     pub(crate) fn with_size(&self, index: u32, num: u32) -> Option<Terms>
-        requires { self.now.config.queues ≤ MAX_QUEUES }
-        ensures { result ≡ table.with_size self.now index num }
+        requires few { self.now.config.queues ≤ MAX_QUEUES }
+        requires sound { IsCandidate self.now.config.queues self.now.table self.now.terms }
+        ensures is { result ≡ table.with_size self.now index num }
+        ensures candidate { ForSome result (IsCandidate self.now.config.queues self.now.table) }
     {
         let ring = self.ring(index)?;
         if ring.is_attached || !is_queue_size(num) {
@@ -101,8 +109,10 @@ impl State {
     /// The addresses of a ring.
     #[tactic(auto, unfolding(crate::specs::Table::with_addresses))]
     pub(crate) fn with_addresses(&self, index: u32, addresses: Addresses) -> Option<Terms>
-        requires { self.now.config.queues ≤ MAX_QUEUES }
-        ensures { result ≡ table.with_addresses self.now index addresses }
+        requires few { self.now.config.queues ≤ MAX_QUEUES }
+        requires sound { IsCandidate self.now.config.queues self.now.table self.now.terms }
+        ensures is { result ≡ table.with_addresses self.now index addresses }
+        ensures candidate { ForSome result (IsCandidate self.now.config.queues self.now.table) }
     {
         let ring = self.ring(index)?;
         if ring.is_attached && !addresses.are(ring.addresses) {
@@ -115,8 +125,10 @@ impl State {
     /// The base of a ring.
     #[tactic(auto, unfolding(crate::specs::Table::with_base))]
     pub(crate) fn with_base(&self, index: u32, base: u32) -> Option<Terms>
-        requires { self.now.config.queues ≤ MAX_QUEUES }
-        ensures { result ≡ table.with_base self.now index base }
+        requires few { self.now.config.queues ≤ MAX_QUEUES }
+        requires sound { IsCandidate self.now.config.queues self.now.table self.now.terms }
+        ensures is { result ≡ table.with_base self.now index base }
+        ensures candidate { ForSome result (IsCandidate self.now.config.queues self.now.table) }
     {
         let ring = self.ring(index)?;
         if ring.is_attached {
@@ -129,8 +141,10 @@ impl State {
     /// The kick of a ring.
     #[tactic(auto, unfolding(crate::specs::Table::with_kick))]
     pub(crate) fn with_kick(&self, word: u64) -> Option<Terms>
-        requires { self.now.config.queues ≤ MAX_QUEUES }
-        ensures { result ≡ table.with_kick self.now word }
+        requires few { self.now.config.queues ≤ MAX_QUEUES }
+        requires sound { IsCandidate self.now.config.queues self.now.table self.now.terms }
+        ensures is { result ≡ table.with_kick self.now word }
+        ensures candidate { ForSome result (IsCandidate self.now.config.queues self.now.table) }
     {
         let index = queue_in(word);
         let ring = self.ring(index)?;
@@ -141,8 +155,10 @@ impl State {
     /// The call of a ring, which the bell has where a descriptor came.
     #[tactic(auto, unfolding(crate::specs::Table::with_call))]
     pub(crate) fn with_call(&self, word: u64) -> Option<Terms>
-        requires { self.now.config.queues ≤ MAX_QUEUES }
-        ensures { result ≡ table.with_call self.now word }
+        requires few { self.now.config.queues ≤ MAX_QUEUES }
+        requires sound { IsCandidate self.now.config.queues self.now.table self.now.terms }
+        ensures is { result ≡ table.with_call self.now word }
+        ensures candidate { ForSome result (IsCandidate self.now.config.queues self.now.table) }
     {
         let index = queue_in(word);
         let ring = self.ring(index)?;
@@ -153,8 +169,10 @@ impl State {
     /// The err of a ring, with which nothing is done.
     #[tactic(auto, unfolding(crate::specs::Table::with_err))]
     pub(crate) fn with_err(&self, word: u64) -> Option<Terms>
-        requires { self.now.config.queues ≤ MAX_QUEUES }
-        ensures { result ≡ table.with_err self.now word }
+        requires few { self.now.config.queues ≤ MAX_QUEUES }
+        requires sound { IsCandidate self.now.config.queues self.now.table self.now.terms }
+        ensures is { result ≡ table.with_err self.now word }
+        ensures candidate { ForSome result (IsCandidate self.now.config.queues self.now.table) }
     {
         let _ring = self.ring(queue_in(word))?;
         Some(self.terms)
@@ -163,8 +181,10 @@ impl State {
     /// Whether a ring is enabled.
     #[tactic(auto, unfolding(crate::specs::Table::with_enable))]
     pub(crate) fn with_enable(&self, index: u32, num: u32) -> Option<Terms>
-        requires { self.now.config.queues ≤ MAX_QUEUES }
-        ensures { result ≡ table.with_enable self.now index num }
+        requires few { self.now.config.queues ≤ MAX_QUEUES }
+        requires sound { IsCandidate self.now.config.queues self.now.table self.now.terms }
+        ensures is { result ≡ table.with_enable self.now index num }
+        ensures candidate { ForSome result (IsCandidate self.now.config.queues self.now.table) }
     {
         let ring = self.ring(index)?;
         if 1 < num {
@@ -204,7 +224,9 @@ impl State {
     /// The in-flight region that was found.
     #[tactic(auto, unfolding(crate::specs::Table::with_region))]
     pub(crate) fn with_region(&self, inflight: &Inflight, found: &[Found]) -> Option<Terms>
-        ensures { result ≡ table.with_region self.now inflight.now found.now }
+        requires { IsCandidate self.now.config.queues self.now.table self.now.terms }
+        ensures is { result ≡ table.with_region self.now inflight.now found.now }
+        ensures candidate { ForSome result (IsCandidate self.now.config.queues self.now.table) }
     {
         let Some(found) = found.first() else {
             return None;

@@ -1,5 +1,5 @@
 //! What a session keeps of the messages so far.
-ghost use Rattle.std.specs.Prelude.{◌≡◌, ◌≤◌, ◌<◌, ◌/◌, ◌%◌, ◌==◌, OnSome};
+ghost use Rattle.std.specs.Prelude.{◌≡◌, ◌≤◌, ◌<◌, ◌/◌, ◌%◌, ◌==◌, IfSome, OnSome};
 ghost use Rattle.vub_session.specs.State as words;
 
 use vub_base::Space;
@@ -162,6 +162,7 @@ impl State {
         requires { self.now.config.queues ≤ MAX_QUEUES }
         ensures is { result ≡ words.ring_of self.now index }
         ensures below { OnSome result (index < MAX_QUEUES) }
+        ensures at { IfSome result (λ ring. ring ≡ words.ring_at self.now.terms index) }
     {
         if index < u32::from(self.config.queues) {
             Some(self.terms.rings[index as usize])

@@ -112,12 +112,13 @@ fn mapped(regions: &[Region], found: &[Found]) -> ArrayVec<Mapped, MAX_REGIONS>
 
 impl State {
     /// Takes these terms, with each ring attached that is ready; or refuses the request.
-    #[tactic(auto, unfolding(crate::specs::Table::settled))]
+    #[tactic(auto, unfolding(crate::specs::Table::settled), using(crate::proofs::AttachLemmas::attach_candidate, crate::proofs::AttachLemmas::attach_ready))]
     fn settle(&mut self, request: u32, terms: Option<Terms>) -> Row
         requires sound { IsSound self.old }
         requires candidate { ForSome terms (IsCandidate self.old.config.queues self.old.table) }
         ensures next { self.new ≡ (table.settled self.old request terms).next }
         ensures row { result ≡ (table.settled self.old request terms).row }
+        ensures sound { IsSound self.new }
     {
         let Some(terms) = terms else {
             return refused(Refusal::Row(request));
@@ -130,11 +131,12 @@ impl State {
     }
 
     /// Takes these regions as the memory table.
-    #[tactic(auto, unfolding(crate::specs::Table::table_set))]
+    #[tactic(auto, unfolding(crate::specs::Table::table_set), using(crate::proofs::SoundLemmas::table_candidate, crate::proofs::AttachLemmas::attach_candidate, crate::proofs::AttachLemmas::attach_ready))]
     fn set_table(&mut self, regions: &[Mapped]) -> Row
         requires sound { IsSound self.old }
         ensures next { self.new ≡ (table.table_set self.old regions.now).next }
         ensures row { result ≡ (table.table_set self.old regions.now).row }
+        ensures sound { IsSound self.new }
     {
         let mut table = MemTable::new();
         if self.terms.is_running() || table.set(regions).is_err() {
@@ -228,6 +230,7 @@ impl State {
         requires { IsSound self.old }
         ensures next { self.new ≡ (table.step self.old message.now found.now).next }
         ensures row { result ≡ (table.step self.old message.now found.now).row }
+        ensures sound { IsSound self.new }
     {
         match message {
             Message::GetFeatures => {
@@ -255,7 +258,9 @@ impl State {
     fn next_terms(&self, message: &Message, found: &[Found]) -> Option<Terms>
         requires few { self.now.config.queues ≤ MAX_QUEUES }
         requires changes { table.changes_terms message.now ≡ true }
-        ensures { result ≡ table.next_terms self.now message.now found.now }
+        requires sound { IsCandidate self.now.config.queues self.now.table self.now.terms }
+        ensures is { result ≡ table.next_terms self.now message.now found.now }
+        ensures candidate { ForSome result (IsCandidate self.now.config.queues self.now.table) }
     {
         match message {
             Message::SetFeatures(set) => self.with_features(*set),
@@ -379,6 +384,7 @@ impl State {
         requires { IsSound self.old }
         ensures next { self.new ≡ (table.answered self.old header.now message.now found.now).0 }
         ensures handled { result ≡ (table.answered self.old header.now message.now found.now).1 }
+        ensures sound { IsSound self.new }
     {
         let row = self.step(message, found);
         self.send_back(header, number_of(message), row)

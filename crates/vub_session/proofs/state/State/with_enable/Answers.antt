@@ -1,0 +1,8 @@
+use Rattle.std.proofs.Common.{◌≡◌, ◌≤◌, ◌&&◌, Bool, false, true, not, arith, rules}
+use Rattle.vub_session.proofs.SoundLemmas.{Known, enable_set}
+use Rattle.vub_session.specs.State.{is_running}
+use Rattle.vub_session.specs.Table.{same_addresses}
+use Rattle.vub_session.proofs.state.State.with_enable.Goals as goal
+
+pub returns-clause-candidate : goal.returns-clause-candidate
+returns-clause-candidate c = rw c.with_ring.ensures (enable_set c.args.self.now.config.queues _ c.args.self.now.table c.args.self.now.terms c.args.index c.in_ok-ring.ring (record { below = c.in_ok-ring.ensures.below; old = c.requires.sound; at = c.in_ok-ring.ensures.at }))

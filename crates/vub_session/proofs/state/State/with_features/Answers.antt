@@ -1,0 +1,8 @@
+use Rattle.std.proofs.Common.{◌≡◌, ◌≤◌, ◌&&◌, Bool, false, true, not, arith, rules}
+use Rattle.vub_session.proofs.SoundLemmas.{Known, features_set}
+use Rattle.vub_session.specs.State.{is_running}
+use Rattle.vub_session.specs.Table.{same_addresses}
+use Rattle.vub_session.proofs.state.State.with_features.Goals as goal
+
+pub returns-clause-candidate : goal.returns-clause-candidate
+returns-clause-candidate c = features_set c.args.self.now.config.queues c.args.set c.args.self.now.table c.args.self.now.terms c.requires (search rules)
