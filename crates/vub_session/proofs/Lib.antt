@@ -1,3 +1,5 @@
 pub mod ReadyLemmas
 pub mod SoundLemmas
 pub mod AttachLemmas
+pub mod SetupLemmas
+pub mod MappedLemmas

@@ -1,5 +1,5 @@
 -- Each row leaves a candidate: the rings that were attached can still run.
-use Rattle.std.proofs.Common.{◌≡◌, ◌≢◌, ℕ, zero, suc, ◌+◌, ◌<◌, ◌≤◌, Bool, true, false, not, List, [], ◌∷◌, length, get_or, Option, Some, None, IsSome, refl, sym, ◌∙◌, ap, subst, arith, rules, get_or-set_same, get_or-set_other}
+use Rattle.std.proofs.Common.{◌≡◌, ◌≢◌, ℕ, zero, suc, ◌+◌, ◌^◌, ◌<◌, ◌≤◌, Bool, true, false, not, List, [], ◌∷◌, length, get_or, Option, Some, None, IsSome, refl, sym, ◌∙◌, ap, subst, arith, rules, get_or-set_same, get_or-set_other}
 use Rattle.std.specs.Prelude.{◌==◌, ◌&&◌, ◌||◌, slice_index_or}
 use Rattle.std.specs.List.{list_any}
 use Rattle.std.specs.Option.{ForSome}
@@ -10,11 +10,14 @@ use Rattle.vub_session.specs.Bounds.{IsBounded, IsRegion, SizeBounded}
 use Rattle.vub_session.specs.Ready.{can_run, rings_of}
 use Rattle.vub_session.specs.Sound.{IsCandidate, IsSound, Runs}
 use Rattle.vub_session.specs.State.{is_running, new_ring, ring_at, with_ring}
-use Rattle.vub_session.specs.Table.{same_addresses}
+use Rattle.vub_session.specs.Table.{fits_inflight, kept_region, same_addresses}
+use Rattle.vub_session.specs.declared.finding.Found.{Found}
 use Rattle.vub_session.specs.declared.state.Addresses.{Addresses}
 use Rattle.vub_session.specs.declared.state.KeptRegion.{KeptRegion}
 use Rattle.vub_session.specs.declared.state.Ring.{Ring}
+use Rattle.vub_session.specs.declared.state.State.{State}
 use Rattle.vub_session.specs.declared.state.Terms.{Terms}
+use Rattle.vub_wire.specs.declared.messages.Inflight.{Inflight}
 use Rattle.vub_session.specs.declared.state.TheConstants.{MAX_QUEUES, MAX_QUEUE_SIZE}
 
 -- ---- one ring is set
@@ -203,3 +206,12 @@ protocol_set queues set table t old none = some_candidate queues table _ (protoc
 
 pub region_set : (queues : ℕ) (table : List Mapped) (t : Terms) (r : KeptRegion) → IsCandidate queues table t → is_running t ≡ false → IsRegion queues r → ForSome (Some (record t { region = Some r })) (IsCandidate queues table)
 region_set queues table t r old none region = some_candidate queues table _ (region_candidate queues table t r old.bounded none region)
+
+-- the region that a message names lies in its space
+pub fits_region : (s : State) (x : Inflight) (f : Found) → fits_inflight s x f ≡ true → f.size < 2 ^ 64 → IsRegion s.config.queues (kept_region x f)
+fits_region s x f fits below = record {
+  counted = grind (arith, nat_tests);
+  inside = grind (arith, nat_tests);
+  fits = below;
+  aligned = grind (arith, nat_tests);
+}

@@ -1,8 +1,9 @@
 -- The words for what a session keeps.
-use Rattle.std.specs.Prelude.{◌≡◌, ◌≤◌, ◌<◌, ℕ, ◌+◌, ◌*◌, ◌/◌, ◌%◌, ◌^◌, ◌==◌, ◌&&◌, ◌||◌, Bool, true, false, not, nat_lt, nat_le, is_some, if◌then◌else◌, List, slice_index_or, slice_set, replicate, Option, Some, None}
+use Rattle.std.specs.Prelude.{◌≡◌, ◌≤◌, ◌<◌, ℕ, ◌+◌, ◌*◌, ◌/◌, ◌%◌, ◌^◌, ◌==◌, ◌&&◌, ◌||◌, Bool, true, false, not, nat_lt, nat_le, is_some, if◌then◌else◌, List, [], slice_index_or, slice_set, replicate, Option, Some, None}
 use Rattle.std.specs.List.{list_any}
 use Rattle.vub_blkreq.specs.declared.features.TheConstants.Features as feature
 use Rattle.vub_blkreq.specs.declared.features.TheConstants.ProtocolFeatures as protocol_feature
+use Rattle.vub_blkreq.specs.declared.config.DeviceConfig.{DeviceConfig}
 use Rattle.vub_blkreq.specs.declared.request.DeviceMode.{DeviceMode}
 use Rattle.vub_session.specs.declared.state.Ring.{Ring}
 use Rattle.vub_session.specs.declared.state.State.{State}
@@ -66,7 +67,15 @@ with_ring t index ring = record t { rings = slice_set t.rings index ring }
 unfoldable pub is_running : Terms → Bool
 is_running t = list_any (λ r. r.is_attached) t.rings
 
+-- a queue runs on the ring
+pub record IsAttached (s : State) (index : ℕ) : Type 0 where
+  pub below : index < s.config.queues
+  pub attached : (ring_at s.terms index).is_attached ≡ true
+
 -- ---- before the first message
 
 unfoldable pub new_terms : Terms
 new_terms = record { features = 0; protocol = 0; has_table = false; region = None; rings = replicate MAX_QUEUES new_ring }
+
+abbrev pub new_state : DeviceConfig → State
+new_state config = record { config = config; terms = new_terms; table = []; refused = None }

@@ -1,6 +1,7 @@
 //! The names of a message: taken, looked up, or given to a new space.
-ghost use Rattle.std.specs.Prelude.{◌≤◌, length};
-ghost use Rattle.vub_session.specs.Table.{names_taken};
+ghost use Rattle.std.specs.Prelude.{◌≡◌, ◌≤◌, length};
+ghost use Rattle.vub_session.specs.Table.{looked_up, names_taken};
+ghost use Rattle.vub_session.specs.declared.state.State.{State};
 
 use crate::SessionFault;
 use crate::finding::Found;
@@ -66,7 +67,12 @@ fn create<M: Shared>(mem: &mut M, names: &Names, size: u64) -> Result<FoundList,
 }
 
 /// How many names a message looks up.
-fn looked_up(message: &Message) -> usize {
+#[tactic(auto, unfolding(crate::specs::Table::looked_up, crate::specs::Table::names_taken))]
+fn looked_up(message: &Message) -> usize
+    ensures is { result ≡ looked_up message.now }
+    ensures taken { (s : State) → result ≤ names_taken s message.now }
+    ensures few { result ≤ MAX_REGIONS }
+{
     match message {
         Message::SetMemTable(regions) => regions.len(),
         Message::SetInflight(_) => 1,

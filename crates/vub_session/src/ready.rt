@@ -1,6 +1,8 @@
 //! When a ring is ready, and where it lies.
-ghost use Rattle.std.specs.Prelude.{◌≡◌, ◌≤◌, ◌<◌, ℕ, ◌+◌, ◌^◌, true};
+ghost use Rattle.std.specs.Prelude.{◌≡◌, ◌≤◌, ◌<◌, ℕ, ◌+◌, ◌%◌, ◌^◌, true, All, IfSome};
+ghost use Rattle.vub_memtable.specs.Regions.{IsHeld};
 ghost use Rattle.vub_session.specs.Bounds.{IsBounded, RegionBounded, SizeBounded};
+ghost use Rattle.vub_session.specs.Lies.{PartsLie};
 ghost use Rattle.vub_session.specs.Ready as ready;
 ghost use Rattle.vub_session.specs.State.{is_packed};
 
@@ -53,6 +55,8 @@ fn extent_place(table: &MemTable, address: u64, len: u64, alignment: u64) -> Opt
     requires some { 1 ≤ len }
     requires aligned { 1 ≤ alignment }
     ensures is { result ≡ ready.extent_place table.now address len alignment }
+    ensures lies { IfSome result (λ x. (sizes : ℕ → ℕ) → All (IsHeld sizes) table.now → x.1 + len ≤ sizes x.0.number) }
+    ensures aligned { IfSome result (λ x. x.1 % alignment ≡ 0) }
 {
     let (space, place) = table.user_to_space(address, len).ok()?;
     if place % alignment == 0 {
@@ -88,7 +92,8 @@ fn used_size(packed: bool, size: u16) -> u64
 #[tactic(auto, unfolding(crate::specs::Ready::parts_of))]
 fn parts_of(packed: bool, table: &MemTable, addresses: &Addresses, size: u16) -> Option<Parts>
     requires { 1 ≤ size }
-    ensures { result ≡ ready.parts_of packed table.now addresses.now size }
+    ensures is { result ≡ ready.parts_of packed table.now addresses.now size }
+    ensures lie { IfSome result (λ parts. (sizes : ℕ → ℕ) → All (IsHeld sizes) table.now → PartsLie sizes packed size parts) }
 {
     let avail_alignment = if packed { EVENT_SIZE } else { AVAIL_ALIGNMENT };
     let desc_size = DESCRIPTOR_SIZE * u64::from(size);

@@ -1,4 +1,7 @@
-ghost use Rattle.std.specs.Prelude.{◌≡◌, ◌≤◌, ◌<◌, Some, None};
+ghost use Rattle.std.specs.Prelude.{◌≡◌, ◌≤◌, ◌↔◌, true, length, IsSome};
+ghost use Rattle.vub_session.specs.Setup.{queue_ready, setup_of};
+ghost use Rattle.vub_session.specs.Sound.{IsSound};
+ghost use Rattle.vub_session.specs.State.{mode_of, new_state, IsAttached};
 ghost use Rattle.vub_session.specs.Table as table;
 
 use crate::lookup::FoundList;
@@ -31,13 +34,17 @@ impl Model for Session {
 }
 
 impl State {
+    #[tactic(auto, unfolding(crate::specs::Table::names_taken, crate::specs::Table::bell_attached))]
     /// Attaches the bell of a queue to the call that a message brings, which has the first name.
     fn attach_bell<B: Bell>(
         &self,
         message: &Message,
         names: &Names,
         bell: &mut B,
-    ) -> Result<(), SessionFault> {
+    ) -> Result<(), SessionFault>
+        requires few { self.now.config.queues ≤ MAX_QUEUES }
+        requires names { table.names_taken self.now message.now ≤ length names.now }
+    {
         let Some(queue) = self.bell_attached(message) else {
             return Ok(());
         };
@@ -54,7 +61,9 @@ impl State {
         names: &Names,
         mem: &mut M,
         bell: &mut B,
-    ) -> Result<FoundList, SessionFault> {
+    ) -> Result<FoundList, SessionFault>
+        requires { self.now.config.queues ≤ MAX_QUEUES }
+    {
         if names.left() < self.names_taken(message) {
             return Err(SessionFault::NoName);
         }
@@ -63,8 +72,12 @@ impl State {
     }
 
     /// What a queue is made from, where its ring is ready.
-    #[tactic(auto, unfolding(crate::specs::Setup::setup_of))]
-    fn setup(&self, queue: u16) -> Option<QueueSetup> {
+    #[tactic(auto, unfolding(crate::specs::Setup::setup_of, crate::specs::Setup::queue_ready, crate::specs::State::ring_of))]
+    fn setup(&self, queue: u16) -> Option<QueueSetup>
+        requires { IsSound self.now }
+        ensures is { result ≡ setup_of self.now queue }
+        ensures ready { IsSome result ↔ (queue_ready self.now queue ≡ true) }
+    {
         let ring = self.ring(u32::from(queue))?;
         if !self.terms.is_ready(queue, &ring) {
             return None;
@@ -87,7 +100,11 @@ impl State {
 
 impl Session {
     /// A session before the first message, of a device with 1 to 16 queues.
-    pub fn new(config: DeviceConfig) -> Session {
+    pub fn new(config: DeviceConfig) -> Session
+        requires some { 1 ≤ config.queues }
+        requires few { config.queues ≤ MAX_QUEUES }
+        ensures { result ≡ new_state config }
+    {
         Session {
             state: State {
                 config,
@@ -119,27 +136,39 @@ impl Session {
     }
 
     /// The memory table.
-    pub fn table(&self) -> &MemTable {
+    pub fn table(&self) -> &MemTable
+        ensures { result.now ≡ self.now.table }
+    {
         &self.state.table
     }
 
     /// What requests are told of the device.
-    pub fn mode(&self) -> DeviceMode {
+    pub fn mode(&self) -> DeviceMode
+        ensures { result ≡ mode_of self.now }
+    {
         self.state.mode()
     }
 
     /// What a queue is made from. None comes exactly where its ring isn't ready.
-    pub fn setup(&self, queue: u16) -> Option<QueueSetup> {
+    pub fn setup(&self, queue: u16) -> Option<QueueSetup>
+        ensures is { result ≡ setup_of self.now queue }
+        ensures ready { IsSome result ↔ (queue_ready self.now queue ≡ true) }
+    {
         self.state.setup(queue)
     }
 
     /// Why the last message that was refused was refused.
-    pub fn refused(&self) -> Option<Refusal> {
+    pub fn refused(&self) -> Option<Refusal>
+        ensures { result ≡ self.now.refused }
+    {
         self.state.refused
     }
 
     /// Detaches a queue that was stopped, keeps its base and forgets its kick.
-    pub fn stopped_queue(&mut self, queue: u16, base: u32) {
+    pub fn stopped_queue(&mut self, queue: u16, base: u32)
+        requires { IsAttached self.old queue }
+        ensures { self.new ≡ table.stopped self.old queue base }
+    {
         self.state.stop(queue, base);
     }
 }

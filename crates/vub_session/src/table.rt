@@ -1,6 +1,6 @@
 //! The message table: what a message does to a session, and what its row answers.
 ghost use Rattle.std.specs.Option.{ForSome};
-ghost use Rattle.std.specs.Prelude.{◌≡◌, ◌≤◌, ◌<◌, Some, None, length, true};
+ghost use Rattle.std.specs.Prelude.{◌≡◌, ◌≤◌, ◌<◌, Some, None, OnSome, length, true};
 ghost use Rattle.vub_session.specs.Sound.{IsCandidate, IsSound};
 ghost use Rattle.vub_session.specs.Table as table;
 ghost use Rattle.vub_wire.specs.Grammar.{number_of};
@@ -158,7 +158,8 @@ impl State {
     #[tactic(auto, unfolding(crate::specs::Table::base_reply))]
     fn base_reply(&self, index: u32) -> Row
         requires { self.now.config.queues ≤ MAX_QUEUES }
-        ensures { result ≡ (table.base_reply self.now index).row }
+        ensures is { result ≡ (table.base_reply self.now index).row }
+        ensures next { (table.base_reply self.now index).next ≡ self.now }
     {
         let Some(ring) = self.ring(index) else {
             let none = ReplyBody::State { index, num: 0 };
@@ -192,7 +193,8 @@ impl State {
     /// A part of the config space, or nothing where it is none.
     #[tactic(auto, unfolding(crate::specs::Table::config_reply))]
     fn config_reply(&self, config: &Config) -> Row
-        ensures { result ≡ (table.config_reply self.now config.now).row }
+        ensures is { result ≡ (table.config_reply self.now config.now).row }
+        ensures next { (table.config_reply self.now config.now).next ≡ self.now }
     {
         let end = u64::from(config.offset) + u64::from(config.size);
         if config.bytes.len() == config.size as usize && end <= CONFIG_SIZE as u64 {
@@ -205,7 +207,8 @@ impl State {
     /// The numbers of an in-flight region that was made, or a size of 0 where none was.
     #[tactic(auto, unfolding(crate::specs::Table::inflight_reply))]
     fn inflight_reply(&self, inflight: &Inflight) -> Row
-        ensures { result ≡ (table.inflight_reply self.now inflight.now).row }
+        ensures is { result ≡ (table.inflight_reply self.now inflight.now).row }
+        ensures next { (table.inflight_reply self.now inflight.now).next ≡ self.now }
     {
         let made = self.has_inflight_numbers(inflight);
         let size = if made { self.inflight_size(inflight) } else { 0 };
@@ -307,9 +310,10 @@ impl State {
     }
 
     /// The size of the space that a message makes, if it makes one.
-    #[tactic(auto, unfolding(crate::specs::Table::created))]
+    #[tactic(auto, unfolding(crate::specs::Table::created, crate::specs::Table::names_taken))]
     pub(crate) fn created(&self, message: &Message) -> Option<u64>
-        ensures { result ≡ table.created self.now message.now }
+        ensures is { result ≡ table.created self.now message.now }
+        ensures taken { OnSome result (table.names_taken self.now message.now ≡ 1) }
     {
         match message {
             Message::GetInflight(inflight) if self.has_inflight_numbers(inflight) => {
