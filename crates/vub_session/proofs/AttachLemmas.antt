@@ -131,7 +131,7 @@ ready_attached : (t : Terms) (index : ℕ) → is_ready (attach t) index (attach
 unfolding attach is_ready can_run
 ready_attached t index ready = grind arith
 
-new_not_ready : (t : Terms) (index : ℕ) → is_ready t index new_ring ≡ true → ⊥
+pub new_not_ready : (t : Terms) (index : ℕ) → is_ready t index new_ring ≡ true → ⊥
 unfolding is_ready can_run
 new_not_ready t index ready = grind arith
 

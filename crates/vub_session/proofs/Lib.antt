@@ -3,3 +3,4 @@ pub mod SoundLemmas
 pub mod AttachLemmas
 pub mod SetupLemmas
 pub mod MappedLemmas
+pub mod StateLemmas

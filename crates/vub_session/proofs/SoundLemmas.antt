@@ -22,11 +22,11 @@ use Rattle.vub_session.specs.declared.state.TheConstants.{MAX_QUEUES, MAX_QUEUE_
 
 -- ---- one ring is set
 
-set_here : (t : Terms) (i : ℕ) (r : Ring) → length t.rings ≡ MAX_QUEUES → i < MAX_QUEUES → ring_at (with_ring t i r) i ≡ r
+pub set_here : (t : Terms) (i : ℕ) (r : Ring) → length t.rings ≡ MAX_QUEUES → i < MAX_QUEUES → ring_at (with_ring t i r) i ≡ r
 unfolding with_ring
 set_here t i r count below = let inside : i < length t.rings = omega arith in rw get_or-set_same refl
 
-set_there : (t : Terms) (i q : ℕ) (r : Ring) → q ≢ i → ring_at (with_ring t i r) q ≡ ring_at t q
+pub set_there : (t : Terms) (i q : ℕ) (r : Ring) → q ≢ i → ring_at (with_ring t i r) q ≡ ring_at t q
 unfolding with_ring
 set_there t i q r other = rw get_or-set_other refl
 

@@ -1,6 +1,6 @@
 //! What each request that changes the terms makes of them. None: its row refuses it.
 ghost use Rattle.std.specs.Option.{ForSome};
-ghost use Rattle.std.specs.Prelude.{◌≡◌, ◌≤◌, ◌<◌};
+ghost use Rattle.std.specs.Prelude.{◌≡◌, ◌≤◌, ◌<◌, ◌^◌};
 ghost use Rattle.vub_blkreq.specs.Features.{offered, offered_protocol};
 ghost use Rattle.vub_session.specs.Sound.{IsCandidate};
 ghost use Rattle.vub_session.specs.Table as table;
@@ -212,13 +212,15 @@ impl State {
 
     /// Whether the region lies in its space at a multiple of 8, and has room for its queues.
     fn fits_inflight(&self, inflight: &Inflight, found: &Found) -> bool
-        ensures { result ≡ table.fits_inflight self.now inflight.now found.now }
+        ensures is { result ≡ table.fits_inflight self.now inflight.now found.now }
+        ensures fits { found.now.size < 2 ^ 64 }
     {
+        let space_size = found.size;
         let end = u128::from(inflight.offset) + u128::from(inflight.size);
         self.has_inflight_numbers(inflight)
             && inflight.offset % 8 == 0
             && self.inflight_size(inflight) <= inflight.size
-            && end <= u128::from(found.size)
+            && end <= u128::from(space_size)
     }
 
     /// The in-flight region that was found.

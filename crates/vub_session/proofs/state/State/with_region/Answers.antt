@@ -7,4 +7,4 @@ pub returns-clause-candidate : goal.returns-clause-candidate
 returns-clause-candidate c =
     let f = c.in-Some.found.now in
     region_set c.args.self.now.config.queues c.args.self.now.table c.args.self.now.terms (kept_region c.args.inflight.now f) c.requires (search rules)
-        (fits_region c.args.self.now c.args.inflight.now f (search rules) (search rules))
+        (fits_region c.args.self.now c.args.inflight.now f (search rules) c.fits_inflight.ensures.fits)
