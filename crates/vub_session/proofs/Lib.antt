@@ -4,3 +4,4 @@ pub mod AttachLemmas
 pub mod SetupLemmas
 pub mod MappedLemmas
 pub mod StateLemmas
+pub mod FindLemmas

@@ -1,4 +1,9 @@
-ghost use Rattle.std.specs.Prelude.{◌≡◌, ◌≤◌, ◌↔◌, true, length, IsSome};
+ghost use Rattle.std.specs.Prelude.{◌≡◌, ◌≤◌, ◌<◌, ◌↔◌, ℕ, List, true, length, drop, Some, None, Ok, Err, IsSome, IfErr, IfOk, OnErr, OnOk, OnSome};
+ghost use Rattle.vub_base.specs.Causes.{Rose};
+ghost use Rattle.vub_session.specs.Finds.{AreAnswered, BellIs, HasFindReason, OnlyFinds};
+ghost use Rattle.vub_session.specs.declared.finding.Found.{Found};
+ghost use Rattle.vub_session.specs.declared.handled.Handled.TheVariants.{Drain};
+ghost use Rattle.vub_session.specs.declared.handled.SessionFault.TheVariants as faults;
 ghost use Rattle.vub_session.specs.Setup.{queue_ready, setup_of};
 ghost use Rattle.vub_session.specs.Sound.{IsSound};
 ghost use Rattle.vub_session.specs.State.{mode_of, new_state, IsAttached};
@@ -44,6 +49,9 @@ impl State {
     ) -> Result<(), SessionFault>
         requires few { self.now.config.queues ≤ MAX_QUEUES }
         requires names { table.names_taken self.now message.now ≤ length names.now }
+        ensures attached { OnOk result (BellIs (table.bell_attached self.now message.now) (B.told bell.old) (B.told bell.new)) }
+        ensures later { B.faults bell.old ≤ B.faults bell.new }
+        ensures cause { IfErr result (λ e. (e ≡ faults.Bell) × Rose (B.faults bell.old) (B.faults bell.new)) }
     {
         let Some(queue) = self.bell_attached(message) else {
             return Ok(());
@@ -63,6 +71,11 @@ impl State {
         bell: &mut B,
     ) -> Result<FoundList, SessionFault>
         requires { self.now.config.queues ≤ MAX_QUEUES }
+        ensures too_few { length names.now < table.names_taken self.now message.now → result ≡ Err faults.NoName }
+        ensures answered { IfOk result (λ all. AreAnswered M.told M.trail M.names M.handed M.sizes mem.old mem.new (table.created self.now message.now) (table.looked_up message.now) names.now all.items) }
+        ensures finds { OnErr result (OnlyFinds M.told M.trail M.names M.handed M.sizes mem.old mem.new) }
+        ensures attached { OnOk result (BellIs (table.bell_attached self.now message.now) (B.told bell.old) (B.told bell.new)) }
+        ensures reason { HasFindReason (M.faults mem.old) (M.faults mem.new) (B.faults bell.old) (B.faults bell.new) (M.names mem.old) (table.names_taken self.now message.now) names.now result }
     {
         if names.left() < self.names_taken(message) {
             return Err(SessionFault::NoName);
@@ -77,6 +90,7 @@ impl State {
         requires { IsSound self.now }
         ensures is { result ≡ setup_of self.now queue }
         ensures ready { IsSome result ↔ (queue_ready self.now queue ≡ true) }
+        ensures attached { OnSome result (IsAttached self.now queue) }
     {
         let ring = self.ring(u32::from(queue))?;
         if !self.terms.is_ready(queue, &ring) {
@@ -124,7 +138,20 @@ impl Session {
         names: &mut Names,
         mem: &mut M,
         bell: &mut B,
-    ) -> Result<Handled, SessionFault> {
+    ) -> Result<Handled, SessionFault>
+        // A message that stops a queue waits until it is stopped.
+        ensures drains { (queue : ℕ) → table.drained self.old message.now ≡ Some queue → (result ≡ Ok (Drain queue)) × (self.new ≡ self.old) }
+        // Else the table says what is sent back, and the session after it.
+        ensures answers { table.drained self.old message.now ≡ None → IfOk result (λ handled. (found : List Found) × AreAnswered M.told M.trail M.names M.handed M.sizes mem.old mem.new (table.created self.old message.now) (table.looked_up message.now) names.old found × ((self.new, handled) ≡ table.answered self.old header.now message.now found)) }
+        ensures fault { OnErr result (self.new ≡ self.old) }
+
+        // The names are taken, whatever comes of them.
+        ensures names { names.new ≡ drop (table.names_taken self.old message.now) names.old }
+        ensures too_few { length names.old < table.names_taken self.old message.now → result ≡ Err faults.NoName }
+        ensures finds { OnErr result (OnlyFinds M.told M.trail M.names M.handed M.sizes mem.old mem.new) }
+        ensures bell { OnOk result (BellIs (table.bell_attached self.old message.now) (B.told bell.old) (B.told bell.new)) }
+        ensures reason { HasFindReason (M.faults mem.old) (M.faults mem.new) (B.faults bell.old) (B.faults bell.new) (M.names mem.old) (table.names_taken self.old message.now) names.old result }
+    {
         if let Some(queue) = self.state.drained(message) {
             return Ok(Handled::Drain(queue));
         }
@@ -153,6 +180,8 @@ impl Session {
     pub fn setup(&self, queue: u16) -> Option<QueueSetup>
         ensures is { result ≡ setup_of self.now queue }
         ensures ready { IsSome result ↔ (queue_ready self.now queue ≡ true) }
+        // A queue that is given a setup is attached until it is stopped.
+        ensures attached { OnSome result (IsAttached self.now queue) }
     {
         self.state.setup(queue)
     }

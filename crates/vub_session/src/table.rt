@@ -341,10 +341,12 @@ impl State {
     }
 
     /// The attached queue that a message stops, if it stops one.
-    #[tactic(auto, unfolding(crate::specs::Table::drained))]
+    #[tactic(auto, unfolding(crate::specs::Table::drained, crate::specs::Table::names_taken, crate::specs::Table::bell_attached))]
     pub(crate) fn drained(&self, message: &Message) -> Option<u16>
         requires { self.now.config.queues ≤ MAX_QUEUES }
-        ensures { result ≡ table.drained self.now message.now }
+        ensures is { result ≡ table.drained self.now message.now }
+        ensures no_names { OnSome result (table.names_taken self.now message.now ≡ 0) }
+        ensures no_bell { OnSome result (table.bell_attached self.now message.now ≡ None) }
     {
         let Message::GetBase { index, .. } = message else {
             return None;
