@@ -5,3 +5,4 @@ pub mod SetupLemmas
 pub mod MappedLemmas
 pub mod StateLemmas
 pub mod FindLemmas
+pub mod LieLemmas

@@ -2,9 +2,9 @@
 use Rattle.std.proofs.Common.{◌≡◌, ℕ, Bool, true, false, Option, Some, None, IsSome, sym, ap, ◌∙◌, subst, arith, rules}
 use Rattle.std.specs.Prelude.{is_some}
 use Rattle.vub_session.specs.Bounds.{SizeBounded}
-use Rattle.vub_session.specs.Ready.{can_run, is_ready, rings_of}
+use Rattle.vub_session.specs.Ready.{can_run, is_ready, region_fits, rings_of}
 use Rattle.vub_session.specs.Sound.{IsSound}
-use Rattle.vub_session.specs.State.{ring_at}
+use Rattle.vub_session.specs.State.{is_packed, ring_at}
 use Rattle.vub_session.specs.declared.state.Ring.{Ring}
 use Rattle.vub_session.specs.declared.state.State.{State}
 use Rattle.vub_session.specs.declared.state.Terms.{Terms}
@@ -21,3 +21,7 @@ ready_given t i r ready = grind arith
 
 pub size_known : (s : State) (i : ℕ) (r : Ring) → IsSound s → r ≡ ring_at s.terms i → SizeBounded r.size
 size_known s i r sound at = let R : Ring → Type 0 = λ x. SizeBounded x.size in subst R (sym at) (sound.terms.bounded.sizes i)
+
+pub ready_fits : (t : Terms) (i : ℕ) (r : Ring) → is_ready t i r ≡ true → region_fits (is_packed t) i t.region r.size ≡ true
+unfolding is_ready can_run
+ready_fits t i r ready = grind arith

@@ -2,6 +2,7 @@ pub mod Bounds
 pub mod Finds
 pub mod Lies
 pub mod Ready
+pub mod Sent
 pub mod Setup
 pub mod Sound
 pub mod State

@@ -1,7 +1,10 @@
 -- Where the parts of a ring lie that are given to a queue.
-use Rattle.std.specs.Prelude.{◌≡◌, ◌≤◌, ℕ, ◌+◌, ◌%◌, Bool}
+use Rattle.std.specs.Prelude.{◌≡◌, ◌≤◌, ⊤, ℕ, ◌+◌, ◌%◌, Bool, All, Option, Some, None}
+use Rattle.vub_memtable.specs.Regions.{IsHeld}
 use Rattle.vub_session.specs.Ready.{avail_alignment, avail_size, desc_size, used_size}
 use Rattle.vub_session.specs.declared.ready.Parts.{Parts}
+use Rattle.vub_session.specs.declared.state.KeptRegion.{KeptRegion}
+use Rattle.vub_session.specs.declared.state.State.{State}
 
 -- each part lies in its space at its alignment
 pub record PartsLie (sizes : ℕ → ℕ) (packed : Bool) (n : ℕ) (p : Parts) : Type 0 where
@@ -11,3 +14,13 @@ pub record PartsLie (sizes : ℕ → ℕ) (packed : Bool) (n : ℕ) (p : Parts) 
   pub desc_aligned : p.desc.1 % 16 ≡ 0
   pub avail_aligned : p.avail.1 % avail_alignment packed ≡ 0
   pub used_aligned : p.used.1 % 4 ≡ 0
+
+-- the space of the in-flight region has the size that it had when it was handed out
+abbrev pub RegionSized : (ℕ → ℕ) → Option KeptRegion → Type 0
+RegionSized sizes None = ⊤
+RegionSized sizes (Some r) = sizes r.space.number ≡ r.space_size
+
+-- and so have all spaces of a session
+pub record AreSized (sizes : ℕ → ℕ) (s : State) : Type 0 where
+  pub table : All (IsHeld sizes) s.table
+  pub region : RegionSized sizes s.terms.region

@@ -2,9 +2,10 @@
 ghost use Rattle.std.specs.Prelude.{◌≡◌, ◌≤◌, ◌<◌, ℕ, ◌+◌, ◌%◌, ◌^◌, true, All, IfSome};
 ghost use Rattle.vub_memtable.specs.Regions.{IsHeld};
 ghost use Rattle.vub_session.specs.Bounds.{IsBounded, RegionBounded, SizeBounded};
-ghost use Rattle.vub_session.specs.Lies.{PartsLie};
+ghost use Rattle.vub_session.specs.Lies.{PartsLie, RegionSized};
 ghost use Rattle.vub_session.specs.Ready as ready;
 ghost use Rattle.vub_session.specs.State.{is_packed};
+ghost use Rattle.vub_setup.specs.Setups.{RingsLie};
 
 use crate::state::{Addresses, KeptRegion, MAX_QUEUES, Ring, Terms};
 use vub_base::Space;
@@ -211,7 +212,8 @@ impl Terms {
     pub(crate) fn rings_of(&self, table: &MemTable, index: u16, ring: &Ring) -> Option<Rings>
         requires size { SizeBounded ring.now.size }
         requires region { (queues : ℕ) × RegionBounded queues self.now.region }
-        ensures { result ≡ ready.rings_of self.now table.now index ring.now }
+        ensures is { result ≡ ready.rings_of self.now table.now index ring.now }
+        ensures lie { IfSome result (λ rings. (sizes : ℕ → ℕ) → All (IsHeld sizes) table.now → RegionSized sizes self.now.region → ready.region_fits (is_packed self.now) index self.now.region ring.now.size ≡ true → RingsLie sizes rings) }
     {
         let packed = self.is_packed();
         let region = self.region?;

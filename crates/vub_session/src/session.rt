@@ -1,10 +1,13 @@
-ghost use Rattle.std.specs.Prelude.{◌≡◌, ◌≤◌, ◌<◌, ◌↔◌, ℕ, List, true, length, drop, Some, None, Ok, Err, IsSome, IfErr, IfOk, OnErr, OnOk, OnSome};
+ghost use Rattle.std.specs.Prelude.{◌≡◌, ◌≤◌, ◌<◌, ◌↔◌, ℕ, List, true, length, drop, Some, None, Ok, Err, IsSome, IfErr, IfOk, IfSome, OnErr, OnOk, OnSome};
 ghost use Rattle.vub_base.specs.Causes.{Rose};
 ghost use Rattle.vub_session.specs.Finds.{AreAnswered, BellIs, HasFindReason, OnlyFinds};
 ghost use Rattle.vub_session.specs.declared.finding.Found.{Found};
 ghost use Rattle.vub_session.specs.declared.handled.Handled.TheVariants.{Drain};
 ghost use Rattle.vub_session.specs.declared.handled.SessionFault.TheVariants as faults;
+ghost use Rattle.vub_session.specs.Lies.{AreSized};
+ghost use Rattle.vub_session.specs.Sent.{IsSent};
 ghost use Rattle.vub_session.specs.Setup.{queue_ready, setup_of};
+ghost use Rattle.vub_setup.specs.Setups.{SetupLies};
 ghost use Rattle.vub_session.specs.Sound.{IsSound};
 ghost use Rattle.vub_session.specs.State.{mode_of, new_state, IsAttached};
 ghost use Rattle.vub_session.specs.Table as table;
@@ -91,6 +94,7 @@ impl State {
         ensures is { result ≡ setup_of self.now queue }
         ensures ready { IsSome result ↔ (queue_ready self.now queue ≡ true) }
         ensures attached { OnSome result (IsAttached self.now queue) }
+        ensures lies { IfSome result (λ setup. (sizes : ℕ → ℕ) → AreSized sizes self.now → SetupLies sizes setup) }
     {
         let ring = self.ring(u32::from(queue))?;
         if !self.terms.is_ready(queue, &ring) {
@@ -144,6 +148,7 @@ impl Session {
         // Else the table says what is sent back, and the session after it.
         ensures answers { table.drained self.old message.now ≡ None → IfOk result (λ handled. (found : List Found) × AreAnswered M.told M.trail M.names M.handed M.sizes mem.old mem.new (table.created self.old message.now) (table.looked_up message.now) names.old found × ((self.new, handled) ≡ table.answered self.old header.now message.now found)) }
         ensures fault { OnErr result (self.new ≡ self.old) }
+        ensures kind { IfOk result IsSent }
 
         // The names are taken, whatever comes of them.
         ensures names { names.new ≡ drop (table.names_taken self.old message.now) names.old }
@@ -182,6 +187,8 @@ impl Session {
         ensures ready { IsSome result ↔ (queue_ready self.now queue ≡ true) }
         // A queue that is given a setup is attached until it is stopped.
         ensures attached { OnSome result (IsAttached self.now queue) }
+        // Ring and region lie in their spaces, aligned and of one size, so that nothing is tested again.
+        ensures lies { IfSome result (λ setup. (sizes : ℕ → ℕ) → AreSized sizes self.now → SetupLies sizes setup) }
     {
         self.state.setup(queue)
     }

@@ -1,9 +1,12 @@
 //! The message table: what a message does to a session, and what its row answers.
 ghost use Rattle.std.specs.Option.{ForSome};
-ghost use Rattle.std.specs.Prelude.{◌≡◌, ◌≤◌, ◌<◌, Some, None, OnSome, length, true};
+ghost use Rattle.std.specs.Prelude.{◌≡◌, ◌≤◌, ◌<◌, Some, None, IfSome, OnSome, length, true};
 ghost use Rattle.vub_session.specs.Sound.{IsCandidate, IsSound};
+ghost use Rattle.vub_session.specs.Sent.{IsSent};
 ghost use Rattle.vub_session.specs.Table as table;
 ghost use Rattle.vub_wire.specs.Grammar.{number_of};
+ghost use Rattle.vub_wire.specs.Replies.{kind_of};
+ghost use Rattle.vub_wire.specs.Requests.{kind_at};
 
 use crate::finding::Found;
 use crate::handled::Row;
@@ -118,6 +121,8 @@ impl State {
         requires candidate { ForSome terms (IsCandidate self.old.config.queues self.old.table) }
         ensures next { self.new ≡ (table.settled self.old request terms).next }
         ensures row { result ≡ (table.settled self.old request terms).row }
+        ensures no_reply { result.reply ≡ None }
+        ensures refused { OnSome result.cause (self.new ≡ self.old) }
         ensures sound { IsSound self.new }
     {
         let Some(terms) = terms else {
@@ -136,6 +141,8 @@ impl State {
         requires sound { IsSound self.old }
         ensures next { self.new ≡ (table.table_set self.old regions.now).next }
         ensures row { result ≡ (table.table_set self.old regions.now).row }
+        ensures no_reply { result.reply ≡ None }
+        ensures refused { OnSome result.cause (self.new ≡ self.old) }
         ensures sound { IsSound self.new }
     {
         let mut table = MemTable::new();
@@ -160,6 +167,7 @@ impl State {
         requires { self.now.config.queues ≤ MAX_QUEUES }
         ensures is { result ≡ (table.base_reply self.now index).row }
         ensures next { (table.base_reply self.now index).next ≡ self.now }
+        ensures kind { IfSome result.reply (λ body. kind_at GET_VRING_BASE ≡ kind_of body) }
     {
         let Some(ring) = self.ring(index) else {
             let none = ReplyBody::State { index, num: 0 };
@@ -195,6 +203,7 @@ impl State {
     fn config_reply(&self, config: &Config) -> Row
         ensures is { result ≡ (table.config_reply self.now config.now).row }
         ensures next { (table.config_reply self.now config.now).next ≡ self.now }
+        ensures kind { IfSome result.reply (λ body. kind_at GET_CONFIG ≡ kind_of body) }
     {
         let end = u64::from(config.offset) + u64::from(config.size);
         if config.bytes.len() == config.size as usize && end <= CONFIG_SIZE as u64 {
@@ -209,6 +218,7 @@ impl State {
     fn inflight_reply(&self, inflight: &Inflight) -> Row
         ensures is { result ≡ (table.inflight_reply self.now inflight.now).row }
         ensures next { (table.inflight_reply self.now inflight.now).next ≡ self.now }
+        ensures kind { IfSome result.reply (λ body. kind_at GET_INFLIGHT_FD ≡ kind_of body) }
     {
         let made = self.has_inflight_numbers(inflight);
         let size = if made { self.inflight_size(inflight) } else { 0 };
@@ -233,6 +243,10 @@ impl State {
         requires { IsSound self.old }
         ensures next { self.new ≡ (table.step self.old message.now found.now).next }
         ensures row { result ≡ (table.step self.old message.now found.now).row }
+        // A refused request changes nothing.
+        ensures refused { OnSome result.cause (self.new ≡ self.old) }
+        // A reply is of the kind that its request has.
+        ensures kind { IfSome result.reply (λ body. kind_at (number_of message.now) ≡ kind_of body) }
         ensures sound { IsSound self.new }
     {
         match message {
@@ -371,6 +385,7 @@ impl State {
     fn send_back(&mut self, header: &Header, request: u32, row: Row) -> Handled
         ensures next { self.new ≡ table.noted self.old row.cause }
         ensures handled { result ≡ table.handled_row request (table.acknowledges self.old header.now) row.cause row.reply }
+        ensures kind { IfSome row.reply (λ body. kind_at request ≡ kind_of body) → IsSent result }
     {
         let Row { cause, reply } = row;
         let acknowledges = self.acknowledges(header);
@@ -390,6 +405,7 @@ impl State {
         requires { IsSound self.old }
         ensures next { self.new ≡ (table.answered self.old header.now message.now found.now).0 }
         ensures handled { result ≡ (table.answered self.old header.now message.now found.now).1 }
+        ensures kind { IsSent result }
         ensures sound { IsSound self.new }
     {
         let row = self.step(message, found);

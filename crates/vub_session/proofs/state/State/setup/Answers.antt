@@ -1,5 +1,5 @@
 use Rattle.std.proofs.Common.{◌≡◌, Bool, true, false, Option, Some, None, IsSome, ap, ◌∙◌, subst, arith, rules}
-use Rattle.vub_session.proofs.SetupLemmas.{ready_lies, ready_given, size_known}
+use Rattle.vub_session.proofs.SetupLemmas.{ready_fits, ready_lies, ready_given, size_known}
 use Rattle.vub_session.specs.Ready.{rings_of}
 use Rattle.vub_session.specs.State.{ring_at}
 use Rattle.vub_session.proofs.state.State.setup.Goals as goal
@@ -22,3 +22,6 @@ pub unreachable-requires-in_default-base : goal.unreachable-requires-in_default-
 unreachable-requires-in_default-base c =
     let given = ready_given c.args.self.now.terms c.args.queue c.in_ok-ring.ring (search rules) in
     grind arith
+
+pub returns-clause-lies : goal.returns-clause-lies
+returns-clause-lies c = λ sizes sized. c.in-Some.ensures.lie sizes sized.table sized.region (ready_fits c.args.self.now.terms c.args.queue c.in_ok-ring.ring (search rules))
