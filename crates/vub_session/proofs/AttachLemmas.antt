@@ -1,12 +1,11 @@
 -- Attaching the rings that are ready keeps a session sound.
-use Rattle.std.proofs.Common.{◌≡◌, ◌≢◌, ℕ, zero, suc, ◌+◌, ◌<◌, ◌≤◌, Bool, true, false, not, List, length, Option, Some, None, IsSome, refl, sym, ◌∙◌, ap, subst, map, arith, rules}
-use Rattle.std.specs.Prelude.{◌==◌, ◌&&◌, ◌||◌, nat_lt, slice_index_or, is_none}
-use Rattle.std.specs.List.{range_with_len}
+use Rattle.std.proofs.Common.{◌≡◌, ◌≢◌, ℕ, zero, suc, ◌<◌, ◌≤◌, Bool, true, false, List, length, Option, Some, None, IsSome, refl, sym, ◌∙◌, ap, subst, arith, rules}
+use Rattle.std.specs.Prelude.{◌==◌, nat_lt, is_none}
 use Rattle.std.proofs.lemmas.Bool.Decides.{nat_tests}
 use Rattle.std.proofs.lemmas.List.{get_or_past}
 use Rattle.std.proofs.lemmas.List.FromFn.{get_or-map-range_with_len, length-map-range_with_len}
 use Rattle.vub_memtable.specs.declared.region.Mapped.{Mapped}
-use Rattle.vub_session.specs.Bounds.{IsBounded, IsRegion, RegionBounded, SizeBounded}
+use Rattle.vub_session.specs.Bounds.{RegionBounded, SizeBounded}
 use Rattle.vub_session.specs.Ready.{attach, attached, bad_ring, can_run, is_bad, is_ready, least, or_last, region_fits, rings_of, sizes_fit}
 use Rattle.vub_session.specs.Sound.{IsCandidate, ReadyAttached, Runs}
 use Rattle.vub_session.specs.State.{is_packed, new_ring, ring_at}

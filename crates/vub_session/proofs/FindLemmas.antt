@@ -1,7 +1,6 @@
 -- Look-ups, one after another.
-use Rattle.std.proofs.Common.{◌≡◌, ◌⊎◌, ℕ, zero, suc, ◌+◌, Bool, true, List, [], ◌∷◌, ◌++◌, length, Option, Some, None, inl, inr, refl, sym, ◌∙◌, ap, subst, arith, rules}
+use Rattle.std.proofs.Common.{◌≡◌, ◌⊎◌, ℕ, zero, suc, Bool, List, [], ◌∷◌, ◌++◌, length, Option, Some, inl, inr, refl, sym, ◌∙◌, ap, subst, arith}
 use Rattle.std.specs.Prelude.{slice_get}
-use Rattle.vub_base.specs.Told.{WhereTold}
 use Rattle.vub_session.specs.Finds.{AreFound, IsFound, OnlyFinds}
 use Rattle.vub_session.specs.declared.finding.Found.{Found}
 use Rattle.vub_shared.specs.Bytes.{Bytes}
@@ -41,12 +40,12 @@ pub found_more : (told now_told : Option Names) (handed new_handed : ℕ → Boo
     → AreFound told new_handed new_sizes names (fs ++ f ∷ [])
 found_more told now_told handed new_handed sizes new_sizes names fs name f same keeps old at h = λ k other g at_name at_found.
     elim (last_or fs f g k at_found) [
-      inl before ↦ kept told handed new_handed sizes new_sizes other g keeps (old k other g at_name before)
-    | inr last ↦
-        let T : Option Names → Type 0 = λ t. IsFound t new_handed new_sizes name f in
-        let now : IsFound told new_handed new_sizes name f = subst T same h in
-        let N : List ℕ → Type 0 = λ n. IsFound told new_handed new_sizes n f in
-        let G : Found → Type 0 = λ x. IsFound told new_handed new_sizes other x in
-        let same_name : name ≡ other = some_same name other (sym at ∙ (ap (λ i. slice_get names i) (sym last.0) ∙ at_name)) in
-        subst G last.1 (subst N same_name now)
+      | inl before ↦ kept told handed new_handed sizes new_sizes other g keeps (old k other g at_name before)
+      | inr last ↦
+          let T : Option Names → Type 0 = λ t. IsFound t new_handed new_sizes name f in
+          let now : IsFound told new_handed new_sizes name f = subst T same h in
+          let N : List ℕ → Type 0 = λ n. IsFound told new_handed new_sizes n f in
+          let G : Found → Type 0 = λ x. IsFound told new_handed new_sizes other x in
+          let same_name : name ≡ other = some_same name other (sym at ∙ (ap (λ i. slice_get names i) (sym last.0) ∙ at_name)) in
+          subst G last.1 (subst N same_name now)
     ]

@@ -1,6 +1,5 @@
 -- Where the rings lie that are given to a queue.
-use Rattle.std.proofs.Common.{◌≡◌, ℕ, ◌+◌, ◌*◌, ◌%◌, ◌^◌, ◌<◌, ◌≤◌, Bool, true, false, Option, Some, None, refl, sym, subst, arith, rules}
-use Rattle.std.specs.Int.{◌∣◌}
+use Rattle.std.proofs.Common.{◌≡◌, ℕ, ◌+◌, ◌*◌, ◌%◌, ◌≤◌, Bool, true, false, Option, Some, refl, sym, subst, arith}
 use Rattle.std.proofs.lemmas.Bool.Decides.{nat_tests}
 use Rattle.std.proofs.lemmas.Nat.Gcd.{dvd_of_mod-eq-zero}
 use Rattle.vub_session.specs.Bounds.{IsRegion, RegionBounded, SizeBounded}
@@ -32,18 +31,27 @@ aligned_in false index region aligned = omega arith
 pub rings_lie : (sizes : ℕ → ℕ) (queues : ℕ) (packed : Bool) (index n : ℕ) (region : KeptRegion) (parts : Parts) → PartsLie sizes packed n parts → 1 ≤ n → n ≤ 1024 → sizes_fit packed index region n ≡ true
     → holds_queue packed index region ≡ true → sizes region.space.number ≡ region.space_size → IsRegion queues region → RingsLie sizes (rings_at packed n parts region.space (queue_place packed index region))
 rings_lie sizes queues true index n region parts lie some few fits holds sized bounded =
-    let room = room_in true index n (sizes region.space.number) region (fits_size true index region n fits) holds (omega (arith, bounded.inside)) in
-    ( record { some = some; few = few; room = lie.desc; aligned = lie.desc_aligned }
-    , record { room = room; aligned = aligned_in true index region bounded.aligned }
-    , refl )
+    let room = room_in true index n (sizes region.space.number) region (fits_size true index region n fits) holds (omega (arith, bounded.inside)) in (
+      record { some = some; few = few; room = lie.desc; aligned = lie.desc_aligned },
+      record { room = room; aligned = aligned_in true index region bounded.aligned },
+      refl,
+    )
 rings_lie sizes queues false index n region parts lie some few fits holds sized bounded =
-    let room = room_in false index n (sizes region.space.number) region (fits_size false index region n fits) holds (omega (arith, bounded.inside)) in
-    ( record {
-        some = some; few = few; laps = dvd_of_mod-eq-zero n (fits_power index region n fits);
-        desc = lie.desc; avail = lie.avail; used = lie.used;
-        desc_aligned = lie.desc_aligned; avail_aligned = lie.avail_aligned; used_aligned = lie.used_aligned }
-    , record { room = room; aligned = aligned_in false index region bounded.aligned }
-    , refl )
+    let room = room_in false index n (sizes region.space.number) region (fits_size false index region n fits) holds (omega (arith, bounded.inside)) in (
+      record {
+        some = some;
+        few = few;
+        laps = dvd_of_mod-eq-zero n (fits_power index region n fits);
+        desc = lie.desc;
+        avail = lie.avail;
+        used = lie.used;
+        desc_aligned = lie.desc_aligned;
+        avail_aligned = lie.avail_aligned;
+        used_aligned = lie.used_aligned;
+      },
+      record { room = room; aligned = aligned_in false index region bounded.aligned },
+      refl,
+    )
 
 -- ---- what is known of a region and a size that are given
 

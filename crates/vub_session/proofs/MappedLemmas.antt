@@ -1,5 +1,5 @@
 -- The regions with what was found for them, in turn.
-use Rattle.std.proofs.Common.{◌≡◌, ℕ, zero, suc, ◌++◌, List, [], ◌∷◌, ◌≤◌, length, drop, refl, arith}
+use Rattle.std.proofs.Common.{◌≡◌, ℕ, zero, suc, List, [], ◌∷◌, ◌≤◌, length, drop, refl, arith}
 use Rattle.vub_memtable.specs.declared.region.Region.{Region}
 use Rattle.vub_session.specs.Table.{mapped}
 use Rattle.vub_session.specs.declared.finding.Found.{Found}

@@ -1,6 +1,6 @@
 -- The least number that passes.
-use Rattle.std.proofs.Common.{◌≡◌, ℕ, zero, suc, ◌+◌, ◌-◌, ◌<◌, ◌≤◌, Bool, true, false, Option, Some, None, refl, arith, rules, add-zero, add-suc}
-use Rattle.vub_session.specs.Ready.{least, or_last}
+use Rattle.std.proofs.Common.{◌≡◌, ℕ, zero, suc, ◌+◌, ◌-◌, ◌<◌, Bool, true, false, Some, None, refl, arith, add-zero, add-suc}
+use Rattle.vub_session.specs.Ready.{least}
 
 pub least_next : (p : ℕ → Bool) (n : ℕ) → least p n ≡ None → p n ≡ false → least p (suc n) ≡ None
 least_next p n none fails = rw (none, fails) refl

@@ -1,5 +1,5 @@
 -- A ring of a sound session that is ready lies where a queue can run.
-use Rattle.std.proofs.Common.{◌≡◌, ℕ, Bool, true, false, Option, Some, None, IsSome, sym, ap, ◌∙◌, subst, arith, rules}
+use Rattle.std.proofs.Common.{◌≡◌, ℕ, true, IsSome, sym, ap, ◌∙◌, subst, arith}
 use Rattle.std.specs.Prelude.{is_some}
 use Rattle.vub_session.specs.Bounds.{SizeBounded}
 use Rattle.vub_session.specs.Ready.{can_run, is_ready, region_fits, rings_of}

@@ -1,6 +1,6 @@
 -- Each row leaves a candidate: the rings that were attached can still run.
-use Rattle.std.proofs.Common.{◌≡◌, ◌≢◌, ℕ, zero, suc, ◌+◌, ◌^◌, ◌<◌, ◌≤◌, Bool, true, false, not, List, [], ◌∷◌, length, get_or, Option, Some, None, IsSome, refl, sym, ◌∙◌, ap, subst, arith, rules, get_or-set_same, get_or-set_other}
-use Rattle.std.specs.Prelude.{◌==◌, ◌&&◌, ◌||◌, slice_index_or}
+use Rattle.std.proofs.Common.{◌≡◌, ◌≢◌, ℕ, zero, suc, ◌^◌, ◌<◌, ◌≤◌, Bool, true, false, not, List, [], ◌∷◌, length, Option, Some, None, refl, sym, ◌∙◌, ap, subst, arith, get_or-set_same, get_or-set_other}
+use Rattle.std.specs.Prelude.{◌==◌, ◌&&◌, slice_index_or}
 use Rattle.std.specs.List.{list_any}
 use Rattle.std.specs.Option.{ForSome}
 use Rattle.std.proofs.lemmas.Bool.Decides.{nat_tests}
@@ -8,7 +8,7 @@ use Rattle.std.proofs.lemmas.Grind.{common_steps}
 use Rattle.vub_memtable.specs.declared.region.Mapped.{Mapped}
 use Rattle.vub_session.specs.Bounds.{IsBounded, IsRegion, SizeBounded}
 use Rattle.vub_session.specs.Ready.{can_run, rings_of}
-use Rattle.vub_session.specs.Sound.{IsCandidate, IsSound, Runs}
+use Rattle.vub_session.specs.Sound.{IsCandidate, Runs}
 use Rattle.vub_session.specs.State.{is_running, new_ring, ring_at, with_ring}
 use Rattle.vub_session.specs.Table.{fits_inflight, kept_region, same_addresses}
 use Rattle.vub_session.specs.declared.finding.Found.{Found}

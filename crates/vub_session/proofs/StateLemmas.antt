@@ -2,13 +2,12 @@
 use Rattle.std.proofs.Common.{◌≡◌, ◌≢◌, ℕ, zero, suc, ◌<◌, ◌≤◌, Bool, true, false, length, replicate, refl, sym, ◌∙◌, ap, subst, arith, rules}
 use Rattle.std.specs.Prelude.{◌==◌, slice_index_or}
 use Rattle.std.proofs.lemmas.Bool.Decides.{nat_tests}
-use Rattle.std.proofs.lemmas.Grind.{common_steps}
 use Rattle.vub_blkreq.specs.declared.config.DeviceConfig.{DeviceConfig}
 use Rattle.vub_session.proofs.AttachLemmas.{new_not_ready}
 use Rattle.vub_session.proofs.SoundLemmas.{idle_candidate, set_here, set_there}
 use Rattle.vub_session.specs.Bounds.{RegionBounded, SizeBounded}
 use Rattle.vub_session.specs.Ready.{can_run, is_ready}
-use Rattle.vub_session.specs.Sound.{IsSound, Runs}
+use Rattle.vub_session.specs.Sound.{IsSound}
 use Rattle.vub_session.specs.State.{new_ring, new_state, new_terms, ring_at, with_ring}
 use Rattle.vub_session.specs.Table.{stopped, stopped_ring}
 use Rattle.vub_session.specs.declared.state.Ring.{Ring}

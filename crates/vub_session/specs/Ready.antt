@@ -1,6 +1,6 @@
 -- When a ring is ready, and where it lies (VIRTIO 1.2, 2.7 and 2.8; vhost-user, "Ring states" and "Inflight I/O tracking").
 use Rattle.std.specs.List.{range_with_len}
-use Rattle.std.specs.Prelude.{◌≡◌, ◌≤◌, ◌<◌, ℕ, zero, suc, ◌+◌, ◌*◌, ◌%◌, ◌==◌, ◌&&◌, ◌||◌, Bool, true, false, not, nat_lt, nat_le, is_some, is_none, if◌then◌else◌, List, map, Option, Some, None, option_and_then}
+use Rattle.std.specs.Prelude.{ℕ, zero, suc, ◌+◌, ◌*◌, ◌%◌, ◌==◌, ◌&&◌, ◌||◌, Bool, true, false, not, nat_lt, nat_le, is_some, is_none, if◌then◌else◌, List, map, Option, Some, None}
 use Rattle.vub_base.specs.declared.store.Space.{Space}
 use Rattle.vub_memtable.specs.declared.region.Mapped.{Mapped}
 use Rattle.vub_memtable.specs.Tables.{user_place}
@@ -82,8 +82,8 @@ with_desc (Some desc) avail used = with_avail desc avail used
 unfoldable pub parts_of : Bool → List Mapped → Addresses → ℕ → Option Parts
 parts_of packed table a n =
     with_desc (extent_place table a.desc (desc_size n) 16)
-        (extent_place table a.avail (avail_size packed n) (avail_alignment packed))
-        (extent_place table a.used (used_size packed n) 4)
+    (extent_place table a.avail (avail_size packed n) (avail_alignment packed))
+    (extent_place table a.used (used_size packed n) 4)
 
 -- where the queue's part of the in-flight region begins: the parts stand one behind the other, each for as many
 -- descriptors as the region tells

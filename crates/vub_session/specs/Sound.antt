@@ -1,6 +1,6 @@
 -- What holds of a session whatever messages came: its numbers are bounded, each ring that is ready is attached, and each
 -- attached ring lies where a queue can run.
-use Rattle.std.specs.Prelude.{◌≡◌, ◌≤◌, ℕ, Bool, true, IsSome, List}
+use Rattle.std.specs.Prelude.{◌≡◌, ◌≤◌, ℕ, true, IsSome, List}
 use Rattle.vub_memtable.specs.declared.region.Mapped.{Mapped}
 use Rattle.vub_session.specs.Bounds.{IsBounded}
 use Rattle.vub_session.specs.Ready.{can_run, is_ready, rings_of}

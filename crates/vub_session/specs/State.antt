@@ -1,5 +1,5 @@
 -- The words for what a session keeps.
-use Rattle.std.specs.Prelude.{◌≡◌, ◌≤◌, ◌<◌, ℕ, ◌+◌, ◌*◌, ◌/◌, ◌%◌, ◌^◌, ◌==◌, ◌&&◌, ◌||◌, Bool, true, false, not, nat_lt, nat_le, is_some, if◌then◌else◌, List, [], slice_index_or, slice_set, replicate, Option, Some, None}
+use Rattle.std.specs.Prelude.{◌≡◌, ◌<◌, ℕ, ◌/◌, ◌%◌, ◌==◌, Bool, true, false, nat_lt, if◌then◌else◌, [], slice_index_or, slice_set, replicate, Option, Some, None}
 use Rattle.std.specs.List.{list_any}
 use Rattle.vub_blkreq.specs.declared.features.TheConstants.Features as feature
 use Rattle.vub_blkreq.specs.declared.features.TheConstants.ProtocolFeatures as protocol_feature

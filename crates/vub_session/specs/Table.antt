@@ -1,7 +1,7 @@
 -- The message table: what each message of the front end does to a session, what it answers and what it refuses
 -- (QEMU's "Vhost-user Protocol").
 use Rattle.std.specs.Int.RustNames.{bit_and}
-use Rattle.std.specs.Prelude.{◌≡◌, ◌≤◌, ◌<◌, ℕ, ◌+◌, ◌*◌, ◌/◌, ◌%◌, ◌==◌, ◌&&◌, ◌||◌, Bool, true, false, not, nat_lt, nat_le, is_some, if◌then◌else◌, List, [], ◌∷◌, length, map, slice_range, Option, Some, None, option_map, unwrap_or}
+use Rattle.std.specs.Prelude.{ℕ, ◌+◌, ◌*◌, ◌/◌, ◌%◌, ◌==◌, ◌&&◌, ◌||◌, Bool, true, false, not, nat_lt, nat_le, is_some, if◌then◌else◌, List, [], ◌∷◌, length, slice_range, Option, Some, None, option_map, unwrap_or}
 use Rattle.std.specs.Option.{option_or}
 use Rattle.vub_blkreq.specs.Config.{config_bytes}
 use Rattle.vub_blkreq.specs.Features.{offered, offered_protocol}
@@ -150,7 +150,6 @@ with_enable s index num = ring_with_enable s.terms index num (ring_of s index)
 -- a queue that was stopped with this base: its ring is detached, and its kick is forgotten
 abbrev pub stopped_ring : ℕ → Ring → Ring
 stopped_ring base ring = record ring { base = Some base; has_kick = false; is_attached = false }
-
 
 abbrev pub with_base_reply : State → ℕ → Option Ring → Step
 with_base_reply s index None = refused_with s (refusals.Row GET_VRING_BASE) (bodies.State index 0)

@@ -17,4 +17,4 @@ mod tests;
 pub use handled::{Handled, Refusal, SessionFault};
 pub use names::Names;
 pub use session::Session;
-pub use state::{Addresses, KeptRegion, MAX_QUEUES, MAX_QUEUE_SIZE, Ring, State, Terms};
+pub use state::{Addresses, KeptRegion, MAX_QUEUE_SIZE, MAX_QUEUES, Ring, State, Terms};

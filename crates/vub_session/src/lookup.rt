@@ -51,11 +51,7 @@ fn find<M: Shared>(mem: &mut M, name: &str) -> Result<Found, SessionFault>
 }
 
 /// The spaces that the first so many names mean.
-fn find_all<M: Shared>(
-    mem: &mut M,
-    names: &Names,
-    count: usize,
-) -> Result<FoundList, SessionFault>
+fn find_all<M: Shared>(mem: &mut M, names: &Names, count: usize) -> Result<FoundList, SessionFault>
     requires names { count ≤ length names.now }
     requires few { count ≤ MAX_REGIONS }
     ensures count { IfOk result (λ all. length all.items ≡ count) }

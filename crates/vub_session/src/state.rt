@@ -2,11 +2,10 @@
 ghost use Rattle.std.specs.Prelude.{◌≡◌, ◌≤◌, ◌<◌, ◌/◌, ◌%◌, ◌==◌, IfSome, OnSome};
 ghost use Rattle.vub_session.specs.State as words;
 
+use crate::Refusal;
 use vub_base::Space;
 use vub_blkreq::{DeviceConfig, DeviceMode, Features, ProtocolFeatures};
 use vub_memtable::MemTable;
-
-use crate::Refusal;
 
 /// The most queues of a device.
 pub const MAX_QUEUES: usize = 16;

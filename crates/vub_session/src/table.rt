@@ -221,7 +221,11 @@ impl State {
         ensures kind { IfSome result.reply (λ body. kind_at GET_INFLIGHT_FD ≡ kind_of body) }
     {
         let made = self.has_inflight_numbers(inflight);
-        let size = if made { self.inflight_size(inflight) } else { 0 };
+        let size = if made {
+            self.inflight_size(inflight)
+        } else {
+            0
+        };
         let body = ReplyBody::Inflight(Inflight {
             size,
             offset: 0,

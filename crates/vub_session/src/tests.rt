@@ -162,7 +162,10 @@ fn features_are_offered(rt: HostRuntime) -> Result<(), Fail> {
 #[test]
 fn a_ring_past_the_queues(rt: HostRuntime) -> Result<(), Fail> {
     let mut front = new_front(rt.alloc(), 16, &[])?;
-    assert_eq!(rt; front.send(1, &Message::SetProtocol(0x1209)), Ok(Handled::Silent));
+    assert_eq!(rt;
+        front.send(1, &Message::SetProtocol(0x1209)),
+        Ok(Handled::Silent)
+    );
     assert_eq!(rt; front.session.refused(), None);
     let size = Message::SetNum { index: 99, num: 4 };
     assert_eq!(rt; front.send(9, &size), Ok(Handled::Ack(1)));
@@ -175,9 +178,15 @@ fn a_ring_past_the_queues(rt: HostRuntime) -> Result<(), Fail> {
 #[test]
 fn an_inflight_region(rt: HostRuntime) -> Result<(), Fail> {
     let mut front = new_front(rt.alloc(), 16, &["r", "r"])?;
-    assert_eq!(rt; front.send(1, &Message::SetProtocol(0x1209)), Ok(Handled::Silent));
+    assert_eq!(rt;
+        front.send(1, &Message::SetProtocol(0x1209)),
+        Ok(Handled::Silent)
+    );
     let made = reply(31, ReplyBody::Inflight(inflight(0x50, 1, 4)));
-    assert_eq!(rt; front.send(1, &Message::GetInflight(inflight(0, 1, 4))), made);
+    assert_eq!(rt;
+        front.send(1, &Message::GetInflight(inflight(0, 1, 4))),
+        made
+    );
     let given = Message::SetInflight(inflight(0x50, 1, 4));
     assert_eq!(rt; front.send(9, &given), Ok(Handled::Ack(0)));
     assert_eq!(rt; front.names.left(), 0);
@@ -218,7 +227,10 @@ fn refusals() -> [(u32, Message); 16] {
 fn rows_refuse(rt: HostRuntime) -> Result<(), Fail> {
     let names = ["mem", "mem", "mem", "mem"];
     let mut front = new_front(rt.alloc(), 2, &names)?;
-    assert_eq!(rt; front.send(1, &Message::SetProtocol(0x1209)), Ok(Handled::Silent));
+    assert_eq!(rt;
+        front.send(1, &Message::SetProtocol(0x1209)),
+        Ok(Handled::Silent)
+    );
     for (request, message) in &refusals() {
         assert_eq!(rt; front.send(9, message), Ok(Handled::Ack(1)));
         assert_eq!(rt; front.session.refused(), Some(Refusal::Row(*request)));
@@ -239,7 +251,10 @@ fn replies_refuse(rt: HostRuntime) -> Result<(), Fail> {
     assert_eq!(rt; front.send(1, &Message::GetConfig(config(250, 8, 8))), past);
     assert_eq!(rt; front.session.refused(), Some(Refusal::Row(24)));
     let no_region = reply(31, ReplyBody::Inflight(inflight(0, 3, 4)));
-    assert_eq!(rt; front.send(1, &Message::GetInflight(inflight(0x50, 3, 4))), no_region);
+    assert_eq!(rt;
+        front.send(1, &Message::GetInflight(inflight(0x50, 3, 4))),
+        no_region
+    );
     assert_eq!(rt; front.session.refused(), Some(Refusal::Row(31)));
     assert_eq!(rt; front.names.left(), 1);
     Ok(())
@@ -252,10 +267,16 @@ fn names_are_needed(rt: HostRuntime) -> Result<(), Fail> {
     assert_eq!(rt; front.send(1, &memory(0x1000)), Err(SessionFault::NoName));
     assert_eq!(rt; front.names.left(), 1);
     front.bell.fails = true;
-    assert_eq!(rt; front.send(1, &Message::SetCall(0)), Err(SessionFault::Bell));
+    assert_eq!(rt;
+        front.send(1, &Message::SetCall(0)),
+        Err(SessionFault::Bell)
+    );
     assert_eq!(rt; front.names.left(), 0);
     // a name comes before the test of the index
-    assert_eq!(rt; front.send(1, &Message::SetErr(9)), Err(SessionFault::NoName));
+    assert_eq!(rt;
+        front.send(1, &Message::SetErr(9)),
+        Err(SessionFault::NoName)
+    );
     assert_eq!(rt; front.session.refused(), None);
     Ok(())
 }
@@ -352,11 +373,26 @@ fn a_front_end_joins(rt: HostRuntime) -> Result<(), Fail> {
 fn attached_rings_stay(rt: HostRuntime) -> Result<(), Fail> {
     let mut front = shaken(rt.alloc())?;
     assert_eq!(rt; front.send(9, &enable(0)), Ok(Handled::Ack(0)));
-    assert_eq!(rt; front.send(9, &Message::SetNum { index: 0, num: 2 }), Ok(Handled::Ack(1)));
-    assert_eq!(rt; front.send(9, &Message::SetBase { index: 0, num: 8 }), Ok(Handled::Ack(1)));
-    assert_eq!(rt; front.send(9, &addresses(0, 0x1_0000_2004)), Ok(Handled::Ack(1)));
-    assert_eq!(rt; front.send(9, &addresses(0, 0x1_0000_2000)), Ok(Handled::Ack(0)));
-    assert_eq!(rt; front.send(9, &Message::SetFeatures(0)), Ok(Handled::Ack(1)));
+    assert_eq!(rt;
+        front.send(9, &Message::SetNum { index: 0, num: 2 }),
+        Ok(Handled::Ack(1))
+    );
+    assert_eq!(rt;
+        front.send(9, &Message::SetBase { index: 0, num: 8 }),
+        Ok(Handled::Ack(1))
+    );
+    assert_eq!(rt;
+        front.send(9, &addresses(0, 0x1_0000_2004)),
+        Ok(Handled::Ack(1))
+    );
+    assert_eq!(rt;
+        front.send(9, &addresses(0, 0x1_0000_2000)),
+        Ok(Handled::Ack(0))
+    );
+    assert_eq!(rt;
+        front.send(9, &Message::SetFeatures(0)),
+        Ok(Handled::Ack(1))
+    );
     let base = Message::GetBase { index: 0, num: 0 };
     assert_eq!(rt; front.send(1, &base), Ok(Handled::Drain(0)));
     if front.session.setup(0).is_some() {
@@ -365,6 +401,9 @@ fn attached_rings_stay(rt: HostRuntime) -> Result<(), Fail> {
     let stopped = reply(11, ReplyBody::State { index: 0, num: 9 });
     assert_eq!(rt; front.send(1, &base), stopped);
     assert_eq!(rt; front.session.setup(0), None);
-    assert_eq!(rt; front.send(9, &Message::SetNum { index: 0, num: 2 }), Ok(Handled::Ack(0)));
+    assert_eq!(rt;
+        front.send(9, &Message::SetNum { index: 0, num: 2 }),
+        Ok(Handled::Ack(0))
+    );
     Ok(())
 }

@@ -1,8 +1,7 @@
-use Rattle.std.proofs.Common.{◌≡◌, false, true, None, rules}
+use Rattle.std.proofs.Common.{◌≡◌, true, None, rules}
 use Rattle.vub_session.proofs.AttachLemmas.{attach_candidate, attach_ready}
 use Rattle.vub_session.proofs.SoundLemmas.{table_candidate}
-use Rattle.vub_session.specs.Ready.{attach, bad_ring}
-use Rattle.vub_session.specs.Sound.{IsCandidate, ReadyAttached}
+use Rattle.vub_session.specs.Ready.{bad_ring}
 use Rattle.vub_session.proofs.state.State.set_table.Goals as goal
 
 pub bad_ring-requires-clause-bounded : goal.bad_ring-requires-clause-bounded

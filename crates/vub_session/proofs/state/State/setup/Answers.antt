@@ -1,4 +1,4 @@
-use Rattle.std.proofs.Common.{◌≡◌, Bool, true, false, Option, Some, None, IsSome, ap, ◌∙◌, subst, arith, rules}
+use Rattle.std.proofs.Common.{IsSome, ap, ◌∙◌, arith, rules}
 use Rattle.vub_session.proofs.SetupLemmas.{ready_fits, ready_lies, ready_given, size_known}
 use Rattle.vub_session.specs.Ready.{rings_of}
 use Rattle.vub_session.specs.State.{ring_at}

@@ -1,7 +1,5 @@
-use Rattle.std.proofs.Common.{◌≡◌, ◌≤◌, ◌&&◌, Bool, false, true, not, arith, rules}
-use Rattle.vub_session.proofs.SoundLemmas.{Known, addresses_set}
-use Rattle.vub_session.specs.State.{is_running}
-use Rattle.vub_session.specs.Table.{same_addresses}
+use Rattle.std.proofs.Common.{rules}
+use Rattle.vub_session.proofs.SoundLemmas.{addresses_set}
 use Rattle.vub_session.proofs.state.State.with_addresses.Goals as goal
 
 pub returns-clause-candidate : goal.returns-clause-candidate

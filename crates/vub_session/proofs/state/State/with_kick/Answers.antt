@@ -1,7 +1,4 @@
-use Rattle.std.proofs.Common.{◌≡◌, ◌≤◌, ◌&&◌, Bool, false, true, not, arith, rules}
-use Rattle.vub_session.proofs.SoundLemmas.{Known, kick_set}
-use Rattle.vub_session.specs.State.{is_running}
-use Rattle.vub_session.specs.Table.{same_addresses}
+use Rattle.vub_session.proofs.SoundLemmas.{kick_set}
 use Rattle.vub_session.proofs.state.State.with_kick.Goals as goal
 
 pub returns-clause-candidate : goal.returns-clause-candidate
