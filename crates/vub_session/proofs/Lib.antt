@@ -6,3 +6,4 @@ pub mod MappedLemmas
 pub mod StateLemmas
 pub mod FindLemmas
 pub mod LieLemmas
+pub mod HeldLemmas

@@ -66,7 +66,7 @@ size_at t i r count below here there q false e =
     let R : Ring → Type 0 = λ x. SizeBounded x.size in
     subst R (sym (set_there t i q r other)) (there q)
 
-set_region : (t : Terms) (i : ℕ) (r : Ring) → (with_ring t i r).region ≡ t.region
+pub set_region : (t : Terms) (i : ℕ) (r : Ring) → (with_ring t i r).region ≡ t.region
 unfolding with_ring
 set_region t i r = refl
 

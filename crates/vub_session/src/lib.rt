@@ -4,6 +4,7 @@
 
 mod finding;
 mod handled;
+pub mod laws;
 mod lookup;
 mod names;
 mod ready;
