@@ -32,7 +32,7 @@ least_none p (suc n) k none below = let parts : (least p n ≡ None) × (p n ≡
 
 -- ---- rings after it
 
-attached_here : (t : Terms) (index : ℕ) → index < MAX_QUEUES → ring_at (attach t) index ≡ attached t index
+pub attached_here : (t : Terms) (index : ℕ) → index < MAX_QUEUES → ring_at (attach t) index ≡ attached t index
 unfolding attach
 attached_here t index below = get_or-map-range_with_len (attached t) 0 MAX_QUEUES index index new_ring below (omega arith)
 

@@ -1,7 +1,8 @@
 -- The spaces of a session stay those that were handed out.
 use Rattle.std.proofs.Common.{◌≡◌, ℕ, zero, suc, ◌<◌, ◌≤◌, Bool, true, false, not, List, [], ◌∷◌, length, Option, Some, None, refl, sym, ◌∙◌, ap, subst, arith, rules}
 use Rattle.std.specs.Prelude.{◌==◌, ◌&&◌, ◌||◌, nat_lt, if◌then◌else◌, option_map, is_some}
-use Rattle.std.specs.Prelude.{All}
+use Rattle.std.specs.Prelude.{All, slice_get, slice_index_or}
+use Rattle.vub_session.specs.Finds.{AreFound}
 use Rattle.std.proofs.lemmas.List.Elements.{All-nil, All-cons}
 use Rattle.std.specs.Option.{ForSome}
 use Rattle.vub_memtable.specs.Tables.{fault_of}
@@ -18,7 +19,7 @@ use Rattle.vub_session.specs.declared.state.KeptRegion.{KeptRegion}
 use Rattle.vub_session.specs.declared.state.Ring.{Ring}
 use Rattle.vub_session.specs.declared.state.State.{State}
 use Rattle.vub_session.specs.declared.state.Terms.{Terms}
-use Rattle.vub_shared.specs.Spaces.{KeepsHanded}
+use Rattle.vub_shared.specs.Spaces.{KeepsHanded, Names}
 use Rattle.vub_wire.specs.Grammar.{number_of}
 use Rattle.vub_wire.specs.declared.messages.Config.{Config}
 use Rattle.vub_wire.specs.declared.messages.Header.{Header}
@@ -202,3 +203,20 @@ sized_region h z (Some r) held = held.1
 
 pub held_sized : (h : ℕ → Bool) (z : ℕ → ℕ) (s : State) → AreHeld h z s → AreSized z s
 held_sized h z s held = record { table = λ k d below. (held.table k d below).1; region = sized_region h z s.terms.region held.region }
+
+-- ---- what was found
+
+some_at : (names : List (List ℕ)) (k : ℕ) → k < length names → slice_get names k ≡ Some (slice_index_or names k [])
+some_at [] k below = absurd (omega arith)
+some_at (x ∷ xs) zero below = refl
+some_at (x ∷ xs) (suc k) below = some_at xs k (omega arith)
+
+found_at : (fs : List Found) (k : ℕ) (d : Found) → k < length fs → slice_get fs k ≡ Some (slice_index_or fs k d)
+found_at [] k d below = absurd (omega arith)
+found_at (x ∷ xs) zero d below = refl
+found_at (x ∷ xs) (suc k) d below = found_at xs k d (omega arith)
+
+pub found_held : (told : Option Names) (h : ℕ → Bool) (z : ℕ → ℕ) (names : List (List ℕ)) (fs : List Found) → AreFound told h z names fs → length fs ≤ length names → All (IsFoundHeld h z) fs
+found_held told h z names fs found few = λ k d below.
+    let one = found k (slice_index_or names k []) (slice_index_or fs k d) (some_at names k (omega arith)) (found_at fs k d below) in
+    (one.is_handed, one.sized)

@@ -7,3 +7,4 @@ pub mod StateLemmas
 pub mod FindLemmas
 pub mod LieLemmas
 pub mod HeldLemmas
+pub mod KeepLemmas

@@ -111,7 +111,7 @@ same_record a b desc avail used =
     let make : ℕ → ℕ → ℕ → Addresses = λ x y z. record { desc = x; avail = y; used = z } in
     sym (ap (λ x. make x a.avail a.used) desc ∙ ap (λ y. make b.desc y a.used) avail ∙ ap (λ z. make b.desc b.avail z) used)
 
-same_given : (a : Addresses) (given : Option Addresses) → same_addresses a given ≡ true → given ≡ Some a
+pub same_given : (a : Addresses) (given : Option Addresses) → same_addresses a given ≡ true → given ≡ Some a
 same_given a None same = cc
 same_given a (Some b) same =
     let desc : a.desc ≡ b.desc = grind (arith, nat_tests) in
@@ -176,7 +176,7 @@ pub base_set : (queues base : ℕ) (table : List Mapped) (t : Terms) (i : ℕ) (
     → ForSome (Some (with_ring t i (record r { base = Some base }))) (IsCandidate queues table)
 base_set queues base table t i r h idle = some_candidate queues table _ (idle_candidate queues table t i (record r { base = Some base }) h.below h.old (size_known queues table t i r h) idle)
 
-same_if : (attached same : Bool) → (attached && not same) ≡ false → attached ≡ true → same ≡ true
+pub same_if : (attached same : Bool) → (attached && not same) ≡ false → attached ≡ true → same ≡ true
 same_if true true e is = refl
 same_if true false e is = cc
 same_if false same e is = absurd (cc)

@@ -1,5 +1,6 @@
 pub mod Bounds
 pub mod Finds
+pub mod Keeps
 pub mod Lies
 pub mod Ready
 pub mod Sent

@@ -2,6 +2,7 @@
 ghost use Rattle.std.specs.Option.{ForSome};
 ghost use Rattle.std.specs.Prelude.{◌≡◌, ◌≤◌, ◌<◌, ◌^◌};
 ghost use Rattle.vub_blkreq.specs.Features.{offered, offered_protocol};
+ghost use Rattle.vub_session.specs.Keeps.{KeepsAttached};
 ghost use Rattle.vub_session.specs.Sound.{IsCandidate};
 ghost use Rattle.vub_session.specs.Table as table;
 
@@ -97,6 +98,7 @@ impl State {
         requires sound { IsCandidate self.now.config.queues self.now.table self.now.terms }
         ensures is { result ≡ table.with_size self.now index num }
         ensures candidate { ForSome result (IsCandidate self.now.config.queues self.now.table) }
+        ensures keeps { ForSome result (KeepsAttached self.now.terms) }
     {
         let ring = self.ring(index)?;
         if ring.is_attached || !is_queue_size(num) {
@@ -113,6 +115,7 @@ impl State {
         requires sound { IsCandidate self.now.config.queues self.now.table self.now.terms }
         ensures is { result ≡ table.with_addresses self.now index addresses }
         ensures candidate { ForSome result (IsCandidate self.now.config.queues self.now.table) }
+        ensures keeps { ForSome result (KeepsAttached self.now.terms) }
     {
         let ring = self.ring(index)?;
         if ring.is_attached && !addresses.are(ring.addresses) {
@@ -129,6 +132,7 @@ impl State {
         requires sound { IsCandidate self.now.config.queues self.now.table self.now.terms }
         ensures is { result ≡ table.with_base self.now index base }
         ensures candidate { ForSome result (IsCandidate self.now.config.queues self.now.table) }
+        ensures keeps { ForSome result (KeepsAttached self.now.terms) }
     {
         let ring = self.ring(index)?;
         if ring.is_attached {
@@ -145,6 +149,7 @@ impl State {
         requires sound { IsCandidate self.now.config.queues self.now.table self.now.terms }
         ensures is { result ≡ table.with_kick self.now word }
         ensures candidate { ForSome result (IsCandidate self.now.config.queues self.now.table) }
+        ensures keeps { ForSome result (KeepsAttached self.now.terms) }
     {
         let index = queue_in(word);
         let ring = self.ring(index)?;
@@ -159,6 +164,7 @@ impl State {
         requires sound { IsCandidate self.now.config.queues self.now.table self.now.terms }
         ensures is { result ≡ table.with_call self.now word }
         ensures candidate { ForSome result (IsCandidate self.now.config.queues self.now.table) }
+        ensures keeps { ForSome result (KeepsAttached self.now.terms) }
     {
         let index = queue_in(word);
         let ring = self.ring(index)?;
@@ -185,6 +191,7 @@ impl State {
         requires sound { IsCandidate self.now.config.queues self.now.table self.now.terms }
         ensures is { result ≡ table.with_enable self.now index num }
         ensures candidate { ForSome result (IsCandidate self.now.config.queues self.now.table) }
+        ensures keeps { ForSome result (KeepsAttached self.now.terms) }
     {
         let ring = self.ring(index)?;
         if 1 < num {
