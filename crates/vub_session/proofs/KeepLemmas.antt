@@ -1,11 +1,13 @@
 -- An attached ring stays as it was, whatever message comes.
 use Rattle.std.proofs.Common.{◌≡◌, ◌≢◌, ℕ, zero, suc, ◌<◌, ◌≤◌, Bool, true, false, not, List, [], ◌∷◌, length, Option, Some, None, refl, sym, ◌∙◌, ap, subst, arith, rules}
-use Rattle.std.specs.Prelude.{◌==◌, ◌&&◌, ◌||◌, nat_lt, if◌then◌else◌, option_map, is_some}
+use Rattle.std.specs.Prelude.{◌==◌, ◌&&◌, ◌||◌, nat_lt, if◌then◌else◌, option_map, is_some, slice_index_or}
 use Rattle.std.specs.Option.{ForSome}
 use Rattle.std.proofs.lemmas.Bool.Decides.{nat_tests}
 use Rattle.std.proofs.lemmas.List.{get_or_past}
 use Rattle.vub_session.proofs.AttachLemmas.{attached_here}
 use Rattle.vub_session.proofs.SoundLemmas.{set_here, set_there}
+use Rattle.vub_memtable.specs.declared.region.Mapped.{Mapped}
+use Rattle.vub_session.specs.Sound.{IsCandidate}
 use Rattle.vub_session.specs.Keeps.{KeepsAttached, StaysAttached}
 use Rattle.vub_session.specs.Ready.{attach, is_ready}
 use Rattle.vub_session.specs.State.{new_ring, ring_at, with_ring}
@@ -63,3 +65,15 @@ held_keeps t i old r count below at stays = λ x e.
     let P : Terms → Type 0 = λ y. KeepsAttached t y in
     let R : Ring → Type 0 = λ o. o.is_attached ≡ true → StaysAttached o r in
     subst P same (ring_keeps t i r count below (subst R at stays))
+
+pub none_changes : (t : Terms) → KeepsAttached t t
+none_changes t = λ q is. itself (ring_at t q) is
+
+pub same_keeps : (t u : Terms) → u.rings ≡ t.rings → ForSome (Some u) (KeepsAttached t)
+same_keeps t u same = λ x e.
+    let is : u ≡ x = cc in
+    let P : Terms → Type 0 = λ y. KeepsAttached t y in
+    subst P is (λ q attached. let R : List Ring → Type 0 = λ rs. StaysAttached (ring_at t q) (slice_index_or rs q new_ring) in subst R (sym same) (itself (ring_at t q) attached))
+
+pub settled_keeps : (queues : ℕ) (table : List Mapped) (t u : Terms) → IsCandidate queues table u → KeepsAttached t u → KeepsAttached t (attach u)
+settled_keeps queues table t u candidate keeps = keeps_after t u (attach u) keeps (attach_keeps u candidate.bounded.count)

@@ -64,6 +64,7 @@ impl State {
         requires { IsCandidate self.now.config.queues self.now.table self.now.terms }
         ensures is { result ≡ table.with_features self.now set }
         ensures candidate { ForSome result (IsCandidate self.now.config.queues self.now.table) }
+        ensures keeps { ForSome result (KeepsAttached self.now.terms) }
     {
         let offer = offered_features(self.config.read_only);
         if !is_offered(set, offer.0) || self.terms.is_running() {
@@ -81,6 +82,7 @@ impl State {
         requires { IsCandidate self.now.config.queues self.now.table self.now.terms }
         ensures is { result ≡ table.with_protocol self.now set }
         ensures candidate { ForSome result (IsCandidate self.now.config.queues self.now.table) }
+        ensures keeps { ForSome result (KeepsAttached self.now.terms) }
     {
         if !is_offered(set, offered_protocol_features().0) || self.terms.is_running() {
             return None;
@@ -179,6 +181,7 @@ impl State {
         requires sound { IsCandidate self.now.config.queues self.now.table self.now.terms }
         ensures is { result ≡ table.with_err self.now word }
         ensures candidate { ForSome result (IsCandidate self.now.config.queues self.now.table) }
+        ensures keeps { ForSome result (KeepsAttached self.now.terms) }
     {
         let _ring = self.ring(queue_in(word))?;
         Some(self.terms)
@@ -236,6 +239,7 @@ impl State {
         requires { IsCandidate self.now.config.queues self.now.table self.now.terms }
         ensures is { result ≡ table.with_region self.now inflight.now found.now }
         ensures candidate { ForSome result (IsCandidate self.now.config.queues self.now.table) }
+        ensures keeps { ForSome result (KeepsAttached self.now.terms) }
     {
         let Some(found) = found.first() else {
             return None;

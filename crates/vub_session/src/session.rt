@@ -4,6 +4,7 @@ ghost use Rattle.vub_session.specs.Finds.{AreAnswered, BellIs, HasFindReason, On
 ghost use Rattle.vub_session.specs.declared.finding.Found.{Found};
 ghost use Rattle.vub_session.specs.declared.handled.Handled.TheVariants.{Drain};
 ghost use Rattle.vub_session.specs.declared.handled.SessionFault.TheVariants as faults;
+ghost use Rattle.vub_session.specs.Keeps.{KeepsAttached};
 ghost use Rattle.vub_session.specs.Lies.{AreSized};
 ghost use Rattle.vub_session.specs.Sent.{IsSent};
 ghost use Rattle.vub_session.specs.Setup.{queue_ready, setup_of};
@@ -149,6 +150,8 @@ impl Session {
         ensures answers { table.drained self.old message.now ≡ None → IfOk result (λ handled. (found : List Found) × AreAnswered M.told M.trail M.names M.handed M.sizes mem.old mem.new (table.created self.old message.now) (table.looked_up message.now) names.old found × ((self.new, handled) ≡ table.answered self.old header.now message.now found)) }
         ensures fault { OnErr result (self.new ≡ self.old) }
         ensures kind { IfOk result IsSent }
+        // An attached ring stays attached, with its size, addresses and base, until it is stopped.
+        ensures keeps { KeepsAttached self.old.terms self.new.terms }
 
         // The names are taken, whatever comes of them.
         ensures names { names.new ≡ drop (table.names_taken self.old message.now) names.old }

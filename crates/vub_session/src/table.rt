@@ -2,6 +2,7 @@
 ghost use Rattle.std.specs.Option.{ForSome};
 ghost use Rattle.std.specs.Prelude.{◌≡◌, ◌≤◌, ◌<◌, Some, None, IfSome, OnSome, length, true};
 ghost use Rattle.vub_session.specs.Sound.{IsCandidate, IsSound};
+ghost use Rattle.vub_session.specs.Keeps.{KeepsAttached};
 ghost use Rattle.vub_session.specs.Sent.{IsSent};
 ghost use Rattle.vub_session.specs.Table as table;
 ghost use Rattle.vub_wire.specs.Grammar.{number_of};
@@ -115,15 +116,17 @@ fn mapped(regions: &[Region], found: &[Found]) -> ArrayVec<Mapped, MAX_REGIONS>
 
 impl State {
     /// Takes these terms, with each ring attached that is ready; or refuses the request.
-    #[tactic(auto, unfolding(crate::specs::Table::settled), using(crate::proofs::AttachLemmas::attach_candidate, crate::proofs::AttachLemmas::attach_ready))]
+    #[tactic(auto, unfolding(crate::specs::Table::settled), using(crate::proofs::AttachLemmas::attach_candidate, crate::proofs::AttachLemmas::attach_ready, crate::proofs::KeepLemmas::none_changes, crate::proofs::KeepLemmas::settled_keeps))]
     fn settle(&mut self, request: u32, terms: Option<Terms>) -> Row
         requires sound { IsSound self.old }
         requires candidate { ForSome terms (IsCandidate self.old.config.queues self.old.table) }
+        requires keeps { ForSome terms (KeepsAttached self.old.terms) }
         ensures next { self.new ≡ (table.settled self.old request terms).next }
         ensures row { result ≡ (table.settled self.old request terms).row }
         ensures no_reply { result.reply ≡ None }
         ensures refused { OnSome result.cause (self.new ≡ self.old) }
         ensures sound { IsSound self.new }
+        ensures keeps { KeepsAttached self.old.terms self.new.terms }
     {
         let Some(terms) = terms else {
             return refused(Refusal::Row(request));
@@ -144,6 +147,7 @@ impl State {
         ensures no_reply { result.reply ≡ None }
         ensures refused { OnSome result.cause (self.new ≡ self.old) }
         ensures sound { IsSound self.new }
+        ensures keeps { KeepsAttached self.old.terms self.new.terms }
     {
         let mut table = MemTable::new();
         if self.terms.is_running() || table.set(regions).is_err() {
@@ -242,7 +246,7 @@ impl State {
 impl State {
     /// What the row of a message makes of the session, and answers. `found` is what its look-ups or its
     /// creation answered.
-    #[tactic(auto, unfolding(crate::specs::Table::step))]
+    #[tactic(auto, unfolding(crate::specs::Table::step), using(crate::proofs::KeepLemmas::none_changes))]
     fn step(&mut self, message: &Message, found: &[Found]) -> Row
         requires { IsSound self.old }
         ensures next { self.new ≡ (table.step self.old message.now found.now).next }
@@ -252,6 +256,7 @@ impl State {
         // A reply is of the kind that its request has.
         ensures kind { IfSome result.reply (λ body. kind_at (number_of message.now) ≡ kind_of body) }
         ensures sound { IsSound self.new }
+        ensures keeps { KeepsAttached self.old.terms self.new.terms }
     {
         match message {
             Message::GetFeatures => {
@@ -282,6 +287,7 @@ impl State {
         requires sound { IsCandidate self.now.config.queues self.now.table self.now.terms }
         ensures is { result ≡ table.next_terms self.now message.now found.now }
         ensures candidate { ForSome result (IsCandidate self.now.config.queues self.now.table) }
+        ensures keeps { ForSome result (KeepsAttached self.now.terms) }
     {
         match message {
             Message::SetFeatures(set) => self.with_features(*set),
@@ -411,6 +417,7 @@ impl State {
         ensures handled { result ≡ (table.answered self.old header.now message.now found.now).1 }
         ensures kind { IsSent result }
         ensures sound { IsSound self.new }
+        ensures keeps { KeepsAttached self.old.terms self.new.terms }
     {
         let row = self.step(message, found);
         self.send_back(header, number_of(message), row)
