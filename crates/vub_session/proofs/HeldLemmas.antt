@@ -1,6 +1,6 @@
 -- The spaces of a session stay those that were handed out.
-use Rattle.std.proofs.Common.{◌≡◌, ℕ, zero, suc, ◌<◌, ◌≤◌, Bool, true, false, not, List, [], ◌∷◌, length, Option, Some, None, refl, sym, ◌∙◌, ap, subst, arith, rules}
-use Rattle.std.specs.Prelude.{◌==◌, ◌&&◌, ◌||◌, nat_lt, if◌then◌else◌, option_map, is_some}
+use Rattle.std.proofs.Common.{◌≡◌, ℕ, zero, suc, ◌<◌, ◌≤◌, Bool, true, false, List, [], ◌∷◌, length, Option, Some, None, refl, sym, ◌∙◌, ap, subst, arith}
+use Rattle.std.specs.Prelude.{◌==◌, ◌||◌, if◌then◌else◌, option_map, is_some}
 use Rattle.std.specs.Prelude.{All, slice_get, slice_index_or}
 use Rattle.vub_session.specs.Finds.{AreFound}
 use Rattle.std.proofs.lemmas.List.Elements.{All-nil, All-cons}
@@ -12,7 +12,7 @@ use Rattle.vub_session.specs.Lies.{AreHeld, AreSized, IsFoundHeld, IsMappedHeld,
 use Rattle.vub_session.specs.Ready.{attach, bad_ring}
 use Rattle.vub_session.specs.State.{is_running, ring_of, with_ring}
 use Rattle.vub_session.proofs.SoundLemmas.{set_region}
-use Rattle.vub_session.specs.Table.{Step, answered, base_reply, config_reply, fits_inflight, inflight_reply, is_config_part, has_inflight_numbers, mapped, next_terms, ring_with_addresses, ring_with_base, ring_with_call, ring_with_enable, ring_with_kick, ring_with_size, settled, settled_over, step, table_set, unless_bad, with_addresses, with_base, with_base_reply, with_call, with_enable, with_err, with_features, with_found_region, with_kick, with_protocol, with_region, with_size}
+use Rattle.vub_session.specs.Table.{Step, answered, base_reply, config_reply, inflight_reply, is_config_part, has_inflight_numbers, mapped, next_terms, ring_with_addresses, ring_with_base, ring_with_call, ring_with_enable, ring_with_kick, ring_with_size, settled, settled_over, step, table_set, unless_bad, with_addresses, with_base, with_base_reply, with_call, with_enable, with_err, with_features, with_found_region, with_kick, with_protocol, with_region, with_size}
 use Rattle.vub_session.specs.declared.finding.Found.{Found}
 use Rattle.vub_session.specs.declared.state.Addresses.{Addresses}
 use Rattle.vub_session.specs.declared.state.KeptRegion.{KeptRegion}
@@ -20,7 +20,6 @@ use Rattle.vub_session.specs.declared.state.Ring.{Ring}
 use Rattle.vub_session.specs.declared.state.State.{State}
 use Rattle.vub_session.specs.declared.state.Terms.{Terms}
 use Rattle.vub_shared.specs.Spaces.{KeepsHanded, Names}
-use Rattle.vub_wire.specs.Grammar.{number_of}
 use Rattle.vub_wire.specs.declared.messages.Config.{Config}
 use Rattle.vub_wire.specs.declared.messages.Header.{Header}
 use Rattle.vub_wire.specs.declared.messages.Inflight.{Inflight}

@@ -1,4 +1,4 @@
-use Rattle.std.proofs.Common.{refl, sym, rules}
+use Rattle.std.proofs.Common.{refl}
 use Rattle.vub_session.proofs.SoundLemmas.{call_set}
 use Rattle.vub_session.proofs.KeepLemmas.{held_keeps}
 use Rattle.vub_session.proofs.state.State.with_call.Goals as goal
