@@ -1,0 +1,10 @@
+pub mod ReadyLemmas
+pub mod SoundLemmas
+pub mod AttachLemmas
+pub mod SetupLemmas
+pub mod MappedLemmas
+pub mod StateLemmas
+pub mod FindLemmas
+pub mod LieLemmas
+pub mod HeldLemmas
+pub mod KeepLemmas

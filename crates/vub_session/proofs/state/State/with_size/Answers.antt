@@ -1,0 +1,10 @@
+use Rattle.std.proofs.Common.{arith, rules}
+use Rattle.vub_session.proofs.SoundLemmas.{size_set}
+use Rattle.vub_session.proofs.KeepLemmas.{held_keeps}
+use Rattle.vub_session.proofs.state.State.with_size.Goals as goal
+
+pub returns-clause-candidate : goal.returns-clause-candidate
+returns-clause-candidate c = rw c.with_ring.ensures (size_set c.args.self.now.config.queues c.args.num c.args.self.now.table c.args.self.now.terms c.args.index c.in_ok-ring.ring (record { below = c.in_ok-ring.ensures.below; old = c.requires.sound; at = c.in_ok-ring.ensures.at }) (search rules) (search rules) (search rules))
+
+pub returns-clause-keeps : goal.returns-clause-keeps
+returns-clause-keeps c = rw c.with_ring.ensures (held_keeps c.args.self.now.terms _ c.in_ok-ring.ring _ c.requires.sound.bounded.count c.in_ok-ring.ensures.below c.in_ok-ring.ensures.at (λ is. absurd (grind arith)))

@@ -1,0 +1,10 @@
+pub mod Bounds
+pub mod Finds
+pub mod Keeps
+pub mod Lies
+pub mod Ready
+pub mod Sent
+pub mod Setup
+pub mod Sound
+pub mod State
+pub mod Table

@@ -1,0 +1,7 @@
+//! What a queue is made from: where its rings and its part of the in-flight region lie, and where it
+//! begins (VIRTIO 1.2, 2.7 and 2.8; vhost-user, "Inflight I/O tracking").
+#![tactic(auto)]
+
+mod setup;
+
+pub use setup::{PackedRegion, QueueSetup, Rings, SplitRegion, region_size};

@@ -1,0 +1,64 @@
+ghost use Rattle.std.specs.Prelude.{◌≡◌, ◌<◌, ◌^◌};
+ghost use Rattle.vub_setup.specs.Setups as setups;
+
+use vub_base::Space;
+use vub_packed::PackedRing;
+use vub_split::SplitRing;
+
+/// The bytes of a split queue's region before its entries, and of each entry.
+const SPLIT_REGION_PART: u64 = 16;
+
+/// The same of a packed queue's region.
+const PACKED_REGION_PART: u64 = 32;
+
+/// Where the region of a split queue lies: its space and place in bytes, a multiple of 8, and how many
+/// descriptors it has entries for.
+#[derive(Clone, Copy, Debug, PartialEq, Eq)]
+pub struct SplitRegion {
+    pub space: Space,
+    pub place: u64,
+    pub size: u16,
+}
+
+/// Where the region of a packed queue lies.
+#[derive(Clone, Copy, Debug, PartialEq, Eq)]
+pub struct PackedRegion {
+    pub space: Space,
+    pub place: u64,
+    pub size: u16,
+}
+
+/// The rings of a queue, with its region. Both have the same size.
+#[derive(Clone, Copy, Debug, PartialEq, Eq)]
+pub enum Rings {
+    Split(SplitRing, SplitRegion),
+    Packed(PackedRing, PackedRegion),
+}
+
+/// What a queue is made from.
+#[derive(Clone, Copy, Debug, PartialEq, Eq)]
+pub struct QueueSetup {
+    /// The index of the queue.
+    pub index: u16,
+    pub rings: Rings,
+    /// Where the device goes on: the avail index of a split ring; of a packed one the avail index and
+    /// its wrap counter in bits 0 to 15, and the used index with its own in bits 16 to 31.
+    pub base: u32,
+    /// Whether descriptors may name tables.
+    pub indirect: bool,
+    /// Whether the driver is told of what was published.
+    pub bell: bool,
+}
+
+/// The bytes of the region of a queue with `size` descriptors.
+pub fn region_size(packed: bool, size: u16) -> u64
+    ensures is { result ≡ setups.region_size packed size }
+    ensures fits { result < 2 ^ 32 }
+{
+    let part = if packed {
+        PACKED_REGION_PART
+    } else {
+        SPLIT_REGION_PART
+    };
+    part + part * u64::from(size)
+}
