@@ -23,7 +23,7 @@ use Rattle.vub_queue.specs.declared.queue.Queue.{Queue}
 use Rattle.vub_split.specs.declared.split.SplitRing.{SplitRing}
 use Rattle.vub_report.specs.declared.items.Item.TheVariants as items
 use Rattle.vub_report.specs.declared.items.Record.{Record}
-use Rattle.vub_guest.specs.GuestState.{driver_in, seen_in}
+use Rattle.vub_guest.specs.GuestState.{driver_in, last_used_in}
 use Rattle.vub_world.specs.OutstandingRequests.{offered_in, collected_in, size_in, slot_in}
 use Rattle.vub_world.specs.MachineAt.{AskAt, LifeAt, AttachedAt, MachineAt, IsStanding}
 use Rattle.vub_run.specs.Moments.{Lane, Moment}
@@ -43,8 +43,8 @@ with_taken w memory guest' outstanding = record w { memory = memory; guest = gue
 
 -- ---- nothing is shown
 
-pub none_performs : (w : Machine) (memory : WatchedShared) (guest' : Guest) (m : Moment) → MachineAt w m → bytes_in memory ≡ bytes_in w.memory → used_idx (the_ring w.header.size) (bytes_in w.memory) ≡ seen_in w.guest
-    → driver_in guest' ≡ driver_in w.guest → seen_in guest' ≡ seen_in w.guest
+pub none_performs : (w : Machine) (memory : WatchedShared) (guest' : Guest) (m : Moment) → MachineAt w m → bytes_in memory ≡ bytes_in w.memory → used_idx (the_ring w.header.size) (bytes_in w.memory) ≡ last_used_in w.guest
+    → driver_in guest' ≡ driver_in w.guest → last_used_in guest' ≡ last_used_in w.guest
     → (next : Moment) × (played (items.Idle ∷ []) next ≡ collect w.header 0 m) × MachineAt (with_taken w memory guest' w.outstanding) next
 none_performs w memory guest' m at bytes shown driver position =
     let h : Header1 = w.header in
@@ -107,7 +107,7 @@ head_plays h m x xs number is sees =
     here ∙ sym (ap (λ (ys : List (ℕ × ℕ)). take_first h 0 ys m) sees)
 
 -- an element that is shown and not taken is that of a request that isn't collected
-pub one_is_left : (w : Machine) → IsStanding w → used_idx (the_ring w.header.size) (bytes_in w.memory) ≢ seen_in w.guest → collected_in w.outstanding < offered_in w.outstanding
+pub one_is_left : (w : Machine) → IsStanding w → used_idx (the_ring w.header.size) (bytes_in w.memory) ≢ last_used_in w.guest → collected_in w.outstanding < offered_in w.outstanding
 one_is_left w stood shown =
     let h : Header1 = w.header in
     let r : Ring = the_ring h.size in
@@ -128,8 +128,8 @@ one_is_left w stood shown =
     omega (arith, at.outstanding.collects_are, at.outstanding.offers_are, more, known.fewer, known.offered)
 
 pub head_performs : (w : Machine) (memory : WatchedShared) (guest' : Guest) (outstanding : OutstandingRequests) (es : List Event) (rs : List Record) (m : Moment) (head : ℕ) → Stands w.header es rs m → MachineAt w m → bytes_in memory ≡ bytes_in w.memory
-    → used_idx (the_ring w.header.size) (bytes_in w.memory) ≢ seen_in w.guest → head ≡ (element_at (the_ring w.header.size) (bytes_in w.memory) (seen_in w.guest)).0 % 65536
-    → driver_in guest' ≡ after_collect head (driver_in w.guest) → seen_in guest' ≡ (seen_in w.guest + 1) % 65536 → TakesOne w.outstanding outstanding
+    → used_idx (the_ring w.header.size) (bytes_in w.memory) ≢ last_used_in w.guest → head ≡ (element_at (the_ring w.header.size) (bytes_in w.memory) (last_used_in w.guest)).0 % 65536
+    → driver_in guest' ≡ after_collect head (driver_in w.guest) → last_used_in guest' ≡ (last_used_in w.guest + 1) % 65536 → TakesOne w.outstanding outstanding
     → (next : Moment) × (played (items.Made (entries.Collect 0 (slot_in w.outstanding head).number) ∷ []) next ≡ collect w.header 0 m) × MachineAt (with_taken w memory guest' outstanding) next
 head_performs w memory guest' outstanding es rs m head s at bytes shown head_is driver position takes =
     let h : Header1 = w.header in
@@ -155,8 +155,8 @@ head_performs w memory guest' outstanding es rs m head s at bytes shown head_is 
     let low : slice_index (m.scene.heads 0) k < h.size = good.holds.driven.below k (record { below = there; kept = kept }) in
     let first : x.0 ≡ slice_index (m.scene.heads 0) k = t.head in
     let small : h.size ≤ 64 = plain.good.size.small in
-    let read : (element_at r (bytes_in w.memory) (seen_in w.guest)).0 ≡ x.0 =
-    ap (λ (b : Bytes). (element_at r b (seen_in w.guest)).0) at.front.memory ∙ ap (λ (i : ℕ). (element_at r m.scene.memory i).0) at.position ∙ ap (λ (y : ℕ × ℕ). y.0) (same_element r m.scene.memory p) in
+    let read : (element_at r (bytes_in w.memory) (last_used_in w.guest)).0 ≡ x.0 =
+    ap (λ (b : Bytes). (element_at r b (last_used_in w.guest)).0) at.front.memory ∙ ap (λ (i : ℕ). (element_at r m.scene.memory i).0) at.position ∙ ap (λ (y : ℕ × ℕ). y.0) (same_element r m.scene.memory p) in
     let is_first : head ≡ x.0 = omega (arith, head_is, read, first, low, small) in
     let number : (slot_in w.outstanding head).number ≡ k = ap (λ (d : ℕ). (slot_in w.outstanding d).number) (is_first ∙ first) ∙ ap (λ (o : OutstandingRequest). o.number) (at.outstanding.slots k there kept) in
     let next : Moment = (take_first h 0 (x ∷ some.0) m).next in (

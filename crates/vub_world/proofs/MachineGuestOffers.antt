@@ -27,7 +27,7 @@ use Rattle.vub_split.specs.declared.split.SplitRing.{SplitRing}
 use Rattle.vub_report.specs.declared.items.Item.{Item}
 use Rattle.vub_report.specs.declared.items.Item.TheVariants as items
 use Rattle.vub_report.specs.declared.items.Record.{Record}
-use Rattle.vub_guest.specs.GuestState.{seen_in}
+use Rattle.vub_guest.specs.GuestState.{last_used_in}
 use Rattle.vub_world.specs.OutstandingRequests.{offered_in, size_in, slot_in, reads_in, new_slot, Offers}
 use Rattle.vub_world.specs.MachineAt.{FrontAt, LifeAt, AttachedAt, OutstandingAt, MachineAt, reads_of}
 use Rattle.vub_world.specs.MachineFront.{head_shown, GuestGoes}
@@ -151,7 +151,7 @@ stored_moment h count x m = (guest_stores h 0 count (Some x) m).next
 
 -- where these are all that were left
 offered_at : (w : Machine) (memory : WatchedShared) (guest' : Guest) (asked' : Option Ask) (outstanding : OutstandingRequests) (es : List Event) (rs : List Record) (m : Moment) (x : Waiting) (is : List Item) (count : ℕ)
-    → seen_in guest' ≡ seen_in w.guest → Stands w.header es rs m → MachineAt w m → count < 65536 → 0 < length x.left → length x.left ≤ count
+    → last_used_in guest' ≡ last_used_in w.guest → Stands w.header es rs m → MachineAt w m → count < 65536 → 0 < length x.left → length x.left ≤ count
     → played is (stored_moment w.header count x m) ≡ guest w.header 0 count m → GuestGoes count x w (with_front w memory guest' asked' outstanding) m [] is
     → MachineAt (with_front w memory guest' asked' outstanding) (stored_moment w.header count x m)
 offered_at w memory guest' asked' outstanding es rs m x is count position s at fits some few plays goes =
@@ -179,7 +179,7 @@ offered_at w memory guest' asked' outstanding es rs m x is count position s at f
     subst (λ (n : Moment). MachineAt now n) (sym whole) stands
 
 -- where some are left
-partly_at : (w : Machine) (memory : WatchedShared) (guest' : Guest) (asked' : Option Ask) (outstanding : OutstandingRequests) (m : Moment) (x : Waiting) (is : List Item) (count : ℕ) → seen_in guest' ≡ seen_in w.guest → MachineAt w m → count < length x.left
+partly_at : (w : Machine) (memory : WatchedShared) (guest' : Guest) (asked' : Option Ask) (outstanding : OutstandingRequests) (m : Moment) (x : Waiting) (is : List Item) (count : ℕ) → last_used_in guest' ≡ last_used_in w.guest → MachineAt w m → count < length x.left
     → GuestGoes count x w (with_front w memory guest' asked' outstanding) m [] is → MachineAt (with_front w memory guest' asked' outstanding) (stored_moment w.header count x m)
 partly_at w memory guest' asked' outstanding m x is count position at part goes =
     let h : Header1 = w.header in
@@ -198,7 +198,7 @@ partly_at w memory guest' asked' outstanding m x is count position at part goes 
 
 -- the event is played
 pub guest_performs : (w now : Machine) (es : List Event) (rs : List Record) (m : Moment) (x : Waiting) (is : List Item) (count : ℕ) → now ≡ record w { memory = now.memory; guest = now.guest; asked = now.asked; outstanding = now.outstanding }
-    → seen_in now.guest ≡ seen_in w.guest → Stands w.header es rs m → MachineAt w m → count < 65536 → 0 < length x.left → (m.lanes 0).driver.waiting ≡ Some x
+    → last_used_in now.guest ≡ last_used_in w.guest → Stands w.header es rs m → MachineAt w m → count < 65536 → 0 < length x.left → (m.lanes 0).driver.waiting ≡ Some x
     → GuestGoes count x w now m [] is → (next : Moment) × (played is next ≡ guest w.header 0 count m) × MachineAt now next
 guest_performs w now es rs m x is count frame position s at fits some waits goes =
     let h : Header1 = w.header in

@@ -97,7 +97,7 @@ impl Machine {
     ghost use Rattle.vub_guest.specs.declared.guest.Collected.TheVariants as takes;
     ghost use Rattle.vub_report.specs.declared.items.Item.TheVariants as items;
     ghost use Rattle.vub_report.specs.declared.items.Record.{Record};
-    ghost use Rattle.vub_guest.specs.GuestState.{driver_in, seen_in, next_store, Steps, Shows, Collects};
+    ghost use Rattle.vub_guest.specs.GuestState.{driver_in, last_used_in, next_store, Steps, Shows, Collects};
     ghost use Rattle.vub_world.specs.OutstandingRequests.{offered_in, collected_in, slot_in, Offers};
     ghost use Rattle.vub_world.specs.Machine.{IsSound, LendsSound};
     ghost use Rattle.vub_world.specs.MachineAt.{FrontAt, MachineAt, IsReached, IsStanding, Performs, StandsOn};
@@ -235,7 +235,7 @@ impl Machine {
         ensures frame { self.new ≡ record self.old { memory = self.new.memory; guest = self.new.guest } }
         ensures sound { IsSound self.new }
         ensures never { result ≡ answers.Failed → ⊥ }
-        ensures position { seen_in self.new.guest ≡ seen_in self.old.guest }
+        ensures position { last_used_in self.new.guest ≡ last_used_in self.old.guest }
         ensures driver { Steps result (driver_in self.old.guest) (driver_in self.new.guest) }
         ensures memory { bytes_in self.new.memory ≡ after_maybe (next_store (driver_in self.old.guest).waiting) (bytes_in self.old.memory) }
         ensures stores { stores_in self.new.memory ≡ with_maybe (next_store (driver_in self.old.guest).waiting) [] }
@@ -254,7 +254,7 @@ impl Machine {
         ensures frame { self.new ≡ record self.old { memory = self.new.memory; guest = self.new.guest; asked = self.new.asked; outstanding = self.new.outstanding } }
         ensures sound { IsSound self.new }
         ensures fits { FrontFits self.new }
-        ensures position { seen_in self.new.guest ≡ seen_in self.old.guest }
+        ensures position { last_used_in self.new.guest ≡ last_used_in self.old.guest }
         ensures spent { result ≡ true → Spends 1 1 room.old room.new }
         ensures outstanding { result ≡ true → self.new.outstanding ≡ self.old.outstanding }
         ensures goes { (m : Moment) → FrontAt self.old m → GuestSteps (m.lanes 0).driver.waiting self.old self.new m room.old.items room.new.items result }
@@ -282,7 +282,7 @@ impl Machine {
         requires lists { stores + 1 ≤ room.old.lists }
         ensures frame { self.new ≡ record self.old { memory = self.new.memory; guest = self.new.guest; asked = self.new.asked; outstanding = self.new.outstanding } }
         ensures sound { IsSound self.new }
-        ensures position { seen_in self.new.guest ≡ seen_in self.old.guest }
+        ensures position { last_used_in self.new.guest ≡ last_used_in self.old.guest }
         ensures goes { (m : Moment) (x : Waiting) → FrontAt self.old m → (m.lanes 0).driver.waiting ≡ Some x → GuestGoes stores x self.old self.new m room.old.items room.new.items }
     {
         for done in 0..stores {
@@ -333,8 +333,8 @@ impl Machine {
         ensures sound { IsSound self.new }
         ensures never { result ≡ takes.Failed → ⊥ }
         ensures memory { bytes_in self.new.memory ≡ bytes_in self.old.memory }
-        ensures shown { Shows result (main_ring 0 self.old.header.size) (bytes_in self.old.memory) (seen_in self.old.guest) }
-        ensures driver { Collects result (driver_in self.old.guest) (driver_in self.new.guest) (seen_in self.old.guest) (seen_in self.new.guest) }
+        ensures shown { Shows result (main_ring 0 self.old.header.size) (bytes_in self.old.memory) (last_used_in self.old.guest) }
+        ensures driver { Collects result (driver_in self.old.guest) (driver_in self.new.guest) (last_used_in self.old.guest) (last_used_in self.new.guest) }
     {
         self.memory.restart();
         self.guest.collect(&mut self.memory)
