@@ -72,12 +72,10 @@ impl OutstandingRequests {
 
     /// The request that was offered last under a head.
     pub fn at(&self, head: u16) -> OutstandingRequest
+        requires { head < size_in self.now }
         ensures { result ≡ slot_in self.now head }
     {
-        match self.by_head.get(usize::from(head)) {
-            Some(found) => *found,
-            None => NONE,
-        }
+        self.by_head[usize::from(head)]
     }
 
     /// Notes that a request was collected.

@@ -1,7 +1,7 @@
 use Rattle.std.proofs.Common.{◌≡◌, ◌<◌, ◌≤◌, ◌+◌, ◌++◌, ◌∷◌, [], ℕ, List, Vec, Global, vec_capacity, take, length, ap, sym, ◌∙◌, subst, arith}
 use Rattle.vub_shared.specs.Watched.{bytes_in}
 use Rattle.vub_device.specs.declared.entry.Answered.{Answered}
-use Rattle.vub_world.specs.OutstandingRequests.{slot_in}
+use Rattle.vub_world.specs.OutstandingRequests.{size_in, slot_in}
 use Rattle.vub_world.specs.MachineDevice.{answer_for, answers_for}
 use Rattle.vub_room.specs.Rooms.{SpendsAnswers, RoomState}
 use Rattle.vub_queue.specs.QueueState.{state_of}
@@ -14,6 +14,18 @@ answer-answer-requires-clause-fits c =
     let batch = (state_of c.args.queue.now).batch in
     let head = head_of batch c.loop-element.element c.in-Some.head (sym c.batch_head.ensures ∙ c.in-Some.is) in
     subst (λ (k : ℕ). k < 64) (sym head.is) (c.requires.fits c.loop-element.element head.pair head.at).0
+
+pub answer-answer-requires-clause-place : goal.answer-answer-requires-clause-place
+answer-answer-requires-clause-place c =
+    let batch = (state_of c.args.queue.now).batch in
+    let head = head_of batch c.loop-element.element c.in-Some.head (sym c.batch_head.ensures ∙ c.in-Some.is) in
+    subst (λ (k : ℕ). k < size_in c.args.self.now.outstanding) (sym head.is) (c.requires.fits c.loop-element.element head.pair head.at).1
+
+pub answer-answer-requires-clause-few : goal.answer-answer-requires-clause-few
+answer-answer-requires-clause-few c =
+    let batch = (state_of c.args.queue.now).batch in
+    let head = head_of batch c.loop-element.element c.in-Some.head (sym c.batch_head.ensures ∙ c.in-Some.is) in
+    subst (λ (k : ℕ). (slot_in c.args.self.now.outstanding k).reads ≤ 8) (sym head.is) (c.requires.fits c.loop-element.element head.pair head.at).2
 
 pub loop-element-preserved : goal.loop-element-preserved
 loop-element-preserved c =
