@@ -1,5 +1,5 @@
 //! The parts of a world, and what each event does with them.
-ghost use Rattle.std.specs.Prelude.{◌≡◌, ◌<◌, ◌≤◌, ◌+◌, ◌-◌, ◌*◌, ◌^◌, ◌++◌, ◌∷◌, [], ℕ, min, not, List, IfOk, OnOk, OnErr, length, true, false, Some, None};
+ghost use Rattle.std.specs.Prelude.{◌≡◌, ◌<◌, ◌≤◌, ◌+◌, ◌-◌, ◌*◌, ◌^◌, ◌++◌, ◌∷◌, [], ℕ, min, not, List, IfOk, OnOk, OnErr, IsSome, length, true, false, Some, None};
 ghost use Rattle.vub_shared.specs.Watched.{bytes_in, stores_in, sizes_in, IsUnfailed};
 ghost use Rattle.vub_driver.specs.Layout.{ring_of as main_ring};
 ghost use Rattle.vub_schedule.specs.Spelling.{IsHeader, IsEvent};
@@ -171,29 +171,24 @@ impl Machine {
         Items::new(Vec::new(self.alloc))
     }
 
-    /// Notes the store that was made last.
+    /// Notes the store that was made last: it is one into guest memory.
     fn note_store(&self, tag: Tag, room: &mut Room)
         requires one { OneSmall (stores_in self.now.memory) }
-        requires space { self.now.space.number ≡ 0 }
         requires items { 1 ≤ room.old.item_room }
         requires lists { 1 ≤ room.old.lists }
         ensures items { room.new.items ≡ room.old.items ++ stored_items tag (stores_in self.now.memory) }
         ensures spent { Spends 1 1 room.old room.new }
     {
-        if let Some((space, place, bytes)) = self.memory.last_store() {
-            let area = if space == self.space {
-                Area::M
-            } else {
-                Area::I
-            };
-            let bytes = room.copy(bytes);
-            room.note(Item::Store {
-                tag,
-                area,
-                place,
-                bytes,
-            });
-        }
+        let Some((_, place, bytes)) = self.memory.last_store() else {
+            unreachable!();
+        };
+        let bytes = room.copy(bytes);
+        room.note(Item::Store {
+            tag,
+            area: Area::M,
+            place,
+            bytes,
+        });
     }
 
     /// The head in the avail ring just before avail.idx.
@@ -213,6 +208,8 @@ impl Machine {
     fn note_offer(&mut self, room: &mut Room)
         requires sound { IsSound self.old }
         requires more { offered_in self.old.outstanding < 2 ^ 64 - 1 }
+        requires asked { IsSome self.old.asked }
+        requires place { head_shown self.old < size_in self.old.outstanding }
         requires items { 1 ≤ room.old.item_room }
         requires lists { 1 ≤ room.old.lists }
         ensures frame { self.new ≡ record self.old { asked = None; outstanding = self.new.outstanding } }
@@ -221,7 +218,7 @@ impl Machine {
         ensures items { (ask : Ask) → self.old.asked ≡ Some ask → room.new.items ≡ room.old.items ++ items.Made (entries.Offer 0 (request_of ask)) ∷ [] }
     {
         let Some(ask) = self.asked.take() else {
-            return;
+            unreachable!();
         };
         let head = self.last_head();
         self.outstanding.offer(head, &ask);
@@ -441,10 +438,11 @@ impl Machine {
     {
         let mut answers = room.answers();
         for element in 0..queue.batch_len() {
-            if let Some(head) = queue.batch_head(element) {
-                let answer = self.answer(head, room);
-                answers.push_reserved(answer);
-            }
+            let Some(head) = queue.batch_head(element) else {
+                unreachable!();
+            };
+            let answer = self.answer(head, room);
+            answers.push_reserved(answer);
         }
         answers
     }
@@ -499,7 +497,6 @@ impl Machine {
 
     /// Notes the items of a turn that was made. The answers are those of a batch that it showed.
     fn note_turn(&self, stepped: Stepped, answers: Vec<Answered>, room: &mut Room)
-        requires space { self.now.space.number ≡ 0 }
         requires made { IsMade stepped }
         requires stores { StoreFits stepped (stores_in self.now.memory) }
         requires sector { SectorFits (capacity_of self.now.disk) stepped }

@@ -34,7 +34,7 @@ fn reads(ask: &Ask) -> u16
 {
     match ask {
         Ask::Read { count, .. } => *count,
-        _ => 0,
+        Ask::Write { .. } | Ask::Flush | Ask::Id | Ask::Discard(_) | Ask::Zero(_) => 0,
     }
 }
 
@@ -57,16 +57,13 @@ impl OutstandingRequests {
     /// Notes that the request was offered under a head.
     pub fn offer(&mut self, head: u16, ask: &Ask)
         requires more { offered_in self.old < 2 ^ 64 - 1 }
+        requires place { head < size_in self.old }
         ensures { Offers self.old self.new head ask.now }
     {
-        let slot = OutstandingRequest {
+        self.by_head[usize::from(head)] = OutstandingRequest {
             number: self.offered,
             reads: reads(ask),
         };
-        let place = usize::from(head);
-        if place < self.by_head.len() {
-            self.by_head[place] = slot;
-        }
         self.offered += 1;
     }
 
