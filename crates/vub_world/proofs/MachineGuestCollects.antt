@@ -174,6 +174,13 @@ head_placed w head stood shown head_is =
     let f : IsFirst w stood.2.0 head = is_first w stood.0 stood.1 stood.2.0 head stood.2.1 stood.2.2 shown head_is in
     omega (arith, f.low, stood.2.2.outstanding.places)
 
+-- no more requests are collected than were offered
+pub collects_within : (w : Machine) → IsStanding w → collected_in w.outstanding ≤ offered_in w.outstanding
+collects_within w stood =
+    let known = (stands_good w.header stood.0 stood.1 stood.2.0 stood.2.1).holds.known in
+    let at : MachineAt w stood.2.0 = stood.2.2 in
+    omega (arith, at.outstanding.collects_are, at.outstanding.offers_are, known.shown, known.fewer, known.offered)
+
 pub head_performs : (w : Machine) (memory : WatchedShared) (guest' : Guest) (outstanding : OutstandingRequests) (es : List Event) (rs : List Record) (m : Moment) (head : ℕ) → Stands w.header es rs m → MachineAt w m → bytes_in memory ≡ bytes_in w.memory
     → used_idx (the_ring w.header.size) (bytes_in w.memory) ≢ last_used_in w.guest → head ≡ (element_at (the_ring w.header.size) (bytes_in w.memory) (last_used_in w.guest)).0 % 65536
     → driver_in guest' ≡ after_collect head (driver_in w.guest) → last_used_in guest' ≡ (last_used_in w.guest + 1) % 65536 → TakesOne w.outstanding outstanding

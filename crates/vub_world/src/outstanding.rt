@@ -1,5 +1,5 @@
 //! A queue's outstanding requests: offered and not collected.
-ghost use Rattle.std.specs.Prelude.{◌≡◌, ◌<◌, ◌+◌, ◌-◌, ◌^◌, ℕ, IfOk};
+ghost use Rattle.std.specs.Prelude.{◌≡◌, ◌<◌, ◌≤◌, ◌+◌, ◌-◌, ◌^◌, ℕ, IfOk};
 ghost use Rattle.vub_world.specs.OutstandingRequests.{reads_in};
 
 use std::alloc::Global;
@@ -88,8 +88,9 @@ impl OutstandingRequests {
 
     /// How many requests are offered and not collected.
     pub fn count(&self) -> u64
+        requires { collected_in self.now ≤ offered_in self.now }
         ensures { result ≡ offered_in self.now - collected_in self.now }
     {
-        self.offered.saturating_sub(self.collected)
+        self.offered - self.collected
     }
 }
