@@ -40,8 +40,8 @@ abbrev pub pending_store : Guest → Pending → Stage → Store
 pending_store g p stage = store_at (ring_in g) g.avail_idx p.ask (links_of p.chain) stage
 
 -- the index of the used element that it takes next
-abbrev pub seen_in : Guest → ℕ
-seen_in g = g.seen
+abbrev pub last_used_in : Guest → ℕ
+last_used_in g = g.last_used
 
 -- whether a request that is offered and not collected has this head
 abbrev pub is_outstanding : Option Waiting → Option ℕ → Bool

@@ -145,7 +145,7 @@ pub struct Guest {
     // The driver's own avail.idx.
     avail_idx: u16,
     // The index of the used element that it takes next.
-    seen: u16,
+    last_used: u16,
     // The head of the request that each descriptor belongs to.
     owners: Vec<Option<u16>>,
     waiting: Option<Pending>,
@@ -176,7 +176,7 @@ impl Guest {
     ghost use Rattle.vub_guest.specs.GuestStores.{links_of};
     ghost use Rattle.vub_guest.specs.GuestStores.{buffer_of as links_buffer};
     ghost use Rattle.vub_guest.specs.Guest.{GuestLies};
-    ghost use Rattle.vub_guest.specs.GuestState.{ring_in, driver_in, pending_store, seen_in, is_busy, owner_at, FindsFree, Chooses, StoresNext, TrailsNext, Steps, outcome, next_store, Shows, ShowsNext, Collects, fetched};
+    ghost use Rattle.vub_guest.specs.GuestState.{ring_in, driver_in, pending_store, last_used_in, is_busy, owner_at, FindsFree, Chooses, StoresNext, TrailsNext, Steps, outcome, next_store, Shows, ShowsNext, Collects, fetched};
 
     /// The driver of one of the header's queues, whose area lies in this space.
     pub fn new(alloc: Global, header: &Header1, queue: u16, memory: Space) -> Result<Guest, Memory>
@@ -185,7 +185,7 @@ impl Guest {
         requires few { header.now.size ≤ 64 }
         ensures ring { IfOk result (λ g. ring_in g ≡ record (ring_of queue header.now.size) { space = memory.number }) }
         ensures driver { IfOk result (λ g. driver_in g ≡ new_driver header.now.base) }
-        ensures position { IfOk result (λ g. seen_in g ≡ header.now.base) }
+        ensures position { IfOk result (λ g. last_used_in g ≡ header.now.base) }
     {
         let owners = vec![in alloc; None; usize::from(header.size)].map_err(|_| Memory)?;
         Ok(Guest {
@@ -193,7 +193,7 @@ impl Guest {
             area: area_of(queue),
             size: header.size,
             avail_idx: header.base,
-            seen: header.base,
+            last_used: header.base,
             owners,
             waiting: None,
         })
@@ -244,7 +244,7 @@ impl Guest {
         ensures driver { driver_in self.new ≡ (if result then after_ask (ring_in self.old) ask.now (driver_in self.old) else driver_in self.old) }
         ensures kept { result ≡ false → self.new ≡ self.old }
         ensures ring { ring_in self.new ≡ ring_in self.old }
-        ensures position { seen_in self.new ≡ seen_in self.old }
+        ensures position { last_used_in self.new ≡ last_used_in self.old }
     {
         if self.waiting.is_some() || shape != Shape::Direct {
             return false;
@@ -355,7 +355,7 @@ impl Guest {
         ensures driver { Steps result (driver_in self.old) (driver_in self.new) }
         ensures outcome { outcome result ≡ Ok tt }
         ensures ring { ring_in self.new ≡ ring_in self.old }
-        ensures position { seen_in self.new ≡ seen_in self.old }
+        ensures position { last_used_in self.new ≡ last_used_in self.old }
     {
         let Some(pending) = &mut self.waiting else {
             return GuestStep::Idle;
@@ -381,7 +381,7 @@ impl Guest {
         ensures trails { TrailsNext (M.trail mem.old) (M.trail mem.new) result (next_store (driver_in self.old).waiting) }
         ensures lawful { WhereTold (M.told mem.old) (λ m. avail_idx (ring_in self.old) m ≡ (driver_in self.old).avail_idx → IfSome (next_store (driver_in self.old).waiting) (IsLawful (ring_in self.old) (is_busy (driver_in self.old)) m)) }
         ensures ring { ring_in self.new ≡ ring_in self.old }
-        ensures position { seen_in self.new ≡ seen_in self.old }
+        ensures position { last_used_in self.new ≡ last_used_in self.old }
         ensures cause { HasCause (M.faults mem.old) (M.faults mem.new) (outcome result) }
     {
         let Some(pending) = &self.waiting else {
@@ -396,16 +396,16 @@ impl Guest {
     /// The head in the next used element, if one is shown.
     fn next_shown<M: Shared>(&self, mem: &mut M) -> Result<Option<u16>, Failed>
         requires { GuestLies (M.sizes mem.old) self.now }
-        ensures loaded { IfOk result (λ shown. WhereTold (M.told mem.old) (λ m. ShowsNext shown (ring_in self.now) m self.now.seen)) }
+        ensures loaded { IfOk result (λ shown. WhereTold (M.told mem.old) (λ m. ShowsNext shown (ring_in self.now) m self.now.last_used)) }
         ensures only_loads { OnlyLoads M.told M.trail M.names M.handed M.sizes mem.old mem.new }
         ensures cause { HasCause (M.faults mem.old) (M.faults mem.new) result }
     {
         // used.idx is loaded before the element that it announces (VIRTIO 1.2, 2.7.8.2 and 2.7.14):
         // in the other order the element could be an old one.
-        if load_u16(mem, self.memory, self.area + USED + USED_IDX)? == self.seen {
+        if load_u16(mem, self.memory, self.area + USED + USED_IDX)? == self.last_used {
             return Ok(None);
         }
-        let element = u64::from(self.seen % self.size);
+        let element = u64::from(self.last_used % self.size);
         let id = load_u32(
             mem,
             self.memory,
@@ -441,9 +441,9 @@ impl Guest {
     fn take(&mut self, head: u16)
         ensures driver { driver_in self.new ≡ after_collect head (driver_in self.old) }
         ensures ring { ring_in self.new ≡ ring_in self.old }
-        ensures position { seen_in self.new ≡ (seen_in self.old + 1) % 65536 }
+        ensures position { last_used_in self.new ≡ (last_used_in self.old + 1) % 65536 }
     {
-        self.seen = self.seen.wrapping_add(1);
+        self.last_used = self.last_used.wrapping_add(1);
         if !self.awaits(head) {
             Guest::free(&mut self.owners, head);
         }
@@ -457,8 +457,8 @@ impl Guest {
         requires { GuestLies (M.sizes mem.old) self.old }
         ensures only_loads { OnlyLoads M.told M.trail M.names M.handed M.sizes mem.old mem.new }
         ensures lies { GuestLies (M.sizes mem.new) self.new }
-        ensures shown { WhereTold (M.told mem.old) (λ m. Shows result (ring_in self.old) m (seen_in self.old)) }
-        ensures driver { Collects result (driver_in self.old) (driver_in self.new) (seen_in self.old) (seen_in self.new) }
+        ensures shown { WhereTold (M.told mem.old) (λ m. Shows result (ring_in self.old) m (last_used_in self.old)) }
+        ensures driver { Collects result (driver_in self.old) (driver_in self.new) (last_used_in self.old) (last_used_in self.new) }
         ensures ring { ring_in self.new ≡ ring_in self.old }
         ensures cause { HasCause (M.faults mem.old) (M.faults mem.new) (fetched result) }
     {

@@ -16,7 +16,7 @@ use Rattle.vub_world.specs.declared.machine.Life.{Life}
 use Rattle.vub_world.specs.declared.machine.Machine.{Machine}
 use Rattle.vub_queue.specs.declared.queue.Queue.{Queue}
 use Rattle.vub_split.specs.declared.split.SplitRing.{SplitRing}
-use Rattle.vub_world.specs.OutstandingRequests.{slot_in}
+use Rattle.vub_world.specs.OutstandingRequests.{size_in, slot_in}
 use Rattle.vub_world.specs.MachineAt.{MachineAt, LifeAt, AttachedAt, OutstandingAt, reads_of}
 use Rattle.vub_world.specs.MachineDevice.{BatchFits, ShowsSome, QueueShowsSome, batch_in, queue_batch, is_index, is_showing}
 use Rattle.vub_run.specs.Moments.{Moment}
@@ -75,7 +75,7 @@ queue_batch_fits h r m q outstanding small good at numbered i x found =
     let mapped : option_map (spot_of h past heads) (slice_get lane.batch i) ≡ Some x = sym (slice_get-map (spot_of h past heads) lane.batch i) ∙ spots in
     pick (slice_get lane.batch i) refl mapped
   where
-    pick : (o : Option ℕ) → slice_get (m.lanes 0).batch i ≡ o → option_map (spot_of h m.scene.past (m.scene.heads 0)) o ≡ Some x → (x.0 < 64) × ((slot_in outstanding x.0).reads ≤ 8)
+    pick : (o : Option ℕ) → slice_get (m.lanes 0).batch i ≡ o → option_map (spot_of h m.scene.past (m.scene.heads 0)) o ≡ Some x → (x.0 < 64) × (x.0 < size_in outstanding) × ((slot_in outstanding x.0).reads ≤ 8)
     pick None here is = absurd (cc is)
     pick (Some k) here is =
         let past = m.scene.past in
@@ -88,7 +88,7 @@ queue_batch_fits h r m q outstanding small good at numbered i x found =
         let below : slice_index heads k < h.size = holds.driven.below k out in
         let slot : (slot_in outstanding x.0).reads ≡ reads_of (asked past 0 k) = ap (λ (d : ℕ). (slot_in outstanding d).reads) head ∙ ap (λ (o : OutstandingRequest). o.reads) (numbered.slots k out.below out.kept) in
         let few : reads_of (asked past 0 k) ≤ 8 = few_reads h.capacity (asked past 0 k) (holds.known.wide k out.below) in
-        (omega (arith, below, head, small), omega (arith, slot, few))
+        (omega (arith, below, head, small), omega (arith, below, head, numbered.places), omega (arith, slot, few))
 
 pub batch_fits : (w : Machine) (m : Moment) → w.header.size ≤ 64 → Good w.header m → MachineAt w m → BatchFits w.outstanding (batch_in w.life)
 batch_fits w m small good at = go w.life at.life

@@ -12,7 +12,7 @@ use Rattle.vub_world.specs.declared.machine.Life.{Life}
 use Rattle.vub_world.specs.declared.machine.Machine.{Machine}
 use Rattle.vub_queue.specs.declared.queue.Queue.{Queue}
 use Rattle.vub_split.specs.declared.split.SplitRing.{SplitRing}
-use Rattle.vub_guest.specs.GuestState.{ring_in, driver_in, seen_in}
+use Rattle.vub_guest.specs.GuestState.{ring_in, driver_in, last_used_in}
 use Rattle.vub_world.specs.Machine.{IsSound}
 use Rattle.vub_world.specs.MachineAt.{LifeAt, AttachedAt, MachineAt}
 use Rattle.vub_run.specs.Moments.{Moment}
@@ -32,7 +32,7 @@ life_driven h r m v (Some l) at = (at.0, attached l.queue at.1)
     attached (Some q) a = a
 
 pub ask_performs : (w : Machine) (guest' : Guest) (m : Moment) (shape : Shape) (a : Ask) (ready : Bool) → IsSound w → MachineAt w m → ready ≡ can_take (ring_in w.guest).size shape a (driver_in w.guest) → ready ≡ true
-    → driver_in guest' ≡ cond ready (after_ask (ring_in w.guest) a (driver_in w.guest)) (driver_in w.guest) → seen_in guest' ≡ seen_in w.guest
+    → driver_in guest' ≡ cond ready (after_ask (ring_in w.guest) a (driver_in w.guest)) (driver_in w.guest) → last_used_in guest' ≡ last_used_in w.guest
     → (next : Moment) × (played [] next ≡ ask w.header 0 shape a m) × MachineAt (record w { guest = guest'; asked = Some a }) next
 ask_performs w guest' m shape a ready sound at says taken driver position =
     let h : Header1 = w.header in

@@ -23,14 +23,14 @@ use Rattle.vub_queue.specs.declared.queue.Queue.{Queue}
 use Rattle.vub_split.specs.declared.split.SplitRing.{SplitRing}
 use Rattle.vub_report.specs.declared.items.Item.TheVariants as items
 use Rattle.vub_report.specs.declared.items.Record.{Record}
-use Rattle.vub_guest.specs.GuestState.{driver_in, seen_in}
+use Rattle.vub_guest.specs.GuestState.{driver_in, last_used_in}
 use Rattle.vub_world.specs.OutstandingRequests.{offered_in, collected_in, size_in, slot_in}
 use Rattle.vub_world.specs.MachineAt.{AskAt, LifeAt, AttachedAt, MachineAt, IsStanding}
 use Rattle.vub_run.specs.Moments.{Lane, Moment}
 use Rattle.vub_queue.specs.QueueState.{state_of}
 use Rattle.vub_run.specs.Run.{Stands, played, next_collected, take_first, collect}
 use Rattle.vub_run_laws.proofs.RunNumbers.{among_at}
-use Rattle.vub_run_laws.proofs.RunGood.{the_ring, Known}
+use Rattle.vub_run_laws.proofs.RunGood.{the_ring, IsOut, Known}
 use Rattle.vub_run_laws.proofs.RunCollects.{IsTaken, none_before, first_seen, after_taken}
 use Rattle.vub_run_laws.proofs.RunTurns.{IsPlain, Good}
 use Rattle.vub_run_laws.proofs.Runs.{plain_header}
@@ -43,8 +43,8 @@ with_taken w memory guest' outstanding = record w { memory = memory; guest = gue
 
 -- ---- nothing is shown
 
-pub none_performs : (w : Machine) (memory : WatchedShared) (guest' : Guest) (m : Moment) → MachineAt w m → bytes_in memory ≡ bytes_in w.memory → used_idx (the_ring w.header.size) (bytes_in w.memory) ≡ seen_in w.guest
-    → driver_in guest' ≡ driver_in w.guest → seen_in guest' ≡ seen_in w.guest
+pub none_performs : (w : Machine) (memory : WatchedShared) (guest' : Guest) (m : Moment) → MachineAt w m → bytes_in memory ≡ bytes_in w.memory → used_idx (the_ring w.header.size) (bytes_in w.memory) ≡ last_used_in w.guest
+    → driver_in guest' ≡ driver_in w.guest → last_used_in guest' ≡ last_used_in w.guest
     → (next : Moment) × (played (items.Idle ∷ []) next ≡ collect w.header 0 m) × MachineAt (with_taken w memory guest' w.outstanding) next
 none_performs w memory guest' m at bytes shown driver position =
     let h : Header1 = w.header in
@@ -107,7 +107,7 @@ head_plays h m x xs number is sees =
     here ∙ sym (ap (λ (ys : List (ℕ × ℕ)). take_first h 0 ys m) sees)
 
 -- an element that is shown and not taken is that of a request that isn't collected
-pub one_is_left : (w : Machine) → IsStanding w → used_idx (the_ring w.header.size) (bytes_in w.memory) ≢ seen_in w.guest → collected_in w.outstanding < offered_in w.outstanding
+pub one_is_left : (w : Machine) → IsStanding w → used_idx (the_ring w.header.size) (bytes_in w.memory) ≢ last_used_in w.guest → collected_in w.outstanding < offered_in w.outstanding
 one_is_left w stood shown =
     let h : Header1 = w.header in
     let r : Ring = the_ring h.size in
@@ -127,11 +127,18 @@ one_is_left w stood shown =
     ] in
     omega (arith, at.outstanding.collects_are, at.outstanding.offers_are, more, known.fewer, known.offered)
 
-pub head_performs : (w : Machine) (memory : WatchedShared) (guest' : Guest) (outstanding : OutstandingRequests) (es : List Event) (rs : List Record) (m : Moment) (head : ℕ) → Stands w.header es rs m → MachineAt w m → bytes_in memory ≡ bytes_in w.memory
-    → used_idx (the_ring w.header.size) (bytes_in w.memory) ≢ seen_in w.guest → head ≡ (element_at (the_ring w.header.size) (bytes_in w.memory) (seen_in w.guest)).0 % 65536
-    → driver_in guest' ≡ after_collect head (driver_in w.guest) → seen_in guest' ≡ (seen_in w.guest + 1) % 65536 → TakesOne w.outstanding outstanding
-    → (next : Moment) × (played (items.Made (entries.Collect 0 (slot_in w.outstanding head).number) ∷ []) next ≡ collect w.header 0 m) × MachineAt (with_taken w memory guest' outstanding) next
-head_performs w memory guest' outstanding es rs m head s at bytes shown head_is driver position takes =
+-- the first element that the driver sees: it names the head of a request that isn't collected
+pub record IsFirst (w : Machine) (m : Moment) (head : ℕ) : Type 0 where
+  pub rest : List (ℕ × ℕ)
+  pub sees : seen (the_ring w.header.size) m.scene.memory (w.header.base + collected m.scene.past 0) ≡ element_at (the_ring w.header.size) m.scene.memory (w.header.base + collected m.scene.past 0) ∷ rest
+  pub taken : IsTaken w.header m.scene (m.lanes 0) (element_at (the_ring w.header.size) m.scene.memory (w.header.base + collected m.scene.past 0)).0
+  pub out : IsOut m.scene.past (m.scene.heads 0) (slice_index (published m.scene.past 0) (collected m.scene.past 0))
+  pub low : head < w.header.size
+  pub is : head ≡ (element_at (the_ring w.header.size) m.scene.memory (w.header.base + collected m.scene.past 0)).0
+
+is_first : (w : Machine) (es : List Event) (rs : List Record) (m : Moment) (head : ℕ) → Stands w.header es rs m → MachineAt w m → used_idx (the_ring w.header.size) (bytes_in w.memory) ≢ last_used_in w.guest
+    → head ≡ (element_at (the_ring w.header.size) (bytes_in w.memory) (last_used_in w.guest)).0 % 65536 → IsFirst w m head
+is_first w es rs m head s at shown head_is =
     let h : Header1 = w.header in
     let r : Ring = the_ring h.size in
     let plain : IsPlain h = plain_header h s.header in
@@ -155,21 +162,54 @@ head_performs w memory guest' outstanding es rs m head s at bytes shown head_is 
     let low : slice_index (m.scene.heads 0) k < h.size = good.holds.driven.below k (record { below = there; kept = kept }) in
     let first : x.0 ≡ slice_index (m.scene.heads 0) k = t.head in
     let small : h.size ≤ 64 = plain.good.size.small in
-    let read : (element_at r (bytes_in w.memory) (seen_in w.guest)).0 ≡ x.0 =
-    ap (λ (b : Bytes). (element_at r b (seen_in w.guest)).0) at.front.memory ∙ ap (λ (i : ℕ). (element_at r m.scene.memory i).0) at.position ∙ ap (λ (y : ℕ × ℕ). y.0) (same_element r m.scene.memory p) in
-    let is_first : head ≡ x.0 = omega (arith, head_is, read, first, low, small) in
-    let number : (slot_in w.outstanding head).number ≡ k = ap (λ (d : ℕ). (slot_in w.outstanding d).number) (is_first ∙ first) ∙ ap (λ (o : OutstandingRequest). o.number) (at.outstanding.slots k there kept) in
-    let next : Moment = (take_first h 0 (x ∷ some.0) m).next in (
+    let read : (element_at r (bytes_in w.memory) (last_used_in w.guest)).0 ≡ x.0 =
+    ap (λ (b : Bytes). (element_at r b (last_used_in w.guest)).0) at.front.memory ∙ ap (λ (i : ℕ). (element_at r m.scene.memory i).0) at.position ∙ ap (λ (y : ℕ × ℕ). y.0) (same_element r m.scene.memory p) in
+    let same : head ≡ x.0 = omega (arith, head_is, read, first, low, small) in
+    record { rest = some.0; sees = sees; taken = t; out = record { below = there; kept = kept }; low = omega (arith, same, first, low); is = same }
+
+-- so the table of outstanding requests has a place for it
+pub head_placed : (w : Machine) (head : ℕ) → IsStanding w → used_idx (the_ring w.header.size) (bytes_in w.memory) ≢ last_used_in w.guest → head ≡ (element_at (the_ring w.header.size) (bytes_in w.memory) (last_used_in w.guest)).0 % 65536
+    → head < size_in w.outstanding
+head_placed w head stood shown head_is =
+    let f : IsFirst w stood.2.0 head = is_first w stood.0 stood.1 stood.2.0 head stood.2.1 stood.2.2 shown head_is in
+    omega (arith, f.low, stood.2.2.outstanding.places)
+
+-- no more requests are collected than were offered
+pub collects_within : (w : Machine) → IsStanding w → collected_in w.outstanding ≤ offered_in w.outstanding
+collects_within w stood =
+    let known = (stands_good w.header stood.0 stood.1 stood.2.0 stood.2.1).holds.known in
+    let at : MachineAt w stood.2.0 = stood.2.2 in
+    omega (arith, at.outstanding.collects_are, at.outstanding.offers_are, known.shown, known.fewer, known.offered)
+
+pub head_performs : (w : Machine) (memory : WatchedShared) (guest' : Guest) (outstanding : OutstandingRequests) (es : List Event) (rs : List Record) (m : Moment) (head : ℕ) → Stands w.header es rs m → MachineAt w m → bytes_in memory ≡ bytes_in w.memory
+    → used_idx (the_ring w.header.size) (bytes_in w.memory) ≢ last_used_in w.guest → head ≡ (element_at (the_ring w.header.size) (bytes_in w.memory) (last_used_in w.guest)).0 % 65536
+    → driver_in guest' ≡ after_collect head (driver_in w.guest) → last_used_in guest' ≡ (last_used_in w.guest + 1) % 65536 → TakesOne w.outstanding outstanding
+    → (next : Moment) × (played (items.Made (entries.Collect 0 (slot_in w.outstanding head).number) ∷ []) next ≡ collect w.header 0 m) × MachineAt (with_taken w memory guest' outstanding) next
+head_performs w memory guest' outstanding es rs m head s at bytes shown head_is driver position takes =
+    let h : Header1 = w.header in
+    let r : Ring = the_ring h.size in
+    let good : Good h m = stands_good h es rs m s in
+    let c : ℕ = collected m.scene.past 0 in
+    let ps : List ℕ = published m.scene.past 0 in
+    let l : Lane = m.lanes 0 in
+    let x : ℕ × ℕ = element_at r m.scene.memory (h.base + c) in
+    let f : IsFirst w m head = is_first w es rs m head s at shown head_is in
+    let k : ℕ = slice_index ps c in
+    let there : k < length (m.scene.heads 0) = f.out.below in
+    let kept : is_among (take c ps) k ≡ false = f.out.kept in
+    let t : IsTaken h m.scene l x.0 = f.taken in
+    let number : (slot_in w.outstanding head).number ≡ k = ap (λ (d : ℕ). (slot_in w.outstanding d).number) (f.is ∙ t.head) ∙ ap (λ (o : OutstandingRequest). o.number) (at.outstanding.slots k there kept) in
+    let next : Moment = (take_first h 0 (x ∷ f.rest) m).next in (
       next,
-      head_plays h m x some.0 (slot_in w.outstanding head).number number sees,
+      head_plays h m x f.rest (slot_in w.outstanding head).number number f.sees,
       record {
         front = record {
           memory = bytes ∙ at.front.memory;
-          driver = driver ∙ ap (λ (d : ℕ). after_collect d (driver_in w.guest)) is_first ∙ ap (λ (v : Driver). after_collect x.0 v) at.front.driver;
+          driver = driver ∙ ap (λ (d : ℕ). after_collect d (driver_in w.guest)) f.is ∙ ap (λ (v : Driver). after_collect x.0 v) at.front.driver;
           asks = subst (λ (v : Driver). AskAt v.waiting w.asked) (sym (after_taken h m.scene l x.0 t)) at.front.asks;
         };
         position = omega (arith, position, at.position);
-        life = taken_life h w.ring m x some.0 w.life at.life;
+        life = taken_life h w.ring m x f.rest w.life at.life;
         disk = at.disk;
         outstanding = record {
           offers_are = takes.offers ∙ at.outstanding.offers_are;

@@ -1,11 +1,18 @@
 -- What is noted of the driver's stores has room: they are small.
-use Rattle.std.proofs.Common.{◌≡◌, ◌≤◌, ℕ, ◌+◌, ◌%◌, List, [], ◌∷◌, ◌++◌, length, refl, sym, subst, arith}
+use Rattle.std.proofs.Common.{◌≡◌, ◌≤◌, ℕ, ◌+◌, ◌%◌, List, [], ◌∷◌, ◌++◌, length, refl, ap, sym, ◌∙◌, subst, arith}
 use Rattle.std.specs.Prelude.{Option, Some, None}
 use Rattle.std.specs.List.{AllByRecursion}
 use Rattle.vub_base.specs.declared.header.Header1.{Header1}
 use Rattle.vub_base.specs.declared.request.Ask.{Ask}
 use Rattle.vub_base.specs.declared.request.Ask.TheVariants as wants
+use Rattle.vub_shared.specs.Bytes.{Bytes, put}
 use Rattle.vub_shared.specs.Stores.{Store, one_store}
+use Rattle.vub_shared.specs.Watched.{bytes_in}
+use Rattle.vub_ring.specs.Ring.{last_head}
+use Rattle.vub_guest.specs.GuestState.{driver_in}
+use Rattle.vub_guest.proofs.GuestLemmas.{left_few, left_some}
+use Rattle.vub_run_laws.proofs.RunChainsStores.{put_all}
+use Rattle.vub_world.proofs.MachineGuestOffers.{shown_below}
 use Rattle.vub_driver.specs.Layout.{status_place, sectors_place}
 use Rattle.vub_driver.specs.Drivers.{Driver, Waiting}
 use Rattle.vub_driver.specs.Requests.{Piece, readable_piece, writable_piece, written_bytes, has_data}
@@ -13,7 +20,7 @@ use Rattle.vub_driver.specs.Stores.{store_of_some, request_stores}
 use Rattle.vub_world.specs.declared.machine.Machine.{Machine}
 use Rattle.vub_direct_chain.specs.ChainState.{data_of}
 use Rattle.vub_world.specs.MachineAt.{AskAt, MachineAt, IsStanding}
-use Rattle.vub_world.specs.MachineFront.{IsSmall, AreSmall, FrontFits}
+use Rattle.vub_world.specs.MachineFront.{IsSmall, AreSmall, FrontFits, ShowsPlace, after_all}
 use Rattle.vub_run.specs.Moments.{Moment}
 use Rattle.vub_run.specs.Run.{Stands}
 use Rattle.vub_device.specs.Requests.{request_of}
@@ -84,12 +91,19 @@ stores_small n cap index head body status wants.Id wide = absurd wide
 stores_small n cap index head body status (wants.Discard parts) wide = absurd wide
 stores_small n cap index head body status (wants.Zero parts) wide = absurd wide
 
+-- ---- memory after them
+
+all_put : (left : List Store) (m : Bytes) → Small left → after_all left m ≡ put_all left m
+all_put [] m small = refl
+all_put (st ∷ left) m small = all_put left (put m st.space st.place st.bytes) small.1 ∙ ap (λ (space : ℕ). put_all left (put m space st.place st.bytes)) small.0.space
+
 -- ---- where the machine stands
 
 pub front_fits : (w : Machine) → IsStanding w → FrontFits w
 front_fits w standing = record {
   stores = subst (λ (v : Driver). AreSmall v.waiting) (sym at.front.driver) (smalls (m.lanes 0).driver.waiting refl);
   kept = subst (λ (v : Driver). AskAt v.waiting w.asked) (sym at.front.driver) at.front.asks;
+  place = subst (λ (v : Driver). ShowsPlace w v.waiting) (sym at.front.driver) (places (m.lanes 0).driver.waiting refl);
 }
   where
     h : Header1
@@ -117,3 +131,13 @@ front_fits w standing = record {
         let waits : IsWaiting h.size h.capacity m.scene.past (m.scene.heads 0) v x = subst (λ (o : Option Waiting). WaitsWell h.size h.capacity m.scene.past (m.scene.heads 0) v o) e good.holds.driven.waits in
         let ready : IsPrepared h.size m.scene.memory v x = subst (λ (o : Option Waiting). PreparedWell h.size m.scene.memory v o) e chained.waits in
         all_last IsSmall ready.made x.left (subst (λ (sts : List Store). Small sts) (sym ready.stores) (stores_small h.size h.capacity v.avail_idx x.head ready.body ready.status x.ask waits.wide))
+
+    places : (o : Option Waiting) → (m.lanes 0).driver.waiting ≡ o → ShowsPlace w o
+    places None e = tt
+    places (Some x) e =
+        let waits : (driver_in w.guest).waiting ≡ Some x = ap (λ (v : Driver). v.waiting) at.front.driver ∙ e in
+        let low = shown_below h standing.0 standing.1 m x s e (left_some w.guest x waits) (left_few w.guest x waits) in
+        let small : Small x.left = smalls (Some x) e in
+        let same : last_head (the_ring h.size) (after_all x.left (bytes_in w.memory)) ≡ last_head (the_ring h.size) (put_all x.left m.scene.memory) =
+        ap (λ (b : Bytes). last_head (the_ring h.size) (after_all x.left b)) at.front.memory ∙ ap (λ (b : Bytes). last_head (the_ring h.size) b) (all_put x.left m.scene.memory small) in
+        omega (arith, low, same, at.outstanding.places)

@@ -1,6 +1,6 @@
 -- Where the machine stands after the driver's stores of a request, whose last one offers it.
 use Rattle.std.proofs.Common.{◌≡◌, ◌≢◌, ◌≤◌, ◌<◌, ℕ, zero, suc, ◌+◌, Bool, true, false, cond, List, [], ◌∷◌, ◌++◌, length, take, refl, ap, sym, ◌∙◌, subst, inl, inr, arith}
-use Rattle.std.specs.Prelude.{Option, Some, None, slice_index, is_some, ◌==◌, ◌&&◌, nat_lt}
+use Rattle.std.specs.Prelude.{Option, Some, None, slice_index, is_some, ◌==◌}
 use Rattle.std.proofs.lemmas.Bool.Decides.{nat_tests}
 use Rattle.std.proofs.lemmas.Bool.{cases_Bool, cases_lt}
 use Rattle.std.proofs.lemmas.List.{length_push}
@@ -27,8 +27,8 @@ use Rattle.vub_split.specs.declared.split.SplitRing.{SplitRing}
 use Rattle.vub_report.specs.declared.items.Item.{Item}
 use Rattle.vub_report.specs.declared.items.Item.TheVariants as items
 use Rattle.vub_report.specs.declared.items.Record.{Record}
-use Rattle.vub_guest.specs.GuestState.{seen_in}
-use Rattle.vub_world.specs.OutstandingRequests.{offered_in, size_in, slot_in, reads_in, new_slot, Offers}
+use Rattle.vub_guest.specs.GuestState.{last_used_in}
+use Rattle.vub_world.specs.OutstandingRequests.{offered_in, slot_in, reads_in, new_slot, Offers}
 use Rattle.vub_world.specs.MachineAt.{FrontAt, LifeAt, AttachedAt, OutstandingAt, MachineAt, reads_of}
 use Rattle.vub_world.specs.MachineFront.{head_shown, GuestGoes}
 use Rattle.vub_run.specs.Memory.{Scene, after_item, after_items}
@@ -57,6 +57,26 @@ reads_are (wants.Zero parts) = refl
 abbrev slot : ℕ → ℕ → OutstandingRequest
 slot number reads = record { number = number; reads = reads }
 
+-- a request that is offered isn't collected
+new_out : (n cap : ℕ) (past : List Entry) (heads : List ℕ) (r : Asked) (head : ℕ) → Known n cap past heads → IsOut (entries.Offer 0 r ∷ past) (heads ++ head ∷ []) (length heads)
+new_out n cap past heads r head known =
+    let c : ℕ = length heads in
+    record {
+      below = omega (arith, length_push heads head);
+      kept = elim (cases_Bool (is_among (take (collected past 0) (published past 0)) c)) [
+        | inl held ↦ absurd (let low : is_among (published past 0) c ≡ true = among_taken (published past 0) (collected past 0) c held in omega (arith, known.below c low, known.offered))
+        | inr out ↦ out
+      ];
+    }
+  where
+    among_taken : (xs : List ℕ) (k x : ℕ) → is_among (take k xs) x ≡ true → is_among xs x ≡ true
+    among_taken [] zero x held = held
+    among_taken [] (suc k) x held = held
+    among_taken (y ∷ xs) zero x held = absurd (let fails : false ≡ true = held in cc)
+    among_taken (y ∷ xs) (suc k) x held =
+        let rest : is_among (take k xs) x ≡ true → is_among xs x ≡ true = λ h. among_taken xs k x h in
+        grind (arith, nat_tests)
+
 -- under the head of the request stand its number and what it reads, and others keep their slots
 pub offered_outstanding : (n cap base : ℕ) (past : List Entry) (heads : List ℕ) (a : Ask) (head : ℕ) (v : Driver) (l now : OutstandingRequests) → OutstandingAt n past heads l → Known n cap past heads
     → Driven n cap base (entries.Offer 0 (request_of a) ∷ past) (heads ++ head ∷ []) v → Offers l now head a
@@ -67,14 +87,7 @@ offered_outstanding n cap base past heads a head v l now at known driven offers 
     let heads' : List ℕ = heads ++ head ∷ [] in
     let c : ℕ = length heads in
     let long : length heads' ≡ c + 1 = length_push heads head in
-    let shown : List ℕ = take (collected past 0) (published past 0) in
-    let last_out : IsOut past' heads' c = record {
-      below = omega (arith, long);
-      kept = elim (cases_Bool (is_among shown c)) [
-        | inl held ↦ absurd (let low : is_among (published past 0) c ≡ true = among_taken (published past 0) (collected past 0) c held in omega (arith, known.below c low, known.offered))
-        | inr out ↦ out
-      ];
-    } in
+    let last_out : IsOut past' heads' c = new_out n cap past heads r head known in
     let last_head_is : slice_index heads' c ≡ head = new_head heads head in
     record {
       offers_are = offers.offered ∙ ap (λ (k : ℕ). k + 1) at.offers_are ∙ sym long;
@@ -86,30 +99,20 @@ offered_outstanding n cap base past heads a head v l now at known driven offers 
             let head_is : d ≡ slice_index heads k = same_head heads head k low in
             let apart : d ≢ head = λ same. (let one : k ≡ c = driven.apart k c (record { below = below; kept = kept }) last_out (same ∙ sym last_head_is) in omega (arith, one)) in
             let other : (d == head) ≡ false = grind (arith, nat_tests) in
-            let still : slot_in now d ≡ slot_in l d = offers.slots d ∙ ap (λ (b : Bool). cond {A = OutstandingRequest} (b && nat_lt d (size_in l)) (new_slot l a) (slot_in l d)) other in
+            let still : slot_in now d ≡ slot_in l d = offers.slots d ∙ ap (λ (b : Bool). cond {A = OutstandingRequest} b (new_slot l a) (slot_in l d)) other in
             let asks_it : asked past' 0 k ≡ asked past 0 k = same_asked past r k (omega (arith, low, known.offers_are)) in
             still ∙ ap (λ (e : ℕ). slot_in l e) head_is ∙ at.slots k low kept ∙ ap (λ (o : Option Asked). slot k (reads_of o)) (sym asks_it)
         | inr high ↦
             let is : k ≡ c = omega (arith, long, high, below) in
             let d : ℕ = slice_index heads' k in
             let here : d ≡ head = ap (λ (i : ℕ). slice_index heads' i) is ∙ last_head_is in
-            let fits : slice_index heads' c < n = driven.below c last_out in
-            let fits_here : d < size_in l = omega (arith, fits, here, last_head_is, at.places) in
-            let yes : ((d == head) && nat_lt d (size_in l)) ≡ true = grind (arith, nat_tests) in
+            let yes : (d == head) ≡ true = grind (arith, nat_tests) in
             let new : slot_in now d ≡ new_slot l a = offers.slots d ∙ ap (λ (b : Bool). cond {A = OutstandingRequest} b (new_slot l a) (slot_in l d)) yes in
             let number : offered_in l ≡ k = at.offers_are ∙ sym is in
             let asks_it : asked past' 0 k ≡ Some r = new_asked past r k (is ∙ known.offers_are) in
             new ∙ ap (λ (i : ℕ). slot i (reads_in a)) number ∙ ap (λ (i : ℕ). slot k i) (sym (reads_are a)) ∙ ap (λ (o : Option Asked). slot k (reads_of o)) (sym asks_it)
       ];
     }
-  where
-    among_taken : (xs : List ℕ) (k x : ℕ) → is_among (take k xs) x ≡ true → is_among xs x ≡ true
-    among_taken [] zero x held = held
-    among_taken [] (suc k) x held = held
-    among_taken (y ∷ xs) zero x held = absurd (let fails : false ≡ true = held in cc)
-    among_taken (y ∷ xs) (suc k) x held =
-        let rest : is_among (take k xs) x ≡ true → is_among xs x ≡ true = λ h. among_taken xs k x h in
-        grind (arith, nat_tests)
 
 -- ---- the moment
 
@@ -149,9 +152,31 @@ with_front w memory guest asked outstanding = record w { memory = memory; guest 
 abbrev pub stored_moment : Header1 → ℕ → Waiting → Moment → Moment
 stored_moment h count x m = (guest_stores h 0 count (Some x) m).next
 
+-- a moment of a run, where these are all that were left
+offered_good : (h : Header1) (es : List Event) (rs : List Record) (m : Moment) (x : Waiting) (is : List Item) (count : ℕ) → Stands h es rs m → count < 65536 → 0 < length x.left → length x.left ≤ count
+    → played is (stored_moment h count x m) ≡ guest h 0 count m → Good h (moment_with count x m (offered_scene h (request_of x.ask) (put_all x.left m.scene.memory) m.scene))
+offered_good h es rs m x is count s fits some few plays =
+    let next : Moment = stored_moment h count x m in
+    let record_of : Record = record { event = events.Guest 0 count; items = is } in
+    let later : Good h next = stands_good h (es ++ events.Guest 0 count ∷ []) (rs ++ record_of ∷ []) next (stands_more h es rs m next (events.Guest 0 count) record_of s (refl, omega (arith, some, few), fits) refl plays) in
+    subst (λ (n : Moment). Good h n) (ap (moment_with count x m) (guest_scene h count x.ask x.left m.scene some few)) later
+
+-- the head that the last store of a request shows is a descriptor of its ring
+pub shown_below : (h : Header1) (es : List Event) (rs : List Record) (m : Moment) (x : Waiting) → Stands h es rs m → (m.lanes 0).driver.waiting ≡ Some x → 0 < length x.left → length x.left ≤ 8 → last_head (the_ring h.size) (put_all x.left m.scene.memory) < h.size
+shown_below h es rs m x s waits some few =
+    let count : ℕ = length x.left in
+    let heads : List ℕ = m.scene.heads 0 in
+    let head : ℕ = last_head (the_ring h.size) (put_all x.left m.scene.memory) in
+    let is : List Item = (guest_stores h 0 count (Some x) m).items in
+    let plays : played is (stored_moment h count x m) ≡ guest h 0 count m = ap (λ (o : Option Waiting). if_ready (is_some o) (guest_stores h 0 count o m) m) (sym waits) in
+    let good = offered_good h es rs m x is count s (omega (arith, few)) some (omega arith) plays in
+    let known : Known h.size h.capacity m.scene.past heads = (stands_good h es rs m s).holds.known in
+    let low : slice_index (heads ++ head ∷ []) (length heads) < h.size = good.holds.driven.below (length heads) (new_out h.size h.capacity m.scene.past heads (request_of x.ask) head known) in
+    omega (arith, low, new_head heads head)
+
 -- where these are all that were left
 offered_at : (w : Machine) (memory : WatchedShared) (guest' : Guest) (asked' : Option Ask) (outstanding : OutstandingRequests) (es : List Event) (rs : List Record) (m : Moment) (x : Waiting) (is : List Item) (count : ℕ)
-    → seen_in guest' ≡ seen_in w.guest → Stands w.header es rs m → MachineAt w m → count < 65536 → 0 < length x.left → length x.left ≤ count
+    → last_used_in guest' ≡ last_used_in w.guest → Stands w.header es rs m → MachineAt w m → count < 65536 → 0 < length x.left → length x.left ≤ count
     → played is (stored_moment w.header count x m) ≡ guest w.header 0 count m → GuestGoes count x w (with_front w memory guest' asked' outstanding) m [] is
     → MachineAt (with_front w memory guest' asked' outstanding) (stored_moment w.header count x m)
 offered_at w memory guest' asked' outstanding es rs m x is count position s at fits some few plays goes =
@@ -160,13 +185,11 @@ offered_at w memory guest' asked' outstanding es rs m x is count position s at f
     let good : Good h m = stands_good h es rs m s in
     let r : Asked = request_of x.ask in
     let next : Moment = stored_moment h count x m in
-    let record_of : Record = record { event = events.Guest 0 count; items = is } in
-    let later : Good h next = stands_good h (es ++ events.Guest 0 count ∷ []) (rs ++ record_of ∷ []) next (stands_more h es rs m next (events.Guest 0 count) record_of s (refl, omega (arith, some, few), fits) refl plays) in
     let b : Bytes = put_all x.left m.scene.memory in
     let scene : after_items h (guest_items count 0 x.ask x.left) m.scene ≡ offered_scene h r b m.scene = guest_scene h count x.ask x.left m.scene some few in
     let whole : next ≡ moment_with count x m (offered_scene h r b m.scene) = ap (moment_with count x m) scene in
     let front : FrontAt now (moment_with count x m (offered_scene h r b m.scene)) = subst (λ (n : Moment). FrontAt now n) whole goes.front in
-    let good_next : Good h (moment_with count x m (offered_scene h r b m.scene)) = subst (λ (n : Moment). Good h n) whole later in
+    let good_next : Good h (moment_with count x m (offered_scene h r b m.scene)) = offered_good h es rs m x is count s fits some few plays in
     let shown : head_shown now ≡ last_head (the_ring h.size) b = ap (λ (bs : Bytes). last_head (the_ring h.size) bs) front.memory in
     let offers : Offers w.outstanding outstanding (last_head (the_ring h.size) b) x.ask = subst (λ (d : ℕ). Offers w.outstanding outstanding d x.ask) shown (goes.outstanding.offers few) in
     let stands : MachineAt now (moment_with count x m (offered_scene h r b m.scene)) = record {
@@ -179,7 +202,7 @@ offered_at w memory guest' asked' outstanding es rs m x is count position s at f
     subst (λ (n : Moment). MachineAt now n) (sym whole) stands
 
 -- where some are left
-partly_at : (w : Machine) (memory : WatchedShared) (guest' : Guest) (asked' : Option Ask) (outstanding : OutstandingRequests) (m : Moment) (x : Waiting) (is : List Item) (count : ℕ) → seen_in guest' ≡ seen_in w.guest → MachineAt w m → count < length x.left
+partly_at : (w : Machine) (memory : WatchedShared) (guest' : Guest) (asked' : Option Ask) (outstanding : OutstandingRequests) (m : Moment) (x : Waiting) (is : List Item) (count : ℕ) → last_used_in guest' ≡ last_used_in w.guest → MachineAt w m → count < length x.left
     → GuestGoes count x w (with_front w memory guest' asked' outstanding) m [] is → MachineAt (with_front w memory guest' asked' outstanding) (stored_moment w.header count x m)
 partly_at w memory guest' asked' outstanding m x is count position at part goes =
     let h : Header1 = w.header in
@@ -198,7 +221,7 @@ partly_at w memory guest' asked' outstanding m x is count position at part goes 
 
 -- the event is played
 pub guest_performs : (w now : Machine) (es : List Event) (rs : List Record) (m : Moment) (x : Waiting) (is : List Item) (count : ℕ) → now ≡ record w { memory = now.memory; guest = now.guest; asked = now.asked; outstanding = now.outstanding }
-    → seen_in now.guest ≡ seen_in w.guest → Stands w.header es rs m → MachineAt w m → count < 65536 → 0 < length x.left → (m.lanes 0).driver.waiting ≡ Some x
+    → last_used_in now.guest ≡ last_used_in w.guest → Stands w.header es rs m → MachineAt w m → count < 65536 → 0 < length x.left → (m.lanes 0).driver.waiting ≡ Some x
     → GuestGoes count x w now m [] is → (next : Moment) × (played is next ≡ guest w.header 0 count m) × MachineAt now next
 guest_performs w now es rs m x is count frame position s at fits some waits goes =
     let h : Header1 = w.header in

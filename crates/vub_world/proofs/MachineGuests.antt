@@ -14,7 +14,7 @@ use Rattle.vub_world.specs.declared.machine.Machine.{Machine}
 use Rattle.vub_report.specs.declared.items.Item.{Item}
 use Rattle.vub_report.specs.declared.items.Item.TheVariants as items
 use Rattle.vub_guest.proofs.GuestLemmas.{left_some}
-use Rattle.vub_guest.specs.GuestState.{seen_in}
+use Rattle.vub_guest.specs.GuestState.{last_used_in}
 use Rattle.vub_room.specs.Rooms.{RoomState, Spends}
 use Rattle.vub_world.specs.OutstandingRequests.{Offers}
 use Rattle.vub_run.specs.Memory.{Scene, after_items}
@@ -142,7 +142,7 @@ pub record GuestLoop (done : ℕ) (w now : Machine) (r room : RoomState) : Type 
   pub sound : IsSound now
   pub fits : FrontFits now
   pub outstanding : now.outstanding ≡ w.outstanding
-  pub position : seen_in now.guest ≡ seen_in w.guest
+  pub position : last_used_in now.guest ≡ last_used_in w.guest
   pub items_left : room.item_room + done ≡ r.item_room
   pub lists_left : room.lists + done ≡ r.lists
   pub goes : (m : Moment) (x : Waiting) → FrontAt w m → (m.lanes 0).driver.waiting ≡ Some x → (done < length x.left) × GuestGoes done x w now m r.items room.items
@@ -165,7 +165,7 @@ pub frame_more : (w v now : Machine) → v ≡ record w { memory = v.memory; gue
 frame_more w v now first last = last ∙ ap (λ (u : Machine). record u { memory = now.memory; guest = now.guest; asked = now.asked; outstanding = now.outstanding }) first
 
 -- one store that isn't the last
-pub loop_more : (done : ℕ) (w v now : Machine) (r mid room : RoomState) → GuestLoop done w v r mid → now ≡ record v { memory = now.memory; guest = now.guest; asked = now.asked; outstanding = now.outstanding } → IsSound now → FrontFits now → now.outstanding ≡ v.outstanding → seen_in now.guest ≡ seen_in v.guest → Spends 1 1 mid room
+pub loop_more : (done : ℕ) (w v now : Machine) (r mid room : RoomState) → GuestLoop done w v r mid → now ≡ record v { memory = now.memory; guest = now.guest; asked = now.asked; outstanding = now.outstanding } → IsSound now → FrontFits now → now.outstanding ≡ v.outstanding → last_used_in now.guest ≡ last_used_in v.guest → Spends 1 1 mid room
     → ((n : Moment) → FrontAt v n → GuestSteps (n.lanes 0).driver.waiting v now n mid.items room.items true) → GuestLoop (suc done) w now r room
 loop_more done w v now r mid room loop frame sound fits outstanding position spent step = record {
   frame = frame_more w v now loop.frame frame;

@@ -11,7 +11,6 @@ use Rattle.vub_queue.specs.QueueState.{QueueState}
 use Rattle.vub_steps.specs.Steps.{next_step}
 use Rattle.vub_steps.specs.declared.steps.Step.TheVariants.{Index}
 use Rattle.vub_base.specs.declared.store.Tag.{Tag}
-use Rattle.vub_base.specs.declared.store.Area.{Area}
 use Rattle.vub_base.specs.declared.store.Area.TheVariants.{M}
 use Rattle.vub_shared.specs.Bytes.{Bytes, cleared}
 use Rattle.vub_shared.specs.Stores.{Store, one_store}
@@ -47,13 +46,13 @@ pub one_item : (stores : List Store) (tag : Tag) (o : IsOne stores) → stored_i
 one_item stores tag o = ap (stored_items tag) o.is
 
 -- an item of it
-pub one_noted : (tag : Tag) (area : Area) (place : ℕ) (bytes kept : List ℕ) (stores : List Store) (o : IsOne stores) (space : ℕ) (before after noted : List Item) → one_store space place bytes ≡ o.st → area ≡ M → kept ≡ bytes
-    → before ≡ noted → after ≡ before ++ items.Store tag area place kept ∷ [] → after ≡ noted ++ stored_items tag stores
-one_noted tag area place bytes kept stores o space before after noted same in_guest copied goes is =
+pub one_noted : (tag : Tag) (place : ℕ) (bytes kept : List ℕ) (stores : List Store) (o : IsOne stores) (space : ℕ) (before after noted : List Item) → one_store space place bytes ≡ o.st → kept ≡ bytes
+    → before ≡ noted → after ≡ before ++ items.Store tag M place kept ∷ [] → after ≡ noted ++ stored_items tag stores
+one_noted tag place bytes kept stores o space before after noted same copied goes is =
     let place_is : place ≡ o.st.place = ap (λ (st : Store). st.place) same in
     let bytes_is : kept ≡ o.st.bytes = copied ∙ ap (λ (st : Store). st.bytes) same in
-    let item : List Item → Area → ℕ → List ℕ → List Item = λ front a p bs. front ++ items.Store tag a p bs ∷ [] in
-    is ∙ ap (λ (front : List Item). item front area place kept) goes ∙ ap (λ (a : Area). item noted a place kept) in_guest ∙ ap (λ (p : ℕ). item noted M p kept) place_is ∙ ap (item noted M o.st.place) bytes_is
+    let item : List Item → ℕ → List ℕ → List Item = λ front p bs. front ++ items.Store tag M p bs ∷ [] in
+    is ∙ ap (λ (front : List Item). item front place kept) goes ∙ ap (λ (p : ℕ). item noted p kept) place_is ∙ ap (item noted o.st.place) bytes_is
     ∙ ap (λ (is : List Item). noted ++ is) (sym (one_item stores tag o))
 
 -- ---- the answers of a batch

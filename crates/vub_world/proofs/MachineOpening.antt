@@ -13,7 +13,7 @@ use Rattle.vub_memdisk.specs.MemDisks.{values_of}
 use Rattle.vub_ring.specs.Ring.{Ring}
 use Rattle.vub_schedule.specs.Spelling.{IsHeader}
 use Rattle.vub_world.specs.declared.machine.Machine.{Machine}
-use Rattle.vub_guest.specs.GuestState.{driver_in, seen_in}
+use Rattle.vub_guest.specs.GuestState.{driver_in, last_used_in}
 use Rattle.vub_world.specs.OutstandingRequests.{offered_in, collected_in, size_in}
 use Rattle.vub_world.specs.declared.machine.Life.{Life}
 use Rattle.vub_world.specs.MachineAt.{MachineAt, LifeAt}
@@ -46,7 +46,7 @@ opening_zero h is s p = ap (λ (q : ℕ). opened h q s p) is.one ∙ indexes_zer
 
 -- ---- the world itself
 
-pub opens : (w : Machine) → IsHeader w.header → ((s p : ℕ) → bytes_in w.memory s p ≡ 0) → driver_in w.guest ≡ new_driver w.header.base → seen_in w.guest ≡ w.header.base → w.asked ≡ None → w.life ≡ None
+pub opens : (w : Machine) → IsHeader w.header → ((s p : ℕ) → bytes_in w.memory s p ≡ 0) → driver_in w.guest ≡ new_driver w.header.base → last_used_in w.guest ≡ w.header.base → w.asked ≡ None → w.life ≡ None
     → ((s : ℕ) → s < w.header.capacity → values_of w.disk s ≡ replicate 512 0) → offered_in w.outstanding ≡ 0 → collected_in w.outstanding ≡ 0 → size_in w.outstanding ≡ w.header.size → MachineAt w (opening w.header)
 unfolding zeros
 opens w is none driver position asked life disk offered collected size = record {

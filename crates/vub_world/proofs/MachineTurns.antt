@@ -40,7 +40,7 @@ use Rattle.vub_split.specs.declared.split.SplitRing.{SplitRing}
 use Rattle.vub_task.specs.declared.task.Task.{Task}
 use Rattle.vub_world.specs.OutstandingRequests.{slot_in}
 use Rattle.vub_world.specs.MachineAt.{OutstandingAt, reads_of}
-use Rattle.vub_world.specs.MachineDevice.{Device, DeviceAt, TurnMade, StoreFits, SectorFits, answer_for, answers_for, noted, stored_items, shown_of, is_index, accepts, number_at}
+use Rattle.vub_world.specs.MachineDevice.{Device, DeviceAt, TurnMade, IsMade, StoreFits, SectorFits, HeadFits, answer_for, answers_for, noted, stored_items, shown_of, is_index, accepts, number_at}
 use Rattle.vub_world.specs.MachineFront.{IsSmall, OneSmall}
 use Rattle.vub_run.specs.Memory.{after_items}
 use Rattle.vub_run.specs.Moments.{Lane, Moment, standing}
@@ -107,6 +107,7 @@ start_made h r m outstanding cap sizes d now x a ready does =
     let same : accepted (one_turn h 0 turns.Start m).next.scene.past 0 ≡ accepted m.scene.past 0 = ap (λ (is : List Item). accepted (after_items h is m.scene).past 0) s.made in
     record {
       goes = ap is_idle s.said;
+      made = subst (λ (y : Stepped). IsMade y) (sym s.said) tt;
       at = record {
         stands = s.stands;
         memory_is = some_is now.memory d.memory does.stores_are ∙ a.at.memory_is ∙ sym (ap (λ (is : List Item). (after_items h is m.scene).memory) s.made);
@@ -115,6 +116,7 @@ start_made h r m outstanding cap sizes d now x a ready does =
       items_are = s.made ∙ sym (ap (noted outstanding now.values now.stores (shown_of outstanding d.memory d.queue)) s.said);
       store = subst (λ (y : Stepped). StoreFits y now.stores) (sym s.said) tt;
       sector = subst (λ (y : Stepped). SectorFits h.capacity y) (sym s.said) tt;
+      head = subst (λ (y : Stepped). HeadFits h.size y) (sym s.said) tt;
       taken = omega (arith, none, same);
     }
 
@@ -143,12 +145,14 @@ fetch_made h r m outstanding cap sizes d now x a ready does =
     let told : Turns turns.Fetch (Some m.scene.memory) x d.queue now.queue = subst (λ (b : Bytes). Turns turns.Fetch (Some b) x d.queue now.queue) a.at.memory_is does.does in
     let s = fetch_stands h r m x d.queue now.queue a.plain a.good a.main a.at.stands ready does.fine told in
     let new = not_among-take (published m.scene.past 0) (collected m.scene.past 0) k (new_unpublished h.size h.capacity m.scene.past (m.scene.heads 0) a.good.holds.known) in
-    let slot = a.numbered.slots k (more_offered h m a.plain a.good ready) new in
+    let offered : k < length (m.scene.heads 0) = more_offered h m a.plain a.good ready in
+    let slot = a.numbered.slots k offered new in
     let number : number_at outstanding head ≡ k = ap (λ (o : OutstandingRequest). o.number) slot in
     let one : accepts x ≡ 1 = ap accepts s.said in
     let more : accepted (one_turn h 0 turns.Fetch m).next.scene.past 0 ≡ k + 1 = ap (λ (is : List Item). accepted (after_items h is m.scene).past 0) s.made in
     record {
       goes = ap is_idle s.said;
+      made = subst (λ (y : Stepped). IsMade y) (sym s.said) tt;
       at = record {
         stands = s.stands;
         memory_is = some_is now.memory d.memory does.stores_are ∙ a.at.memory_is ∙ sym (ap (λ (is : List Item). (after_items h is m.scene).memory) s.made);
@@ -157,6 +161,7 @@ fetch_made h r m outstanding cap sizes d now x a ready does =
       items_are = s.made ∙ ap (λ (n : ℕ). items.Made (entries.Accept 0 n) ∷ []) (sym number) ∙ sym (ap (noted outstanding now.values now.stores (shown_of outstanding d.memory d.queue)) s.said);
       store = subst (λ (y : Stepped). StoreFits y now.stores) (sym s.said) tt;
       sector = subst (λ (y : Stepped). SectorFits h.capacity y) (sym s.said) tt;
+      head = subst (λ (y : Stepped). HeadFits h.size y) (sym s.said) (a.good.holds.driven.below k (record { below = offered; kept = new }));
       taken = omega (arith, one, more);
     }
 
@@ -309,6 +314,7 @@ show_made h r m outstanding most d now x y a at has next s small off =
     let answers : shown_of outstanding d.memory d.queue ≡ list = shown_is outstanding d.memory d.queue next ∙ answers_same h r m outstanding d y a off in
     record {
       goes = ap is_idle has.said;
+      made = subst (λ (z : Stepped). IsMade z) (sym has.said) tt;
       at = at;
       items_are = has.items
           ∙ ap (λ (is : List Item). is ++ items.Made (entries.Publish 0 list) ∷ []) (sym (store_made d now SP5 y s))
@@ -316,6 +322,7 @@ show_made h r m outstanding most d now x y a at has next s small off =
           ∙ sym (ap (noted outstanding now.values now.stores (shown_of outstanding d.memory d.queue)) has.said);
       store = subst (λ (z : Stepped). StoreFits z now.stores) (sym has.said) (one_small d now y s small);
       sector = subst (λ (z : Stepped). SectorFits h.capacity z) (sym has.said) tt;
+      head = subst (λ (z : Stepped). HeadFits h.size z) (sym has.said) tt;
       taken = omega (arith, none, same);
     }
 
@@ -327,10 +334,12 @@ part_made h r m outstanding most d now x y at part s small =
     let same : accepted (one_turn h 0 (turns.Publish most) m).next.scene.past 0 ≡ accepted m.scene.past 0 = ap (λ (is : List Item). accepted (after_items h is m.scene).past 0) part.items in
     record {
       goes = ap is_idle part.said;
+      made = subst (λ (z : Stepped). IsMade z) (sym part.said) tt;
       at = at;
       items_are = part.items ∙ sym (store_made d now y.tag y s) ∙ sym (ap (noted outstanding now.values now.stores (shown_of outstanding d.memory d.queue)) part.said);
       store = subst (λ (z : Stepped). StoreFits z now.stores) (sym part.said) (one_small d now y s small);
       sector = subst (λ (z : Stepped). SectorFits h.capacity z) (sym part.said) tt;
+      head = subst (λ (z : Stepped). HeadFits h.size z) (sym part.said) tt;
       taken = omega (arith, none, same);
     }
 

@@ -171,10 +171,12 @@ turn_goes w m q q' t kept memory disk x has same turns =
           ap (λ (b : Bytes). shown_of w.outstanding b (state_of q)) same ∙ sym (ap (answers_shown w.outstanding (bytes_in w.memory)) has.life_is) in
           record {
             goes = made.goes;
+            made = made.made;
             at = made_at w m q q' t memory disk d x has made;
             items_are = made.items_are ∙ ap (λ (as_shown : List Answered). noted w.outstanding (values_of disk) (stores_in memory) as_shown x) shown;
             store = made.store;
             sector = made.sector;
+            head = made.head;
             taken = made.taken;
           },
       λ undue.

@@ -1,5 +1,5 @@
 -- A turn of the device at a moment of a run: work on a request, and any turn.
-use Rattle.std.proofs.Common.{◌≡◌, ◌≤◌, ℕ, ◌+◌, true, false, List, [], ◌∷◌, refl, ap, sym, ◌∙◌, subst, inl, inr, arith}
+use Rattle.std.proofs.Common.{◌≡◌, ◌<◌, ◌≤◌, ℕ, ◌+◌, true, false, List, [], ◌∷◌, refl, ap, sym, ◌∙◌, subst, inl, inr, arith}
 use Rattle.std.specs.Prelude.{Option, Some, option_map, nat_lt}
 use Rattle.vub_base.specs.declared.header.Header1.{Header1}
 use Rattle.vub_base.specs.declared.store.Tag.{Tag}
@@ -25,7 +25,7 @@ use Rattle.vub_steps.specs.declared.readiness.Choice.{Choice}
 use Rattle.vub_steps.specs.declared.readiness.Choice.TheVariants as choices
 use Rattle.vub_split.specs.declared.split.SplitRing.{SplitRing}
 use Rattle.vub_task.specs.declared.task.Task.{Task}
-use Rattle.vub_world.specs.MachineDevice.{Device, DeviceAt, TurnMade, DeviceTurns, StoreFits, SectorFits, noted, stored_items, shown_of, accepts, number_at}
+use Rattle.vub_world.specs.MachineDevice.{Device, DeviceAt, TurnMade, DeviceTurns, IsMade, StoreFits, SectorFits, HeadFits, noted, stored_items, shown_of, accepts, number_at}
 use Rattle.vub_world.specs.MachineFront.{OneSmall}
 use Rattle.vub_run.specs.Memory.{after_items}
 use Rattle.vub_run.specs.Moments.{Moment, standing}
@@ -84,43 +84,50 @@ says_well h head made request step (inr (inr (inr (inr x)))) =
 -- what a turn of work notes
 pub record NotesWork (h : Header1) (m : Moment) (t : Turn) (outstanding : OutstandingRequests) (d now : Device) (x : Stepped) : Type 0 where
   pub goes : is_idle x ≡ false
+  pub made : IsMade x
   pub items_are : (one_turn h 0 t m).items ≡ noted outstanding now.values now.stores (shown_of outstanding d.memory d.queue) x
   pub store : StoreFits x now.stores
+  pub head : HeadFits h.size x
   pub none : accepts x ≡ 0
   pub same : accepted (one_turn h 0 t m).next.scene.past 0 ≡ accepted m.scene.past 0
 
 -- of one store
 stores_noted : (h : Header1) (m : Moment) (t : Turn) (outstanding : OutstandingRequests) (d now : Device) (tag : Tag) (x : Stepped) (task : Task) (n : Making) → d.stores ≡ [] → Some now.stores ≡ option_map (with_maybe (due_store d.queue task n)) (Some d.stores)
-    → ShowsStore tag d.queue task n (turned h 0 t m).items → is_idle x ≡ false → accepts x ≡ 0 → noted outstanding now.values now.stores (shown_of outstanding d.memory d.queue) x ≡ stored_items tag now.stores → StoreFits x now.stores ≡ OneSmall now.stores
+    → ShowsStore tag d.queue task n (turned h 0 t m).items → is_idle x ≡ false → IsMade x → HeadFits h.size x → accepts x ≡ 0 → noted outstanding now.values now.stores (shown_of outstanding d.memory d.queue) x ≡ stored_items tag now.stores → StoreFits x now.stores ≡ OneSmall now.stores
     → NotesWork h m t outstanding d now x
-stores_noted h m t outstanding d now tag x task n fresh trails shows goes none notes fits =
+stores_noted h m t outstanding d now tag x task n fresh trails shows goes made head none notes fits =
     let st : Store = one_store 0 shows.place shows.bytes in
     let kept : now.stores ≡ st ∷ [] = some_is now.stores (with_maybe (due_store d.queue task n) d.stores) trails ∙ ap (λ (o : Option Store). with_maybe o d.stores) shows.due ∙ ap (λ (l : List Store). with_maybe (Some st) l) fresh in
     let small : OneSmall now.stores = subst (λ (l : List Store). OneSmall l) (sym kept) (record { space = refl; few = omega (arith, shows.few) }) in
     record {
       goes = goes;
+      made = made;
       items_are = shows.items ∙ sym (ap (stored_items tag) kept) ∙ sym notes;
       store = subst (λ (T : Type 0). T) (sym fits) small;
+      head = head;
       none = none;
       same = ap (λ (is : List Item). accepted (after_items h is m.scene).past 0) shows.items;
     }
 
 -- what is known of the step that is made
-pub record Makes (outstanding : OutstandingRequests) (d now : Device) (k : ℕ) (task : Task) (n : Making) (x : Stepped) : Type 0 where
+pub record Makes (size : ℕ) (outstanding : OutstandingRequests) (d now : Device) (k : ℕ) (task : Task) (n : Making) (x : Stepped) : Type 0 where
   pub fresh : d.stores ≡ []
+  pub below : head_in task < size
   pub number : number_at outstanding (head_in task) ≡ k
   pub values_are : now.values ≡ values_after n.request n.step d.values
   pub trails : Some now.stores ≡ option_map (with_maybe (due_store d.queue task n)) (Some d.stores)
   pub looks : (head sector : ℕ) (v : Values) → x ≡ says.Looked head sector → values_after n.request n.step v ≡ v
 
-work_noted : (h : Header1) (m : Moment) (t : Turn) (outstanding : OutstandingRequests) (d now : Device) (k : ℕ) (task : Task) (n : Making) (x : Stepped) → Makes outstanding d now k task n x → Shows d.values d.queue k task n (turned h 0 t m).items x → NotesWork h m t outstanding d now x
+work_noted : (h : Header1) (m : Moment) (t : Turn) (outstanding : OutstandingRequests) (d now : Device) (k : ℕ) (task : Task) (n : Making) (x : Stepped) → Makes h.size outstanding d now k task n x → Shows d.values d.queue k task n (turned h 0 t m).items x → NotesWork h m t outstanding d now x
 work_noted h m t outstanding d now k task n (says.Looked head sector) g shows =
     let values : now.values ≡ d.values = g.values_are ∙ g.looks head sector d.values refl in
     let number : number_at outstanding head ≡ k = ap (number_at outstanding) shows.0 ∙ g.number in
     record {
       goes = refl;
+      made = tt;
       items_are = shows.1 ∙ ap (λ (j : ℕ). items.Made (entries.Look 0 j sector (d.values sector)) ∷ []) (sym number) ∙ ap (λ (v : Values). items.Made (entries.Look 0 (number_at outstanding head) sector (v sector)) ∷ []) (sym values);
       store = tt;
+      head = omega (arith, shows.0, g.below);
       none = refl;
       same = ap (λ (is : List Item). accepted (after_items h is m.scene).past 0) shows.1;
     }
@@ -128,24 +135,28 @@ work_noted h m t outstanding d now k task n (says.Acted head sector) g shows =
     let number : number_at outstanding head ≡ k = ap (number_at outstanding) shows.0 ∙ g.number in
     record {
       goes = refl;
+      made = tt;
       items_are = shows.1
           ∙ ap (λ (j : ℕ). items.Made (entries.Act 0 j sector (values_after n.request n.step d.values sector)) ∷ []) (sym number)
           ∙ ap (λ (v : Values). items.Made (entries.Act 0 (number_at outstanding head) sector (v sector)) ∷ []) (sym g.values_are);
       store = tt;
+      head = omega (arith, shows.0, g.below);
       none = refl;
       same = ap (λ (is : List Item). accepted (after_items h is m.scene).past 0) shows.1;
     }
 work_noted h m t outstanding d now k task n (says.Stored tag) g shows =
-    stores_noted h m t outstanding d now T2 (says.Stored tag) task n g.fresh g.trails shows.1 refl refl (ap (λ (y : Tag). stored_items y now.stores) shows.0) refl
-work_noted h m t outstanding d now k task n (says.Completed head) g shows = stores_noted h m t outstanding d now T5 (says.Completed head) task n g.fresh g.trails shows.1 refl refl refl refl
+    stores_noted h m t outstanding d now T2 (says.Stored tag) task n g.fresh g.trails shows.1 refl tt tt refl (ap (λ (y : Tag). stored_items y now.stores) shows.0) refl
+work_noted h m t outstanding d now k task n (says.Completed head) g shows = stores_noted h m t outstanding d now T5 (says.Completed head) task n g.fresh g.trails shows.1 refl tt tt refl refl refl
 work_noted h m t outstanding d now k task n says.Idle g shows = absurd shows
 work_noted h m t outstanding d now k task n (says.Accepted head) g shows = absurd shows
 work_noted h m t outstanding d now k task n (says.Synced head) g shows =
     let number : number_at outstanding head ≡ k = ap (number_at outstanding) shows.0 ∙ g.number in
     record {
       goes = refl;
+      made = tt;
       items_are = shows.1 ∙ ap (λ (j : ℕ). items.Made (entries.Sync 0 j) ∷ []) (sym number);
       store = tt;
+      head = omega (arith, shows.0, g.below);
       none = refl;
       same = ap (λ (is : List Item). accepted (after_items h is m.scene).past 0) shows.1;
     }
@@ -169,13 +180,15 @@ work_made h r m outstanding sizes place d now x a room ready does =
     let shows : Shows d.values q w.k w.task n (turned h 0 (turns.Work place) m).items x =
     subst (λ (y : Stepped). Shows d.values q w.k w.task n (turned h 0 (turns.Work place) m).items y) (sym out.says) (work_items h sizes m r q place d.values w a.plain a.good a.main a.at.stands a.at.disk) in
     let is_out : IsOut m.scene.past (m.scene.heads 0) w.k = open_out h.size h.capacity m.scene.past (m.scene.heads 0) w.k a.good.holds.known w.is_open in
+    let below : head_in w.task < h.size = omega (arith, w.head, a.good.holds.driven.below w.k is_out) in
     let number : number_at outstanding (head_in w.task) ≡ w.k = ap (number_at outstanding) w.head ∙ ap (λ (o : OutstandingRequest). o.number) (a.numbered.slots w.k is_out.below is_out.kept) in
     let values : now.values ≡ values_after w.request w.step d.values = some_is now.values (values_after w.request w.step d.values) out.values in
-    let notes : NotesWork h m (turns.Work place) outstanding d now x = work_noted h m (turns.Work place) outstanding d now w.k w.task n x (record { fresh = a.fresh; number = number; values_are = values; trails = out.trails; looks = well_too.looks }) shows in
+    let notes : NotesWork h m (turns.Work place) outstanding d now x = work_noted h m (turns.Work place) outstanding d now w.k w.task n x (record { fresh = a.fresh; below = below; number = number; values_are = values; trails = out.trails; looks = well_too.looks }) shows in
     let memory : now.memory ≡ memory_after q.ring n (sector_at q (head_in w.task)) m.scene.memory =
     some_is now.memory (memory_after q.ring n (sector_at q (head_in w.task)) d.memory) out.stores ∙ ap (memory_after q.ring n (sector_at q (head_in w.task))) a.at.memory_is in
     record {
       goes = notes.goes;
+      made = notes.made;
       at = record {
         stands = work_stands h sizes m r q now.queue place d.values w a.plain a.good a.at.stands a.at.disk out.leaves;
         memory_is = memory ∙ sym (work_memory h sizes m r q place w a.plain a.good a.main a.at.stands);
@@ -184,6 +197,7 @@ work_made h r m outstanding sizes place d now x a room ready does =
       items_are = notes.items_are;
       store = notes.store;
       sector = well_too.sector;
+      head = notes.head;
       taken = omega (arith, notes.none, notes.same);
     }
 

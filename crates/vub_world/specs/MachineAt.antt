@@ -20,7 +20,7 @@ use Rattle.vub_queue.specs.declared.queue.Queue.{Queue}
 use Rattle.vub_world.specs.declared.machine.Life.{Life}
 use Rattle.vub_world.specs.declared.machine.Machine.{Machine}
 use Rattle.vub_world.specs.OutstandingRequests.{offered_in, collected_in, size_in, slot_in}
-use Rattle.vub_guest.specs.GuestState.{driver_in, seen_in}
+use Rattle.vub_guest.specs.GuestState.{driver_in, last_used_in}
 use Rattle.vub_queue.specs.QueueState.{state_of}
 use Rattle.vub_queue_in_run.specs.QueueAt.{QueueStands, DiskAt}
 use Rattle.vub_run.specs.Moments.{Moment}
@@ -61,7 +61,7 @@ pub record OutstandingAt (size : ℕ) (past : List Entry) (heads : List ℕ) (ou
 
 pub record MachineAt (w : Machine) (m : Moment) : Type 0 where
   pub front : FrontAt w m
-  pub position : seen_in w.guest ≡ (w.header.base + collected m.scene.past 0) % 65536
+  pub position : last_used_in w.guest ≡ (w.header.base + collected m.scene.past 0) % 65536
   pub life : LifeAt w.header w.ring m w.life
   pub disk : DiskAt w.header.capacity m.scene.past (values_of w.disk)
   pub outstanding : OutstandingAt w.header.size m.scene.past (m.scene.heads 0) w.outstanding

@@ -15,7 +15,6 @@ use Rattle.vub_steps.specs.declared.steps.Step.{Step}
 use Rattle.vub_steps.specs.declared.steps.Step.TheVariants.{Index}
 use Rattle.vub_driver.specs.Layout.{guest_space, area_place, buffer_place, status_place, sectors_place}
 use Rattle.vub_device.specs.declared.entry.Answered.{Answered}
-use Rattle.vub_device.specs.declared.entry.Entry.{Entry}
 use Rattle.vub_device.specs.declared.entry.Entry.TheVariants as entries
 use Rattle.vub_memdisk.specs.MemDisks.{values_of}
 use Rattle.vub_memdisk.specs.declared.mem_disk.MemDisk.{MemDisk}
@@ -29,7 +28,7 @@ use Rattle.vub_queue.specs.declared.queue.Queue.{Queue}
 use Rattle.vub_split.specs.declared.split.SplitRing.{SplitRing}
 use Rattle.vub_queue.specs.declared.queue.Stepped.{Stepped}
 use Rattle.vub_queue.specs.declared.queue.Stepped.TheVariants as says
-use Rattle.vub_world.specs.OutstandingRequests.{slot_in}
+use Rattle.vub_world.specs.OutstandingRequests.{size_in, slot_in}
 use Rattle.vub_run.specs.Moments.{Moment, standing}
 use Rattle.vub_steps.specs.declared.readiness.Choice.{Choice}
 use Rattle.vub_steps.specs.Readiness.{chosen}
@@ -61,7 +60,7 @@ stored_items tag (st ∷ []) = store_item tag st ∷ []
 stored_items tag sts = []
 
 -- the items of a turn, where the outstanding requests, the values of the disk, the stores of the turn and the answers of the batch that
--- it shows are these
+-- it shows are these; none of one that wasn't made
 abbrev pub noted : OutstandingRequests → Values → List Store → List Answered → Stepped → List Item
 noted outstanding v stores answers (says.Stored tag) = stored_items tag stores
 noted outstanding v stores answers (says.Completed head) = stored_items T5 stores
@@ -71,7 +70,6 @@ noted outstanding v stores answers (says.Accepted head) = items.Made (entries.Ac
 noted outstanding v stores answers (says.Looked head sector) = items.Made (entries.Look 0 (number_at outstanding head) sector (v sector)) ∷ []
 noted outstanding v stores answers (says.Acted head sector) = items.Made (entries.Act 0 (number_at outstanding head) sector (v sector)) ∷ []
 noted outstanding v stores answers (says.Synced head) = items.Made (entries.Sync 0 (number_at outstanding head)) ∷ []
-noted outstanding v stores answers (says.Faulted head) = items.Made (entries.Fault 0 (number_at outstanding head)) ∷ []
 noted outstanding v stores answers x = []
 
 -- ---- the device
@@ -103,6 +101,14 @@ is_showing q = is_index (next_step (length q.batch) q.phase)
 abbrev pub shown_of : OutstandingRequests → Bytes → QueueState → List Answered
 shown_of outstanding m q = if is_showing q then answers_for outstanding m q.batch else []
 
+-- a turn was made: it failed nowhere, and broke no rule
+abbrev pub IsMade : Stepped → Type 0
+IsMade says.Idle = ⊥
+IsMade (says.Faulted head) = ⊥
+IsMade says.SharedFault = ⊥
+IsMade (says.Broken fault) = ⊥
+IsMade x = ⊤
+
 -- a turn that says so stores once, a sector at most
 abbrev pub StoreFits : Stepped → List Store → Type 0
 StoreFits (says.Stored tag) stores = OneSmall stores
@@ -116,13 +122,13 @@ SectorFits capacity (says.Looked head sector) = sector < capacity
 SectorFits capacity (says.Acted head sector) = sector < capacity
 SectorFits capacity x = ⊤
 
--- the entry of a turn that stores nothing
-abbrev pub IsEntry : OutstandingRequests → Values → Stepped → Option Entry → Type 0
-IsEntry outstanding v (says.Stored tag) e = ⊤
-IsEntry outstanding v (says.Completed head) e = ⊤
-IsEntry outstanding v says.Published e = ⊤
-IsEntry outstanding v x None = noted outstanding v [] [] x ≡ []
-IsEntry outstanding v x (Some e) = noted outstanding v [] [] x ≡ items.Made e ∷ []
+-- a head that it names has a place in the table of outstanding requests
+abbrev pub HeadFits : ℕ → Stepped → Type 0
+HeadFits size (says.Accepted head) = head < size
+HeadFits size (says.Looked head sector) = head < size
+HeadFits size (says.Acted head sector) = head < size
+HeadFits size (says.Synced head) = head < size
+HeadFits size x = ⊤
 
 -- the turn that a choice comes to at a moment
 abbrev pub turn_here : Header1 → Choice → Moment → Turn
@@ -136,10 +142,12 @@ accepts x = 0
 -- a turn that is due was made
 pub record TurnMade (h : Header1) (r : SplitRing) (m : Moment) (t : Turn) (outstanding : OutstandingRequests) (d now : Device) (x : Stepped) : Type 0 where
   pub goes : is_idle x ≡ false
+  pub made : IsMade x
   pub at : DeviceAt h r (one_turn h 0 t m).next now
   pub items_are : (one_turn h 0 t m).items ≡ noted outstanding now.values now.stores (shown_of outstanding d.memory d.queue) x
   pub store : StoreFits x now.stores
   pub sector : SectorFits h.capacity x
+  pub head : HeadFits h.size x
   pub taken : accepts x + accepted m.scene.past 0 ≡ accepted (one_turn h 0 t m).next.scene.past 0
 
 -- the turn is made where it is due, and else nothing is
@@ -190,6 +198,6 @@ abbrev pub is_joining : Option Life → Bool
 is_joining None = false
 is_joining (Some l) = not (has_queue l.queue)
 
--- each head of a batch has a buffer, and its request reads eight sectors at most
+-- each head of a batch has a buffer and a place in the table, and its request reads eight sectors at most
 abbrev pub BatchFits : OutstandingRequests → List (ℕ × ℕ) → Type 0
-BatchFits outstanding batch = (i : ℕ) (x : ℕ × ℕ) → slice_get batch i ≡ Some x → (x.0 < 64) × ((slot_in outstanding x.0).reads ≤ 8)
+BatchFits outstanding batch = (i : ℕ) (x : ℕ × ℕ) → slice_get batch i ≡ Some x → (x.0 < 64) × (x.0 < size_in outstanding) × ((slot_in outstanding x.0).reads ≤ 8)

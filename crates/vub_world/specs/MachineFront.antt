@@ -3,7 +3,8 @@ use Rattle.std.specs.Prelude.{◌≡◌, ◌<◌, ◌≤◌, ℕ, Bool, false, n
 use Rattle.std.specs.List.{AllByRecursion}
 use Rattle.vub_base.specs.declared.store.Tag.{Tag}
 use Rattle.vub_base.specs.declared.store.Area.TheVariants.{M}
-use Rattle.vub_shared.specs.Stores.{Store}
+use Rattle.vub_shared.specs.Stores.{Store, after_store}
+use Rattle.vub_shared.specs.Bytes.{Bytes}
 use Rattle.vub_shared.specs.Watched.{bytes_in}
 use Rattle.vub_ring.specs.Ring.{last_head}
 use Rattle.vub_driver.specs.Layout.{ring_of}
@@ -11,7 +12,7 @@ use Rattle.vub_driver.specs.Drivers.{Waiting}
 use Rattle.vub_report.specs.declared.items.Item.{Item}
 use Rattle.vub_report.specs.declared.items.Item.TheVariants as items
 use Rattle.vub_world.specs.declared.machine.Machine.{Machine}
-use Rattle.vub_world.specs.OutstandingRequests.{Offers}
+use Rattle.vub_world.specs.OutstandingRequests.{size_in, Offers}
 use Rattle.vub_guest.specs.GuestState.{driver_in}
 use Rattle.vub_run.specs.Moments.{Moment}
 use Rattle.vub_run.specs.Run.{guest_stores}
@@ -26,10 +27,21 @@ abbrev pub AreSmall : Option Waiting → Type 0
 AreSmall None = ⊤
 AreSmall (Some w) = AllByRecursion IsSmall w.left
 
+-- memory after these stores
+abbrev pub after_all : List Store → Bytes → Bytes
+after_all [] m = m
+after_all (st ∷ left) m = after_all left (after_store st m)
+
+-- the head that the last of the stores that are left shows has a place in the table of outstanding requests
+abbrev pub ShowsPlace : Machine → Option Waiting → Type 0
+ShowsPlace w None = ⊤
+ShowsPlace w (Some x) = last_head (ring_of 0 w.header.size) (after_all x.left (bytes_in w.memory)) < size_in w.outstanding
+
 -- the request that waits is kept, and all that is noted of it has room
 pub record FrontFits (w : Machine) : Type 0 where
   pub stores : AreSmall (driver_in w.guest).waiting
   pub kept : AskAt (driver_in w.guest).waiting w.asked
+  pub place : ShowsPlace w (driver_in w.guest).waiting
 
 abbrev pub store_item : Tag → Store → Item
 store_item tag st = items.Store tag M st.place st.bytes

@@ -18,15 +18,17 @@ use Rattle.vub_run.specs.Moments.{Moment}
 use Rattle.vub_queue.specs.QueueState.{is_idle}
 use Rattle.vub_run.specs.Run.{Stands, played, single, turns, one_turn, is_due}
 use Rattle.vub_world.specs.MachineAt.{MachineAt}
-use Rattle.vub_world.specs.MachineDevice.{noted, StoreFits, SectorFits, accepts, answers_shown}
+use Rattle.vub_world.specs.MachineDevice.{noted, IsMade, StoreFits, SectorFits, HeadFits, accepts, answers_shown}
 
 -- a turn that was due
 pub record MachineTurns (t : Turn) (w now : Machine) (m : Moment) (x : Stepped) : Type 0 where
   pub goes : is_idle x ≡ false
+  pub made : IsMade x
   pub at : MachineAt now (one_turn w.header 0 t m).next
   pub items_are : (one_turn w.header 0 t m).items ≡ noted now.outstanding (values_of now.disk) (stores_in now.memory) (answers_shown w.outstanding (bytes_in w.memory) w.life) x
   pub store : StoreFits x (stores_in now.memory)
   pub sector : SectorFits w.header.capacity x
+  pub head : HeadFits w.header.size x
   pub taken : accepts x + accepted m.scene.past 0 ≡ accepted (one_turn w.header 0 t m).next.scene.past 0
 
 -- a turn of the machine

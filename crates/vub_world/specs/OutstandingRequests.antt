@@ -1,5 +1,5 @@
 -- What the table of a queue's outstanding requests tells.
-use Rattle.std.specs.Prelude.{◌≡◌, ℕ, ◌+◌, ◌==◌, ◌&&◌, nat_lt, if◌then◌else◌, length, get_or}
+use Rattle.std.specs.Prelude.{◌≡◌, ℕ, ◌+◌, ◌==◌, if◌then◌else◌, length, get_or}
 use Rattle.vub_base.specs.declared.request.Ask.{Ask}
 use Rattle.vub_base.specs.declared.request.Ask.TheVariants as asks
 use Rattle.vub_world.specs.declared.outstanding.OutstandingRequests.{OutstandingRequests}
@@ -31,9 +31,9 @@ reads_in a = 0
 abbrev pub new_slot : OutstandingRequests → Ask → OutstandingRequest
 new_slot l a = record { number = offered_in l; reads = reads_in a }
 
--- a request is noted under a head, if the table has a slot for it
+-- a request is noted under a head
 pub record Offers (before now : OutstandingRequests) (head : ℕ) (a : Ask) : Type 0 where
   pub offered : offered_in now ≡ offered_in before + 1
   pub collected : collected_in now ≡ collected_in before
   pub size : size_in now ≡ size_in before
-  pub slots : (d : ℕ) → slot_in now d ≡ (if (d == head) && nat_lt d (size_in before) then new_slot before a else slot_in before d)
+  pub slots : (d : ℕ) → slot_in now d ≡ (if d == head then new_slot before a else slot_in before d)

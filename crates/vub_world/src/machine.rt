@@ -1,5 +1,5 @@
 //! The parts of a world, and what each event does with them.
-ghost use Rattle.std.specs.Prelude.{◌≡◌, ◌<◌, ◌≤◌, ◌+◌, ◌-◌, ◌*◌, ◌^◌, ◌++◌, ◌∷◌, [], ℕ, min, not, List, IfOk, OnOk, OnErr, length, true, false, Some, None};
+ghost use Rattle.std.specs.Prelude.{◌≡◌, ◌<◌, ◌≤◌, ◌+◌, ◌-◌, ◌*◌, ◌^◌, ◌++◌, ◌∷◌, [], ℕ, min, not, List, IfOk, OnOk, OnErr, IsSome, length, true, false, Some, None};
 ghost use Rattle.vub_shared.specs.Watched.{bytes_in, stores_in, sizes_in, IsUnfailed};
 ghost use Rattle.vub_driver.specs.Layout.{ring_of as main_ring};
 ghost use Rattle.vub_schedule.specs.Spelling.{IsHeader, IsEvent};
@@ -97,11 +97,11 @@ impl Machine {
     ghost use Rattle.vub_guest.specs.declared.guest.Collected.TheVariants as takes;
     ghost use Rattle.vub_report.specs.declared.items.Item.TheVariants as items;
     ghost use Rattle.vub_report.specs.declared.items.Record.{Record};
-    ghost use Rattle.vub_guest.specs.GuestState.{driver_in, seen_in, next_store, Steps, Shows, Collects};
-    ghost use Rattle.vub_world.specs.OutstandingRequests.{offered_in, collected_in, slot_in, Offers};
+    ghost use Rattle.vub_guest.specs.GuestState.{driver_in, last_used_in, next_store, Steps, Shows, Collects};
+    ghost use Rattle.vub_world.specs.OutstandingRequests.{offered_in, collected_in, size_in, slot_in, Offers};
     ghost use Rattle.vub_world.specs.Machine.{IsSound, LendsSound};
     ghost use Rattle.vub_world.specs.MachineAt.{FrontAt, MachineAt, IsReached, IsStanding, Performs, StandsOn};
-    ghost use Rattle.vub_world.specs.MachineDevice.{BatchFits, ShowsSome, StoreFits, SectorFits, IsEntry, stored_items, is_joining, answer_for, answers_for, answers_shown, batch_in, shown_in, noted, accepts, turn_here};
+    ghost use Rattle.vub_world.specs.MachineDevice.{BatchFits, ShowsSome, IsMade, StoreFits, SectorFits, HeadFits, stored_items, number_at, is_joining, answer_for, answers_for, answers_shown, batch_in, shown_in, noted, accepts, turn_here};
     ghost use Rattle.vub_world.specs.MachineSteps.{TurnGoes, StepGoes, TurnsGo, PlaysSingle, PlaysTurns};
     ghost use Rattle.vub_world.specs.MachineFront.{FrontFits, OneSmall, GuestSteps, GuestGoes, head_shown};
     ghost use Rattle.vub_room.specs.Rooms.{HasTurnRoom, HasRoom, Spends, SpendsAnswers, SpendsUpTo, SpendsTurn, SpendsStep};
@@ -171,29 +171,24 @@ impl Machine {
         Items::new(Vec::new(self.alloc))
     }
 
-    /// Notes the store that was made last.
+    /// Notes the store that was made last: it is one into guest memory.
     fn note_store(&self, tag: Tag, room: &mut Room)
         requires one { OneSmall (stores_in self.now.memory) }
-        requires space { self.now.space.number ≡ 0 }
         requires items { 1 ≤ room.old.item_room }
         requires lists { 1 ≤ room.old.lists }
         ensures items { room.new.items ≡ room.old.items ++ stored_items tag (stores_in self.now.memory) }
         ensures spent { Spends 1 1 room.old room.new }
     {
-        if let Some((space, place, bytes)) = self.memory.last_store() {
-            let area = if space == self.space {
-                Area::M
-            } else {
-                Area::I
-            };
-            let bytes = room.copy(bytes);
-            room.note(Item::Store {
-                tag,
-                area,
-                place,
-                bytes,
-            });
-        }
+        let Some((_, place, bytes)) = self.memory.last_store() else {
+            unreachable!();
+        };
+        let bytes = room.copy(bytes);
+        room.note(Item::Store {
+            tag,
+            area: Area::M,
+            place,
+            bytes,
+        });
     }
 
     /// The head in the avail ring just before avail.idx.
@@ -213,6 +208,8 @@ impl Machine {
     fn note_offer(&mut self, room: &mut Room)
         requires sound { IsSound self.old }
         requires more { offered_in self.old.outstanding < 2 ^ 64 - 1 }
+        requires asked { IsSome self.old.asked }
+        requires place { head_shown self.old < size_in self.old.outstanding }
         requires items { 1 ≤ room.old.item_room }
         requires lists { 1 ≤ room.old.lists }
         ensures frame { self.new ≡ record self.old { asked = None; outstanding = self.new.outstanding } }
@@ -221,7 +218,7 @@ impl Machine {
         ensures items { (ask : Ask) → self.old.asked ≡ Some ask → room.new.items ≡ room.old.items ++ items.Made (entries.Offer 0 (request_of ask)) ∷ [] }
     {
         let Some(ask) = self.asked.take() else {
-            return;
+            unreachable!();
         };
         let head = self.last_head();
         self.outstanding.offer(head, &ask);
@@ -235,7 +232,7 @@ impl Machine {
         ensures frame { self.new ≡ record self.old { memory = self.new.memory; guest = self.new.guest } }
         ensures sound { IsSound self.new }
         ensures never { result ≡ answers.Failed → ⊥ }
-        ensures position { seen_in self.new.guest ≡ seen_in self.old.guest }
+        ensures position { last_used_in self.new.guest ≡ last_used_in self.old.guest }
         ensures driver { Steps result (driver_in self.old.guest) (driver_in self.new.guest) }
         ensures memory { bytes_in self.new.memory ≡ after_maybe (next_store (driver_in self.old.guest).waiting) (bytes_in self.old.memory) }
         ensures stores { stores_in self.new.memory ≡ with_maybe (next_store (driver_in self.old.guest).waiting) [] }
@@ -254,13 +251,14 @@ impl Machine {
         ensures frame { self.new ≡ record self.old { memory = self.new.memory; guest = self.new.guest; asked = self.new.asked; outstanding = self.new.outstanding } }
         ensures sound { IsSound self.new }
         ensures fits { FrontFits self.new }
-        ensures position { seen_in self.new.guest ≡ seen_in self.old.guest }
+        ensures position { last_used_in self.new.guest ≡ last_used_in self.old.guest }
         ensures spent { result ≡ true → Spends 1 1 room.old room.new }
         ensures outstanding { result ≡ true → self.new.outstanding ≡ self.old.outstanding }
         ensures goes { (m : Moment) → FrontAt self.old m → GuestSteps (m.lanes 0).driver.waiting self.old self.new m room.old.items room.new.items result }
     {
         match self.step_guest() {
-            GuestStep::Idle | GuestStep::Failed => false,
+            GuestStep::Idle => false,
+            GuestStep::Failed => unreachable!(),
             GuestStep::Stored => {
                 self.note_store(Tag::G, room);
                 true
@@ -282,7 +280,7 @@ impl Machine {
         requires lists { stores + 1 ≤ room.old.lists }
         ensures frame { self.new ≡ record self.old { memory = self.new.memory; guest = self.new.guest; asked = self.new.asked; outstanding = self.new.outstanding } }
         ensures sound { IsSound self.new }
-        ensures position { seen_in self.new.guest ≡ seen_in self.old.guest }
+        ensures position { last_used_in self.new.guest ≡ last_used_in self.old.guest }
         ensures goes { (m : Moment) (x : Waiting) → FrontAt self.old m → (m.lanes 0).driver.waiting ≡ Some x → GuestGoes stores x self.old self.new m room.old.items room.new.items }
     {
         for done in 0..stores {
@@ -333,8 +331,8 @@ impl Machine {
         ensures sound { IsSound self.new }
         ensures never { result ≡ takes.Failed → ⊥ }
         ensures memory { bytes_in self.new.memory ≡ bytes_in self.old.memory }
-        ensures shown { Shows result (main_ring 0 self.old.header.size) (bytes_in self.old.memory) (seen_in self.old.guest) }
-        ensures driver { Collects result (driver_in self.old.guest) (driver_in self.new.guest) (seen_in self.old.guest) (seen_in self.new.guest) }
+        ensures shown { Shows result (main_ring 0 self.old.header.size) (bytes_in self.old.memory) (last_used_in self.old.guest) }
+        ensures driver { Collects result (driver_in self.old.guest) (driver_in self.new.guest) (last_used_in self.old.guest) (last_used_in self.new.guest) }
     {
         self.memory.restart();
         self.guest.collect(&mut self.memory)
@@ -350,7 +348,8 @@ impl Machine {
     {
         let mut room = Room::of_items(self.alloc, 1)?;
         match self.take_element() {
-            Collected::Nothing | Collected::Failed => room.note(Item::Idle),
+            Collected::Nothing => room.note(Item::Idle),
+            Collected::Failed => unreachable!(),
             Collected::Head(head) => {
                 let number = self.outstanding.at(head).number;
                 self.outstanding.collect();
@@ -407,6 +406,7 @@ impl Machine {
     fn answer(&self, head: u16, room: &mut Room) -> Answered
         requires sound { IsSound self.now }
         requires fits { head < 64 }
+        requires place { head < size_in self.now.outstanding }
         requires few { (slot_in self.now.outstanding head).reads ≤ 8 }
         requires lists { 1 ≤ room.old.lists }
         ensures answer { result ≡ answer_for (slot_in self.now.outstanding head) (bytes_in self.now.memory) head }
@@ -438,10 +438,11 @@ impl Machine {
     {
         let mut answers = room.answers();
         for element in 0..queue.batch_len() {
-            if let Some(head) = queue.batch_head(element) {
-                let answer = self.answer(head, room);
-                answers.push_reserved(answer);
-            }
+            let Some(head) = queue.batch_head(element) else {
+                unreachable!();
+            };
+            let answer = self.answer(head, room);
+            answers.push_reserved(answer);
         }
         answers
     }
@@ -459,7 +460,12 @@ impl Machine {
             Some(Life { queue: Some(queue) }) if queue.shows_next() => {
                 self.batch_answers(queue, room)
             }
-            _ => Vec::new(self.alloc),
+            Some(
+                Life {
+                    queue: Some(_) | None,
+                },
+            )
+            | None => Vec::new(self.alloc),
         }
     }
 
@@ -476,65 +482,50 @@ impl Machine {
             Some(Life { queue: Some(queue) }) => {
                 turn_queue(queue, choice, &mut self.memory, &mut self.disk)
             }
-            _ => Stepped::Idle,
+            Some(Life { queue: None }) => Stepped::Idle,
+            None => Stepped::Idle,
         }
     }
 
-    /// The value of a sector, or zeros past the last one.
-    fn value_of(&self, sector: u64) -> [u8; SECTOR_SIZE]
-        ensures { sector < capacity_of self.now.disk → result ≡ values_of self.now.disk sector }
+    /// The number of the request under a head.
+    fn number(&self, head: u16) -> u64
+        requires { head < size_in self.now.outstanding }
+        ensures { result ≡ number_at self.now.outstanding head }
     {
-        if sector < self.disk.capacity() {
-            *self.disk.sector(sector)
-        } else {
-            [0; SECTOR_SIZE]
-        }
+        self.outstanding.at(head).number
     }
 
-    /// The entry of a turn that stores nothing.
-    fn entry_of(&self, stepped: Stepped) -> Option<Entry>
-        ensures { SectorFits (capacity_of self.now.disk) stepped → IsEntry self.now.outstanding (values_of self.now.disk) stepped result }
-    {
-        match stepped {
-            Stepped::Started => Some(Entry::Start(0, NumberList::new(Vec::new(self.alloc)))),
-            Stepped::Accepted(head) => Some(Entry::Accept(0, self.outstanding.at(head).number)),
-            Stepped::Looked(head, sector) => {
-                let value = self.value_of(sector);
-                Some(Entry::Look(0, self.outstanding.at(head).number, sector, value))
-            }
-            Stepped::Acted(head, sector) => {
-                let value = self.value_of(sector);
-                Some(Entry::Act(0, self.outstanding.at(head).number, sector, value))
-            }
-            Stepped::Synced(head) => Some(Entry::Sync(0, self.outstanding.at(head).number)),
-            Stepped::Faulted(head) => Some(Entry::Fault(0, self.outstanding.at(head).number)),
-            _ => None,
-        }
-    }
-
-    /// Notes the items of a turn. The answers are those of a batch that it showed.
+    /// Notes the items of a turn that was made. The answers are those of a batch that it showed.
     fn note_turn(&self, stepped: Stepped, answers: Vec<Answered>, room: &mut Room)
-        requires space { self.now.space.number ≡ 0 }
+        requires made { IsMade stepped }
         requires stores { StoreFits stepped (stores_in self.now.memory) }
         requires sector { SectorFits (capacity_of self.now.disk) stepped }
+        requires head { HeadFits (size_in self.now.outstanding) stepped }
         requires items { 2 ≤ room.old.item_room }
         requires lists { 1 ≤ room.old.lists }
         ensures items { room.new.items ≡ room.old.items ++ noted self.now.outstanding (values_of self.now.disk) (stores_in self.now.memory) answers.items stepped }
         ensures spent { SpendsTurn room.old room.new }
     {
-        match stepped {
-            Stepped::Stored(tag) => self.note_store(tag, room),
-            Stepped::Completed(_) => self.note_store(Tag::T5, room),
+        let entry = match stepped {
+            Stepped::Stored(tag) => return self.note_store(tag, room),
+            Stepped::Completed(_) => return self.note_store(Tag::T5, room),
             Stepped::Published => {
                 self.note_store(Tag::SP5, room);
-                room.note(Item::Made(Entry::Publish(0, AnswerList::new(answers))));
+                Entry::Publish(0, AnswerList::new(answers))
             }
-            _ => {
-                if let Some(entry) = self.entry_of(stepped) {
-                    room.note(Item::Made(entry));
-                }
+            Stepped::Started => Entry::Start(0, NumberList::new(Vec::new(self.alloc))),
+            Stepped::Accepted(head) => Entry::Accept(0, self.number(head)),
+            Stepped::Looked(head, sector) => {
+                Entry::Look(0, self.number(head), sector, *self.disk.sector(sector))
             }
-        }
+            Stepped::Acted(head, sector) => {
+                Entry::Act(0, self.number(head), sector, *self.disk.sector(sector))
+            }
+            Stepped::Synced(head) => Entry::Sync(0, self.number(head)),
+            Stepped::Idle | Stepped::Faulted(_) | Stepped::SharedFault | Stepped::Broken(_) =>
+                unreachable!(),
+        };
+        room.note(Item::Made(entry));
     }
 
     /// A turn with its items.

@@ -1,5 +1,5 @@
 //! A queue's outstanding requests: offered and not collected.
-ghost use Rattle.std.specs.Prelude.{◌≡◌, ◌<◌, ◌+◌, ◌-◌, ◌^◌, ℕ, IfOk};
+ghost use Rattle.std.specs.Prelude.{◌≡◌, ◌<◌, ◌≤◌, ◌+◌, ◌-◌, ◌^◌, ℕ, IfOk};
 ghost use Rattle.vub_world.specs.OutstandingRequests.{reads_in};
 
 use std::alloc::Global;
@@ -34,7 +34,7 @@ fn reads(ask: &Ask) -> u16
 {
     match ask {
         Ask::Read { count, .. } => *count,
-        _ => 0,
+        Ask::Write { .. } | Ask::Flush | Ask::Id | Ask::Discard(_) | Ask::Zero(_) => 0,
     }
 }
 
@@ -57,27 +57,22 @@ impl OutstandingRequests {
     /// Notes that the request was offered under a head.
     pub fn offer(&mut self, head: u16, ask: &Ask)
         requires more { offered_in self.old < 2 ^ 64 - 1 }
+        requires place { head < size_in self.old }
         ensures { Offers self.old self.new head ask.now }
     {
-        let slot = OutstandingRequest {
+        self.by_head[usize::from(head)] = OutstandingRequest {
             number: self.offered,
             reads: reads(ask),
         };
-        let place = usize::from(head);
-        if place < self.by_head.len() {
-            self.by_head[place] = slot;
-        }
         self.offered += 1;
     }
 
     /// The request that was offered last under a head.
     pub fn at(&self, head: u16) -> OutstandingRequest
+        requires { head < size_in self.now }
         ensures { result ≡ slot_in self.now head }
     {
-        match self.by_head.get(usize::from(head)) {
-            Some(found) => *found,
-            None => NONE,
-        }
+        self.by_head[usize::from(head)]
     }
 
     /// Notes that a request was collected.
@@ -93,8 +88,9 @@ impl OutstandingRequests {
 
     /// How many requests are offered and not collected.
     pub fn count(&self) -> u64
+        requires { collected_in self.now ≤ offered_in self.now }
         ensures { result ≡ offered_in self.now - collected_in self.now }
     {
-        self.offered.saturating_sub(self.collected)
+        self.offered - self.collected
     }
 }

@@ -10,6 +10,10 @@ use Rattle.vub_room.specs.Rooms.{RoomState, HasRoom}
 use Rattle.vub_world.proofs.MachineTurnEvents.{standing_few, single_room, standing_reached, reached_now, single_idle, single_made}
 use Rattle.vub_world.proofs.machine.Machine.single.Goals.{then-is_idle, else-is_idle}
 use Rattle.vub_world.proofs.machine.Machine.single.Goals as goal
+use Rattle.vub_world.proofs.MachineGuestCollects.{collects_within}
+
+pub count-undone-requires : goal.count-undone-requires
+count-undone-requires c = collects_within c.args.self.now c.requires.stands
 
 pub for_turns-requires : goal.for_turns-requires
 for_turns-requires c = record { few = subst (λ (n : ℕ). n ≤ 64) (sym c.count-undone.ensures) (standing_few c.args.self.now c.requires.stands) }

@@ -4,8 +4,9 @@ use Rattle.vub_steps.specs.declared.readiness.Turn.{Turn}
 use Rattle.vub_shared.specs.Watched.{stores_in}
 use Rattle.vub_world.specs.declared.machine.Machine.{Machine}
 use Rattle.vub_queue.specs.declared.queue.Stepped.{Stepped}
-use Rattle.vub_world.specs.MachineDevice.{noted, shown_in, accepts, turn_here, SectorFits}
+use Rattle.vub_world.specs.MachineDevice.{noted, shown_in, accepts, turn_here, SectorFits, HeadFits}
 use Rattle.vub_world.specs.MachineSteps.{StepGoes}
+use Rattle.vub_world.specs.OutstandingRequests.{size_in}
 use Rattle.vub_queue.specs.QueueState.{is_idle}
 use Rattle.vub_world.proofs.MachineBatches.{batch_fits, shows_some}
 use Rattle.vub_world.proofs.MachineTurnsNext.{reached_plain, reached_holds}
@@ -40,6 +41,23 @@ note_turn-requires-clause-sector c =
     let capacity : capacity_of now.disk ≡ w.header.capacity = c.turn-stepped.ensures.sound.disk ∙ ap (λ (m : Machine). m.header.capacity) c.turn-stepped.ensures.frame in
     subst (λ (k : ℕ). SectorFits k c.turn-stepped.result) (sym capacity)
     (step_goes (turn_here w.header c.args.choice s.0) w now s.0 c.turn-stepped.result other (c.turn-stepped.ensures.turns s.0 s.1 s.2)).1.sector
+
+pub note_turn-requires-clause-made : goal.note_turn-requires-clause-made
+note_turn-requires-clause-made c =
+    let w : Machine = c.args.self.now in
+    let s = c.requires.stands in
+    let other : is_idle c.turn-stepped.result ≡ false = search in
+    (step_goes (turn_here w.header c.args.choice s.0) w c.turn-stepped.new.self s.0 c.turn-stepped.result other (c.turn-stepped.ensures.turns s.0 s.1 s.2)).1.made
+
+pub note_turn-requires-clause-head : goal.note_turn-requires-clause-head
+note_turn-requires-clause-head c =
+    let w : Machine = c.args.self.now in
+    let now : Machine = c.turn-stepped.new.self in
+    let s = c.requires.stands in
+    let other : is_idle c.turn-stepped.result ≡ false = search in
+    let size : size_in now.outstanding ≡ w.header.size = ap (λ (m : Machine). size_in m.outstanding) c.turn-stepped.ensures.frame ∙ s.2.outstanding.places in
+    subst (λ (k : ℕ). HeadFits k c.turn-stepped.result) (sym size)
+    (step_goes (turn_here w.header c.args.choice s.0) w now s.0 c.turn-stepped.result other (c.turn-stepped.ensures.turns s.0 s.1 s.2)).1.head
 
 pub returns-then-is_idle-clause-goes : goal.returns-then-is_idle-clause-goes
 returns-then-is_idle-clause-goes c m reached at =
