@@ -399,6 +399,11 @@ abbrev pub DoesDisk : Turn → Option Values → Option Values → Type 0
 DoesDisk (Work place) before after = ⊤
 DoesDisk turn before after = after ≡ before
 
+-- the told stable values: a flush that was made has made the values stable, and any other turn leaves them as they were
+abbrev pub StableAfter : Stepped → Option Values → Option Values → Option Values → Type 0
+StableAfter (says.Synced head) stable values stable_after = stable_after ≡ values
+StableAfter x stable values stable_after = stable_after ≡ stable
+
 -- whether the disk failed in a turn
 abbrev pub disk_outcome : Stepped → Result (Unit {0}) (Unit {0})
 disk_outcome (says.Faulted head) = Err tt

@@ -154,7 +154,7 @@ impl Queue {
     ghost use Rattle.vub_steps.specs.declared.steps.Phase.TheVariants.{Rest};
     ghost use Rattle.vub_steps.specs.declared.steps.Step.TheVariants.{Id, Len, Index};
     ghost use Rattle.vub_queue.specs.Queue.{ring_in};
-    ghost use Rattle.vub_queue.specs.QueueState.{QueueLies, KeepsLying, Owes, OwesAt, state_of, IsNew, started_from, said, concluded, StepsAt, IsDue, IfStepped, StepsOut, WorksOut, Rests, disk_outcome, standing_at, waiting, IsFree, Finds, Fetches, accepted, may_fetch, begun, under_way, next_row, moved, with_phase, Moves, outcome, found_outcome, MakesRow, publishes, publish_row, Publishes, is_idle, is_fault, Unless, Works, Does, DoesStore, DoesTrail, DoesDisk, halted, Turns};
+    ghost use Rattle.vub_queue.specs.QueueState.{QueueLies, KeepsLying, Owes, OwesAt, state_of, IsNew, started_from, said, concluded, StepsAt, IsDue, IfStepped, StepsOut, WorksOut, Rests, disk_outcome, standing_at, waiting, IsFree, Finds, Fetches, accepted, may_fetch, begun, under_way, next_row, moved, with_phase, Moves, outcome, found_outcome, MakesRow, publishes, publish_row, Publishes, is_idle, is_fault, Unless, Works, Does, DoesStore, DoesTrail, DoesDisk, StableAfter, halted, Turns};
 
     /// A queue that isn't started. All memory that it needs is reserved here.
     pub fn new(alloc: Global, setup: &QueueSetup) -> Result<Queue, Memory>
@@ -357,6 +357,7 @@ impl Queue {
         ensures trail { GainsOne (M.trail mem.old) (M.trail mem.new) }
         ensures cause { HasCause (M.faults mem.old) (M.faults mem.new) (memory_outcome (Some result.1)) }
         ensures disk_cause { HasCause (D.faults disk.old) (D.faults disk.new) (TaskState.disk_outcome (Some result.1)) }
+        ensures stable { TaskState.StableAfter result.1 (D.stable disk.old) (D.values disk.new) (D.stable disk.new) }
         ensures keeps_spaces { KeepsSpaces M.names M.handed M.sizes mem.old mem.new }
         ensures capacity { D.capacity disk.new ≡ D.capacity disk.old }
     {
@@ -400,6 +401,7 @@ impl Queue {
         ensures rests { (waiting : ℕ) → is_ready (standing_at (state_of self.old) waiting) (Work place) ≡ false → Rests (M.told mem.old) (M.told mem.new) (M.trail mem.old) (M.trail mem.new) (D.values disk.old) (D.values disk.new) result (state_of self.old) (state_of self.new) }
         ensures cause { HasCause (M.faults mem.old) (M.faults mem.new) (outcome result) }
         ensures disk_cause { HasCause (D.faults disk.old) (D.faults disk.new) (disk_outcome result) }
+        ensures stable { StableAfter result (D.stable disk.old) (D.values disk.new) (D.stable disk.new) }
         ensures keeps_spaces { KeepsSpaces M.names M.handed M.sizes mem.old mem.new }
         ensures capacity { D.capacity disk.new ≡ D.capacity disk.old }
     {
@@ -583,6 +585,7 @@ impl Queue {
         ensures rests { (waiting place : ℕ) → turn ≡ Work place → is_ready (standing_at (state_of self.old) waiting) (Work place) ≡ false → Rests (M.told mem.old) (M.told mem.new) (M.trail mem.old) (M.trail mem.new) (D.values disk.old) (D.values disk.new) result (state_of self.old) (state_of self.new) }
         ensures cause { HasCause (M.faults mem.old) (M.faults mem.new) (outcome result) }
         ensures disk_cause { HasCause (D.faults disk.old) (D.faults disk.new) (disk_outcome result) }
+        ensures stable { StableAfter result (D.stable disk.old) (D.values disk.new) (D.stable disk.new) }
         ensures keeps_spaces { KeepsSpaces M.names M.handed M.sizes mem.old mem.new }
         ensures capacity { D.capacity disk.new ≡ D.capacity disk.old }
     {
@@ -607,6 +610,7 @@ impl Queue {
         ensures rests { (waiting place : ℕ) → choice ≡ Only (Work place) → is_ready (standing_at (state_of self.old) waiting) (Work place) ≡ false → Rests (M.told mem.old) (M.told mem.new) (M.trail mem.old) (M.trail mem.new) (D.values disk.old) (D.values disk.new) result (state_of self.old) (state_of self.new) }
         ensures cause { HasCause (M.faults mem.old) (M.faults mem.new) (outcome result) }
         ensures disk_cause { HasCause (D.faults disk.old) (D.faults disk.new) (disk_outcome result) }
+        ensures stable { StableAfter result (D.stable disk.old) (D.values disk.new) (D.stable disk.new) }
         ensures keeps_spaces { KeepsSpaces M.names M.handed M.sizes mem.old mem.new }
         ensures capacity { D.capacity disk.new ≡ D.capacity disk.old }
     {
@@ -654,6 +658,7 @@ impl Queue {
         ensures rests { (waiting place : ℕ) → is_some (state_of self.old).stopped ≡ false → choice ≡ Only (Work place) → is_ready (standing_at (state_of self.old) waiting) (Work place) ≡ false → Rests (M.told mem.old) (M.told mem.new) (M.trail mem.old) (M.trail mem.new) (D.values disk.old) (D.values disk.new) result (state_of self.old) (state_of self.new) }
         ensures cause { HasCause (M.faults mem.old) (M.faults mem.new) (outcome result) }
         ensures disk_cause { HasCause (D.faults disk.old) (D.faults disk.new) (disk_outcome result) }
+        ensures stable { StableAfter result (D.stable disk.old) (D.values disk.new) (D.stable disk.new) }
         ensures keeps_spaces { KeepsSpaces M.names M.handed M.sizes mem.old mem.new }
         ensures capacity { D.capacity disk.new ≡ D.capacity disk.old }
     {

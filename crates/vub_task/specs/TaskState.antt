@@ -229,6 +229,11 @@ abbrev pub IfSynced : Option made.TaskStep → Type 0 → Type 0
 IfSynced (Some answers.Synced) P = P
 IfSynced o P = ⊤
 
+-- the told stable values: a flush that was made has made the values stable, and any other step leaves them as they were
+abbrev pub StableAfter : made.TaskStep → Option Values → Option Values → Option Values → Type 0
+StableAfter answers.Synced stable values stable_after = stable_after ≡ values
+StableAfter step stable values stable_after = stable_after ≡ stable
+
 -- a fact about a disk call that failed
 abbrev pub IfFaulted : made.TaskStep → Type 0 → Type 0
 IfFaulted answers.Faulted P = P

@@ -10,7 +10,7 @@ ghost use Rattle.vub_shared.specs.Stores.{one_store, after_store, after_in_trail
 ghost use Rattle.vub_shared.specs.Frames.{OnlyLoads, KeepsSpaces};
 ghost use Rattle.vub_disk.specs.Values.{with_value};
 ghost use Rattle.vub_split.specs.Split.{RingLies};
-ghost use Rattle.vub_task.specs.TaskState.{IfMade, IfSynced, IfFaulted, GainsOne, fresh_task, head_in, memory_outcome, disk_outcome, plain_len_of, plain_answer_of, whole_transfer, can_move, FirstWork, WorkLies, TransferLies, AnswerLies, is_begun, failed_answer, one_more, after_put, after_act};
+ghost use Rattle.vub_task.specs.TaskState.{IfMade, IfSynced, IfFaulted, StableAfter, GainsOne, fresh_task, head_in, memory_outcome, disk_outcome, plain_len_of, plain_answer_of, whole_transfer, can_move, FirstWork, WorkLies, TransferLies, AnswerLies, is_begun, failed_answer, one_more, after_put, after_act};
 ghost use Rattle.vub_direct_chain.specs.ChainState.{PartsLie};
 ghost use Rattle.vub_direct_chain.specs.declared.chain.Sectors.{Sectors};
 ghost use Rattle.vub_task.specs.declared.task.TaskStep.TheVariants as answers;
@@ -270,6 +270,7 @@ impl Task {
         ensures failed { IfFaulted result (self.new.work ≡ work.Reply (failed_answer transfer.answer)) }
         ensures head { self.new.head ≡ self.old.head }
         ensures values { D.values disk.new ≡ D.values disk.old }
+        ensures stable { D.stable disk.new ≡ D.stable disk.old }
         ensures capacity { D.capacity disk.new ≡ D.capacity disk.old }
         ensures disk_cause { HasCause (D.faults disk.old) (D.faults disk.new) (disk_outcome (Some result)) }
         ensures no_memory { memory_outcome (Some result) ≡ Ok tt }
@@ -338,6 +339,7 @@ impl Task {
         ensures makes { Makes (work.Act transfer) result self.new.work }
         ensures head { self.new.head ≡ self.old.head }
         ensures only_loads { OnlyLoads M.told M.trail M.names M.handed M.sizes mem.old mem.new }
+        ensures stable { D.stable disk.new ≡ D.stable disk.old }
         ensures capacity { D.capacity disk.new ≡ D.capacity disk.old }
         ensures memory_cause { HasCause (M.faults mem.old) (M.faults mem.new) (memory_outcome (Some result)) }
         ensures disk_cause { HasCause (D.faults disk.old) (D.faults disk.new) (disk_outcome (Some result)) }
@@ -366,7 +368,7 @@ impl Task {
         ensures next { IfMade (Some result) (λ step. self.new.work ≡ work.Reply answer) }
         ensures failed { IfFaulted result (self.new.work ≡ work.Reply (failed_answer answer)) }
         ensures values { D.values disk.new ≡ D.values disk.old }
-        ensures stable { IfSynced (Some result) (D.stable disk.new ≡ D.values disk.new) }
+        ensures stable { StableAfter result (D.stable disk.old) (D.values disk.new) (D.stable disk.new) }
         ensures head { self.new.head ≡ self.old.head }
         ensures capacity { D.capacity disk.new ≡ D.capacity disk.old }
         ensures disk_cause { HasCause (D.faults disk.old) (D.faults disk.new) (disk_outcome (Some result)) }
@@ -452,7 +454,7 @@ impl Task {
         ensures trail { GainsOne (M.trail mem.old) (M.trail mem.new) }
         ensures looked { (n : Making) → WhereTold (M.told mem.old) (λ m. IsNext (D.capacity disk.old) (M.sizes mem.old) ring.now m n → IsReady ring.now n self.old → IfMade (Some result) (λ step. WhereTold (D.values disk.old) (λ v. LooksAt n v sector.new))) }
         ensures written { (n : Making) → WhereTold (M.told mem.old) (λ m. IsNext (D.capacity disk.old) (M.sizes mem.old) ring.now m n → IsReady ring.now n self.old → IfMade (Some result) (λ step. D.values disk.new ≡ option_map (values_after n.request n.step) (D.values disk.old))) }
-        ensures stable { IfSynced (Some result) (D.stable disk.new ≡ D.values disk.new) }
+        ensures stable { StableAfter result (D.stable disk.old) (D.values disk.new) (D.stable disk.new) }
         ensures goes_on { (n : Making) → WhereTold (M.told mem.old) (λ m. IsNext (D.capacity disk.old) (M.sizes mem.old) ring.now m n → IsReady ring.now n self.old → IfMade (Some result) (λ step. HasMade ring.now n self.new)) }
         ensures keeps_spaces { KeepsSpaces M.names M.handed M.sizes mem.old mem.new }
         ensures capacity { D.capacity disk.new ≡ D.capacity disk.old }
@@ -487,7 +489,7 @@ impl Task {
         ensures trail { GainsOne (M.trail mem.old) (M.trail mem.new) }
         ensures looked { (r : SplitRing) (n : Making) → WhereTold (M.told mem.old) (λ m. IsNext (D.capacity disk.old) (M.sizes mem.old) r m n → self.old.work ≡ work_of r n → IfMade (Some result) (λ step. WhereTold (D.values disk.old) (λ v. LooksAt n v sector.new))) }
         ensures written { (r : SplitRing) (n : Making) → WhereTold (M.told mem.old) (λ m. IsNext (D.capacity disk.old) (M.sizes mem.old) r m n → self.old.work ≡ work_of r n → IfMade (Some result) (λ step. D.values disk.new ≡ option_map (values_after n.request n.step) (D.values disk.old))) }
-        ensures stable { IfSynced (Some result) (D.stable disk.new ≡ D.values disk.new) }
+        ensures stable { StableAfter result (D.stable disk.old) (D.values disk.new) (D.stable disk.new) }
         ensures goes_on { (r : SplitRing) (n : Making) → WhereTold (M.told mem.old) (λ m. IsNext (D.capacity disk.old) (M.sizes mem.old) r m n → self.old.work ≡ work_of r n → IfMade (Some result) (λ step. HasMade r n self.new)) }
         ensures keeps_spaces { KeepsSpaces M.names M.handed M.sizes mem.old mem.new }
         ensures capacity { D.capacity disk.new ≡ D.capacity disk.old }

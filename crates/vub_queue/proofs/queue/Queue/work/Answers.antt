@@ -3,9 +3,10 @@ use Rattle.std.specs.Prelude.{Some}
 use Rattle.vub_queue.specs.declared.queue.Stepped.{Stepped}
 use Rattle.vub_task.specs.declared.task.TaskStep as made
 use Rattle.vub_task.specs.TaskState.{IfMade}
-use Rattle.vub_queue.specs.QueueState.{QueueState, state_of, said, concluded, Works, StepsAt, IsDue, IfStepped, StepsOut, WorksOut, Owes}
+use Rattle.vub_queue.specs.QueueState.{QueueState, state_of, said, concluded, Works, StepsAt, IsDue, IfStepped, StepsOut, WorksOut, Owes, StableAfter}
 use Rattle.vub_queue.proofs.QueueLemmas.{works_if, works_out, stepped_if}
 use Rattle.vub_queue.proofs.LyingLemmas.{owes_concluded}
+use Rattle.vub_queue.proofs.StableLemmas.{stable_said}
 use Rattle.vub_queue.proofs.queue.Queue.work.Goals as goal
 
 pub returns-clause-works : goal.returns-clause-works
@@ -46,3 +47,10 @@ pub returns-clause-failed : goal.returns-clause-failed
 returns-clause-failed g c =
     let t : QueueState = state_of c.conclude.new.self in
     subst (λ (x : Stepped). Owes x t) (sym c.conclude.ensures.says) (owes_concluded c.from-place.result c.step_at-head.result.0 c.step_at-head.result.1 (state_of c.step_at-head.new.self) t c.step_at-head.ensures.failed c.conclude.ensures.state)
+
+pub returns-clause-stable : goal.returns-clause-stable
+returns-clause-stable g c =
+    let stable = g.D.Disk.stable c.args.disk.now in
+    let values = g.D.Disk.values c.step_at-head.new.disk in
+    let after = g.D.Disk.stable c.step_at-head.new.disk in
+    subst (λ (x : Stepped). StableAfter x stable values after) (sym c.conclude.ensures.says) (stable_said c.step_at-head.result.0 c.step_at-head.result.1 stable values after c.step_at-head.ensures.stable)
