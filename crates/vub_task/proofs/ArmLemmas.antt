@@ -20,7 +20,7 @@ use Rattle.vub_split.specs.declared.split.SplitRing.{SplitRing}
 use Rattle.std.specs.Prelude.{Ok}
 use Rattle.vub_base.specs.declared.ring_fault.RingFault.{RingFault}
 use Rattle.vub_task.specs.declared.task.Work.{Work}
-use Rattle.vub_task.specs.TaskState.{Makes, Starts, Begins}
+use Rattle.vub_task.specs.TaskState.{Makes, Worked, Starts, Begins}
 use Rattle.vub_task.specs.declared.task.Answer.{Answer}
 use Rattle.vub_task.specs.declared.task.Transfer.{Transfer}
 use Rattle.vub_task.specs.declared.task.Work.TheVariants as work
@@ -214,12 +214,13 @@ makes_unbroken (work.Act t) next fault h = h
 makes_unbroken (work.Sync a) next fault h = h
 makes_unbroken (work.Reply a) next fault h = h
 
-pub begins_by : (sizes : ℕ → ℕ) (r : SplitRing) (m : Bytes) (head capacity : ℕ) (step : made.TaskStep) (next w : Work) → Starts sizes r m head capacity (Ok w) → Makes w step next → Begins sizes r m head capacity step next
-begins_by sizes r m head capacity (answers.Broken fault) next w starts makes = absurd (makes_unbroken w next fault makes)
-begins_by sizes r m head capacity answers.Failed next w starts makes = tt
-begins_by sizes r m head capacity (answers.Stored tag) next w starts makes = record { parts = starts.0; means = starts.1; first = w; starts = starts.2; makes = makes }
-begins_by sizes r m head capacity (answers.Looked k) next w starts makes = record { parts = starts.0; means = starts.1; first = w; starts = starts.2; makes = makes }
-begins_by sizes r m head capacity (answers.Acted k) next w starts makes = record { parts = starts.0; means = starts.1; first = w; starts = starts.2; makes = makes }
-begins_by sizes r m head capacity answers.Synced next w starts makes = record { parts = starts.0; means = starts.1; first = w; starts = starts.2; makes = makes }
-begins_by sizes r m head capacity answers.Faulted next w starts makes = record { parts = starts.0; means = starts.1; first = w; starts = starts.2; makes = makes }
-begins_by sizes r m head capacity (answers.Done status len) next w starts makes = record { parts = starts.0; means = starts.1; first = w; starts = starts.2; makes = makes }
+pub begins_by : (sizes : ℕ → ℕ) (r : SplitRing) (m : Bytes) (head capacity : ℕ) (sector after : List ℕ) (step : made.TaskStep) (next w : Work) (told_after : Option Bytes) (trail trail_after : Option (List Store)) (values values_now : Option Values)
+    → Starts sizes r m head capacity (Ok w) → Worked w sector after step next (Some m) told_after trail trail_after values values_now → Begins sizes r m head capacity sector after step next told_after trail trail_after values values_now
+begins_by sizes r m head capacity sector after (answers.Broken fault) next w told_after trail trail_after values values_now starts worked = absurd (makes_unbroken w next fault worked.makes)
+begins_by sizes r m head capacity sector after answers.Failed next w told_after trail trail_after values values_now starts worked = tt
+begins_by sizes r m head capacity sector after (answers.Stored tag) next w told_after trail trail_after values values_now starts worked = record { parts = starts.0; means = starts.1; first = w; starts = starts.2; worked = worked }
+begins_by sizes r m head capacity sector after (answers.Looked k) next w told_after trail trail_after values values_now starts worked = record { parts = starts.0; means = starts.1; first = w; starts = starts.2; worked = worked }
+begins_by sizes r m head capacity sector after (answers.Acted k) next w told_after trail trail_after values values_now starts worked = record { parts = starts.0; means = starts.1; first = w; starts = starts.2; worked = worked }
+begins_by sizes r m head capacity sector after answers.Synced next w told_after trail trail_after values values_now starts worked = record { parts = starts.0; means = starts.1; first = w; starts = starts.2; worked = worked }
+begins_by sizes r m head capacity sector after answers.Faulted next w told_after trail trail_after values values_now starts worked = record { parts = starts.0; means = starts.1; first = w; starts = starts.2; worked = worked }
+begins_by sizes r m head capacity sector after (answers.Done status len) next w told_after trail trail_after values values_now starts worked = record { parts = starts.0; means = starts.1; first = w; starts = starts.2; worked = worked }

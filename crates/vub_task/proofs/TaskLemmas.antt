@@ -1,4 +1,4 @@
-use Rattle.std.proofs.Common.{◌≡◌, ◌≤◌, ◌<◌, ℕ, zero, suc, ◌+◌, ◌*◌, List, [], ◌∷◌, length, refl, ap, sym, ◌∙◌, subst, arith, true, false, Bool}
+use Rattle.std.proofs.Common.{◌≡◌, ◌≤◌, ◌<◌, ℕ, zero, suc, ◌+◌, ◌*◌, List, [], ◌∷◌, length, refl, inr, ap, sym, ◌∙◌, subst, arith, true, false, Bool}
 use Rattle.std.proofs.lemmas.Bool.{false≢true}
 use Rattle.std.specs.Prelude.{Option, Some, None, option_map, Result, Ok, Err, OnOk}
 use Rattle.std.specs.Result.{is_err}
@@ -19,7 +19,7 @@ use Rattle.vub_device.specs.Requests.{refusal}
 use Rattle.vub_driver.specs.Layout.{status_place}
 use Rattle.vub_steps.specs.Tasks.{TaskStep, Look, Act, Sync, Status, task_steps, status_of, used_len, unless_refused, disk_steps, act_steps}
 use Rattle.vub_direct_chain.specs.ChainState.{parts_of, span_at, type_of, sector_of, data_start}
-use Rattle.vub_task.specs.TaskState.{FirstWork, can_move, IsServed, IsBasic, answer_of, work_for, whole_transfer, plain_answer_of, plain_len_of}
+use Rattle.vub_task.specs.TaskState.{ChangedOrNot, FirstWork, can_move, IsServed, IsBasic, answer_of, work_for, whole_transfer, plain_answer_of, plain_len_of}
 use Rattle.vub_split.specs.declared.split.SplitRing.{SplitRing}
 use Rattle.vub_direct_chain.specs.declared.chain.Parts.{Parts}
 use Rattle.vub_direct_chain.specs.declared.chain.Sectors.{Sectors}
@@ -37,6 +37,15 @@ act_written before after s into told m space p q w (Ok x) (Ok y) place whole is_
     is ∙ ap (λ (bs : List ℕ). option_map (with_value s bs) before) bytes
 act_written before after s into told m space p q w (Ok x) (Err y) place whole is_told e loaded f is = absurd (false≢true (sym f))
 act_written before after s into told m space p q w (Err x) writes place whole is_told e loaded f is = absurd (false≢true (sym e))
+
+-- the same of a write that may have failed
+pub act_changed : {T E F : Type 0} (before after : Option Values) (s : ℕ) (into : List ℕ) (told : Option Bytes) (m : Bytes) (space p q w : ℕ) (loads : Result T E) (writes : Result T F) → p ≡ q → w ≡ 512 → told ≡ Some m → is_err loads ≡ false
+    → OnOk loads (WhereTold told (λ m. into ≡ bytes_from w m space p)) → Writes before after writes s into → ChangedOrNot (with_value s (bytes_from 512 m space q)) before after
+act_changed {T} {E} {F} before after s into told m space p q w loads (Ok y) place whole is_told e loaded is = inr (act_written {T = T} {E = E} {F = F} before after s into told m space p q w loads (Ok y) place whole is_told e loaded refl is)
+act_changed before after s into told m space p q w (Ok x) (Err y) place whole is_told e loaded is =
+    let bytes : into ≡ bytes_from 512 m space q = loaded m is_told ∙ ap (λ (k : ℕ). bytes_from k m space p) whole ∙ ap (bytes_from 512 m space) place in
+    subst (λ (bs : List ℕ). ChangedOrNot (with_value s bs) before after) bytes is
+act_changed before after s into told m space p q w (Err x) (Err y) place whole is_told e loaded is = absurd (false≢true (sym e))
 
 -- ---- the first work of a request
 

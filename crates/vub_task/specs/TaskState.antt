@@ -289,6 +289,10 @@ abbrev pub values_by : Work → Bytes → Values → Values
 values_by (work.Act t) m v = with_value (t.sector + t.done) (bytes_from 512 m t.span.space.number (t.span.place + 512 * t.done)) v
 values_by w m v = v
 
+-- the told values of the disk, where such a change was made or not
+abbrev pub ChangedOrNot : (Values → Values) → Option Values → Option Values → Type 0
+ChangedOrNot change before after = (after ≡ before) ⊎ (after ≡ option_map change before)
+
 -- a look leaves the value of its sector
 abbrev pub LooksBy : Work → Values → List ℕ → Type 0
 LooksBy (work.Look t) v sector = sector ≡ v (t.sector + t.done)
@@ -301,20 +305,22 @@ pub record Worked (w : Work) (sector sector_after : List ℕ) (step : made.TaskS
   pub trailed : IfMade (Some step) (λ x. trail_after ≡ option_map (with_maybe (store_by w sector)) trail)
   pub written : WhereTold told (λ m. IfMade (Some step) (λ x. values_now ≡ option_map (values_by w m) values))
   pub looked : WhereTold values (λ v. IfMade (Some step) (λ x. LooksBy w v sector_after))
+  -- whatever failed
+  pub changed : WhereTold told (λ m. ChangedOrNot (values_by w m) values values_now)
 
--- the work by which a task whose chain wasn't read goes on: that of the parts that its chain means
-pub record BegunAs (sizes : ℕ → ℕ) (r : SplitRing) (m : Bytes) (head capacity : ℕ) (step : made.TaskStep) (next : Work) : Type 0 where
+-- the first step of a task whose chain is read: one of the work that the parts begin which its chain means
+pub record BegunAs (sizes : ℕ → ℕ) (r : SplitRing) (m : Bytes) (head capacity : ℕ) (sector sector_after : List ℕ) (step : made.TaskStep) (next : Work) (told_after : Option Bytes) (trail trail_after : Option (List Store)) (values values_now : Option Values) : Type 0 where
   pub parts : Parts
   pub means : HasParts sizes r m head parts
   pub first : Work
   pub starts : StartsAs m parts capacity first
-  pub makes : Makes first step next
+  pub worked : Worked first sector sector_after step next (Some m) told_after trail trail_after values values_now
 
 -- the first step of a task: its chain breaks a rule, the memory failed, or it is the first step of its work
-abbrev pub Begins : (ℕ → ℕ) → SplitRing → Bytes → ℕ → ℕ → made.TaskStep → Work → Type 0
-Begins sizes r m head capacity (answers.Broken fault) next = BreaksRule sizes r m head (unread.Broken fault)
-Begins sizes r m head capacity answers.Failed next = ⊤
-Begins sizes r m head capacity step next = BegunAs sizes r m head capacity step next
+abbrev pub Begins : (ℕ → ℕ) → SplitRing → Bytes → ℕ → ℕ → List ℕ → List ℕ → made.TaskStep → Work → Option Bytes → Option (List Store) → Option (List Store) → Option Values → Option Values → Type 0
+Begins sizes r m head capacity sector sector_after (answers.Broken fault) next told_after trail trail_after values values_now = BreaksRule sizes r m head (unread.Broken fault)
+Begins sizes r m head capacity sector sector_after answers.Failed next told_after trail trail_after values values_now = ⊤
+Begins sizes r m head capacity sector sector_after step next told_after trail trail_after values values_now = BegunAs sizes r m head capacity sector sector_after step next told_after trail trail_after values values_now
 
 -- ---- one step of a request
 

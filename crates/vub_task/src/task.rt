@@ -10,7 +10,7 @@ ghost use Rattle.vub_shared.specs.Stores.{one_store, after_store, after_in_trail
 ghost use Rattle.vub_shared.specs.Frames.{OnlyLoads, KeepsSpaces};
 ghost use Rattle.vub_disk.specs.Values.{with_value};
 ghost use Rattle.vub_split.specs.Split.{RingLies};
-ghost use Rattle.vub_task.specs.TaskState.{IfMade, IfSynced, IfFaulted, StableAfter, GainsOne, fresh_task, head_in, memory_outcome, disk_outcome, plain_len_of, plain_answer_of, whole_transfer, can_move, FirstWork, WorkLies, TransferLies, AnswerLies, is_begun, failed_answer, one_more, after_put, after_act};
+ghost use Rattle.vub_task.specs.TaskState.{IfMade, IfSynced, IfFaulted, StableAfter, ChangedOrNot, GainsOne, fresh_task, head_in, memory_outcome, disk_outcome, plain_len_of, plain_answer_of, whole_transfer, can_move, FirstWork, WorkLies, TransferLies, AnswerLies, is_begun, failed_answer, one_more, after_put, after_act};
 ghost use Rattle.vub_direct_chain.specs.ChainState.{PartsLie};
 ghost use Rattle.vub_direct_chain.specs.declared.chain.Sectors.{Sectors};
 ghost use Rattle.vub_task.specs.declared.task.TaskStep.TheVariants as answers;
@@ -334,6 +334,7 @@ impl Task {
         requires at_work { self.old.work ≡ work.Act transfer }
         ensures answer { IfMade (Some result) (λ step. step ≡ answers.Acted (transfer.sector + transfer.done)) }
         ensures written { IfMade (Some result) (λ step. WhereTold (M.told mem.old) (λ m. D.values disk.new ≡ option_map (with_value (transfer.sector + transfer.done) (bytes_from 512 m transfer.span.space.number (transfer.span.place + 512 * transfer.done))) (D.values disk.old))) }
+        ensures changed { WhereTold (M.told mem.old) (λ m. ChangedOrNot (with_value (transfer.sector + transfer.done) (bytes_from 512 m transfer.span.space.number (transfer.span.place + 512 * transfer.done))) (D.values disk.old) (D.values disk.new)) }
         ensures more { transfer.done + 1 < transfer.count → IfMade (Some result) (λ step. self.new.work ≡ work.Act (one_more transfer)) }
         ensures last { transfer.count ≤ transfer.done + 1 → IfMade (Some result) (λ step. self.new.work ≡ work.Reply transfer.answer) }
         ensures makes { Makes (work.Act transfer) result self.new.work }
@@ -444,7 +445,7 @@ impl Task {
         requires fits { self.old.head < ring.now.size }
         requires task { TaskLies (M.sizes mem.old) (D.capacity disk.old) self.old }
         ensures task { TaskLies (M.sizes mem.new) (D.capacity disk.new) self.new }
-        ensures begins { self.old.work ≡ work.Begin → WhereTold (M.told mem.old) (λ m. Begins (M.sizes mem.old) ring.now m self.old.head (D.capacity disk.old) result self.new.work) }
+        ensures begins { self.old.work ≡ work.Begin → WhereTold (M.told mem.old) (λ m. Begins (M.sizes mem.old) ring.now m self.old.head (D.capacity disk.old) sector.old sector.new result self.new.work (M.told mem.new) (M.trail mem.old) (M.trail mem.new) (D.values disk.old) (D.values disk.new)) }
         ensures worked { is_begun self.old.work ≡ true → Worked self.old.work sector.old sector.new result self.new.work (M.told mem.old) (M.told mem.new) (M.trail mem.old) (M.trail mem.new) (D.values disk.old) (D.values disk.new) }
         ensures failed { IfFaulted result (OwesFailure self.new) }
         ensures head { self.new.head ≡ self.old.head }

@@ -1,8 +1,9 @@
-use Rattle.std.proofs.Common.{◌≡◌, ◌≤◌, ◌<◌, ◌+◌, ◌*◌, ◌/◌, ◌∙◌, ℕ, suc, sym, ap}
+use Rattle.std.proofs.Common.{◌≡◌, ◌≤◌, ◌<◌, ◌+◌, ◌*◌, ◌/◌, ◌∙◌, ℕ, suc, sym, ap, subst, rules}
 use Rattle.std.specs.Prelude.{Option, Some, option_map, slice_get}
 use Rattle.vub_base.specs.declared.store.Tag.TheVariants.{T2}
 use Rattle.vub_steps.specs.Tasks.{TaskStep, Look, Put, Act, Status, task_steps, status_of}
-use Rattle.vub_task.specs.TaskState.{IfMade, answer_to, store_of, after_maybe, with_maybe, values_after, IsTaskAt}
+use Rattle.vub_task.specs.declared.task.Work.{Work}
+use Rattle.vub_task.specs.TaskState.{Worked, IfMade, answer_to, store_of, after_maybe, with_maybe, values_after, IsTaskAt}
 use Rattle.vub_task.specs.declared.task.Answer.{Answer}
 use Rattle.vub_task.specs.declared.task.Transfer.{Transfer}
 use Rattle.vub_task.specs.declared.task.TaskStep.TheVariants as answers
@@ -369,3 +370,22 @@ returns-in-Reply-clause-trails g c r n m told is works =
     reply_arm h r n.buffer n.request n.step c.in-Reply.answer (sym c.in-Reply.is ∙ works)
     (λ (s : TaskStep) (a : Answer). OfRequest h.capacity n.request after s → (IfMade (Some c.reply.result) (λ x. g.M.Shared.trail c.reply.new.mem ≡ option_map (after_in_trail (one_store a.span.space.number (a.span.place + (a.span.len - 1)) (little_bytes 1 a.status))) (g.M.Shared.trail c.args.mem.now))) → IfMade (Some c.reply.result) (λ x. g.M.Shared.trail c.reply.new.mem ≡ option_map (with_maybe (store_of h r n.buffer n.request c.args.sector.now s)) (g.M.Shared.trail c.args.mem.now)))
     (λ of e. made_map _ _ (Some c.reply.result) (λ x made. made ∙ ap (λ (p : ℕ). option_map (after_in_trail (one_store r.desc.0.number p (little_bytes 1 (status_of h n.request)))) (g.M.Shared.trail c.args.mem.now)) (add-zero (status_place n.buffer)) ∙ ap (λ (bs : List ℕ). option_map (after_in_trail (one_store r.desc.0.number (status_place n.buffer) bs)) (g.M.Shared.trail c.args.mem.now)) (status_byte h n.request is.served.basic is.served.cached)) e) known c.reply.ensures.trailed
+
+pub returns-in-Act-clause-worked : goal.returns-in-Act-clause-worked
+returns-in-Act-clause-worked g c =
+    let told = g.M.Shared.told c.args.mem.now in
+    let told_now = g.M.Shared.told c.act.new.mem in
+    let trail = g.M.Shared.trail c.args.mem.now in
+    let trail_now = g.M.Shared.trail c.act.new.mem in
+    let vals = g.D.Disk.values c.args.disk.now in
+    let vals_now = g.D.Disk.values c.act.new.disk in
+    let x = c.act.result in
+    let by : Work → Type 0 = λ w. Worked w c.args.sector.now c.act.new.sector x c.act.new.self.work told told_now trail trail_now vals vals_now in
+    subst by (sym c.in-Act.is) (record {
+      makes = c.act.ensures.makes;
+      stored = search rules;
+      trailed = search rules;
+      written = search rules;
+      looked = search rules;
+      changed = c.act.ensures.changed;
+    })
