@@ -377,7 +377,7 @@ steps_out place head task next n m told trail trail_after v v_after step sector 
     }) (made_both G H (Some step) g h)
 
 -- the queue after the step that is due and its end
-advances : (place : ℕ) (task next : Task) (n : Making) (sector : List ℕ) (step : Tasks.TaskStep) (s u t : QueueState) → head_in next ≡ head_in task → HasMade s.ring n next → u ≡ worked place next sector s
+advances : (place : ℕ) (task next : Task) (n : Making) (sector : List ℕ) (step : Tasks.RequestStep) (s u t : QueueState) → head_in next ≡ head_in task → HasMade s.ring n next → u ≡ worked place next sector s
     → t ≡ concluded place (head_in task) (answer_to n.header n.request step) u → Advances place task n sector step s t
 advances place task next n sector (Tasks.Look q) s u t same made steps ends = (next, same, made, ends ∙ steps)
 advances place task next n sector (Tasks.Put q) s u t same made steps ends = (next, same, made, ends ∙ steps)
@@ -415,7 +415,7 @@ due_still capacity old new s t m place task n sizes is due =
     })
 
 -- a step of the step table stops no queue
-unhalted : (head : ℕ) (h : Header1) (request : Asked) (step : Tasks.TaskStep) (u : QueueState) → halted (said head (answer_to h request step)) u ≡ u
+unhalted : (head : ℕ) (h : Header1) (request : Asked) (step : Tasks.RequestStep) (u : QueueState) → halted (said head (answer_to h request step)) u ≡ u
 unhalted head h request (Tasks.Look q) u = refl
 unhalted head h request (Tasks.Put q) u = refl
 unhalted head h request (Tasks.Act q) u = refl

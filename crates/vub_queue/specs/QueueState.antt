@@ -298,7 +298,7 @@ abbrev pub sector_at : QueueState → ℕ → List ℕ
 sector_at s head = get_or s.sectors head []
 
 -- the status completes the request, and another step goes on
-abbrev pub Advances : ℕ → Task → Making → List ℕ → Tasks.TaskStep → QueueState → QueueState → Type 0
+abbrev pub Advances : ℕ → Task → Making → List ℕ → Tasks.RequestStep → QueueState → QueueState → Type 0
 Advances place task n sector Status s t = t ≡ done_at place (head_in task) (used_len (status_of n.header n.request) n.request) sector s
 Advances place task n sector step s t = (next : Task) × (head_in next ≡ (head_in task)) × HasMade s.ring n next × (t ≡ worked place next sector s)
 

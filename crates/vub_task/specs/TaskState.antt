@@ -14,7 +14,7 @@ use Rattle.vub_device.specs.declared.entry.Asked.TheVariants as asked
 use Rattle.vub_device.specs.declared.entry.SectorValue.{SectorValue}
 use Rattle.vub_device.specs.Requests.{effect_at}
 use Rattle.vub_driver.specs.GuestChain.{Links}
-use Rattle.vub_steps.specs.Tasks.{TaskStep, Look, Put, Act, Sync, Status, task_steps, status_of, used_len}
+use Rattle.vub_steps.specs.Tasks.{RequestStep, Look, Put, Act, Sync, Status, task_steps, status_of, used_len}
 use Rattle.vub_direct_chain.specs.ChainState.{MeansRequest, sector_of, data_start, data_len, span_at, SpanLies, HasParts, BreaksRule}
 use Rattle.vub_direct_chain.specs.declared.chain.Unread.{Unread}
 use Rattle.vub_direct_chain.specs.declared.chain.Unread.TheVariants as unread
@@ -50,7 +50,7 @@ transfer_at h r buffer request done = record {
 }
 
 -- what a task does that makes this step next
-abbrev pub work_for : Header1 → SplitRing → ℕ → Asked → TaskStep → Work
+abbrev pub work_for : Header1 → SplitRing → ℕ → Asked → RequestStep → Work
 work_for h r buffer request (Look place) = work.Look (transfer_at h r buffer request place)
 work_for h r buffer request (Put place) = work.Store (transfer_at h r buffer request place)
 work_for h r buffer request (Act place) = work.Act (transfer_at h r buffer request place)
@@ -68,7 +68,7 @@ fresh_task head = record { head = head; work = work.Begin }
 -- the task of a request stands for so many steps made of it
 pub record IsTaskAt (h : Header1) (r : SplitRing) (buffer : ℕ) (request : Asked) (made : ℕ) (task : Task) : Type 0 where
   pub begins : made ≡ 0 → task.work ≡ work.Begin
-  pub goes_on : 0 < made → (step : TaskStep) → slice_get (task_steps h request) made ≡ Some step → task.work ≡ work_for h r buffer request step
+  pub goes_on : 0 < made → (step : RequestStep) → slice_get (task_steps h request) made ≡ Some step → task.work ≡ work_for h r buffer request step
 
 -- the requests that read, write whole sectors or flush
 abbrev pub IsBasic : Asked → Type 0
@@ -78,7 +78,7 @@ IsBasic asked.Flush = ⊤
 IsBasic request = ⊥
 
 -- such a request on a disk of so many sectors that is written back at flushes
-pub record IsServed (h : Header1) (sectors : ℕ) (request : Asked) : Type 0 where
+pub record DiskServes (h : Header1) (sectors : ℕ) (request : Asked) : Type 0 where
   pub basic : IsBasic request
   pub capacity : h.capacity ≡ sectors
   pub cached : h.mode ≡ Back
@@ -249,7 +249,7 @@ disk_outcome (Some answers.Faulted) = Err tt
 disk_outcome o = Ok tt
 
 -- how a step is answered
-abbrev pub answer_to : Header1 → Asked → TaskStep → made.TaskStep
+abbrev pub answer_to : Header1 → Asked → RequestStep → made.TaskStep
 answer_to h request (Look place) = answers.Looked (sector_of request + place)
 answer_to h request (Put place) = answers.Stored T2
 answer_to h request (Act place) = answers.Acted (sector_of request + place)
@@ -257,7 +257,7 @@ answer_to h request Sync = answers.Synced
 answer_to h request Status = answers.Done (status_of h request) (used_len (status_of h request) request)
 
 -- the store of a step, if it makes one; `sector` is what was read before
-abbrev pub store_of : Header1 → SplitRing → ℕ → Asked → List ℕ → TaskStep → Option Store
+abbrev pub store_of : Header1 → SplitRing → ℕ → Asked → List ℕ → RequestStep → Option Store
 store_of h r buffer request sector (Put place) = Some (one_store r.desc.0.number (data_start buffer request + 512 * place) sector)
 store_of h r buffer request sector Status = Some (one_store r.desc.0.number (status_place buffer) (status_of h request ∷ []))
 store_of h r buffer request sector step = None
@@ -280,7 +280,7 @@ with_effect None v = v
 with_effect (Some x) v = with_value x.sector x.value v
 
 -- the values of the disk after a step
-abbrev pub values_after : Asked → TaskStep → Values → Values
+abbrev pub values_after : Asked → RequestStep → Values → Values
 values_after request (Act place) v = with_effect (effect_at request place) v
 values_after request step v = v
 
@@ -331,12 +331,12 @@ pub record Making : Type 0 where
   pub buffer : ℕ
   pub request : Asked
   pub made : ℕ
-  pub step : TaskStep
+  pub step : RequestStep
 
 -- memory m means its request, the disk serves it, and the step is next in the step table
 pub record IsNext (sectors : ℕ) (sizes : ℕ → ℕ) (r : SplitRing) (m : Bytes) (n : Making) : Type 0 where
   pub means : MeansRequest sizes r m n.links n.buffer n.request
-  pub served : IsServed n.header sectors n.request
+  pub served : DiskServes n.header sectors n.request
   pub next : slice_get (task_steps n.header n.request) n.made ≡ Some n.step
 
 -- a task that makes it, and the task after it

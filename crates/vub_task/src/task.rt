@@ -209,7 +209,7 @@ impl Task {
     ghost use Rattle.vub_steps.specs.Tasks.{task_steps};
     ghost use Rattle.vub_direct_chain.specs.ChainState.{MeansRequest, Reads, read_outcome, BreaksRule};
     ghost use Rattle.vub_direct_chain.specs.declared.chain.Unread.TheVariants as unread;
-    ghost use Rattle.vub_task.specs.TaskState.{Begins, Starts, TaskLies, Makes, Worked, OwesFailure, Making, IsNext, IsServed, IsReady, IsTaskAt, HasMade, LooksAt, answer_in, store_in, memory_after, with_maybe, values_after, work_for, work_of};
+    ghost use Rattle.vub_task.specs.TaskState.{Begins, Starts, TaskLies, Makes, Worked, OwesFailure, Making, IsNext, DiskServes, IsReady, IsTaskAt, HasMade, LooksAt, answer_in, store_in, memory_after, with_maybe, values_after, work_for, work_of};
     ghost use Rattle.vub_split.specs.declared.split.SplitRing.{SplitRing};
 
     /// A request that was accepted under this head.
@@ -238,7 +238,7 @@ impl Task {
         ensures starts { WhereTold (M.told mem.old) (λ m. Starts (M.sizes mem.old) ring.now m self.now.head capacity result) }
         ensures lies { IfOk result (λ w. WorkLies (M.sizes mem.old) capacity w) }
         ensures begun { IfOk result (λ w. is_begun w ≡ true) }
-        ensures begins { (h : Header1) (l : Links) (buffer : ℕ) (request : Asked) (step : Tasks.TaskStep) → WhereTold (M.told mem.old) (λ m. MeansRequest (M.sizes mem.old) ring.now m l buffer request → l.head ≡ self.now.head → IsServed h capacity request → slice_get (task_steps h request) 0 ≡ Some step → Reads result (work_for h ring.now buffer request step)) }
+        ensures begins { (h : Header1) (l : Links) (buffer : ℕ) (request : Asked) (step : Tasks.RequestStep) → WhereTold (M.told mem.old) (λ m. MeansRequest (M.sizes mem.old) ring.now m l buffer request → l.head ≡ self.now.head → DiskServes h capacity request → slice_get (task_steps h request) 0 ≡ Some step → Reads result (work_for h ring.now buffer request step)) }
         ensures only_loads { OnlyLoads M.told M.trail M.names M.handed M.sizes mem.old mem.new }
         ensures cause { HasCause (M.faults mem.old) (M.faults mem.new) (read_outcome result) }
     {
