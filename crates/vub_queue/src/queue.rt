@@ -1,7 +1,7 @@
 //! The device's side of one split queue: each turn makes one step (VIRTIO 1.2, 2.7.7 and 2.7.8).
 ghost use Rattle.std.specs.Prelude.{◌≡◌, ◌<◌, ◌≤◌, ◌+◌, ℕ, true, false, Some, length, map, take, drop, set, slice_get, vec_len, vec_capacity, IfOk};
 ghost use Rattle.vub_split.specs.Split.{RingLies};
-ghost use Rattle.vub_queue.specs.QueueParts.{element, is_taken, taken_count, without_heads, phase_fits};
+ghost use Rattle.vub_queue.specs.QueueParts.{element, is_taken, taken_count, without_heads, heads_below, phase_fits};
 
 use std::alloc::Global;
 use vub_base::standard::SECTOR_SIZE;
@@ -86,6 +86,7 @@ pub struct Queue {
     ghost room: { ring.size ≤ vec_capacity unfinished },
     ghost space: { ring.size ≤ vec_capacity completed },
     ghost counted: { vec_len unfinished + vec_len completed ≤ taken_count taken.items },
+    ghost in_table: { heads_below ring.size completed.items ≡ true },
     ghost batched: { batch ≤ vec_len completed },
     ghost fits: { phase_fits phase batch started ≡ true },
 }
@@ -98,18 +99,17 @@ fn is_taken(taken: &[bool], head: u16) -> bool
     taken[usize::from(head)]
 }
 
-#[tactic(auto, using(crate::proofs::QueueLemmas::set_beyond))]
+/// Takes or frees a head.
 fn set_taken(taken: &mut [bool], head: u16, to: bool)
+    requires { head < length taken.old }
     ensures { taken.new ≡ set taken.old head to }
 {
-    let place = usize::from(head);
-    if place < taken.len() {
-        taken[place] = to;
-    }
+    taken[usize::from(head)] = to;
 }
 
 /// The heads of these are free.
 fn release(taken: &mut [bool], batch: &[Completed])
+    requires { heads_below (length taken.old) batch.now ≡ true }
     ensures { taken.new ≡ without_heads (map element batch.now) taken.old }
 {
     for completed in batch {
@@ -332,7 +332,8 @@ impl Queue {
 
     /// Moves a request to the completed ones.
     fn complete(&mut self, place: usize, head: u16, len: u32)
-        requires { place < vec_len self.old.unfinished }
+        requires within { place < vec_len self.old.unfinished }
+        requires fits { head < self.old.ring.size }
         ensures ring { ring_in self.new ≡ ring_in self.old }
         ensures state { state_of self.new ≡ record (state_of self.old) { unfinished = remove (state_of self.old).unfinished place; completed = (state_of self.old).completed ++ (head, len) ∷ [] } }
     {
@@ -351,6 +352,7 @@ impl Queue {
         requires within { place < vec_len self.old.unfinished }
         ensures ring { ring_in self.new ≡ ring_in self.old }
         ensures lies { QueueLies (M.sizes mem.old) (D.capacity disk.old) (state_of self.new) }
+        ensures head { result.0 < self.old.ring.size }
         ensures failed { IfFaulted result.1 (OwesAt place result.0 (state_of self.new)) }
         ensures steps { StepsAt place (Some result) (state_of self.old) (state_of self.new) }
         ensures made { (task : Task) (n : Making) → WhereTold (M.told mem.old) (λ m. IsDue (D.capacity disk.old) (M.sizes mem.old) (state_of self.old) m place task n → IfMade (Some result.1) (λ step. StepsOut place task n m (M.told mem.new) (M.trail mem.old) (M.trail mem.new) (D.values disk.old) (D.values disk.new) (Some result) (state_of self.old) (state_of self.new))) }
@@ -370,7 +372,8 @@ impl Queue {
 
     /// Notes the end of a request whose status was stored, and says what its step was.
     fn conclude(&mut self, place: usize, head: u16, step: TaskStep) -> Stepped
-        requires { place < vec_len self.old.unfinished }
+        requires within { place < vec_len self.old.unfinished }
+        requires fits { head < self.old.ring.size }
         ensures ring { ring_in self.new ≡ ring_in self.old }
         ensures says { result ≡ said head step }
         ensures state { state_of self.new ≡ concluded place head step (state_of self.old) }

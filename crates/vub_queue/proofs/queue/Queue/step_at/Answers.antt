@@ -106,3 +106,12 @@ returns-clause-task g c task is =
     let sector : c.index_mut-sector.result.now ≡ sector_at s (head_in now) = c.index_mut-sector.ensures.value ∙ sym there ∙ ap (λ (k : ℕ). get_or buffers k []) (c.from.ensures ∙ head) in
     steps_task (g.M.Shared.sizes c.args.mem.now) (g.D.Disk.capacity c.args.disk.now) c.args.place c.head-head.result now task next c.step.result c.index_mut-sector.result.now after (g.M.Shared.told c.args.mem.now) (g.M.Shared.told c.step.new.mem) (g.M.Shared.trail c.args.mem.now) (g.M.Shared.trail c.step.new.mem) (g.D.Disk.values c.args.disk.now) (g.D.Disk.values c.step.new.disk) s _
     at head still sector (ap (λ (k : ℕ). record (worked c.args.place next after s) { sectors = set buffers k after }) (c.from.ensures ∙ head ∙ sym still)) c.step.ensures.begins c.step.ensures.worked c.step.ensures.failed
+
+pub returns-clause-head : goal.returns-clause-head
+returns-clause-head g c =
+    let s : QueueState = state_of c.args.self.now in
+    let now : Task = c.index_mut-task.result.now in
+    let within : c.args.place < length s.unfinished = search rules in
+    let here : slice_get s.unfinished c.args.place ≡ Some now = slice_get-get_or s.unfinished c.args.place now within ∙ ap Some (sym c.index_mut-task.ensures.value) in
+    let fits = task_in (g.M.Shared.sizes c.args.mem.now) (g.D.Disk.capacity c.args.disk.now) s.ring s.unfinished c.args.place now c.requires.lies.tasks here in
+    omega (arith, fits.1, c.head-head.ensures)
