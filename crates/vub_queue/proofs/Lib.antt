@@ -1,2 +1,4 @@
 pub mod QueueLemmas
 pub mod LyingLemmas
+pub mod StableLemmas
+pub mod TaskLemmas

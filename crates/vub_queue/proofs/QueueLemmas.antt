@@ -25,7 +25,7 @@ use Rattle.vub_steps.proofs.StepLemmas.{length_publish}
 use Rattle.vub_queue.specs.declared.queue.Completed.{Completed}
 use Rattle.vub_queue.specs.declared.queue.Stepped.{Stepped}
 use Rattle.vub_queue.specs.declared.queue.Stepped.TheVariants as says
-use Rattle.vub_queue.specs.QueueParts.{element, is_taken, taken_count, without_heads, phase_fits}
+use Rattle.vub_queue.specs.QueueParts.{element, is_taken, taken_count, without_heads, heads_below, phase_fits}
 use Rattle.vub_split.specs.Split.{used_side}
 use Rattle.vub_queue.specs.QueueState.{QueueState, row_at, next_row, Moves, StoresRow, TrailsRow, outcome, publishes, Unless, worked, done_at, Works, StepsAt, StepsOut, WorksOut, IfStepped, Advances, concluded, said, sector_at, IsDue, Rests, halted}
 use Rattle.vub_task.specs.TaskState.{Making, IfMade, HasMade, LooksAt, answer_in, answer_to, memory_after, values_after, store_in, with_maybe, head_in}
@@ -36,8 +36,26 @@ use Rattle.vub_device.specs.declared.entry.Asked.{Asked}
 use Rattle.vub_steps.specs.Tasks.{status_of, used_len}
 use Rattle.vub_disk.specs.Values.{Values}
 
-pub set_beyond : (xs : List Bool) (i : ℕ) (y : Bool) → length xs ≤ i → set xs i y ≡ xs
-set_beyond xs i y past = set_past xs i y past
+-- heads that lie in the table
+pub below_first : (size : ℕ) (x : Completed) (xs : List Completed) → heads_below size (x ∷ xs) ≡ true → x.head < size
+below_first size x xs h = grind (arith, nat_tests)
+
+pub below_rest : (size : ℕ) (x : Completed) (xs : List Completed) → heads_below size (x ∷ xs) ≡ true → heads_below size xs ≡ true
+below_rest size x xs h = grind (arith, nat_tests)
+
+pub below_more : (size : ℕ) (xs : List Completed) (x : Completed) → heads_below size xs ≡ true → x.head < size → heads_below size (xs ++ x ∷ []) ≡ true
+below_more size [] x h fits = grind (arith, nat_tests)
+below_more size (y ∷ ys) x h fits = grind (arith, nat_tests, below_more size ys x)
+
+pub below_drop : (size n : ℕ) (xs : List Completed) → heads_below size xs ≡ true → heads_below size (drop n xs) ≡ true
+below_drop size zero xs h = h
+below_drop size (suc n) [] h = refl
+below_drop size (suc n) (x ∷ xs) h = below_drop size n xs (below_rest size x xs h)
+
+pub below_take : (size n : ℕ) (xs : List Completed) → heads_below size xs ≡ true → heads_below size (take n xs) ≡ true
+below_take size zero xs h = refl
+below_take size (suc n) [] h = refl
+below_take size (suc n) (x ∷ xs) h = grind (arith, nat_tests, below_take size n xs)
 
 -- one more head is taken
 pub count_taken : (taken : List Bool) (head : ℕ) → is_taken taken head ≡ false → taken_count (set taken head true) ≡ taken_count taken + 1
@@ -377,7 +395,7 @@ steps_out place head task next n m told trail trail_after v v_after step sector 
     }) (made_both G H (Some step) g h)
 
 -- the queue after the step that is due and its end
-advances : (place : ℕ) (task next : Task) (n : Making) (sector : List ℕ) (step : Tasks.TaskStep) (s u t : QueueState) → head_in next ≡ head_in task → HasMade s.ring n next → u ≡ worked place next sector s
+advances : (place : ℕ) (task next : Task) (n : Making) (sector : List ℕ) (step : Tasks.RequestStep) (s u t : QueueState) → head_in next ≡ head_in task → HasMade s.ring n next → u ≡ worked place next sector s
     → t ≡ concluded place (head_in task) (answer_to n.header n.request step) u → Advances place task n sector step s t
 advances place task next n sector (Tasks.Look q) s u t same made steps ends = (next, same, made, ends ∙ steps)
 advances place task next n sector (Tasks.Put q) s u t same made steps ends = (next, same, made, ends ∙ steps)
@@ -415,7 +433,7 @@ due_still capacity old new s t m place task n sizes is due =
     })
 
 -- a step of the step table stops no queue
-unhalted : (head : ℕ) (h : Header1) (request : Asked) (step : Tasks.TaskStep) (u : QueueState) → halted (said head (answer_to h request step)) u ≡ u
+unhalted : (head : ℕ) (h : Header1) (request : Asked) (step : Tasks.RequestStep) (u : QueueState) → halted (said head (answer_to h request step)) u ≡ u
 unhalted head h request (Tasks.Look q) u = refl
 unhalted head h request (Tasks.Put q) u = refl
 unhalted head h request (Tasks.Act q) u = refl

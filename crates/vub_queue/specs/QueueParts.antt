@@ -1,5 +1,5 @@
 -- Parts of the state of the device's side of one queue, and what always holds of them.
-use Rattle.std.specs.Prelude.{ℕ, ◌+◌, ◌*◌, Bool, true, false, ◌&&◌, ◌==◌, nat_le, List, [], ◌∷◌, get_or, set}
+use Rattle.std.specs.Prelude.{ℕ, ◌+◌, ◌*◌, Bool, true, false, ◌&&◌, ◌==◌, nat_le, nat_lt, List, [], ◌∷◌, get_or, set}
 use Rattle.vub_steps.specs.declared.steps.Phase.{Phase}
 use Rattle.vub_steps.specs.declared.steps.Phase.TheVariants as phases
 use Rattle.vub_queue.specs.declared.queue.Completed.{Completed}
@@ -17,6 +17,11 @@ abbrev pub taken_count : List Bool → ℕ
 taken_count [] = 0
 taken_count (true ∷ taken) = taken_count taken + 1
 taken_count (false ∷ taken) = taken_count taken
+
+-- whether the heads of these lie in a table of so many
+abbrev pub heads_below : ℕ → List Completed → Bool
+heads_below size [] = true
+heads_below size (x ∷ xs) = nat_lt x.head size && heads_below size xs
 
 -- the heads of these elements are free
 abbrev pub without_heads : List (ℕ × ℕ) → List Bool → List Bool

@@ -22,11 +22,12 @@ use Rattle.vub_steps.specs.Readiness.{is_ready, is_publication}
 use Rattle.vub_split.specs.declared.split.SplitRing.{SplitRing}
 use Rattle.vub_split.specs.Split.{RingLies, avail_idx_word, head_word, used_side}
 use Rattle.vub_task.specs.declared.task.Task.{Task}
+use Rattle.vub_task.specs.declared.task.Work.TheVariants as work
 use Rattle.vub_task.specs.declared.task.TaskStep as made
 use Rattle.vub_task.specs.declared.task.TaskStep.TheVariants as answers
 use Rattle.vub_steps.specs.Tasks as Tasks
 use Rattle.vub_steps.specs.Tasks.{Status, status_of, used_len}
-use Rattle.vub_task.specs.TaskState.{Making, IsNext, IsReady, HasMade, LooksAt, GainsOne, fresh_task, answer_in, memory_after, values_after, store_in, with_maybe, head_in, TaskLies, OwesFailure}
+use Rattle.vub_task.specs.TaskState.{Making, IsNext, IsReady, HasMade, LooksAt, GainsOne, fresh_task, answer_in, memory_after, values_after, store_in, with_maybe, head_in, is_begun, IfFaulted, TaskLies, OwesFailure, Begins, Worked}
 use Rattle.vub_queue.specs.QueueParts.{element, is_taken, without_heads}
 use Rattle.vub_queue.specs.declared.queue.Stop.{Stop}
 use Rattle.vub_queue.specs.declared.queue.Stop.TheVariants as stops
@@ -297,7 +298,7 @@ abbrev pub sector_at : QueueState → ℕ → List ℕ
 sector_at s head = get_or s.sectors head []
 
 -- the status completes the request, and another step goes on
-abbrev pub Advances : ℕ → Task → Making → List ℕ → Tasks.TaskStep → QueueState → QueueState → Type 0
+abbrev pub Advances : ℕ → Task → Making → List ℕ → Tasks.RequestStep → QueueState → QueueState → Type 0
 Advances place task n sector Status s t = t ≡ done_at place (head_in task) (used_len (status_of n.header n.request) n.request) sector s
 Advances place task n sector step s t = (next : Task) × (head_in next ≡ (head_in task)) × HasMade s.ring n next × (t ≡ worked place next sector s)
 
@@ -338,6 +339,25 @@ pub record WorksOut (place : ℕ) (task : Task) (n : Making) (m : Bytes) (told :
   pub stores : told ≡ Some (memory_after s.ring n (sector_at s (head_in task)) m)
   pub trails : trail_after ≡ option_map (with_maybe (due_store s task n)) trail
   pub values : v_after ≡ option_map (values_after n.request n.step) v
+
+-- a step of the request of this head, in this place, whatever the memory means: the first of its task, or the next of its work
+pub record StepsTask (sizes : ℕ → ℕ) (capacity place : ℕ) (task : Task) (head : ℕ) (step : made.TaskStep) (told told_after : Option Bytes) (trail trail_after : Option (List Store)) (v v_after : Option Values) (s t : QueueState) : Type 0 where
+  pub next : Task
+  pub sector : List ℕ
+  pub heads : (head ≡ head_in task) × (head_in next ≡ head_in task)
+  pub begins : task.work ≡ work.Begin → WhereTold told (λ m. Begins sizes s.ring m (head_in task) capacity (sector_at s (head_in task)) sector step next.work told_after trail trail_after v v_after)
+  pub goes_on : is_begun task.work ≡ true → Worked task.work (sector_at s (head_in task)) sector step next.work told told_after trail trail_after v v_after
+  pub failed : IfFaulted step (OwesFailure next)
+  pub state : t ≡ worked place next sector s
+
+-- a turn that works on it: such a step, and its end is noted
+pub record WorksTask (sizes : ℕ → ℕ) (capacity place : ℕ) (task : Task) (told told_after : Option Bytes) (trail trail_after : Option (List Store)) (v v_after : Option Values) (x : Stepped) (s t : QueueState) : Type 0 where
+  pub head : ℕ
+  pub step : made.TaskStep
+  pub stepped : QueueState
+  pub steps : StepsTask sizes capacity place task head step told told_after trail trail_after v v_after s stepped
+  pub says : x ≡ said head step
+  pub state : t ≡ concluded place head step stepped
 
 -- nothing was ready: all is as it was
 pub record Rests (told told_after : Option Bytes) (trail trail_after : Option (List Store)) (v v_after : Option Values) (x : Stepped) (s t : QueueState) : Type 0 where
@@ -398,6 +418,11 @@ DoesTrail turn before after x s = after ≡ before
 abbrev pub DoesDisk : Turn → Option Values → Option Values → Type 0
 DoesDisk (Work place) before after = ⊤
 DoesDisk turn before after = after ≡ before
+
+-- the told stable values: a flush that was made has made the values stable, and any other turn leaves them as they were
+abbrev pub StableAfter : Stepped → Option Values → Option Values → Option Values → Type 0
+StableAfter (says.Synced head) stable values stable_after = stable_after ≡ values
+StableAfter x stable values stable_after = stable_after ≡ stable
 
 -- whether the disk failed in a turn
 abbrev pub disk_outcome : Stepped → Result (Unit {0}) (Unit {0})

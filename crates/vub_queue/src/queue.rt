@@ -1,7 +1,7 @@
 //! The device's side of one split queue: each turn makes one step (VIRTIO 1.2, 2.7.7 and 2.7.8).
 ghost use Rattle.std.specs.Prelude.{◌≡◌, ◌<◌, ◌≤◌, ◌+◌, ℕ, true, false, Some, length, map, take, drop, set, slice_get, vec_len, vec_capacity, IfOk};
 ghost use Rattle.vub_split.specs.Split.{RingLies};
-ghost use Rattle.vub_queue.specs.QueueParts.{element, is_taken, taken_count, without_heads, phase_fits};
+ghost use Rattle.vub_queue.specs.QueueParts.{element, is_taken, taken_count, without_heads, heads_below, phase_fits};
 
 use std::alloc::Global;
 use vub_base::standard::SECTOR_SIZE;
@@ -86,6 +86,7 @@ pub struct Queue {
     ghost room: { ring.size ≤ vec_capacity unfinished },
     ghost space: { ring.size ≤ vec_capacity completed },
     ghost counted: { vec_len unfinished + vec_len completed ≤ taken_count taken.items },
+    ghost in_table: { heads_below ring.size completed.items ≡ true },
     ghost batched: { batch ≤ vec_len completed },
     ghost fits: { phase_fits phase batch started ≡ true },
 }
@@ -98,18 +99,17 @@ fn is_taken(taken: &[bool], head: u16) -> bool
     taken[usize::from(head)]
 }
 
-#[tactic(auto, using(crate::proofs::QueueLemmas::set_beyond))]
+/// Takes or frees a head.
 fn set_taken(taken: &mut [bool], head: u16, to: bool)
+    requires { head < length taken.old }
     ensures { taken.new ≡ set taken.old head to }
 {
-    let place = usize::from(head);
-    if place < taken.len() {
-        taken[place] = to;
-    }
+    taken[usize::from(head)] = to;
 }
 
 /// The heads of these are free.
 fn release(taken: &mut [bool], batch: &[Completed])
+    requires { heads_below (length taken.old) batch.now ≡ true }
     ensures { taken.new ≡ without_heads (map element batch.now) taken.old }
 {
     for completed in batch {
@@ -154,7 +154,7 @@ impl Queue {
     ghost use Rattle.vub_steps.specs.declared.steps.Phase.TheVariants.{Rest};
     ghost use Rattle.vub_steps.specs.declared.steps.Step.TheVariants.{Id, Len, Index};
     ghost use Rattle.vub_queue.specs.Queue.{ring_in};
-    ghost use Rattle.vub_queue.specs.QueueState.{QueueLies, KeepsLying, Owes, OwesAt, state_of, IsNew, started_from, said, concluded, StepsAt, IsDue, IfStepped, StepsOut, WorksOut, Rests, disk_outcome, standing_at, waiting, IsFree, Finds, Fetches, accepted, may_fetch, begun, under_way, next_row, moved, with_phase, Moves, outcome, found_outcome, MakesRow, publishes, publish_row, Publishes, is_idle, is_fault, Unless, Works, Does, DoesStore, DoesTrail, DoesDisk, halted, Turns};
+    ghost use Rattle.vub_queue.specs.QueueState.{QueueState, QueueLies, KeepsLying, Owes, OwesAt, state_of, IsNew, started_from, said, concluded, StepsAt, IsDue, IfStepped, StepsOut, WorksOut, StepsTask, WorksTask, Rests, disk_outcome, standing_at, waiting, IsFree, Finds, Fetches, accepted, may_fetch, begun, under_way, next_row, moved, with_phase, Moves, outcome, found_outcome, MakesRow, publishes, publish_row, Publishes, is_idle, is_fault, Unless, Works, Does, DoesStore, DoesTrail, DoesDisk, StableAfter, halted, Turns};
 
     /// A queue that isn't started. All memory that it needs is reserved here.
     pub fn new(alloc: Global, setup: &QueueSetup) -> Result<Queue, Memory>
@@ -332,7 +332,8 @@ impl Queue {
 
     /// Moves a request to the completed ones.
     fn complete(&mut self, place: usize, head: u16, len: u32)
-        requires { place < vec_len self.old.unfinished }
+        requires within { place < vec_len self.old.unfinished }
+        requires fits { head < self.old.ring.size }
         ensures ring { ring_in self.new ≡ ring_in self.old }
         ensures state { state_of self.new ≡ record (state_of self.old) { unfinished = remove (state_of self.old).unfinished place; completed = (state_of self.old).completed ++ (head, len) ∷ [] } }
     {
@@ -351,12 +352,15 @@ impl Queue {
         requires within { place < vec_len self.old.unfinished }
         ensures ring { ring_in self.new ≡ ring_in self.old }
         ensures lies { QueueLies (M.sizes mem.old) (D.capacity disk.old) (state_of self.new) }
+        ensures head { result.0 < self.old.ring.size }
         ensures failed { IfFaulted result.1 (OwesAt place result.0 (state_of self.new)) }
         ensures steps { StepsAt place (Some result) (state_of self.old) (state_of self.new) }
         ensures made { (task : Task) (n : Making) → WhereTold (M.told mem.old) (λ m. IsDue (D.capacity disk.old) (M.sizes mem.old) (state_of self.old) m place task n → IfMade (Some result.1) (λ step. StepsOut place task n m (M.told mem.new) (M.trail mem.old) (M.trail mem.new) (D.values disk.old) (D.values disk.new) (Some result) (state_of self.old) (state_of self.new))) }
+        ensures task { (task : Task) → slice_get (state_of self.old).unfinished place ≡ Some task → StepsTask (M.sizes mem.old) (D.capacity disk.old) place task result.0 result.1 (M.told mem.old) (M.told mem.new) (M.trail mem.old) (M.trail mem.new) (D.values disk.old) (D.values disk.new) (state_of self.old) (state_of self.new) }
         ensures trail { GainsOne (M.trail mem.old) (M.trail mem.new) }
         ensures cause { HasCause (M.faults mem.old) (M.faults mem.new) (memory_outcome (Some result.1)) }
         ensures disk_cause { HasCause (D.faults disk.old) (D.faults disk.new) (TaskState.disk_outcome (Some result.1)) }
+        ensures stable { TaskState.StableAfter result.1 (D.stable disk.old) (D.values disk.new) (D.stable disk.new) }
         ensures keeps_spaces { KeepsSpaces M.names M.handed M.sizes mem.old mem.new }
         ensures capacity { D.capacity disk.new ≡ D.capacity disk.old }
     {
@@ -368,7 +372,8 @@ impl Queue {
 
     /// Notes the end of a request whose status was stored, and says what its step was.
     fn conclude(&mut self, place: usize, head: u16, step: TaskStep) -> Stepped
-        requires { place < vec_len self.old.unfinished }
+        requires within { place < vec_len self.old.unfinished }
+        requires fits { head < self.old.ring.size }
         ensures ring { ring_in self.new ≡ ring_in self.old }
         ensures says { result ≡ said head step }
         ensures state { state_of self.new ≡ concluded place head step (state_of self.old) }
@@ -396,10 +401,12 @@ impl Queue {
         ensures ring { ring_in self.new ≡ ring_in self.old }
         ensures works { Works place result (state_of self.old) (state_of self.new) }
         ensures made { (task : Task) (n : Making) → WhereTold (M.told mem.old) (λ m. IsDue (D.capacity disk.old) (M.sizes mem.old) (state_of self.old) m place task n → IfStepped result (WorksOut place task n m (M.told mem.new) (M.trail mem.old) (M.trail mem.new) (D.values disk.old) (D.values disk.new) result (state_of self.old) (state_of self.new))) }
+        ensures task { (task : Task) → (state_of self.old).started ≡ true → slice_get (state_of self.old).unfinished place ≡ Some task → WorksTask (M.sizes mem.old) (D.capacity disk.old) place task (M.told mem.old) (M.told mem.new) (M.trail mem.old) (M.trail mem.new) (D.values disk.old) (D.values disk.new) result (state_of self.old) (state_of self.new) }
         ensures trail { GainsOne (M.trail mem.old) (M.trail mem.new) }
         ensures rests { (waiting : ℕ) → is_ready (standing_at (state_of self.old) waiting) (Work place) ≡ false → Rests (M.told mem.old) (M.told mem.new) (M.trail mem.old) (M.trail mem.new) (D.values disk.old) (D.values disk.new) result (state_of self.old) (state_of self.new) }
         ensures cause { HasCause (M.faults mem.old) (M.faults mem.new) (outcome result) }
         ensures disk_cause { HasCause (D.faults disk.old) (D.faults disk.new) (disk_outcome result) }
+        ensures stable { StableAfter result (D.stable disk.old) (D.values disk.new) (D.stable disk.new) }
         ensures keeps_spaces { KeepsSpaces M.names M.handed M.sizes mem.old mem.new }
         ensures capacity { D.capacity disk.new ≡ D.capacity disk.old }
     {
@@ -580,9 +587,11 @@ impl Queue {
         ensures trails { DoesTrail turn (M.trail mem.old) (M.trail mem.new) result (state_of self.old) }
         ensures values { DoesDisk turn (D.values disk.old) (D.values disk.new) }
         ensures made { (place : ℕ) (task : Task) (n : Making) → WhereTold (M.told mem.old) (λ m. turn ≡ Work place → IsDue (D.capacity disk.old) (M.sizes mem.old) (state_of self.old) m place task n → IfStepped result (WorksOut place task n m (M.told mem.new) (M.trail mem.old) (M.trail mem.new) (D.values disk.old) (D.values disk.new) result (state_of self.old) (state_of self.new))) }
+        ensures task { (place : ℕ) (task : Task) → turn ≡ Work place → (state_of self.old).started ≡ true → slice_get (state_of self.old).unfinished place ≡ Some task → WorksTask (M.sizes mem.old) (D.capacity disk.old) place task (M.told mem.old) (M.told mem.new) (M.trail mem.old) (M.trail mem.new) (D.values disk.old) (D.values disk.new) result (state_of self.old) (state_of self.new) }
         ensures rests { (waiting place : ℕ) → turn ≡ Work place → is_ready (standing_at (state_of self.old) waiting) (Work place) ≡ false → Rests (M.told mem.old) (M.told mem.new) (M.trail mem.old) (M.trail mem.new) (D.values disk.old) (D.values disk.new) result (state_of self.old) (state_of self.new) }
         ensures cause { HasCause (M.faults mem.old) (M.faults mem.new) (outcome result) }
         ensures disk_cause { HasCause (D.faults disk.old) (D.faults disk.new) (disk_outcome result) }
+        ensures stable { StableAfter result (D.stable disk.old) (D.values disk.new) (D.stable disk.new) }
         ensures keeps_spaces { KeepsSpaces M.names M.handed M.sizes mem.old mem.new }
         ensures capacity { D.capacity disk.new ≡ D.capacity disk.old }
     {
@@ -604,9 +613,11 @@ impl Queue {
         ensures trails { WhereTold (M.told mem.old) (λ m. DoesTrail (chosen self.old.ring.size choice (standing_at (state_of self.old) (waiting (state_of self.old) m))) (M.trail mem.old) (M.trail mem.new) result (state_of self.old)) }
         ensures values { WhereTold (M.told mem.old) (λ m. DoesDisk (chosen self.old.ring.size choice (standing_at (state_of self.old) (waiting (state_of self.old) m))) (D.values disk.old) (D.values disk.new)) }
         ensures made { (place : ℕ) (task : Task) (n : Making) → WhereTold (M.told mem.old) (λ m. chosen self.old.ring.size choice (standing_at (state_of self.old) (waiting (state_of self.old) m)) ≡ Work place → IsDue (D.capacity disk.old) (M.sizes mem.old) (state_of self.old) m place task n → IfStepped result (WorksOut place task n m (M.told mem.new) (M.trail mem.old) (M.trail mem.new) (D.values disk.old) (D.values disk.new) result (state_of self.old) (state_of self.new))) }
+        ensures task { (place : ℕ) (task : Task) → WhereTold (M.told mem.old) (λ m. chosen self.old.ring.size choice (standing_at (state_of self.old) (waiting (state_of self.old) m)) ≡ Work place → (state_of self.old).started ≡ true → slice_get (state_of self.old).unfinished place ≡ Some task → Unless (is_fault result) (WorksTask (M.sizes mem.old) (D.capacity disk.old) place task (M.told mem.old) (M.told mem.new) (M.trail mem.old) (M.trail mem.new) (D.values disk.old) (D.values disk.new) result (state_of self.old) (state_of self.new))) }
         ensures rests { (waiting place : ℕ) → choice ≡ Only (Work place) → is_ready (standing_at (state_of self.old) waiting) (Work place) ≡ false → Rests (M.told mem.old) (M.told mem.new) (M.trail mem.old) (M.trail mem.new) (D.values disk.old) (D.values disk.new) result (state_of self.old) (state_of self.new) }
         ensures cause { HasCause (M.faults mem.old) (M.faults mem.new) (outcome result) }
         ensures disk_cause { HasCause (D.faults disk.old) (D.faults disk.new) (disk_outcome result) }
+        ensures stable { StableAfter result (D.stable disk.old) (D.values disk.new) (D.stable disk.new) }
         ensures keeps_spaces { KeepsSpaces M.names M.handed M.sizes mem.old mem.new }
         ensures capacity { D.capacity disk.new ≡ D.capacity disk.old }
     {
@@ -651,9 +662,11 @@ impl Queue {
         ensures trails { is_some (state_of self.old).stopped ≡ false → WhereTold (M.told mem.old) (λ m. DoesTrail (chosen (ring_in self.old).size choice (standing_at (state_of self.old) (waiting (state_of self.old) m))) (M.trail mem.old) (M.trail mem.new) result (state_of self.old)) }
         ensures values { is_some (state_of self.old).stopped ≡ false → WhereTold (M.told mem.old) (λ m. DoesDisk (chosen (ring_in self.old).size choice (standing_at (state_of self.old) (waiting (state_of self.old) m))) (D.values disk.old) (D.values disk.new)) }
         ensures made { (place : ℕ) (task : Task) (n : Making) → is_some (state_of self.old).stopped ≡ false → WhereTold (M.told mem.old) (λ m. chosen (ring_in self.old).size choice (standing_at (state_of self.old) (waiting (state_of self.old) m)) ≡ Work place → IsDue (D.capacity disk.old) (M.sizes mem.old) (state_of self.old) m place task n → IfStepped result (WorksOut place task n m (M.told mem.new) (M.trail mem.old) (M.trail mem.new) (D.values disk.old) (D.values disk.new) result (state_of self.old) (state_of self.new))) }
+        ensures task { (place : ℕ) (task : Task) → is_some (state_of self.old).stopped ≡ false → WhereTold (M.told mem.old) (λ m. chosen (ring_in self.old).size choice (standing_at (state_of self.old) (waiting (state_of self.old) m)) ≡ Work place → (state_of self.old).started ≡ true → slice_get (state_of self.old).unfinished place ≡ Some task → Unless (is_fault result) ((u : QueueState) × (state_of self.new ≡ halted result u) × WorksTask (M.sizes mem.old) (D.capacity disk.old) place task (M.told mem.old) (M.told mem.new) (M.trail mem.old) (M.trail mem.new) (D.values disk.old) (D.values disk.new) result (state_of self.old) u)) }
         ensures rests { (waiting place : ℕ) → is_some (state_of self.old).stopped ≡ false → choice ≡ Only (Work place) → is_ready (standing_at (state_of self.old) waiting) (Work place) ≡ false → Rests (M.told mem.old) (M.told mem.new) (M.trail mem.old) (M.trail mem.new) (D.values disk.old) (D.values disk.new) result (state_of self.old) (state_of self.new) }
         ensures cause { HasCause (M.faults mem.old) (M.faults mem.new) (outcome result) }
         ensures disk_cause { HasCause (D.faults disk.old) (D.faults disk.new) (disk_outcome result) }
+        ensures stable { StableAfter result (D.stable disk.old) (D.values disk.new) (D.stable disk.new) }
         ensures keeps_spaces { KeepsSpaces M.names M.handed M.sizes mem.old mem.new }
         ensures capacity { D.capacity disk.new ≡ D.capacity disk.old }
     {

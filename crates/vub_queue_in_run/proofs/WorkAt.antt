@@ -20,7 +20,7 @@ use Rattle.vub_run.specs.Moments.{Lane, Moment, standing, unfinished}
 use Rattle.vub_queue_in_run.specs.QueueAt.{QueueStands, IsMainRing, TaskAt}
 use Rattle.vub_queue.specs.QueueState.{QueueState, IsDue}
 use Rattle.vub_task.specs.TaskState.{fresh_task, Making, IsBasic, IsNext, IsReady, head_in}
-use Rattle.vub_steps.specs.Tasks.{TaskStep, Look, Put, Act, Sync, Status, task_steps, disk_steps, look_steps, act_steps}
+use Rattle.vub_steps.specs.Tasks.{RequestStep, Look, Put, Act, Sync, Status, task_steps, disk_steps, look_steps, act_steps}
 use Rattle.vub_run_laws.proofs.RunNumbers.{among_get, among_filter, missing-among}
 use Rattle.vub_run_laws.proofs.RunGood.{IsWideRead, IsWideWrite, IsWide, IsOut, IsPending}
 use Rattle.vub_run_laws.proofs.RunFrames.{open_out}
@@ -32,7 +32,7 @@ use Rattle.vub_run_laws.proofs.RunChainsMeaning.{work_means}
 -- ---- kinds of step
 
 -- a read looks at a sector
-pub record IsLook (h : Header1) (request : Asked) (made : ℕ) (step : TaskStep) : Type 0 where
+pub record IsLook (h : Header1) (request : Asked) (made : ℕ) (step : RequestStep) : Type 0 where
   pub sector : ℕ
   pub count : ℕ
   pub wide : IsWideRead h.capacity sector count
@@ -43,7 +43,7 @@ pub record IsLook (h : Header1) (request : Asked) (made : ℕ) (step : TaskStep)
   pub next : step ≡ Look place
 
 -- and stores it
-pub record IsPut (h : Header1) (request : Asked) (made : ℕ) (step : TaskStep) : Type 0 where
+pub record IsPut (h : Header1) (request : Asked) (made : ℕ) (step : RequestStep) : Type 0 where
   pub sector : ℕ
   pub count : ℕ
   pub wide : IsWideRead h.capacity sector count
@@ -54,7 +54,7 @@ pub record IsPut (h : Header1) (request : Asked) (made : ℕ) (step : TaskStep) 
   pub next : step ≡ Put place
 
 -- a write writes a sector
-pub record IsAct (h : Header1) (request : Asked) (made : ℕ) (step : TaskStep) : Type 0 where
+pub record IsAct (h : Header1) (request : Asked) (made : ℕ) (step : RequestStep) : Type 0 where
   pub sector : ℕ
   pub bytes : List ℕ
   pub wide : IsWideWrite h.capacity sector bytes
@@ -65,77 +65,77 @@ pub record IsAct (h : Header1) (request : Asked) (made : ℕ) (step : TaskStep) 
   pub next : step ≡ Act place
 
 -- a flush makes all stable
-pub record IsSync (h : Header1) (request : Asked) (made : ℕ) (step : TaskStep) : Type 0 where
+pub record IsSync (h : Header1) (request : Asked) (made : ℕ) (step : RequestStep) : Type 0 where
   pub is : request ≡ asks.Flush
   pub at : made ≡ 0
   pub next : step ≡ Sync
 
-pub record IsLast (h : Header1) (request : Asked) (made : ℕ) (step : TaskStep) : Type 0 where
+pub record IsLast (h : Header1) (request : Asked) (made : ℕ) (step : RequestStep) : Type 0 where
   pub served : refusal h.capacity h.mode request ≡ None
   pub next : step ≡ Status
 
-abbrev pub Kind : Header1 → Asked → ℕ → TaskStep → Type 0
+abbrev pub Kind : Header1 → Asked → ℕ → RequestStep → Type 0
 Kind h request made step = IsLook h request made step ⊎ (IsPut h request made step ⊎ (IsAct h request made step ⊎ (IsSync h request made step ⊎ IsLast h request made step)))
 
 is_some : {T : Type 0} (x y : T) → Some x ≡ Some y → x ≡ y
 is_some x y e = cc e
 
-read_kind : (h : Header1) (request : Asked) (s c made : ℕ) (step : TaskStep) → h.mode ≡ Back → IsWideRead h.capacity s c → request ≡ asks.Read s c → ReadAt 0 c made (Some step) → Kind h request made step
+read_kind : (h : Header1) (request : Asked) (s c made : ℕ) (step : RequestStep) → h.mode ≡ Back → IsWideRead h.capacity s c → request ≡ asks.Read s c → ReadAt 0 c made (Some step) → Kind h request made step
 read_kind h request s c made step back wide is (ToLook p low at i) =
     inl (record { sector = s; count = c; wide = wide; is = is; place = p; within = low; at = at; next = is_some step (Look (0 + p)) i ∙ ap (λ (q : ℕ). Look q) (let same : 0 + p ≡ p = omega arith in same) })
 read_kind h request s c made step back wide is (ToPut p low at i) =
     inr (inl (record { sector = s; count = c; wide = wide; is = is; place = p; within = low; at = at; next = is_some step (Put (0 + p)) i ∙ ap (λ (q : ℕ). Put q) (let same : 0 + p ≡ p = omega arith in same) }))
 read_kind h request s c made step back wide is (ToReply at i) = inr (inr (inr (inr (record { served = ap (refusal h.capacity h.mode) is ∙ wide_served h (asks.Read s c) back wide; next = is_some step Status i }))))
 
-write_kind : (h : Header1) (request : Asked) (s : ℕ) (bytes : List ℕ) (made : ℕ) (step : TaskStep) → h.mode ≡ Back → IsWideWrite h.capacity s bytes → request ≡ asks.Write s bytes → WriteAt 0 (length bytes / 512) made (Some step) → Kind h request made step
+write_kind : (h : Header1) (request : Asked) (s : ℕ) (bytes : List ℕ) (made : ℕ) (step : RequestStep) → h.mode ≡ Back → IsWideWrite h.capacity s bytes → request ≡ asks.Write s bytes → WriteAt 0 (length bytes / 512) made (Some step) → Kind h request made step
 write_kind h request s bytes made step back wide is (ToAct low i) =
     inr (inr (inl (record { sector = s; bytes = bytes; wide = wide; is = is; place = made; within = low; at = refl; next = is_some step (Act (0 + made)) i ∙ ap (λ (q : ℕ). Act q) (let same : 0 + made ≡ made = omega arith in same) })))
 write_kind h request s bytes made step back wide is (ToEnd at i) = inr (inr (inr (inr (record { served = ap (refusal h.capacity h.mode) is ∙ wide_served h (asks.Write s bytes) back wide; next = is_some step Status i }))))
 
-flush_kind : (h : Header1) (request : Asked) (made : ℕ) (step : TaskStep) → h.mode ≡ Back → request ≡ asks.Flush → slice_get (Sync ∷ Status ∷ []) made ≡ Some step → Kind h request made step
+flush_kind : (h : Header1) (request : Asked) (made : ℕ) (step : RequestStep) → h.mode ≡ Back → request ≡ asks.Flush → slice_get (Sync ∷ Status ∷ []) made ≡ Some step → Kind h request made step
 flush_kind h request zero step back is next = inr (inr (inr (inl (record { is = is; at = refl; next = sym (is_some Sync step next) }))))
 flush_kind h request (suc zero) step back is next = inr (inr (inr (inr (record { served = ap (refusal h.capacity h.mode) is ∙ wide_served h asks.Flush back tt; next = sym (is_some Status step next) }))))
 flush_kind h request (suc (suc made)) step back is next = absurd (cc)
 
 steps_are : (h : Header1) (request r : Asked) (made : ℕ) → h.mode ≡ Back → IsWide h.capacity (Some r) → request ≡ r → slice_get (task_steps h request) made ≡ slice_get (disk_steps r ++ Status ∷ []) made
-steps_are h request r made back wide is = ap (λ (q : Asked). slice_get (task_steps h q) made) is ∙ ap (λ (xs : List TaskStep). slice_get xs made) (wide_steps h r back wide)
+steps_are h request r made back wide is = ap (λ (q : Asked). slice_get (task_steps h q) made) is ∙ ap (λ (xs : List RequestStep). slice_get xs made) (wide_steps h r back wide)
 
 -- of which kind a step is
-pub kind_of : (h : Header1) (request : Asked) (made : ℕ) (step : TaskStep) → h.mode ≡ Back → IsWide h.capacity (Some request) → IsPending made (Some request) → slice_get (task_steps h request) made ≡ Some step → Kind h request made step
+pub kind_of : (h : Header1) (request : Asked) (made : ℕ) (step : RequestStep) → h.mode ≡ Back → IsWide h.capacity (Some request) → IsPending made (Some request) → slice_get (task_steps h request) made ≡ Some step → Kind h request made step
 kind_of h request made step back wide pending next = go (wide_cases h.capacity (Some request) wide)
   where
     go : WideCases h.capacity (Some request) → Kind h request made step
     go (AtRead s c w is) =
         let is_it : request ≡ asks.Read s c = is_some request (asks.Read s c) is in
         let few : made ≤ 2 * c = subst (λ (o : Option Asked). IsPending made o) is pending in
-        read_kind h request s c made step back w is_it (subst (λ (o : Option TaskStep). ReadAt 0 c made o) (sym (steps_are h request (asks.Read s c) made back w is_it) ∙ next) (read_at 0 c made few))
+        read_kind h request s c made step back w is_it (subst (λ (o : Option RequestStep). ReadAt 0 c made o) (sym (steps_are h request (asks.Read s c) made back w is_it) ∙ next) (read_at 0 c made few))
     go (AtWrite s bytes w is) =
         let is_it : request ≡ asks.Write s bytes = is_some request (asks.Write s bytes) is in
         let few : made ≤ length bytes / 512 = subst (λ (o : Option Asked). IsPending made o) is pending in
-        write_kind h request s bytes made step back w is_it (subst (λ (o : Option TaskStep). WriteAt 0 (length bytes / 512) made o) (sym (steps_are h request (asks.Write s bytes) made back w is_it) ∙ next) (write_at 0 (length bytes / 512) made few))
+        write_kind h request s bytes made step back w is_it (subst (λ (o : Option RequestStep). WriteAt 0 (length bytes / 512) made o) (sym (steps_are h request (asks.Write s bytes) made back w is_it) ∙ next) (write_at 0 (length bytes / 512) made few))
     go (AtFlush is) =
         let is_it : request ≡ asks.Flush = is_some request asks.Flush is in
         flush_kind h request made step back is_it (sym (steps_are h request asks.Flush made back tt is_it) ∙ next)
 
-read_next : (c made : ℕ) (o : Option TaskStep) → ReadAt 0 c made o → (step : TaskStep) × (o ≡ Some step)
+read_next : (c made : ℕ) (o : Option RequestStep) → ReadAt 0 c made o → (step : RequestStep) × (o ≡ Some step)
 read_next c made o (ToLook p low at i) = (Look (0 + p), i)
 read_next c made o (ToPut p low at i) = (Put (0 + p), i)
 read_next c made o (ToReply at i) = (Status, i)
 
-write_next : (n made : ℕ) (o : Option TaskStep) → WriteAt 0 n made o → (step : TaskStep) × (o ≡ Some step)
+write_next : (n made : ℕ) (o : Option RequestStep) → WriteAt 0 n made o → (step : RequestStep) × (o ≡ Some step)
 write_next n made o (ToAct low i) = (Act (0 + made), i)
 write_next n made o (ToEnd at i) = (Status, i)
 
-flush_next : (made : ℕ) → made ≤ 1 → (step : TaskStep) × (slice_get (Sync ∷ Status ∷ []) made ≡ Some step)
+flush_next : (made : ℕ) → made ≤ 1 → (step : RequestStep) × (slice_get (Sync ∷ Status ∷ []) made ≡ Some step)
 flush_next zero few = (Sync, refl)
 flush_next (suc zero) few = (Status, refl)
 flush_next (suc (suc made)) few = absurd (omega arith)
 
 -- a request of which a step is left has a next one
-pub some_step : (h : Header1) (request : Asked) (made : ℕ) → h.mode ≡ Back → IsWide h.capacity (Some request) → IsPending made (Some request) → (step : TaskStep) × (slice_get (task_steps h request) made ≡ Some step)
+pub some_step : (h : Header1) (request : Asked) (made : ℕ) → h.mode ≡ Back → IsWide h.capacity (Some request) → IsPending made (Some request) → (step : RequestStep) × (slice_get (task_steps h request) made ≡ Some step)
 some_step h request made back wide pending = go (wide_cases h.capacity (Some request) wide)
   where
-    go : WideCases h.capacity (Some request) → (step : TaskStep) × (slice_get (task_steps h request) made ≡ Some step)
+    go : WideCases h.capacity (Some request) → (step : RequestStep) × (slice_get (task_steps h request) made ≡ Some step)
     go (AtRead s c w is) =
         let few : made ≤ 2 * c = subst (λ (o : Option Asked). IsPending made o) is pending in
         let x = read_next c made (slice_get (look_steps 0 c ++ Status ∷ []) made) (read_at 0 c made few) in
@@ -160,7 +160,7 @@ wide_basic cap (asks.Zero parts) wide = absurd wide
 -- ---- the step that is due
 
 -- the step of the k-th request whose chain is that
-abbrev pub making_of : Header1 → Moment → ℕ → Links → Asked → TaskStep → Making
+abbrev pub making_of : Header1 → Moment → ℕ → Links → Asked → RequestStep → Making
 making_of h m k links request step = record {
   header = h;
   links = links;
@@ -176,7 +176,7 @@ pub record WorkReady (h : Header1) (sizes : ℕ → ℕ) (m : Moment) (q : Queue
   pub request : Asked
   pub task : Task
   pub links : Links
-  pub step : TaskStep
+  pub step : RequestStep
   pub at : slice_get (unfinished 0 m) place ≡ Some k
   pub is : asked m.scene.past 0 k ≡ Some request
   pub head : head_in task ≡ slice_index (m.scene.heads 0) k

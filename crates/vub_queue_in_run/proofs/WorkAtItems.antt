@@ -38,7 +38,7 @@ use Rattle.vub_queue_in_run.specs.QueueAt.{QueueStands, IsMainRing, DiskAt}
 use Rattle.vub_queue.specs.QueueState.{QueueState, said, sector_at, due_store}
 use Rattle.vub_run.specs.Run.{one_turn}
 use Rattle.vub_task.specs.TaskState.{Making, answer_in, memory_after, values_after, with_effect, head_in}
-use Rattle.vub_steps.specs.Tasks.{TaskStep, Look, Put, Act, Status, status_of}
+use Rattle.vub_steps.specs.Tasks.{RequestStep, Look, Put, Act, Status, status_of}
 use Rattle.vub_run.specs.TaskItems.{task_items, look_items, act_items}
 use Rattle.vub_run.specs.Turns.{Turned, turned, work_turn, request_turn, task_turn, phase_turn, under_way, step_stores, row_items, entry_items}
 use Rattle.vub_run_laws.proofs.RunNumbers.{among_get}
@@ -85,7 +85,7 @@ work_kind h sizes m q place w plain good =
     let pending : IsPending ((m.lanes 0).made w.k) (Some w.request) = subst (λ (o : Option Asked). IsPending ((m.lanes 0).made w.k) o) w.is (good.holds.worked.pending w.k where_open.0 where_open.1) in
     kind_of h w.request ((m.lanes 0).made w.k) w.step plain.back wide pending w.due.next.next
 
-abbrev ShowsAt : Header1 → Moment → QueueState → Values → ℕ → Task → Links → Asked → TaskStep → Type 0
+abbrev ShowsAt : Header1 → Moment → QueueState → Values → ℕ → Task → Links → Asked → RequestStep → Type 0
 ShowsAt h m q v k task links request step =
     Shows v q k task (making_of h m k links request step) (task_items h 0 k (buffer_of 0 k m.scene) m.scene.past request step) (said (head_in task) (answer_in (making_of h m k links request step)))
 
@@ -136,22 +136,22 @@ ring_space h m r q main a = ap (λ (x : SplitRing). x.desc.0.number) a.ring ∙ 
 held_sector : (h : Header1) (sizes : ℕ → ℕ) (m : Moment) (r : SplitRing) (q : QueueState) (place p : ℕ) (w : WorkReady h sizes m q place) → QueueStands h r m q → w.step ≡ Put p
     → sector_at q (head_in w.task) ≡ slice_range (bytes_read m.scene.past 0 w.k) (512 * p) (512 * p + 512)
 held_sector h sizes m r q place p w a put =
-    ap (sector_at q) w.head ∙ a.sectors w.k p w.request (among_get (unfinished 0 m) place w.k w.at) w.is (w.due.next.next ∙ ap (λ (s : TaskStep). Some s) put)
+    ap (sector_at q) w.head ∙ a.sectors w.k p w.request (among_get (unfinished 0 m) place w.k w.at) w.is (w.due.next.next ∙ ap (λ (s : RequestStep). Some s) put)
 
 show_step : (h : Header1) (sizes : ℕ → ℕ) (m : Moment) (r : SplitRing) (q : QueueState) (place : ℕ) (v : Values) (w : WorkReady h sizes m q place) → IsMainRing r h.size → QueueStands h r m q → DiskAt h.capacity m.scene.past v
     → Kind h w.request ((m.lanes 0).made w.k) w.step → ShowsAt h m q v w.k w.task w.links w.request w.step
 show_step h sizes m r q place v w main a disk (inl x) =
-    subst (λ (s : TaskStep). ShowsAt h m q v w.k w.task w.links w.request s) (sym x.next)
+    subst (λ (s : RequestStep). ShowsAt h m q v w.k w.task w.links w.request s) (sym x.next)
     (subst (λ (o : Asked). ShowsAt h m q v w.k w.task w.links o (Look x.place)) (sym x.is) (show_look h m q v w.k w.task w.links x.sector x.count x.place x.within (disk (x.sector + x.place) (omega (arith, x.within, x.wide.fits)))))
 show_step h sizes m r q place v w main a disk (inr (inl x)) =
-    subst (λ (s : TaskStep). ShowsAt h m q v w.k w.task w.links w.request s) (sym x.next)
+    subst (λ (s : RequestStep). ShowsAt h m q v w.k w.task w.links w.request s) (sym x.next)
     (subst (λ (o : Asked). ShowsAt h m q v w.k w.task w.links o (Put x.place)) (sym x.is) (show_put h m q v w.k w.task w.links x.sector x.count x.place (ring_space h m r q main a) (held_sector h sizes m r q place x.place w a x.next)))
 show_step h sizes m r q place v w main a disk (inr (inr (inl x))) =
-    subst (λ (s : TaskStep). ShowsAt h m q v w.k w.task w.links w.request s) (sym x.next)
+    subst (λ (s : RequestStep). ShowsAt h m q v w.k w.task w.links w.request s) (sym x.next)
     (subst (λ (o : Asked). ShowsAt h m q v w.k w.task w.links o (Act x.place)) (sym x.is) (show_act h m q v w.k w.task w.links x.sector x.place x.bytes x.within))
-show_step h sizes m r q place v w main a disk (inr (inr (inr (inl x)))) = subst (λ (s : TaskStep). ShowsAt h m q v w.k w.task w.links w.request s) (sym x.next) (refl, refl)
+show_step h sizes m r q place v w main a disk (inr (inr (inr (inl x)))) = subst (λ (s : RequestStep). ShowsAt h m q v w.k w.task w.links w.request s) (sym x.next) (refl, refl)
 show_step h sizes m r q place v w main a disk (inr (inr (inr (inr x)))) =
-    subst (λ (s : TaskStep). ShowsAt h m q v w.k w.task w.links w.request s) (sym x.next) (show_status h m q v w.k w.task w.links w.request (ring_space h m r q main a))
+    subst (λ (s : RequestStep). ShowsAt h m q v w.k w.task w.links w.request s) (sym x.next) (show_status h m q v w.k w.task w.links w.request (ring_space h m r q main a))
 
 -- what a turn of work shows, by what the queue says of it
 pub work_items : (h : Header1) (sizes : ℕ → ℕ) (m : Moment) (r : SplitRing) (q : QueueState) (place : ℕ) (v : Values) (w : WorkReady h sizes m q place) → IsPlain h → Good h m → IsMainRing r h.size → QueueStands h r m q → DiskAt h.capacity m.scene.past v
@@ -162,7 +162,7 @@ work_items h sizes m r q place v w plain good main a disk =
 
 -- ---- memory
 
-abbrev LeavesMemory : Header1 → Moment → QueueState → ℕ → Task → Links → Asked → TaskStep → Type 0
+abbrev LeavesMemory : Header1 → Moment → QueueState → ℕ → Task → Links → Asked → RequestStep → Type 0
 LeavesMemory h m q k task links request step =
     (after_items h (task_items h 0 k (buffer_of 0 k m.scene) m.scene.past request step) m.scene).memory ≡ memory_after q.ring (making_of h m k links request step) (sector_at q (head_in task)) m.scene.memory
 
@@ -181,16 +181,16 @@ looks_memory h k s (Some x) = refl
 memory_step : (h : Header1) (sizes : ℕ → ℕ) (m : Moment) (r : SplitRing) (q : QueueState) (place : ℕ) (w : WorkReady h sizes m q place) → IsMainRing r h.size → QueueStands h r m q
     → Kind h w.request ((m.lanes 0).made w.k) w.step → LeavesMemory h m q w.k w.task w.links w.request w.step
 memory_step h sizes m r q place w main a (inl x) =
-    subst (λ (s : TaskStep). LeavesMemory h m q w.k w.task w.links w.request s) (sym x.next) (looks_memory h w.k m.scene (look_at w.request x.place))
+    subst (λ (s : RequestStep). LeavesMemory h m q w.k w.task w.links w.request s) (sym x.next) (looks_memory h w.k m.scene (look_at w.request x.place))
 memory_step h sizes m r q place w main a (inr (inl x)) =
-    subst (λ (s : TaskStep). LeavesMemory h m q w.k w.task w.links w.request s) (sym x.next)
+    subst (λ (s : RequestStep). LeavesMemory h m q w.k w.task w.links w.request s) (sym x.next)
     (subst (λ (o : Asked). LeavesMemory h m q w.k w.task w.links o (Put x.place)) (sym x.is)
     (stored_memory q m.scene.memory (sectors_place (buffer_of 0 w.k m.scene) + 512 * x.place) (slice_range (bytes_read m.scene.past 0 w.k) (512 * x.place) (512 * x.place + 512)) (sector_at q (head_in w.task)) (ring_space h m r q main a) (held_sector h sizes m r q place x.place w a x.next)))
 memory_step h sizes m r q place w main a (inr (inr (inl x))) =
-    subst (λ (s : TaskStep). LeavesMemory h m q w.k w.task w.links w.request s) (sym x.next) (acts_memory h w.k m.scene (effect_at w.request x.place))
-memory_step h sizes m r q place w main a (inr (inr (inr (inl x)))) = subst (λ (s : TaskStep). LeavesMemory h m q w.k w.task w.links w.request s) (sym x.next) refl
+    subst (λ (s : RequestStep). LeavesMemory h m q w.k w.task w.links w.request s) (sym x.next) (acts_memory h w.k m.scene (effect_at w.request x.place))
+memory_step h sizes m r q place w main a (inr (inr (inr (inl x)))) = subst (λ (s : RequestStep). LeavesMemory h m q w.k w.task w.links w.request s) (sym x.next) refl
 memory_step h sizes m r q place w main a (inr (inr (inr (inr x)))) =
-    subst (λ (s : TaskStep). LeavesMemory h m q w.k w.task w.links w.request s) (sym x.next)
+    subst (λ (s : RequestStep). LeavesMemory h m q w.k w.task w.links w.request s) (sym x.next)
     (stored_memory q m.scene.memory (status_place (buffer_of 0 w.k m.scene)) (status_of h w.request ∷ []) (status_of h w.request ∷ []) (ring_space h m r q main a) refl)
 
 -- a turn of work leaves memory as the step that is due
@@ -202,7 +202,7 @@ work_memory h sizes m r q place w plain good main a =
 
 -- ---- the disk
 
-abbrev LeavesDisk : Header1 → Moment → Values → ℕ → Asked → TaskStep → Type 0
+abbrev LeavesDisk : Header1 → Moment → Values → ℕ → Asked → RequestStep → Type 0
 LeavesDisk h m v k request step = DiskAt h.capacity (after_items h (task_items h 0 k (buffer_of 0 k m.scene) m.scene.past request step) m.scene).past (values_after request step v)
 
 -- an act changes its sector
@@ -219,12 +219,12 @@ disk_look : (cap : ℕ) (h : Header1) (k : ℕ) (s : Scene) (v : Values) (o : Op
 disk_look cap h k s v None disk = disk
 disk_look cap h k s v (Some x) disk = λ t low. disk t low
 
-disk_step : (h : Header1) (m : Moment) (v : Values) (k made : ℕ) (request : Asked) (step : TaskStep) → DiskAt h.capacity m.scene.past v → Kind h request made step → LeavesDisk h m v k request step
-disk_step h m v k made request step disk (inl x) = subst (λ (s : TaskStep). LeavesDisk h m v k request s) (sym x.next) (disk_look h.capacity h k m.scene v (look_at request x.place) disk)
-disk_step h m v k made request step disk (inr (inl x)) = subst (λ (s : TaskStep). LeavesDisk h m v k request s) (sym x.next) (λ t low. disk t low)
-disk_step h m v k made request step disk (inr (inr (inl x))) = subst (λ (s : TaskStep). LeavesDisk h m v k request s) (sym x.next) (disk_act h.capacity h k m.scene v (effect_at request x.place) disk)
-disk_step h m v k made request step disk (inr (inr (inr (inl x)))) = subst (λ (s : TaskStep). LeavesDisk h m v k request s) (sym x.next) (λ t low. disk t low)
-disk_step h m v k made request step disk (inr (inr (inr (inr x)))) = subst (λ (s : TaskStep). LeavesDisk h m v k request s) (sym x.next) (λ t low. disk t low)
+disk_step : (h : Header1) (m : Moment) (v : Values) (k made : ℕ) (request : Asked) (step : RequestStep) → DiskAt h.capacity m.scene.past v → Kind h request made step → LeavesDisk h m v k request step
+disk_step h m v k made request step disk (inl x) = subst (λ (s : RequestStep). LeavesDisk h m v k request s) (sym x.next) (disk_look h.capacity h k m.scene v (look_at request x.place) disk)
+disk_step h m v k made request step disk (inr (inl x)) = subst (λ (s : RequestStep). LeavesDisk h m v k request s) (sym x.next) (λ t low. disk t low)
+disk_step h m v k made request step disk (inr (inr (inl x))) = subst (λ (s : RequestStep). LeavesDisk h m v k request s) (sym x.next) (disk_act h.capacity h k m.scene v (effect_at request x.place) disk)
+disk_step h m v k made request step disk (inr (inr (inr (inl x)))) = subst (λ (s : RequestStep). LeavesDisk h m v k request s) (sym x.next) (λ t low. disk t low)
+disk_step h m v k made request step disk (inr (inr (inr (inr x)))) = subst (λ (s : RequestStep). LeavesDisk h m v k request s) (sym x.next) (λ t low. disk t low)
 
 -- a turn of work changes the disk as the step that is due
 pub work_disk : (h : Header1) (sizes : ℕ → ℕ) (m : Moment) (q : QueueState) (place : ℕ) (v : Values) (w : WorkReady h sizes m q place) → IsPlain h → Good h m → DiskAt h.capacity m.scene.past v

@@ -28,7 +28,7 @@ use Rattle.vub_queue.specs.QueueState.{QueueState, HasWorked, Advances, worked, 
 use Rattle.vub_run.specs.Run.{one_turn}
 use Rattle.vub_direct_chain.specs.ChainState.{sector_of}
 use Rattle.vub_task.specs.TaskState.{IsTaskAt, HasMade, head_in}
-use Rattle.vub_steps.specs.Tasks.{TaskStep, Look, Put, Act, Sync, Status, task_steps, status_of, used_len}
+use Rattle.vub_steps.specs.Tasks.{RequestStep, Look, Put, Act, Sync, Status, task_steps, status_of, used_len}
 use Rattle.vub_run.specs.TaskItems.{task_items, look_items, act_items}
 use Rattle.vub_run.specs.Turns.{Turned, len_of, after_task_step}
 use Rattle.vub_run_laws.proofs.RunNumbers.{among_filter, missing-among}
@@ -252,7 +252,7 @@ finished h sizes m r q place w sector good a = record {
 -- ---- any step
 
 -- where the queue stands after a step of the k-th request
-abbrev StandsAfter : Header1 → SplitRing → Moment → ℕ → QueueState → Asked → TaskStep → Type 0
+abbrev StandsAfter : Header1 → SplitRing → Moment → ℕ → QueueState → Asked → RequestStep → Type 0
 StandsAfter h r m k q request step =
     QueueAt h r (after_items h (task_items h 0 k (buffer_of 0 k m.scene) m.scene.past request step) m.scene).past ((after_items h (task_items h 0 k (buffer_of 0 k m.scene) m.scene.past request step) m.scene).heads 0)
     (after_task_step k step (m.lanes 0)).phase (after_task_step k step (m.lanes 0)).batch (after_task_step k step (m.lanes 0)).completed (after_task_step k step (m.lanes 0)).made q
@@ -273,10 +273,10 @@ put_place : (p q : ℕ) → Some (Put q) ≡ Some (Put p) → p ≡ q
 put_place p q e = cc
 
 -- what follows a step
-step_follows : (h : Header1) (sizes : ℕ → ℕ) (m : Moment) (q : QueueState) (place : ℕ) (w : WorkReady h sizes m q place) (step : TaskStep) → IsPlain h → w.step ≡ step
+step_follows : (h : Header1) (sizes : ℕ → ℕ) (m : Moment) (q : QueueState) (place : ℕ) (w : WorkReady h sizes m q place) (step : RequestStep) → IsPlain h → w.step ≡ step
     → OfRequest h.capacity w.request (slice_get (task_steps h w.request) (suc ((m.lanes 0).made w.k))) step
 step_follows h sizes m q place w step plain is =
-    subst (λ (s : TaskStep). OfRequest h.capacity w.request (slice_get (task_steps h w.request) (suc ((m.lanes 0).made w.k))) s) is
+    subst (λ (s : RequestStep). OfRequest h.capacity w.request (slice_get (task_steps h w.request) (suc ((m.lanes 0).made w.k))) s) is
     (step_of h w.request ((m.lanes 0).made w.k) w.step w.due.next.served.basic plain.back w.due.next.next)
 
 next_put : (h : Header1) (request : Asked) (c p : ℕ) → slice_get (task_steps h request) (c + 1) ≡ Some (Put p) → slice_get (task_steps h request) (suc c) ≡ Some (Put p)
@@ -295,7 +295,7 @@ look_stands h sizes m r q q' place v w x plain good a disk made =
     let read : List ℕ = value past s in
     let past' : List Entry = entries.Look 0 w.k s read ∷ past in
     let c : ℕ = (m.lanes 0).made w.k in
-    let goes : Advances place w.task (making w) made.sector (Look x.place) q q' = subst (λ (y : TaskStep). Advances place w.task (making w) made.sector y q q') x.next made.state in
+    let goes : Advances place w.task (making w) made.sector (Look x.place) q q' = subst (λ (y : RequestStep). Advances place w.task (making w) made.sector y q q') x.next made.state in
     let asks_it : asked past 0 w.k ≡ Some (asks.Read x.sector x.count) = w.is ∙ ap (λ (y : Asked). Some y) x.is in
     let to : IsReadTo x.count c (looks past 0 w.k) (bytes_read past 0 w.k) = read_to x.sector x.count c (looks past 0 w.k) (acts past 0 w.k) (bytes_read past 0 w.k) (synced past 0 w.k) (asked past 0 w.k) asks_it (good.holds.worked.progress w.k) in
     let looked : looks past 0 w.k ≡ (c + 1) / 2 = to.under (omega (arith, x.at, x.within)) in
@@ -311,34 +311,34 @@ look_stands h sizes m r q q' place v w x plain good a disk made =
     held ∙ sym whole ∙ ap (λ (n : ℕ). slice_range (bytes_read past' 0 w.k) (512 * n) (512 * n + 512)) (sym same) in
     let stands : LookStands h r m w.k (worked place goes.0 made.sector q) (Some s) = goes_on h sizes m r q place w past' goes.0 made.sector good a keeps goes.1 goes.2 put in
     let found : look_at w.request x.place ≡ Some s = ap (λ (y : Asked). look_at y x.place) x.is ∙ look_is x.sector x.count x.place x.within in
-    subst (λ (y : TaskStep). StandsAfter h r m w.k q' w.request y) (sym x.next)
+    subst (λ (y : RequestStep). StandsAfter h r m w.k q' w.request y) (sym x.next)
     (subst (λ (o : Option ℕ). LookStands h r m w.k q' o) (sym found)
     (subst (λ (t : QueueState). LookStands h r m w.k t (Some s)) (sym goes.3) stands))
 
 -- no store of what was read comes after these
-no_put : (end q : ℕ) (after : Option TaskStep) (p : ℕ) → Puts end q after → after ≡ Some (Put p) → ⊥
+no_put : (end q : ℕ) (after : Option RequestStep) (p : ℕ) → Puts end q after → after ≡ Some (Put p) → ⊥
 no_put end q after p x next = elim (cases_lt (q + 1) end) [
   | inl more ↦ (let both : Some (Look (q + 1)) ≡ Some (Put p) = sym (x.more more) ∙ next in cc)
   | inr last ↦ (let both : Some Status ≡ Some (Put p) = sym (x.last (omega arith)) ∙ next in cc)
 ]
 
-no_put_act : (end q : ℕ) (after : Option TaskStep) (p : ℕ) → Acts end q after → after ≡ Some (Put p) → ⊥
+no_put_act : (end q : ℕ) (after : Option RequestStep) (p : ℕ) → Acts end q after → after ≡ Some (Put p) → ⊥
 no_put_act end q after p x next = elim (cases_lt (q + 1) end) [
   | inl more ↦ (let both : Some (Act (q + 1)) ≡ Some (Put p) = sym (x.more more) ∙ next in cc)
   | inr last ↦ (let both : Some Status ≡ Some (Put p) = sym (x.last (omega arith)) ∙ next in cc)
 ]
 
-no_put_sync : (after : Option TaskStep) (p : ℕ) → after ≡ Some Status → after ≡ Some (Put p) → ⊥
+no_put_sync : (after : Option RequestStep) (p : ℕ) → after ≡ Some Status → after ≡ Some (Put p) → ⊥
 no_put_sync after p x next = let both : Some Status ≡ Some (Put p) = sym x ∙ next in cc
 
 put_stands : (h : Header1) (sizes : ℕ → ℕ) (m : Moment) (r : SplitRing) (q q' : QueueState) (place : ℕ) (v : Values) (w : WorkReady h sizes m q place) (x : IsPut h w.request ((m.lanes 0).made w.k) w.step) → IsPlain h → Good h m → QueueStands h r m q
     → HasWorked (Some v) place w.task (making w) q q' → StandsAfter h r m w.k q' w.request w.step
 put_stands h sizes m r q q' place v w x plain good a made =
-    let goes : Advances place w.task (making w) made.sector (Put x.place) q q' = subst (λ (y : TaskStep). Advances place w.task (making w) made.sector y q q') x.next made.state in
+    let goes : Advances place w.task (making w) made.sector (Put x.place) q q' = subst (λ (y : RequestStep). Advances place w.task (making w) made.sector y q q') x.next made.state in
     let keeps : Keeps m.scene.past m.scene.past w.k = record { runs = refl; accepts = refl; publishes = refl; requests = refl; sees = λ j apart. refl } in
     let stands : StandsAfter h r m w.k (worked place goes.0 made.sector q) w.request (Put x.place) =
     goes_on h sizes m r q place w m.scene.past goes.0 made.sector good a keeps goes.1 goes.2 (λ p next. absurd (no_put _ x.place _ p (step_follows h sizes m q place w (Put x.place) plain x.next) (next_put h w.request ((m.lanes 0).made w.k) p next))) in
-    subst (λ (y : TaskStep). StandsAfter h r m w.k q' w.request y) (sym x.next) (subst (λ (t : QueueState). StandsAfter h r m w.k t w.request (Put x.place)) (sym goes.3) stands)
+    subst (λ (y : RequestStep). StandsAfter h r m w.k q' w.request y) (sym x.next) (subst (λ (t : QueueState). StandsAfter h r m w.k t w.request (Put x.place)) (sym goes.3) stands)
 
 -- where the queue stands after an act, if any
 abbrev ActStands : Header1 → SplitRing → Moment → ℕ → QueueState → Option SectorValue → Type 0
@@ -348,7 +348,7 @@ ActStands h r m k q o =
 act_stands : (h : Header1) (sizes : ℕ → ℕ) (m : Moment) (r : SplitRing) (q q' : QueueState) (place : ℕ) (v : Values) (w : WorkReady h sizes m q place) (x : IsAct h w.request ((m.lanes 0).made w.k) w.step) → IsPlain h → Good h m → QueueStands h r m q
     → HasWorked (Some v) place w.task (making w) q q' → StandsAfter h r m w.k q' w.request w.step
 act_stands h sizes m r q q' place v w x plain good a made =
-    let goes : Advances place w.task (making w) made.sector (Act x.place) q q' = subst (λ (y : TaskStep). Advances place w.task (making w) made.sector y q q') x.next made.state in
+    let goes : Advances place w.task (making w) made.sector (Act x.place) q q' = subst (λ (y : RequestStep). Advances place w.task (making w) made.sector y q q') x.next made.state in
     let none : (p : ℕ) → slice_get (task_steps h w.request) ((m.lanes 0).made w.k + 1) ≡ Some (Put p) → ⊥ = λ p next. no_put_act _ x.place _ p (step_follows h sizes m q place w (Act x.place) plain x.next).0 (next_put h w.request ((m.lanes 0).made w.k) p next) in
     let each : (o : Option SectorValue) → ActStands h r m w.k (worked place goes.0 made.sector q) o = elim [
       | None ↦
@@ -359,24 +359,24 @@ act_stands h sizes m r q q' place v w x plain good a made =
           let keeps : Keeps m.scene.past past' w.k = record { runs = refl; accepts = refl; publishes = refl; requests = refl; sees = λ j apart. refl } in
           goes_on h sizes m r q place w past' goes.0 made.sector good a keeps goes.1 goes.2 (λ p next. absurd (none p next))
     ] in
-    subst (λ (y : TaskStep). StandsAfter h r m w.k q' w.request y) (sym x.next) (subst (λ (t : QueueState). ActStands h r m w.k t (effect_at w.request x.place)) (sym goes.3) (each (effect_at w.request x.place)))
+    subst (λ (y : RequestStep). StandsAfter h r m w.k q' w.request y) (sym x.next) (subst (λ (t : QueueState). ActStands h r m w.k t (effect_at w.request x.place)) (sym goes.3) (each (effect_at w.request x.place)))
 
 sync_stands : (h : Header1) (sizes : ℕ → ℕ) (m : Moment) (r : SplitRing) (q q' : QueueState) (place : ℕ) (v : Values) (w : WorkReady h sizes m q place) (x : IsSync h w.request ((m.lanes 0).made w.k) w.step) → IsPlain h → Good h m → QueueStands h r m q
     → HasWorked (Some v) place w.task (making w) q q' → StandsAfter h r m w.k q' w.request w.step
 sync_stands h sizes m r q q' place v w x plain good a made =
-    let goes : Advances place w.task (making w) made.sector Sync q q' = subst (λ (y : TaskStep). Advances place w.task (making w) made.sector y q q') x.next made.state in
+    let goes : Advances place w.task (making w) made.sector Sync q q' = subst (λ (y : RequestStep). Advances place w.task (making w) made.sector y q q') x.next made.state in
     let past' : List Entry = entries.Sync 0 w.k ∷ m.scene.past in
     let keeps : Keeps m.scene.past past' w.k = record { runs = refl; accepts = refl; publishes = refl; requests = refl; sees = λ j apart. refl } in
     let stands : StandsAfter h r m w.k (worked place goes.0 made.sector q) w.request Sync =
     goes_on h sizes m r q place w past' goes.0 made.sector good a keeps goes.1 goes.2 (λ p next. absurd (no_put_sync _ p (step_follows h sizes m q place w Sync plain x.next) (next_put h w.request ((m.lanes 0).made w.k) p next))) in
-    subst (λ (y : TaskStep). StandsAfter h r m w.k q' w.request y) (sym x.next) (subst (λ (t : QueueState). StandsAfter h r m w.k t w.request Sync) (sym goes.3) stands)
+    subst (λ (y : RequestStep). StandsAfter h r m w.k q' w.request y) (sym x.next) (subst (λ (t : QueueState). StandsAfter h r m w.k t w.request Sync) (sym goes.3) stands)
 
 last_stands : (h : Header1) (sizes : ℕ → ℕ) (m : Moment) (r : SplitRing) (q q' : QueueState) (place : ℕ) (v : Values) (w : WorkReady h sizes m q place) → w.step ≡ Status → Good h m → QueueStands h r m q
     → HasWorked (Some v) place w.task (making w) q q' → StandsAfter h r m w.k q' w.request w.step
 last_stands h sizes m r q q' place v w last good a made =
-    let goes : Advances place w.task (making w) made.sector Status q q' = subst (λ (y : TaskStep). Advances place w.task (making w) made.sector y q q') last made.state in
+    let goes : Advances place w.task (making w) made.sector Status q q' = subst (λ (y : RequestStep). Advances place w.task (making w) made.sector y q q') last made.state in
     let stands : StandsAfter h r m w.k (done_at place (head_in w.task) (used_len (status_of h w.request) w.request) made.sector q) w.request Status = finished h sizes m r q place w made.sector good a in
-    subst (λ (y : TaskStep). StandsAfter h r m w.k q' w.request y) (sym last) (subst (λ (t : QueueState). StandsAfter h r m w.k t w.request Status) (sym goes) stands)
+    subst (λ (y : RequestStep). StandsAfter h r m w.k q' w.request y) (sym last) (subst (λ (t : QueueState). StandsAfter h r m w.k t w.request Status) (sym goes) stands)
 
 step_stands : (h : Header1) (sizes : ℕ → ℕ) (m : Moment) (r : SplitRing) (q q' : QueueState) (place : ℕ) (v : Values) (w : WorkReady h sizes m q place) → IsPlain h → Good h m → QueueStands h r m q → DiskAt h.capacity m.scene.past v
     → HasWorked (Some v) place w.task (making w) q q' → Kind h w.request ((m.lanes 0).made w.k) w.step → StandsAfter h r m w.k q' w.request w.step

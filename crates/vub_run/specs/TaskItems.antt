@@ -13,7 +13,7 @@ use Rattle.vub_device.specs.Crash.{value}
 use Rattle.vub_device.specs.Past.{bytes_read}
 use Rattle.vub_report.specs.declared.items.Item.{Item}
 use Rattle.vub_report.specs.declared.items.Item.TheVariants as items
-use Rattle.vub_steps.specs.Tasks.{TaskStep, Look, Put, Act, Sync, Status, status_of}
+use Rattle.vub_steps.specs.Tasks.{RequestStep, Look, Put, Act, Sync, Status, status_of}
 
 -- ---- what a step makes, for the k-th request of queue q, whose buffer begins at `buffer`
 
@@ -25,7 +25,7 @@ abbrev pub act_items : ℕ → ℕ → Option SectorValue → List Item
 act_items q k None = []
 act_items q k (Some x) = items.Made (entries.Act q k x.sector x.value) ∷ []
 
-abbrev pub task_items : Header1 → ℕ → ℕ → ℕ → List Entry → Asked → TaskStep → List Item
+abbrev pub task_items : Header1 → ℕ → ℕ → ℕ → List Entry → Asked → RequestStep → List Item
 task_items h q k buffer past request (Look place) = look_items q k past (look_at request place)
 task_items h q k buffer past request (Put place) = items.Store T2 M (sectors_place buffer + 512 * place) (slice_range (bytes_read past q k) (512 * place) (512 * place + 512)) ∷ []
 task_items h q k buffer past request (Act place) = act_items q k (effect_at request place)

@@ -22,7 +22,7 @@ use Rattle.vub_report.specs.declared.items.Item.{Item}
 use Rattle.vub_report.specs.declared.items.Item.TheVariants as items
 use Rattle.vub_run.specs.Memory.{Scene, with_at, after_items}
 use Rattle.vub_run.specs.Moments.{Lane, Moment, unfinished, buffer_of}
-use Rattle.vub_steps.specs.Tasks.{TaskStep, Status, task_steps, status_of, used_len}
+use Rattle.vub_steps.specs.Tasks.{RequestStep, Status, task_steps, status_of, used_len}
 use Rattle.vub_run.specs.TaskItems.{task_items}
 
 -- items, and the lane after them
@@ -102,11 +102,11 @@ phase_turn h q s l (Some step) = record { items = step_items h q l.batch step s;
 
 -- ---- work
 
-abbrev pub after_task_step : ℕ → TaskStep → Lane → Lane
+abbrev pub after_task_step : ℕ → RequestStep → Lane → Lane
 after_task_step k Status l = record l { completed = l.completed ++ k ∷ []; made = with_at l.made k (l.made k + 1) }
 after_task_step k step l = record l { made = with_at l.made k (l.made k + 1) }
 
-abbrev pub task_turn : Header1 → ℕ → Scene → Lane → ℕ → Asked → Option TaskStep → Turned
+abbrev pub task_turn : Header1 → ℕ → Scene → Lane → ℕ → Asked → Option RequestStep → Turned
 task_turn h q s l k request None = nothing l
 task_turn h q s l k request (Some step) = record { items = task_items h q k (buffer_of q k s) s.past request step; lane = after_task_step k step l }
 

@@ -30,7 +30,7 @@ use Rattle.vub_run.specs.Moments.{Lane, Moment, unfinished}
 use Rattle.vub_device.specs.declared.entry.SectorValue.{SectorValue}
 use Rattle.vub_device.specs.Crash.{value}
 use Rattle.vub_device.specs.Requests.{look_at, effect_at}
-use Rattle.vub_steps.specs.Tasks.{TaskStep, Look, Put, Act, Sync, Status, task_steps, disk_steps, look_steps, act_steps, status_of}
+use Rattle.vub_steps.specs.Tasks.{RequestStep, Look, Put, Act, Sync, Status, task_steps, disk_steps, look_steps, act_steps, status_of}
 use Rattle.vub_run.specs.TaskItems.{look_items, act_items}
 use Rattle.vub_run.specs.Turns.{turned, work_turn, request_turn, task_turn, phase_turn, phase_goes_on, under_way, begun, is_rest, step_items, row_items, element_of, answer_at}
 use Rattle.vub_run_laws.proofs.RunNumbers.{among_get, among_filter, missing-among}
@@ -234,7 +234,7 @@ request_gentle h s l k plain x is_open =
     let low : k < length (s.heads 0) = omega (arith, is_open.taken, x.known.offered) in
     go (wide_cases h.capacity (asked s.past 0 k) (x.known.wide k low))
   where
-    Gentle : Asked → Option TaskStep → Type 0
+    Gentle : Asked → Option RequestStep → Type 0
     Gentle r o = IsGentle h.size s (after_items h (task_turn h 0 s l k r o).items s)
 
     looks_of : (o : Option ℕ) → IsGentle h.size s (after_items h (look_items 0 k s.past o) s)
@@ -245,12 +245,12 @@ request_gentle h s l k plain x is_open =
     acts_of None = gentle_none h.size s
     acts_of (Some y) = act_gentle h.size s k y.sector y.value
 
-    reads : (sector c : ℕ) → c ≤ 8 → asked s.past 0 k ≡ Some (asks.Read sector c) → (o : Option TaskStep) → ReadAt 0 c (l.made k) o → Gentle (asks.Read sector c) o
+    reads : (sector c : ℕ) → c ≤ 8 → asked s.past 0 k ≡ Some (asks.Read sector c) → (o : Option RequestStep) → ReadAt 0 c (l.made k) o → Gentle (asks.Read sector c) o
     reads sector c few is o (ToLook p within at i) = subst (Gentle (asks.Read sector c)) (sym i) (looks_of (look_at (asks.Read sector c) (0 + p)))
     reads sector c few is o (ToPut p within at i) = subst (Gentle (asks.Read sector c)) (sym i) (put_gentle h s l k sector c (0 + p) plain.good x is_open is (omega arith))
     reads sector c few is o (ToReply at i) = subst (Gentle (asks.Read sector c)) (sym i) (status_gentle h s l k (status_of h (asks.Read sector c)) plain.good x is_open)
 
-    writes : (sector : ℕ) (bytes : List ℕ) (o : Option TaskStep) → WriteAt 0 (length bytes / 512) (l.made k) o → Gentle (asks.Write sector bytes) o
+    writes : (sector : ℕ) (bytes : List ℕ) (o : Option RequestStep) → WriteAt 0 (length bytes / 512) (l.made k) o → Gentle (asks.Write sector bytes) o
     writes sector bytes o (ToAct within i) = subst (Gentle (asks.Write sector bytes)) (sym i) (acts_of (effect_at (asks.Write sector bytes) (0 + l.made k)))
     writes sector bytes o (ToEnd at i) = subst (Gentle (asks.Write sector bytes)) (sym i) (status_gentle h s l k (status_of h (asks.Write sector bytes)) plain.good x is_open)
 
@@ -262,7 +262,7 @@ request_gentle h s l k plain x is_open =
     of_steps : (r : Asked) → asked s.past 0 k ≡ Some r → IsWide h.capacity (Some r) → Gentle r (slice_get (disk_steps r ++ Status ∷ []) (l.made k)) → IsGentle h.size s (after_items h (request_turn h 0 s l k (asked s.past 0 k)).items s)
     of_steps r is wide fine =
         subst (λ (o : Option Asked). IsGentle h.size s (after_items h (request_turn h 0 s l k o).items s)) (sym is)
-        (subst (λ (steps : List TaskStep). Gentle r (slice_get steps (l.made k))) (sym (wide_steps h r plain.back wide)) fine)
+        (subst (λ (steps : List RequestStep). Gentle r (slice_get steps (l.made k))) (sym (wide_steps h r plain.back wide)) fine)
 
     go : WideCases h.capacity (asked s.past 0 k) → IsGentle h.size s (after_items h (request_turn h 0 s l k (asked s.past 0 k)).items s)
     go (AtRead sector c wide is) = of_steps (asks.Read sector c) is wide (elim (cases_lt (2 * c) (l.made k)) [
@@ -306,7 +306,7 @@ phase_driver : (h : Header1) (s : Scene) (l : Lane) (o : Option Step) → (phase
 phase_driver h s l None = refl
 phase_driver h s l (Some step) = refl
 
-task_driver : (h : Header1) (s : Scene) (l : Lane) (k : ℕ) (r : Asked) (o : Option TaskStep) → (task_turn h 0 s l k r o).lane.driver ≡ l.driver
+task_driver : (h : Header1) (s : Scene) (l : Lane) (k : ℕ) (r : Asked) (o : Option RequestStep) → (task_turn h 0 s l k r o).lane.driver ≡ l.driver
 task_driver h s l k r None = refl
 task_driver h s l k r (Some (Look i)) = refl
 task_driver h s l k r (Some (Put i)) = refl

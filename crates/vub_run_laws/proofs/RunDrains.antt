@@ -19,7 +19,7 @@ use Rattle.vub_report.specs.declared.items.Item.{Item}
 use Rattle.vub_run.specs.Memory.{Scene}
 use Rattle.vub_run.specs.Moments.{Lane, Moment, standing, unfinished}
 use Rattle.vub_run.specs.Run.{Played, played, one_turn, is_due, then_played, turns as many_turns, drain_choice, IsDrained, Drains}
-use Rattle.vub_steps.specs.Tasks.{TaskStep, Look, Put, Act, Sync, Status, task_steps}
+use Rattle.vub_steps.specs.Tasks.{RequestStep, Look, Put, Act, Sync, Status, task_steps}
 use Rattle.vub_run.specs.Turns.{is_rest, turned, phase_turn, phase_goes_on, under_way, begun, work_turn, request_turn, task_turn}
 use Rattle.vub_run_laws.proofs.RunNumbers.{filter_none}
 use Rattle.vub_run_laws.proofs.RunGood.{Known}
@@ -44,7 +44,7 @@ under_way_stays : (t : Turn) (l : Lane) (b : Bool) → (cond {A = Lane} b (begun
 under_way_stays t l true = begun_stays t l
 under_way_stays t l false = refl
 
-task_stays : (h : Header1) (s : Scene) (l : Lane) (k : ℕ) (r : Asked) (o : Option TaskStep) → (task_turn h 0 s l k r o).lane.attached ≡ l.attached
+task_stays : (h : Header1) (s : Scene) (l : Lane) (k : ℕ) (r : Asked) (o : Option RequestStep) → (task_turn h 0 s l k r o).lane.attached ≡ l.attached
 task_stays h s l k r None = refl
 task_stays h s l k r (Some (Look place)) = refl
 task_stays h s l k r (Some (Put place)) = refl

@@ -14,7 +14,7 @@ use Rattle.vub_steps.specs.declared.readiness.Turn.{Turn}
 use Rattle.vub_steps.specs.declared.readiness.Turn.TheVariants as turns
 use Rattle.vub_steps.specs.Rows.{Row}
 use Rattle.vub_steps.specs.Steps.{next_step}
-use Rattle.vub_steps.specs.Tasks.{TaskStep, Look, Put, Act, Sync, Status, task_steps}
+use Rattle.vub_steps.specs.Tasks.{RequestStep, Look, Put, Act, Sync, Status, task_steps}
 use Rattle.vub_driver.specs.Drivers.{Waiting, can_take}
 use Rattle.vub_device.specs.declared.entry.Asked.{Asked}
 use Rattle.vub_device.specs.declared.entry.Asked.TheVariants as asks
@@ -219,7 +219,7 @@ act_makes : (k : ℕ) (o : Option SectorValue) → IsLong o → Makes (act_items
 act_makes k None long = tt
 act_makes k (Some x) long = (long, tt)
 
-task_makes : (h : Header1) (s : Scene) (l : Lane) (k : ℕ) (r : Asked) (o : Option TaskStep) → AreLong s.past → Makes (task_turn h 0 s l k r o).items
+task_makes : (h : Header1) (s : Scene) (l : Lane) (k : ℕ) (r : Asked) (o : Option RequestStep) → AreLong s.past → Makes (task_turn h 0 s l k r o).items
 task_makes h s l k r None long = tt
 task_makes h s l k r (Some (Look place)) long = look_makes k s.past (look_at r place) long
 task_makes h s l k r (Some (Put place)) long = tt

@@ -9,7 +9,7 @@ use Rattle.vub_device.specs.declared.entry.Asked.{Asked}
 use Rattle.vub_device.specs.declared.entry.Asked.TheVariants as asks
 use Rattle.vub_device.specs.declared.entry.SectorValue.{SectorValue}
 use Rattle.vub_device.specs.Requests.{look_at, effect_at, refusal}
-use Rattle.vub_steps.specs.Tasks.{TaskStep, Look, Put, Act, Status, task_steps, unless_refused, disk_steps, look_steps, act_steps}
+use Rattle.vub_steps.specs.Tasks.{RequestStep, Look, Put, Act, Status, task_steps, unless_refused, disk_steps, look_steps, act_steps}
 use Rattle.vub_run_laws.proofs.RunGood.{IsWideRead, IsWideWrite, IsWide, Progress, IsBegun, IsReadTo, IsWrittenTo}
 
 -- ---- requests
@@ -48,12 +48,12 @@ wide_steps h r back wide = ap (λ (o : Option ℕ). unless_refused o (disk_steps
 
 -- ---- the step after so many, of the sectors from this one on
 
-pub data ReadAt : ℕ → ℕ → ℕ → Option TaskStep → Type 0 where
-  ToLook : {a c made : ℕ} {o : Option TaskStep} → (p : ℕ) → p < c → made ≡ 2 * p → o ≡ Some (Look (a + p)) → ReadAt a c made o
-  ToPut : {a c made : ℕ} {o : Option TaskStep} → (p : ℕ) → p < c → made ≡ 2 * p + 1 → o ≡ Some (Put (a + p)) → ReadAt a c made o
-  ToReply : {a c made : ℕ} {o : Option TaskStep} → made ≡ 2 * c → o ≡ Some Status → ReadAt a c made o
+pub data ReadAt : ℕ → ℕ → ℕ → Option RequestStep → Type 0 where
+  ToLook : {a c made : ℕ} {o : Option RequestStep} → (p : ℕ) → p < c → made ≡ 2 * p → o ≡ Some (Look (a + p)) → ReadAt a c made o
+  ToPut : {a c made : ℕ} {o : Option RequestStep} → (p : ℕ) → p < c → made ≡ 2 * p + 1 → o ≡ Some (Put (a + p)) → ReadAt a c made o
+  ToReply : {a c made : ℕ} {o : Option RequestStep} → made ≡ 2 * c → o ≡ Some Status → ReadAt a c made o
 
-read_later : (a c made : ℕ) (o : Option TaskStep) → ReadAt (a + 1) c made o → ReadAt a (suc c) (suc (suc made)) o
+read_later : (a c made : ℕ) (o : Option RequestStep) → ReadAt (a + 1) c made o → ReadAt a (suc c) (suc (suc made)) o
 read_later a c made o (ToLook p l d i) = ToLook (p + 1) (omega arith) (omega arith) (i ∙ ap (λ (k : ℕ). Some (Look k)) (let same : a + 1 + p ≡ a + (p + 1) = omega arith in same))
 read_later a c made o (ToPut p l d i) = ToPut (p + 1) (omega arith) (omega arith) (i ∙ ap (λ (k : ℕ). Some (Put k)) (let same : a + 1 + p ≡ a + (p + 1) = omega arith in same))
 read_later a c made o (ToReply d i) = ToReply (omega arith) i
@@ -72,11 +72,11 @@ read_over a (suc c) zero l = absurd (omega arith)
 read_over a (suc c) (suc zero) l = absurd (omega arith)
 read_over a (suc c) (suc (suc made)) l = read_over (a + 1) c made (omega arith)
 
-pub data WriteAt : ℕ → ℕ → ℕ → Option TaskStep → Type 0 where
-  ToAct : {a n made : ℕ} {o : Option TaskStep} → made < n → o ≡ Some (Act (a + made)) → WriteAt a n made o
-  ToEnd : {a n made : ℕ} {o : Option TaskStep} → made ≡ n → o ≡ Some Status → WriteAt a n made o
+pub data WriteAt : ℕ → ℕ → ℕ → Option RequestStep → Type 0 where
+  ToAct : {a n made : ℕ} {o : Option RequestStep} → made < n → o ≡ Some (Act (a + made)) → WriteAt a n made o
+  ToEnd : {a n made : ℕ} {o : Option RequestStep} → made ≡ n → o ≡ Some Status → WriteAt a n made o
 
-write_later : (a n made : ℕ) (o : Option TaskStep) → WriteAt (a + 1) n made o → WriteAt a (suc n) (suc made) o
+write_later : (a n made : ℕ) (o : Option RequestStep) → WriteAt (a + 1) n made o → WriteAt a (suc n) (suc made) o
 write_later a n made o (ToAct l i) = ToAct (omega arith) (i ∙ ap (λ (k : ℕ). Some (Act k)) (let same : a + 1 + made ≡ a + suc made = omega arith in same))
 write_later a n made o (ToEnd d i) = ToEnd (omega arith) i
 

@@ -29,7 +29,7 @@ use Rattle.vub_base.specs.declared.store.Area.TheVariants.{M}
 use Rattle.vub_report.specs.declared.items.Item.TheVariants as items
 use Rattle.vub_run.specs.Memory.{Scene, with_at, after_items}
 use Rattle.vub_run.specs.Moments.{Lane}
-use Rattle.vub_steps.specs.Tasks.{TaskStep, Look, Put, Act, Sync, Status, status_of, disk_steps, look_steps, act_steps}
+use Rattle.vub_steps.specs.Tasks.{RequestStep, Look, Put, Act, Sync, Status, status_of, disk_steps, look_steps, act_steps}
 use Rattle.vub_run.specs.TaskItems.{look_items, act_items}
 use Rattle.vub_run.specs.Tracking.{EveryTracks, AfterEach, answered_len}
 use Rattle.vub_report.specs.Histories.{entries_of}
@@ -702,20 +702,20 @@ status_fine h s l k r x served whole half small =
 
 -- ---- any step of a request
 
-read_fine : (h : Header1) (s : Scene) (l : Lane) (k sector c : ℕ) → IsReading h s l k sector c → (o : Option TaskStep) → ReadAt 0 c (l.made k) o → Fine h s l (task_turn h 0 s l k (asks.Read sector c) o)
+read_fine : (h : Header1) (s : Scene) (l : Lane) (k sector c : ℕ) → IsReading h s l k sector c → (o : Option RequestStep) → ReadAt 0 c (l.made k) o → Fine h s l (task_turn h 0 s l k (asks.Read sector c) o)
 read_fine h s l k sector c x o (ToLook p low at is) =
-    subst (λ (y : Option TaskStep). Fine h s l (task_turn h 0 s l k (asks.Read sector c) y)) (sym (is ∙ ap (λ (q : ℕ). Some (Look q)) (let same : 0 + p ≡ p = omega arith in same))) (look_fine h s l k sector c p x low at)
+    subst (λ (y : Option RequestStep). Fine h s l (task_turn h 0 s l k (asks.Read sector c) y)) (sym (is ∙ ap (λ (q : ℕ). Some (Look q)) (let same : 0 + p ≡ p = omega arith in same))) (look_fine h s l k sector c p x low at)
 read_fine h s l k sector c x o (ToPut p low at is) =
-    subst (λ (y : Option TaskStep). Fine h s l (task_turn h 0 s l k (asks.Read sector c) y)) (sym (is ∙ ap (λ (q : ℕ). Some (Put q)) (let same : 0 + p ≡ p = omega arith in same))) (put_fine h s l k sector c p x low at)
+    subst (λ (y : Option RequestStep). Fine h s l (task_turn h 0 s l k (asks.Read sector c) y)) (sym (is ∙ ap (λ (q : ℕ). Some (Put q)) (let same : 0 + p ≡ p = omega arith in same))) (put_fine h s l k sector c p x low at)
 read_fine h s l k sector c x o (ToReply at is) =
-    subst (λ (y : Option TaskStep). Fine h s l (task_turn h 0 s l k (asks.Read sector c) y)) (sym is)
+    subst (λ (y : Option RequestStep). Fine h s l (task_turn h 0 s l k (asks.Read sector c) y)) (sym is)
     (status_fine h s l k (asks.Read sector c) x.left (wide_served h (asks.Read sector c) x.left.back x.wide) (subst (λ (y : Option Asked). IsFull (l.made k) y) (sym x.is) (omega (arith, at))) (λ read. omega (arith, at)) (omega (arith, at, x.wide.few)))
 
-write_fine : (h : Header1) (s : Scene) (l : Lane) (k sector : ℕ) (bytes : List ℕ) → IsWriting h s l k sector bytes → (o : Option TaskStep) → WriteAt 0 (length bytes / 512) (l.made k) o → Fine h s l (task_turn h 0 s l k (asks.Write sector bytes) o)
+write_fine : (h : Header1) (s : Scene) (l : Lane) (k sector : ℕ) (bytes : List ℕ) → IsWriting h s l k sector bytes → (o : Option RequestStep) → WriteAt 0 (length bytes / 512) (l.made k) o → Fine h s l (task_turn h 0 s l k (asks.Write sector bytes) o)
 write_fine h s l k sector bytes x o (ToAct low is) =
-    subst (λ (y : Option TaskStep). Fine h s l (task_turn h 0 s l k (asks.Write sector bytes) y)) (sym (is ∙ ap (λ (q : ℕ). Some (Act q)) (let same : 0 + l.made k ≡ l.made k = omega arith in same))) (act_fine h s l k sector (l.made k) bytes x refl low)
+    subst (λ (y : Option RequestStep). Fine h s l (task_turn h 0 s l k (asks.Write sector bytes) y)) (sym (is ∙ ap (λ (q : ℕ). Some (Act q)) (let same : 0 + l.made k ≡ l.made k = omega arith in same))) (act_fine h s l k sector (l.made k) bytes x refl low)
 write_fine h s l k sector bytes x o (ToEnd at is) =
-    subst (λ (y : Option TaskStep). Fine h s l (task_turn h 0 s l k (asks.Write sector bytes) y)) (sym is)
+    subst (λ (y : Option RequestStep). Fine h s l (task_turn h 0 s l k (asks.Write sector bytes) y)) (sym is)
     (status_fine h s l k (asks.Write sector bytes) x.left (wide_served h (asks.Write sector bytes) x.left.back x.wide) (subst (λ (y : Option Asked). IsFull (l.made k) y) (sym x.is) (omega (arith, at))) (λ read. absurd (write_never sector bytes (asked s.past 0 k) x.is read)) (omega (arith, at, x.wide.few)))
 
 flush_fine : (h : Header1) (s : Scene) (l : Lane) (k : ℕ) → IsLeft h s l k → asked s.past 0 k ≡ Some asks.Flush → l.made k ≤ 1 → (made : ℕ) → l.made k ≡ made → Fine h s l (task_turn h 0 s l k asks.Flush (slice_get (Sync ∷ Status ∷ []) made))
@@ -728,7 +728,7 @@ flush_fine h s l k x is few (suc (suc made)) at = absurd (omega (arith, few, at)
 served_fine : (h : Header1) (s : Scene) (l : Lane) (k : ℕ) (r : Asked) → IsLeft h s l k → asked s.past 0 k ≡ Some r → IsWide h.capacity (Some r) → Fine h s l (task_turn h 0 s l k r (slice_get (disk_steps r ++ Status ∷ []) (l.made k))) → Fine h s l (request_turn h 0 s l k (asked s.past 0 k))
 served_fine h s l k r x is wide fine =
     subst (λ (o : Option Asked). Fine h s l (request_turn h 0 s l k o)) (sym is)
-    (subst (λ (steps : List TaskStep). Fine h s l (task_turn h 0 s l k r (slice_get steps (l.made k)))) (sym (wide_steps h r x.back wide)) fine)
+    (subst (λ (steps : List RequestStep). Fine h s l (task_turn h 0 s l k r (slice_get steps (l.made k)))) (sym (wide_steps h r x.back wide)) fine)
 
 pub request_fine : (h : Header1) (s : Scene) (l : Lane) (k : ℕ) → IsLeft h s l k → Fine h s l (request_turn h 0 s l k (asked s.past 0 k))
 request_fine h s l k x =

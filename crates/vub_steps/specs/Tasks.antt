@@ -6,39 +6,39 @@ use Rattle.vub_device.specs.declared.entry.Asked.TheVariants as asked
 use Rattle.vub_device.specs.Requests.{refusal}
 
 -- one step; the sectors of a request are counted from 0
-pub data TaskStep : Type 0 where
+pub data RequestStep : Type 0 where
   -- reads a sector of the disk
-  Look : (place : ℕ) → TaskStep
+  Look : (place : ℕ) → RequestStep
   -- stores what was read
-  Put : (place : ℕ) → TaskStep
+  Put : (place : ℕ) → RequestStep
   -- writes a sector of the disk
-  Act : (place : ℕ) → TaskStep
+  Act : (place : ℕ) → RequestStep
   -- flushes the disk
-  Sync : TaskStep
+  Sync : RequestStep
   -- stores the status, which completes the request
-  Status : TaskStep
+  Status : RequestStep
 
-abbrev pub look_steps : ℕ → ℕ → List TaskStep
+abbrev pub look_steps : ℕ → ℕ → List RequestStep
 look_steps place zero = []
 look_steps place (suc count) = Look place ∷ Put place ∷ look_steps (place + 1) count
 
-abbrev pub act_steps : ℕ → ℕ → List TaskStep
+abbrev pub act_steps : ℕ → ℕ → List RequestStep
 act_steps place zero = []
 act_steps place (suc count) = Act place ∷ act_steps (place + 1) count
 
 -- the steps of a request that isn't refused, before its status
-abbrev pub disk_steps : Asked → List TaskStep
+abbrev pub disk_steps : Asked → List RequestStep
 disk_steps (asked.Read s n) = look_steps 0 n
 disk_steps (asked.Write s bytes) = act_steps 0 (length bytes / 512)
 disk_steps asked.Flush = Sync ∷ []
 disk_steps request = []
 
 -- none of them is left out but where the request is refused
-abbrev pub unless_refused : Option ℕ → List TaskStep → List TaskStep
+abbrev pub unless_refused : Option ℕ → List RequestStep → List RequestStep
 unless_refused None steps = steps
 unless_refused (Some status) steps = []
 
-abbrev pub task_steps : Header1 → Asked → List TaskStep
+abbrev pub task_steps : Header1 → Asked → List RequestStep
 task_steps h request = unless_refused (refusal h.capacity h.mode request) (disk_steps request) ++ Status ∷ []
 
 -- the status that a request gets where no call of the disk fails

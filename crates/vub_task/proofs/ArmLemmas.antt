@@ -12,7 +12,7 @@ use Rattle.vub_device.specs.declared.entry.Asked.{Asked}
 use Rattle.vub_device.specs.declared.entry.Asked.TheVariants.{Read, Write, Flush, Id, Discard, Zero}
 use Rattle.vub_device.specs.declared.entry.SectorValue.{SectorValue}
 use Rattle.vub_device.specs.Requests.{refusal, effect_at}
-use Rattle.vub_steps.specs.Tasks.{TaskStep, Look, Put, Act, Sync, Status, task_steps, status_of}
+use Rattle.vub_steps.specs.Tasks.{RequestStep, Look, Put, Act, Sync, Status, task_steps, status_of}
 use Rattle.vub_direct_chain.specs.ChainState.{sector_of, data_start, data_len, handed_bytes}
 use Rattle.vub_task.specs.TaskState.{IfMade, Making, IsNext, IsBasic, IsTaskAt, answer_of, transfer_at, work_for, with_effect, with_maybe}
 use Rattle.vub_direct_chain.proofs.ChainReading.{means_still}
@@ -20,7 +20,7 @@ use Rattle.vub_split.specs.declared.split.SplitRing.{SplitRing}
 use Rattle.std.specs.Prelude.{Ok}
 use Rattle.vub_base.specs.declared.ring_fault.RingFault.{RingFault}
 use Rattle.vub_task.specs.declared.task.Work.{Work}
-use Rattle.vub_task.specs.TaskState.{Makes, Starts, Begins}
+use Rattle.vub_task.specs.TaskState.{Makes, Worked, Starts, Begins}
 use Rattle.vub_task.specs.declared.task.Answer.{Answer}
 use Rattle.vub_task.specs.declared.task.Transfer.{Transfer}
 use Rattle.vub_task.specs.declared.task.Work.TheVariants as work
@@ -30,8 +30,8 @@ use Rattle.vub_task.specs.declared.task.TaskStep.TheVariants as answers
 
 -- ---- the kind of work tells the step
 
-pub look_arm : (h : Header1) (r : SplitRing) (buffer : ℕ) (request : Asked) (step : TaskStep) (t : Transfer) → work.Look t ≡ work_for h r buffer request step
-    → (P : TaskStep → Transfer → Type 0) → ((q : ℕ) → P (Look q) (transfer_at h r buffer request q)) → P step t
+pub look_arm : (h : Header1) (r : SplitRing) (buffer : ℕ) (request : Asked) (step : RequestStep) (t : Transfer) → work.Look t ≡ work_for h r buffer request step
+    → (P : RequestStep → Transfer → Type 0) → ((q : ℕ) → P (Look q) (transfer_at h r buffer request q)) → P step t
 look_arm h r buffer request (Look q) t is P f =
     let same : transfer_at h r buffer request q ≡ t = cc is in
     subst (P (Look q)) same (f q)
@@ -40,8 +40,8 @@ look_arm h r buffer request (Act q) t is P f = absurd (cc is)
 look_arm h r buffer request Sync t is P f = absurd (cc is)
 look_arm h r buffer request Status t is P f = absurd (cc is)
 
-pub store_arm : (h : Header1) (r : SplitRing) (buffer : ℕ) (request : Asked) (step : TaskStep) (t : Transfer) → work.Store t ≡ work_for h r buffer request step
-    → (P : TaskStep → Transfer → Type 0) → ((q : ℕ) → P (Put q) (transfer_at h r buffer request q)) → P step t
+pub store_arm : (h : Header1) (r : SplitRing) (buffer : ℕ) (request : Asked) (step : RequestStep) (t : Transfer) → work.Store t ≡ work_for h r buffer request step
+    → (P : RequestStep → Transfer → Type 0) → ((q : ℕ) → P (Put q) (transfer_at h r buffer request q)) → P step t
 store_arm h r buffer request (Put q) t is P f =
     let same : transfer_at h r buffer request q ≡ t = cc is in
     subst (P (Put q)) same (f q)
@@ -50,8 +50,8 @@ store_arm h r buffer request (Act q) t is P f = absurd (cc is)
 store_arm h r buffer request Sync t is P f = absurd (cc is)
 store_arm h r buffer request Status t is P f = absurd (cc is)
 
-pub act_arm : (h : Header1) (r : SplitRing) (buffer : ℕ) (request : Asked) (step : TaskStep) (t : Transfer) → work.Act t ≡ work_for h r buffer request step
-    → (P : TaskStep → Transfer → Type 0) → ((q : ℕ) → P (Act q) (transfer_at h r buffer request q)) → P step t
+pub act_arm : (h : Header1) (r : SplitRing) (buffer : ℕ) (request : Asked) (step : RequestStep) (t : Transfer) → work.Act t ≡ work_for h r buffer request step
+    → (P : RequestStep → Transfer → Type 0) → ((q : ℕ) → P (Act q) (transfer_at h r buffer request q)) → P step t
 act_arm h r buffer request (Act q) t is P f =
     let same : transfer_at h r buffer request q ≡ t = cc is in
     subst (P (Act q)) same (f q)
@@ -60,8 +60,8 @@ act_arm h r buffer request (Put q) t is P f = absurd (cc is)
 act_arm h r buffer request Sync t is P f = absurd (cc is)
 act_arm h r buffer request Status t is P f = absurd (cc is)
 
-pub sync_arm : (h : Header1) (r : SplitRing) (buffer : ℕ) (request : Asked) (step : TaskStep) (a : Answer) → work.Sync a ≡ work_for h r buffer request step
-    → (P : TaskStep → Answer → Type 0) → P Sync (answer_of h r buffer request) → P step a
+pub sync_arm : (h : Header1) (r : SplitRing) (buffer : ℕ) (request : Asked) (step : RequestStep) (a : Answer) → work.Sync a ≡ work_for h r buffer request step
+    → (P : RequestStep → Answer → Type 0) → P Sync (answer_of h r buffer request) → P step a
 sync_arm h r buffer request Sync a is P f =
     let same : answer_of h r buffer request ≡ a = cc is in
     subst (P Sync) same f
@@ -70,8 +70,8 @@ sync_arm h r buffer request (Put q) a is P f = absurd (cc is)
 sync_arm h r buffer request (Act q) a is P f = absurd (cc is)
 sync_arm h r buffer request Status a is P f = absurd (cc is)
 
-pub reply_arm : (h : Header1) (r : SplitRing) (buffer : ℕ) (request : Asked) (step : TaskStep) (a : Answer) → work.Reply a ≡ work_for h r buffer request step
-    → (P : TaskStep → Answer → Type 0) → P Status (answer_of h r buffer request) → P step a
+pub reply_arm : (h : Header1) (r : SplitRing) (buffer : ℕ) (request : Asked) (step : RequestStep) (a : Answer) → work.Reply a ≡ work_for h r buffer request step
+    → (P : RequestStep → Answer → Type 0) → P Status (answer_of h r buffer request) → P step a
 reply_arm h r buffer request Status a is P f =
     let same : answer_of h r buffer request ≡ a = cc is in
     subst (P Status) same f
@@ -81,7 +81,7 @@ reply_arm h r buffer request (Act q) a is P f = absurd (cc is)
 reply_arm h r buffer request Sync a is P f = absurd (cc is)
 
 -- a task that was begun makes some step
-pub begun_arm : (h : Header1) (r : SplitRing) (buffer : ℕ) (request : Asked) (step : TaskStep) → work.Begin ≡ work_for h r buffer request step → ⊥
+pub begun_arm : (h : Header1) (r : SplitRing) (buffer : ℕ) (request : Asked) (step : RequestStep) → work.Begin ≡ work_for h r buffer request step → ⊥
 begun_arm h r buffer request (Look q) is = cc is
 begun_arm h r buffer request (Put q) is = cc is
 begun_arm h r buffer request (Act q) is = cc is
@@ -113,7 +113,7 @@ room_of buffer limit q (Discard parts) room within = omega (arith, room, within)
 room_of buffer limit q (Zero parts) room within = omega (arith, room, within)
 
 -- the task after a step, by the one that is next
-pub goes_on : (h : Header1) (r : SplitRing) (buffer : ℕ) (request : Asked) (made : ℕ) (task : Task) (x : TaskStep) → slice_get (task_steps h request) (suc made) ≡ Some x
+pub goes_on : (h : Header1) (r : SplitRing) (buffer : ℕ) (request : Asked) (made : ℕ) (task : Task) (x : RequestStep) → slice_get (task_steps h request) (suc made) ≡ Some x
     → task.work ≡ work_for h r buffer request x → IsTaskAt h r buffer request (made + 1) task
 goes_on h r buffer request made task x next is = record {
   begins = λ none. absurd (omega (arith, none));
@@ -185,11 +185,11 @@ acted q request m s p before after is within len effect writes =
     writes ∙ ap (λ (bs : List ℕ). option_map (with_value (sector_of request + q) bs) before) bytes ∙ ap (λ (o : Option SectorValue). option_map (λ (v : Values). with_effect o v) before) (sym effect)
 
 -- what is to be done next where the request was begun or not
-pub at_start : (h : Header1) (r : SplitRing) (buffer : ℕ) (request : Asked) (made : ℕ) (step : TaskStep) (task : Task) → task.work ≡ work.Begin → IsTaskAt h r buffer request made task → slice_get (task_steps h request) made ≡ Some step → made ≡ 0
+pub at_start : (h : Header1) (r : SplitRing) (buffer : ℕ) (request : Asked) (made : ℕ) (step : RequestStep) (task : Task) → task.work ≡ work.Begin → IsTaskAt h r buffer request made task → slice_get (task_steps h request) made ≡ Some step → made ≡ 0
 at_start h r buffer request zero step task is at next = refl
 at_start h r buffer request (suc k) step task is at next = absurd (begun_arm h r buffer request step (sym is ∙ at.goes_on (omega arith) step next))
 
-pub at_work : (h : Header1) (r : SplitRing) (buffer : ℕ) (request : Asked) (made : ℕ) (step : TaskStep) (task : Task) → task.work ≢ work.Begin → IsTaskAt h r buffer request made task → slice_get (task_steps h request) made ≡ Some step → task.work ≡ work_for h r buffer request step
+pub at_work : (h : Header1) (r : SplitRing) (buffer : ℕ) (request : Asked) (made : ℕ) (step : RequestStep) (task : Task) → task.work ≢ work.Begin → IsTaskAt h r buffer request made task → slice_get (task_steps h request) made ≡ Some step → task.work ≡ work_for h r buffer request step
 at_work h r buffer request zero step task is at next = absurd (is (at.begins refl))
 at_work h r buffer request (suc k) step task is at next = at.goes_on (omega arith) step next
 
@@ -214,12 +214,13 @@ makes_unbroken (work.Act t) next fault h = h
 makes_unbroken (work.Sync a) next fault h = h
 makes_unbroken (work.Reply a) next fault h = h
 
-pub begins_by : (sizes : ℕ → ℕ) (r : SplitRing) (m : Bytes) (head capacity : ℕ) (step : made.TaskStep) (next w : Work) → Starts sizes r m head capacity (Ok w) → Makes w step next → Begins sizes r m head capacity step next
-begins_by sizes r m head capacity (answers.Broken fault) next w starts makes = absurd (makes_unbroken w next fault makes)
-begins_by sizes r m head capacity answers.Failed next w starts makes = tt
-begins_by sizes r m head capacity (answers.Stored tag) next w starts makes = record { parts = starts.0; means = starts.1; first = w; starts = starts.2; makes = makes }
-begins_by sizes r m head capacity (answers.Looked k) next w starts makes = record { parts = starts.0; means = starts.1; first = w; starts = starts.2; makes = makes }
-begins_by sizes r m head capacity (answers.Acted k) next w starts makes = record { parts = starts.0; means = starts.1; first = w; starts = starts.2; makes = makes }
-begins_by sizes r m head capacity answers.Synced next w starts makes = record { parts = starts.0; means = starts.1; first = w; starts = starts.2; makes = makes }
-begins_by sizes r m head capacity answers.Faulted next w starts makes = record { parts = starts.0; means = starts.1; first = w; starts = starts.2; makes = makes }
-begins_by sizes r m head capacity (answers.Done status len) next w starts makes = record { parts = starts.0; means = starts.1; first = w; starts = starts.2; makes = makes }
+pub begins_by : (sizes : ℕ → ℕ) (r : SplitRing) (m : Bytes) (head capacity : ℕ) (sector after : List ℕ) (step : made.TaskStep) (next w : Work) (told_after : Option Bytes) (trail trail_after : Option (List Store)) (values values_now : Option Values)
+    → Starts sizes r m head capacity (Ok w) → Worked w sector after step next (Some m) told_after trail trail_after values values_now → Begins sizes r m head capacity sector after step next told_after trail trail_after values values_now
+begins_by sizes r m head capacity sector after (answers.Broken fault) next w told_after trail trail_after values values_now starts worked = absurd (makes_unbroken w next fault worked.makes)
+begins_by sizes r m head capacity sector after answers.Failed next w told_after trail trail_after values values_now starts worked = tt
+begins_by sizes r m head capacity sector after (answers.Stored tag) next w told_after trail trail_after values values_now starts worked = record { parts = starts.0; means = starts.1; first = w; starts = starts.2; worked = worked }
+begins_by sizes r m head capacity sector after (answers.Looked k) next w told_after trail trail_after values values_now starts worked = record { parts = starts.0; means = starts.1; first = w; starts = starts.2; worked = worked }
+begins_by sizes r m head capacity sector after (answers.Acted k) next w told_after trail trail_after values values_now starts worked = record { parts = starts.0; means = starts.1; first = w; starts = starts.2; worked = worked }
+begins_by sizes r m head capacity sector after answers.Synced next w told_after trail trail_after values values_now starts worked = record { parts = starts.0; means = starts.1; first = w; starts = starts.2; worked = worked }
+begins_by sizes r m head capacity sector after answers.Faulted next w told_after trail trail_after values values_now starts worked = record { parts = starts.0; means = starts.1; first = w; starts = starts.2; worked = worked }
+begins_by sizes r m head capacity sector after (answers.Done status len) next w told_after trail trail_after values values_now starts worked = record { parts = starts.0; means = starts.1; first = w; starts = starts.2; worked = worked }

@@ -1,4 +1,4 @@
-use Rattle.std.proofs.Common.{◌≡◌, ◌≤◌, ◌<◌, ℕ, zero, suc, ◌+◌, ◌*◌, List, [], ◌∷◌, length, refl, ap, sym, ◌∙◌, subst, arith, true, false, Bool}
+use Rattle.std.proofs.Common.{◌≡◌, ◌≤◌, ◌<◌, ℕ, zero, suc, ◌+◌, ◌*◌, List, [], ◌∷◌, length, refl, inr, ap, sym, ◌∙◌, subst, arith, true, false, Bool}
 use Rattle.std.proofs.lemmas.Bool.{false≢true}
 use Rattle.std.specs.Prelude.{Option, Some, None, option_map, Result, Ok, Err, OnOk}
 use Rattle.std.specs.Result.{is_err}
@@ -17,9 +17,9 @@ use Rattle.vub_device.specs.declared.entry.Asked.{Asked}
 use Rattle.vub_device.specs.declared.entry.Asked.TheVariants.{Read, Write, Flush, Id, Discard, Zero}
 use Rattle.vub_device.specs.Requests.{refusal}
 use Rattle.vub_driver.specs.Layout.{status_place}
-use Rattle.vub_steps.specs.Tasks.{TaskStep, Look, Act, Sync, Status, task_steps, status_of, used_len, unless_refused, disk_steps, act_steps}
+use Rattle.vub_steps.specs.Tasks.{RequestStep, Look, Act, Sync, Status, task_steps, status_of, used_len, unless_refused, disk_steps, act_steps}
 use Rattle.vub_direct_chain.specs.ChainState.{parts_of, span_at, type_of, sector_of, data_start}
-use Rattle.vub_task.specs.TaskState.{FirstWork, can_move, IsServed, IsBasic, answer_of, work_for, whole_transfer, plain_answer_of, plain_len_of}
+use Rattle.vub_task.specs.TaskState.{ChangedOrNot, FirstWork, can_move, DiskServes, IsBasic, answer_of, work_for, whole_transfer, plain_answer_of, plain_len_of}
 use Rattle.vub_split.specs.declared.split.SplitRing.{SplitRing}
 use Rattle.vub_direct_chain.specs.declared.chain.Parts.{Parts}
 use Rattle.vub_direct_chain.specs.declared.chain.Sectors.{Sectors}
@@ -37,6 +37,15 @@ act_written before after s into told m space p q w (Ok x) (Ok y) place whole is_
     is ∙ ap (λ (bs : List ℕ). option_map (with_value s bs) before) bytes
 act_written before after s into told m space p q w (Ok x) (Err y) place whole is_told e loaded f is = absurd (false≢true (sym f))
 act_written before after s into told m space p q w (Err x) writes place whole is_told e loaded f is = absurd (false≢true (sym e))
+
+-- the same of a write that may have failed
+pub act_changed : {T E F : Type 0} (before after : Option Values) (s : ℕ) (into : List ℕ) (told : Option Bytes) (m : Bytes) (space p q w : ℕ) (loads : Result T E) (writes : Result T F) → p ≡ q → w ≡ 512 → told ≡ Some m → is_err loads ≡ false
+    → OnOk loads (WhereTold told (λ m. into ≡ bytes_from w m space p)) → Writes before after writes s into → ChangedOrNot (with_value s (bytes_from 512 m space q)) before after
+act_changed {T} {E} {F} before after s into told m space p q w loads (Ok y) place whole is_told e loaded is = inr (act_written {T = T} {E = E} {F = F} before after s into told m space p q w loads (Ok y) place whole is_told e loaded refl is)
+act_changed before after s into told m space p q w (Ok x) (Err y) place whole is_told e loaded is =
+    let bytes : into ≡ bytes_from 512 m space q = loaded m is_told ∙ ap (λ (k : ℕ). bytes_from k m space p) whole ∙ ap (bytes_from 512 m space) place in
+    subst (λ (bs : List ℕ). ChangedOrNot (with_value s bs) before after) bytes is
+act_changed before after s into told m space p q w (Err x) (Err y) place whole is_told e loaded is = absurd (false≢true (sym e))
 
 -- ---- the first work of a request
 
@@ -56,10 +65,10 @@ answer_is h r buffer request status len plain_len a b c =
     ∙ ap (λ (x : ℕ). answer_with (status_of h request) (used_len (status_of h request) request) x span) c
 
 -- what is next, by the refusal of the request
-abbrev first_of : Asked → Option ℕ → Option TaskStep
+abbrev first_of : Asked → Option ℕ → Option RequestStep
 first_of request refused = slice_get (unless_refused refused (disk_steps request) ++ Status ∷ []) 0
 
-to_step : (h : Header1) (r : SplitRing) (buffer : ℕ) (request : Asked) (o : Option TaskStep) (step x : TaskStep) (w : Work) → o ≡ Some step → o ≡ Some x → w ≡ work_for h r buffer request x → w ≡ work_for h r buffer request step
+to_step : (h : Header1) (r : SplitRing) (buffer : ℕ) (request : Asked) (o : Option RequestStep) (step x : RequestStep) (w : Work) → o ≡ Some step → o ≡ Some x → w ≡ work_for h r buffer request x → w ≡ work_for h r buffer request step
 to_step h r buffer request o step x w is at same =
     let e : x ≡ step = cc (is, at) in
     same ∙ ap (work_for h r buffer request) e
@@ -71,7 +80,7 @@ plain_of_read r buffer s (suc n) = grind (arith, nat_tests)
 abbrev sectors_at : SplitRing → ℕ → ℕ → Bool → Sectors
 sectors_at r buffer len writable = record { span = span_at r (data_start buffer Flush) len; writable = writable }
 
-pub first_read : (h : Header1) (r : SplitRing) (buffer s n : ℕ) (w : Work) (step : TaskStep) → slice_get (task_steps h (Read s n)) 0 ≡ Some step
+pub first_read : (h : Header1) (r : SplitRing) (buffer s n : ℕ) (w : Work) (step : RequestStep) → slice_get (task_steps h (Read s n)) 0 ≡ Some step
     → let p : Parts = parts_of r buffer (Read s n) in
     let x : Sectors = sectors_at r buffer (512 * n) true in
     (s + 512 * n / 512 ≤ h.capacity → 0 < 512 * n / 512 → w ≡ work.Look (whole_transfer p s x))
@@ -105,7 +114,7 @@ first_read h r buffer s n w step is more nothing past =
     ] in
     go (nat_lt h.capacity (s + n)) refl
 
-pub first_write : (h : Header1) (r : SplitRing) (buffer s : ℕ) (bytes : List ℕ) (w : Work) (step : TaskStep) → h.mode ≡ Back → length bytes % 512 ≡ 0 → slice_get (task_steps h (Write s bytes)) 0 ≡ Some step
+pub first_write : (h : Header1) (r : SplitRing) (buffer s : ℕ) (bytes : List ℕ) (w : Work) (step : RequestStep) → h.mode ≡ Back → length bytes % 512 ≡ 0 → slice_get (task_steps h (Write s bytes)) 0 ≡ Some step
     → let p : Parts = parts_of r buffer (Write s bytes) in
     let x : Sectors = sectors_at r buffer (length bytes) false in
     (s + length bytes / 512 ≤ h.capacity → 0 < length bytes / 512 → w ≡ work.Act (whole_transfer p s x))
@@ -139,7 +148,7 @@ first_write h r buffer s bytes w step cached whole is more nothing past =
     ] in
     go (nat_lt h.capacity (s + c)) refl
 
-pub first_flush : (h : Header1) (r : SplitRing) (buffer : ℕ) (w : Work) (step : TaskStep) → h.mode ≡ Back → slice_get (task_steps h Flush) 0 ≡ Some step → w ≡ work.Sync (plain_answer_of (parts_of r buffer Flush) 0) → w ≡ work_for h r buffer Flush step
+pub first_flush : (h : Header1) (r : SplitRing) (buffer : ℕ) (w : Work) (step : RequestStep) → h.mode ≡ Back → slice_get (task_steps h Flush) 0 ≡ Some step → w ≡ work.Sync (plain_answer_of (parts_of r buffer Flush) 0) → w ≡ work_for h r buffer Flush step
 first_flush h r buffer w step cached is syncs =
     let refused : refusal h.capacity h.mode Flush ≡ None = ap (λ (mode : CacheMode). refusal h.capacity mode Flush) cached in
     let status : 0 ≡ status_of h Flush = sym (ap (λ (o : Option ℕ). unwrap_or o 0) refused) in
@@ -160,7 +169,7 @@ moves_past sector capacity writable x past =
     let past_it : nat_le (sector + x.span.len / 512) capacity ≡ false = grind (arith, nat_tests) in
     and_false (if writable then x.writable else not x.writable) (x.span.len % 512 == 0) (nat_le (sector + x.span.len / 512) capacity) past_it
 
-first_by : (h : Header1) (r : SplitRing) (buffer : ℕ) (request : Asked) (w : Work) (step : TaskStep) → IsBasic request → h.mode ≡ Back → slice_get (task_steps h request) 0 ≡ Some step
+first_by : (h : Header1) (r : SplitRing) (buffer : ℕ) (request : Asked) (w : Work) (step : RequestStep) → IsBasic request → h.mode ≡ Back → slice_get (task_steps h request) 0 ≡ Some step
     → FirstWork (parts_of r buffer request) (type_of request) (sector_of request) h.capacity w → w ≡ work_for h r buffer request step
 first_by h r buffer (Read s n) w step basic cached is f =
     let x : Sectors = sectors_at r buffer (512 * n) true in
@@ -173,8 +182,8 @@ first_by h r buffer Id w step basic cached is f = absurd basic
 first_by h r buffer (Discard parts) w step basic cached is f = absurd basic
 first_by h r buffer (Zero parts) w step basic cached is f = absurd basic
 
-pub first_is : (h : Header1) (r : SplitRing) (buffer : ℕ) (request : Asked) (w : Work) (step : TaskStep) (p : Parts) (kind sector capacity : ℕ) → p ≡ parts_of r buffer request → kind ≡ type_of request → sector ≡ sector_of request
-    → IsServed h capacity request → slice_get (task_steps h request) 0 ≡ Some step → FirstWork p kind sector capacity w → w ≡ work_for h r buffer request step
+pub first_is : (h : Header1) (r : SplitRing) (buffer : ℕ) (request : Asked) (w : Work) (step : RequestStep) (p : Parts) (kind sector capacity : ℕ) → p ≡ parts_of r buffer request → kind ≡ type_of request → sector ≡ sector_of request
+    → DiskServes h capacity request → slice_get (task_steps h request) 0 ≡ Some step → FirstWork p kind sector capacity w → w ≡ work_for h r buffer request step
 first_is h r buffer request w step p kind sector capacity same kinds sectors served is f =
     let a : FirstWork (parts_of r buffer request) kind sector capacity w = subst (λ (q : Parts). FirstWork q kind sector capacity w) same f in
     let b : FirstWork (parts_of r buffer request) (type_of request) sector capacity w = subst (λ (k : ℕ). FirstWork (parts_of r buffer request) k sector capacity w) kinds a in

@@ -14,7 +14,7 @@ use Rattle.vub_device.specs.declared.entry.Asked.TheVariants as asked
 use Rattle.vub_device.specs.declared.entry.SectorValue.{SectorValue}
 use Rattle.vub_device.specs.Requests.{effect_at}
 use Rattle.vub_driver.specs.GuestChain.{Links}
-use Rattle.vub_steps.specs.Tasks.{TaskStep, Look, Put, Act, Sync, Status, task_steps, status_of, used_len}
+use Rattle.vub_steps.specs.Tasks.{RequestStep, Look, Put, Act, Sync, Status, task_steps, status_of, used_len}
 use Rattle.vub_direct_chain.specs.ChainState.{MeansRequest, sector_of, data_start, data_len, span_at, SpanLies, HasParts, BreaksRule}
 use Rattle.vub_direct_chain.specs.declared.chain.Unread.{Unread}
 use Rattle.vub_direct_chain.specs.declared.chain.Unread.TheVariants as unread
@@ -50,7 +50,7 @@ transfer_at h r buffer request done = record {
 }
 
 -- what a task does that makes this step next
-abbrev pub work_for : Header1 → SplitRing → ℕ → Asked → TaskStep → Work
+abbrev pub work_for : Header1 → SplitRing → ℕ → Asked → RequestStep → Work
 work_for h r buffer request (Look place) = work.Look (transfer_at h r buffer request place)
 work_for h r buffer request (Put place) = work.Store (transfer_at h r buffer request place)
 work_for h r buffer request (Act place) = work.Act (transfer_at h r buffer request place)
@@ -68,7 +68,7 @@ fresh_task head = record { head = head; work = work.Begin }
 -- the task of a request stands for so many steps made of it
 pub record IsTaskAt (h : Header1) (r : SplitRing) (buffer : ℕ) (request : Asked) (made : ℕ) (task : Task) : Type 0 where
   pub begins : made ≡ 0 → task.work ≡ work.Begin
-  pub goes_on : 0 < made → (step : TaskStep) → slice_get (task_steps h request) made ≡ Some step → task.work ≡ work_for h r buffer request step
+  pub goes_on : 0 < made → (step : RequestStep) → slice_get (task_steps h request) made ≡ Some step → task.work ≡ work_for h r buffer request step
 
 -- the requests that read, write whole sectors or flush
 abbrev pub IsBasic : Asked → Type 0
@@ -78,7 +78,7 @@ IsBasic asked.Flush = ⊤
 IsBasic request = ⊥
 
 -- such a request on a disk of so many sectors that is written back at flushes
-pub record IsServed (h : Header1) (sectors : ℕ) (request : Asked) : Type 0 where
+pub record DiskServes (h : Header1) (sectors : ℕ) (request : Asked) : Type 0 where
   pub basic : IsBasic request
   pub capacity : h.capacity ≡ sectors
   pub cached : h.mode ≡ Back
@@ -229,6 +229,11 @@ abbrev pub IfSynced : Option made.TaskStep → Type 0 → Type 0
 IfSynced (Some answers.Synced) P = P
 IfSynced o P = ⊤
 
+-- the told stable values: a flush that was made has made the values stable, and any other step leaves them as they were
+abbrev pub StableAfter : made.TaskStep → Option Values → Option Values → Option Values → Type 0
+StableAfter answers.Synced stable values stable_after = stable_after ≡ values
+StableAfter step stable values stable_after = stable_after ≡ stable
+
 -- a fact about a disk call that failed
 abbrev pub IfFaulted : made.TaskStep → Type 0 → Type 0
 IfFaulted answers.Faulted P = P
@@ -244,7 +249,7 @@ disk_outcome (Some answers.Faulted) = Err tt
 disk_outcome o = Ok tt
 
 -- how a step is answered
-abbrev pub answer_to : Header1 → Asked → TaskStep → made.TaskStep
+abbrev pub answer_to : Header1 → Asked → RequestStep → made.TaskStep
 answer_to h request (Look place) = answers.Looked (sector_of request + place)
 answer_to h request (Put place) = answers.Stored T2
 answer_to h request (Act place) = answers.Acted (sector_of request + place)
@@ -252,7 +257,7 @@ answer_to h request Sync = answers.Synced
 answer_to h request Status = answers.Done (status_of h request) (used_len (status_of h request) request)
 
 -- the store of a step, if it makes one; `sector` is what was read before
-abbrev pub store_of : Header1 → SplitRing → ℕ → Asked → List ℕ → TaskStep → Option Store
+abbrev pub store_of : Header1 → SplitRing → ℕ → Asked → List ℕ → RequestStep → Option Store
 store_of h r buffer request sector (Put place) = Some (one_store r.desc.0.number (data_start buffer request + 512 * place) sector)
 store_of h r buffer request sector Status = Some (one_store r.desc.0.number (status_place buffer) (status_of h request ∷ []))
 store_of h r buffer request sector step = None
@@ -275,7 +280,7 @@ with_effect None v = v
 with_effect (Some x) v = with_value x.sector x.value v
 
 -- the values of the disk after a step
-abbrev pub values_after : Asked → TaskStep → Values → Values
+abbrev pub values_after : Asked → RequestStep → Values → Values
 values_after request (Act place) v = with_effect (effect_at request place) v
 values_after request step v = v
 
@@ -283,6 +288,10 @@ values_after request step v = v
 abbrev pub values_by : Work → Bytes → Values → Values
 values_by (work.Act t) m v = with_value (t.sector + t.done) (bytes_from 512 m t.span.space.number (t.span.place + 512 * t.done)) v
 values_by w m v = v
+
+-- the told values of the disk, where such a change was made or not
+abbrev pub ChangedOrNot : (Values → Values) → Option Values → Option Values → Type 0
+ChangedOrNot change before after = (after ≡ before) ⊎ (after ≡ option_map change before)
 
 -- a look leaves the value of its sector
 abbrev pub LooksBy : Work → Values → List ℕ → Type 0
@@ -296,20 +305,22 @@ pub record Worked (w : Work) (sector sector_after : List ℕ) (step : made.TaskS
   pub trailed : IfMade (Some step) (λ x. trail_after ≡ option_map (with_maybe (store_by w sector)) trail)
   pub written : WhereTold told (λ m. IfMade (Some step) (λ x. values_now ≡ option_map (values_by w m) values))
   pub looked : WhereTold values (λ v. IfMade (Some step) (λ x. LooksBy w v sector_after))
+  -- whatever failed
+  pub changed : WhereTold told (λ m. ChangedOrNot (values_by w m) values values_now)
 
--- the work by which a task whose chain wasn't read goes on: that of the parts that its chain means
-pub record BegunAs (sizes : ℕ → ℕ) (r : SplitRing) (m : Bytes) (head capacity : ℕ) (step : made.TaskStep) (next : Work) : Type 0 where
+-- the first step of a task whose chain is read: one of the work that the parts begin which its chain means
+pub record BegunAs (sizes : ℕ → ℕ) (r : SplitRing) (m : Bytes) (head capacity : ℕ) (sector sector_after : List ℕ) (step : made.TaskStep) (next : Work) (told_after : Option Bytes) (trail trail_after : Option (List Store)) (values values_now : Option Values) : Type 0 where
   pub parts : Parts
   pub means : HasParts sizes r m head parts
   pub first : Work
   pub starts : StartsAs m parts capacity first
-  pub makes : Makes first step next
+  pub worked : Worked first sector sector_after step next (Some m) told_after trail trail_after values values_now
 
 -- the first step of a task: its chain breaks a rule, the memory failed, or it is the first step of its work
-abbrev pub Begins : (ℕ → ℕ) → SplitRing → Bytes → ℕ → ℕ → made.TaskStep → Work → Type 0
-Begins sizes r m head capacity (answers.Broken fault) next = BreaksRule sizes r m head (unread.Broken fault)
-Begins sizes r m head capacity answers.Failed next = ⊤
-Begins sizes r m head capacity step next = BegunAs sizes r m head capacity step next
+abbrev pub Begins : (ℕ → ℕ) → SplitRing → Bytes → ℕ → ℕ → List ℕ → List ℕ → made.TaskStep → Work → Option Bytes → Option (List Store) → Option (List Store) → Option Values → Option Values → Type 0
+Begins sizes r m head capacity sector sector_after (answers.Broken fault) next told_after trail trail_after values values_now = BreaksRule sizes r m head (unread.Broken fault)
+Begins sizes r m head capacity sector sector_after answers.Failed next told_after trail trail_after values values_now = ⊤
+Begins sizes r m head capacity sector sector_after step next told_after trail trail_after values values_now = BegunAs sizes r m head capacity sector sector_after step next told_after trail trail_after values values_now
 
 -- ---- one step of a request
 
@@ -320,12 +331,12 @@ pub record Making : Type 0 where
   pub buffer : ℕ
   pub request : Asked
   pub made : ℕ
-  pub step : TaskStep
+  pub step : RequestStep
 
 -- memory m means its request, the disk serves it, and the step is next in the step table
 pub record IsNext (sectors : ℕ) (sizes : ℕ → ℕ) (r : SplitRing) (m : Bytes) (n : Making) : Type 0 where
   pub means : MeansRequest sizes r m n.links n.buffer n.request
-  pub served : IsServed n.header sectors n.request
+  pub served : DiskServes n.header sectors n.request
   pub next : slice_get (task_steps n.header n.request) n.made ≡ Some n.step
 
 -- a task that makes it, and the task after it

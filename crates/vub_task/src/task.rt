@@ -10,7 +10,7 @@ ghost use Rattle.vub_shared.specs.Stores.{one_store, after_store, after_in_trail
 ghost use Rattle.vub_shared.specs.Frames.{OnlyLoads, KeepsSpaces};
 ghost use Rattle.vub_disk.specs.Values.{with_value};
 ghost use Rattle.vub_split.specs.Split.{RingLies};
-ghost use Rattle.vub_task.specs.TaskState.{IfMade, IfSynced, IfFaulted, GainsOne, fresh_task, head_in, memory_outcome, disk_outcome, plain_len_of, plain_answer_of, whole_transfer, can_move, FirstWork, WorkLies, TransferLies, AnswerLies, is_begun, failed_answer, one_more, after_put, after_act};
+ghost use Rattle.vub_task.specs.TaskState.{IfMade, IfSynced, IfFaulted, StableAfter, ChangedOrNot, GainsOne, fresh_task, head_in, memory_outcome, disk_outcome, plain_len_of, plain_answer_of, whole_transfer, can_move, FirstWork, WorkLies, TransferLies, AnswerLies, is_begun, failed_answer, one_more, after_put, after_act};
 ghost use Rattle.vub_direct_chain.specs.ChainState.{PartsLie};
 ghost use Rattle.vub_direct_chain.specs.declared.chain.Sectors.{Sectors};
 ghost use Rattle.vub_task.specs.declared.task.TaskStep.TheVariants as answers;
@@ -209,7 +209,7 @@ impl Task {
     ghost use Rattle.vub_steps.specs.Tasks.{task_steps};
     ghost use Rattle.vub_direct_chain.specs.ChainState.{MeansRequest, Reads, read_outcome, BreaksRule};
     ghost use Rattle.vub_direct_chain.specs.declared.chain.Unread.TheVariants as unread;
-    ghost use Rattle.vub_task.specs.TaskState.{Begins, Starts, TaskLies, Makes, Worked, OwesFailure, Making, IsNext, IsServed, IsReady, IsTaskAt, HasMade, LooksAt, answer_in, store_in, memory_after, with_maybe, values_after, work_for, work_of};
+    ghost use Rattle.vub_task.specs.TaskState.{Begins, Starts, TaskLies, Makes, Worked, OwesFailure, Making, IsNext, DiskServes, IsReady, IsTaskAt, HasMade, LooksAt, answer_in, store_in, memory_after, with_maybe, values_after, work_for, work_of};
     ghost use Rattle.vub_split.specs.declared.split.SplitRing.{SplitRing};
 
     /// A request that was accepted under this head.
@@ -238,7 +238,7 @@ impl Task {
         ensures starts { WhereTold (M.told mem.old) (λ m. Starts (M.sizes mem.old) ring.now m self.now.head capacity result) }
         ensures lies { IfOk result (λ w. WorkLies (M.sizes mem.old) capacity w) }
         ensures begun { IfOk result (λ w. is_begun w ≡ true) }
-        ensures begins { (h : Header1) (l : Links) (buffer : ℕ) (request : Asked) (step : Tasks.TaskStep) → WhereTold (M.told mem.old) (λ m. MeansRequest (M.sizes mem.old) ring.now m l buffer request → l.head ≡ self.now.head → IsServed h capacity request → slice_get (task_steps h request) 0 ≡ Some step → Reads result (work_for h ring.now buffer request step)) }
+        ensures begins { (h : Header1) (l : Links) (buffer : ℕ) (request : Asked) (step : Tasks.RequestStep) → WhereTold (M.told mem.old) (λ m. MeansRequest (M.sizes mem.old) ring.now m l buffer request → l.head ≡ self.now.head → DiskServes h capacity request → slice_get (task_steps h request) 0 ≡ Some step → Reads result (work_for h ring.now buffer request step)) }
         ensures only_loads { OnlyLoads M.told M.trail M.names M.handed M.sizes mem.old mem.new }
         ensures cause { HasCause (M.faults mem.old) (M.faults mem.new) (read_outcome result) }
     {
@@ -270,6 +270,7 @@ impl Task {
         ensures failed { IfFaulted result (self.new.work ≡ work.Reply (failed_answer transfer.answer)) }
         ensures head { self.new.head ≡ self.old.head }
         ensures values { D.values disk.new ≡ D.values disk.old }
+        ensures stable { D.stable disk.new ≡ D.stable disk.old }
         ensures capacity { D.capacity disk.new ≡ D.capacity disk.old }
         ensures disk_cause { HasCause (D.faults disk.old) (D.faults disk.new) (disk_outcome (Some result)) }
         ensures no_memory { memory_outcome (Some result) ≡ Ok tt }
@@ -333,11 +334,13 @@ impl Task {
         requires at_work { self.old.work ≡ work.Act transfer }
         ensures answer { IfMade (Some result) (λ step. step ≡ answers.Acted (transfer.sector + transfer.done)) }
         ensures written { IfMade (Some result) (λ step. WhereTold (M.told mem.old) (λ m. D.values disk.new ≡ option_map (with_value (transfer.sector + transfer.done) (bytes_from 512 m transfer.span.space.number (transfer.span.place + 512 * transfer.done))) (D.values disk.old))) }
+        ensures changed { WhereTold (M.told mem.old) (λ m. ChangedOrNot (with_value (transfer.sector + transfer.done) (bytes_from 512 m transfer.span.space.number (transfer.span.place + 512 * transfer.done))) (D.values disk.old) (D.values disk.new)) }
         ensures more { transfer.done + 1 < transfer.count → IfMade (Some result) (λ step. self.new.work ≡ work.Act (one_more transfer)) }
         ensures last { transfer.count ≤ transfer.done + 1 → IfMade (Some result) (λ step. self.new.work ≡ work.Reply transfer.answer) }
         ensures makes { Makes (work.Act transfer) result self.new.work }
         ensures head { self.new.head ≡ self.old.head }
         ensures only_loads { OnlyLoads M.told M.trail M.names M.handed M.sizes mem.old mem.new }
+        ensures stable { D.stable disk.new ≡ D.stable disk.old }
         ensures capacity { D.capacity disk.new ≡ D.capacity disk.old }
         ensures memory_cause { HasCause (M.faults mem.old) (M.faults mem.new) (memory_outcome (Some result)) }
         ensures disk_cause { HasCause (D.faults disk.old) (D.faults disk.new) (disk_outcome (Some result)) }
@@ -366,7 +369,7 @@ impl Task {
         ensures next { IfMade (Some result) (λ step. self.new.work ≡ work.Reply answer) }
         ensures failed { IfFaulted result (self.new.work ≡ work.Reply (failed_answer answer)) }
         ensures values { D.values disk.new ≡ D.values disk.old }
-        ensures stable { IfSynced (Some result) (D.stable disk.new ≡ D.values disk.new) }
+        ensures stable { StableAfter result (D.stable disk.old) (D.values disk.new) (D.stable disk.new) }
         ensures head { self.new.head ≡ self.old.head }
         ensures capacity { D.capacity disk.new ≡ D.capacity disk.old }
         ensures disk_cause { HasCause (D.faults disk.old) (D.faults disk.new) (disk_outcome (Some result)) }
@@ -442,7 +445,7 @@ impl Task {
         requires fits { self.old.head < ring.now.size }
         requires task { TaskLies (M.sizes mem.old) (D.capacity disk.old) self.old }
         ensures task { TaskLies (M.sizes mem.new) (D.capacity disk.new) self.new }
-        ensures begins { self.old.work ≡ work.Begin → WhereTold (M.told mem.old) (λ m. Begins (M.sizes mem.old) ring.now m self.old.head (D.capacity disk.old) result self.new.work) }
+        ensures begins { self.old.work ≡ work.Begin → WhereTold (M.told mem.old) (λ m. Begins (M.sizes mem.old) ring.now m self.old.head (D.capacity disk.old) sector.old sector.new result self.new.work (M.told mem.new) (M.trail mem.old) (M.trail mem.new) (D.values disk.old) (D.values disk.new)) }
         ensures worked { is_begun self.old.work ≡ true → Worked self.old.work sector.old sector.new result self.new.work (M.told mem.old) (M.told mem.new) (M.trail mem.old) (M.trail mem.new) (D.values disk.old) (D.values disk.new) }
         ensures failed { IfFaulted result (OwesFailure self.new) }
         ensures head { self.new.head ≡ self.old.head }
@@ -452,7 +455,7 @@ impl Task {
         ensures trail { GainsOne (M.trail mem.old) (M.trail mem.new) }
         ensures looked { (n : Making) → WhereTold (M.told mem.old) (λ m. IsNext (D.capacity disk.old) (M.sizes mem.old) ring.now m n → IsReady ring.now n self.old → IfMade (Some result) (λ step. WhereTold (D.values disk.old) (λ v. LooksAt n v sector.new))) }
         ensures written { (n : Making) → WhereTold (M.told mem.old) (λ m. IsNext (D.capacity disk.old) (M.sizes mem.old) ring.now m n → IsReady ring.now n self.old → IfMade (Some result) (λ step. D.values disk.new ≡ option_map (values_after n.request n.step) (D.values disk.old))) }
-        ensures stable { IfSynced (Some result) (D.stable disk.new ≡ D.values disk.new) }
+        ensures stable { StableAfter result (D.stable disk.old) (D.values disk.new) (D.stable disk.new) }
         ensures goes_on { (n : Making) → WhereTold (M.told mem.old) (λ m. IsNext (D.capacity disk.old) (M.sizes mem.old) ring.now m n → IsReady ring.now n self.old → IfMade (Some result) (λ step. HasMade ring.now n self.new)) }
         ensures keeps_spaces { KeepsSpaces M.names M.handed M.sizes mem.old mem.new }
         ensures capacity { D.capacity disk.new ≡ D.capacity disk.old }
@@ -487,7 +490,7 @@ impl Task {
         ensures trail { GainsOne (M.trail mem.old) (M.trail mem.new) }
         ensures looked { (r : SplitRing) (n : Making) → WhereTold (M.told mem.old) (λ m. IsNext (D.capacity disk.old) (M.sizes mem.old) r m n → self.old.work ≡ work_of r n → IfMade (Some result) (λ step. WhereTold (D.values disk.old) (λ v. LooksAt n v sector.new))) }
         ensures written { (r : SplitRing) (n : Making) → WhereTold (M.told mem.old) (λ m. IsNext (D.capacity disk.old) (M.sizes mem.old) r m n → self.old.work ≡ work_of r n → IfMade (Some result) (λ step. D.values disk.new ≡ option_map (values_after n.request n.step) (D.values disk.old))) }
-        ensures stable { IfSynced (Some result) (D.stable disk.new ≡ D.values disk.new) }
+        ensures stable { StableAfter result (D.stable disk.old) (D.values disk.new) (D.stable disk.new) }
         ensures goes_on { (r : SplitRing) (n : Making) → WhereTold (M.told mem.old) (λ m. IsNext (D.capacity disk.old) (M.sizes mem.old) r m n → self.old.work ≡ work_of r n → IfMade (Some result) (λ step. HasMade r n self.new)) }
         ensures keeps_spaces { KeepsSpaces M.names M.handed M.sizes mem.old mem.new }
         ensures capacity { D.capacity disk.new ≡ D.capacity disk.old }

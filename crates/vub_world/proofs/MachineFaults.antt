@@ -10,7 +10,7 @@ use Rattle.vub_queue.specs.declared.queue.Stepped.{Stepped}
 use Rattle.vub_queue.specs.declared.queue.Stepped.TheVariants as says
 use Rattle.vub_queue.specs.QueueState.{QueueState, publish_row, TrailsRow, DoesTrail, outcome, disk_outcome, is_fault}
 use Rattle.vub_task.specs.TaskState.{GainsOne}
-use Rattle.vub_world.proofs.MachineTurns.{IsServed, some_is}
+use Rattle.vub_world.proofs.MachineTurns.{NoDiskFault, some_is}
 
 -- ---- one store at most
 
@@ -58,7 +58,7 @@ turn_made a b says.Started ea eb cause = refl
 turn_made a b (says.Broken fault) ea eb cause = refl
 
 -- a disk without faults doesn't fail
-pub served_is : (x : Stepped) → HasCause 0 0 (disk_outcome x) → IsServed x
+pub served_is : (x : Stepped) → HasCause 0 0 (disk_outcome x) → NoDiskFault x
 served_is (says.Faulted head) cause = absurd (omega (arith, cause.failed))
 served_is says.SharedFault cause = tt
 served_is says.Idle cause = tt

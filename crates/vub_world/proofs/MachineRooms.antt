@@ -30,7 +30,7 @@ use Rattle.vub_world.specs.MachineDevice.{is_index}
 use Rattle.vub_run.specs.Memory.{Scene, after_items}
 use Rattle.vub_run.specs.Moments.{Lane, Moment, standing, unfinished}
 use Rattle.vub_run.specs.Run.{one_turn}
-use Rattle.vub_steps.specs.Tasks.{TaskStep, Look, Put, Act, Sync, Status, task_steps}
+use Rattle.vub_steps.specs.Tasks.{RequestStep, Look, Put, Act, Sync, Status, task_steps}
 use Rattle.vub_run.specs.TaskItems.{look_items, act_items}
 use Rattle.vub_run.specs.Turns.{turned, work_turn, request_turn, task_turn, phase_turn, phase_goes_on, under_way, begun, is_rest, row_items, step_stores, element_of, answer_at}
 use Rattle.vub_run_laws.proofs.RunNumbers.{missing-among, distinct_join, few_below}
@@ -53,7 +53,7 @@ act_shows : (h : Header1) (k : ℕ) (s : Scene) (o : Option SectorValue) → cou
 act_shows h k s None = refl
 act_shows h k s (Some x) = refl
 
-task_shows : (h : Header1) (s : Scene) (l : Lane) (k : ℕ) (r : Asked) (o : Option TaskStep) → count_in (after_items h (task_turn h 0 s l k r o).items s) ≡ count_in s
+task_shows : (h : Header1) (s : Scene) (l : Lane) (k : ℕ) (r : Asked) (o : Option RequestStep) → count_in (after_items h (task_turn h 0 s l k r o).items s) ≡ count_in s
 task_shows h s l k r None = refl
 task_shows h s l k r (Some (Look place)) = look_shows h k s (look_at r place)
 task_shows h s l k r (Some (Put place)) = refl

@@ -75,14 +75,14 @@ pub record TurnAt (h : Header1) (r : SplitRing) (m : Moment) (outstanding : Outs
   pub numbered : OutstandingAt h.size m.scene.past (m.scene.heads 0) outstanding
 
 -- the disk didn't fail
-abbrev pub IsServed : Stepped → Type 0
-IsServed (says.Faulted head) = ⊥
-IsServed x = ⊤
+abbrev pub NoDiskFault : Stepped → Type 0
+NoDiskFault (says.Faulted head) = ⊥
+NoDiskFault x = ⊤
 
 -- what a turn tells, which failed nowhere
 pub record DeviceDoes (t : Turn) (cap : ℕ) (sizes : ℕ → ℕ) (d now : Device) (x : Stepped) : Type 0 where
   pub fine : is_fault x ≡ false
-  pub served : IsServed x
+  pub served : NoDiskFault x
   pub does : Turns t (Some d.memory) x d.queue now.queue
   pub stores_are : DoesStore t (Some d.memory) (Some now.memory) x d.queue
   pub trails : DoesTrail t (Some d.stores) (Some now.stores) x d.queue

@@ -33,17 +33,17 @@ use Rattle.vub_queue_in_run.specs.QueueAt.{QueueStands, DiskAt}
 use Rattle.vub_queue.specs.QueueState.{QueueState, IsDue, IfStepped, WorksOut, due_store, sector_at, said, is_idle, is_fault, Rests}
 use Rattle.vub_run.specs.Run.{one_turn}
 use Rattle.vub_task.specs.TaskState.{Making, answer_in, answer_to, memory_after, values_after, with_maybe, head_in}
-use Rattle.vub_steps.specs.Tasks.{TaskStep, Look, Act}
+use Rattle.vub_steps.specs.Tasks.{RequestStep, Look, Act}
 use Rattle.vub_run.specs.Turns.{turned}
 use Rattle.vub_run_laws.proofs.RunFrames.{open_out}
 use Rattle.vub_run_laws.proofs.RunGood.{IsOut}
 use Rattle.vub_queue_in_run.proofs.WorkAt.{WorkReady, making, Kind, work_ready}
 use Rattle.vub_queue_in_run.proofs.WorkAtItems.{Shows, ShowsStore, work_items, work_memory, work_disk, work_kind}
 use Rattle.vub_queue_in_run.proofs.WorkAtStands.{work_stands}
-use Rattle.vub_world.proofs.MachineTurns.{TurnAt, DeviceDoes, IsServed, some_is, disk_same, start_made, fetch_made, publish_made, idle_made}
+use Rattle.vub_world.proofs.MachineTurns.{TurnAt, DeviceDoes, NoDiskFault, some_is, disk_same, start_made, fetch_made, publish_made, idle_made}
 
 -- what a call made that failed nowhere
-stepped_out : (x : Stepped) (P : Type 0) → is_fault x ≡ false → IsServed x → IfStepped x P → P
+stepped_out : (x : Stepped) (P : Type 0) → is_fault x ≡ false → NoDiskFault x → IfStepped x P → P
 stepped_out says.SharedFault P fine served p = absurd (let fails : true ≡ false = fine in cc)
 stepped_out (says.Faulted head) P fine served p = absurd served
 stepped_out says.Idle P fine served p = p
@@ -58,27 +58,27 @@ stepped_out says.Started P fine served p = p
 stepped_out (says.Broken fault) P fine served p = p
 
 -- what a step of work says fits: a look leaves the disk's values, and each sector is on the disk
-pub record SaysWell (cap : ℕ) (request : Asked) (step : TaskStep) (x : Stepped) : Type 0 where
+pub record SaysWell (cap : ℕ) (request : Asked) (step : RequestStep) (x : Stepped) : Type 0 where
   pub looks : (head sector : ℕ) (v : Values) → x ≡ says.Looked head sector → values_after request step v ≡ v
   pub sector : SectorFits cap x
 
-says_well : (h : Header1) (head made : ℕ) (request : Asked) (step : TaskStep) → Kind h request made step → SaysWell h.capacity request step (said head (answer_to h request step))
+says_well : (h : Header1) (head made : ℕ) (request : Asked) (step : RequestStep) → Kind h request made step → SaysWell h.capacity request step (said head (answer_to h request step))
 says_well h head made request step (inl x) =
-    subst (λ (s : TaskStep). SaysWell h.capacity request s (said head (answer_to h request s))) (sym x.next)
+    subst (λ (s : RequestStep). SaysWell h.capacity request s (said head (answer_to h request s))) (sym x.next)
     (subst (λ (o : Asked). SaysWell h.capacity o (Look x.place) (said head (answer_to h o (Look x.place)))) (sym x.is)
     (record { looks = λ d t v e. refl; sector = omega (arith, x.within, x.wide.fits) }))
 says_well h head made request step (inr (inl x)) =
-    subst (λ (s : TaskStep). SaysWell h.capacity request s (said head (answer_to h request s))) (sym x.next)
+    subst (λ (s : RequestStep). SaysWell h.capacity request s (said head (answer_to h request s))) (sym x.next)
     (record { looks = λ d t v e. refl; sector = tt })
 says_well h head made request step (inr (inr (inl x))) =
-    subst (λ (s : TaskStep). SaysWell h.capacity request s (said head (answer_to h request s))) (sym x.next)
+    subst (λ (s : RequestStep). SaysWell h.capacity request s (said head (answer_to h request s))) (sym x.next)
     (subst (λ (o : Asked). SaysWell h.capacity o (Act x.place) (said head (answer_to h o (Act x.place)))) (sym x.is)
     (record { looks = λ d t v e. absurd (let fails : says.Acted head (x.sector + x.place) ≡ says.Looked d t = e in cc); sector = omega (arith, x.within, x.wide.fits) }))
 says_well h head made request step (inr (inr (inr (inl x)))) =
-    subst (λ (s : TaskStep). SaysWell h.capacity request s (said head (answer_to h request s))) (sym x.next)
+    subst (λ (s : RequestStep). SaysWell h.capacity request s (said head (answer_to h request s))) (sym x.next)
     (record { looks = λ d t v e. refl; sector = tt })
 says_well h head made request step (inr (inr (inr (inr x)))) =
-    subst (λ (s : TaskStep). SaysWell h.capacity request s (said head (answer_to h request s))) (sym x.next)
+    subst (λ (s : RequestStep). SaysWell h.capacity request s (said head (answer_to h request s))) (sym x.next)
     (record { looks = λ d t v e. refl; sector = tt })
 
 -- what a turn of work notes

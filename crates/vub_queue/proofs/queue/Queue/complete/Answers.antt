@@ -2,9 +2,9 @@ use Rattle.std.proofs.Common.{◌≡◌, ◌≤◌, ℕ, List, [], ◌∷◌, �
 use Rattle.std.specs.Prelude.{remove}
 use Rattle.vub_queue.specs.declared.queue.Completed.{Completed}
 use Rattle.vub_task.specs.declared.task.Task.{Task}
-use Rattle.vub_queue.specs.QueueParts.{element}
+use Rattle.vub_queue.specs.QueueParts.{element, heads_below}
 use Rattle.vub_queue.specs.QueueState.{QueueState, state_of}
-use Rattle.vub_queue.proofs.QueueLemmas.{count_fits, completed_more, batch_still}
+use Rattle.vub_queue.proofs.QueueLemmas.{count_fits, completed_more, batch_still, below_more}
 use Rattle.vub_queue.proofs.queue.Queue.complete.Goals as goal
 
 pub push_reserved-requires : goal.push_reserved-requires
@@ -26,3 +26,8 @@ returns-clause-state c =
     ap (λ (ts : List Task). with_lists ts (map element (drop q.batch c.push_reserved.new.self.items)) (map element (take q.batch c.push_reserved.new.self.items))) c.remove.ensures.items
     ∙ ap (λ (ms : List (ℕ × ℕ)). with_lists (remove q.unfinished.items c.args.place) ms (map element (take q.batch c.push_reserved.new.self.items))) more
     ∙ ap (λ (bs : List (ℕ × ℕ)). with_lists (remove q.unfinished.items c.args.place) (map element (drop q.batch xs) ++ element x ∷ []) bs) still
+
+pub invariant_of-self-clause-in_table : goal.invariant_of-self-clause-in_table
+invariant_of-self-clause-in_table c =
+    let q = c.args.self.now in
+    ap (heads_below q.ring.size) c.push_reserved.ensures.items ∙ below_more q.ring.size q.completed.items (record { head = c.args.head; len = c.args.len }) q.in_table c.requires.fits

@@ -1,7 +1,8 @@
 use Rattle.std.proofs.Common.{◌≡◌, ◌≤◌, ℕ, ◌-◌, List, length, map, take, ap, ◌∙◌, arith, length-drop}
 use Rattle.std.proofs.lemmas.List.{with_items_is}
-use Rattle.vub_queue.specs.QueueParts.{element, without_heads, taken_count}
-use Rattle.vub_queue.proofs.QueueLemmas.{count_released, length_batch, length_without}
+use Rattle.vub_queue.specs.QueueParts.{element, without_heads, taken_count, heads_below}
+use Rattle.vub_queue.specs.declared.queue.Completed.{Completed}
+use Rattle.vub_queue.proofs.QueueLemmas.{count_released, length_batch, length_without, below_take, below_drop}
 use Rattle.vub_queue.proofs.queue.Queue.end_batch.Goals as goal
 
 pub invariant_of-self-clause-counted : goal.invariant_of-self-clause-counted
@@ -25,3 +26,17 @@ invariant_of-self-clause-heads c =
     let keeps : length c.release.new.taken ≡ q.taken.len = ap length c.release.ensures ∙ length_without xs c.deref_mut.result.now ∙ c.deref_mut.ensures.len in
     let still : length c.release.new.taken ≡ length q.taken.items = ap length c.release.ensures ∙ length_without xs c.deref_mut.result.now ∙ ap length c.deref_mut.ensures.value in
     ap length (with_items_is q.taken c.release.new.taken keeps) ∙ still ∙ q.heads
+
+pub release-requires : goal.release-requires
+release-requires c =
+    let q = c.args.self.now in
+    let n = c.from-count.result in
+    let size : length c.deref_mut.result.now ≡ q.ring.size = ap length c.deref_mut.ensures.value ∙ q.heads in
+    ap (λ (k : ℕ). heads_below k (take n c.deref.result.now)) size
+    ∙ ap (λ (xs : List Completed). heads_below q.ring.size (take n xs)) c.deref.ensures.value
+    ∙ below_take q.ring.size n q.completed.items q.in_table
+
+pub invariant_of-self-clause-in_table : goal.invariant_of-self-clause-in_table
+invariant_of-self-clause-in_table c =
+    let q = c.args.self.now in
+    ap (heads_below q.ring.size) c.drop_front.ensures.items ∙ below_drop q.ring.size c.from-count.result q.completed.items q.in_table

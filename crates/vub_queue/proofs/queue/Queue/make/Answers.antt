@@ -1,7 +1,9 @@
 use Rattle.std.proofs.Common.{ℕ, ◌≡◌, false, sym, ◌∙◌, subst}
+use Rattle.std.specs.Prelude.{Some, slice_get}
 use Rattle.vub_steps.specs.Readiness.{is_ready}
 use Rattle.vub_steps.specs.declared.readiness.Turn.TheVariants.{Work}
-use Rattle.vub_queue.specs.QueueState.{state_of, standing_at}
+use Rattle.vub_queue.specs.QueueState.{QueueState, state_of, standing_at, publishes, under_way, WorksTask}
+use Rattle.vub_queue.proofs.StableLemmas.{stable_started, stable_fetched, stable_published}
 use Rattle.vub_queue.proofs.queue.Queue.make.Goals as goal
 
 work_place : (a b : ℕ) → Work a ≡ Work b → a ≡ b
@@ -20,3 +22,23 @@ returns-in-Fetch-clause-lies g c = c.fetch.ensures.lies (g.M.Shared.sizes c.args
 
 pub returns-in-Publish-clause-lies : goal.returns-in-Publish-clause-lies
 returns-in-Publish-clause-lies g c = c.publish.ensures.lies (g.M.Shared.sizes c.args.mem.now) (g.D.Disk.capacity c.args.disk.now) c.requires.lies
+
+pub returns-in-Start-clause-stable : goal.returns-in-Start-clause-stable
+returns-in-Start-clause-stable g c = stable_started c.start.result (state_of c.args.self.now) (g.D.Disk.stable c.args.disk.now) (g.D.Disk.values c.args.disk.now) c.start.ensures.said
+
+pub returns-in-Fetch-clause-stable : goal.returns-in-Fetch-clause-stable
+returns-in-Fetch-clause-stable g c = stable_fetched (g.M.Shared.told c.args.mem.now) c.fetch.result (state_of c.args.self.now) (state_of c.fetch.new.self) (g.D.Disk.stable c.args.disk.now) (g.D.Disk.values c.args.disk.now) c.fetch.ensures.fetches
+
+pub returns-in-Publish-clause-stable : goal.returns-in-Publish-clause-stable
+returns-in-Publish-clause-stable g c =
+    let s : QueueState = state_of c.args.self.now in
+    let most = c.in-Publish.most in
+    stable_published (publishes most s) c.publish.result s (under_way most s) (state_of c.publish.new.self) (g.D.Disk.stable c.args.disk.now) (g.D.Disk.values c.args.disk.now) c.publish.ensures.publishes
+
+pub returns-in-Work-clause-task : goal.returns-in-Work-clause-task
+returns-in-Work-clause-task g c place task turn started at =
+    let s : QueueState = state_of c.args.self.now in
+    let same : place ≡ c.in-Work.place = work_place place c.in-Work.place (sym turn ∙ c.in-Work.is) in
+    let here : slice_get s.unfinished c.in-Work.place ≡ Some task = subst (λ (k : ℕ). slice_get s.unfinished k ≡ Some task) same at in
+    subst (λ (k : ℕ). WorksTask (g.M.Shared.sizes c.args.mem.now) (g.D.Disk.capacity c.args.disk.now) k task (g.M.Shared.told c.args.mem.now) (g.M.Shared.told c.work.new.mem) (g.M.Shared.trail c.args.mem.now) (g.M.Shared.trail c.work.new.mem) (g.D.Disk.values c.args.disk.now) (g.D.Disk.values c.work.new.disk) c.work.result s (state_of c.work.new.self)) (sym same)
+    (c.work.ensures.task task started here)

@@ -1,4 +1,5 @@
-use Rattle.vub_queue.specs.QueueState.{QueueState, state_of, WorksOut}
+use Rattle.vub_queue.specs.QueueState.{QueueState, state_of, WorksOut, WorksTask, is_fault}
+use Rattle.vub_queue.proofs.TaskLemmas.{task_halted}
 use Rattle.vub_queue.proofs.QueueLemmas.{runs_on, rests_on, stepped_map}
 use Rattle.vub_queue.proofs.LyingLemmas.{lies_with, lies_halted, owes_halted}
 use Rattle.vub_queue.proofs.queue.Queue.turn.Goals as goal
@@ -24,3 +25,8 @@ returns-clause-lies g c =
 
 pub returns-clause-failed : goal.returns-clause-failed
 returns-clause-failed g c = owes_halted c.step_of-stepped.result (state_of c.step_of-stepped.new.self) (state_of c.halt.new.self) c.step_of-stepped.ensures.failed c.halt.ensures.state
+
+pub returns-clause-task : goal.returns-clause-task
+returns-clause-task g c place task runs m told turn started at =
+    let out : QueueState → Type 0 = λ t. WorksTask (g.M.Shared.sizes c.args.mem.now) (g.D.Disk.capacity c.args.disk.now) place task (g.M.Shared.told c.args.mem.now) (g.M.Shared.told c.step_of-stepped.new.mem) (g.M.Shared.trail c.args.mem.now) (g.M.Shared.trail c.step_of-stepped.new.mem) (g.D.Disk.values c.args.disk.now) (g.D.Disk.values c.step_of-stepped.new.disk) c.step_of-stepped.result (state_of c.args.self.now) t in
+    task_halted (is_fault c.step_of-stepped.result) c.step_of-stepped.result (state_of c.step_of-stepped.new.self) (state_of c.halt.new.self) out c.halt.ensures.state (c.step_of-stepped.ensures.task place task m told turn started at)

@@ -1,11 +1,12 @@
 use Rattle.std.proofs.Common.{ℕ, ◌≡◌, refl, sym, ◌∙◌, ap, subst}
-use Rattle.std.specs.Prelude.{Some}
+use Rattle.std.specs.Prelude.{Some, slice_get}
 use Rattle.vub_queue.specs.declared.queue.Stepped.{Stepped}
 use Rattle.vub_task.specs.declared.task.TaskStep as made
 use Rattle.vub_task.specs.TaskState.{IfMade}
-use Rattle.vub_queue.specs.QueueState.{QueueState, state_of, said, concluded, Works, StepsAt, IsDue, IfStepped, StepsOut, WorksOut, Owes}
+use Rattle.vub_queue.specs.QueueState.{QueueState, state_of, said, concluded, Works, StepsAt, IsDue, IfStepped, StepsOut, WorksOut, WorksTask, Owes, StableAfter}
 use Rattle.vub_queue.proofs.QueueLemmas.{works_if, works_out, stepped_if}
 use Rattle.vub_queue.proofs.LyingLemmas.{owes_concluded}
+use Rattle.vub_queue.proofs.StableLemmas.{stable_said}
 use Rattle.vub_queue.proofs.queue.Queue.work.Goals as goal
 
 pub returns-clause-works : goal.returns-clause-works
@@ -46,3 +47,22 @@ pub returns-clause-failed : goal.returns-clause-failed
 returns-clause-failed g c =
     let t : QueueState = state_of c.conclude.new.self in
     subst (λ (x : Stepped). Owes x t) (sym c.conclude.ensures.says) (owes_concluded c.from-place.result c.step_at-head.result.0 c.step_at-head.result.1 (state_of c.step_at-head.new.self) t c.step_at-head.ensures.failed c.conclude.ensures.state)
+
+pub returns-clause-stable : goal.returns-clause-stable
+returns-clause-stable g c =
+    let stable = g.D.Disk.stable c.args.disk.now in
+    let values = g.D.Disk.values c.step_at-head.new.disk in
+    let after = g.D.Disk.stable c.step_at-head.new.disk in
+    subst (λ (x : Stepped). StableAfter x stable values after) (sym c.conclude.ensures.says) (stable_said c.step_at-head.result.0 c.step_at-head.result.1 stable values after c.step_at-head.ensures.stable)
+
+pub returns-clause-task : goal.returns-clause-task
+returns-clause-task g c task started is =
+    let s : QueueState = state_of c.args.self.now in
+    let u : QueueState = state_of c.step_at-head.new.self in
+    let p : ℕ = c.from-place.result in
+    let head : ℕ = c.step_at-head.result.0 in
+    let step : made.TaskStep = c.step_at-head.result.1 in
+    let at : slice_get s.unfinished p ≡ Some task = subst (λ (k : ℕ). slice_get s.unfinished k ≡ Some task) (sym c.from-place.ensures) is in
+    let works : ℕ → Type 0 = λ k. WorksTask (g.M.Shared.sizes c.args.mem.now) (g.D.Disk.capacity c.args.disk.now) k task (g.M.Shared.told c.args.mem.now) (g.M.Shared.told c.step_at-head.new.mem) (g.M.Shared.trail c.args.mem.now) (g.M.Shared.trail c.step_at-head.new.mem) (g.D.Disk.values c.args.disk.now) (g.D.Disk.values c.step_at-head.new.disk) c.conclude.result s (state_of c.conclude.new.self) in
+    let made_there : works p = record { head = head; step = step; stepped = u; steps = c.step_at-head.ensures.task task at; says = c.conclude.ensures.says; state = c.conclude.ensures.state } in
+    subst works c.from-place.ensures made_there

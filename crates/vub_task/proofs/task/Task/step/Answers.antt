@@ -1,10 +1,12 @@
-use Rattle.std.proofs.Common.{ℕ, ◌≡◌, ◌∙◌, sym, ap, subst}
+use Rattle.std.proofs.Common.{ℕ, List, ◌≡◌, ◌∙◌, sym, ap, subst}
 use Rattle.vub_direct_chain.specs.ChainState.{BreaksRule}
 use Rattle.vub_direct_chain.specs.declared.chain.Unread.{Unread}
-use Rattle.std.specs.Prelude.{Ok, Some, option_map}
+use Rattle.std.specs.Prelude.{Ok, Option, Some, option_map}
 use Rattle.vub_direct_chain.proofs.ChainReading.{reads_broken}
 use Rattle.vub_task.proofs.ArmLemmas.{made_map, next_still, next_with, begins_by}
-use Rattle.vub_task.specs.TaskState.{IfMade, store_in, with_maybe, Starts}
+use Rattle.vub_shared.specs.Bytes.{Bytes}
+use Rattle.vub_shared.specs.Stores.{Store}
+use Rattle.vub_task.specs.TaskState.{IfMade, store_in, with_maybe, Starts, Worked}
 use Rattle.vub_task.proofs.task.Task.step.Goals as goal
 
 pub returns-in-Ok-clause-answer : goal.returns-in-Ok-clause-answer
@@ -87,7 +89,16 @@ returns-in-Ok-clause-begins g c fresh m told =
     let sizes = g.M.Shared.sizes c.args.mem.now in
     let starts = c.in-Ok.ensures.starts fresh m told in
     let here : Starts sizes c.args.ring.now m c.args.self.now.head (g.D.Disk.capacity c.args.disk.now) (Ok c.in-Ok.work) = subst (λ (k : ℕ). Starts sizes c.args.ring.now m c.args.self.now.head k (Ok c.in-Ok.work)) c.capacity.ensures starts in
-    begins_by sizes c.args.ring.now m c.args.self.now.head (g.D.Disk.capacity c.args.disk.now) c.go_on.result c.go_on.new.self.work c.in-Ok.work here c.go_on.ensures.worked.makes
+    let sector = c.args.sector.now in
+    let after = c.go_on.new.sector in
+    let told_now = g.M.Shared.told c.go_on.new.mem in
+    let trail_now = g.M.Shared.trail c.go_on.new.mem in
+    let v = g.D.Disk.values c.args.disk.now in
+    let v_now = g.D.Disk.values c.go_on.new.disk in
+    let known : g.M.Shared.told c.prepare.new.mem ≡ Some m = c.prepare.ensures.only_loads.same_told ∙ told in
+    let by : Option Bytes → Option (List Store) → Type 0 = λ x y. Worked c.in-Ok.work sector after c.go_on.result c.go_on.new.self.work x told_now y trail_now v v_now in
+    let worked = subst (by (Some m)) c.prepare.ensures.only_loads.same_trail (subst (λ (x : Option Bytes). by x (g.M.Shared.trail c.prepare.new.mem)) known c.go_on.ensures.worked) in
+    begins_by sizes c.args.ring.now m c.args.self.now.head (g.D.Disk.capacity c.args.disk.now) sector after c.go_on.result c.go_on.new.self.work c.in-Ok.work told_now (g.M.Shared.trail c.args.mem.now) trail_now v v_now here worked
 
 pub returns-in-Err-Broken-clause-begins : goal.returns-in-Err-Broken-clause-begins
 returns-in-Err-Broken-clause-begins g c fresh m told =
