@@ -2,7 +2,7 @@
 use Rattle.std.proofs.Common.{◌≡◌, ◌<◌, ◌≤◌, ℕ, zero, suc, ◌+◌, ◌*◌, ◌%◌, Bool, true, false, List, [], ◌∷◌, ◌++◌, length, get_or, map, take, drop, min, inr, refl, ap, sym, ◌∙◌, subst, arith}
 use native.Mathlib.Numerals.{unary_clauses}
 use Rattle.std.proofs.lemmas.Bool.Decides.{nat_tests}
-use Rattle.std.proofs.lemmas.List.{take-map, drop-map, take_min, length-map, length-take-le, length-set, set_past, drop-append-le, take-append-le, map-append}
+use Rattle.std.proofs.lemmas.List.{take-map, drop-map, take_min, length-map, length-take-le, length-set, drop-append-le, take-append-le, map-append}
 use Rattle.std.proofs.lemmas.Option.{slice_get-get_or, slice_get-map}
 use Rattle.std.specs.Prelude.{remove, ◌&&◌, ◌||◌, not, if◌then◌else◌, nat_le, nat_lt, set, slice_get, option_map, Option, Some, None, Result, Ok, Err}
 use Rattle.byteorder.specs.Endian.{little_bytes}
@@ -236,15 +236,15 @@ no_store o next is none some =
 -- ---- rows
 
 pub row_of_id : (s : QueueState) (e : ℕ) (x : ℕ × ℕ) → next_step (length s.batch) s.phase ≡ Some (Id e) → slice_get s.batch e ≡ Some x
-    → next_row s ≡ Some (row (used_side s.ring) SP1 (used_id_place (used_side s.ring) (s.used + e)) (little_bytes 4 x.0))
-row_of_id s e x next got = ap (row_at s) next ∙ ap (option_map (λ (y : ℕ × ℕ). row (used_side s.ring) SP1 (used_id_place (used_side s.ring) (s.used + e)) (little_bytes 4 y.0))) got
+    → next_row s ≡ Some (row (used_side s.ring) SP1 (used_id_place (used_side s.ring) (s.next_used + e)) (little_bytes 4 x.0))
+row_of_id s e x next got = ap (row_at s) next ∙ ap (option_map (λ (y : ℕ × ℕ). row (used_side s.ring) SP1 (used_id_place (used_side s.ring) (s.next_used + e)) (little_bytes 4 y.0))) got
 
 pub row_of_len : (s : QueueState) (e : ℕ) (x : ℕ × ℕ) → next_step (length s.batch) s.phase ≡ Some (Len e) → slice_get s.batch e ≡ Some x
-    → next_row s ≡ Some (row (used_side s.ring) SP2 (used_len_place (used_side s.ring) (s.used + e)) (little_bytes 4 x.1))
-row_of_len s e x next got = ap (row_at s) next ∙ ap (option_map (λ (y : ℕ × ℕ). row (used_side s.ring) SP2 (used_len_place (used_side s.ring) (s.used + e)) (little_bytes 4 y.1))) got
+    → next_row s ≡ Some (row (used_side s.ring) SP2 (used_len_place (used_side s.ring) (s.next_used + e)) (little_bytes 4 x.1))
+row_of_len s e x next got = ap (row_at s) next ∙ ap (option_map (λ (y : ℕ × ℕ). row (used_side s.ring) SP2 (used_len_place (used_side s.ring) (s.next_used + e)) (little_bytes 4 y.1))) got
 
 pub row_of_index : (s : QueueState) → next_step (length s.batch) s.phase ≡ Some Index
-    → next_row s ≡ Some (row (used_side s.ring) SP5 (used_idx_place (used_side s.ring)) (little_bytes 2 ((s.used + length s.batch) % 65536)))
+    → next_row s ≡ Some (row (used_side s.ring) SP5 (used_idx_place (used_side s.ring)) (little_bytes 2 ((s.next_used + length s.batch) % 65536)))
 row_of_index s next = ap (row_at s) next
 
 -- a store that failed, and one that succeeded

@@ -11,7 +11,6 @@ use Rattle.vub_queue.specs.declared.queue.Stepped.{Stepped}
 use Rattle.vub_queue.specs.declared.queue.Stepped.TheVariants as says
 use Rattle.vub_queue.specs.QueueState.{QueueState, StableAfter, Fetches, Publishes, Moves, said, started_from, next_row}
 
-
 stable_started_by : (started : Bool) (stable values : Option Values) → StableAfter (if started then says.Idle else says.Started) stable values stable
 stable_started_by true stable values = refl
 stable_started_by false stable values = refl

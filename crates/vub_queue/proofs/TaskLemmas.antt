@@ -11,7 +11,7 @@ use Rattle.vub_task.specs.declared.task.Work.TheVariants as work
 use Rattle.vub_task.specs.declared.task.TaskStep as made
 use Rattle.vub_task.specs.TaskState.{Begins, Worked, OwesFailure, IfFaulted, is_begun, head_in}
 use Rattle.vub_queue.specs.declared.queue.Stepped.{Stepped}
-use Rattle.vub_queue.specs.QueueState.{QueueState, StepsTask, WorksTask, sector_at, worked, said, concluded, is_fault, Unless, halted}
+use Rattle.vub_queue.specs.QueueState.{QueueState, StepsTask, WorksTask, sector_at, worked, Unless, halted}
 
 pub steps_task : (sizes : ℕ → ℕ) (capacity place head : ℕ) (now task next : Task) (step : made.TaskStep) (held after : List ℕ) (told told_after : Option Bytes) (trail trail_after : Option (List Store)) (v v_after : Option Values) (s t : QueueState)
     → now ≡ task → head ≡ head_in now → head_in next ≡ head_in now → held ≡ sector_at s (head_in now) → t ≡ worked place next after s

@@ -40,9 +40,9 @@ pub record QueueState : Type 0 where
   pub started : Bool
   pub stopped : Option Stop
   -- the index of the avail entry that is fetched next
-  pub avail : ℕ
+  pub next_avail : ℕ
   -- used.idx as it stands in the ring
-  pub used : ℕ
+  pub next_used : ℕ
   -- the requests that aren't completed, in the order in which they were accepted
   pub unfinished : List Task
   -- head and used length of those that are completed and in no batch, in the order in which they were completed
@@ -60,8 +60,8 @@ state_of q = record {
   ring = q.ring;
   started = q.started;
   stopped = q.stopped;
-  avail = q.avail;
-  used = q.used;
+  next_avail = q.next_avail;
+  next_used = q.next_used;
   unfinished = q.unfinished.items;
   completed = map element (drop q.batch q.completed.items);
   batch = map element (take q.batch q.completed.items);
@@ -76,8 +76,8 @@ new_state ring base sectors = record {
   ring = ring;
   started = false;
   stopped = None;
-  avail = base;
-  used = base;
+  next_avail = base;
+  next_used = base;
   unfinished = [];
   completed = [];
   batch = [];
@@ -114,7 +114,7 @@ KeepsLying s t = (sizes : ℕ → ℕ) (capacity : ℕ) → QueueLies sizes capa
 
 -- how many requests wait in the avail ring
 abbrev pub waiting : QueueState → Bytes → ℕ
-waiting s m = ahead (avail_idx_word s.ring m) s.avail
+waiting s m = ahead (avail_idx_word s.ring m) s.next_avail
 
 -- what its readiness depends on, where so many requests wait
 abbrev pub standing_at : QueueState → ℕ → Standing
@@ -135,8 +135,8 @@ pub record SomeWait (s : QueueState) (m : Bytes) : Type 0 where
 -- the avail ring breaks this rule
 abbrev pub BreaksBy : QueueState → Bytes → RingFault → Type 0
 BreaksBy s m (faults.Jump ahead) = (ahead ≡ waiting s m) × (s.ring.size < ahead)
-BreaksBy s m (faults.BadHead head) = SomeWait s m × (head ≡ head_word s.ring m s.avail) × (s.ring.size ≤ head)
-BreaksBy s m (faults.Twice head) = SomeWait s m × (head ≡ head_word s.ring m s.avail) × (head < s.ring.size) × (is_taken s.taken head ≡ true)
+BreaksBy s m (faults.BadHead head) = SomeWait s m × (head ≡ head_word s.ring m s.next_avail) × (s.ring.size ≤ head)
+BreaksBy s m (faults.Twice head) = SomeWait s m × (head ≡ head_word s.ring m s.next_avail) × (head < s.ring.size) × (is_taken s.taken head ≡ true)
 BreaksBy s m fault = ⊥
 
 -- something waits, and the avail ring breaks a rule
@@ -146,7 +146,7 @@ Breaks s m fault = (1 ≤ waiting s m) × BreaksBy s m fault
 -- what stands at the avail index: no head, a head that is free, or a break of a rule
 abbrev pub Finds : QueueState → Bytes → Result (Option ℕ) Stop → Type 0
 Finds s m (Ok None) = waiting s m ≡ 0
-Finds s m (Ok (Some head)) = SomeWait s m × (head ≡ head_word s.ring m s.avail) × (head < s.ring.size) × (is_taken s.taken head ≡ false)
+Finds s m (Ok (Some head)) = SomeWait s m × (head ≡ head_word s.ring m s.next_avail) × (head < s.ring.size) × (is_taken s.taken head ≡ false)
 Finds s m (Err (stops.Broken fault)) = Breaks s m fault
 Finds s m (Err stops.Shared) = ⊤
 
@@ -161,7 +161,7 @@ found_outcome x = Ok tt
 
 -- the request of a head is accepted
 abbrev pub accepted : ℕ → QueueState → QueueState
-accepted head s = record s { unfinished = s.unfinished ++ fresh_task head ∷ []; avail = (s.avail + 1) % 65536; taken = set s.taken head true }
+accepted head s = record s { unfinished = s.unfinished ++ fresh_task head ∷ []; next_avail = (s.next_avail + 1) % 65536; taken = set s.taken head true }
 
 -- it isn't started, or publishes: no fetch is ready
 abbrev pub may_fetch : QueueState → Bool
@@ -187,7 +187,7 @@ under_way most s = if is_publication s.phase then s else begun most s
 
 abbrev pub row_at : QueueState → Option Step → Option Row
 row_at s None = None
-row_at s (Some step) = row_of (used_side s.ring) s.used s.batch step
+row_at s (Some step) = row_of (used_side s.ring) s.next_used s.batch step
 
 -- the row of the next step of the publication
 abbrev pub next_row : QueueState → Option Row
@@ -195,7 +195,7 @@ next_row s = row_at s (next_step (length s.batch) s.phase)
 
 -- after the last step the batch is shown, and its heads are free
 abbrev pub with_phase : Phase → QueueState → QueueState
-with_phase phases.Rest s = record s { phase = phases.Rest; used = (s.used + length s.batch) % 65536; batch = []; taken = without_heads s.batch s.taken }
+with_phase phases.Rest s = record s { phase = phases.Rest; next_used = (s.next_used + length s.batch) % 65536; batch = []; taken = without_heads s.batch s.taken }
 with_phase p s = record s { phase = p }
 
 -- the queue after the next step of its publication

@@ -65,9 +65,9 @@ pub struct Queue {
     started: bool,
     stopped: Option<Stop>,
     // The index of the avail entry that is fetched next.
-    avail: u16,
+    next_avail: u16,
     // used.idx as it stands in the ring.
-    used: u16,
+    next_used: u16,
     // In the order in which they were accepted.
     unfinished: Vec<Task>,
     // In the order in which they were completed.
@@ -168,8 +168,8 @@ impl Queue {
             ring: setup.ring,
             started: false,
             stopped: None,
-            avail: setup.base,
-            used: setup.base,
+            next_avail: setup.base,
+            next_used: setup.base,
             unfinished: Vec::with_capacity(alloc, size).map_err(|_| Memory)?,
             completed: Vec::with_capacity(alloc, size).map_err(|_| Memory)?,
             batch: 0,
@@ -260,7 +260,7 @@ impl Queue {
         ensures cause { HasCause (M.faults mem.old) (M.faults mem.new) result }
     {
         let index = self.ring.avail_idx(mem)?;
-        Ok(index.wrapping_sub(self.avail))
+        Ok(index.wrapping_sub(self.next_avail))
     }
 
     /// The head that waits at the avail position, if one does.
@@ -282,7 +282,7 @@ impl Queue {
         if waiting > self.ring.size {
             return Err(Stop::Broken(RingFault::Jump(waiting)));
         }
-        let Ok(head) = self.ring.head_at(mem, self.avail) else {
+        let Ok(head) = self.ring.head_at(mem, self.next_avail) else {
             return Err(Stop::Shared);
         };
         if head >= self.ring.size {
@@ -303,7 +303,7 @@ impl Queue {
     {
         self.unfinished.push_reserved(Task::new(head));
         set_taken(&mut self.taken, head, true);
-        self.avail = self.avail.wrapping_add(1);
+        self.next_avail = self.next_avail.wrapping_add(1);
     }
 
     fn fetch<M: Shared>(&mut self, mem: &mut M) -> Stepped
@@ -449,7 +449,7 @@ impl Queue {
         ensures state { state_of self.new ≡ with_phase Rest (state_of self.old) }
     {
         let count = usize::from(self.batch);
-        self.used = self.used.wrapping_add(self.batch);
+        self.next_used = self.next_used.wrapping_add(self.batch);
         release(&mut self.taken, &self.completed[..count]);
         drop_front(&mut self.completed, count);
         self.batch = 0;
@@ -477,7 +477,7 @@ impl Queue {
         ensures no_disk { disk_outcome result ≡ Ok tt }
     {
         let completed = self.batch_element(element);
-        let index = self.used.wrapping_add(element as u16);
+        let index = self.next_used.wrapping_add(element as u16);
         let id = u32::from(completed.head);
         match self.ring.write_used_id(mem, index, id) {
             Ok(()) => {
@@ -498,7 +498,7 @@ impl Queue {
         ensures no_disk { disk_outcome result ≡ Ok tt }
     {
         let completed = self.batch_element(element);
-        let index = self.used.wrapping_add(element as u16);
+        let index = self.next_used.wrapping_add(element as u16);
         match self.ring.write_used_len(mem, index, completed.len) {
             Ok(()) => {
                 self.advance();
@@ -517,7 +517,7 @@ impl Queue {
         ensures cause { HasCause (M.faults mem.old) (M.faults mem.new) (outcome result) }
         ensures no_disk { disk_outcome result ≡ Ok tt }
     {
-        let index = self.used.wrapping_add(self.batch);
+        let index = self.next_used.wrapping_add(self.batch);
         match self.ring.publish_idx(mem, index) {
             Ok(()) => {
                 self.end_batch();

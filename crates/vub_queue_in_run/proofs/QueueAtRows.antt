@@ -65,8 +65,8 @@ rows_same : (h : Header1) (r : SplitRing) (s : Scene) (l : Lane) (done : ℕ) (u
 rows_same h r s l done u None g = refl
 rows_same h r s l done u (Some step) g =
     let side : used_side u.ring ≡ the_ring h.size = ap used_side g.stands.ring ∙ side_is r h.size g.main in
-    let used : u.used ≡ used_idx (the_ring h.size) s.memory = g.stands.used ∙ sym g.under.holds.ringed.used_idx_is in
-    ap (λ (x : Ring). row_of x u.used u.batch step) side
+    let used : u.next_used ≡ used_idx (the_ring h.size) s.memory = g.stands.used ∙ sym g.under.holds.ringed.used_idx_is in
+    ap (λ (x : Ring). row_of x u.next_used u.batch step) side
     ∙ ap (λ (n : ℕ). row_of (the_ring h.size) n u.batch step) used
     ∙ ap (λ (xs : List (ℕ × ℕ)). row_of (the_ring h.size) (used_idx (the_ring h.size) s.memory) xs step) g.stands.batch
 

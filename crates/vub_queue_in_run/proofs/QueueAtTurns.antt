@@ -52,7 +52,7 @@ waiting_is h r m q main z =
     let position : ℕ = h.base + accepted m.scene.past 0 in
     let word_is : avail_idx_word q.ring m.scene.memory ≡ avail_idx (the_ring h.size) m.scene.memory = ap (λ (x : SplitRing). avail_idx_word x m.scene.memory) z.ring ∙ avail_word r h.size m.scene.memory main in
     let wraps : position % 65536 % 65536 ≡ position % 65536 = omega arith in
-    let from : q.avail % 65536 ≡ position % 65536 = ap (λ (a : ℕ). a % 65536) z.avail ∙ wraps in
+    let from : q.next_avail % 65536 ≡ position % 65536 = ap (λ (a : ℕ). a % 65536) z.avail ∙ wraps in
     omega (arith, word_is, from)
 
 pub standings : (h : Header1) (r : SplitRing) (m : Moment) (q : QueueState) → IsMainRing r h.size → QueueStands h r m q
@@ -125,15 +125,15 @@ start_stands h r m told x q q' plain good main z ready fine made =
 
 -- the head that waits is that of the next request
 head_is : (h : Header1) (r : SplitRing) (m : Moment) (q : QueueState) → IsMainRing r h.size → QueueStands h r m q → Holds h m.scene (m.lanes 0) → accepted m.scene.past 0 < length (m.scene.heads 0)
-    → head_word q.ring m.scene.memory q.avail ≡ slice_index (m.scene.heads 0) (accepted m.scene.past 0)
+    → head_word q.ring m.scene.memory q.next_avail ≡ slice_index (m.scene.heads 0) (accepted m.scene.past 0)
 head_is h r m q main z holds more =
     let mem : Bytes = m.scene.memory in
     let a : ℕ = accepted m.scene.past 0 in
     let index : ℕ = (h.base + a) % 65536 in
-    let place : q.avail % r.size ≡ index % h.size = ap (λ (i : ℕ). i % r.size) z.avail ∙ ap (λ (n : ℕ). index % n) main.size in
-    ap (λ (x : SplitRing). head_word x mem q.avail) z.ring
-    ∙ ap (λ (s : ℕ). word 2 mem s (r.avail.1 + (4 + 2 * (q.avail % r.size)))) main.avail_space
-    ∙ ap (λ (p : ℕ). word 2 mem 0 (p + (4 + 2 * (q.avail % r.size)))) main.avail
+    let place : q.next_avail % r.size ≡ index % h.size = ap (λ (i : ℕ). i % r.size) z.avail ∙ ap (λ (n : ℕ). index % n) main.size in
+    ap (λ (x : SplitRing). head_word x mem q.next_avail) z.ring
+    ∙ ap (λ (s : ℕ). word 2 mem s (r.avail.1 + (4 + 2 * (q.next_avail % r.size)))) main.avail_space
+    ∙ ap (λ (p : ℕ). word 2 mem 0 (p + (4 + 2 * (q.next_avail % r.size)))) main.avail
     ∙ ap (λ (e : ℕ). word 2 mem 0 (4096 + (4 + 2 * e))) place
     ∙ holds.ringed.avail_at a (omega arith) more
 

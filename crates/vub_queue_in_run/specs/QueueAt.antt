@@ -34,8 +34,8 @@ pub record QueueAt (h : Header1) (r : SplitRing) (past : List Entry) (heads : Li
   pub ring : q.ring ≡ r
   pub runs : q.stopped ≡ None
   pub started : q.started ≡ started past 0
-  pub avail : q.avail ≡ (h.base + accepted past 0) % 65536
-  pub used : q.used ≡ (h.base + length (published past 0)) % 65536
+  pub avail : q.next_avail ≡ (h.base + accepted past 0) % 65536
+  pub used : q.next_used ≡ (h.base + length (published past 0)) % 65536
   pub phase : q.phase ≡ at_phase
   pub batch : q.batch ≡ map (spot_of h past heads) in_batch
   pub completed : q.completed ≡ map (spot_of h past heads) ready

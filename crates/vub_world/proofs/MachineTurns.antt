@@ -195,7 +195,7 @@ few_row u (Some steps.Accept) y is = absurd (let fails : None ≡ Some y = is in
 few_row u (Some (steps.Id e)) y is = few_get (slice_get u.batch e) _ y (λ z. omega (arith, length_little 4 z.0)) is
 few_row u (Some (steps.Len e)) y is = few_get (slice_get u.batch e) _ y (λ z. omega (arith, length_little 4 z.1)) is
 few_row u (Some steps.Index) y is =
-    let last : ℕ = (u.used + length u.batch) % 65536 in
+    let last : ℕ = (u.next_used + length u.batch) % 65536 in
     subst (λ (x : Row). length x.store.bytes ≤ 512) (some_is (row (used_side u.ring) SP5 (used_idx_place (used_side u.ring)) (little_bytes 2 last)) y is) (omega (arith, length_little 2 last))
 
 row_in : (b : Bool) (u : QueueState) (y : Row) → row_if b u ≡ Some y → next_row u ≡ Some y
@@ -269,7 +269,7 @@ index_place q most y next is lies =
     let goes : is_publication q.phase ≡ true = shows_goes q.phase (length q.batch) next in
     let same : states.under_way most q ≡ q = goes_under_way q most goes in
     let found : next_row q ≡ Some y = subst (λ (u : QueueState). next_row u ≡ Some y) same (row_in (publishes most q) (states.under_way most q) y is) in
-    let last : ℕ = (q.used + length q.batch) % 65536 in
+    let last : ℕ = (q.next_used + length q.batch) % 65536 in
     let z : Row = row (used_side q.ring) SP5 (used_idx_place (used_side q.ring)) (little_bytes 2 last) in
     let same_row : z ≡ y = some_is z y (sym (ap (row_at q) next) ∙ found) in
     subst (λ (x : Row). x.store.place + length x.store.bytes ≤ 65536) same_row (omega (arith, lies, length_little 2 last))

@@ -16,7 +16,7 @@ use Rattle.vub_queue.proofs.queue.Queue.show.Goals as goal
 
 -- the row of the step
 abbrev row_here : Queue → Row
-row_here q = row (used_side q.ring) SP5 (used_idx_place (used_side q.ring)) (little_bytes 2 ((q.used + q.batch) % 65536))
+row_here q = row (used_side q.ring) SP5 (used_idx_place (used_side q.ring)) (little_bytes 2 ((q.next_used + q.batch) % 65536))
 
 count_is : (q : Queue) → length (state_of q).batch ≡ q.batch
 count_is q =
@@ -26,7 +26,7 @@ count_is q =
 row_is : (q : Queue) → next_step q.batch q.phase ≡ Some Index → next_row (state_of q) ≡ Some (row_here q)
 row_is q next =
     row_of_index (state_of q) (ap (λ k. next_step k q.phase) (count_is q) ∙ next)
-    ∙ ap (λ n. Some (row (used_side q.ring) SP5 (used_idx_place (used_side q.ring)) (little_bytes 2 ((q.used + n) % 65536)))) (count_is q)
+    ∙ ap (λ n. Some (row (used_side q.ring) SP5 (used_idx_place (used_side q.ring)) (little_bytes 2 ((q.next_used + n) % 65536)))) (count_is q)
 
 moved_is : (q : Queue) → next_step q.batch q.phase ≡ Some Index → with_phase Rest (state_of q) ≡ moved (state_of q)
 moved_is q next =

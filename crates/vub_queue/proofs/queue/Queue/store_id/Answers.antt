@@ -17,7 +17,7 @@ use Rattle.vub_queue.proofs.queue.Queue.store_id.Goals as goal
 
 -- the row of the step
 abbrev row_here : Queue → ℕ → ℕ → Row
-row_here q e id = row (used_side q.ring) SP1 (used_id_place (used_side q.ring) (q.used + e)) (little_bytes 4 id)
+row_here q e id = row (used_side q.ring) SP1 (used_id_place (used_side q.ring) (q.next_used + e)) (little_bytes 4 id)
 
 row_is : (q : Queue) (e : ℕ) (x : Completed) (id : ℕ) → id ≡ x.head → next_step q.batch q.phase ≡ Some (Id e) → slice_get (state_of q).batch e ≡ Some (element x) → next_row (state_of q) ≡ Some (row_here q e id)
 row_is q e x id same next got =

@@ -17,7 +17,7 @@ use Rattle.vub_queue.proofs.queue.Queue.store_len.Goals as goal
 
 -- the row of the step
 abbrev row_here : Queue → ℕ → Completed → Row
-row_here q e x = row (used_side q.ring) SP2 (used_len_place (used_side q.ring) (q.used + e)) (little_bytes 4 (element x).1)
+row_here q e x = row (used_side q.ring) SP2 (used_len_place (used_side q.ring) (q.next_used + e)) (little_bytes 4 (element x).1)
 
 row_is : (q : Queue) (e : ℕ) (x : Completed) → next_step q.batch q.phase ≡ Some (Len e) → slice_get (state_of q).batch e ≡ Some (element x) → next_row (state_of q) ≡ Some (row_here q e x)
 row_is q e x next got =
