@@ -8,3 +8,4 @@ pub mod FindLemmas
 pub mod LieLemmas
 pub mod HeldLemmas
 pub mod KeepLemmas
+pub mod NameLemmas
