@@ -1,6 +1,6 @@
-ghost use Rattle.std.specs.Prelude.{◌≡◌, ◌≤◌, ◌<◌, ◌↔◌, ℕ, List, true, length, drop, Some, None, Ok, Err, IsSome, IfErr, IfOk, IfSome, OnErr, OnOk, OnSome};
+ghost use Rattle.std.specs.Prelude.{◌≡◌, ◌≢◌, ◌≤◌, ◌<◌, ◌↔◌, ℕ, List, true, length, drop, Some, None, Ok, Err, IsSome, IfErr, IfOk, IfSome, OnErr, OnOk, OnSome};
 ghost use Rattle.vub_base.specs.Causes.{Rose};
-ghost use Rattle.vub_session.specs.Finds.{AreAnswered, BellIs, HasFindReason, OnlyFinds};
+ghost use Rattle.vub_session.specs.Finds.{AreAnswered, BellIs, BellMayBe, HasFindReason, OnlyFinds};
 ghost use Rattle.vub_session.specs.declared.finding.Found.{Found};
 ghost use Rattle.vub_session.specs.declared.handled.Handled.TheVariants.{Drain};
 ghost use Rattle.vub_session.specs.declared.handled.SessionFault.TheVariants as faults;
@@ -54,7 +54,9 @@ impl State {
         requires few { self.now.config.queues ≤ MAX_QUEUES }
         requires names { table.names_taken self.now message.now ≤ length names.now }
         ensures attached { OnOk result (BellIs (table.bell_attached self.now message.now) (B.told bell.old) (B.told bell.new)) }
+        ensures failed { OnErr result (BellMayBe (table.bell_attached self.now message.now) (B.told bell.old) (B.told bell.new)) }
         ensures later { B.faults bell.old ≤ B.faults bell.new }
+        ensures quiet { OnOk result (B.faults bell.new ≡ B.faults bell.old) }
         ensures cause { IfErr result (λ e. (e ≡ faults.Bell) × Rose (B.faults bell.old) (B.faults bell.new)) }
     {
         let Some(queue) = self.bell_attached(message) else {
@@ -79,7 +81,9 @@ impl State {
         ensures answered { IfOk result (λ all. AreAnswered M.told M.trail M.names M.handed M.sizes mem.old mem.new (table.created self.now message.now) (table.looked_up message.now) names.now all.items) }
         ensures finds { OnErr result (OnlyFinds M.told M.trail M.names M.handed M.sizes mem.old mem.new) }
         ensures attached { OnOk result (BellIs (table.bell_attached self.now message.now) (B.told bell.old) (B.told bell.new)) }
-        ensures reason { HasFindReason (M.faults mem.old) (M.faults mem.new) (B.faults bell.old) (B.faults bell.new) (M.names mem.old) (table.names_taken self.now message.now) names.now result }
+        ensures bell_failed { IfErr result (λ e. e ≡ faults.Bell → BellMayBe (table.bell_attached self.now message.now) (B.told bell.old) (B.told bell.new)) }
+        ensures bell_kept { IfErr result (λ e. e ≢ faults.Bell → B.told bell.new ≡ B.told bell.old) }
+        ensures reason { HasFindReason (M.faults mem.old) (M.faults mem.new) (B.faults bell.old) (B.faults bell.new) (M.names mem.old) (table.names_taken self.now message.now) (table.looked_up message.now) names.now result }
     {
         if names.left() < self.names_taken(message) {
             return Err(SessionFault::NoName);
@@ -146,6 +150,7 @@ impl Session {
     ) -> Result<Handled, SessionFault>
         // A message that stops a queue waits until it is stopped.
         ensures drains { (queue : ℕ) → table.drained self.old message.now ≡ Some queue → (result ≡ Ok (Drain queue)) × (self.new ≡ self.old) }
+        ensures drains_only { (queue : ℕ) → result ≡ Ok (Drain queue) → table.drained self.old message.now ≡ Some queue }
         // Else the table says what is sent back, and the session after it.
         ensures answers { table.drained self.old message.now ≡ None → IfOk result (λ handled. (found : List Found) × AreAnswered M.told M.trail M.names M.handed M.sizes mem.old mem.new (table.created self.old message.now) (table.looked_up message.now) names.old found × ((self.new, handled) ≡ table.answered self.old header.now message.now found)) }
         ensures fault { OnErr result (self.new ≡ self.old) }
@@ -157,8 +162,11 @@ impl Session {
         ensures names { names.new ≡ drop (table.names_taken self.old message.now) names.old }
         ensures too_few { length names.old < table.names_taken self.old message.now → result ≡ Err faults.NoName }
         ensures finds { OnErr result (OnlyFinds M.told M.trail M.names M.handed M.sizes mem.old mem.new) }
+        // The queue is attached, or may be where the bell failed; any other fault leaves the bell.
         ensures bell { OnOk result (BellIs (table.bell_attached self.old message.now) (B.told bell.old) (B.told bell.new)) }
-        ensures reason { HasFindReason (M.faults mem.old) (M.faults mem.new) (B.faults bell.old) (B.faults bell.new) (M.names mem.old) (table.names_taken self.old message.now) names.old result }
+        ensures bell_failed { IfErr result (λ e. e ≡ faults.Bell → BellMayBe (table.bell_attached self.old message.now) (B.told bell.old) (B.told bell.new)) }
+        ensures bell_kept { IfErr result (λ e. e ≢ faults.Bell → B.told bell.new ≡ B.told bell.old) }
+        ensures reason { HasFindReason (M.faults mem.old) (M.faults mem.new) (B.faults bell.old) (B.faults bell.new) (M.names mem.old) (table.names_taken self.old message.now) (table.looked_up message.now) names.old result }
     {
         if let Some(queue) = self.state.drained(message) {
             return Ok(Handled::Drain(queue));
