@@ -9,3 +9,5 @@ pub mod LieLemmas
 pub mod HeldLemmas
 pub mod KeepLemmas
 pub mod NameLemmas
+pub mod BellLemmas
+pub mod DrainLemmas

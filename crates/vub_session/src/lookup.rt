@@ -129,11 +129,13 @@ impl State {
         ensures others_quiet { IfErr result (λ e. e ≢ faults.Shared → M.faults mem.new ≡ M.faults mem.old) }
         ensures no_name { IfErr result (λ e. e ≡ faults.NoName → Any (Lacks (M.names mem.old)) (take (looked_up message.now) names.now)) }
         ensures bell { IfErr result (λ e. e ≢ faults.Bell) }
+        ensures few { looked_up message.now ≤ length names.now }
         ensures nothing { created self.now message.now ≡ None → looked_up message.now ≡ 0 → IsOk result }
     {
+        let count = looked_up(message);
         match self.created(message) {
             Some(size) => create(mem, names, size),
-            None => find_all(mem, names, looked_up(message)),
+            None => find_all(mem, names, count),
         }
     }
 }

@@ -1,11 +1,11 @@
-ghost use Rattle.std.specs.Prelude.{◌≡◌, ◌≢◌, ◌≤◌, ◌<◌, ◌↔◌, ℕ, List, true, length, drop, Some, None, Ok, Err, IsSome, IfErr, IfOk, IfSome, OnErr, OnOk, OnSome};
+ghost use Rattle.std.specs.Prelude.{◌≡◌, ◌≢◌, ◌≤◌, ◌<◌, ◌↔◌, ◌⊎◌, ℕ, List, true, length, drop, Some, None, Ok, Err, IsSome, IfErr, IfOk, IfSome, OnErr, OnOk, OnSome};
 ghost use Rattle.vub_base.specs.Causes.{Rose};
 ghost use Rattle.vub_session.specs.Finds.{AreAnswered, BellIs, BellMayBe, HasFindReason, OnlyFinds};
 ghost use Rattle.vub_session.specs.declared.finding.Found.{Found};
 ghost use Rattle.vub_session.specs.declared.handled.Handled.TheVariants.{Drain};
 ghost use Rattle.vub_session.specs.declared.handled.SessionFault.TheVariants as faults;
 ghost use Rattle.vub_session.specs.Keeps.{KeepsAttached};
-ghost use Rattle.vub_session.specs.Lies.{AreSized};
+ghost use Rattle.vub_session.specs.Lies.{AreHeld, AreSized};
 ghost use Rattle.vub_session.specs.Sent.{IsSent};
 ghost use Rattle.vub_session.specs.Setup.{queue_ready, setup_of};
 ghost use Rattle.vub_setup.specs.Setups.{SetupLies};
@@ -57,6 +57,8 @@ impl State {
         ensures failed { OnErr result (BellMayBe (table.bell_attached self.now message.now) (B.told bell.old) (B.told bell.new)) }
         ensures later { B.faults bell.old ≤ B.faults bell.new }
         ensures quiet { OnOk result (B.faults bell.new ≡ B.faults bell.old) }
+        // A message that attaches a bell makes no space and looks nothing up.
+        ensures alone { (B.told bell.new ≡ B.told bell.old) ⊎ ((table.created self.now message.now ≡ None) × (table.looked_up message.now ≡ 0)) }
         ensures cause { IfErr result (λ e. (e ≡ faults.Bell) × Rose (B.faults bell.old) (B.faults bell.new)) }
     {
         let Some(queue) = self.bell_attached(message) else {
@@ -79,6 +81,7 @@ impl State {
         requires { self.now.config.queues ≤ MAX_QUEUES }
         ensures too_few { length names.now < table.names_taken self.now message.now → result ≡ Err faults.NoName }
         ensures answered { IfOk result (λ all. AreAnswered M.told M.trail M.names M.handed M.sizes mem.old mem.new (table.created self.now message.now) (table.looked_up message.now) names.now all.items) }
+        ensures few { OnOk result (table.looked_up message.now ≤ length names.now) }
         ensures finds { OnErr result (OnlyFinds M.told M.trail M.names M.handed M.sizes mem.old mem.new) }
         ensures attached { OnOk result (BellIs (table.bell_attached self.now message.now) (B.told bell.old) (B.told bell.new)) }
         ensures bell_failed { IfErr result (λ e. e ≡ faults.Bell → BellMayBe (table.bell_attached self.now message.now) (B.told bell.old) (B.told bell.new)) }
@@ -157,6 +160,8 @@ impl Session {
         ensures kind { IfOk result IsSent }
         // An attached ring stays attached, with its size, addresses and base, until it is stopped.
         ensures keeps { KeepsAttached self.old.terms self.new.terms }
+        // Each space that the session keeps is one that was handed out, with its size.
+        ensures held { AreHeld (M.handed mem.old) (M.sizes mem.old) self.old → AreHeld (M.handed mem.new) (M.sizes mem.new) self.new }
 
         // The names are taken, whatever comes of them.
         ensures names { names.new ≡ drop (table.names_taken self.old message.now) names.old }
