@@ -1,6 +1,6 @@
 -- The names that are left while one is lent.
-use Rattle.std.specs.Prelude.{◌≡◌, ⊤, ℕ, List, Option, drop}
-use Rattle.std.specs.Borrow.{follows_so, MutBor, Bor, Fml}
+use Rattle.std.specs.Prelude.{◌≡◌, ⊤, ℕ, List, drop}
+use Rattle.std.specs.Borrow.{follows_so, MutBor, Fml}
 use mathlib.Core.Option.{none}
 use Rattle.vub_session.specs.contracts.names.Names.{the_row}
 

@@ -142,7 +142,9 @@ impl Session {
     }
 
     /// Handles a message: takes its names, looks them up, and answers by the message table. A
-    /// GET_VRING_BASE of a queue that is attached is answered by `Drain` and changes nothing.
+    /// GET_VRING_BASE of a queue that is attached, and no other message, is answered by `Drain`; it
+    /// changes nothing. A fault raises the count of memory or of the bell that failed; any other
+    /// answer leaves both.
     pub fn answer<M: Shared, B: Bell>(
         &mut self,
         header: &Header,

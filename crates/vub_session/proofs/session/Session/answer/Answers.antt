@@ -1,4 +1,4 @@
-use Rattle.std.proofs.Common.{◌≡◌, List, sym, subst}
+use Rattle.std.proofs.Common.{List, sym, subst}
 use Rattle.vub_session.proofs.HeldLemmas.{answer_held}
 use Rattle.vub_session.specs.Lies.{AreHeld}
 use Rattle.vub_session.specs.Table.{answered, created, looked_up}
@@ -18,5 +18,5 @@ returns-clause-held g c = λ held.
     let N : State → Type 0 = λ x. AreHeld (m.handed now) (m.sizes now) x in
     let F : List Found → Type 0 = λ fs. N (answered s c.args.header.now message fs).0 in
     let kept : F found = answer_held m.told m.trail m.names m.handed m.sizes before now (created s message) (looked_up message) c.args.names.now s c.args.header.now message found
-      c.in_ok-found.ensures.few c.in_ok-found.ensures.answered (subst S (sym c.self.view_is) held) in
+    c.in_ok-found.ensures.few c.in_ok-found.ensures.answered (subst S (sym c.self.view_is) held) in
     subst N (sym c.answer.ensures.next) (subst F (sym c.deref.ensures.0) kept)
