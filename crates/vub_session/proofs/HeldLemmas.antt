@@ -1,8 +1,11 @@
 -- The spaces of a session stay those that were handed out.
-use Rattle.std.proofs.Common.{◌≡◌, ℕ, zero, suc, ◌<◌, ◌≤◌, Bool, true, false, List, [], ◌∷◌, length, Option, Some, None, refl, sym, ◌∙◌, ap, subst, arith}
+use Rattle.std.proofs.Common.{◌≡◌, ◌≢◌, ℕ, suc, ◌≤◌, Bool, true, false, List, [], ◌∷◌, length, Option, Some, None, refl, sym, ◌∙◌, ap, subst, arith}
 use Rattle.std.specs.Prelude.{◌==◌, ◌||◌, if◌then◌else◌, option_map, is_some}
-use Rattle.std.specs.Prelude.{All, slice_get, slice_index_or}
-use Rattle.vub_session.specs.Finds.{AreFound}
+use Rattle.std.specs.Prelude.{All, slice_index_or}
+use Rattle.std.proofs.lemmas.Bool.Decides.{nat_tests}
+use Rattle.std.proofs.lemmas.Option.{slice_get-get_or}
+use Rattle.vub_blkreq.specs.declared.config.DeviceConfig.{DeviceConfig}
+use Rattle.vub_session.specs.Finds.{AreAnswered, AreFound}
 use Rattle.std.proofs.lemmas.List.Elements.{All-nil, All-cons}
 use Rattle.std.specs.Option.{ForSome}
 use Rattle.vub_memtable.specs.Tables.{fault_of}
@@ -10,16 +13,18 @@ use Rattle.vub_memtable.specs.declared.region.Mapped.{Mapped}
 use Rattle.vub_memtable.specs.declared.region.Region.{Region}
 use Rattle.vub_session.specs.Lies.{AreHeld, AreSized, IsFoundHeld, IsMappedHeld, RegionHeld, RegionSized}
 use Rattle.vub_session.specs.Ready.{attach, bad_ring}
-use Rattle.vub_session.specs.State.{is_running, ring_of, with_ring}
+use Rattle.vub_session.specs.State.{is_running, new_state, new_terms, ring_at, ring_of, with_ring}
 use Rattle.vub_session.proofs.SoundLemmas.{set_region}
-use Rattle.vub_session.specs.Table.{Step, answered, base_reply, config_reply, inflight_reply, is_config_part, has_inflight_numbers, mapped, next_terms, ring_with_addresses, ring_with_base, ring_with_call, ring_with_enable, ring_with_kick, ring_with_size, settled, settled_over, step, table_set, unless_bad, with_addresses, with_base, with_base_reply, with_call, with_enable, with_err, with_features, with_found_region, with_kick, with_protocol, with_region, with_size}
+use Rattle.vub_session.specs.Table.{Step, answered, base_reply, config_reply, inflight_reply, is_config_part, has_inflight_numbers, mapped, next_terms, ring_with_addresses, ring_with_base, ring_with_call, ring_with_enable, ring_with_kick, ring_with_size, settled, settled_over, step, stopped, stopped_ring, table_set, unless_bad, with_addresses, with_base, with_base_reply, with_call, with_enable, with_err, with_features, with_found_region, with_kick, with_protocol, with_region, with_size}
 use Rattle.vub_session.specs.declared.finding.Found.{Found}
 use Rattle.vub_session.specs.declared.state.Addresses.{Addresses}
 use Rattle.vub_session.specs.declared.state.KeptRegion.{KeptRegion}
 use Rattle.vub_session.specs.declared.state.Ring.{Ring}
 use Rattle.vub_session.specs.declared.state.State.{State}
 use Rattle.vub_session.specs.declared.state.Terms.{Terms}
-use Rattle.vub_shared.specs.Spaces.{KeepsHanded, Names}
+use Rattle.vub_shared.specs.Bytes.{Bytes}
+use Rattle.vub_shared.specs.Spaces.{HandsNew, KeepsHanded, Names}
+use Rattle.vub_shared.specs.Stores.{Store}
 use Rattle.vub_wire.specs.declared.messages.Config.{Config}
 use Rattle.vub_wire.specs.declared.messages.Header.{Header}
 use Rattle.vub_wire.specs.declared.messages.Inflight.{Inflight}
@@ -205,17 +210,57 @@ held_sized h z s held = record { table = λ k d below. (held.table k d below).1;
 
 -- ---- what was found
 
-some_at : (names : List (List ℕ)) (k : ℕ) → k < length names → slice_get names k ≡ Some (slice_index_or names k [])
-some_at [] k below = absurd (omega arith)
-some_at (x ∷ xs) zero below = refl
-some_at (x ∷ xs) (suc k) below = some_at xs k (omega arith)
-
-found_at : (fs : List Found) (k : ℕ) (d : Found) → k < length fs → slice_get fs k ≡ Some (slice_index_or fs k d)
-found_at [] k d below = absurd (omega arith)
-found_at (x ∷ xs) zero d below = refl
-found_at (x ∷ xs) (suc k) d below = found_at xs k d (omega arith)
-
 pub found_held : (told : Option Names) (h : ℕ → Bool) (z : ℕ → ℕ) (names : List (List ℕ)) (fs : List Found) → AreFound told h z names fs → length fs ≤ length names → All (IsFoundHeld h z) fs
 found_held told h z names fs found few = λ k d below.
-    let one = found k (slice_index_or names k []) (slice_index_or fs k d) (some_at names k (omega arith)) (found_at fs k d below) in
+    let one = found k (slice_index_or names k []) (slice_index_or fs k d) (slice_get-get_or names k [] (omega arith)) (slice_get-get_or fs k d below) in
     (one.is_handed, one.sized)
+
+-- ---- what an answer leaves
+
+hands_here : (h h' : ℕ → Bool) (z z' : ℕ → ℕ) (space size k : ℕ) (b : Bool) → (k == space) ≡ b → HandsNew h z h' z' space size → h k ≡ true → (h' k ≡ true) × (z' k ≡ z k)
+hands_here h h' z z' space size k true e new is =
+    let same : k ≡ space = grind (arith, nat_tests) in
+    let was : h space ≡ true = ap h (sym same) ∙ is in
+    let fresh : h space ≡ false = new.fresh in
+    absurd (cc)
+hands_here h h' z z' space size k false e new is = let other : k ≢ space = grind (arith, nat_tests) in (new.handed k other ∙ is, new.sizes k other)
+
+-- a space more leaves those that were handed out
+hands_keep : (h h' : ℕ → Bool) (z z' : ℕ → ℕ) (space size : ℕ) → HandsNew h z h' z' space size → KeepsHanded h z h' z'
+hands_keep h h' z z' space size new = record {
+  handed = λ k is. (hands_here h h' z z' space size k (k == space) refl new is).0;
+  sizes = λ k is. (hands_here h h' z z' space size k (k == space) refl new is).1;
+}
+
+answered_keeps : {M : Type 0} (told : M → Option Bytes) (trail : M → Option (List Store)) (names : M → Option Names) (handed : M → ℕ → Bool) (sizes : M → ℕ → ℕ) (before now : M) (made : Option ℕ) (count : ℕ) (list : List (List ℕ)) (found : List Found)
+    → AreAnswered told trail names handed sizes before now made count list found → KeepsHanded (handed before) (sizes before) (handed now) (sizes now)
+answered_keeps told trail names handed sizes before now None count list found a = a.0.keeps
+answered_keeps told trail names handed sizes before now (Some size) count list found a = hands_keep (handed before) (handed now) (sizes before) (sizes now) a.0.space.number size a.4.hands
+
+answered_found : {M : Type 0} (told : M → Option Bytes) (trail : M → Option (List Store)) (names : M → Option Names) (handed : M → ℕ → Bool) (sizes : M → ℕ → ℕ) (before now : M) (made : Option ℕ) (count : ℕ) (list : List (List ℕ)) (found : List Found)
+    → count ≤ length list → AreAnswered told trail names handed sizes before now made count list found → All (IsFoundHeld (handed now) (sizes now)) found
+answered_found told trail names handed sizes before now None count list found few a = let all : length found ≡ count = a.1 in found_held (names before) (handed now) (sizes now) list found a.2 (omega arith)
+answered_found told trail names handed sizes before now (Some size) count list found few a =
+    let P : Found → Type 0 = IsFoundHeld (handed now) (sizes now) in
+    let one : P a.0 = (a.4.hands.joins, a.4.hands.sized ∙ sym a.4.sized) in
+    let L : List Found → Type 0 = λ fs. All P fs in
+    subst L (sym a.2) (All-cons P a.0 [] one (All-nil P))
+
+pub answer_held : {M : Type 0} (told : M → Option Bytes) (trail : M → Option (List Store)) (names : M → Option Names) (handed : M → ℕ → Bool) (sizes : M → ℕ → ℕ) (before now : M) (made : Option ℕ) (count : ℕ) (list : List (List ℕ)) (s : State) (header : Header) (m : Message) (found : List Found)
+    → count ≤ length list → AreAnswered told trail names handed sizes before now made count list found → AreHeld (handed before) (sizes before) s → AreHeld (handed now) (sizes now) (answered s header m found).0
+answer_held told trail names handed sizes before now made count list s header m found few a held =
+    let keeps = answered_keeps told trail names handed sizes before now made count list found a in
+    answered_held (handed now) (sizes now) s header m found (held_kept (handed before) (handed now) (sizes before) (sizes now) s keeps held) (answered_found told trail names handed sizes before now made count list found few a)
+
+-- ---- a new session, and one whose queue was stopped
+
+pub new_held : (h : ℕ → Bool) (z : ℕ → ℕ) (config : DeviceConfig) → AreHeld h z (new_state config)
+unfolding new_terms
+new_held h z config = record { table = All-nil (IsMappedHeld h z); region = tt }
+
+pub stopped_held : (h : ℕ → Bool) (z : ℕ → ℕ) (s : State) (queue base : ℕ) → AreHeld h z s → AreHeld h z (stopped s queue base)
+unfolding stopped
+stopped_held h z s queue base held = record {
+  table = held.table;
+  region = let P : Option KeptRegion → Type 0 = λ r. RegionHeld h z r in subst P (sym (set_region s.terms queue (stopped_ring base (ring_at s.terms queue)))) held.region;
+}

@@ -8,3 +8,6 @@ pub mod FindLemmas
 pub mod LieLemmas
 pub mod HeldLemmas
 pub mod KeepLemmas
+pub mod NameLemmas
+pub mod BellLemmas
+pub mod DrainLemmas

@@ -1,7 +1,7 @@
 -- What the look-ups of names and the creation of a space answer, and leave of shared memory.
 use Rattle.std.specs.Option.{option_map}
-use Rattle.std.specs.Prelude.{◌≡◌, ◌≤◌, ◌<◌, ◌⊎◌, ℕ, Bool, true, List, [], ◌∷◌, length, slice_get, Any, Option, Some, None, Result, IfErr}
-use Rattle.vub_base.specs.Bells.{BellState, Attached}
+use Rattle.std.specs.Prelude.{◌≡◌, ◌≢◌, ◌≤◌, ◌<◌, ◌⊎◌, ℕ, Bool, true, List, [], ◌∷◌, length, take, slice_get, Any, Option, Some, None, Result, IfErr, OnOk}
+use Rattle.vub_base.specs.Bells.{BellState, Attached, MayAttach}
 use Rattle.vub_base.specs.Causes.{Rose}
 use Rattle.vub_base.specs.Told.{WhereTold}
 use Rattle.vub_session.specs.declared.finding.Found.{Found}
@@ -44,16 +44,25 @@ AreAnswered told trail names handed sizes before now (Some size) count list foun
     (f : Found) × (name : List ℕ) × (found ≡ f ∷ []) × (slice_get list 0 ≡ Some name) × Makes told trail names handed sizes before now name size f
 
 -- why the names of a message couldn't be taken and looked up: memory's count of faults rose, or the bell's did, or fewer
--- names are left than the message takes, or the told names lack one of those
-pub record HasFindReason {T : Type 0} (before now bell_before bell_now : ℕ) (told : Option Names) (count : ℕ) (list : List (List ℕ)) (result : Result T SessionFault) : Type 0 where
+-- names are left than the message takes, or the told names lack one that it looks up. Each count stays at every other answer.
+pub record HasFindReason {T : Type 0} (before now bell_before bell_now : ℕ) (told : Option Names) (count sought : ℕ) (list : List (List ℕ)) (result : Result T SessionFault) : Type 0 where
   pub later : before ≤ now
   pub bell_later : bell_before ≤ bell_now
   pub shared : IfErr result (λ e. e ≡ faults.Shared → Rose before now)
   pub bell : IfErr result (λ e. e ≡ faults.Bell → Rose bell_before bell_now)
-  pub no_name : IfErr result (λ e. e ≡ faults.NoName → (length list < count) ⊎ Any (Lacks told) list)
+  pub quiet : OnOk result ((now ≡ before) × (bell_now ≡ bell_before))
+  pub others_quiet : IfErr result (λ e. e ≢ faults.Shared → now ≡ before)
+  pub bell_quiet : IfErr result (λ e. e ≢ faults.Bell → bell_now ≡ bell_before)
+  pub no_name : IfErr result (λ e. e ≡ faults.NoName → (length list < count) ⊎ Any (Lacks told) (take sought list))
 
 -- the bell is as before, but that the queue of a call that brings one is attached
 abbrev pub BellIs : Option ℕ → Option BellState → Option BellState → Type 0
 BellIs None before now = now ≡ before
 BellIs (Some queue) None now = now ≡ None
 BellIs (Some queue) (Some before) now = (after : BellState) × (now ≡ Some after) × Attached before after queue
+
+-- the bell after it failed: the same, but that the queue may be attached or not
+abbrev pub BellMayBe : Option ℕ → Option BellState → Option BellState → Type 0
+BellMayBe None before now = now ≡ before
+BellMayBe (Some queue) None now = now ≡ None
+BellMayBe (Some queue) (Some before) now = (after : BellState) × (now ≡ Some after) × MayAttach before after queue

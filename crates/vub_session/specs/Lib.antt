@@ -1,6 +1,7 @@
 pub mod Bounds
 pub mod Finds
 pub mod Keeps
+pub mod Lends
 pub mod Lies
 pub mod Ready
 pub mod Sent

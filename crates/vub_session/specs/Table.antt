@@ -1,7 +1,7 @@
 -- The message table: what each message of the front end does to a session, what it answers and what it refuses
 -- (QEMU's "Vhost-user Protocol").
 use Rattle.std.specs.Int.RustNames.{bit_and}
-use Rattle.std.specs.Prelude.{ℕ, ◌+◌, ◌*◌, ◌/◌, ◌%◌, ◌==◌, ◌&&◌, ◌||◌, Bool, true, false, not, nat_lt, nat_le, is_some, if◌then◌else◌, List, [], ◌∷◌, length, slice_range, Option, Some, None, option_map, unwrap_or}
+use Rattle.std.specs.Prelude.{◌≡◌, ℕ, ◌+◌, ◌*◌, ◌/◌, ◌%◌, ◌==◌, ◌&&◌, ◌||◌, Bool, true, false, not, nat_lt, nat_le, is_some, if◌then◌else◌, List, [], ◌∷◌, length, slice_range, Option, Some, None, option_map, unwrap_or}
 use Rattle.std.specs.Option.{option_or}
 use Rattle.vub_blkreq.specs.Config.{config_bytes}
 use Rattle.vub_blkreq.specs.Features.{offered, offered_protocol}
@@ -10,7 +10,7 @@ use Rattle.vub_memtable.specs.Tables.{fault_of}
 use Rattle.vub_memtable.specs.declared.region.Mapped.{Mapped}
 use Rattle.vub_memtable.specs.declared.region.Region.{Region}
 use Rattle.vub_session.specs.Ready.{attach, bad_ring}
-use Rattle.vub_session.specs.State.{has_reply_ack, is_packed, is_running, ring_at, ring_of, with_ring}
+use Rattle.vub_session.specs.State.{IsAttached, has_reply_ack, is_packed, is_running, ring_at, ring_of, with_ring}
 use Rattle.vub_session.specs.declared.finding.Found.{Found}
 use Rattle.vub_session.specs.declared.handled.Handled.{Handled}
 use Rattle.vub_session.specs.declared.handled.Handled.TheVariants.{Silent, Ack, Drain}
@@ -292,6 +292,10 @@ stopped_by index (Some ring) = if ring.is_attached then Some index else None
 unfoldable pub drained : State → Message → Option ℕ
 drained s (messages.GetBase index num) = stopped_by index (ring_of s index)
 drained s m = None
+
+-- the message is a GET_VRING_BASE of this queue, which is attached
+abbrev pub StopsAttached : State → Message → ℕ → Type 0
+StopsAttached s m queue = (num : ℕ) × (m ≡ messages.GetBase queue num) × IsAttached s queue
 
 -- ---- what is sent back
 

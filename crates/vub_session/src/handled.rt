@@ -25,7 +25,7 @@ pub enum Refusal {
 /// Why a message couldn't be handled. The session is as before, but for the names taken.
 #[derive(Clone, Copy, Debug, PartialEq, Eq)]
 pub enum SessionFault {
-    /// The message takes more names than are left, or one that means no space.
+    /// The message takes more names than are left, or looks up one that means no space.
     NoName,
     /// A fault of shared memory.
     Shared,

@@ -1,5 +1,5 @@
 //! The names of a message: taken, looked up, or given to a new space.
-ghost use Rattle.std.specs.Prelude.{◌≡◌, ◌≢◌, ◌≤◌, Some, None, IfErr, IfOk, OnErr, length, Any};
+ghost use Rattle.std.specs.Prelude.{◌≡◌, ◌≢◌, ◌≤◌, Some, None, IfErr, IfOk, IsOk, OnErr, OnOk, length, take, Any};
 ghost use Rattle.vub_base.specs.Causes.{Rose};
 ghost use Rattle.vub_session.specs.Finds.{AreAnswered, AreFound, IsFound, OnlyFinds};
 ghost use Rattle.vub_session.specs.declared.handled.SessionFault.TheVariants as faults;
@@ -22,6 +22,7 @@ pub(crate) type FoundList = ArrayVec<Found, MAX_REGIONS>;
 
 fn session_fault(fault: SharedFault) -> SessionFault
     ensures shared { result ≡ faults.Shared → fault ≡ shared_faults.Failed }
+    ensures failed { fault ≡ shared_faults.Failed → result ≡ faults.Shared }
     ensures no_name { result ≡ faults.NoName → fault ≡ shared_faults.NoSuch }
     ensures bell { result ≢ faults.Bell }
 {
@@ -38,6 +39,8 @@ fn find<M: Shared>(mem: &mut M, name: &str) -> Result<Found, SessionFault>
     ensures finds { OnlyFinds M.told M.trail M.names M.handed M.sizes mem.old mem.new }
     ensures later { M.faults mem.old ≤ M.faults mem.new }
     ensures shared { IfErr result (λ e. e ≡ faults.Shared → Rose (M.faults mem.old) (M.faults mem.new)) }
+    ensures quiet { OnOk result (M.faults mem.new ≡ M.faults mem.old) }
+    ensures others_quiet { IfErr result (λ e. e ≢ faults.Shared → M.faults mem.new ≡ M.faults mem.old) }
     ensures no_name { IfErr result (λ e. e ≡ faults.NoName → Lacks (M.names mem.old) name.now) }
     ensures bell { IfErr result (λ e. e ≢ faults.Bell) }
 {
@@ -59,8 +62,11 @@ fn find_all<M: Shared>(mem: &mut M, names: &Names, count: usize) -> Result<Found
     ensures finds { OnlyFinds M.told M.trail M.names M.handed M.sizes mem.old mem.new }
     ensures later { M.faults mem.old ≤ M.faults mem.new }
     ensures shared { IfErr result (λ e. e ≡ faults.Shared → Rose (M.faults mem.old) (M.faults mem.new)) }
-    ensures no_name { IfErr result (λ e. e ≡ faults.NoName → Any (Lacks (M.names mem.old)) names.now) }
+    ensures quiet { OnOk result (M.faults mem.new ≡ M.faults mem.old) }
+    ensures others_quiet { IfErr result (λ e. e ≢ faults.Shared → M.faults mem.new ≡ M.faults mem.old) }
+    ensures no_name { IfErr result (λ e. e ≡ faults.NoName → Any (Lacks (M.names mem.old)) (take count names.now)) }
     ensures bell { IfErr result (λ e. e ≢ faults.Bell) }
+    ensures nothing { count ≡ 0 → IsOk result }
 {
     let mut all = ArrayVec::new();
     for at in 0..count {
@@ -77,6 +83,8 @@ fn create<M: Shared>(mem: &mut M, names: &Names, size: u64) -> Result<FoundList,
     ensures finds { OnErr result (OnlyFinds M.told M.trail M.names M.handed M.sizes mem.old mem.new) }
     ensures later { M.faults mem.old ≤ M.faults mem.new }
     ensures shared { IfErr result (λ e. e ≡ faults.Shared → Rose (M.faults mem.old) (M.faults mem.new)) }
+    ensures quiet { OnOk result (M.faults mem.new ≡ M.faults mem.old) }
+    ensures others_quiet { IfErr result (λ e. e ≢ faults.Shared → M.faults mem.new ≡ M.faults mem.old) }
     ensures no_name { IfErr result (λ e. e ≢ faults.NoName) }
     ensures bell { IfErr result (λ e. e ≢ faults.Bell) }
 {
@@ -117,12 +125,17 @@ impl State {
         ensures finds { OnErr result (OnlyFinds M.told M.trail M.names M.handed M.sizes mem.old mem.new) }
         ensures later { M.faults mem.old ≤ M.faults mem.new }
         ensures shared { IfErr result (λ e. e ≡ faults.Shared → Rose (M.faults mem.old) (M.faults mem.new)) }
-        ensures no_name { IfErr result (λ e. e ≡ faults.NoName → Any (Lacks (M.names mem.old)) names.now) }
+        ensures quiet { OnOk result (M.faults mem.new ≡ M.faults mem.old) }
+        ensures others_quiet { IfErr result (λ e. e ≢ faults.Shared → M.faults mem.new ≡ M.faults mem.old) }
+        ensures no_name { IfErr result (λ e. e ≡ faults.NoName → Any (Lacks (M.names mem.old)) (take (looked_up message.now) names.now)) }
         ensures bell { IfErr result (λ e. e ≢ faults.Bell) }
+        ensures few { looked_up message.now ≤ length names.now }
+        ensures nothing { created self.now message.now ≡ None → looked_up message.now ≡ 0 → IsOk result }
     {
+        let count = looked_up(message);
         match self.created(message) {
             Some(size) => create(mem, names, size),
-            None => find_all(mem, names, looked_up(message)),
+            None => find_all(mem, names, count),
         }
     }
 }

@@ -1,4 +1,4 @@
-ghost use Rattle.std.specs.Prelude.{◌≡◌, ◌<◌, length, map, drop, Some, slice_get, string_bytes};
+ghost use Rattle.std.specs.Prelude.{◌≡◌, ◌<◌, [], length, map, drop, Some, IfNone, IfSome, slice_get, string_bytes};
 
 use std::marker::Model;
 
@@ -21,6 +21,9 @@ impl Model for Names {
 }
 
 impl Names {
+    ghost use Rattle.std.specs.Borrow.{sem};
+    ghost use Rattle.vub_session.specs.Lends.{LeavesRest};
+
     /// All names of a list. Takes no memory.
     pub fn new(list: Vec<String>) -> Names
         ensures { result ≡ map string_bytes list.items }
@@ -41,6 +44,20 @@ impl Names {
         ensures { slice_get self.now index ≡ Some result.now }
     {
         self.list[self.next + index].as_str()
+    }
+
+    /// Takes the next name. None comes exactly where none is left, and then nothing changes.
+    pub fn take(&mut self) -> Option<&str>
+        ensures none { IfNone result (self.old ≡ []) }
+        ensures first { IfSome result (λ name. slice_get self.old 0 ≡ Some name.now) }
+        ensures* rest { sem 𝓛 (LeavesRest self.entry) }
+    {
+        let place = self.next;
+        if place == self.list.len() {
+            return None;
+        }
+        self.next = place + 1;
+        Some(self.list[place].as_str())
     }
 
     /// Takes so many names, or all that are left.

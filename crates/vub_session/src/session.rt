@@ -1,11 +1,11 @@
-ghost use Rattle.std.specs.Prelude.{◌≡◌, ◌≤◌, ◌<◌, ◌↔◌, ℕ, List, true, length, drop, Some, None, Ok, Err, IsSome, IfErr, IfOk, IfSome, OnErr, OnOk, OnSome};
+ghost use Rattle.std.specs.Prelude.{◌≡◌, ◌≢◌, ◌≤◌, ◌<◌, ◌↔◌, ◌⊎◌, ℕ, List, true, length, drop, Some, None, Ok, Err, IsSome, IfErr, IfOk, IfSome, OnErr, OnOk, OnSome};
 ghost use Rattle.vub_base.specs.Causes.{Rose};
-ghost use Rattle.vub_session.specs.Finds.{AreAnswered, BellIs, HasFindReason, OnlyFinds};
+ghost use Rattle.vub_session.specs.Finds.{AreAnswered, BellIs, BellMayBe, HasFindReason, OnlyFinds};
 ghost use Rattle.vub_session.specs.declared.finding.Found.{Found};
 ghost use Rattle.vub_session.specs.declared.handled.Handled.TheVariants.{Drain};
 ghost use Rattle.vub_session.specs.declared.handled.SessionFault.TheVariants as faults;
 ghost use Rattle.vub_session.specs.Keeps.{KeepsAttached};
-ghost use Rattle.vub_session.specs.Lies.{AreSized};
+ghost use Rattle.vub_session.specs.Lies.{AreHeld, AreSized};
 ghost use Rattle.vub_session.specs.Sent.{IsSent};
 ghost use Rattle.vub_session.specs.Setup.{queue_ready, setup_of};
 ghost use Rattle.vub_setup.specs.Setups.{SetupLies};
@@ -54,7 +54,11 @@ impl State {
         requires few { self.now.config.queues ≤ MAX_QUEUES }
         requires names { table.names_taken self.now message.now ≤ length names.now }
         ensures attached { OnOk result (BellIs (table.bell_attached self.now message.now) (B.told bell.old) (B.told bell.new)) }
+        ensures failed { OnErr result (BellMayBe (table.bell_attached self.now message.now) (B.told bell.old) (B.told bell.new)) }
         ensures later { B.faults bell.old ≤ B.faults bell.new }
+        ensures quiet { OnOk result (B.faults bell.new ≡ B.faults bell.old) }
+        // A message that attaches a bell makes no space and looks nothing up.
+        ensures alone { (B.told bell.new ≡ B.told bell.old) ⊎ ((table.created self.now message.now ≡ None) × (table.looked_up message.now ≡ 0)) }
         ensures cause { IfErr result (λ e. (e ≡ faults.Bell) × Rose (B.faults bell.old) (B.faults bell.new)) }
     {
         let Some(queue) = self.bell_attached(message) else {
@@ -77,9 +81,12 @@ impl State {
         requires { self.now.config.queues ≤ MAX_QUEUES }
         ensures too_few { length names.now < table.names_taken self.now message.now → result ≡ Err faults.NoName }
         ensures answered { IfOk result (λ all. AreAnswered M.told M.trail M.names M.handed M.sizes mem.old mem.new (table.created self.now message.now) (table.looked_up message.now) names.now all.items) }
+        ensures few { OnOk result (table.looked_up message.now ≤ length names.now) }
         ensures finds { OnErr result (OnlyFinds M.told M.trail M.names M.handed M.sizes mem.old mem.new) }
         ensures attached { OnOk result (BellIs (table.bell_attached self.now message.now) (B.told bell.old) (B.told bell.new)) }
-        ensures reason { HasFindReason (M.faults mem.old) (M.faults mem.new) (B.faults bell.old) (B.faults bell.new) (M.names mem.old) (table.names_taken self.now message.now) names.now result }
+        ensures bell_failed { IfErr result (λ e. e ≡ faults.Bell → BellMayBe (table.bell_attached self.now message.now) (B.told bell.old) (B.told bell.new)) }
+        ensures bell_kept { IfErr result (λ e. e ≢ faults.Bell → B.told bell.new ≡ B.told bell.old) }
+        ensures reason { HasFindReason (M.faults mem.old) (M.faults mem.new) (B.faults bell.old) (B.faults bell.new) (M.names mem.old) (table.names_taken self.now message.now) (table.looked_up message.now) names.now result }
     {
         if names.left() < self.names_taken(message) {
             return Err(SessionFault::NoName);
@@ -135,7 +142,9 @@ impl Session {
     }
 
     /// Handles a message: takes its names, looks them up, and answers by the message table. A
-    /// GET_VRING_BASE of a queue that is attached is answered by `Drain` and changes nothing.
+    /// GET_VRING_BASE of a queue that is attached, and no other message, is answered by `Drain`; it
+    /// changes nothing. A fault raises the count of memory or of the bell that failed; any other
+    /// answer leaves both.
     pub fn answer<M: Shared, B: Bell>(
         &mut self,
         header: &Header,
@@ -146,19 +155,25 @@ impl Session {
     ) -> Result<Handled, SessionFault>
         // A message that stops a queue waits until it is stopped.
         ensures drains { (queue : ℕ) → table.drained self.old message.now ≡ Some queue → (result ≡ Ok (Drain queue)) × (self.new ≡ self.old) }
+        ensures drains_only { (queue : ℕ) → result ≡ Ok (Drain queue) → table.drained self.old message.now ≡ Some queue }
         // Else the table says what is sent back, and the session after it.
         ensures answers { table.drained self.old message.now ≡ None → IfOk result (λ handled. (found : List Found) × AreAnswered M.told M.trail M.names M.handed M.sizes mem.old mem.new (table.created self.old message.now) (table.looked_up message.now) names.old found × ((self.new, handled) ≡ table.answered self.old header.now message.now found)) }
         ensures fault { OnErr result (self.new ≡ self.old) }
         ensures kind { IfOk result IsSent }
         // An attached ring stays attached, with its size, addresses and base, until it is stopped.
         ensures keeps { KeepsAttached self.old.terms self.new.terms }
+        // Each space that the session keeps is one that was handed out, with its size.
+        ensures held { AreHeld (M.handed mem.old) (M.sizes mem.old) self.old → AreHeld (M.handed mem.new) (M.sizes mem.new) self.new }
 
         // The names are taken, whatever comes of them.
         ensures names { names.new ≡ drop (table.names_taken self.old message.now) names.old }
         ensures too_few { length names.old < table.names_taken self.old message.now → result ≡ Err faults.NoName }
         ensures finds { OnErr result (OnlyFinds M.told M.trail M.names M.handed M.sizes mem.old mem.new) }
+        // The queue is attached, or may be where the bell failed; any other fault leaves the bell.
         ensures bell { OnOk result (BellIs (table.bell_attached self.old message.now) (B.told bell.old) (B.told bell.new)) }
-        ensures reason { HasFindReason (M.faults mem.old) (M.faults mem.new) (B.faults bell.old) (B.faults bell.new) (M.names mem.old) (table.names_taken self.old message.now) names.old result }
+        ensures bell_failed { IfErr result (λ e. e ≡ faults.Bell → BellMayBe (table.bell_attached self.old message.now) (B.told bell.old) (B.told bell.new)) }
+        ensures bell_kept { IfErr result (λ e. e ≢ faults.Bell → B.told bell.new ≡ B.told bell.old) }
+        ensures reason { HasFindReason (M.faults mem.old) (M.faults mem.new) (B.faults bell.old) (B.faults bell.new) (M.names mem.old) (table.names_taken self.old message.now) (table.looked_up message.now) names.old result }
     {
         if let Some(queue) = self.state.drained(message) {
             return Ok(Handled::Drain(queue));

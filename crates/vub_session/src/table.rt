@@ -1,6 +1,7 @@
 //! The message table: what a message does to a session, and what its row answers.
 ghost use Rattle.std.specs.Option.{ForSome};
-ghost use Rattle.std.specs.Prelude.{◌≡◌, ◌≤◌, ◌<◌, Some, None, IfSome, OnSome, length, true};
+ghost use Rattle.std.specs.Prelude.{◌≡◌, ◌≢◌, ◌≤◌, ◌<◌, ℕ, Some, None, IfSome, OnSome, length, true};
+ghost use Rattle.vub_session.specs.declared.handled.Handled.TheVariants.{Drain};
 ghost use Rattle.vub_session.specs.Sound.{IsCandidate, IsSound};
 ghost use Rattle.vub_session.specs.Keeps.{KeepsAttached};
 ghost use Rattle.vub_session.specs.Sent.{IsSent};
@@ -348,10 +349,12 @@ impl State {
     }
 
     /// The queue whose bell a message attaches to a call, if it brings one.
-    #[tactic(auto, unfolding(crate::specs::Table::bell_attached))]
+    #[tactic(auto, unfolding(crate::specs::Table::bell_attached, crate::specs::Table::created, crate::specs::Table::looked_up))]
     pub(crate) fn bell_attached(&self, message: &Message) -> Option<u16>
         requires { self.now.config.queues ≤ MAX_QUEUES }
-        ensures { result ≡ table.bell_attached self.now message.now }
+        ensures is { result ≡ table.bell_attached self.now message.now }
+        ensures no_space { OnSome result (table.created self.now message.now ≡ None) }
+        ensures no_look_up { OnSome result (table.looked_up message.now ≡ 0) }
     {
         let Message::SetCall(word) = message else {
             return None;
@@ -396,6 +399,7 @@ impl State {
         ensures next { self.new ≡ table.noted self.old row.cause }
         ensures handled { result ≡ table.handled_row request (table.acknowledges self.old header.now) row.cause row.reply }
         ensures kind { IfSome row.reply (λ body. kind_at request ≡ kind_of body) → IsSent result }
+        ensures no_drain { (queue : ℕ) → result ≢ Drain queue }
     {
         let Row { cause, reply } = row;
         let acknowledges = self.acknowledges(header);
@@ -416,6 +420,7 @@ impl State {
         ensures next { self.new ≡ (table.answered self.old header.now message.now found.now).0 }
         ensures handled { result ≡ (table.answered self.old header.now message.now found.now).1 }
         ensures kind { IsSent result }
+        ensures no_drain { (queue : ℕ) → result ≢ Drain queue }
         ensures sound { IsSound self.new }
         ensures keeps { KeepsAttached self.old.terms self.new.terms }
     {

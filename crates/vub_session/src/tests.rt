@@ -60,16 +60,25 @@ fn new_front(alloc: Global, queues: u16, names: &[&str]) -> Result<Front, Fail>
     requires some { 1 ≤ queues }
     requires few { queues ≤ MAX_QUEUES }
 {
+    let config = DeviceConfig {
+        capacity: 64,
+        read_only: false,
+        queues,
+    };
+    front_of(alloc, config, names)
+}
+
+// The same of that device.
+fn front_of(alloc: Global, config: DeviceConfig, names: &[&str]) -> Result<Front, Fail>
+    requires some { 1 ≤ config.queues }
+    requires few { config.queues ≤ MAX_QUEUES }
+{
     let mut mem = MemShared::new(alloc, Vec::new(alloc));
     if mem.create("mem", 0x4000).is_err() {
         return Err(Fail::from("no memory"));
     }
     Ok(Front {
-        session: Session::new(DeviceConfig {
-            capacity: 64,
-            read_only: false,
-            queues,
-        }),
+        session: Session::new(config),
         names: names_of(alloc, names)?,
         mem,
         bell: TestBell {
@@ -155,6 +164,22 @@ fn features_are_offered(rt: HostRuntime) -> Result<(), Fail> {
     assert_eq!(rt; front.send(1, &Message::GetProtocol), protocol);
     let queues = reply(17, ReplyBody::Number(16));
     assert_eq!(rt; front.send(1, &Message::GetQueueNum), queues);
+    Ok(())
+}
+
+// A read-only device offers the same and that it is read-only (VIRTIO 1.2, 5.2.3, VIRTIO_BLK_F_RO).
+#[test]
+fn read_only_features(rt: HostRuntime) -> Result<(), Fail> {
+    let config = DeviceConfig {
+        capacity: 64,
+        read_only: true,
+        queues: 1,
+    };
+    let mut front = front_of(rt.alloc(), config, &[])?;
+    let offer = reply(1, ReplyBody::Number(0x5_5000_7264));
+    assert_eq!(rt; front.send(1, &Message::GetFeatures), offer);
+    let protocol = reply(15, ReplyBody::Number(0x1209));
+    assert_eq!(rt; front.send(1, &Message::GetProtocol), protocol);
     Ok(())
 }
 
@@ -257,6 +282,18 @@ fn replies_refuse(rt: HostRuntime) -> Result<(), Fail> {
     );
     assert_eq!(rt; front.session.refused(), Some(Refusal::Row(31)));
     assert_eq!(rt; front.names.left(), 1);
+    Ok(())
+}
+
+// Names are taken one after another, as long as there are some.
+#[test]
+fn names_are_taken(rt: HostRuntime) -> Result<(), Fail> {
+    let mut names = names_of(rt.alloc(), &["mem", "call"])?;
+    assert_eq!(rt; names.take(), Some("mem"));
+    assert_eq!(rt; names.left(), 1);
+    assert_eq!(rt; names.take(), Some("call"));
+    assert_eq!(rt; names.take(), None);
+    assert_eq!(rt; names.left(), 0);
     Ok(())
 }
 
