@@ -28,14 +28,11 @@ fn opens_with_zeros(rt: HostRuntime) -> Result<(), Fail> {
 }
 
 #[test]
-fn boots_once(rt: HostRuntime) -> Result<(), Fail> {
+fn boots(rt: HostRuntime) -> Result<(), Fail> {
     let header = HEADER;
     let mut world = World::new(rt.alloc(), &header).ok().ok_or("world")?;
     let made = world.event(&Event::Boot).ok().ok_or("boot")?;
     let text = record_text(rt.alloc(), made).ok().ok_or("text")?;
     assert_eq!(rt; text.as_slice(), b"> boot\n".as_slice());
-    let made = world.event(&Event::Boot).ok().ok_or("boot again")?;
-    let text = record_text(rt.alloc(), made).ok().ok_or("text")?;
-    assert_eq!(rt; text.as_slice(), b"> boot\n- idle\n".as_slice());
     Ok(())
 }
