@@ -1,6 +1,6 @@
 #!/usr/bin/env python3
-"""Prints a table of the crates in the order in which they stand on one another: depth, functions,
-lines of code, of definitions and of proofs, must-fail edits.
+"""Prints a table of the crates in the order in which they stand on one another: depth, functions
+outside tests, lines of code, of definitions and of proofs, must-fail edits.
 
 With --check it also clones HEAD into a temporary folder, checks each crate there from nothing,
 one after another, and prints the seconds of each check: those that passed, and those that the
@@ -50,8 +50,10 @@ def lines(crate, part, ending):
 
 
 def functions(crate):
-    files = (ROOT / "crates" / crate / "src").rglob("*.rt")
-    return sum(len(re.findall(r"^\s*(?:pub(?:\(crate\))? )?(?:const )?fn \w", file.read_text(), re.M)) for file in files)
+    """The functions of a crate, without those of its tests."""
+    files = list((ROOT / "crates" / crate / "src").rglob("*.rt"))
+    tests = {name for file in files for name in re.findall(r"#\[cfg\(test\)\]\nmod (\w+);", file.read_text())}
+    return sum(len(re.findall(r"^\s*(?:pub(?:\(crate\))? )?(?:const )?fn \w", file.read_text(), re.M)) for file in files if file.stem not in tests)
 
 
 def worked():
