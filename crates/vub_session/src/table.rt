@@ -21,40 +21,9 @@ use vub_blkreq::{
 };
 use vub_memtable::{Mapped, MemTable, Region};
 use vub_wire::numbers::{
-    GET_CONFIG, GET_FEATURES, GET_INFLIGHT_FD, GET_PROTOCOL_FEATURES, GET_QUEUE_NUM,
-    GET_VRING_BASE, MAX_REGIONS, SET_CONFIG, SET_FEATURES, SET_INFLIGHT_FD, SET_MEM_TABLE,
-    SET_OWNER, SET_PROTOCOL_FEATURES, SET_VRING_ADDR, SET_VRING_BASE, SET_VRING_CALL,
-    SET_VRING_ENABLE, SET_VRING_ERR, SET_VRING_KICK, SET_VRING_NUM,
+    GET_CONFIG, GET_INFLIGHT_FD, GET_VRING_BASE, MAX_REGIONS, SET_CONFIG, SET_MEM_TABLE,
 };
-use vub_wire::{Config, Header, HeaderFlags, Inflight, Message, Reply, ReplyBody};
-
-/// The number of a message's request.
-pub(crate) fn number_of(message: &Message) -> u32
-    ensures { result ≡ number_of message.now }
-{
-    match message {
-        Message::GetFeatures => GET_FEATURES,
-        Message::SetFeatures(_) => SET_FEATURES,
-        Message::SetOwner => SET_OWNER,
-        Message::SetMemTable(_) => SET_MEM_TABLE,
-        Message::SetNum { .. } => SET_VRING_NUM,
-        Message::SetAddr { .. } => SET_VRING_ADDR,
-        Message::SetBase { .. } => SET_VRING_BASE,
-        Message::GetBase { .. } => GET_VRING_BASE,
-        Message::SetKick(_) => SET_VRING_KICK,
-        Message::SetCall(_) => SET_VRING_CALL,
-        Message::SetErr(_) => SET_VRING_ERR,
-        Message::GetProtocol => GET_PROTOCOL_FEATURES,
-        Message::SetProtocol(_) => SET_PROTOCOL_FEATURES,
-        Message::GetQueueNum => GET_QUEUE_NUM,
-        Message::SetEnable { .. } => SET_VRING_ENABLE,
-        Message::GetConfig(_) => GET_CONFIG,
-        Message::SetConfig(_) => SET_CONFIG,
-        Message::GetInflight(_) => GET_INFLIGHT_FD,
-        Message::SetInflight(_) => SET_INFLIGHT_FD,
-        Message::Other(request) => *request,
-    }
-}
+use vub_wire::{Config, Header, HeaderFlags, Inflight, Message, Reply, ReplyBody, number_of};
 
 /// Carried out, with no reply of its own.
 fn done() -> Row

@@ -21,4 +21,4 @@ pub use flags::HeaderFlags;
 pub use messages::{Config, Header, Inflight, Message, Reply, ReplyBody};
 pub use reading::read_message;
 pub use replies::{read_reply, write_reply};
-pub use writing::write_message;
+pub use writing::{number_of, write_message};

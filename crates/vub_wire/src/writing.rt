@@ -153,8 +153,8 @@ pub(crate) fn put_header(out: &mut ArrayVec<u8, MAX_MESSAGE_SIZE>, header: &Head
     put_u32(out, header.size);
 }
 
-/// The number of a message's request.
-fn number_of(message: &Message) -> u32
+/// The number of a message's request (vhost-user, "Front-end message types").
+pub fn number_of(message: &Message) -> u32
     ensures { result ≡ number_of message.now }
 {
     match message {
