@@ -169,6 +169,7 @@ impl Session {
         ensures names { names.new ≡ drop (table.names_taken self.old message.now) names.old }
         ensures too_few { length names.old < table.names_taken self.old message.now → result ≡ Err faults.NoName }
         ensures finds { OnErr result (OnlyFinds M.told M.trail M.names M.handed M.sizes mem.old mem.new) }
+        ensures drains_alone { IsSome (table.drained self.old message.now) → OnlyFinds M.told M.trail M.names M.handed M.sizes mem.old mem.new }
         // The queue is attached, or may be where the bell failed; any other fault leaves the bell.
         ensures bell { OnOk result (BellIs (table.bell_attached self.old message.now) (B.told bell.old) (B.told bell.new)) }
         ensures bell_failed { IfErr result (λ e. e ≡ faults.Bell → BellMayBe (table.bell_attached self.old message.now) (B.told bell.old) (B.told bell.new)) }
