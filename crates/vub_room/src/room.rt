@@ -9,6 +9,12 @@ use vub_base::{Bytes, Memory};
 use vub_device::Answered;
 use vub_report::{Item, Items};
 
+/// The most turns that a request takes from its offer to the end of its publication.
+const TURNS_OF_REQUEST: u64 = 21;
+
+/// The most turns that belong to no one request.
+const TURNS_BESIDES: u64 = 3;
+
 /// Items so far, with room for so many more, for so many lists of bytes of eight sectors, and for so
 /// many lists of answers.
 #[derive(Drop)]
@@ -116,7 +122,7 @@ impl Room {
         ensures empty { IfOk result (λ r. r.items ≡ []) }
         ensures room { IfOk result (HasRoom (min turns (21 * undone + 3)) undone) }
     {
-        let turns = turns.min(21 * undone + 3) as usize;
+        let turns = turns.min(TURNS_OF_REQUEST * undone + TURNS_BESIDES) as usize;
         let undone = undone as usize;
         let answer_lists = turns.min(undone + 1);
         Room::new(
