@@ -276,11 +276,13 @@ look_seen q h s l k sector c p place v x low at = λ i read kept.
 look_holds : (q : ℕ) (h : Header1) (s : Scene) (l : Lane) (k sector c p place : ℕ) (v : List ℕ) → IsReading q h s l k sector c → p < c → l.made k ≡ 2 * p → length v ≡ 512 → Holds q h (record s { past = entries.Look q k place v ∷ s.past }) (one_more k l)
 look_holds q h s l k sector c p place v x low at long = record {
   known = look_known q h.size h.capacity s.past (s.heads q) k place v x.left.holds.known;
-  ringed = record { avail_idx_is = x.left.holds.ringed.avail_idx_is; used_idx_is = x.left.holds.ringed.used_idx_is; avail_at = x.left.holds.ringed.avail_at; used_at = x.left.holds.ringed.used_at };
-  driven = driven_same q h.size h.capacity h.base s.past (entries.Look q k place v ∷ s.past) (s.heads q) l.driver (λ j o. record { below = o.below; kept = o.kept }) x.left.holds.driven;
   worked = look_worked q h s l k sector c p place v x low at long;
   stored = step_stored q s.past (entries.Look q k place v ∷ s.past) (s.heads q) s.memory l.batch l.completed l.made k (look_follows q s.past k place v x.left.started) (look_seen q h s l k sector c p place v x low at) x.left.holds.stored;
-  built = built_same q h.size h.base s.past (entries.Look q k place v ∷ s.past) (s.heads q) s.memory l.batch l.phase refl (λ j. refl) x.left.holds.built;
+  queue = record {
+    ringed = record { avail_idx_is = x.left.holds.queue.ringed.avail_idx_is; used_idx_is = x.left.holds.queue.ringed.used_idx_is; avail_at = x.left.holds.queue.ringed.avail_at; used_at = x.left.holds.queue.ringed.used_at };
+    driven = driven_same q h.size h.capacity h.base s.past (entries.Look q k place v ∷ s.past) (s.heads q) l.driver (λ j o. record { below = o.below; kept = o.kept }) x.left.holds.queue.driven;
+    built = built_same q h.size h.base s.past (entries.Look q k place v ∷ s.past) (s.heads q) s.memory l.batch l.phase refl (λ j. refl) x.left.holds.queue.built;
+  };
 }
 
 look_fine : (q : ℕ) (h : Header1) (s : Scene) (l : Lane) (k sector c p : ℕ) → IsReading q h s l k sector c → p < c → l.made k ≡ 2 * p → Fine q h s l (task_turn h q s l k (asks.Read sector c) (Some (Look p)))
@@ -368,11 +370,13 @@ act_worked q h s l k sector place bytes v x low =
 act_holds : (q : ℕ) (h : Header1) (s : Scene) (l : Lane) (k sector place : ℕ) (bytes v : List ℕ) → IsWriting q h s l k sector bytes → l.made k < length bytes / 512 → length v ≡ 512 → Holds q h (record s { past = entries.Act q k place v ∷ s.past }) (one_more k l)
 act_holds q h s l k sector place bytes v x low long = record {
   known = act_known q h.size h.capacity s.past (s.heads q) k place v long x.left.holds.known;
-  ringed = record { avail_idx_is = x.left.holds.ringed.avail_idx_is; used_idx_is = x.left.holds.ringed.used_idx_is; avail_at = x.left.holds.ringed.avail_at; used_at = x.left.holds.ringed.used_at };
-  driven = driven_same q h.size h.capacity h.base s.past (entries.Act q k place v ∷ s.past) (s.heads q) l.driver (λ j o. record { below = o.below; kept = o.kept }) x.left.holds.driven;
   worked = act_worked q h s l k sector place bytes v x low;
   stored = step_stored q s.past (entries.Act q k place v ∷ s.past) (s.heads q) s.memory l.batch l.completed l.made k (act_follows q s.past k place v x.left.started) (seen_never q s.past (entries.Act q k place v ∷ s.past) l.made k (write_never sector bytes (asked s.past q k) x.is)) x.left.holds.stored;
-  built = built_same q h.size h.base s.past (entries.Act q k place v ∷ s.past) (s.heads q) s.memory l.batch l.phase refl (λ j. refl) x.left.holds.built;
+  queue = record {
+    ringed = record { avail_idx_is = x.left.holds.queue.ringed.avail_idx_is; used_idx_is = x.left.holds.queue.ringed.used_idx_is; avail_at = x.left.holds.queue.ringed.avail_at; used_at = x.left.holds.queue.ringed.used_at };
+    driven = driven_same q h.size h.capacity h.base s.past (entries.Act q k place v ∷ s.past) (s.heads q) l.driver (λ j o. record { below = o.below; kept = o.kept }) x.left.holds.queue.driven;
+    built = built_same q h.size h.base s.past (entries.Act q k place v ∷ s.past) (s.heads q) s.memory l.batch l.phase refl (λ j. refl) x.left.holds.queue.built;
+  };
 }
 
 -- a sector of some bytes
@@ -455,11 +459,13 @@ sync_worked q h s l k x is none =
 sync_holds : (q : ℕ) (h : Header1) (s : Scene) (l : Lane) (k : ℕ) → IsLeft q h s l k → asked s.past q k ≡ Some asks.Flush → l.made k ≡ 0 → Holds q h (record s { past = entries.Sync q k ∷ s.past }) (one_more k l)
 sync_holds q h s l k x is none = record {
   known = sync_known q h.size h.capacity s.past (s.heads q) k x.holds.known;
-  ringed = record { avail_idx_is = x.holds.ringed.avail_idx_is; used_idx_is = x.holds.ringed.used_idx_is; avail_at = x.holds.ringed.avail_at; used_at = x.holds.ringed.used_at };
-  driven = driven_same q h.size h.capacity h.base s.past (entries.Sync q k ∷ s.past) (s.heads q) l.driver (λ j o. record { below = o.below; kept = o.kept }) x.holds.driven;
   worked = sync_worked q h s l k x is none;
   stored = step_stored q s.past (entries.Sync q k ∷ s.past) (s.heads q) s.memory l.batch l.completed l.made k (sync_follows q s.past k x.started) (seen_never q s.past (entries.Sync q k ∷ s.past) l.made k (flush_never (asked s.past q k) is)) x.holds.stored;
-  built = built_same q h.size h.base s.past (entries.Sync q k ∷ s.past) (s.heads q) s.memory l.batch l.phase refl (λ j. refl) x.holds.built;
+  queue = record {
+    ringed = record { avail_idx_is = x.holds.queue.ringed.avail_idx_is; used_idx_is = x.holds.queue.ringed.used_idx_is; avail_at = x.holds.queue.ringed.avail_at; used_at = x.holds.queue.ringed.used_at };
+    driven = driven_same q h.size h.capacity h.base s.past (entries.Sync q k ∷ s.past) (s.heads q) l.driver (λ j o. record { below = o.below; kept = o.kept }) x.holds.queue.driven;
+    built = built_same q h.size h.base s.past (entries.Sync q k ∷ s.past) (s.heads q) s.memory l.batch l.phase refl (λ j. refl) x.holds.queue.built;
+  };
 }
 
 sync_fine : (q : ℕ) (h : Header1) (s : Scene) (l : Lane) (k : ℕ) → IsLeft q h s l k → asked s.past q k ≡ Some asks.Flush → l.made k ≡ 0 → Fine q h s l (task_turn h q s l k asks.Flush (Some Sync))
@@ -484,7 +490,7 @@ sync_fine q h s l k x is none =
 
 pub other_open : (q : ℕ) (h : Header1) (s : Scene) (l : Lane) (k j : ℕ) → IsLeft q h s l k → IsOpen s.past q j → j ≢ k → slice_index (s.heads q) j ≢ slice_index (s.heads q) k
 other_open q h s l k j x is_open apart same =
-    apart (x.holds.driven.apart j k (open_out q h.size h.capacity s.past (s.heads q) j x.holds.known is_open) (open_out q h.size h.capacity s.past (s.heads q) k x.holds.known x.is_open) same)
+    apart (x.holds.queue.driven.apart j k (open_out q h.size h.capacity s.past (s.heads q) j x.holds.known is_open) (open_out q h.size h.capacity s.past (s.heads q) k x.holds.known x.is_open) same)
 
 -- a store into the buffer of one request leaves those of the others
 off_other : (q : ℕ) (h : Header1) (s : Scene) (l : Lane) (k j p : ℕ) (bs : List ℕ) → IsLeft q h s l k → IsOpen s.past q j → j ≢ k → buffer q (s.heads q) k ≤ p → p + length bs ≤ buffer q (s.heads q) k + 8192 → OffBuffer q (s.heads q) j p bs
@@ -529,8 +535,6 @@ put_holds q h s l k sector c p x low at =
     let fits : 512 * p + 512 ≤ length read = omega (arith, looked, to.long, at) in
     let long : length bs ≡ 512 = sector_long read p fits in record {
       known = x.left.holds.known;
-      ringed = ringed_elsewhere q h.size h.base s.past (s.heads q) s.memory place bs x.left.good.size (inr (omega arith)) x.left.holds.ringed;
-      driven = x.left.holds.driven;
       worked = put_worked q h s l k sector c p x low at;
       stored = record {
         sectors = λ j i is_open kept reads. elim (cases_eq j k) [
@@ -549,7 +553,11 @@ put_holds q h s l k sector c p x low at =
         status = λ j held.
             status_elsewhere q (s.heads q) j s.memory place bs (off_other q h s l k j place bs x.left (x.left.holds.worked.opens j held) (among_apart (l.completed ++ l.batch) j k held x.left.left) (omega arith) (omega arith)) ∙ x.left.holds.stored.status j held;
       };
-      built = built_elsewhere q h.size h.base s.past (s.heads q) s.memory place bs l.batch l.phase x.left.good.size (inr (omega arith)) x.left.holds.built;
+      queue = record {
+        ringed = ringed_elsewhere q h.size h.base s.past (s.heads q) s.memory place bs x.left.good.size (inr (omega arith)) x.left.holds.queue.ringed;
+        driven = x.left.holds.queue.driven;
+        built = built_elsewhere q h.size h.base s.past (s.heads q) s.memory place bs l.batch l.phase x.left.good.size (inr (omega arith)) x.left.holds.queue.built;
+      };
     }
 
 put_fine : (q : ℕ) (h : Header1) (s : Scene) (l : Lane) (k sector c p : ℕ) → IsReading q h s l k sector c → p < c → l.made k ≡ 2 * p + 1 → Fine q h s l (task_turn h q s l k (asks.Read sector c) (Some (Put p)))
@@ -653,8 +661,6 @@ status_holds : (q : ℕ) (h : Header1) (s : Scene) (l : Lane) (k p : ℕ) → Is
     → Holds q h (stored_at p (0 ∷ []) s) (finished k l)
 status_holds q h s l k p x whole half at = record {
   known = x.holds.known;
-  ringed = ringed_elsewhere q h.size h.base s.past (s.heads q) s.memory p (0 ∷ []) x.good.size (inr (omega arith)) x.holds.ringed;
-  driven = x.holds.driven;
   worked = status_worked q s.past l.phase l.batch l.completed l.made k x.started x.is_open x.left whole x.holds.worked;
   stored = record {
     sectors = λ j i is_open kept read. elim (cases_eq j k) [
@@ -681,7 +687,11 @@ status_holds q h s l k p x whole half at = record {
           status_elsewhere q (s.heads q) j s.memory p (0 ∷ []) (off_other q h s l k j p (0 ∷ []) x (x.holds.worked.opens j old) (among_apart (l.completed ++ l.batch) j k old x.left) (omega arith) (omega arith)) ∙ x.holds.stored.status j old
     ];
   };
-  built = built_elsewhere q h.size h.base s.past (s.heads q) s.memory p (0 ∷ []) l.batch l.phase x.good.size (inr (omega arith)) x.holds.built;
+  queue = record {
+    ringed = ringed_elsewhere q h.size h.base s.past (s.heads q) s.memory p (0 ∷ []) x.good.size (inr (omega arith)) x.holds.queue.ringed;
+    driven = x.holds.queue.driven;
+    built = built_elsewhere q h.size h.base s.past (s.heads q) s.memory p (0 ∷ []) l.batch l.phase x.good.size (inr (omega arith)) x.holds.queue.built;
+  };
 }
 
 status_fine : (q : ℕ) (h : Header1) (s : Scene) (l : Lane) (k : ℕ) (r : Asked) → IsLeft q h s l k → refusal h.capacity h.mode r ≡ None → IsFull (l.made k) (asked s.past q k) → (IsRead (asked s.past q k) → (l.made k + 1) / 2 ≡ l.made k / 2) → l.made k ≤ 16
