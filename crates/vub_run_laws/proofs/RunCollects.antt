@@ -22,7 +22,7 @@ use Rattle.vub_run_laws.proofs.RunNumbers.{among_at}
 use Rattle.vub_run_laws.proofs.RunGood.{the_ring, Known, Ringed, spot, IsOut, WaitsWell, Driven, Worked, Holds}
 use Rattle.vub_run_laws.proofs.RunTracks.{ahead_by}
 use Rattle.vub_run_laws.proofs.RunGuests.{IsGood}
-use Rattle.vub_run_laws.proofs.RunWork.{built_same}
+use Rattle.vub_run_laws.proofs.RunQueue.{queue_collect}
 
 -- where something is seen, the first element stands at the position
 pub first_element : (r : Ring) (m : Bytes) (k d : ℕ) (x : ℕ × ℕ) (xs : List (ℕ × ℕ)) → elements_from r m k d ≡ x ∷ xs → (0 < k) × (element_at r m d ≡ x)
@@ -148,11 +148,8 @@ taken_holds q h s l x k t =
       };
       worked = taken_worked q h s l k t.holds.worked;
       stored = record { sectors = λ j i is_open kept read. t.holds.stored.sectors j i (record { taken = is_open.taken; unpublished = is_open.unpublished }) kept read; status = t.holds.stored.status };
-      queue = record {
-        ringed = record { avail_idx_is = r.avail_idx_is; used_idx_is = r.used_idx_is; avail_at = r.avail_at; used_at = λ i from upto. r.used_at i (omega (arith, from, collected_own s.past q k)) upto };
-        driven = taken_driven q h s l x k t;
-        built = built_same q h.size h.base s.past (entries.Collect q k ∷ s.past) (s.heads q) s.memory l.batch l.phase refl (λ j. refl) t.holds.queue.built;
-      };
+      queue = queue_collect q h s (entries.Collect q k ∷ s.past) l.driver (record l.driver { owner = without_owner x l.driver.owner }) l.batch l.phase
+          (record { accepts = omega arith; shows = refl; collects = omega (arith, collected_own s.past q k); asks = λ j. refl }) (taken_driven q h s l x k t) t.holds.queue;
     }
 
 pub taken_legal : (q : ℕ) (h : Header1) (s : Scene) (l : Lane) (x : ℕ) → IsTaken q h s l x → MayCollect s.past q (next_number q s)

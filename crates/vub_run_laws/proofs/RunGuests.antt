@@ -30,7 +30,8 @@ use Rattle.vub_report.specs.Histories.{entries_of}
 use Rattle.vub_run_laws.proofs.RunOwn.{at_own}
 use Rattle.vub_run_laws.proofs.RunGood.{the_ring, IsSize, index_store, IsHarmless, IsLeft, IsWaiting, WaitsWell, Holds, Known, Ringed, Driven, Stored, Built}
 use Rattle.vub_run_laws.proofs.RunTracks.{tracks}
-use Rattle.vub_run_laws.proofs.RunFrames.{entry_small, open_out, OffRings, OffBuffer, ringed_elsewhere, built_elsewhere, built_below, stored_elsewhere, below_buffers, other_buffer, length_little, ringed_entry, same_entry}
+use Rattle.vub_run_laws.proofs.RunQueue.{queue_elsewhere}
+use Rattle.vub_run_laws.proofs.RunFrames.{entry_small, open_out, OffRings, OffBuffer, built_below, stored_elsewhere, below_buffers, other_buffer, length_little, ringed_entry, same_entry}
 use Rattle.vub_run_laws.proofs.RunOffers.{offer_room, offer_known, offer_ringed, shown_head, offer_driven, offer_worked, offer_stored, offer_built, batch_taken}
 
 -- the scene after a store into guest memory
@@ -60,11 +61,7 @@ harmless_holds q h s l w p bs good waits harmless holds =
       known = holds.known;
       worked = holds.worked;
       stored = stored_elsewhere q s.past (s.heads q) s.memory p bs l.batch l.completed l.made holds.worked.opens off_buffers holds.stored;
-      queue = record {
-        ringed = ringed_elsewhere q h.size h.base s.past (s.heads q) s.memory p bs good.size off holds.queue.ringed;
-        driven = holds.queue.driven;
-        built = built_elsewhere q h.size h.base s.past (s.heads q) s.memory p bs l.batch l.phase good.size off holds.queue.built;
-      };
+      queue = queue_elsewhere q h s p bs l.driver l.batch l.phase good.size off holds.queue;
     }
 
 abbrev pub offered : Lane → Lane

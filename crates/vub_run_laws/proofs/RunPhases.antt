@@ -26,7 +26,8 @@ use Rattle.vub_run_laws.proofs.RunGood.{the_ring, IsPending, Worked, Holds}
 use Rattle.vub_run_laws.proofs.RunTracks.{ahead_by}
 use Rattle.vub_run_laws.proofs.RunEfforts.{weight, effort, sum_below, sum_more, weight_small, sum_moved}
 use Rattle.vub_run_laws.proofs.RunGuests.{IsGood, holds_track}
-use Rattle.vub_run_laws.proofs.RunWork.{Fine, driven_same, built_same}
+use Rattle.vub_run_laws.proofs.RunWork.{Fine}
+use Rattle.vub_run_laws.proofs.RunQueue.{queue_same, queue_entry}
 
 -- the lane at rest
 abbrev pub resting : Lane → Lane
@@ -70,11 +71,7 @@ start_holds q h s l list stopped x = record {
     sectors = λ k i is_open kept read. absurd (let zero_made : l.made k ≡ 0 = (x.worked.quiet stopped).1.1 k in omega (arith, kept.put));
     status = x.stored.status;
   };
-  queue = record {
-    ringed = record { avail_idx_is = x.queue.ringed.avail_idx_is; used_idx_is = x.queue.ringed.used_idx_is; avail_at = x.queue.ringed.avail_at; used_at = x.queue.ringed.used_at };
-    driven = driven_same q h.size h.capacity h.base s.past (entries.Start q list ∷ s.past) (s.heads q) l.driver (λ j o. record { below = o.below; kept = o.kept }) x.queue.driven;
-    built = built_same q h.size h.base s.past (entries.Start q list ∷ s.past) (s.heads q) s.memory l.batch l.phase refl (λ j. refl) x.queue.built;
-  };
+  queue = queue_same q h s (entries.Start q list ∷ s.past) l.driver l.batch l.phase refl refl refl (λ j. refl) x.queue;
 }
 
 pub start_fine : (q : ℕ) (h : Header1) (s : Scene) (l : Lane) → IsGood h → started s.past q ≡ false → Holds q h s (resting l) → Fine q h s (resting l) (phase_goes_on h q s (under_way turns.Start (resting l)))
@@ -147,11 +144,7 @@ accept_holds q h s l k more x = record {
     }) kept read;
     status = x.stored.status;
   };
-  queue = record {
-    ringed = record { avail_idx_is = x.queue.ringed.avail_idx_is; used_idx_is = x.queue.ringed.used_idx_is; avail_at = λ i from upto. x.queue.ringed.avail_at i (omega (arith, from, accepted_own s.past q k)) upto; used_at = x.queue.ringed.used_at };
-    driven = driven_same q h.size h.capacity h.base s.past (entries.Accept q k ∷ s.past) (s.heads q) l.driver (λ j o. record { below = o.below; kept = o.kept }) x.queue.driven;
-    built = built_same q h.size h.base s.past (entries.Accept q k ∷ s.past) (s.heads q) s.memory l.batch l.phase refl (λ j. refl) x.queue.built;
-  };
+  queue = queue_entry q h s (entries.Accept q k ∷ s.past) l.driver l.batch l.phase (record { accepts = omega (arith, accepted_own s.past q k); shows = refl; collects = omega arith; asks = λ j. refl }) refl x.queue;
 }
 
 -- where something waits, an offer isn't accepted

@@ -36,7 +36,8 @@ use Rattle.vub_run_laws.proofs.RunEfforts.{shown_falls}
 use Rattle.vub_run_laws.proofs.RunFrames.{keeps, entry_small, length_little, stored_elsewhere, below_buffers}
 use Rattle.vub_run_laws.proofs.RunGuests.{stored_at, holds_track}
 use Rattle.vub_run_laws.proofs.RunPhases.{resting}
-use Rattle.vub_run_laws.proofs.RunWork.{Fine, driven_same}
+use Rattle.vub_run_laws.proofs.RunWork.{Fine}
+use Rattle.vub_run_laws.proofs.RunQueue.{driven_same}
 use Rattle.vub_run_laws.proofs.RunElements.{StepAt, AtId, AtLen, AtIndex, step_at, batch_room}
 use Rattle.vub_run_laws.proofs.RunPublications.{publishing, IsUnderWay, none_left, in_batch, batch_open, id_fine, len_fine, numbers_answers, all_map, good_map, good_append, answer_right}
 
