@@ -14,12 +14,13 @@ use Rattle.vub_ring.specs.Ring.{avail_idx, avail_entry_place, avail_idx_place, l
 use Rattle.vub_driver.specs.Drivers.{Driver, Waiting, with_left, after_stores}
 use Rattle.vub_driver.specs.Requests.{pieces, has_data}
 use Rattle.vub_driver.specs.Stores.{buffer_stores, chain_stores, offer_stores, stores_with, request_stores}
+use Rattle.vub_driver.specs.TableChain.{chain_in}
 use Rattle.vub_device.specs.declared.entry.Asked.{Asked}
 use Rattle.vub_device.specs.declared.entry.Entry.{Entry}
 use Rattle.vub_device.specs.declared.entry.Entry.TheVariants as entries
 use Rattle.vub_device.specs.Past.{asked}
 use Rattle.vub_report.specs.declared.items.Item.TheVariants as items
-use Rattle.vub_run.specs.Memory.{Scene, with_at, after_item, after_items}
+use Rattle.vub_run.specs.Memory.{Scene, with_last, after_item, after_items}
 use Rattle.vub_run.specs.Run.{guest_items}
 use Rattle.vub_device.specs.Requests.{request_of}
 use Rattle.vub_run_laws.proofs.RunGood.{the_ring, IsSize, IsWide, IsOut, IsWaiting, Known, Driven}
@@ -201,7 +202,7 @@ guest_chained h s v w count good few known driven waits whole ready c =
     (stores_make n h.capacity v.avail_idx w.head ready.body ready.status w.ask s.memory good.size few waits.wide up ready.upper ready.none ready.fits) in
     let past : List Entry = entries.Offer 0 r ∷ s.past in
     let heads : List ℕ = s.heads 0 ++ w.head ∷ [] in
-    let next : Scene = record { memory = m; past = past; heads = with_at s.heads 0 heads } in
+    let next : Scene = record { memory = m; past = past; heads = with_last s.heads 0 w.head; descriptors = with_last s.descriptors 0 (chain_in (the_ring n) m w.head) } in
     let stands : Chained n next (offered_driver v) = record {
       linked = λ k out. elim (cases_lt k (length (s.heads 0))) [
         | inl low ↦
@@ -228,5 +229,5 @@ guest_chained h s v w count good few known driven waits whole ready c =
       waits = tt;
     } in
     let shown : Chained n (after_item h (items.Made (entries.Offer 0 r)) (record s { memory = m })) (offered_driver v) =
-    subst (λ (x : ℕ). Chained n (record { memory = m; past = past; heads = with_at s.heads 0 (s.heads 0 ++ x ∷ []) }) (offered_driver v)) (sym shows) stands in
+    subst (λ (x : ℕ). Chained n (record { memory = m; past = past; heads = with_last s.heads 0 x; descriptors = with_last s.descriptors 0 (chain_in (the_ring n) m x) }) (offered_driver v)) (sym shows) stands in
     subst (λ (x : Scene). Chained n x (offered_driver v)) (sym (guest_scene h count w.ask w.left s ready.some whole)) shown

@@ -13,13 +13,14 @@ use Rattle.vub_shared.specs.Stores.{Store, one_store}
 use Rattle.vub_ring.specs.Ring.{avail_entry_place, avail_idx_place, head_at, last_head}
 use Rattle.vub_driver.specs.Drivers.{Driver, Waiting, with_left}
 use Rattle.vub_driver.specs.Stores.{offer_stores}
+use Rattle.vub_driver.specs.TableChain.{chain_in}
 use Rattle.vub_device.specs.declared.entry.Asked.{Asked}
 use Rattle.vub_device.specs.declared.entry.Entry.TheVariants as entries
 use Rattle.vub_device.specs.Legal.{LegalFrom}
 use Rattle.vub_device.specs.Past.{IsOpen}
 use Rattle.vub_report.specs.declared.items.Item.{Item}
 use Rattle.vub_report.specs.declared.items.Item.TheVariants as items
-use Rattle.vub_run.specs.Memory.{Scene, with_at, after_item, after_items}
+use Rattle.vub_run.specs.Memory.{Scene, with_last, after_item, after_items}
 use Rattle.vub_run.specs.Moments.{Lane}
 use Rattle.vub_run.specs.Run.{guest_items, with_driver}
 use Rattle.vub_device.specs.Requests.{request_of}
@@ -111,7 +112,7 @@ index_holds h s l w good waits holds stands =
     let last : last_head (the_ring h.size) m ≡ w.head = shown_head h.size h.base s.past (s.heads 0) m r w.head holds.known.offered ringed in
     let stored = stored_elsewhere s.past (s.heads 0) s.memory p bs l.batch l.completed l.made holds.worked.opens (λ k is_open. below_buffers (s.heads 0) k p bs (omega arith)) holds.stored in
     let built = built_below h.size h.base s.past (s.heads 0) s.memory p bs l.batch l.phase (omega arith) holds.built in
-    let whole : Holds h (record { memory = m; past = entries.Offer 0 r ∷ s.past; heads = with_at s.heads 0 (s.heads 0 ++ w.head ∷ []) }) (offered l) = record {
+    let whole : Holds h (record { memory = m; past = entries.Offer 0 r ∷ s.past; heads = with_last s.heads 0 w.head; descriptors = with_last s.descriptors 0 (chain_in (the_ring h.size) m w.head) }) (offered l) = record {
       known = offer_known h.size h.capacity s.past (s.heads 0) r w.head holds.known waits.wide room;
       ringed = ringed;
       driven = offer_driven h.size h.capacity h.base s.past (s.heads 0) l.driver w r holds.driven waits;
@@ -119,7 +120,7 @@ index_holds h s l w good waits holds stands =
       stored = offer_stored h.size h.capacity s.past (s.heads 0) r w.head m l.phase l.batch l.completed l.made holds.known holds.worked stored;
       built = offer_built h.size h.capacity h.base s.past (s.heads 0) r w.head m l.phase l.batch l.completed l.made holds.known (batch_taken s.past l.phase l.batch l.completed l.made holds.worked) built;
     } in
-    subst (λ (y : ℕ). Holds h (record { memory = m; past = entries.Offer 0 r ∷ s.past; heads = with_at s.heads 0 (s.heads 0 ++ y ∷ []) }) (offered l)) (sym last) whole
+    subst (λ (y : ℕ). Holds h (record { memory = m; past = entries.Offer 0 r ∷ s.past; heads = with_last s.heads 0 y; descriptors = with_last s.descriptors 0 (chain_in (the_ring h.size) m y) }) (offered l)) (sym last) whole
 
 -- all that are left from a plan, up to the offer
 pub guest_holds : (h : Header1) (mode : CacheMode) (s : Scene) (l : Lane) (w : Waiting) (count : ℕ) (first : List Store) → IsGood h → IsWaiting h.size h.capacity s.past (s.heads 0) l.driver w → AllByRecursion (IsHarmless w.head) first → length first + 2 ≤ count → Holds h s l
