@@ -24,9 +24,11 @@ pub mod RunItems
 pub mod RunLawful
 pub mod RunNumbers
 pub mod RunOffers
+pub mod RunOwn
 pub mod RunParts
 pub mod RunPhases
 pub mod RunPublications
+pub mod RunQueues
 pub mod RunQuiet
 pub mod RunServes
 pub mod RunShown

@@ -21,7 +21,6 @@ use Rattle.vub_device.specs.Past.{asked, accepted}
 use Rattle.vub_device.specs.Requests.{look_at, effect_at}
 use Rattle.vub_schedule.specs.declared.types.Event.{Event}
 use Rattle.vub_schedule.specs.declared.types.Event.TheVariants as events
-use Rattle.vub_schedule.specs.Spelling.{IsEvent}
 use Rattle.vub_report.specs.declared.items.Item.{Item}
 use Rattle.vub_report.specs.declared.items.Item.TheVariants as items
 use Rattle.vub_run.specs.Lawful.{IsLawfulItem, BeforeEach}
@@ -51,71 +50,71 @@ quiet_kept h s (i ∷ is) all = quiet_kept h (after_item h i s) is all.1 ∙ all
 
 -- ---- the device
 
-step_quiet : (h : Header1) (batch : List ℕ) (step : Step) (s : Scene) → AreQuiet h (step_items h 0 batch step s)
-step_quiet h batch steps.Start s = (record { lawful = λ e x. tt; kept = λ x. refl }, tt)
-step_quiet h batch steps.Accept s = (record { lawful = λ e x. tt; kept = λ x. refl }, tt)
-step_quiet h batch (steps.Id e) s = go (slice_get (map (element_of h 0 s) batch) e)
+step_quiet : (q : ℕ) (h : Header1) (batch : List ℕ) (step : Step) (s : Scene) → AreQuiet h (step_items h q batch step s)
+step_quiet q h batch steps.Start s = (record { lawful = λ e x. tt; kept = λ x. refl }, tt)
+step_quiet q h batch steps.Accept s = (record { lawful = λ e x. tt; kept = λ x. refl }, tt)
+step_quiet q h batch (steps.Id e) s = go (slice_get (map (element_of h q s) batch) e)
   where
     i : ℕ
-    i = used_idx (the_ring h.size) s.memory + e
+    i = used_idx (the_ring q h.size) s.memory + e
 
-    go : (o : Option (ℕ × ℕ)) → AreQuiet h (row_items (option_map (λ (y : ℕ × ℕ). row (the_ring h.size) SP1 (used_id_place (the_ring h.size) i) (little_bytes 4 y.0)) o) ++ [])
+    go : (o : Option (ℕ × ℕ)) → AreQuiet h (row_items (option_map (λ (y : ℕ × ℕ). row (the_ring q h.size) SP1 (used_id_place (the_ring q h.size) i) (little_bytes 4 y.0)) o) ++ [])
     go None = tt
     go (Some y) = (record { lawful = λ e x. tt; kept = λ x. refl }, tt)
-step_quiet h batch (steps.Len e) s = go (slice_get (map (element_of h 0 s) batch) e)
+step_quiet q h batch (steps.Len e) s = go (slice_get (map (element_of h q s) batch) e)
   where
     i : ℕ
-    i = used_idx (the_ring h.size) s.memory + e
+    i = used_idx (the_ring q h.size) s.memory + e
 
-    go : (o : Option (ℕ × ℕ)) → AreQuiet h (row_items (option_map (λ (y : ℕ × ℕ). row (the_ring h.size) SP2 (used_len_place (the_ring h.size) i) (little_bytes 4 y.1)) o) ++ [])
+    go : (o : Option (ℕ × ℕ)) → AreQuiet h (row_items (option_map (λ (y : ℕ × ℕ). row (the_ring q h.size) SP2 (used_len_place (the_ring q h.size) i) (little_bytes 4 y.1)) o) ++ [])
     go None = tt
     go (Some y) = (record { lawful = λ e x. tt; kept = λ x. refl }, tt)
-step_quiet h batch steps.Index s = (record { lawful = λ e x. tt; kept = λ x. refl }, (record { lawful = λ e x. tt; kept = λ x. refl }, tt))
+step_quiet q h batch steps.Index s = (record { lawful = λ e x. tt; kept = λ x. refl }, (record { lawful = λ e x. tt; kept = λ x. refl }, tt))
 
-phase_quiet : (h : Header1) (s : Scene) (l : Lane) (o : Option Step) → AreQuiet h (phase_turn h 0 s l o).items
-phase_quiet h s l None = tt
-phase_quiet h s l (Some step) = step_quiet h l.batch step s
+phase_quiet : (q : ℕ) (h : Header1) (s : Scene) (l : Lane) (o : Option Step) → AreQuiet h (phase_turn h q s l o).items
+phase_quiet q h s l None = tt
+phase_quiet q h s l (Some step) = step_quiet q h l.batch step s
 
-look_quiet : (h : Header1) (k : ℕ) (past : List Entry) (o : Option ℕ) → AreQuiet h (look_items 0 k past o)
-look_quiet h k past None = tt
-look_quiet h k past (Some s) = (record { lawful = λ e x. tt; kept = λ x. refl }, tt)
+look_quiet : (q : ℕ) (h : Header1) (k : ℕ) (past : List Entry) (o : Option ℕ) → AreQuiet h (look_items q k past o)
+look_quiet q h k past None = tt
+look_quiet q h k past (Some s) = (record { lawful = λ e x. tt; kept = λ x. refl }, tt)
 
-act_quiet : (h : Header1) (k : ℕ) (o : Option SectorValue) → AreQuiet h (act_items 0 k o)
-act_quiet h k None = tt
-act_quiet h k (Some x) = (record { lawful = λ e s. tt; kept = λ s. refl }, tt)
+act_quiet : (q : ℕ) (h : Header1) (k : ℕ) (o : Option SectorValue) → AreQuiet h (act_items q k o)
+act_quiet q h k None = tt
+act_quiet q h k (Some x) = (record { lawful = λ e s. tt; kept = λ s. refl }, tt)
 
-task_quiet : (h : Header1) (s : Scene) (l : Lane) (k : ℕ) (r : Asked) (o : Option RequestStep) → AreQuiet h (task_turn h 0 s l k r o).items
-task_quiet h s l k r None = tt
-task_quiet h s l k r (Some (Look place)) = look_quiet h k s.past (look_at r place)
-task_quiet h s l k r (Some (Put place)) = (record { lawful = λ e x. tt; kept = λ x. refl }, tt)
-task_quiet h s l k r (Some (Act place)) = act_quiet h k (effect_at r place)
-task_quiet h s l k r (Some Sync) = (record { lawful = λ e x. tt; kept = λ x. refl }, tt)
-task_quiet h s l k r (Some Status) = (record { lawful = λ e x. tt; kept = λ x. refl }, tt)
+task_quiet : (q : ℕ) (h : Header1) (s : Scene) (l : Lane) (k : ℕ) (r : Asked) (o : Option RequestStep) → AreQuiet h (task_turn h q s l k r o).items
+task_quiet q h s l k r None = tt
+task_quiet q h s l k r (Some (Look place)) = look_quiet q h k s.past (look_at r place)
+task_quiet q h s l k r (Some (Put place)) = (record { lawful = λ e x. tt; kept = λ x. refl }, tt)
+task_quiet q h s l k r (Some (Act place)) = act_quiet q h k (effect_at r place)
+task_quiet q h s l k r (Some Sync) = (record { lawful = λ e x. tt; kept = λ x. refl }, tt)
+task_quiet q h s l k r (Some Status) = (record { lawful = λ e x. tt; kept = λ x. refl }, tt)
 
-request_quiet : (h : Header1) (s : Scene) (l : Lane) (k : ℕ) (o : Option Asked) → AreQuiet h (request_turn h 0 s l k o).items
-request_quiet h s l k None = tt
-request_quiet h s l k (Some r) = task_quiet h s l k r (slice_get (task_steps h r) (l.made k))
+request_quiet : (q : ℕ) (h : Header1) (s : Scene) (l : Lane) (k : ℕ) (o : Option Asked) → AreQuiet h (request_turn h q s l k o).items
+request_quiet q h s l k None = tt
+request_quiet q h s l k (Some r) = task_quiet q h s l k r (slice_get (task_steps h r) (l.made k))
 
-work_quiet : (h : Header1) (s : Scene) (l : Lane) (o : Option ℕ) → AreQuiet h (work_turn h 0 s l o).items
-work_quiet h s l None = tt
-work_quiet h s l (Some k) = request_quiet h s l k (asked s.past 0 k)
+work_quiet : (q : ℕ) (h : Header1) (s : Scene) (l : Lane) (o : Option ℕ) → AreQuiet h (work_turn h q s l o).items
+work_quiet q h s l None = tt
+work_quiet q h s l (Some k) = request_quiet q h s l k (asked s.past q k)
 
-goes_quiet : (h : Header1) (s : Scene) (l : Lane) → AreQuiet h (phase_goes_on h 0 s l).items
-goes_quiet h s l = phase_quiet h s l (next_step (length l.batch) l.phase)
+goes_quiet : (q : ℕ) (h : Header1) (s : Scene) (l : Lane) → AreQuiet h (phase_goes_on h q s l).items
+goes_quiet q h s l = phase_quiet q h s l (next_step (length l.batch) l.phase)
 
-pub turned_quiet : (h : Header1) (t : Turn) (m : Moment) → AreQuiet h (turned h 0 t m).items
-turned_quiet h turns.Start m = goes_quiet h m.scene (under_way turns.Start (m.lanes 0))
-turned_quiet h turns.Fetch m = goes_quiet h m.scene (under_way turns.Fetch (m.lanes 0))
-turned_quiet h (turns.Publish most) m = goes_quiet h m.scene (under_way (turns.Publish most) (m.lanes 0))
-turned_quiet h (turns.Work place) m = work_quiet h m.scene (m.lanes 0) (slice_get (unfinished 0 m) place)
+pub turned_quiet : (q : ℕ) (h : Header1) (t : Turn) (m : Moment) → AreQuiet h (turned h q t m).items
+turned_quiet q h turns.Start m = goes_quiet q h m.scene (under_way turns.Start (m.lanes q))
+turned_quiet q h turns.Fetch m = goes_quiet q h m.scene (under_way turns.Fetch (m.lanes q))
+turned_quiet q h (turns.Publish most) m = goes_quiet q h m.scene (under_way (turns.Publish most) (m.lanes q))
+turned_quiet q h (turns.Work place) m = work_quiet q h m.scene (m.lanes q) (slice_get (unfinished q m) place)
 
-turns_quiet : (count : ℕ) (choose : Moment → Turn) (h : Header1) (m : Moment) → AreQuiet h (many_turns count choose h 0 m).items
-turns_quiet zero choose h m = tt
-turns_quiet (suc count) choose h m = go (is_due h 0 (choose m) m) (turns_quiet count choose h (one_turn h 0 (choose m) m).next)
+turns_quiet : (q count : ℕ) (choose : Moment → Turn) (h : Header1) (m : Moment) → AreQuiet h (many_turns count choose h q m).items
+turns_quiet q zero choose h m = tt
+turns_quiet q (suc count) choose h m = go (is_due h q (choose m) m) (turns_quiet q count choose h (one_turn h q (choose m) m).next)
   where
-    go : (b : Bool) → AreQuiet h (many_turns count choose h 0 (one_turn h 0 (choose m) m).next).items
-        → AreQuiet h (cond {A = Played} b (then_played (one_turn h 0 (choose m) m) (many_turns count choose h 0 (one_turn h 0 (choose m) m).next)) (played [] m)).items
-    go true rest = all_append (IsQuiet h) (one_turn h 0 (choose m) m).items (many_turns count choose h 0 (one_turn h 0 (choose m) m).next).items (turned_quiet h (choose m) m) rest
+    go : (b : Bool) → AreQuiet h (many_turns count choose h q (one_turn h q (choose m) m).next).items
+        → AreQuiet h (cond {A = Played} b (then_played (one_turn h q (choose m) m) (many_turns count choose h q (one_turn h q (choose m) m).next)) (played [] m)).items
+    go true rest = all_append (IsQuiet h) (one_turn h q (choose m) m).items (many_turns count choose h q (one_turn h q (choose m) m).next).items (turned_quiet q h (choose m) m) rest
     go false rest = tt
 
 -- ---- any event but the driver's stores
@@ -130,16 +129,16 @@ tested h false p m quiet = idle_quiet h
 made_quiet : (h : Header1) (is : List Item) (next : Moment) (p : Played) → played is next ≡ p → AreQuiet h p.items → AreQuiet h is
 made_quiet h is next p e quiet = subst (λ (x : Played). AreQuiet h x.items) (sym e) quiet
 
-taken_quiet : (h : Header1) (xs : List (ℕ × ℕ)) (m : Moment) → AreQuiet h (take_first h 0 xs m).items
-taken_quiet h [] m = idle_quiet h
-taken_quiet h (x ∷ xs) m = (record { lawful = λ e s. tt; kept = λ s. refl }, tt)
+taken_quiet : (q : ℕ) (h : Header1) (xs : List (ℕ × ℕ)) (m : Moment) → AreQuiet h (take_first h q xs m).items
+taken_quiet q h [] m = idle_quiet h
+taken_quiet q h (x ∷ xs) m = (record { lawful = λ e s. tt; kept = λ s. refl }, tt)
 
-drain_quiet : (h : Header1) (m : Moment) (choose : Moment → Turn) (is : List Item) (next : Moment) → Drains h 0 m choose is next → AreQuiet h is
-drain_quiet h m choose is next (inl none) = made_quiet h is next (played (items.Idle ∷ []) m) none.1 (idle_quiet h)
-drain_quiet h m choose is next (inr some) = made_quiet h is next (many_turns some.1.count choose h 0 m) some.1.made (turns_quiet some.1.count choose h m)
+drain_quiet : (q : ℕ) (h : Header1) (m : Moment) (choose : Moment → Turn) (is : List Item) (next : Moment) → Drains h q m choose is next → AreQuiet h is
+drain_quiet q h m choose is next (inl none) = made_quiet h is next (played (items.Idle ∷ []) m) none.1 (idle_quiet h)
+drain_quiet q h m choose is next (inr some) = made_quiet h is next (many_turns some.1.count choose h q m) some.1.made (turns_quiet q some.1.count choose h m)
 
-single_quiet : (h : Header1) (t : Turn) (m : Moment) → AreQuiet h (single h 0 t m).items
-single_quiet h t m = tested h (is_due h 0 t m) (one_turn h 0 t m) m (turned_quiet h t m)
+single_quiet : (q : ℕ) (h : Header1) (t : Turn) (m : Moment) → AreQuiet h (single h q t m).items
+single_quiet q h t m = tested h (is_due h q t m) (one_turn h q t m) m (turned_quiet q h t m)
 
 boot_quiet : (h : Header1) (m : Moment) → AreQuiet h (boot m).items
 boot_quiet h m = tested h (not m.lives) (played [] (record m { lives = true; joined = false; lanes = λ q. fresh (m.lanes q) })) m tt
@@ -152,29 +151,16 @@ abbrev pub IsGuest : Event → Type 0
 IsGuest (events.Guest q count) = ⊤
 IsGuest e = ⊥
 
-pub event_quiet : (h : Header1) (m : Moment) (e : Event) (is : List Item) (next : Moment) → (IsGuest e → ⊥) → IsEvent h e → Plays h m e is next → AreQuiet h is
-event_quiet h m (events.Ask q shape a) is next other fits plays = made_quiet h is next (ask h q shape a m) plays (tested h (can_take h.size shape a (m.lanes q).driver) _ m tt)
-event_quiet h m (events.Guest q k) is next other fits plays = absurd (other tt)
-event_quiet h m (events.Collect q) is next other fits plays =
-    let here : Plays h m (events.Collect 0) is next = subst (λ (p : ℕ). Plays h m (events.Collect p) is next) fits plays in
-    made_quiet h is next (collect h 0 m) here (taken_quiet h _ m)
-event_quiet h m events.Boot is next other fits plays = made_quiet h is next (boot m) plays (boot_quiet h m)
-event_quiet h m events.Join is next other fits plays = made_quiet h is next (join m) plays (join_quiet h m)
-event_quiet h m (events.Start q) is next other fits plays =
-    let here : Plays h m (events.Start 0) is next = subst (λ (p : ℕ). Plays h m (events.Start p) is next) fits plays in
-    made_quiet h is next (single h 0 turns.Start m) here (single_quiet h turns.Start m)
-event_quiet h m (events.Fetch q) is next other fits plays =
-    let here : Plays h m (events.Fetch 0) is next = subst (λ (p : ℕ). Plays h m (events.Fetch p) is next) fits plays in
-    made_quiet h is next (single h 0 turns.Fetch m) here (single_quiet h turns.Fetch m)
-event_quiet h m (events.Work q place) is next other fits plays =
-    let here : Plays h m (events.Work 0 place) is next = subst (λ (p : ℕ). Plays h m (events.Work p place) is next) fits.0 plays in
-    made_quiet h is next (single h 0 (turns.Work place) m) here (single_quiet h (turns.Work place) m)
-event_quiet h m (events.Publish q most) is next other fits plays =
-    let here : Plays h m (events.Publish 0 most) is next = subst (λ (p : ℕ). Plays h m (events.Publish p most) is next) fits.0 plays in
-    made_quiet h is next (single h 0 (turns.Publish most) m) here (single_quiet h (turns.Publish most) m)
-event_quiet h m (events.Turn q count) is next other fits plays =
-    let here : Plays h m (events.Turn 0 count) is next = subst (λ (p : ℕ). Plays h m (events.Turn p count) is next) fits.0 plays in
-    made_quiet h is next (up_to count (any_choice h 0) h 0 m) here (tested h (is_due h 0 (any_choice h 0 m) m) (many_turns count (any_choice h 0) h 0 m) m (turns_quiet count (any_choice h 0) h m))
-event_quiet h m (events.Drain q) is next other fits plays =
-    let here : Plays h m (events.Drain 0) is next = subst (λ (p : ℕ). Plays h m (events.Drain p) is next) fits plays in
-    drain_quiet h m (drain_choice h 0 (accepted m.scene.past 0)) is next here
+pub event_quiet : (h : Header1) (m : Moment) (e : Event) (is : List Item) (next : Moment) → (IsGuest e → ⊥) → Plays h m e is next → AreQuiet h is
+event_quiet h m (events.Ask q shape a) is next other plays = made_quiet h is next (ask h q shape a m) plays (tested h (can_take h.size shape a (m.lanes q).driver) _ m tt)
+event_quiet h m (events.Guest q k) is next other plays = absurd (other tt)
+event_quiet h m (events.Collect q) is next other plays = made_quiet h is next (collect h q m) plays (taken_quiet q h _ m)
+event_quiet h m events.Boot is next other plays = made_quiet h is next (boot m) plays (boot_quiet h m)
+event_quiet h m events.Join is next other plays = made_quiet h is next (join m) plays (join_quiet h m)
+event_quiet h m (events.Start q) is next other plays = made_quiet h is next (single h q turns.Start m) plays (single_quiet q h turns.Start m)
+event_quiet h m (events.Fetch q) is next other plays = made_quiet h is next (single h q turns.Fetch m) plays (single_quiet q h turns.Fetch m)
+event_quiet h m (events.Work q place) is next other plays = made_quiet h is next (single h q (turns.Work place) m) plays (single_quiet q h (turns.Work place) m)
+event_quiet h m (events.Publish q most) is next other plays = made_quiet h is next (single h q (turns.Publish most) m) plays (single_quiet q h (turns.Publish most) m)
+event_quiet h m (events.Turn q count) is next other plays =
+    made_quiet h is next (up_to count (any_choice h q) h q m) plays (tested h (is_due h q (any_choice h q m) m) (many_turns count (any_choice h q) h q m) m (turns_quiet q count (any_choice h q) h m))
+event_quiet h m (events.Drain q) is next other plays = drain_quiet q h m (drain_choice h q (accepted m.scene.past q)) is next plays
