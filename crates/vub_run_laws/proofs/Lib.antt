@@ -28,6 +28,7 @@ pub mod RunOwn
 pub mod RunParts
 pub mod RunPhases
 pub mod RunPublications
+pub mod RunQueue
 pub mod RunQueues
 pub mod RunQuiet
 pub mod RunServes

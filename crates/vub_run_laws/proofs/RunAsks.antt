@@ -177,9 +177,11 @@ ask_holds q h s l a good plain ready x =
     let needed = few_needed a in
     let all : AllByRecursion (IsFree h.size v.owner) (chosen h.size a v) = free_taken h.size v.owner (descriptors_needed a) free (free_are v.owner h.size 0 h.size (omega arith)) in record {
       known = x.known;
-      ringed = x.ringed;
-      driven = ask_driven q h.size h.capacity h.base s.past (s.heads q) a v (chosen h.size a v) good.size.small plain (omega (arith, many, needed.0)) (omega (arith, many, needed.1)) all x.driven;
       worked = x.worked;
       stored = x.stored;
-      built = x.built;
+      queue = record {
+        ringed = x.queue.ringed;
+        driven = ask_driven q h.size h.capacity h.base s.past (s.heads q) a v (chosen h.size a v) good.size.small plain (omega (arith, many, needed.0)) (omega (arith, many, needed.1)) all x.queue.driven;
+        built = x.queue.built;
+      };
     }

@@ -214,11 +214,13 @@ boot_right q h m plain good = tested q h m (not m.lives) (played [] (record m { 
       good = record {
         holds = record {
           known = good.holds.known;
-          ringed = good.holds.ringed;
-          driven = good.holds.driven;
           worked = fresh_worked q m.scene.past (m.lanes q) stopped good.holds.worked;
           stored = record { sectors = λ k i is_open kept read. absurd (omega (arith, kept.put)); status = λ k held. absurd (let fails : false ≡ true = held in cc) };
-          built = tt;
+          queue = record {
+            ringed = good.holds.queue.ringed;
+            driven = good.holds.queue.driven;
+            built = tt;
+          };
         };
         asleep = λ e. absurd (let fails : true ≡ false = e in cc);
         idle = good.idle;
@@ -231,7 +233,7 @@ boot_right q h m plain good = tested q h m (not m.lives) (played [] (record m { 
 join_right : (q : ℕ) (h : Header1) (m : Moment) → IsPlain h → Good q h m → Leads q h m (join m)
 join_right q h m plain good = tested q h m (m.lives && not m.joined) (played [] (record m { joined = true; lanes = λ q. record (m.lanes q) { attached = true } })) plain good (λ ready. record {
   good = record {
-    holds = record { known = good.holds.known; ringed = good.holds.ringed; driven = good.holds.driven; worked = good.holds.worked; stored = good.holds.stored; built = good.holds.built };
+    holds = record { known = good.holds.known; worked = good.holds.worked; stored = good.holds.stored; queue = good.holds.queue };
     asleep = λ dead. absurd (grind (arith, nat_tests));
     idle = good.idle;
   };
