@@ -157,8 +157,8 @@ goes_lane q h r s l done u u' g more is =
     (subst (λ (x : Phase). QueueAt q h r s.past (s.heads q) (with_phase x (publishing done l)).phase (with_phase x (publishing done l)).batch l.completed l.made (moved u)) (sym goes) named)
 
 -- what a step makes that stores this row and makes no entry
-abbrev element_turn : Lane → ℕ → Option Row → Turned
-element_turn l done o = record { items = row_items o ++ []; lane = with_phase (after_step (course_of h l) (phases.Publish done)) (publishing done l) }
+abbrev element_turn : Header1 → Lane → ℕ → Option Row → Turned
+element_turn h l done o = record { items = row_items o ++ []; lane = with_phase (after_step (course_of h l) (phases.Publish done)) (publishing done l) }
 
 element_step : (q : ℕ) (h : Header1) (r : SplitRing) (s : Scene) (l : Lane) (done e : ℕ) (step : Step) (x : Stepped) (u u' : QueueState) (y : Row) → GoesOn q h r s l done u → done + 1 < 2 * length l.batch + 1
     → next_step (course_in u) u.phase ≡ Some step → (Some step ≡ Some (steps.Id e)) ⊎ (Some step ≡ Some (steps.Len e)) → table_row q h s l.batch (Some step) ≡ Some y → y.tag ≢ SP5 → y.store.space ≡ 0
