@@ -30,6 +30,7 @@ use Rattle.vub_queue.specs.QueueState.{QueueState}
 use Rattle.vub_queue_in_run.specs.QueueAt.{LiesAs, spot_of, left_of, TaskAt, QueueAt}
 use Rattle.vub_split.specs.declared.split.SplitRing.{SplitRing}
 use Rattle.vub_task.specs.declared.task.Task.{Task}
+use Rattle.vub_run_laws.proofs.RunOwn.{accepted_own, published_own, started_own}
 use Rattle.vub_run_laws.proofs.RunNumbers.{among_get, among_filter, missing-among}
 use Rattle.vub_run_laws.proofs.RunGood.{Known, Worked}
 use Rattle.vub_run_laws.proofs.RunOffers.{same_head, same_asked}
@@ -123,7 +124,7 @@ pub at_start : (q : ℕ) (h : Header1) (r : SplitRing) (past : List Entry) (head
 at_start q h r past heads made state none x = record {
   ring = x.ring;
   runs = x.runs;
-  started = refl;
+  started = sym (started_own past q (open_numbers past q));
   avail = x.avail;
   used = x.used;
   phase = x.phase;
@@ -184,7 +185,7 @@ left_more q past completed batch k unpublished out =
     let next : a + 1 ≡ suc a = omega arith in
     let longer : missing_below ps (suc a) ≡ missing_below ps a ++ a ∷ [] = grind (arith, nat_tests) in
     let kept : filter test (a ∷ []) ≡ a ∷ [] = grind (arith, nat_tests) in
-    ap (λ (n : ℕ). filter test (missing_below ps n)) next ∙ ap (filter test) longer ∙ filter-append test (missing_below ps a) (a ∷ []) ∙ ap (λ (ks : List ℕ). filter test (missing_below ps a) ++ ks) kept
+    ap (λ (n : ℕ). filter test (missing_below ps n)) (accepted_own past q a) ∙ ap (λ (n : ℕ). filter test (missing_below ps n)) next ∙ ap (filter test) longer ∙ filter-append test (missing_below ps a) (a ∷ []) ∙ ap (λ (ks : List ℕ). filter test (missing_below ps a) ++ ks) kept
 
 pub at_fetch : (q : ℕ) (h : Header1) (r : SplitRing) (past : List Entry) (heads : List ℕ) (completed : List ℕ) (made : ℕ → ℕ) (state : QueueState) (head : ℕ) → Known q h.size h.capacity past heads → Worked q past phases.Rest [] completed made
     → head ≡ slice_index heads (accepted past q) → QueueAt q h r past heads phases.Rest [] completed made state
@@ -199,7 +200,7 @@ at_fetch q h r past heads completed made state head known w is x =
       ring = x.ring;
       runs = x.runs;
       started = x.started;
-      avail = omega (arith, x.avail);
+      avail = omega (arith, x.avail, accepted_own past q a);
       used = x.used;
       phase = x.phase;
       batch = x.batch;
@@ -232,11 +233,11 @@ at_fetch q h r past heads completed made state head known w is x =
             absurd (first_step (refused h request) request place (subst (λ (n : ℕ). slice_get (task_steps h request) n ≡ Some (Put place)) begun next))
       ];
       taken = λ d low held. elim (cases_eq d head) [
-        | inl same ↦ (a, record { taken = omega arith; unpublished = unpublished }, sym is ∙ sym same)
+        | inl same ↦ (a, record { taken = omega (arith, accepted_own past q a); unpublished = unpublished }, sym is ∙ sym same)
         | inr apart ↦
             let before : is_taken state.taken d ≡ true = sym (get_or-set_other state.taken head d true true apart) ∙ held in
             let t = x.taken d low before in
-            (t.0, record { taken = omega (arith, t.1.taken); unpublished = t.1.unpublished }, t.2)
+            (t.0, record { taken = omega (arith, t.1.taken, accepted_own past q a); unpublished = t.1.unpublished }, t.2)
       ];
     }
   where
@@ -368,7 +369,8 @@ show_filter ps completed batch (suc n) =
 
 pub left_shown : (q : ℕ) (past : List Entry) (completed batch : List ℕ) (list : List Answered) → numbers list ≡ batch → left_of q (entries.Publish q list ∷ past) completed [] ≡ left_of q past completed batch
 left_shown q past completed batch list is =
-    ap (λ (ks : List ℕ). filter (λ k. not (is_among (completed ++ []) k)) (missing_below (published past q ++ ks) (accepted past q))) is
+    ap (λ (ks : List ℕ). filter (λ k. not (is_among (completed ++ []) k)) (missing_below ks (accepted past q))) (published_own past q list)
+    ∙ ap (λ (ks : List ℕ). filter (λ k. not (is_among (completed ++ []) k)) (missing_below (published past q ++ ks) (accepted past q))) is
     ∙ show_filter (published past q) completed batch (accepted past q)
 
 pub at_show : (q : ℕ) (h : Header1) (r : SplitRing) (past : List Entry) (heads : List ℕ) (phase : Phase) (batch completed : List ℕ) (made : ℕ → ℕ) (state : QueueState) (list : List Answered)
@@ -379,7 +381,7 @@ at_show q h r past heads phase batch completed made state list ends is main x =
     let many : length state.batch ≡ length batch = ap (λ (ks : List (ℕ × ℕ)). length ks) x.batch ∙ length-map batch (spot_of q h past heads) in
     let moved : states.moved state ≡ states.with_phase phases.Rest state = moved_is q h r past heads phase batch completed made state main x ∙ ap (λ (p : Phase). states.with_phase p state) ends in
     let same : left_of q past' completed [] ≡ left_of q past completed batch = left_shown q past completed batch list is in
-    let shown : length (published past' q) ≡ length (published past q) + length batch = length-append (published past q) (numbers list) ∙ ap (λ (ks : List ℕ). length (published past q) + length ks) is in
+    let shown : length (published past' q) ≡ length (published past q) + length batch = ap (λ (ks : List ℕ). length ks) (published_own past q list) ∙ length-append (published past q) (numbers list) ∙ ap (λ (ks : List ℕ). length (published past q) + length ks) is in
     subst (λ (t : QueueState). QueueAt q h r past' heads phases.Rest [] completed made t) (sym moved) (record {
       ring = x.ring;
       runs = x.runs;
@@ -407,7 +409,7 @@ at_show q h r past heads phase batch completed made state list ends is main x =
           ] in
           let both : is_among (published past q ++ batch) t.0 ≡ (is_among (published past q) t.0 || is_among batch t.0) = is_among_append (published past q) batch t.0 in
           let neither : is_among (published past q ++ batch) t.0 ≡ false = grind (arith, nat_tests) in
-          (t.0, record { taken = t.1.taken; unpublished = ap (λ (ks : List ℕ). is_among (published past q ++ ks) t.0) is ∙ neither }, t.2);
+          (t.0, record { taken = t.1.taken; unpublished = ap (λ (ks : List ℕ). is_among ks t.0) (published_own past q list) ∙ ap (λ (ks : List ℕ). is_among (published past q ++ ks) t.0) is ∙ neither }, t.2);
     })
 
 -- ---- an offer

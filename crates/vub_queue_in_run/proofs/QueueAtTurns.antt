@@ -29,6 +29,8 @@ use Rattle.vub_split.specs.Split.{avail_idx_word, head_word}
 use Rattle.vub_queue.specs.QueueState as states
 use Rattle.vub_queue.specs.QueueState.{QueueState, standing_at, Fetches, Breaks, BreaksBy, Publishes, publishes, DoesOf, Unless, Turns, is_fault}
 use Rattle.vub_queue_in_run.specs.QueueAt.{spot_of, QueueAt, LiesAs, QueueStands}
+use Rattle.vub_driver.specs.Layout.{area_place}
+use Rattle.vub_run_laws.proofs.RunOwn.{at_own}
 use Rattle.vub_run_laws.proofs.RunNumbers.{not_among-take}
 use Rattle.vub_run_laws.proofs.RunGood.{the_ring, IsOut, PhaseIs, Holds}
 use Rattle.vub_run_laws.proofs.RunFrames.{open_out}
@@ -77,7 +79,9 @@ abbrev pub StandsAfter : ℕ → Header1 → SplitRing → Scene → Turned → 
 StandsAfter q h r s t state = QueueAt q h r (after_items h t.items s).past ((after_items h t.items s).heads q) t.lane.phase t.lane.batch t.lane.completed t.lane.made state
 
 pub stands_after : (q : ℕ) (h : Header1) (r : SplitRing) (m : Moment) (t : Turn) (state : QueueState) → StandsAfter q h r m.scene (turned h q t m) state → QueueStands q h r (one_turn h q t m).next state
-stands_after q h r m t state z = z
+stands_after q h r m t state z =
+    let now : Scene = after_items h (turned h q t m).items m.scene in
+    subst (λ (l : Lane). QueueAt q h r now.past (now.heads q) l.phase l.batch l.completed l.made state) (sym (at_own m.lanes q (turned h q t m).lane)) z
 
 -- ---- a start
 
@@ -134,7 +138,7 @@ head_is q h r m state main z holds more =
     ap (λ (x : SplitRing). head_word x mem state.next_avail) z.ring
     ∙ ap (λ (s : ℕ). word 2 mem s (r.avail.1 + (4 + 2 * (state.next_avail % r.size)))) main.avail_space
     ∙ ap (λ (p : ℕ). word 2 mem 0 (p + (4 + 2 * (state.next_avail % r.size)))) main.avail
-    ∙ ap (λ (e : ℕ). word 2 mem 0 (4096 + (4 + 2 * e))) place
+    ∙ ap (λ (e : ℕ). word 2 mem 0 (area_place q + 4096 + (4 + 2 * e))) place
     ∙ holds.ringed.avail_at a (omega arith) more
 
 -- the next request isn't open, and is offered
