@@ -1,9 +1,9 @@
 -- Lists of heads, and what is left of them without others.
-use Rattle.std.proofs.Common.{◌≡◌, ◌≤◌, ◌<◌, ℕ, zero, suc, ◌+◌, true, false, not, List, [], ◌∷◌, ◌++◌, length, refl, ap, sym, ◌∙◌, inl, inr, arith}
+use Rattle.std.proofs.Common.{◌≡◌, ◌≢◌, ◌≤◌, ◌<◌, ℕ, zero, suc, ◌+◌, true, false, not, List, [], ◌∷◌, ◌++◌, length, map, refl, ap, sym, ◌∙◌, inl, inr, arith}
 use Rattle.std.specs.Prelude.{◌||◌, ◌&&◌, ◌==◌, remove, slice_get, Some}
 use Rattle.std.specs.List.{list_any, AllByRecursion, IsDistinct as IsDistinctBy}
 use Rattle.std.proofs.lemmas.Map.Steps.{length-le_from_distinct_below}
-use Rattle.std.proofs.lemmas.Bool.{cases_eq}
+use Rattle.std.proofs.lemmas.Bool.{cases_Bool, cases_eq}
 use Rattle.std.proofs.lemmas.Bool.Decides.{nat_tests}
 use Rattle.vub_device.specs.Past.{is_among}
 use Rattle.vub_device.specs.Places.{are_distinct}
@@ -169,3 +169,71 @@ length_without (x ∷ those) heads d e opens =
     ] in
     grind (arith, nat_tests)) in
     omega (arith, less, rest, ap (λ (xs : List ℕ). length xs) (without_both (x ∷ []) those heads))
+
+-- ---- numbers and their heads
+
+pub among_map : (f : ℕ → ℕ) (ks : List ℕ) (k : ℕ) → is_among ks k ≡ true → is_among (map f ks) (f k) ≡ true
+among_map f [] k held = absurd (let fails : false ≡ true = held in cc)
+among_map f (j ∷ ks) k held = elim (cases_eq j k) [
+  | inl same ↦ let at_k : f j ≡ f k = ap f same in grind (arith, nat_tests)
+  | inr apart ↦ let rest : is_among ks k ≡ true → is_among (map f ks) (f k) ≡ true = among_map f ks k in grind (arith, nat_tests)
+]
+
+-- a head that is among them is that of one of these numbers
+pub number_of : (f : ℕ → ℕ) (ks : List ℕ) (h : ℕ) → is_among (map f ks) h ≡ true → (k : ℕ) × (is_among ks k ≡ true) × (f k ≡ h)
+number_of f [] h held = absurd (let fails : false ≡ true = held in cc)
+number_of f (k ∷ ks) h held = elim (cases_eq (f k) h) [
+  | inl same ↦ (k, grind (arith, nat_tests), same)
+  | inr apart ↦
+      let rest = number_of f ks h (grind (arith, nat_tests)) in
+      let there : is_among ks rest.0 ≡ true = rest.1 in
+      (rest.0, grind (arith, nat_tests), rest.2)
+]
+
+-- of distinct heads each is one number's
+pub one_number : (f : ℕ → ℕ) (ns : List ℕ) (x y : ℕ) → are_distinct (map f ns) ≡ true → is_among ns x ≡ true → is_among ns y ≡ true → f x ≡ f y → x ≡ y
+one_number f [] x y d a b e = absurd (let fails : false ≡ true = a in cc)
+one_number f (z ∷ ns) x y d a b e =
+    let in_x : is_among ns x ≡ true → is_among (map f ns) (f x) ≡ true = among_map f ns x in
+    let in_y : is_among ns y ≡ true → is_among (map f ns) (f y) ≡ true = among_map f ns y in
+    let out : is_among (map f ns) (f z) ≡ false = grind (arith, nat_tests) in
+    let rest : is_among ns x ≡ true → is_among ns y ≡ true → x ≡ y = λ p q. one_number f ns x y (grind (arith, nat_tests)) p q e in
+    elim (cases_eq z x) [
+      | inl zx ↦ elim (cases_eq z y) [
+        | inl zy ↦ sym zx ∙ zy
+        | inr apart ↦ absurd (
+            let y_in : is_among ns y ≡ true = grind (arith, nat_tests) in
+            let both : is_among (map f ns) (f z) ≡ true = ap (is_among (map f ns)) (ap f zx ∙ e) ∙ in_y y_in in
+            cc)
+      ]
+      | inr apart ↦
+          let x_in : is_among ns x ≡ true = grind (arith, nat_tests) in
+          elim (cases_eq z y) [
+            | inl zy ↦ absurd (let both : is_among (map f ns) (f z) ≡ true = ap (is_among (map f ns)) (ap f zy ∙ sym e) ∙ in_x x_in in cc)
+            | inr other ↦ let y_in : is_among ns y ≡ true = grind (arith, nat_tests) in rest x_in y_in
+          ]
+    ]
+
+-- a number's head is among those of others exactly where it is one of them
+pub same_members : (f : ℕ → ℕ) (ks ns : List ℕ) (x : ℕ) → are_distinct (map f ns) ≡ true → ((k : ℕ) → is_among ks k ≡ true → is_among ns k ≡ true) → is_among ns x ≡ true → is_among (map f ks) (f x) ≡ is_among ks x
+same_members f [] ns x d within held = refl
+same_members f (k ∷ ks) ns x d within held =
+    let rest : is_among (map f ks) (f x) ≡ is_among ks x = same_members f ks ns x d (λ j there. within j (grind (arith, nat_tests))) held in
+    elim (cases_eq k x) [
+      | inl same ↦ let at_x : f k ≡ f x = ap f same in grind (arith, nat_tests)
+      | inr apart ↦ let differs : f k ≢ f x = λ e. apart (one_number f ns k x d (within k (grind (arith, nat_tests))) held e) in grind (arith, nat_tests)
+    ]
+
+map_filter : (f : ℕ → ℕ) (ks ns : List ℕ) → ((x : ℕ) → is_among ns x ≡ true → is_among (map f ks) (f x) ≡ is_among ks x) → without (map f ks) (map f ns) ≡ map f (without ks ns)
+map_filter f ks [] same = refl
+map_filter f ks (x ∷ ns) same =
+    let rest : without (map f ks) (map f ns) ≡ map f (without ks ns) = map_filter f ks ns (λ y held. same y (grind (arith, nat_tests))) in
+    let here : is_among (map f ks) (f x) ≡ is_among ks x = same x (grind (arith, nat_tests)) in
+    elim (cases_Bool (is_among ks x)) [
+      | inl holds ↦ grind (arith, nat_tests)
+      | inr fails ↦ grind (arith, nat_tests)
+    ]
+
+-- numbers taken out, and their heads
+pub without_map : (f : ℕ → ℕ) (ks ns : List ℕ) → are_distinct (map f ns) ≡ true → ((k : ℕ) → is_among ks k ≡ true → is_among ns k ≡ true) → without (map f ks) (map f ns) ≡ map f (without ks ns)
+without_map f ks ns d within = map_filter f ks ns (λ x held. same_members f ks ns x d within held)
