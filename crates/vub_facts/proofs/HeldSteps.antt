@@ -19,6 +19,16 @@ use Rattle.vub_facts.proofs.HeadLemmas.{among_without, among_get, few_below, rem
 pub held_words : (n : ℕ) (heads : List ℕ) (v w : Words) (s : State) → v.ring.used ≡ w.ring.used → Held n heads w s → Held n heads v s
 held_words n heads v w s same x = record { distinct = x.distinct; below = x.below; avail = x.avail ∙ ap (λ (u : ℕ). (u + length heads) % 65536) (sym same); taken = x.taken; splits = x.splits }
 
+-- a state that keeps the same
+pub held_like : (n : ℕ) (heads : List ℕ) (w : Words) (s t : State) → t.avail ≡ s.avail → ((d : ℕ) → d < n → t.taken d ≡ s.taken d) → t.unfinished ≡ s.unfinished → busy t ≡ busy s → Held n heads w s → Held n heads w t
+held_like n heads w s t avail taken unfinished same x = record {
+  distinct = x.distinct;
+  below = x.below;
+  avail = avail ∙ x.avail;
+  taken = λ d low. taken d low ∙ x.taken d low;
+  splits = subst (λ (hs : List ℕ). Splits heads hs t.unfinished) (sym same) (subst (λ (us : List ℕ). Splits heads (busy s) us) (sym unfinished) x.splits);
+}
+
 -- ---- begins
 
 pub held_start_begun : (n : ℕ) (heads : List ℕ) (w : Words) (s : State) → Held n heads w s → Held n heads w (start_begun s)
@@ -99,7 +109,7 @@ splits_accept heads busy unfinished h new s =
 pub held_free : (n : ℕ) (heads : List ℕ) (w : Words) (s : State) (h : ℕ) → h < n → s.taken h ≡ false → Held n heads w s → is_among heads h ≡ false
 held_free n heads w s h small free x = sym (x.taken h small) ∙ free
 
-held_accept : (r : Ring) (heads : List ℕ) (w : Words) (s : State) (h : ℕ) → h < r.size → s.taken h ≡ false → Held r.size heads w s → Held r.size (heads ++ h ∷ []) w (state_after steps.Accept h s)
+pub held_accept : (r : Ring) (heads : List ℕ) (w : Words) (s : State) (h : ℕ) → h < r.size → s.taken h ≡ false → Held r.size heads w s → Held r.size (heads ++ h ∷ []) w (state_after steps.Accept h s)
 held_accept r heads w s h small free x =
     let new : is_among heads h ≡ false = held_free r.size heads w s h small free x in
     let joined : (d : ℕ) → is_among (heads ++ h ∷ []) d ≡ (is_among heads d || is_among (h ∷ []) d) = is_among_append heads (h ∷ []) in
@@ -134,7 +144,7 @@ splits_show heads batch completed unfinished s =
       left = s.left ∙ sym (without_both batch completed heads);
     }
 
-held_index : (r : Ring) (heads : List ℕ) (w : Words) (s : State) (h : ℕ) → w.ring.used < 65536 → Held r.size heads w s
+pub held_index : (r : Ring) (heads : List ℕ) (w : Words) (s : State) (h : ℕ) → w.ring.used < 65536 → Held r.size heads w s
     → Held r.size (without (heads_in s.side.batch) heads) (words_after r s.side.batch steps.Index w) (state_after steps.Index h s)
 held_index r heads w s h fits x =
     let batch : List ℕ = heads_in s.side.batch in
