@@ -19,6 +19,7 @@ pub mod RunExists
 pub mod RunFrames
 pub mod RunGood
 pub mod RunGuests
+pub mod RunHeads
 pub mod RunItems
 pub mod RunNumbers
 pub mod RunOffers
