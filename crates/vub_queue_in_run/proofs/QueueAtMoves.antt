@@ -1,9 +1,9 @@
 -- What the moves of a run leave of where the queue stands.
-use Rattle.std.proofs.Common.{◌≡◌, ◌≢◌, ◌≤◌, ◌<◌, ◌⊎◌, ℕ, zero, suc, ◌+◌, ◌/◌, ◌%◌, Bool, true, false, not, List, [], ◌∷◌, ◌++◌, length, take, drop, map, set, get_or, refl, ap, sym, ◌∙◌, subst, inl, inr, arith}
+use Rattle.std.proofs.Common.{◌≡◌, ◌≤◌, ◌<◌, ◌⊎◌, ℕ, zero, suc, ◌+◌, ◌/◌, ◌%◌, Bool, true, false, not, List, [], ◌∷◌, ◌++◌, length, take, drop, map, get_or, refl, ap, sym, ◌∙◌, subst, inl, inr, arith}
 use Rattle.std.specs.Prelude.{Option, Some, None, slice_get, slice_index, filter, ◌||◌}
 use Rattle.std.proofs.lemmas.Bool.Decides.{nat_tests}
-use Rattle.std.proofs.lemmas.Bool.{cases_Bool, cases_eq, or_left, or_right}
-use Rattle.std.proofs.lemmas.List.{length_push, length-append, length-map, length-set, length-replicate, get_or-replicate, take-map, map-append, append-nil, get_or-set_same, get_or-set_other}
+use Rattle.std.proofs.lemmas.Bool.{cases_Bool, or_left, or_right}
+use Rattle.std.proofs.lemmas.List.{length-append, length-map, length-set, length-replicate, take-map, map-append, append-nil}
 use Rattle.std.proofs.lemmas.List.Elements.{filter-append}
 use Rattle.std.proofs.lemmas.Option.{slice_get_within}
 use Rattle.vub_base.specs.declared.header.Header1.{Header1}
@@ -23,7 +23,7 @@ use Rattle.vub_device.proofs.Numbers.{is_among_append}
 use Rattle.vub_steps.specs.Tasks.{Look, Put, Act, Sync, Status, look_steps, act_steps, disk_steps, unless_refused, task_steps}
 use Rattle.vub_task.specs.TaskState.{fresh_task, IsTaskAt, head_in}
 use Rattle.vub_run.specs.Turns.{len_of}
-use Rattle.vub_queue.specs.QueueParts.{is_taken, without_heads}
+use Rattle.vub_queue.specs.QueueParts.{is_taken}
 use Rattle.vub_queue.specs.QueueState as states
 use Rattle.vub_queue.specs.QueueState.{QueueState}
 use Rattle.vub_queue_in_run.specs.QueueAt.{spot_of, left_of, TaskAt, QueueAt, KeepsHeads}
@@ -35,6 +35,7 @@ use Rattle.vub_device.specs.Places.{are_distinct}
 use Rattle.vub_split.specs.Split.{used_side}
 use Rattle.vub_split.specs.declared.split.SplitRing.{SplitRing}
 use Rattle.vub_task.specs.declared.task.Task.{Task}
+use Rattle.vub_run_laws.proofs.RunOwn.{accepted_own, published_own, started_own}
 use Rattle.vub_run_laws.proofs.RunNumbers.{among_get, among_filter, missing-among, among-missing}
 use Rattle.vub_run_laws.proofs.RunHeads.{heads_accept, heads_publish, missing_exact}
 use Rattle.vub_run_laws.proofs.RunGood.{Known, Worked}
@@ -175,7 +176,7 @@ pub at_start : (q : ℕ) (h : Header1) (r : SplitRing) (past : List Entry) (head
 at_start q h r past heads made state none x = record {
   ring = x.ring;
   runs = x.runs;
-  started = refl;
+  started = sym (started_own past q (open_numbers past q));
   used = x.used;
   phase = x.phase;
   batch = x.batch;
@@ -232,7 +233,7 @@ left_more q past completed batch k unpublished out =
     let next : a + 1 ≡ suc a = omega arith in
     let longer : missing_below ps (suc a) ≡ missing_below ps a ++ a ∷ [] = grind (arith, nat_tests) in
     let kept : filter test (a ∷ []) ≡ a ∷ [] = grind (arith, nat_tests) in
-    ap (λ (n : ℕ). filter test (missing_below ps n)) next ∙ ap (filter test) longer ∙ filter-append test (missing_below ps a) (a ∷ []) ∙ ap (λ (ks : List ℕ). filter test (missing_below ps a) ++ ks) kept
+    ap (λ (n : ℕ). filter test (missing_below ps n)) (accepted_own past q a) ∙ ap (λ (n : ℕ). filter test (missing_below ps n)) next ∙ ap (filter test) longer ∙ filter-append test (missing_below ps a) (a ∷ []) ∙ ap (λ (ks : List ℕ). filter test (missing_below ps a) ++ ks) kept
 
 pub at_fetch : (q : ℕ) (h : Header1) (r : SplitRing) (past : List Entry) (heads : List ℕ) (completed : List ℕ) (made : ℕ → ℕ) (state : QueueState) (head : ℕ) → Known q h.size h.capacity past heads → Worked q past phases.Rest [] completed made
     → head ≡ slice_index heads (accepted past q) → head < r.size → is_taken state.taken head ≡ false → QueueAt q h r past heads phases.Rest [] completed made state
@@ -376,7 +377,8 @@ show_filter ps completed batch (suc n) =
 
 pub left_shown : (q : ℕ) (past : List Entry) (completed batch : List ℕ) (list : List Answered) → numbers list ≡ batch → left_of q (entries.Publish q list ∷ past) completed [] ≡ left_of q past completed batch
 left_shown q past completed batch list is =
-    ap (λ (ks : List ℕ). filter (λ k. not (is_among (completed ++ []) k)) (missing_below (published past q ++ ks) (accepted past q))) is
+    ap (λ (ks : List ℕ). filter (λ k. not (is_among (completed ++ []) k)) (missing_below ks (accepted past q))) (published_own past q list)
+    ∙ ap (λ (ks : List ℕ). filter (λ k. not (is_among (completed ++ []) k)) (missing_below (published past q ++ ks) (accepted past q))) is
     ∙ show_filter (published past q) completed batch (accepted past q)
 
 pub at_show : (q : ℕ) (h : Header1) (r : SplitRing) (past : List Entry) (heads : List ℕ) (phase : Phase) (batch completed : List ℕ) (made : ℕ → ℕ) (state : QueueState) (list : List Answered)
@@ -387,7 +389,7 @@ at_show q h r past heads phase batch completed made state list ends is opens x =
     let many : length state.batch ≡ length batch = ap (λ (ks : List (ℕ × ℕ)). length ks) x.batch ∙ length-map batch (spot_of q h past heads) in
     let moved : states.moved state ≡ states.with_phase phases.Rest state = moved_is q h r past heads phase batch completed made state x ∙ ap (λ (p : Phase). states.with_phase p state) ends in
     let same : left_of q past' completed [] ≡ left_of q past completed batch = left_shown q past completed batch list is in
-    let shown : length (published past' q) ≡ length (published past q) + length batch = length-append (published past q) (numbers list) ∙ ap (λ (ks : List ℕ). length (published past q) + length ks) is in
+    let shown : length (published past' q) ≡ length (published past q) + length batch = ap (λ (ks : List ℕ). length ks) (published_own past q list) ∙ length-append (published past q) (numbers list) ∙ ap (λ (ks : List ℕ). length (published past q) + length ks) is in
     let batch_heads : map (slice_index heads) batch ≡ heads_in state.batch = sym (ap heads_in x.batch ∙ heads_of_spots q h past heads batch) in
     let leave : open_heads q past' heads ≡ without (heads_in state.batch) (open_heads q past heads) =
     heads_publish q past heads list batch is (heads_distinct q h r past heads phase batch completed made state x) (λ k held. let o : IsOpen past q k = opens k held in among-missing (published past q) (accepted past q) k o.taken o.unpublished)

@@ -33,6 +33,7 @@ use Rattle.vub_queue.specs.QueueState as states
 use Rattle.vub_split.specs.Split.{used_side}
 use Rattle.vub_queue.specs.QueueState.{QueueState, row_at, next_row, moved, Moves, publishes, publish_row, Publishes, Turns, is_fault}
 use Rattle.vub_queue_in_run.specs.QueueAt.{spot_of, QueueAt, LiesAs, QueueStands}
+use Rattle.vub_driver.specs.Layout.{area_place}
 use Rattle.vub_run_laws.proofs.RunGood.{the_ring, Worked, Holds}
 use Rattle.vub_run_laws.proofs.RunPhases.{resting, rest_is, taking, taking_holds}
 use Rattle.vub_run_laws.proofs.RunElements.{StepAt, AtId, AtLen, AtIndex, step_at, get_map}
@@ -48,7 +49,7 @@ ring_same : (s s' d d' a a' u u' n n' : ℕ) → s ≡ s' → d ≡ d' → a ≡
 ring_same s s' d d' a a' u u' n n' es ed ea eu en = cc
 
 side_is : (q : ℕ) (r : SplitRing) (n : ℕ) → LiesAs q r n → used_side r ≡ the_ring q n
-side_is q r n main = ring_same r.used.0.number 0 r.desc.1 0 r.avail.1 4096 r.used.1 8192 r.size n main.used_space main.desc main.avail main.used main.size
+side_is q r n main = ring_same r.used.0.number 0 r.desc.1 (area_place q) r.avail.1 (area_place q + 4096) r.used.1 (area_place q + 8192) r.size n main.used_space main.desc main.avail main.used main.size
 
 -- the row that the step table has for a step
 abbrev table_row : ℕ → Header1 → Scene → List ℕ → Option Step → Option Row

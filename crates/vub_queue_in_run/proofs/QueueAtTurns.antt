@@ -26,9 +26,12 @@ use Rattle.vub_run.specs.Moments.{Lane, Moment, standing}
 use Rattle.vub_run.specs.Run.{one_turn}
 use Rattle.vub_run.specs.Turns.{Turned, turned, under_way, phase_goes_on}
 use Rattle.vub_split.specs.Split.{avail_idx_word, head_word}
+use Rattle.vub_queue.specs.QueueParts.{is_taken}
 use Rattle.vub_queue.specs.QueueState as states
 use Rattle.vub_queue.specs.QueueState.{QueueState, standing_at, Fetches, Breaks, BreaksBy, Publishes, publishes, DoesOf, Unless, Turns, is_fault}
 use Rattle.vub_queue_in_run.specs.QueueAt.{spot_of, QueueAt, LiesAs, QueueStands}
+use Rattle.vub_driver.specs.Layout.{area_place}
+use Rattle.vub_run_laws.proofs.RunOwn.{at_own}
 use Rattle.vub_run_laws.proofs.RunNumbers.{not_among-take}
 use Rattle.vub_run_laws.proofs.RunGood.{the_ring, IsOut, PhaseIs, Holds}
 use Rattle.vub_run_laws.proofs.RunFrames.{open_out}
@@ -81,7 +84,9 @@ abbrev pub StandsAfter : ℕ → Header1 → SplitRing → Scene → Turned → 
 StandsAfter q h r s t state = QueueAt q h r (after_items h t.items s).past ((after_items h t.items s).heads q) t.lane.phase t.lane.batch t.lane.completed t.lane.made state
 
 pub stands_after : (q : ℕ) (h : Header1) (r : SplitRing) (m : Moment) (t : Turn) (state : QueueState) → StandsAfter q h r m.scene (turned h q t m) state → QueueStands q h r (one_turn h q t m).next state
-stands_after q h r m t state z = z
+stands_after q h r m t state z =
+    let now : Scene = after_items h (turned h q t m).items m.scene in
+    subst (λ (l : Lane). QueueAt q h r now.past (now.heads q) l.phase l.batch l.completed l.made state) (sym (at_own m.lanes q (turned h q t m).lane)) z
 
 -- ---- a start
 
@@ -138,7 +143,7 @@ head_is q h r m state main z holds more =
     ap (λ (x : SplitRing). head_word x mem state.next_avail) z.ring
     ∙ ap (λ (s : ℕ). word 2 mem s (r.avail.1 + (4 + 2 * (state.next_avail % r.size)))) main.avail_space
     ∙ ap (λ (p : ℕ). word 2 mem 0 (p + (4 + 2 * (state.next_avail % r.size)))) main.avail
-    ∙ ap (λ (e : ℕ). word 2 mem 0 (4096 + (4 + 2 * e))) place
+    ∙ ap (λ (e : ℕ). word 2 mem 0 (area_place q + 4096 + (4 + 2 * e))) place
     ∙ holds.ringed.avail_at a (omega arith) more
 
 -- the next request isn't open, and is offered
@@ -192,15 +197,22 @@ pub record HasFetched (q : ℕ) (h : Header1) (r : SplitRing) (m : Moment) (x : 
   pub made : (turned h q turns.Fetch m).items ≡ items.Made (entries.Accept q (accepted m.scene.past q)) ∷ []
   pub stands : QueueStands q h r (one_turn h q turns.Fetch m).next state'
 
+-- the head of the next request is accepted: it is below the size and free
+record Accepts (q : ℕ) (r : SplitRing) (m : Moment) (x : Stepped) (state u : QueueState) : Type 0 where
+  pub says : x ≡ says.Accepted (slice_index (m.scene.heads q) (accepted m.scene.past q))
+  pub leaves : u ≡ states.accepted (slice_index (m.scene.heads q) (accepted m.scene.past q)) state
+  pub small : slice_index (m.scene.heads q) (accepted m.scene.past q) < r.size
+  pub free : is_taken state.taken (slice_index (m.scene.heads q) (accepted m.scene.past q)) ≡ false
+
 -- a fetch that is ready and doesn't fail accepts a head
 fetch_accepts : (q : ℕ) (h : Header1) (r : SplitRing) (m : Moment) (x : Stepped) (state u : QueueState) → IsPlain h → Good q h m → LiesAs q r h.size → QueueStands q h r m state → is_ready (standing h q m) turns.Fetch ≡ true → is_fault x ≡ false
-    → Fetches (Some m.scene.memory) x state u → (x ≡ says.Accepted (slice_index (m.scene.heads q) (accepted m.scene.past q))) × (u ≡ states.accepted (slice_index (m.scene.heads q) (accepted m.scene.past q)) state)
+    → Fetches (Some m.scene.memory) x state u → Accepts q r m x state u
 fetch_accepts q h r m x state u plain good main z ready fine fetches = go x fine fetches
   where
     a : ℕ
     a = accepted m.scene.past q
 
-    go : (y : Stepped) → is_fault y ≡ false → Fetches (Some m.scene.memory) y state u → (y ≡ says.Accepted (slice_index (m.scene.heads q) a)) × (u ≡ states.accepted (slice_index (m.scene.heads q) a) state)
+    go : (y : Stepped) → is_fault y ≡ false → Fetches (Some m.scene.memory) y state u → Accepts q r m y state u
     go says.Idle f does = absurd (
         let unready : is_ready (standing_at state (states.waiting state m.scene.memory)) turns.Fetch ≡ false = does.1 m.scene.memory refl in
         let fails : true ≡ false = sym ready ∙ sym (ready_same q h r m state turns.Fetch main good.holds z) ∙ unready in
@@ -209,7 +221,12 @@ fetch_accepts q h r m x state u plain good main z ready fine fetches = go x fine
         let finds = does.2 m.scene.memory refl in
         let more : a < length (m.scene.heads q) = omega (arith, finds.0.some, waiting_is q h r m state main good.holds z, some_waits q h m.scene (m.lanes q) plain.good good.holds) in
         let is : head ≡ slice_index (m.scene.heads q) a = finds.1 ∙ head_is q h r m state main z good.holds more in
-        (ap says.Accepted is, does.0 ∙ ap (λ (d : ℕ). states.accepted d state) is)
+        record {
+          says = ap says.Accepted is;
+          leaves = does.0 ∙ ap (λ (d : ℕ). states.accepted d state) is;
+          small = omega (arith, is, finds.2, ap (λ (y : SplitRing). y.size) z.ring);
+          free = ap (is_taken state.taken) (sym is) ∙ finds.3;
+        }
     go (says.Broken fault) f does = absurd (keeps_rules q h r m state fault plain good main z (does.2 m.scene.memory refl))
     go says.SharedFault f does = absurd (let fails : true ≡ false = f in cc)
     go (says.Stored tag) f does = absurd does
@@ -241,13 +258,13 @@ fetch_stands q h r m x state state' plain good main z ready fine made =
     let head : ℕ = slice_index heads (accepted past q) in
     let same : resting l ≡ l = fetch_rests q h m good ready in
     let accepts = fetch_accepts q h r m x state made.0 plain good main z ready fine (does_of turns.Fetch (Some m.scene.memory) x state state' made fine) in
-    let after : state' ≡ states.accepted head state = made.1 ∙ ap (λ (y : Stepped). states.halted y made.0) accepts.0 ∙ accepts.1 in
+    let after : state' ≡ states.accepted head state = made.1 ∙ ap (λ (y : Stepped). states.halted y made.0) accepts.says ∙ accepts.leaves in
     let at_rest : QueueAt q h r past heads phases.Rest [] l.completed l.made state = subst (λ (y : Lane). QueueAt q h r past heads y.phase y.batch y.completed y.made state) (sym same) z in
     let held : Holds q h m.scene (resting l) = subst (λ (y : Lane). Holds q h m.scene y) (sym same) good.holds in
-    let begins : StandsAfter q h r m.scene (phase_goes_on h q m.scene (under_way turns.Fetch (resting l))) (states.accepted head state) = at_fetch q h r past heads l.completed l.made state head held.known held.worked refl at_rest in
+    let begins : StandsAfter q h r m.scene (phase_goes_on h q m.scene (under_way turns.Fetch (resting l))) (states.accepted head state) = at_fetch q h r past heads l.completed l.made state head held.known held.worked refl accepts.small accepts.free at_rest in
     let stands : StandsAfter q h r m.scene (turned h q turns.Fetch m) (states.accepted head state) = subst (λ (y : Lane). StandsAfter q h r m.scene (phase_goes_on h q m.scene (under_way turns.Fetch y)) (states.accepted head state)) same begins in
     record {
-      said = accepts.0;
+      said = accepts.says;
       made = sym (ap (λ (y : Lane). (phase_goes_on h q m.scene (under_way turns.Fetch y)).items) same);
       stands = stands_after q h r m turns.Fetch state' (subst (λ (y : QueueState). StandsAfter q h r m.scene (turned h q turns.Fetch m) y) (sym after) stands);
     }

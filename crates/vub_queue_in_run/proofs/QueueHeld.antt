@@ -1,9 +1,9 @@
 -- What a queue keeps goes on to agree with the open heads.
-use Rattle.std.proofs.Common.{◌≡◌, ◌≢◌, ◌≤◌, ◌<◌, ℕ, zero, suc, ◌+◌, ◌%◌, Bool, true, false, not, List, [], ◌∷◌, ◌++◌, length, map, set, get_or, refl, ap, sym, ◌∙◌, subst, inl, inr, arith}
+use Rattle.std.proofs.Common.{◌≡◌, ◌<◌, ℕ, zero, suc, Bool, true, false, not, List, [], ◌∷◌, ◌++◌, length, map, set, get_or, refl, ap, sym, ◌∙◌, inl, inr, arith}
 use Rattle.std.specs.Prelude.{◌||◌, ◌&&◌, ◌==◌, remove, slice_get, Some, option_map}
-use Rattle.std.proofs.lemmas.Bool.{cases_Bool, cases_eq}
+use Rattle.std.proofs.lemmas.Bool.{cases_eq}
 use Rattle.std.proofs.lemmas.Bool.Decides.{nat_tests}
-use Rattle.std.proofs.lemmas.List.{length-set, map-append, map-set, get_or-replicate, get_or-set_same, get_or-set_other}
+use Rattle.std.proofs.lemmas.List.{length-set, map-append, get_or-replicate, get_or-set_same, get_or-set_other}
 use Rattle.std.proofs.lemmas.Option.{slice_get-map}
 use Rattle.vub_device.specs.Past.{is_among}
 use Rattle.vub_steps.specs.declared.steps.Phase.{Phase}
@@ -17,7 +17,7 @@ use Rattle.vub_queue.specs.QueueParts.{is_taken, without_heads}
 use Rattle.vub_queue.specs.QueueState as states
 use Rattle.vub_queue.specs.QueueState.{QueueState, worked, done_at}
 use Rattle.vub_facts.specs.Facts.{Words, heads_in, without, words_after}
-use Rattle.vub_facts.specs.Held.{State, Held, busy, state_after, completed_at}
+use Rattle.vub_facts.specs.Held.{Held, state_after, completed_at}
 use Rattle.vub_facts.proofs.HeldSteps.{held_words, held_like, held_accept, held_index, held_publication_begun, held_completed}
 use Rattle.vub_queue_in_run.specs.QueueAt.{held_in, KeepsHeads}
 

@@ -184,10 +184,10 @@ pub record WorkReady (q : ℕ) (h : Header1) (sizes : ℕ → ℕ) (m : Moment) 
   pub is_open : IsOpen m.scene.past q k
   pub due : IsDue h.capacity sizes state m.scene.memory place task (making_of q h m k links request step)
 
-abbrev pub making : ℕ → {h : Header1} {sizes : ℕ → ℕ} {m : Moment} {state : QueueState} {place : ℕ} → WorkReady q h sizes m state place → Making
-making q {h} {sizes} {m} w = making_of q h m w.k w.links w.request w.step
+abbrev pub making : {q : ℕ} {h : Header1} {sizes : ℕ → ℕ} {m : Moment} {state : QueueState} {place : ℕ} → WorkReady q h sizes m state place → Making
+making {q} {h} {sizes} {m} w = making_of q h m w.k w.links w.request w.step
 
-ring_is : (q : ℕ) (sizes : ℕ → ℕ) (r : SplitRing) (n : ℕ) → LiesAs q r n → 1048576 ≤ sizes 0 → IsRingOf q sizes r n
+ring_is : (q : ℕ) (sizes : ℕ → ℕ) (r : SplitRing) (n : ℕ) → LiesAs q r n → area_place q + 1048576 ≤ sizes 0 → IsRingOf q sizes r n
 ring_is q sizes r n main room = record { space = main.desc_space; table = main.desc; size = main.size; room = room }
 
 -- a number among the unfinished ones is open, and of no completed request
@@ -199,7 +199,7 @@ unfinished_open q m place k is =
     let t : not (is_among (l.completed ++ l.batch) k) ≡ true = kept.1 in
     (record { taken = opened.0; unpublished = opened.1 }, grind (arith, nat_tests))
 
-due_at : (q : ℕ) (h : Header1) (m : Moment) (r : SplitRing) (sizes : ℕ → ℕ) (state : QueueState) (place k : ℕ) (task : Task) → IsPlain h → Good q h m → ChainedAt q h m → LiesAs q r h.size → 1048576 ≤ sizes 0 → QueueStands q h r m state → started m.scene.past q ≡ true
+due_at : (q : ℕ) (h : Header1) (m : Moment) (r : SplitRing) (sizes : ℕ → ℕ) (state : QueueState) (place k : ℕ) (task : Task) → IsPlain h → Good q h m → ChainedAt q h m → LiesAs q r h.size → area_place q + 1048576 ≤ sizes 0 → QueueStands q h r m state → started m.scene.past q ≡ true
     → slice_get (unfinished q m) place ≡ Some k → slice_get state.unfinished place ≡ Some task → WorkReady q h sizes m state place
 due_at q h m r sizes state place k task plain good chained main room a run is at =
     let l : Lane = m.lanes q in
@@ -240,7 +240,7 @@ due_at q h m r sizes state place k task plain good chained main room a run is at
     }
 
 -- where work is ready, a step is due
-pub work_ready : (q : ℕ) (h : Header1) (m : Moment) (r : SplitRing) (sizes : ℕ → ℕ) (state : QueueState) (place : ℕ) → IsPlain h → Good q h m → ChainedAt q h m → LiesAs q r h.size → 1048576 ≤ sizes 0 → QueueStands q h r m state → is_ready (standing h q m) (turns.Work place) ≡ true
+pub work_ready : (q : ℕ) (h : Header1) (m : Moment) (r : SplitRing) (sizes : ℕ → ℕ) (state : QueueState) (place : ℕ) → IsPlain h → Good q h m → ChainedAt q h m → LiesAs q r h.size → area_place q + 1048576 ≤ sizes 0 → QueueStands q h r m state → is_ready (standing h q m) (turns.Work place) ≡ true
     → WorkReady q h sizes m state place
 work_ready q h m r sizes state place plain good chained main room a ready =
     let run : started m.scene.past q ≡ true = grind (arith, nat_tests) in

@@ -155,9 +155,9 @@ show_step q h sizes m r state place v w main a disk (inr (inr (inr (inr x)))) =
 
 -- what a turn of work shows, by what the queue says of it
 pub work_items : (q : ℕ) (h : Header1) (sizes : ℕ → ℕ) (m : Moment) (r : SplitRing) (state : QueueState) (place : ℕ) (v : Values) (w : WorkReady q h sizes m state place) → IsPlain h → Good q h m → LiesAs q r h.size → QueueStands q h r m state → DiskAt h.capacity m.scene.past v
-    → Shows q v state w.k w.task (making q w) (turned h q (turns.Work place) m).items (said (head_in w.task) (answer_in (making q w)))
+    → Shows q v state w.k w.task (making w) (turned h q (turns.Work place) m).items (said (head_in w.task) (answer_in (making w)))
 work_items q h sizes m r state place v w plain good main a disk =
-    subst (λ (t : Turned). Shows q v state w.k w.task (making q w) t.items (said (head_in w.task) (answer_in (making q w)))) (sym (work_turned q h sizes m state place w))
+    subst (λ (t : Turned). Shows q v state w.k w.task (making w) t.items (said (head_in w.task) (answer_in (making w)))) (sym (work_turned q h sizes m state place w))
     (show_step q h sizes m r state place v w main a disk (work_kind q h sizes m state place w plain good))
 
 -- ---- memory
@@ -195,7 +195,7 @@ memory_step q h sizes m r state place w main a (inr (inr (inr (inr x)))) =
 
 -- a turn of work leaves memory as the step that is due
 pub work_memory : (q : ℕ) (h : Header1) (sizes : ℕ → ℕ) (m : Moment) (r : SplitRing) (state : QueueState) (place : ℕ) (w : WorkReady q h sizes m state place) → IsPlain h → Good q h m → LiesAs q r h.size → QueueStands q h r m state
-    → (one_turn h q (turns.Work place) m).next.scene.memory ≡ memory_after state.ring (making q w) (sector_at state (head_in w.task)) m.scene.memory
+    → (one_turn h q (turns.Work place) m).next.scene.memory ≡ memory_after state.ring (making w) (sector_at state (head_in w.task)) m.scene.memory
 work_memory q h sizes m r state place w plain good main a =
     ap (λ (t : Turned). (after_items h t.items m.scene).memory) (work_turned q h sizes m state place w)
     ∙ memory_step q h sizes m r state place w main a (work_kind q h sizes m state place w plain good)
@@ -228,7 +228,7 @@ disk_step q h m v k made request step disk (inr (inr (inr (inr x)))) = subst (λ
 
 -- a turn of work changes the disk as the step that is due
 pub work_disk : (q : ℕ) (h : Header1) (sizes : ℕ → ℕ) (m : Moment) (state : QueueState) (place : ℕ) (v : Values) (w : WorkReady q h sizes m state place) → IsPlain h → Good q h m → DiskAt h.capacity m.scene.past v
-    → DiskAt h.capacity (one_turn h q (turns.Work place) m).next.scene.past (values_after (making q w).request (making q w).step v)
+    → DiskAt h.capacity (one_turn h q (turns.Work place) m).next.scene.past (values_after (making w).request (making w).step v)
 work_disk q h sizes m state place v w plain good disk =
     subst (λ (t : Turned). DiskAt h.capacity (after_items h t.items m.scene).past (values_after w.request w.step v)) (sym (work_turned q h sizes m state place w))
     (disk_step q h m v w.k ((m.lanes q).made w.k) w.request w.step disk (work_kind q h sizes m state place w plain good))

@@ -4,7 +4,6 @@ use Rattle.std.specs.Prelude.{Option, Some, None, slice_index, slice_get, slice_
 use Rattle.std.proofs.lemmas.Bool.Decides.{nat_tests}
 use Rattle.std.proofs.lemmas.Bool.{cases_eq, cases_lt}
 use Rattle.std.proofs.lemmas.List.{get_or-set_same, get_or-set_other, map-append, length-append, ext_get_or, get_or-append-add}
-use Rattle.std.proofs.lemmas.List.Edits.{length-remove}
 use Rattle.std.proofs.lemmas.Option.{slice_get_within}
 use Rattle.vub_base.specs.declared.header.Header1.{Header1}
 use Rattle.vub_disk.specs.Values.{Values}
@@ -39,6 +38,7 @@ use Rattle.vub_task.proofs.StepLemmas.{Puts, Acts, OfRequest, step_of}
 use Rattle.vub_run_laws.proofs.RunWork.{at_same, at_other, not_more, seen_more, sector_long, sector_byte}
 use Rattle.vub_run_laws.proofs.RunEnds.{missing_distinct}
 use Rattle.vub_run_laws.proofs.RunTurns.{IsPlain, Good}
+use Rattle.vub_queue_in_run.proofs.QueueAtTurns.{stands_after}
 use Rattle.vub_queue_in_run.proofs.WorkAt.{WorkReady, making, Kind, IsLook, IsPut, IsAct, IsSync}
 use Rattle.vub_queue_in_run.proofs.WorkAtItems.{work_turned, work_kind}
 use Rattle.vub_queue_in_run.proofs.QueueHeld.{keeps_worked, keeps_done}
@@ -92,7 +92,7 @@ task_same q h r past past' heads k j made made' task x same t = record {
 }
 
 -- the task that was worked on
-task_next : (q : ℕ) (h : Header1) (sizes : ℕ → ℕ) (m : Moment) (r : SplitRing) (state : QueueState) (place : ℕ) (w : WorkReady q h sizes m state place) (past' : List Entry) (next : Task) → state.ring ≡ r → Keeps q m.scene.past past' w.k → head_in next ≡ head_in w.task → HasMade state.ring (making q w) next
+task_next : (q : ℕ) (h : Header1) (sizes : ℕ → ℕ) (m : Moment) (r : SplitRing) (state : QueueState) (place : ℕ) (w : WorkReady q h sizes m state place) (past' : List Entry) (next : Task) → state.ring ≡ r → Keeps q m.scene.past past' w.k → head_in next ≡ head_in w.task → HasMade state.ring (making w) next
     → TaskAt q h r past' (m.scene.heads q) w.k ((m.lanes q).made w.k + 1) next
 task_next q h sizes m r state place w past' next ring x head made = record {
   head = head ∙ w.head;
@@ -107,7 +107,7 @@ task_next q h sizes m r state place w past' next ring x head made = record {
 -- ---- a step that isn't the last
 
 goes_on : (q : ℕ) (h : Header1) (sizes : ℕ → ℕ) (m : Moment) (r : SplitRing) (state : QueueState) (place : ℕ) (w : WorkReady q h sizes m state place) (past' : List Entry) (next : Task) (sector : List ℕ) → Good q h m → QueueStands q h r m state → Keeps q m.scene.past past' w.k
-    → head_in next ≡ head_in w.task → HasMade state.ring (making q w) next
+    → head_in next ≡ head_in w.task → HasMade state.ring (making w) next
     → ((p : ℕ) → slice_get (task_steps h w.request) ((m.lanes q).made w.k + 1) ≡ Some (Put p) → sector ≡ slice_range (bytes_read past' q w.k) (512 * p) (512 * p + 512))
     → QueueAt q h r past' (m.scene.heads q) (m.lanes q).phase (m.lanes q).batch (m.lanes q).completed (with_at (m.lanes q).made w.k ((m.lanes q).made w.k + 1)) (worked place next sector state)
 goes_on q h sizes m r state place w past' next sector good a x head made put = record {
@@ -288,14 +288,14 @@ LookStands q h r m k state o =
     QueueAt q h r (after_items h (look_items q k m.scene.past o) m.scene).past ((after_items h (look_items q k m.scene.past o) m.scene).heads q) (m.lanes q).phase (m.lanes q).batch (m.lanes q).completed (with_at (m.lanes q).made k ((m.lanes q).made k + 1)) state
 
 look_stands : (q : ℕ) (h : Header1) (sizes : ℕ → ℕ) (m : Moment) (r : SplitRing) (state state' : QueueState) (place : ℕ) (v : Values) (w : WorkReady q h sizes m state place) (x : IsLook h w.request ((m.lanes q).made w.k) w.step) → IsPlain h → Good q h m → QueueStands q h r m state → DiskAt h.capacity m.scene.past v
-    → HasWorked (Some v) place w.task (making q w) state state' → StandsAfter q h r m w.k state' w.request w.step
+    → HasWorked (Some v) place w.task (making w) state state' → StandsAfter q h r m w.k state' w.request w.step
 look_stands q h sizes m r state state' place v w x plain good a disk made =
     let past : List Entry = m.scene.past in
     let s : ℕ = x.sector + x.place in
     let read : List ℕ = value past s in
     let past' : List Entry = entries.Look q w.k s read ∷ past in
     let c : ℕ = (m.lanes q).made w.k in
-    let goes : Advances place w.task (making q w) made.sector (Look x.place) state state' = subst (λ (y : RequestStep). Advances place w.task (making q w) made.sector y state state') x.next made.state in
+    let goes : Advances place w.task (making w) made.sector (Look x.place) state state' = subst (λ (y : RequestStep). Advances place w.task (making w) made.sector y state state') x.next made.state in
     let asks_it : asked past q w.k ≡ Some (asks.Read x.sector x.count) = w.is ∙ ap (λ (y : Asked). Some y) x.is in
     let to : IsReadTo x.count c (looks past q w.k) (bytes_read past q w.k) = read_to x.sector x.count c (looks past q w.k) (acts past q w.k) (bytes_read past q w.k) (synced past q w.k) (asked past q w.k) asks_it (good.holds.worked.progress w.k) in
     let looked : looks past q w.k ≡ (c + 1) / 2 = to.under (omega (arith, x.at, x.within)) in
@@ -332,9 +332,9 @@ no_put_sync : (after : Option RequestStep) (p : ℕ) → after ≡ Some Status �
 no_put_sync after p x next = let both : Some Status ≡ Some (Put p) = sym x ∙ next in cc
 
 put_stands : (q : ℕ) (h : Header1) (sizes : ℕ → ℕ) (m : Moment) (r : SplitRing) (state state' : QueueState) (place : ℕ) (v : Values) (w : WorkReady q h sizes m state place) (x : IsPut h w.request ((m.lanes q).made w.k) w.step) → IsPlain h → Good q h m → QueueStands q h r m state
-    → HasWorked (Some v) place w.task (making q w) state state' → StandsAfter q h r m w.k state' w.request w.step
+    → HasWorked (Some v) place w.task (making w) state state' → StandsAfter q h r m w.k state' w.request w.step
 put_stands q h sizes m r state state' place v w x plain good a made =
-    let goes : Advances place w.task (making q w) made.sector (Put x.place) state state' = subst (λ (y : RequestStep). Advances place w.task (making q w) made.sector y state state') x.next made.state in
+    let goes : Advances place w.task (making w) made.sector (Put x.place) state state' = subst (λ (y : RequestStep). Advances place w.task (making w) made.sector y state state') x.next made.state in
     let keeps : Keeps q m.scene.past m.scene.past w.k = record { runs = refl; accepts = refl; publishes = refl; requests = refl; sees = λ j apart. refl } in
     let stands : StandsAfter q h r m w.k (worked place goes.0 made.sector state) w.request (Put x.place) =
     goes_on q h sizes m r state place w m.scene.past goes.0 made.sector good a keeps goes.1 goes.2 (λ p next. absurd (no_put _ x.place _ p (step_follows q h sizes m state place w (Put x.place) plain x.next) (next_put h w.request ((m.lanes q).made w.k) p next))) in
@@ -346,9 +346,9 @@ ActStands q h r m k state o =
     QueueAt q h r (after_items h (act_items q k o) m.scene).past ((after_items h (act_items q k o) m.scene).heads q) (m.lanes q).phase (m.lanes q).batch (m.lanes q).completed (with_at (m.lanes q).made k ((m.lanes q).made k + 1)) state
 
 act_stands : (q : ℕ) (h : Header1) (sizes : ℕ → ℕ) (m : Moment) (r : SplitRing) (state state' : QueueState) (place : ℕ) (v : Values) (w : WorkReady q h sizes m state place) (x : IsAct h w.request ((m.lanes q).made w.k) w.step) → IsPlain h → Good q h m → QueueStands q h r m state
-    → HasWorked (Some v) place w.task (making q w) state state' → StandsAfter q h r m w.k state' w.request w.step
+    → HasWorked (Some v) place w.task (making w) state state' → StandsAfter q h r m w.k state' w.request w.step
 act_stands q h sizes m r state state' place v w x plain good a made =
-    let goes : Advances place w.task (making q w) made.sector (Act x.place) state state' = subst (λ (y : RequestStep). Advances place w.task (making q w) made.sector y state state') x.next made.state in
+    let goes : Advances place w.task (making w) made.sector (Act x.place) state state' = subst (λ (y : RequestStep). Advances place w.task (making w) made.sector y state state') x.next made.state in
     let none : (p : ℕ) → slice_get (task_steps h w.request) ((m.lanes q).made w.k + 1) ≡ Some (Put p) → ⊥ = λ p next. no_put_act _ x.place _ p (step_follows q h sizes m state place w (Act x.place) plain x.next).0 (next_put h w.request ((m.lanes q).made w.k) p next) in
     let each : (o : Option SectorValue) → ActStands q h r m w.k (worked place goes.0 made.sector state) o = elim [
       | None ↦
@@ -362,9 +362,9 @@ act_stands q h sizes m r state state' place v w x plain good a made =
     subst (λ (y : RequestStep). StandsAfter q h r m w.k state' w.request y) (sym x.next) (subst (λ (t : QueueState). ActStands q h r m w.k t (effect_at w.request x.place)) (sym goes.3) (each (effect_at w.request x.place)))
 
 sync_stands : (q : ℕ) (h : Header1) (sizes : ℕ → ℕ) (m : Moment) (r : SplitRing) (state state' : QueueState) (place : ℕ) (v : Values) (w : WorkReady q h sizes m state place) (x : IsSync h w.request ((m.lanes q).made w.k) w.step) → IsPlain h → Good q h m → QueueStands q h r m state
-    → HasWorked (Some v) place w.task (making q w) state state' → StandsAfter q h r m w.k state' w.request w.step
+    → HasWorked (Some v) place w.task (making w) state state' → StandsAfter q h r m w.k state' w.request w.step
 sync_stands q h sizes m r state state' place v w x plain good a made =
-    let goes : Advances place w.task (making q w) made.sector Sync state state' = subst (λ (y : RequestStep). Advances place w.task (making q w) made.sector y state state') x.next made.state in
+    let goes : Advances place w.task (making w) made.sector Sync state state' = subst (λ (y : RequestStep). Advances place w.task (making w) made.sector y state state') x.next made.state in
     let past' : List Entry = entries.Sync q w.k ∷ m.scene.past in
     let keeps : Keeps q m.scene.past past' w.k = record { runs = refl; accepts = refl; publishes = refl; requests = refl; sees = λ j apart. refl } in
     let stands : StandsAfter q h r m w.k (worked place goes.0 made.sector state) w.request Sync =
@@ -372,14 +372,14 @@ sync_stands q h sizes m r state state' place v w x plain good a made =
     subst (λ (y : RequestStep). StandsAfter q h r m w.k state' w.request y) (sym x.next) (subst (λ (t : QueueState). StandsAfter q h r m w.k t w.request Sync) (sym goes.3) stands)
 
 last_stands : (q : ℕ) (h : Header1) (sizes : ℕ → ℕ) (m : Moment) (r : SplitRing) (state state' : QueueState) (place : ℕ) (v : Values) (w : WorkReady q h sizes m state place) → w.step ≡ Status → Good q h m → QueueStands q h r m state
-    → HasWorked (Some v) place w.task (making q w) state state' → StandsAfter q h r m w.k state' w.request w.step
+    → HasWorked (Some v) place w.task (making w) state state' → StandsAfter q h r m w.k state' w.request w.step
 last_stands q h sizes m r state state' place v w last good a made =
-    let goes : Advances place w.task (making q w) made.sector Status state state' = subst (λ (y : RequestStep). Advances place w.task (making q w) made.sector y state state') last made.state in
+    let goes : Advances place w.task (making w) made.sector Status state state' = subst (λ (y : RequestStep). Advances place w.task (making w) made.sector y state state') last made.state in
     let stands : StandsAfter q h r m w.k (done_at place (head_in w.task) (used_len (status_of h w.request) w.request) made.sector state) w.request Status = finished q h sizes m r state place w made.sector good a in
     subst (λ (y : RequestStep). StandsAfter q h r m w.k state' w.request y) (sym last) (subst (λ (t : QueueState). StandsAfter q h r m w.k t w.request Status) (sym goes) stands)
 
 step_stands : (q : ℕ) (h : Header1) (sizes : ℕ → ℕ) (m : Moment) (r : SplitRing) (state state' : QueueState) (place : ℕ) (v : Values) (w : WorkReady q h sizes m state place) → IsPlain h → Good q h m → QueueStands q h r m state → DiskAt h.capacity m.scene.past v
-    → HasWorked (Some v) place w.task (making q w) state state' → Kind h w.request ((m.lanes q).made w.k) w.step → StandsAfter q h r m w.k state' w.request w.step
+    → HasWorked (Some v) place w.task (making w) state state' → Kind h w.request ((m.lanes q).made w.k) w.step → StandsAfter q h r m w.k state' w.request w.step
 step_stands q h sizes m r state state' place v w plain good a disk made (inl x) = look_stands q h sizes m r state state' place v w x plain good a disk made
 step_stands q h sizes m r state state' place v w plain good a disk made (inr (inl x)) = put_stands q h sizes m r state state' place v w x plain good a made
 step_stands q h sizes m r state state' place v w plain good a disk made (inr (inr (inl x))) = act_stands q h sizes m r state state' place v w x plain good a made
@@ -388,7 +388,7 @@ step_stands q h sizes m r state state' place v w plain good a disk made (inr (in
 
 -- where the queue stands after a turn of work
 pub work_stands : (q : ℕ) (h : Header1) (sizes : ℕ → ℕ) (m : Moment) (r : SplitRing) (state state' : QueueState) (place : ℕ) (v : Values) (w : WorkReady q h sizes m state place) → IsPlain h → Good q h m → QueueStands q h r m state → DiskAt h.capacity m.scene.past v
-    → HasWorked (Some v) place w.task (making q w) state state' → QueueStands q h r (one_turn h q (turns.Work place) m).next state'
+    → HasWorked (Some v) place w.task (making w) state state' → QueueStands q h r (one_turn h q (turns.Work place) m).next state'
 work_stands q h sizes m r state state' place v w plain good a disk made =
-    subst (λ (t : Turned). QueueAt q h r (after_items h t.items m.scene).past ((after_items h t.items m.scene).heads q) t.lane.phase t.lane.batch t.lane.completed t.lane.made state') (sym (work_turned q h sizes m state place w))
-    (step_stands q h sizes m r state state' place v w plain good a disk made (work_kind q h sizes m state place w plain good))
+    stands_after q h r m (turns.Work place) state' (subst (λ (t : Turned). QueueAt q h r (after_items h t.items m.scene).past ((after_items h t.items m.scene).heads q) t.lane.phase t.lane.batch t.lane.completed t.lane.made state') (sym (work_turned q h sizes m state place w))
+    (step_stands q h sizes m r state state' place v w plain good a disk made (work_kind q h sizes m state place w plain good)))

@@ -7,7 +7,7 @@ use Rattle.vub_device.specs.declared.entry.Asked.{Asked}
 use Rattle.vub_device.specs.declared.entry.Entry.{Entry}
 use Rattle.vub_disk.specs.Values.{Values}
 use Rattle.vub_device.specs.Crash.{value}
-use Rattle.vub_device.specs.Past.{asked, accepted, published, open_numbers, is_among, IsOpen, started, bytes_read}
+use Rattle.vub_device.specs.Past.{asked, published, open_numbers, is_among, started, bytes_read}
 use Rattle.vub_steps.specs.Tasks.{Put, task_steps}
 use Rattle.vub_run.specs.Moments.{Moment, open_heads}
 use Rattle.vub_run.specs.Turns.{len_of}
@@ -59,6 +59,7 @@ pub record QueueAt (q : ℕ) (h : Header1) (r : SplitRing) (past : List Entry) (
   pub batch : state.batch ≡ map (spot_of q h past heads) in_batch
   pub completed : state.completed ≡ map (spot_of q h past heads) ready
   pub keeps : KeepsHeads r.size (open_heads q past heads) state
+  -- the tasks of the requests that are left, in order
   pub tasks : (i k : ℕ) (task : Task) → slice_get (left_of q past ready in_batch) i ≡ Some k → slice_get state.unfinished i ≡ Some task → TaskAt q h r past heads k (made k) task
   -- between a look and its store, what was read stands at the head
   pub buffers : length state.sectors ≡ r.size

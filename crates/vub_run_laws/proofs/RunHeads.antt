@@ -1,18 +1,18 @@
 -- The heads of the open requests of a queue, and how they go on.
-use Rattle.std.proofs.Common.{◌≡◌, ◌≢◌, ◌≤◌, ◌<◌, ℕ, zero, suc, ◌+◌, Bool, true, false, cond, not, List, [], ◌∷◌, ◌++◌, length, map, refl, ap, sym, ◌∙◌, subst, inl, inr, arith}
-use Rattle.std.specs.Prelude.{◌||◌, ◌&&◌, ◌==◌, filter, slice_index, slice_get, Some}
+use Rattle.std.proofs.Common.{◌≡◌, ◌≤◌, ◌<◌, ℕ, zero, suc, ◌+◌, Bool, true, false, cond, not, List, [], ◌∷◌, ◌++◌, length, map, refl, ap, sym, ◌∙◌, inl, inr, arith}
+use Rattle.std.specs.Prelude.{◌||◌, slice_index}
 use Rattle.std.proofs.lemmas.Bool.{cases_Bool, cases_eq}
 use Rattle.std.proofs.lemmas.Bool.Decides.{nat_tests}
 use Rattle.std.proofs.lemmas.List.{length-append, map-append, append-nil}
 use Rattle.std.proofs.lemmas.List.Elements.{filter-append}
 use Rattle.vub_device.specs.declared.entry.Answered.{Answered}
-use Rattle.vub_device.specs.declared.entry.Asked.{Asked}
 use Rattle.vub_device.specs.declared.entry.Entry.{Entry}
 use Rattle.vub_device.specs.declared.entry.Entry.TheVariants as entries
 use Rattle.vub_device.specs.Past.{accepted, published, numbers, open_numbers, missing_below, is_among}
 use Rattle.vub_device.specs.Places.{are_distinct}
 use Rattle.vub_device.proofs.Numbers.{is_among_append}
 use Rattle.vub_run.specs.Moments.{open_heads}
+use Rattle.vub_run_laws.proofs.RunOwn.{accepted_own, published_own}
 use Rattle.vub_facts.specs.Facts.{without}
 use Rattle.vub_facts.proofs.HeadLemmas.{without_map}
 
@@ -23,16 +23,13 @@ missing_more xs a new =
     let next : a + 1 ≡ suc a = omega arith in
     ap (missing_below xs) next ∙ ap (λ (b : Bool). cond {A = List ℕ} b (missing_below xs a) (missing_below xs a ++ a ∷ [])) new
 
-accepts_more : (past : List Entry) (q k : ℕ) → accepted (entries.Accept q k ∷ past) q ≡ accepted past q + 1
-accepts_more past q k = grind (arith, nat_tests)
-
 pub heads_accept : (q : ℕ) (past : List Entry) (heads : List ℕ) (k : ℕ) → is_among (published past q) (accepted past q) ≡ false
     → open_heads q (entries.Accept q k ∷ past) heads ≡ open_heads q past heads ++ slice_index heads (accepted past q) ∷ []
 heads_accept q past heads k new =
     let f : ℕ → ℕ = slice_index heads in
     let xs : List ℕ = published past q in
     let a : ℕ = accepted past q in
-    ap (λ (n : ℕ). map f (missing_below xs n)) (accepts_more past q k) ∙ ap (map f) (missing_more xs a new) ∙ map-append f (missing_below xs a) (a ∷ [])
+    ap (λ (n : ℕ). map f (missing_below xs n)) (accepted_own past q k) ∙ ap (map f) (missing_more xs a new) ∙ map-append f (missing_below xs a) (a ∷ [])
 
 -- ---- a publication: those of its numbers leave
 
@@ -52,16 +49,13 @@ missing_after xs ks (suc a) =
       ]
     ]
 
-publishes_more : (past : List Entry) (q : ℕ) (list : List Answered) → published (entries.Publish q list ∷ past) q ≡ published past q ++ numbers list
-publishes_more past q list = grind (arith, nat_tests)
-
 pub heads_publish : (q : ℕ) (past : List Entry) (heads : List ℕ) (list : List Answered) (ks : List ℕ) → numbers list ≡ ks → are_distinct (open_heads q past heads) ≡ true → ((k : ℕ) → is_among ks k ≡ true → is_among (open_numbers past q) k ≡ true)
     → open_heads q (entries.Publish q list ∷ past) heads ≡ without (map (slice_index heads) ks) (open_heads q past heads)
 heads_publish q past heads list ks those distinct opens =
     let f : ℕ → ℕ = slice_index heads in
     let xs : List ℕ = published past q in
     let a : ℕ = accepted past q in
-    ap (λ (ys : List ℕ). map f (missing_below ys a)) (publishes_more past q list ∙ ap (λ (ys : List ℕ). xs ++ ys) those)
+    ap (λ (ys : List ℕ). map f (missing_below ys a)) (published_own past q list ∙ ap (λ (ys : List ℕ). xs ++ ys) those)
     ∙ ap (map f) (missing_after xs ks a)
     ∙ sym (without_map f ks (missing_below xs a) distinct opens)
 

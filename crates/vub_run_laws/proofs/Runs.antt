@@ -47,9 +47,9 @@ open_words h q (suc p) fits low =
       | inl less ↦
           let rest = open_words h q p fits less in (
             keeps 2 first (used_idx_place (the_ring p h.size)) bs (avail_idx_place (the_ring q h.size)) (inl (omega arith))
-            ∙ keeps 2 before (avail_idx_place (the_ring p h.size)) bs (avail_idx_place (the_ring q h.size)) (inl (omega arith)) ∙ rest.0,
+                ∙ keeps 2 before (avail_idx_place (the_ring p h.size)) bs (avail_idx_place (the_ring q h.size)) (inl (omega arith)) ∙ rest.0,
             keeps 2 first (used_idx_place (the_ring p h.size)) bs (used_idx_place (the_ring q h.size)) (inl (omega arith))
-            ∙ keeps 2 before (avail_idx_place (the_ring p h.size)) bs (used_idx_place (the_ring q h.size)) (inl (omega arith)) ∙ rest.1,
+                ∙ keeps 2 before (avail_idx_place (the_ring p h.size)) bs (used_idx_place (the_ring q h.size)) (inl (omega arith)) ∙ rest.1,
           )
       | inr more ↦
           let same : q ≡ p = omega arith in
