@@ -26,6 +26,7 @@ pub mod RunOffers
 pub mod RunOwn
 pub mod RunPhases
 pub mod RunPublications
+pub mod RunQueue
 pub mod RunQueues
 pub mod RunServes
 pub mod RunShown
