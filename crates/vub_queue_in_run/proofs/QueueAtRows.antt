@@ -66,7 +66,7 @@ rows_same : (q : ℕ) (h : Header1) (r : SplitRing) (s : Scene) (l : Lane) (done
 rows_same q h r s l done u None g = refl
 rows_same q h r s l done u (Some step) g =
     let side : used_side u.ring ≡ the_ring q h.size = ap used_side g.stands.ring ∙ side_is q r h.size g.main in
-    let used : u.next_used ≡ used_idx (the_ring q h.size) s.memory = g.stands.used ∙ sym g.under.holds.ringed.used_idx_is in
+    let used : u.next_used ≡ used_idx (the_ring q h.size) s.memory = g.stands.used ∙ sym g.under.holds.queue.ringed.used_idx_is in
     ap (λ (x : Ring). row_of x u.next_used u.batch step) side
     ∙ ap (λ (n : ℕ). row_of (the_ring q h.size) n u.batch step) used
     ∙ ap (λ (xs : List (ℕ × ℕ)). row_of (the_ring q h.size) (used_idx (the_ring q h.size) s.memory) xs step) g.stands.batch

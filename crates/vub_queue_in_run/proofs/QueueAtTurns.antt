@@ -144,7 +144,7 @@ head_is q h r m state main z holds more =
     ∙ ap (λ (s : ℕ). word 2 mem s (r.avail.1 + (4 + 2 * (state.next_avail % r.size)))) main.avail_space
     ∙ ap (λ (p : ℕ). word 2 mem 0 (p + (4 + 2 * (state.next_avail % r.size)))) main.avail
     ∙ ap (λ (e : ℕ). word 2 mem 0 (area_place q + 4096 + (4 + 2 * e))) place
-    ∙ holds.ringed.avail_at a (omega arith) more
+    ∙ holds.queue.ringed.avail_at a (omega arith) more
 
 -- the next request isn't open, and is offered
 next_out : (q : ℕ) (h : Header1) (s : Scene) (l : Lane) → Holds q h s l → accepted s.past q < length (s.heads q) → IsOut q s.past (s.heads q) (accepted s.past q)
@@ -180,12 +180,12 @@ keeps_rules q h r m state fault plain good main z breaks = go fault breaks.1
 
     go : (f : RingFault) → BreaksBy state m.scene.memory f → ⊥
     go (faults.Jump ahead) b = omega (arith, b.0, b.1, far, sized, holds.known.room, holds.known.shown, holds.known.fewer)
-    go (faults.BadHead head) b = omega (arith, b.1, b.2, sized, head_is q h r m state main z holds more, holds.driven.below a out)
+    go (faults.BadHead head) b = omega (arith, b.1, b.2, sized, head_is q h r m state main z holds more, holds.queue.driven.below a out)
     go (faults.Twice head) b =
         let small : head < r.size = omega (arith, b.2, ap (λ (x : SplitRing). x.size) z.ring) in
         let t = taken_open q h r m.scene.past heads (m.lanes q).phase (m.lanes q).batch (m.lanes q).completed (m.lanes q).made state head small b.3 z in
         let other : IsOut q m.scene.past heads t.0 = open_out q h.size h.capacity m.scene.past heads t.0 holds.known t.1 in
-        let same : t.0 ≡ a = holds.driven.apart t.0 a other out (t.2 ∙ b.1 ∙ head_is q h r m state main z holds more) in
+        let same : t.0 ≡ a = holds.queue.driven.apart t.0 a other out (t.2 ∙ b.1 ∙ head_is q h r m state main z holds more) in
         omega (arith, same, t.1.taken)
     go (faults.NoRoom slot) b = b
     go (faults.Chain fault) b = b

@@ -81,7 +81,7 @@ open_same q past past' k j x o = record {
 -- requests that are left have heads of their own
 heads_apart : (q : ℕ) (h : Header1) (m : Moment) (j k : ℕ) → Good q h m → IsOpen m.scene.past q j → IsOpen m.scene.past q k → j ≢ k → slice_index (m.scene.heads q) j ≢ slice_index (m.scene.heads q) k
 heads_apart q h m j k good open_j open_k apart same =
-    apart (good.holds.driven.apart j k (open_out q h.size h.capacity m.scene.past (m.scene.heads q) j good.holds.known open_j) (open_out q h.size h.capacity m.scene.past (m.scene.heads q) k good.holds.known open_k) same)
+    apart (good.holds.queue.driven.apart j k (open_out q h.size h.capacity m.scene.past (m.scene.heads q) j good.holds.known open_j) (open_out q h.size h.capacity m.scene.past (m.scene.heads q) k good.holds.known open_k) same)
 
 -- ---- one task
 
