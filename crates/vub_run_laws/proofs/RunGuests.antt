@@ -15,13 +15,14 @@ use Rattle.vub_shared.specs.Stores.{Store, one_store}
 use Rattle.vub_ring.specs.Ring.{avail_entry_place, avail_idx_place, head_at, last_head}
 use Rattle.vub_driver.specs.Drivers.{Driver, Waiting, with_left}
 use Rattle.vub_driver.specs.Stores.{offer_stores}
+use Rattle.vub_driver.specs.TableChain.{chain_in}
 use Rattle.vub_device.specs.declared.entry.Asked.{Asked}
 use Rattle.vub_device.specs.declared.entry.Entry.TheVariants as entries
 use Rattle.vub_device.specs.Legal.{LegalFrom}
 use Rattle.vub_device.specs.Past.{IsOpen}
 use Rattle.vub_report.specs.declared.items.Item.{Item}
 use Rattle.vub_report.specs.declared.items.Item.TheVariants as items
-use Rattle.vub_run.specs.Memory.{Scene, with_at, after_item, after_items}
+use Rattle.vub_run.specs.Memory.{Scene, with_at, with_last, after_item, after_items}
 use Rattle.vub_run.specs.Moments.{Lane}
 use Rattle.vub_run.specs.Run.{guest_items, with_driver}
 use Rattle.vub_device.specs.Requests.{request_of}
@@ -118,7 +119,7 @@ index_holds q h s l w good waits holds stands =
     let past' : List Entry = entries.Offer q r ∷ s.past in
     let heads' : List ℕ = s.heads q ++ w.head ∷ [] in
     let own : heads' ≡ with_at s.heads q heads' q = sym (at_own s.heads q heads') in
-    let whole : Holds q h (record { memory = m; past = past'; heads = with_at s.heads q heads' }) (offered l) = record {
+    let whole : Holds q h (record { memory = m; past = past'; heads = with_at s.heads q heads'; descriptors = with_last s.descriptors q (chain_in (the_ring q h.size) m w.head) }) (offered l) = record {
       known = subst (Known q h.size h.capacity past') own (offer_known q h.size h.capacity s.past (s.heads q) r w.head holds.known waits.wide room);
       worked = offer_worked q h.size h.capacity s.past (s.heads q) r l.phase l.batch l.completed l.made holds.known holds.worked;
       stored = subst (λ (hs : List ℕ). Stored q past' hs m l.batch l.completed l.made) own (offer_stored q h.size h.capacity s.past (s.heads q) r w.head m l.phase l.batch l.completed l.made holds.known holds.worked stored);
@@ -128,7 +129,7 @@ index_holds q h s l w good waits holds stands =
         built = subst (λ (hs : List ℕ). Built q h.size h.base past' hs m l.batch l.phase) own (offer_built q h.size h.capacity h.base s.past (s.heads q) r w.head m l.phase l.batch l.completed l.made holds.known (batch_taken q s.past l.phase l.batch l.completed l.made holds.worked) built);
       };
     } in
-    subst (λ (y : ℕ). Holds q h (record { memory = m; past = entries.Offer q r ∷ s.past; heads = with_at s.heads q (s.heads q ++ y ∷ []) }) (offered l)) (sym last) whole
+    subst (λ (y : ℕ). Holds q h (record { memory = m; past = entries.Offer q r ∷ s.past; heads = with_last s.heads q y; descriptors = with_last s.descriptors q (chain_in (the_ring q h.size) m y) }) (offered l)) (sym last) whole
 
 -- all that are left from a plan, up to the offer
 pub guest_holds : (q : ℕ) (h : Header1) (mode : CacheMode) (s : Scene) (l : Lane) (w : Waiting) (count : ℕ) (first : List Store) → IsGood h → IsWaiting q h.size h.capacity s.past (s.heads q) l.driver w → AllByRecursion (IsHarmless q w.head) first → length first + 2 ≤ count → Holds q h s l
