@@ -38,7 +38,7 @@ use Rattle.vub_driver.specs.Layout.{area_place}
 use Rattle.vub_run_laws.proofs.RunGood.{the_ring, Worked, Holds}
 use Rattle.vub_run_laws.proofs.RunPhases.{resting, rest_is, taking, taking_holds}
 use Rattle.vub_run_laws.proofs.RunElements.{StepAt, AtId, AtLen, AtIndex, step_at, get_map}
-use Rattle.vub_run_laws.proofs.RunPublications.{publishing, IsUnderWay, more_left, none_left, numbers_answers}
+use Rattle.vub_run_laws.proofs.RunPublications.{publishing, IsUnderWay, more_left, none_left, numbers_answers, batch_open}
 use Rattle.vub_run_laws.proofs.RunTurns.{IsPlain, Good, phase_cases}
 use Rattle.vub_queue_in_run.proofs.QueueAtMoves.{course_same, moved_is, at_begin, at_row, at_show}
 use Rattle.vub_queue_in_run.proofs.QueueAtTurns.{ready_same, does_of, StandsAfter, stands_after}
@@ -225,7 +225,7 @@ index_step q h r s l done x u u' g whole next does =
     ap (λ (t : QueueState). t.phase) (moved_is q h r s.past (s.heads q) (phases.Publish done) l.batch l.completed l.made u g.main g.stands) ∙ ap (λ (z : Phase). (states.with_phase z u).phase) ends in
     let said = says_published x y u u' rests does.fine (subst (λ (o : Option Row). Moves x o u u') row_is does.moves) in
     let shown : QueueAt q h r (entries.Publish q list ∷ s.past) (s.heads q) phases.Rest [] l.completed l.made (moved u) =
-    at_show q h r s.past (s.heads q) (phases.Publish done) l.batch l.completed l.made u list ends (numbers_answers q (after_row h y s) l.batch) g.main g.stands in
+    at_show q h r s.past (s.heads q) (phases.Publish done) l.batch l.completed l.made u list ends (numbers_answers q (after_row h y s) l.batch) (λ k held. batch_open q h s l done k g.under held) g.main g.stands in
     let rest : StandsAfter q h r s (index_turn q h s l done y phases.Rest) u' = subst (λ (t : QueueState). QueueAt q h r (entries.Publish q list ∷ s.past) (s.heads q) phases.Rest [] l.completed l.made t) (sym said.1) shown in
     let stands : StandsAfter q h r s (index_turn q h s l done y p) u' = subst (λ (z : Phase). StandsAfter q h r s (index_turn q h s l done y z) u') (sym ends) rest in
     (y, record { row = row_is; space = refl; which = inr (record { next = next; tag = refl; said = said.0; items = refl }); stands = stands })
@@ -334,7 +334,7 @@ pub row_stands : (q : ℕ) (h : Header1) (r : SplitRing) (m : Moment) (most : �
 row_stands q h r m most told x state state' plain good main z ready fine made =
     let l : Lane = m.lanes q in
     let u : QueueState = states.under_way most state in
-    let now : publishes most state ≡ true = ready_same q h r m state (turns.Publish most) main z ∙ ready in
+    let now : publishes most state ≡ true = ready_same q h r m state (turns.Publish most) main good.holds z ∙ ready in
     let does = does_of (turns.Publish most) told x state state' made fine in
     let moves : Moves x (next_row u) u made.0 = subst (λ (b : Bool). Publishes b x state u made.0) now does in
     let after : made.0 ≡ state' = sym (made.1 ∙ runs_on x u made.0 (next_row u) fine moves) in
