@@ -182,7 +182,7 @@ guest_described q h count m w c waiting good' c' x = lane_described q (record m 
   | inr all ↦
       let ready : IsPrepared q h.size m.scene.memory v w = subst (λ (o : Option Waiting). PreparedWell q h.size m.scene.memory v o) waiting c.waits in
       let scene = guest_scene q h count w.ask w.left m.scene ready.some (omega (arith, all)) in
-      let driven : Driven q h.size h.capacity h.base s'.past (s'.heads q) v' = subst (λ (y : Lane). Driven q h.size h.capacity h.base s'.past (s'.heads q) y.driver) (at_own m.lanes q l') good'.holds.driven in
+      let driven : Driven q h.size h.capacity h.base s'.past (s'.heads q) v' = subst (λ (y : Lane). Driven q h.size h.capacity h.base s'.past (s'.heads q) y.driver) (at_own m.lanes q l') good'.holds.queue.driven in
       let chained : Chained q h.size s' v' = subst (λ (y : Lane). Chained q h.size s' y.driver) (at_own m.lanes q l') c' in
       subst (λ (s : Scene). Described q s v') (sym scene)
       (offer_described q h m.scene (put_all w.left m.scene.memory) (request_of w.ask) v v' (left_owner w (drop count w.left) v)
@@ -207,7 +207,7 @@ collect_described q h s l x k t c = record {
   many = c.many;
   owned = λ j d out held.
       let was = later_out q h s l x j k t out in
-      let differs : slice_index (s.heads q) j ≢ x = λ same. was.1 (t.holds.driven.apart j (next_number q s) was.0 (next_out q h s l x t) (same ∙ t.head)) in
+      let differs : slice_index (s.heads q) j ≢ x = λ same. was.1 (t.holds.queue.driven.apart j (next_number q s) was.0 (next_out q h s l x t) (same ∙ t.head)) in
       kept_owner l.driver.owner x (slice_index (s.heads q) j) d differs (c.owned j d was.0 held);
 }
 
