@@ -21,6 +21,7 @@ use Rattle.vub_run.specs.Memory.{Scene}
 use Rattle.vub_run.specs.Moments.{Lane}
 use Rattle.vub_run.specs.Run.{with_driver}
 use Rattle.vub_device.specs.Requests.{request_of}
+use Rattle.vub_run_laws.proofs.RunQueue.{queue_driver}
 use Rattle.vub_run_laws.proofs.RunGood.{the_ring, IsWide, IsHarmless, IsPlan, Driven, Holds}
 use Rattle.vub_run_laws.proofs.RunFrames.{length_little}
 use Rattle.vub_run_laws.proofs.RunGuests.{IsGood}
@@ -179,9 +180,5 @@ ask_holds q h s l a good plain ready x =
       known = x.known;
       worked = x.worked;
       stored = x.stored;
-      queue = record {
-        ringed = x.queue.ringed;
-        driven = ask_driven q h.size h.capacity h.base s.past (s.heads q) a v (chosen h.size a v) good.size.small plain (omega (arith, many, needed.0)) (omega (arith, many, needed.1)) all x.queue.driven;
-        built = x.queue.built;
-      };
+      queue = queue_driver q h s v (after_ask (the_ring q h.size) a v) l.batch l.phase (ask_driven q h.size h.capacity h.base s.past (s.heads q) a v (chosen h.size a v) good.size.small plain (omega (arith, many, needed.0)) (omega (arith, many, needed.1)) all x.queue.driven) x.queue;
     }

@@ -27,7 +27,7 @@ use Rattle.vub_run_laws.proofs.RunTracks.{ahead_by}
 use Rattle.vub_run_laws.proofs.RunEfforts.{weight, effort, sum_below, sum_more, weight_small, sum_moved}
 use Rattle.vub_run_laws.proofs.RunGuests.{IsGood, holds_track}
 use Rattle.vub_run_laws.proofs.RunWork.{Fine}
-use Rattle.vub_run_laws.proofs.RunQueue.{queue_same, queue_entry}
+use Rattle.vub_run_laws.proofs.RunQueue.{queue_same, queue_entry, queue_begins}
 
 -- the lane at rest
 abbrev pub resting : Lane → Lane
@@ -213,14 +213,7 @@ taking_holds q h s l most some any run x =
         sectors = x.stored.sectors;
         status = λ k held. x.stored.status k (same k held);
       };
-      queue = record {
-        ringed = x.queue.ringed;
-        driven = x.queue.driven;
-        built = record {
-          ids = λ e l d. absurd (omega arith);
-          lens = λ e l d. absurd (omega arith);
-        };
-      };
+      queue = queue_begins q h s l.driver (take most l.completed) [] phases.Rest x.queue;
     }
 
 -- and what is left to do grows by no more than the store that follows

@@ -1,5 +1,5 @@
 -- What is known of a queue, and what each step of the driver and of the device leaves of it.
-use Rattle.std.proofs.Common.{◌≡◌, ◌≤◌, ◌<◌, ℕ, ◌+◌, List, length, take, ap, sym, ◌∙◌, subst, arith, ◌%◌}
+use Rattle.std.proofs.Common.{◌≡◌, ◌≤◌, ◌<◌, ℕ, ◌+◌, List, [], length, take, refl, ap, sym, ◌∙◌, subst, arith, ◌%◌}
 use Rattle.std.specs.Prelude.{Option, Some, None, slice_index}
 use Rattle.vub_base.specs.declared.header.Header1.{Header1}
 use Rattle.vub_shared.specs.Bytes.{Bytes, put, word}
@@ -92,6 +92,26 @@ queue_collect q h s past' v v' batch phase leaves driven x = record {
   driven = driven;
   built = built_same q h.size h.base s.past past' (s.heads q) s.memory batch phase leaves.shows leaves.asks x.built;
 }
+
+-- ---- phases
+
+-- no batch is under way: what stands of elements doesn't matter
+pub queue_rests : (q : ℕ) (h : Header1) (s : Scene) (v : Driver) (batch : List ℕ) (phase : Phase) → QueueFacts q h s v batch phase → QueueFacts q h s v [] phases.Rest
+queue_rests q h s v batch phase x = record { ringed = x.ringed; driven = x.driven; built = tt }
+
+-- a batch begins: none of its elements stands yet
+pub queue_begins : (q : ℕ) (h : Header1) (s : Scene) (v : Driver) (batch : List ℕ) (before : List ℕ) (phase : Phase) → QueueFacts q h s v before phase → QueueFacts q h s v batch (phases.Publish 0)
+queue_begins q h s v batch before phase x = record {
+  ringed = x.ringed;
+  driven = x.driven;
+  built = record { ids = λ e l d. absurd (omega arith); lens = λ e l d. absurd (omega arith) };
+}
+
+-- ---- the driver
+
+-- another driver whose slots are well
+pub queue_driver : (q : ℕ) (h : Header1) (s : Scene) (v v' : Driver) (batch : List ℕ) (phase : Phase) → Driven q h.size h.capacity h.base s.past (s.heads q) v' → QueueFacts q h s v batch phase → QueueFacts q h s v' batch phase
+queue_driver q h s v v' batch phase driven x = record { ringed = x.ringed; driven = driven; built = x.built }
 
 -- ---- a store
 
