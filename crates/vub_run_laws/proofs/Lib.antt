@@ -20,6 +20,7 @@ pub mod RunExists
 pub mod RunFrames
 pub mod RunGood
 pub mod RunGuests
+pub mod RunHeads
 pub mod RunItems
 pub mod RunLawful
 pub mod RunNumbers
