@@ -1,5 +1,5 @@
 -- What is known of a queue, and what each step of the driver and of the device leaves of it.
-use Rattle.std.proofs.Common.{◌≡◌, ◌≤◌, ◌<◌, ℕ, ◌+◌, List, [], length, take, refl, ap, sym, ◌∙◌, subst, arith, ◌%◌}
+use Rattle.std.proofs.Common.{◌≡◌, ◌≤◌, ◌<◌, ℕ, ◌+◌, List, [], length, take, ap, sym, ◌∙◌, subst, arith, ◌%◌}
 use Rattle.std.specs.Prelude.{Option, Some, None, slice_index}
 use Rattle.vub_base.specs.declared.header.Header1.{Header1}
 use Rattle.vub_shared.specs.Bytes.{Bytes, put, word}
