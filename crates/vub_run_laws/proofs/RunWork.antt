@@ -6,13 +6,10 @@ use Rattle.std.proofs.lemmas.Bool.{cases_eq, cases_lt}
 use Rattle.std.proofs.lemmas.List.{length-take, length-take-le, length-drop, get_or-take, get_or-drop, get_or_append_left}
 use Rattle.vub_base.specs.declared.header.CacheMode.TheVariants.{Back}
 use Rattle.vub_base.specs.declared.header.Header1.{Header1}
-use Rattle.vub_shared.specs.Bytes.{Bytes, put, word}
+use Rattle.vub_shared.specs.Bytes.{Bytes, put}
 use Rattle.vub_shared.proofs.BytesLemmas.{put_other, put_inside}
 use Rattle.vub_steps.specs.declared.steps.Phase.{Phase}
-use Rattle.vub_steps.specs.declared.steps.Phase.TheVariants as phases
-use Rattle.vub_ring.specs.Ring.{used_id_place, used_len_place}
 use Rattle.vub_driver.specs.Layout.{status_place, sectors_place}
-use Rattle.vub_driver.specs.Drivers.{Driver, Waiting}
 use Rattle.vub_device.specs.declared.entry.Asked.{Asked}
 use Rattle.vub_device.specs.declared.entry.Asked.TheVariants as asks
 use Rattle.vub_device.specs.declared.entry.Entry.{Entry}
@@ -31,11 +28,11 @@ use Rattle.vub_run.specs.Memory.{Scene, with_at, after_items}
 use Rattle.vub_run.specs.Moments.{Lane}
 use Rattle.vub_steps.specs.Tasks.{RequestStep, Look, Put, Act, Sync, Status, status_of, disk_steps, look_steps, act_steps}
 use Rattle.vub_run.specs.TaskItems.{look_items, act_items}
-use Rattle.vub_run.specs.Tracking.{Tracks, AfterEach, answered_len}
+use Rattle.vub_run.specs.Tracking.{Tracks, AfterEach}
 use Rattle.vub_report.specs.Histories.{entries_of}
 use Rattle.vub_run.specs.Turns.{Turned, request_turn, task_turn}
 use Rattle.vub_run_laws.proofs.RunNumbers.{distinct_parts, distinct_join, distinct_push}
-use Rattle.vub_run_laws.proofs.RunGood.{the_ring, IsWideRead, IsWideWrite, IsWide, Known, IsOut, WaitsWell, Driven, IsReadTo, IsWrittenTo, Progress, IsBegun, IsFull, IsPending, Worked, IsKept, Stored, IsRead, Built, buffer, Holds}
+use Rattle.vub_run_laws.proofs.RunGood.{IsWideRead, IsWideWrite, IsWide, Known, IsReadTo, IsWrittenTo, Progress, IsBegun, IsFull, IsPending, Worked, IsKept, Stored, IsRead, buffer, Holds}
 use Rattle.vub_run_laws.proofs.RunSteps.{WideCases, AtRead, AtWrite, AtFlush, wide_cases, wide_served, wide_steps, ReadAt, ToLook, ToPut, ToReply, read_at, WriteAt, ToAct, ToEnd, write_at, look_is, written, effect_is, read_to, written_to}
 use Rattle.vub_run_laws.proofs.RunEfforts.{effort, step_falls, status_falls}
 use Rattle.vub_run_laws.proofs.RunFrames.{open_out, OffBuffer, sector_elsewhere, status_elsewhere, other_buffer}
@@ -248,7 +245,7 @@ look_holds q h s l k sector c p place v x low at long = record {
   known = look_known q h.size h.capacity s.past (s.heads q) k place v x.left.holds.known;
   worked = look_worked q h s l k sector c p place v x low at long;
   stored = step_stored q s.past (entries.Look q k place v ∷ s.past) (s.heads q) s.memory l.batch l.completed l.made k (look_follows q s.past k place v x.left.started) (look_seen q h s l k sector c p place v x low at) x.left.holds.stored;
-  queue = queue_same q h s (entries.Look q k place v ∷ s.past) l.driver l.batch l.phase refl refl refl (λ j. refl) x.left.holds.queue;
+  queue = queue_same q h s (entries.Look q k place v ∷ s.past) l.driver l.batch l.phase refl refl refl refl (λ j. refl) x.left.holds.queue;
 }
 
 look_fine : (q : ℕ) (h : Header1) (s : Scene) (l : Lane) (k sector c p : ℕ) → IsReading q h s l k sector c → p < c → l.made k ≡ 2 * p → Fine q h s l (task_turn h q s l k (asks.Read sector c) (Some (Look p)))
@@ -338,7 +335,7 @@ act_holds q h s l k sector place bytes v x low long = record {
   known = act_known q h.size h.capacity s.past (s.heads q) k place v long x.left.holds.known;
   worked = act_worked q h s l k sector place bytes v x low;
   stored = step_stored q s.past (entries.Act q k place v ∷ s.past) (s.heads q) s.memory l.batch l.completed l.made k (act_follows q s.past k place v x.left.started) (seen_never q s.past (entries.Act q k place v ∷ s.past) l.made k (write_never sector bytes (asked s.past q k) x.is)) x.left.holds.stored;
-  queue = queue_same q h s (entries.Act q k place v ∷ s.past) l.driver l.batch l.phase refl refl refl (λ j. refl) x.left.holds.queue;
+  queue = queue_same q h s (entries.Act q k place v ∷ s.past) l.driver l.batch l.phase refl refl refl refl (λ j. refl) x.left.holds.queue;
 }
 
 -- a sector of some bytes
@@ -423,7 +420,7 @@ sync_holds q h s l k x is none = record {
   known = sync_known q h.size h.capacity s.past (s.heads q) k x.holds.known;
   worked = sync_worked q h s l k x is none;
   stored = step_stored q s.past (entries.Sync q k ∷ s.past) (s.heads q) s.memory l.batch l.completed l.made k (sync_follows q s.past k x.started) (seen_never q s.past (entries.Sync q k ∷ s.past) l.made k (flush_never (asked s.past q k) is)) x.holds.stored;
-  queue = queue_same q h s (entries.Sync q k ∷ s.past) l.driver l.batch l.phase refl refl refl (λ j. refl) x.holds.queue;
+  queue = queue_same q h s (entries.Sync q k ∷ s.past) l.driver l.batch l.phase refl refl refl refl (λ j. refl) x.holds.queue;
 }
 
 sync_fine : (q : ℕ) (h : Header1) (s : Scene) (l : Lane) (k : ℕ) → IsLeft q h s l k → asked s.past q k ≡ Some asks.Flush → l.made k ≡ 0 → Fine q h s l (task_turn h q s l k asks.Flush (Some Sync))

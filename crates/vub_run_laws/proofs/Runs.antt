@@ -95,7 +95,7 @@ opening_holds q h plain low = record {
       apart = λ j k out_j out_k same. absurd (none_out q j out_j);
       waits = tt;
     };
-    built = tt;
+    words = record { used_fits = omega (arith, (open_words h q h.queues plain.good.base low).1, plain.good.base); untouched = λ stopped. record { none = refl; at = (open_words h q h.queues plain.good.base low).1 }; batch = refl };
   };
 }
 
