@@ -7,6 +7,7 @@ use Rattle.std.proofs.lemmas.List.{length-append, length-map, length-set, length
 use Rattle.std.proofs.lemmas.List.Elements.{filter-append}
 use Rattle.std.proofs.lemmas.Option.{slice_get_within}
 use Rattle.vub_base.specs.declared.header.Header1.{Header1}
+use Rattle.vub_steps.specs.declared.steps.Course.{Course}
 use Rattle.vub_steps.specs.declared.steps.Phase.{Phase}
 use Rattle.vub_steps.specs.declared.steps.Phase.TheVariants as phases
 use Rattle.vub_steps.specs.Readiness.{is_publication}
@@ -26,7 +27,7 @@ use Rattle.vub_run.specs.Turns.{len_of}
 use Rattle.vub_queue.specs.QueueParts.{is_taken}
 use Rattle.vub_queue.specs.QueueState as states
 use Rattle.vub_queue.specs.QueueState.{QueueState}
-use Rattle.vub_queue_in_run.specs.QueueAt.{spot_of, left_of, TaskAt, QueueAt, KeepsHeads}
+use Rattle.vub_queue_in_run.specs.QueueAt.{LiesAs, spot_of, left_of, TaskAt, QueueAt, KeepsHeads}
 use Rattle.vub_queue_in_run.proofs.QueueHeld.{words_kept, keeps_new, keeps_started, keeps_accepted, keeps_begun, keeps_phase, keeps_shown}
 use Rattle.vub_facts.specs.Facts.{heads_in, without}
 use Rattle.vub_facts.proofs.HeadLemmas.{without_map, number_of}
@@ -316,18 +317,28 @@ goes_to (phases.Start done) state goes = refl
 goes_to (phases.Fetch done) state goes = refl
 goes_to (phases.Publish done) state goes = refl
 
--- the step that is next counts by the batch
-pub moved_is : (q : ℕ) (h : Header1) (r : SplitRing) (past : List Entry) (heads : List ℕ) (phase : Phase) (batch completed : List ℕ) (made : ℕ → ℕ) (state : QueueState) → QueueAt q h r past heads phase batch completed made state
-    → states.moved state ≡ states.with_phase (after_step (length batch) phase) state
-moved_is q h r past heads phase batch completed made state x =
-    let many : length state.batch ≡ length batch = ap (λ (ks : List (ℕ × ℕ)). length ks) x.batch ∙ length-map batch (spot_of q h past heads) in
-    ap (λ (n : ℕ). states.with_phase (after_step n state.phase) state) many ∙ ap (λ (p : Phase). states.with_phase (after_step (length batch) p) state) x.phase
+abbrev course_with : ℕ → ℕ → Course
+course_with size batch = record { size = size; batch = batch }
 
-pub at_row : (q : ℕ) (h : Header1) (r : SplitRing) (past : List Entry) (heads : List ℕ) (phase : Phase) (batch completed : List ℕ) (made : ℕ → ℕ) (state : QueueState) → QueueAt q h r past heads phase batch completed made state
-    → is_publication (after_step (length batch) phase) ≡ true → QueueAt q h r past heads (after_step (length batch) phase) batch completed made (states.moved state)
-at_row q h r past heads phase batch completed made state x goes =
-    let p : Phase = after_step (length batch) phase in
-    let same : states.moved state ≡ record state { phase = p } = moved_is q h r past heads phase batch completed made state x ∙ goes_to p state goes in
+-- the queue's course is that of the header and the batch
+pub course_same : (q : ℕ) (h : Header1) (r : SplitRing) (past : List Entry) (heads : List ℕ) (phase : Phase) (batch completed : List ℕ) (made : ℕ → ℕ) (state : QueueState) → LiesAs q r h.size → QueueAt q h r past heads phase batch completed made state
+    → states.course_in state ≡ course_with h.size (length batch)
+course_same q h r past heads phase batch completed made state main x =
+    let many : length state.batch ≡ length batch = ap (λ (ks : List (ℕ × ℕ)). length ks) x.batch ∙ length-map batch (spot_of q h past heads) in
+    let size : state.ring.size ≡ h.size = ap (λ (ring : SplitRing). ring.size) x.ring ∙ main.size in
+    ap (λ (n : ℕ). course_with n (length state.batch)) size ∙ ap (course_with h.size) many
+
+pub moved_is : (q : ℕ) (h : Header1) (r : SplitRing) (past : List Entry) (heads : List ℕ) (phase : Phase) (batch completed : List ℕ) (made : ℕ → ℕ) (state : QueueState) → LiesAs q r h.size → QueueAt q h r past heads phase batch completed made state
+    → states.moved state ≡ states.with_phase (after_step (course_with h.size (length batch)) phase) state
+moved_is q h r past heads phase batch completed made state main x =
+    ap (λ (c : Course). states.with_phase (after_step c state.phase) state) (course_same q h r past heads phase batch completed made state main x)
+    ∙ ap (λ (p : Phase). states.with_phase (after_step (course_with h.size (length batch)) p) state) x.phase
+
+pub at_row : (q : ℕ) (h : Header1) (r : SplitRing) (past : List Entry) (heads : List ℕ) (phase : Phase) (batch completed : List ℕ) (made : ℕ → ℕ) (state : QueueState) → LiesAs q r h.size → QueueAt q h r past heads phase batch completed made state
+    → is_publication (after_step (course_with h.size (length batch)) phase) ≡ true → QueueAt q h r past heads (after_step (course_with h.size (length batch)) phase) batch completed made (states.moved state)
+at_row q h r past heads phase batch completed made state main x goes =
+    let p : Phase = after_step (course_with h.size (length batch)) phase in
+    let same : states.moved state ≡ record state { phase = p } = moved_is q h r past heads phase batch completed made state main x ∙ goes_to p state goes in
     subst (λ (t : QueueState). QueueAt q h r past heads p batch completed made t) (sym same) (record {
       ring = x.ring;
       runs = x.runs;
@@ -382,12 +393,12 @@ left_shown q past completed batch list is =
     ∙ show_filter (published past q) completed batch (accepted past q)
 
 pub at_show : (q : ℕ) (h : Header1) (r : SplitRing) (past : List Entry) (heads : List ℕ) (phase : Phase) (batch completed : List ℕ) (made : ℕ → ℕ) (state : QueueState) (list : List Answered)
-    → after_step (length batch) phase ≡ phases.Rest → numbers list ≡ batch → ((k : ℕ) → is_among batch k ≡ true → IsOpen past q k) → QueueAt q h r past heads phase batch completed made state
+    → after_step (course_with h.size (length batch)) phase ≡ phases.Rest → numbers list ≡ batch → ((k : ℕ) → is_among batch k ≡ true → IsOpen past q k) → LiesAs q r h.size → QueueAt q h r past heads phase batch completed made state
     → QueueAt q h r (entries.Publish q list ∷ past) heads phases.Rest [] completed made (states.moved state)
-at_show q h r past heads phase batch completed made state list ends is opens x =
+at_show q h r past heads phase batch completed made state list ends is opens main x =
     let past' : List Entry = entries.Publish q list ∷ past in
     let many : length state.batch ≡ length batch = ap (λ (ks : List (ℕ × ℕ)). length ks) x.batch ∙ length-map batch (spot_of q h past heads) in
-    let moved : states.moved state ≡ states.with_phase phases.Rest state = moved_is q h r past heads phase batch completed made state x ∙ ap (λ (p : Phase). states.with_phase p state) ends in
+    let moved : states.moved state ≡ states.with_phase phases.Rest state = moved_is q h r past heads phase batch completed made state main x ∙ ap (λ (p : Phase). states.with_phase p state) ends in
     let same : left_of q past' completed [] ≡ left_of q past completed batch = left_shown q past completed batch list is in
     let shown : length (published past' q) ≡ length (published past q) + length batch = ap (λ (ks : List ℕ). length ks) (published_own past q list) ∙ length-append (published past q) (numbers list) ∙ ap (λ (ks : List ℕ). length (published past q) + length ks) is in
     let batch_heads : map (slice_index heads) batch ≡ heads_in state.batch = sym (ap heads_in x.batch ∙ heads_of_spots q h past heads batch) in

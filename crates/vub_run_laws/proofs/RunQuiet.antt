@@ -28,7 +28,7 @@ use Rattle.vub_run.specs.Memory.{Scene, after_item, after_items}
 use Rattle.vub_run.specs.Moments.{Lane, Moment, fresh, unfinished}
 use Rattle.vub_run.specs.Run.{Played, played, if_ready, ask, take_first, collect, boot, join, one_turn, is_due, then_played, turns as many_turns, single, up_to, any_choice, drain_choice, Drains, Plays}
 use Rattle.vub_run.specs.TaskItems.{look_items, act_items}
-use Rattle.vub_run.specs.Turns.{turned, row_items, step_items, element_of, phase_turn, phase_goes_on, under_way, work_turn, request_turn, task_turn}
+use Rattle.vub_run.specs.Turns.{course_of, turned, row_items, step_items, element_of, phase_turn, phase_goes_on, under_way, work_turn, request_turn, task_turn}
 use Rattle.vub_run_laws.proofs.RunGood.{the_ring}
 use Rattle.vub_run_laws.proofs.RunChainsMade.{all_append}
 
@@ -100,7 +100,7 @@ work_quiet q h s l None = tt
 work_quiet q h s l (Some k) = request_quiet q h s l k (asked s.past q k)
 
 goes_quiet : (q : ℕ) (h : Header1) (s : Scene) (l : Lane) → AreQuiet h (phase_goes_on h q s l).items
-goes_quiet q h s l = phase_quiet q h s l (next_step (length l.batch) l.phase)
+goes_quiet q h s l = phase_quiet q h s l (next_step (course_of h l) l.phase)
 
 pub turned_quiet : (q : ℕ) (h : Header1) (t : Turn) (m : Moment) → AreQuiet h (turned h q t m).items
 turned_quiet q h turns.Start m = goes_quiet q h m.scene (under_way turns.Start (m.lanes q))
