@@ -126,7 +126,7 @@ taken_worked q h s l k w = record {
   full = w.full;
   pending = λ j is_open out. w.pending j (record { taken = is_open.taken; unpublished = is_open.unpublished }) out;
   quiet = w.quiet;
-  phase_is = w.phase_is;
+  between = w.between;
 }
 
 pub taken_holds : (q : ℕ) (h : Header1) (s : Scene) (l : Lane) (x k : ℕ) → IsTaken q h s l x → Holds q h (record s { past = entries.Collect q k ∷ s.past }) (with_driver (record l.driver { owner = without_owner x l.driver.owner }) l)

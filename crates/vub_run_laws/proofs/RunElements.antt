@@ -27,7 +27,7 @@ use Rattle.vub_run.specs.Turns.{len_of, element_of}
 use Rattle.vub_run_laws.proofs.RunNumbers.{few_below, distinct_parts, distinct_join}
 use Rattle.vub_run_laws.proofs.RunFacts.{words_id, words_len}
 use Rattle.vub_split.proofs.Rings.{entries_apart}
-use Rattle.vub_run_laws.proofs.RunGood.{the_ring, IsSize, IsWide, Known, Ringed, Worked, PhaseIs, WordsAt, Holds}
+use Rattle.vub_run_laws.proofs.RunGood.{the_ring, IsSize, IsWide, Known, Ringed, Worked, WordsAt, Holds}
 use Rattle.vub_run_laws.proofs.RunFrames.{keeps, entry_small, length_little, stored_elsewhere, below_buffers}
 use Rattle.vub_run_laws.proofs.RunGuests.{IsGood, stored_at}
 use Rattle.vub_run_laws.proofs.RunSteps.{wide_served}
@@ -162,9 +162,9 @@ ring_words q n base past heads m p bs size high ids lens r = record {
 abbrev pub one_on : ℕ → Lane → Lane
 one_on done l = record l { phase = phases.Publish (done + 1) }
 
-worked_on : (q : ℕ) (past : List Entry) (batch completed : List ℕ) (made : ℕ → ℕ) (phase : Phase) (done : ℕ) → phase ≡ phases.Publish done → done + 1 < 2 * length batch + 1 → Worked q past phase batch completed made → Worked q past (phases.Publish (done + 1)) batch completed made
-worked_on q past batch completed made phase done is more w =
-    let some : (0 < length batch) × (done < 2 * length batch + 1) = subst (λ (p : Phase). PhaseIs batch p) is w.phase_is in record {
+worked_on : (q : ℕ) (past : List Entry) (batch completed : List ℕ) (made : ℕ → ℕ) (phase : Phase) (done : ℕ) → phase ≡ phases.Publish done → Worked q past phase batch completed made → Worked q past (phases.Publish (done + 1)) batch completed made
+worked_on q past batch completed made phase done is w =
+    record {
       distinct = w.distinct;
       opens = w.opens;
       untouched = w.untouched;
@@ -172,7 +172,7 @@ worked_on q past batch completed made phase done is more w =
       full = w.full;
       pending = w.pending;
       quiet = λ stopped. absurd (let fails : phases.Publish done ≡ phases.Rest = sym is ∙ (w.quiet stopped).0 in cc);
-      phase_is = (some.0, more);
+      between = tt;
     }
 
 pub id_holds : (q : ℕ) (h : Header1) (s : Scene) (l : Lane) (done e x : ℕ) → IsNextElement q h s l done e → done ≡ 2 * e → x ≡ slice_index (s.heads q) (slice_index l.batch e) → x < 256 ^ 4
@@ -190,7 +190,7 @@ id_holds q h s l done e x n at is fits =
       | inr stopped ↦ absurd (let fails : phases.Publish done ≡ phases.Rest = sym n.phase ∙ (n.holds.worked.quiet stopped).0 in cc)
     ] in record {
       known = n.holds.known;
-      worked = worked_on q s.past l.batch l.completed l.made l.phase done n.phase (omega arith) n.holds.worked;
+      worked = worked_on q s.past l.batch l.completed l.made l.phase done n.phase n.holds.worked;
       stored = stored_elsewhere q s.past (s.heads q) s.memory p bs l.batch l.completed l.made n.holds.worked.opens (λ k is_open. below_buffers q (s.heads q) k p bs (omega arith)) n.holds.stored;
       queue = record {
         ringed = ring_words q h.size h.base s.past (s.heads q) s.memory p bs n.good.size (omega arith)
@@ -216,7 +216,7 @@ len_holds q h s l done e x n at is fits =
       | inr stopped ↦ absurd (let fails : phases.Publish done ≡ phases.Rest = sym n.phase ∙ (n.holds.worked.quiet stopped).0 in cc)
     ] in record {
       known = n.holds.known;
-      worked = worked_on q s.past l.batch l.completed l.made l.phase done n.phase (omega arith) n.holds.worked;
+      worked = worked_on q s.past l.batch l.completed l.made l.phase done n.phase n.holds.worked;
       stored = stored_elsewhere q s.past (s.heads q) s.memory p bs l.batch l.completed l.made n.holds.worked.opens (λ k is_open. below_buffers q (s.heads q) k p bs (omega arith)) n.holds.stored;
       queue = record {
         ringed = ring_words q h.size h.base s.past (s.heads q) s.memory p bs n.good.size (omega arith)

@@ -19,14 +19,14 @@ use Rattle.vub_device.specs.declared.entry.Entry.TheVariants as entries
 use Rattle.vub_device.specs.Past.{started, asked, accepted, published, missing_below, open_numbers, is_among, IsOpen}
 use Rattle.vub_device.specs.Places.{are_distinct}
 use Rattle.vub_run.specs.Memory.{Scene}
-use Rattle.vub_run.specs.Moments.{open_heads}
+use Rattle.vub_run.specs.Moments.{Lane, open_heads}
 use Rattle.vub_run.specs.Turns.{element_of, len_of}
 use Rattle.vub_facts.specs.Facts.{Side, heads_in, Lies, Elsewhere, Words, words_at, InBatch, Facts, words_after}
 use Rattle.vub_facts.proofs.FactWords.{facts_off, facts_beside, id_words, len_words}
 use Rattle.vub_facts.proofs.FactSteps.{publication_begins, step_keeps}
 use Rattle.vub_facts.proofs.HeadLemmas.{number_of, among_map}
 use Rattle.vub_run_laws.proofs.RunNumbers.{few_below, missing-among, among-missing}
-use Rattle.vub_run_laws.proofs.RunGood.{the_ring, side_of, WordsAt, IsSize, Known, Driven, IsOut, PhaseIs}
+use Rattle.vub_run_laws.proofs.RunGood.{the_ring, side_of, WordsAt, IsSize, Known, Driven, IsOut, PhaseIs, RestsOrPublishes, Holds}
 use Rattle.vub_run_laws.proofs.RunFrames.{OffRings, open_out}
 use Rattle.vub_run_laws.proofs.RunOffers.{same_head, same_asked}
 
@@ -36,6 +36,23 @@ lies_ring q n size = record {
   size = record { some = size.some; few = omega (arith, size.small); laps = size.laps };
   fits = record { some = size.some; apart = inr (inr (omega (arith, size.small))) };
 }
+
+-- what is under way between two turns
+pub phase_at : (q : ℕ) (h : Header1) (s : Scene) (l : Lane) → Holds q h s l → PhaseIs l.batch l.phase
+phase_at q h s l x = go l.phase x.worked.between x.queue.words
+  where
+    long : length (map (element_of h q s) l.batch) ≡ length l.batch
+    long = length-map l.batch (element_of h q s)
+
+    none : (ks : List ℕ) → map (element_of h q s) ks ≡ [] → ks ≡ []
+    none [] e = refl
+    none (k ∷ ks) e = absurd (cc)
+
+    go : (p : Phase) → RestsOrPublishes p → WordsAt q h s l.batch p → PhaseIs l.batch p
+    go phases.Rest between f = none l.batch f.batch
+    go (phases.Publish done) between f = (omega (arith, f.batch.0.some, long), omega (arith, f.batch.0.left, long))
+    go (phases.Start done) between f = absurd between
+    go (phases.Fetch done) between f = absurd between
 
 -- ---- another history
 
@@ -158,10 +175,10 @@ words_elsewhere_at q h s p bs batch phase size off f =
     go (inr above) = record { avail = inr (inl (omega (arith, above, size.small))); used = inr (inl (omega (arith, above, size.small))) }
 
 -- below the used ring, where no fetch is under way
-pub words_below : (q : ℕ) (h : Header1) (s : Scene) (p : ℕ) (bs batch : List ℕ) (phase : Phase) → IsSize h.size → PhaseIs batch phase → p + length bs ≤ area_place q + 8192 → WordsAt q h s batch phase → WordsAt q h (record s { memory = put s.memory 0 p bs }) batch phase
+pub words_below : (q : ℕ) (h : Header1) (s : Scene) (p : ℕ) (bs batch : List ℕ) (phase : Phase) → IsSize h.size → RestsOrPublishes phase → p + length bs ≤ area_place q + 8192 → WordsAt q h s batch phase → WordsAt q h (record s { memory = put s.memory 0 p bs }) batch phase
 words_below q h s p bs batch phase size at low f =
     facts_beside (the_ring q h.size) (open_heads q s.past (s.heads q)) h.base (side_of q h s batch phase) s.memory (one_store 0 p bs) (lies_ring q h.size size) (inr (inr (omega (arith, low))))
-    (λ done fetching. absurd (subst (λ (p : Phase). PhaseIs batch p) fetching at)) f
+    (λ done fetching. absurd (subst RestsOrPublishes fetching at)) f
 
 -- ---- the elements of a batch
 

@@ -175,6 +175,13 @@ IsPending made (Some (asks.Write s bytes)) = made ≤ length bytes / 512
 IsPending made (Some asks.Flush) = made ≤ 1
 IsPending made r = ⊤
 
+-- between turns a queue is at rest or publishes
+abbrev pub RestsOrPublishes : Phase → Type 0
+RestsOrPublishes phases.Rest = ⊤
+RestsOrPublishes (phases.Publish done) = ⊤
+RestsOrPublishes phase = ⊥
+
+-- and its batch goes with that
 abbrev pub PhaseIs : List ℕ → Phase → Type 0
 PhaseIs batch phases.Rest = batch ≡ []
 PhaseIs batch (phases.Publish done) = (0 < length batch) × (done < 2 * length batch + 1)
@@ -188,7 +195,7 @@ pub record Worked (q : ℕ) (past : List Entry) (phase : Phase) (batch completed
   pub full : (k : ℕ) → is_among (completed ++ batch) k ≡ true → IsFull (made k) (asked past q k)
   pub pending : (k : ℕ) → IsOpen past q k → is_among (completed ++ batch) k ≡ false → IsPending (made k) (asked past q k)
   pub quiet : started past q ≡ false → (phase ≡ phases.Rest) × ((completed ≡ []) × ((k : ℕ) → made k ≡ 0))
-  pub phase_is : PhaseIs batch phase
+  pub between : RestsOrPublishes phase
 
 -- ---- what stands in buffers
 

@@ -100,7 +100,7 @@ entry_holds q h s l w good waits holds =
         queue = record {
           ringed = ring.0;
           driven = holds.queue.driven;
-          words = words_below q h s p bs l.batch l.phase good.size holds.worked.phase_is below holds.queue.words;
+          words = words_below q h s p bs l.batch l.phase good.size holds.worked.between below holds.queue.words;
         };
       },
       ring.1,
@@ -124,7 +124,7 @@ index_holds q h s l w good waits holds stands =
     let ringed = offer_ringed q h.size h.capacity h.base s.past (s.heads q) s.memory r w.head l.driver.avail_idx good.size holds.known holds.queue.driven.index stands holds.queue.ringed in
     let last : last_head (the_ring q h.size) m ≡ w.head = shown_head q h.size h.base s.past (s.heads q) m r w.head holds.known.offered ringed in
     let stored = stored_elsewhere q s.past (s.heads q) s.memory p bs l.batch l.completed l.made holds.worked.opens (λ k is_open. below_buffers q (s.heads q) k p bs (omega arith)) holds.stored in
-    let words = words_below q h s p bs l.batch l.phase good.size holds.worked.phase_is (omega arith) holds.queue.words in
+    let words = words_below q h s p bs l.batch l.phase good.size holds.worked.between (omega arith) holds.queue.words in
     let past' : List Entry = entries.Offer q r ∷ s.past in
     let heads' : List ℕ = s.heads q ++ w.head ∷ [] in
     let own : heads' ≡ with_at s.heads q heads' q = sym (at_own s.heads q heads') in

@@ -173,7 +173,7 @@ offer_worked q n cap past heads r phase batch completed made known worked = reco
       let low : k < offers past q = omega (arith, is_open.taken, known.offers_are, known.offered) in
       subst (λ (o : Option Asked). IsPending (made k) o) (sym (same_asked q past r k low)) (worked.pending k (record { taken = is_open.taken; unpublished = is_open.unpublished }) out);
   quiet = worked.quiet;
-  phase_is = worked.phase_is;
+  between = worked.between;
 }
 
 pub offer_stored : (q n cap : ℕ) (past : List Entry) (heads : List ℕ) (r : Asked) (h : ℕ) (m : Bytes) (phase : Phase) (batch completed : List ℕ) (made : ℕ → ℕ) → Known q n cap past heads → Worked q past phase batch completed made

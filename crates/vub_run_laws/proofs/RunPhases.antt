@@ -28,7 +28,7 @@ use Rattle.vub_run_laws.proofs.RunEfforts.{weight, effort, sum_below, sum_more, 
 use Rattle.vub_run_laws.proofs.RunGuests.{IsGood, holds_track}
 use Rattle.vub_run_laws.proofs.RunWork.{Fine}
 use Rattle.vub_run_laws.proofs.RunQueue.{queue_entry, queue_begins}
-use Rattle.vub_run_laws.proofs.RunFacts.{words_rest, words_rest_at, batch_begins_at}
+use Rattle.vub_run_laws.proofs.RunFacts.{phase_at, words_rest, words_rest_at, batch_begins_at}
 
 -- the lane at rest
 abbrev pub resting : Lane → Lane
@@ -49,7 +49,7 @@ start_worked q past list batch completed made phase stopped w =
       full = w.full;
       pending = λ j is_open out. w.pending j (record { taken = is_open.taken; unpublished = is_open.unpublished }) out;
       quiet = λ stops. absurd (let fails : true ≡ false = sym (started_own past q list) ∙ stops in cc);
-      phase_is = w.phase_is;
+      between = w.between;
     }
 
 start_holds : (q : ℕ) (h : Header1) (s : Scene) (l : Lane) (list : List ℕ) → started s.past q ≡ false → Holds q h s l → Holds q h (record s { past = entries.Start q list ∷ s.past }) l
@@ -73,7 +73,7 @@ start_holds q h s l list stopped x = let rest : l.phase ≡ phases.Rest = (x.wor
     status = x.stored.status;
   };
   queue = queue_entry q h s (entries.Start q list ∷ s.past) l.driver l.batch l.phase (record { accepts = omega arith; shows = refl; collects = omega arith; asks = λ j. refl }) refl
-      (words_rest_at q h (record s { past = entries.Start q list ∷ s.past }) l.batch l.phase rest (subst (λ (p : Phase). PhaseIs l.batch p) rest x.worked.phase_is) (words_rest q h (record s { past = entries.Start q list ∷ s.past }) (started_own s.past q list) x.queue.words.used_fits)) x.queue;
+      (words_rest_at q h (record s { past = entries.Start q list ∷ s.past }) l.batch l.phase rest (subst (λ (p : Phase). PhaseIs l.batch p) rest (phase_at q h s l x)) (words_rest q h (record s { past = entries.Start q list ∷ s.past }) (started_own s.past q list) x.queue.words.used_fits)) x.queue;
 }
 
 pub start_fine : (q : ℕ) (h : Header1) (s : Scene) (l : Lane) → IsGood h → started s.past q ≡ false → Holds q h s (resting l) → Fine q h s (resting l) (phase_goes_on h q s (under_way turns.Start (resting l)))
@@ -108,7 +108,7 @@ accept_worked q past k batch completed made phase w = record {
     | inr high ↦ subst (λ (c : ℕ). IsPending c (asked past q j)) (sym (w.untouched j high)) (pending_none (asked past q j))
   ];
   quiet = w.quiet;
-  phase_is = w.phase_is;
+  between = w.between;
 }
   where
     pending_none : (o : Option Asked) → IsPending 0 o
@@ -147,7 +147,7 @@ accept_holds q h s l k run rest more x = record {
     status = x.stored.status;
   };
   queue = queue_entry q h s (entries.Accept q k ∷ s.past) l.driver l.batch l.phase (record { accepts = omega (arith, accepted_own s.past q k); shows = refl; collects = omega arith; asks = λ j. refl }) refl
-      (words_rest_at q h (record s { past = entries.Accept q k ∷ s.past }) l.batch l.phase rest (subst (λ (p : Phase). PhaseIs l.batch p) rest x.worked.phase_is) (words_rest q h (record s { past = entries.Accept q k ∷ s.past }) run x.queue.words.used_fits)) x.queue;
+      (words_rest_at q h (record s { past = entries.Accept q k ∷ s.past }) l.batch l.phase rest (subst (λ (p : Phase). PhaseIs l.batch p) rest (phase_at q h s l x)) (words_rest q h (record s { past = entries.Accept q k ∷ s.past }) run x.queue.words.used_fits)) x.queue;
 }
 
 -- where something waits, an offer isn't accepted
@@ -210,7 +210,7 @@ taking_holds q h s l most some any run x =
         full = λ k held. x.worked.full k (same k held);
         pending = λ k is_open out. x.worked.pending k is_open (sym (swap_among most l.completed k) ∙ out);
         quiet = λ stopped. absurd (let fails : true ≡ false = sym run ∙ stopped in cc);
-        phase_is = (omega (arith, length-take most l.completed), omega arith);
+        between = tt;
       };
       stored = record {
         sectors = x.stored.sectors;

@@ -38,7 +38,7 @@ use Rattle.vub_run_laws.proofs.RunGuests.{stored_at, holds_track}
 use Rattle.vub_run_laws.proofs.RunPhases.{resting}
 use Rattle.vub_run_laws.proofs.RunWork.{Fine}
 use Rattle.vub_run_laws.proofs.RunQueue.{driven_same}
-use Rattle.vub_run_laws.proofs.RunFacts.{words_rest, words_element}
+use Rattle.vub_run_laws.proofs.RunFacts.{phase_at, words_rest, words_element}
 use Rattle.vub_run_laws.proofs.RunElements.{StepAt, AtId, AtLen, AtIndex, step_at, batch_room, element_place, len_is}
 use Rattle.vub_run_laws.proofs.RunPublications.{publishing, IsUnderWay, none_left, in_batch, batch_open, id_fine, len_fine, numbers_answers, batch_wide, all_map, good_map, good_append, answer_right}
 
@@ -168,7 +168,7 @@ shown_worked q h x s l done u =
           let left : is_among l.completed k ≡ false = ap (λ (ks : List ℕ). is_among ks k) (sym (append-nil l.completed)) ∙ out in
           w.pending k (record { taken = is_open.taken; unpublished = grind (arith, nat_tests) }) (is_among_append l.completed l.batch k ∙ grind (arith, nat_tests));
       quiet = λ stopped. absurd (let fails : true ≡ false = sym u.started ∙ stopped in cc);
-      phase_is = refl;
+      between = tt;
     }
 
 -- an open number after the publication was open before it
@@ -205,7 +205,7 @@ shown_holds q h x s l done u whole is =
 shown_legal : (q : ℕ) (h : Header1) (x : ℕ) (s : Scene) (l : Lane) (done : ℕ) → IsUnderWay q h s l done → MayPublish h.capacity h.mode s.past q (shown_list q h x s l)
 shown_legal q h x s l done u =
     let w : Worked q s.past (phases.Publish done) l.batch l.completed l.made = u.holds.worked in
-    let some : (0 < length l.batch) × (done < 2 * length l.batch + 1) = w.phase_is in
+    let some : (0 < length l.batch) × (done < 2 * length l.batch + 1) = phase_at q h s (publishing done l) u.holds in
     let f : ℕ → Answered = answer_at q (shown_scene q h x s) in
     let st = shown_stored q h x s l done u in
     let parts = distinct_parts l.completed l.batch w.distinct in record {
@@ -241,8 +241,7 @@ index_fine q h s l done u whole =
 -- the next store of a publication, and at its end the publication
 pub publication_fine : (q : ℕ) (h : Header1) (s : Scene) (l : Lane) (done : ℕ) → IsUnderWay q h s l done → Fine q h s (publishing done l) (phase_goes_on h q s (publishing done l))
 publication_fine q h s l done u =
-    let w : Worked q s.past (phases.Publish done) l.batch l.completed l.made = u.holds.worked in
-    let some : (0 < length l.batch) × (done < 2 * length l.batch + 1) = w.phase_is in
+    let some : (0 < length l.batch) × (done < 2 * length l.batch + 1) = phase_at q h s (publishing done l) u.holds in
     go (slice_get (publish_steps (length l.batch)) done) (step_at 0 (length l.batch) done some.1)
   where
     go : (o : Option Step) → StepAt 0 (length l.batch) done o → Fine q h s (publishing done l) (phase_turn h q s (publishing done l) o)

@@ -149,7 +149,7 @@ step_worked q past later phase batch completed made k f is_open left begun next 
     | inr apart ↦ subst (λ (c : ℕ). IsPending c (asked past q j)) (sym (at_other made k (made k + 1) j apart)) (w.pending j (open_before q past later k j f is_open_j) out)
   ]);
   quiet = λ stopped. absurd (let fails : true ≡ false = sym f.runs_on ∙ stopped in cc);
-  phase_is = w.phase_is;
+  between = w.between;
 }
 
 -- what was stored of the sectors that were read was seen before too
@@ -605,7 +605,7 @@ status_worked q past phase batch completed made k run is_open left whole w = rec
       let parts = not_more completed batch k j out in
       subst (λ (c : ℕ). IsPending c (asked past q j)) (sym (at_other made k (made k + 1) j parts.0)) (w.pending j is_open_j parts.1);
   quiet = λ stopped. absurd (let fails : true ≡ false = sym run ∙ stopped in cc);
-  phase_is = w.phase_is;
+  between = w.between;
 }
 
 status_holds : (q : ℕ) (h : Header1) (s : Scene) (l : Lane) (k p : ℕ) → IsLeft q h s l k → IsFull (l.made k) (asked s.past q k) → (IsRead (asked s.past q k) → (l.made k + 1) / 2 ≡ l.made k / 2) → p ≡ status_place (buffer q (s.heads q) k)

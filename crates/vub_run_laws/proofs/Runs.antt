@@ -83,7 +83,7 @@ opening_holds q h plain low = record {
     full = λ k held. absurd (let fails : false ≡ true = held in cc);
     pending = λ k is_open out. tt;
     quiet = λ e. (refl, (refl, λ k. refl));
-    phase_is = refl;
+    between = tt;
   };
   stored = record { sectors = λ k i is_open kept read. absurd (omega (arith, kept.put)); status = λ k held. absurd (let fails : false ≡ true = held in cc) };
   queue = record {
