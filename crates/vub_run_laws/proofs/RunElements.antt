@@ -24,7 +24,8 @@ use Rattle.vub_run.specs.Memory.{Scene}
 use Rattle.vub_run.specs.Moments.{Lane}
 use Rattle.vub_run.specs.Tracking.{answered_len}
 use Rattle.vub_run.specs.Turns.{len_of, element_of}
-use Rattle.vub_run_laws.proofs.RunNumbers.{few_below, distinct_parts, distinct_join}
+use Rattle.vub_run_laws.proofs.RunNumbers.{distinct_join}
+use Rattle.vub_facts.proofs.HeadLemmas.{few_below, distinct_parts}
 use Rattle.vub_run_laws.proofs.RunFacts.{words_id, words_len}
 use Rattle.vub_split.proofs.Rings.{entries_apart}
 use Rattle.vub_run_laws.proofs.RunGood.{the_ring, IsSize, IsWide, Known, Ringed, Worked, WordsAt, Holds}
@@ -81,7 +82,7 @@ pub batch_room : (q : ℕ) (past : List Entry) (phase : Phase) (batch completed 
 batch_room q past phase batch completed made n cap heads known w =
     let parts = distinct_parts completed batch w.distinct in
     let in_batch : (k : ℕ) → is_among batch k ≡ true → IsOpen past q k = λ k held. w.opens k (is_among_append completed batch k ∙ or_right (is_among completed k) (is_among batch k) held) in
-    let d = distinct_join (published past q) batch known.distinct parts.1.0 (λ k held. (in_batch k held).unpublished) in
+    let d = distinct_join (published past q) batch known.distinct parts.second (λ k held. (in_batch k held).unpublished) in
     let few : length (published past q ++ batch) ≤ accepted past q = few_below (published past q ++ batch) (accepted past q) d (λ k held. elim (cases_Bool (is_among batch k)) [
       | inl there ↦ (in_batch k there).taken
       | inr out ↦ known.below k (let joined : is_among (published past q ++ batch) k ≡ (is_among (published past q) k || is_among batch k) = is_among_append (published past q) batch k in grind (arith, nat_tests))

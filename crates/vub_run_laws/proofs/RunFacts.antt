@@ -5,6 +5,7 @@ use Rattle.byteorder.specs.Endian.{little_bytes}
 use Rattle.std.proofs.lemmas.Bool.{cases_Bool}
 use Rattle.std.proofs.lemmas.Bool.Decides.{nat_tests}
 use Rattle.std.proofs.lemmas.List.{length-map}
+use Rattle.std.proofs.lemmas.Simd.{map-map}
 use Rattle.vub_base.specs.declared.header.Header1.{Header1}
 use Rattle.vub_shared.specs.Bytes.{Bytes, put, word}
 use Rattle.vub_shared.specs.Stores.{one_store}
@@ -24,8 +25,8 @@ use Rattle.vub_run.specs.Turns.{element_of, len_of}
 use Rattle.vub_facts.specs.Facts.{Side, heads_in, Lies, Elsewhere, Words, words_at, InBatch, Facts, words_after}
 use Rattle.vub_facts.proofs.FactWords.{facts_off, facts_beside, id_words, len_words}
 use Rattle.vub_facts.proofs.FactSteps.{publication_begins, step_keeps}
-use Rattle.vub_facts.proofs.HeadLemmas.{number_of, among_map}
-use Rattle.vub_run_laws.proofs.RunNumbers.{few_below, missing-among, among-missing}
+use Rattle.vub_facts.proofs.HeadLemmas.{number_of, among_map, few_below}
+use Rattle.vub_run_laws.proofs.RunNumbers.{missing-among, among-missing}
 use Rattle.vub_run_laws.proofs.RunGood.{the_ring, side_of, WordsAt, IsSize, Known, Driven, IsOut, PhaseIs, RestsOrPublishes, Holds}
 use Rattle.vub_run_laws.proofs.RunFrames.{OffRings, open_out}
 use Rattle.vub_run_laws.proofs.RunOffers.{same_head, same_asked}
@@ -59,7 +60,7 @@ phase_at q h s l x = go l.phase x.worked.between x.queue.words
 facts_are : (n base : ℕ) (hs hs' : List ℕ) (x x' : Side) (w : Words) → hs ≡ hs' → x ≡ x' → Facts n hs base x w → Facts n hs' base x' w
 facts_are n base hs hs' x x' w e g f = subst (λ (y : Side). Facts n hs' base y w) g (subst (λ (ks : List ℕ). Facts n ks base x w) e f)
 
-map_alike : {A : Type 0} (f g : ℕ → A) (xs : List ℕ) → ((k : ℕ) → is_among xs k ≡ true → f k ≡ g k) → map f xs ≡ map g xs
+pub map_alike : {A : Type 0} (f g : ℕ → A) (xs : List ℕ) → ((k : ℕ) → is_among xs k ≡ true → f k ≡ g k) → map f xs ≡ map g xs
 map_alike f g [] same = refl
 map_alike f g (x ∷ xs) same =
     let rest : map f xs ≡ map g xs = map_alike f g xs (λ k held. same k (grind (arith, nat_tests))) in
@@ -116,8 +117,7 @@ words_rests q h s batch phase f = record { used_fits = f.used_fits; untouched = 
 -- ---- a batch begins
 
 heads_of_elements : (q : ℕ) (h : Header1) (s : Scene) (ks : List ℕ) → heads_in (map (element_of h q s) ks) ≡ map (slice_index (s.heads q)) ks
-heads_of_elements q h s [] = refl
-heads_of_elements q h s (k ∷ ks) = ap (λ (hs : List ℕ). slice_index (s.heads q) k ∷ hs) (heads_of_elements q h s ks)
+heads_of_elements q h s ks = map-map (λ (x : ℕ × ℕ). x.0) (element_of h q s) ks
 
 distinct_map : (f : ℕ → ℕ) (ks : List ℕ) → are_distinct ks ≡ true → ((j k : ℕ) → is_among ks j ≡ true → is_among ks k ≡ true → f j ≡ f k → j ≡ k) → are_distinct (map f ks) ≡ true
 distinct_map f [] d apart = refl

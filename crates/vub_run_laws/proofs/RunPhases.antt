@@ -21,7 +21,8 @@ use Rattle.vub_run.specs.Memory.{Scene}
 use Rattle.vub_run.specs.Moments.{Lane}
 use Rattle.vub_run.specs.Turns.{under_way, phase_goes_on}
 use Rattle.vub_run_laws.proofs.RunOwn.{accepted_own, started_own, looks_start, acts_start, bytes_start, synced_start, faulted_start}
-use Rattle.vub_run_laws.proofs.RunNumbers.{distinct_parts, distinct_join}
+use Rattle.vub_run_laws.proofs.RunNumbers.{distinct_join}
+use Rattle.vub_facts.proofs.HeadLemmas.{distinct_parts}
 use Rattle.vub_run_laws.proofs.RunGood.{the_ring, IsPending, Worked, Holds, PhaseIs}
 use Rattle.vub_run_laws.proofs.RunTracks.{ahead_by}
 use Rattle.vub_run_laws.proofs.RunEfforts.{weight, effort, sum_below, sum_more, weight_small, sum_moved}
@@ -192,8 +193,8 @@ swap_distinct : (most : ℕ) (xs : List ℕ) → are_distinct (xs ++ []) ≡ tru
 swap_distinct most xs d =
     let whole : are_distinct (take most xs ++ drop most xs) ≡ true = ap are_distinct (take-append-drop most xs ∙ sym (append-nil xs)) ∙ d in
     let parts = distinct_parts (take most xs) (drop most xs) whole in
-    distinct_join (drop most xs) (take most xs) parts.1.0 parts.0 (λ k held. elim (cases_Bool (is_among (drop most xs) k)) [
-      | inl there ↦ let out : is_among (take most xs) k ≡ false = parts.1.1 k there in absurd (let fails : true ≡ false = sym held ∙ out in cc)
+    distinct_join (drop most xs) (take most xs) parts.second parts.first (λ k held. elim (cases_Bool (is_among (drop most xs) k)) [
+      | inl there ↦ let out : is_among (take most xs) k ≡ false = parts.apart k there in absurd (let fails : true ≡ false = sym held ∙ out in cc)
       | inr out ↦ out
     ])
 
@@ -217,7 +218,7 @@ taking_holds q h s l most some any run x =
         status = λ k held. x.stored.status k (same k held);
       };
       queue = queue_begins q h s l.driver (take most l.completed) [] phases.Rest
-          (batch_begins_at q h s l.driver (take most l.completed) x.known x.queue.driven (omega (arith, some, any, length-take most l.completed)) (distinct_parts (drop most l.completed) (take most l.completed) (swap_distinct most l.completed x.worked.distinct)).1.0 (λ k held.
+          (batch_begins_at q h s l.driver (take most l.completed) x.known x.queue.driven (omega (arith, some, any, length-take most l.completed)) (distinct_parts (drop most l.completed) (take most l.completed) (swap_distinct most l.completed x.worked.distinct)).second (λ k held.
           x.worked.opens k (same k (is_among_append (drop most l.completed) (take most l.completed) k ∙ or_right (is_among (drop most l.completed) k) (is_among (take most l.completed) k) held)))) x.queue;
     }
 

@@ -30,7 +30,8 @@ use Rattle.vub_run.specs.Moments.{Lane}
 use Rattle.vub_run.specs.Tracking.{answers}
 use Rattle.vub_run.specs.Turns.{Turned, element_of, phase_turn, phase_goes_on, answer_at, with_phase}
 use Rattle.vub_run_laws.proofs.RunOwn.{published_own, answers_own}
-use Rattle.vub_run_laws.proofs.RunNumbers.{distinct_parts, distinct_join, among_at}
+use Rattle.vub_run_laws.proofs.RunNumbers.{distinct_join, among_at}
+use Rattle.vub_facts.proofs.HeadLemmas.{distinct_parts}
 use Rattle.vub_run_laws.proofs.RunGood.{the_ring, Known, Ringed, spot, Worked, Stored, Holds}
 use Rattle.vub_run_laws.proofs.RunEfforts.{shown_falls}
 use Rattle.vub_run_laws.proofs.RunFrames.{keeps, entry_small, length_little, stored_elsewhere, below_buffers}
@@ -71,7 +72,7 @@ shown_known q h x s l done u =
     let st = shown_stored q h x s l done u in record {
       offers_are = known.offers_are;
       offered = known.offered;
-      distinct = ap are_distinct ps ∙ distinct_join (published s.past q) l.batch known.distinct parts.1.0 (λ k held. (batch_open q h s l done k u held).unpublished);
+      distinct = ap are_distinct ps ∙ distinct_join (published s.past q) l.batch known.distinct parts.second (λ k held. (batch_open q h s l done k u held).unpublished);
       below = λ k held. elim (cases_Bool (is_among l.batch k)) [
         | inl there ↦ (batch_open q h s l done k u there).taken
         | inr out ↦
@@ -148,13 +149,13 @@ shown_worked q h x s l done u =
     let bare : (k : ℕ) → is_among (l.completed ++ []) k ≡ true → is_among l.completed k ≡ true = λ k held. ap (λ (ks : List ℕ). is_among ks k) (sym (append-nil l.completed)) ∙ held in
     let same : (k : ℕ) → is_among (l.completed ++ []) k ≡ true → is_among (l.completed ++ l.batch) k ≡ true = λ k held. is_among_append l.completed l.batch k ∙ or_left (is_among l.completed k) (is_among l.batch k) (bare k held) in
     record {
-      distinct = ap are_distinct (append-nil l.completed) ∙ parts.0;
+      distinct = ap are_distinct (append-nil l.completed) ∙ parts.first;
       opens = λ k held. record {
         taken = (w.opens k (same k held)).taken;
         unpublished =
             let old : is_among (published s.past q) k ≡ false = (w.opens k (same k held)).unpublished in
             let new : is_among l.batch k ≡ false = elim (cases_Bool (is_among l.batch k)) [
-              | inl there ↦ absurd (let out : is_among l.completed k ≡ false = parts.1.1 k there in let fails : true ≡ false = sym (bare k held) ∙ out in cc)
+              | inl there ↦ absurd (let out : is_among l.completed k ≡ false = parts.apart k there in let fails : true ≡ false = sym (bare k held) ∙ out in cc)
               | inr out ↦ out
             ] in
             ap (λ (ks : List ℕ). is_among ks k) ps ∙ is_among_append (published s.past q) l.batch k ∙ grind (arith, nat_tests);
@@ -211,7 +212,7 @@ shown_legal q h x s l done u =
     let parts = distinct_parts l.completed l.batch w.distinct in record {
       started = u.started;
       some = omega (arith, some.0, length-map l.batch f);
-      distinct = distinct_from_test (numbers (shown_list q h x s l)) (ap are_distinct (numbers_answers q (shown_scene q h x s) l.batch) ∙ parts.1.0);
+      distinct = distinct_from_test (numbers (shown_list q h x s l)) (ap are_distinct (numbers_answers q (shown_scene q h x s) l.batch) ∙ parts.second);
       opens = all_map (λ a. IsOpen s.past q a.number) f l.batch (λ k held. batch_open q h s l done k u held);
       answered = all_map (λ a. IsAnswer h.capacity h.mode s.past q a) f l.batch (λ k held. answer_right q h s l done (shown_scene q h x s).memory k u st held);
     }

@@ -13,7 +13,8 @@ use Rattle.vub_steps.specs.Readiness.{is_ready, is_fetch, is_publication}
 use Rattle.vub_device.specs.Past.{accepted, published, is_among, open_numbers, started}
 use Rattle.vub_run.specs.Moments.{Lane, Moment, standing, unfinished}
 use Rattle.vub_run.specs.Turns.{turned, work_turn, phase_goes_on, under_way}
-use Rattle.vub_run_laws.proofs.RunNumbers.{among_get, among_filter, missing-among}
+use Rattle.vub_run_laws.proofs.RunNumbers.{among_filter, missing-among}
+use Rattle.vub_facts.proofs.HeadLemmas.{among_get}
 use Rattle.vub_run_laws.proofs.RunFacts.{phase_at}
 use Rattle.vub_run_laws.proofs.RunGood.{PhaseIs, Holds}
 use Rattle.vub_run_laws.proofs.RunGuests.{IsGood}

@@ -31,7 +31,8 @@ use Rattle.vub_run.specs.TaskItems.{look_items, act_items}
 use Rattle.vub_run.specs.Tracking.{Tracks, AfterEach}
 use Rattle.vub_report.specs.Histories.{entries_of}
 use Rattle.vub_run.specs.Turns.{Turned, request_turn, task_turn}
-use Rattle.vub_run_laws.proofs.RunNumbers.{distinct_parts, distinct_join, distinct_push}
+use Rattle.vub_run_laws.proofs.RunNumbers.{distinct_join}
+use Rattle.vub_facts.proofs.HeadLemmas.{distinct_parts, distinct_push}
 use Rattle.vub_run_laws.proofs.RunGood.{IsWideRead, IsWideWrite, IsWide, Known, IsReadTo, IsWrittenTo, Progress, IsBegun, IsFull, IsPending, Worked, IsKept, Stored, IsRead, buffer, Holds}
 use Rattle.vub_run_laws.proofs.RunSteps.{WideCases, AtRead, AtWrite, AtFlush, wide_cases, wide_served, wide_steps, ReadAt, ToLook, ToPut, ToReply, read_at, WriteAt, ToAct, ToEnd, write_at, look_is, written, effect_is, read_to, written_to}
 use Rattle.vub_run_laws.proofs.RunEfforts.{effort, step_falls, status_falls}
@@ -552,8 +553,8 @@ distinct_more xs ys k d out =
     let right : is_among (xs ++ ys) k ≡ (is_among xs k || is_among ys k) = is_among_append xs ys k in
     let out_xs : is_among xs k ≡ false = grind (arith, nat_tests) in
     let out_ys : is_among ys k ≡ false = grind (arith, nat_tests) in
-    distinct_join (xs ++ k ∷ []) ys (distinct_push xs k parts.0 out_xs) parts.1.0 (λ j held.
-    let other : is_among xs j ≡ false = parts.1.1 j held in
+    distinct_join (xs ++ k ∷ []) ys (distinct_push xs k parts.first out_xs) parts.second (λ j held.
+    let other : is_among xs j ≡ false = parts.apart j held in
     let differs : j ≢ k = among_apart ys j k held out_ys in
     let turned : k ≢ j = λ e. differs (sym e) in
     let inner : is_among (xs ++ k ∷ []) j ≡ (is_among xs j || is_among (k ∷ []) j) = is_among_append xs (k ∷ []) j in
