@@ -3,6 +3,7 @@ use Rattle.std.proofs.Common.{◌≡◌, ◌≤◌, ◌<◌, ℕ, true, List, []
 use Rattle.std.specs.Prelude.{Option, Some, None, map, slice_get, slice_index, option_map}
 use Rattle.std.proofs.lemmas.List.{length-map}
 use Rattle.std.proofs.lemmas.Option.{slice_get-map}
+use Rattle.vub_run_laws.proofs.RunFacts.{phase_at}
 use Rattle.vub_steps.specs.declared.steps.Course.{Course}
 use Rattle.vub_base.specs.declared.header.Header1.{Header1}
 use Rattle.vub_steps.specs.declared.steps.Phase.{Phase}
@@ -26,7 +27,7 @@ use Rattle.vub_queue.specs.QueueState.{course_in, QueueState, state_of}
 use Rattle.vub_world.proofs.MachineTurns.{among_right}
 use Rattle.vub_run_laws.proofs.RunFrames.{open_out}
 use Rattle.vub_run_laws.proofs.RunGood.{IsWide, PhaseIs, IsOut}
-use Rattle.vub_run_laws.proofs.RunNumbers.{among_get}
+use Rattle.vub_facts.proofs.HeadLemmas.{among_get}
 use Rattle.vub_run_laws.proofs.RunTurns.{Good}
 
 -- ---- a batch that is shown isn't empty
@@ -41,7 +42,7 @@ pub queue_shows_some : (h : Header1) (r : SplitRing) (m : Moment) (q : QueueStat
 queue_shows_some h r m q good at shows =
     let lane = m.lanes 0 in
     let here : is_index (next_step (course_in q) lane.phase) ≡ true = ap (λ (p : Phase). is_index (next_step (course_in q) p)) (sym at.phase) ∙ shows in
-    let some : 0 < length lane.batch = phase_shows lane.batch (course_in q) lane.phase good.holds.worked.phase_is here in
+    let some : 0 < length lane.batch = phase_shows lane.batch (course_in q) lane.phase (phase_at 0 h m.scene (m.lanes 0) good.holds) here in
     let long : length q.batch ≡ length lane.batch = ap length at.batch ∙ length-map lane.batch (spot_of 0 h m.scene.past (m.scene.heads 0)) in
     omega (arith, some, long)
 

@@ -1,6 +1,7 @@
 -- Where the machine stands after a life begins, and after its queue is attached.
 use Rattle.std.proofs.Common.{◌≡◌, ℕ, true, false, List, [], refl, ap, sym, ◌∙◌, subst, arith}
 use Rattle.std.specs.Prelude.{Bool, not, ◌&&◌, Option, Some, None, is_some}
+use Rattle.vub_run_laws.proofs.RunFacts.{phase_at}
 use Rattle.vub_steps.specs.declared.steps.Phase.{Phase}
 use Rattle.vub_steps.specs.declared.steps.Phase.TheVariants as phases
 use Rattle.vub_device.specs.Past.{accepted, started}
@@ -77,7 +78,7 @@ joined_at w m q plain good base new lives made at =
     let l : Lane = m.lanes 0 in
     let quiet = good.holds.worked.quiet new.2 in
     let none : accepted m.scene.past 0 ≡ 0 = good.idle new.2 in
-    let batch : l.batch ≡ [] = subst (λ (p : Phase). PhaseIs l.batch p) quiet.0 good.holds.worked.phase_is in
+    let batch : l.batch ≡ [] = subst (λ (p : Phase). PhaseIs l.batch p) quiet.0 (phase_at 0 w.header m.scene (m.lanes 0) good.holds) in
     let begins : QueueAt 0 w.header w.ring m.scene.past (m.scene.heads 0) phases.Rest [] [] l.made (state_of q) =
     at_new 0 w.header w.ring m.scene.past (m.scene.heads 0) l.made (state_of q) (omega (arith, base)) good.holds.known.fewer none new.2 made in
     let stands : QueueStands 0 w.header w.ring (joined m) (state_of q) =

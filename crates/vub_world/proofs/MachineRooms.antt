@@ -3,6 +3,7 @@ use Rattle.std.proofs.Common.{◌≡◌, ◌≤◌, ℕ, zero, suc, ◌+◌, ◌
 use Rattle.std.specs.Prelude.{◌||◌, if◌then◌else◌, Option, Some, None, take, slice_get, nat_lt, ⊤}
 use Rattle.std.proofs.lemmas.Bool.Decides.{nat_tests}
 use Rattle.std.proofs.lemmas.Bool.{cases_Bool}
+use Rattle.vub_run_laws.proofs.RunFacts.{phase_at}
 use Rattle.vub_steps.specs.declared.steps.Course.{Course}
 use Rattle.vub_base.specs.declared.header.Header1.{Header1}
 use Rattle.vub_steps.specs.declared.steps.Phase.{Phase}
@@ -34,7 +35,8 @@ use Rattle.vub_run.specs.Run.{one_turn}
 use Rattle.vub_steps.specs.Tasks.{RequestStep, Look, Put, Act, Sync, Status, task_steps}
 use Rattle.vub_run.specs.TaskItems.{look_items, act_items}
 use Rattle.vub_run.specs.Turns.{course_of, turned, work_turn, request_turn, task_turn, phase_turn, phase_goes_on, under_way, begun, is_rest, row_items, step_stores, element_of, answer_at}
-use Rattle.vub_run_laws.proofs.RunNumbers.{missing-among, distinct_join, few_below}
+use Rattle.vub_run_laws.proofs.RunNumbers.{missing-among, distinct_join}
+use Rattle.vub_facts.proofs.HeadLemmas.{few_below}
 use Rattle.vub_run_laws.proofs.RunGood.{Known, Worked}
 use Rattle.vub_run_laws.proofs.RunEfforts.{weight, sum_below, weight_small}
 use Rattle.vub_run_laws.proofs.RunEnds.{effort_at, missing_distinct, phase_few, start_few}
@@ -150,7 +152,7 @@ publishing_turn h m sequences.Drain taken publishes =
 -- the turn that comes next publishes as many as its step shows
 pub chosen_shows : (h : Header1) (m : Moment) (sequence : Sequence) (taken : ℕ) → Good 0 h m → (t : Turn) → t ≡ next_turn h sequence taken m
     → length (published (one_turn h 0 t m).next.scene.past 0) ≡ length (published m.scene.past 0) + shown_by (course_of h (m.lanes 0)) (m.lanes 0).phase
-chosen_shows h m sequence taken good t is = elim (phase_cases l.batch l.phase good.holds.worked.phase_is) [
+chosen_shows h m sequence taken good t is = elim (phase_cases l.batch l.phase (phase_at 0 h m.scene (m.lanes 0) good.holds)) [
   | inl rest ↦
       let none : shown_by (course_of h l) l.phase ≡ 0 = ap (λ (p : Phase). shown_by (course_of h l) p) rest.0 in
       let same : count_in (after_items h (turned h 0 t m).items s) ≡ count_in s = resting t (ap is_rest rest.0) rest.1 in

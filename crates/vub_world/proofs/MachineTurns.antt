@@ -3,6 +3,7 @@ use Rattle.std.proofs.Common.{◌≡◌, ◌≤◌, ◌<◌, ◌⊎◌, ℕ, ◌
 use Rattle.std.specs.Prelude.{Option, Some, None, Result, Ok, unwrap_or, option_map, slice_index, slice_get, ◌==◌, ◌||◌, ⊤}
 use Rattle.std.proofs.lemmas.Bool.Decides.{nat_tests}
 use Rattle.byteorder.specs.Endian.{little_bytes}
+use Rattle.vub_run_laws.proofs.RunFacts.{phase_at}
 use Rattle.vub_base.specs.declared.header.Header1.{Header1}
 use Rattle.vub_base.specs.declared.store.Tag.{Tag}
 use Rattle.vub_base.specs.declared.store.Tag.TheVariants.{SP5}
@@ -134,7 +135,7 @@ more_offered : (h : Header1) (m : Moment) → IsPlain h → Good 0 h m → is_re
 more_offered h m plain good ready =
     let st : Standing = standing h 0 m in
     let some = some_waits 0 h m.scene (m.lanes 0) plain.good good.holds in
-    let waits = waits_there (m.lanes 0).batch (m.lanes 0).phase st.started st.waiting st.unfinished st.completed good.holds.worked.phase_is ready in
+    let waits = waits_there (m.lanes 0).batch (m.lanes 0).phase st.started st.waiting st.unfinished st.completed (phase_at 0 h m.scene (m.lanes 0) good.holds) ready in
     omega (arith, some, waits)
 
 pub fetch_made : (h : Header1) (r : SplitRing) (m : Moment) (outstanding : OutstandingRequests) (cap : ℕ) (sizes : ℕ → ℕ) (d now : Device) (x : Stepped) → TurnAt h r m outstanding d → is_ready (standing h 0 m) turns.Fetch ≡ true → DeviceDoes turns.Fetch cap sizes d now x
