@@ -1,4 +1,4 @@
--- What holds of queue 0 at every moment of a run, part by part.
+-- What holds of a queue at every moment of a run, part by part.
 use Rattle.std.proofs.Common.{◌≡◌, ◌≢◌, ◌≤◌, ◌<◌, ◌⊎◌, ℕ, ◌+◌, ◌*◌, ◌/◌, ◌%◌, Bool, true, false, List, [], ◌∷◌, ◌++◌, length, map, take}
 use Rattle.std.specs.Prelude.{Option, Some, None, slice_index, ⊤}
 use Rattle.std.specs.Int.{◌∣◌}
