@@ -11,6 +11,7 @@ pub mod MachineLives
 pub mod MachineLoops
 pub mod MachineNotes
 pub mod MachineOpening
+pub mod MachineParts
 pub mod MachineRooms
 pub mod MachineTurnEvents
 pub mod MachineTurns

@@ -1,20 +1,22 @@
 -- The machine at the opening.
-use Rattle.std.proofs.Common.{◌≡◌, ◌<◌, ℕ, ◌+◌, ◌-◌, ◌%◌, length, Bool, true, false, sym, ap, ◌∙◌, subst, arith, refl}
+use Rattle.std.proofs.Common.{◌≡◌, ◌<◌, ℕ, ◌+◌, ◌-◌, ◌*◌, ◌%◌, length, Bool, true, false, sym, ap, ◌∙◌, subst, arith, refl}
 use Rattle.std.specs.Prelude.{zero, suc, if◌then◌else◌, ◌==◌, ◌&&◌, nat_lt, nat_le, slice_index, replicate, Option, None}
 use Rattle.byteorder.specs.Endian.{little_bytes}
 use mathlib.Core.Path.{fun_ext}
 use Rattle.vub_base.specs.declared.header.Header1.{Header1}
 use Rattle.vub_shared.specs.Bytes.{Bytes, put}
-use Rattle.vub_shared.specs.Watched.{bytes_in}
+use Rattle.vub_shared.specs.Watched.{bytes_in, sizes_in, IsUnfailed}
 use Rattle.vub_device.specs.Requests.{zeros}
 use Rattle.vub_driver.specs.Layout.{ring_of}
-use Rattle.vub_driver.specs.Drivers.{new_driver}
 use Rattle.vub_memdisk.specs.MemDisks.{values_of}
 use Rattle.vub_ring.specs.Ring.{Ring}
 use Rattle.vub_schedule.specs.Spelling.{IsHeader}
+use Rattle.vub_queue_in_run.specs.QueueAt.{LiesAs}
+use Rattle.vub_shared.specs.declared.watched_shared.WatchedShared.{WatchedShared}
+use Rattle.vub_world.specs.declared.front.Front.{Front}
 use Rattle.vub_world.specs.declared.machine.Machine.{Machine}
-use Rattle.vub_guest.specs.GuestState.{driver_in, last_used_in}
-use Rattle.vub_world.specs.OutstandingRequests.{offered_in, collected_in, size_in}
+use Rattle.vub_world.specs.Fronts.{FrontSound, IsNewFront, AreNewFronts}
+use Rattle.vub_world.specs.Lives.{life_of}
 use Rattle.vub_world.specs.declared.machine.Life.{Life}
 use Rattle.vub_world.specs.MachineAt.{MachineAt, LifeAt}
 use Rattle.vub_run.specs.Memory.{opening_memory, opened, with_indexes}
@@ -42,26 +44,37 @@ indexes_zero r base m begins none s p =
     ap (λ (b : ℕ). with_indexes r b m s p) begins ∙ put_zero (put m r.space (r.avail + 2) (little_bytes 2 0)) r.space (r.used + 2) (put_zero m r.space (r.avail + 2) none) s p
 
 pub opening_zero : (h : Header1) → IsHeader h → (s p : ℕ) → opening_memory h s p ≡ 0
-opening_zero h is s p = ap (λ (q : ℕ). opened h q s p) is.one ∙ indexes_zero (ring_of 0 h.size) h.base (λ (t q : ℕ). 0) is.begins (λ (t q : ℕ). refl) s p
+opening_zero h is s p = ap (λ (k : ℕ). opened h k s p) is.one ∙ indexes_zero (ring_of 0 h.size) h.base (λ (t k : ℕ). 0) is.begins (λ (t k : ℕ). refl) s p
 
 -- ---- the world itself
 
-pub opens : (w : Machine) → IsHeader w.header → ((s p : ℕ) → bytes_in w.memory s p ≡ 0) → driver_in w.guest ≡ new_driver w.header.base → last_used_in w.guest ≡ w.header.base → w.asked ≡ None → w.life ≡ None
-    → ((s : ℕ) → s < w.header.capacity → values_of w.disk s ≡ replicate 512 0) → offered_in w.outstanding ≡ 0 → collected_in w.outstanding ≡ 0 → size_in w.outstanding ≡ w.header.size → MachineAt w (opening w.header)
-unfolding zeros
-opens w is none driver position asked life disk offered collected size = record {
-  front = record {
-    memory = fun_ext (λ s. fun_ext (λ p. none s p ∙ sym (opening_zero w.header is s p)));
-    driver = driver;
-    asks = asked;
-  };
-  position = position ∙ (let e : w.header.base ≡ (w.header.base + 0) % 65536 = omega (arith, is.begins) in e);
-  life = subst (λ (l : Option Life). LifeAt w.header w.ring (opening w.header) l) (sym life) refl;
-  disk = disk;
-  outstanding = record {
-    offers_are = offered;
-    collects_are = collected;
-    places = size;
-    slots = λ k below. absurd (let e : ⊥ = omega (arith, below) in e);
-  };
+pub new_sound : (h : Header1) (q : ℕ) (memory : WatchedShared) (f : Front) → IsHeader h → IsNewFront h q f → q < h.queues → sizes_in memory 0 ≡ 1048576 * h.queues → IsUnfailed memory → FrontSound memory f
+new_sound h q memory f is new low size unfailed = record {
+  header = subst (λ (k : Header1). IsHeader k) (sym new.header) is;
+  exists = omega (arith, new.index, low, ap (λ (k : Header1). k.queues) new.header);
+  guest = new.guest ∙ ap (λ (k : Header1). ring_of q k.size) (sym new.header) ∙ ap (λ (p : ℕ). ring_of p f.header.size) (sym new.index);
+  ring = subst (λ (p : ℕ). LiesAs p f.ring f.header.size) (sym new.index) (subst (λ (k : Header1). LiesAs q f.ring k.size) (sym new.header) new.ring);
+  room = omega (arith, new.index, low, size);
+  unfailed = unfailed;
 }
+
+pub opens : (w : Machine) → IsHeader w.header → ((s p : ℕ) → bytes_in w.memory s p ≡ 0) → AreNewFronts w.header w.header.queues w.fronts.items → w.life ≡ None → ((s : ℕ) → s < w.header.capacity → values_of w.disk s ≡ replicate 512 0) → MachineAt w (opening w.header)
+unfolding zeros
+opens w is none fronts life disk q f found =
+    let new = fronts.each q f found in
+    record {
+      front = record {
+        memory = fun_ext (λ s. fun_ext (λ p. none s p ∙ sym (opening_zero w.header is s p)));
+        driver = new.driver;
+        asks = new.asked;
+      };
+      position = new.position ∙ (let e : w.header.base ≡ (f.header.base + 0) % 65536 = omega (arith, is.begins, ap (λ (k : Header1). k.base) new.header) in e);
+      life = subst (λ (l : Option Life). LifeAt q f.header f.ring (opening w.header) (life_of q l)) (sym life) refl;
+      disk = subst (λ (k : Header1). (s : ℕ) → s < k.capacity → values_of w.disk s ≡ replicate 512 0) (sym new.header) disk;
+      outstanding = record {
+        offers_are = new.offered;
+        collects_are = new.collected;
+        places = new.places ∙ ap (λ (k : Header1). k.size) (sym new.header);
+        slots = λ k below. absurd (let e : ⊥ = omega (arith, below) in e);
+      };
+    }

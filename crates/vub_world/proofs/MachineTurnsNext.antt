@@ -9,7 +9,7 @@ use Rattle.vub_split.specs.declared.split.SplitRing.{SplitRing}
 use Rattle.vub_world.specs.MachineAt.{IsReached}
 use Rattle.vub_world.specs.MachineDevice.{turn_here}
 use Rattle.vub_run.specs.Moments.{Moment, standing}
-use Rattle.vub_queue_in_run.specs.QueueAt.{QueueStands, IsMainRing}
+use Rattle.vub_queue_in_run.specs.QueueAt.{QueueStands, LiesAs}
 use Rattle.vub_queue.specs.QueueState.{QueueState, standing_at, waiting}
 use Rattle.vub_run_laws.proofs.Runs.{plain_header}
 use Rattle.vub_run_laws.proofs.RunTurns.{IsPlain, Good}
@@ -19,27 +19,27 @@ use Rattle.vub_queue_in_run.proofs.QueueAtTurns.{standings}
 
 -- ---- a moment of a run
 
-pub reached_plain : (h : Header1) (m : Moment) → IsReached h m → IsPlain h
-reached_plain h m is = plain_header h is.stands.header
+pub reached_plain : (q : ℕ) (h : Header1) (m : Moment) → IsReached q h m → IsPlain h
+reached_plain q h m is = plain_header h is.stands.header
 
-pub reached_holds : (h : Header1) (m : Moment) → IsReached h m → Good h m × ChainedAt h m
-reached_holds h m is = subst (λ (n : Moment). Good h n × ChainedAt h n) (sym is.is) (stands_turns h is.events is.records is.from is.count is.choose is.stands)
+pub reached_holds : (q : ℕ) (h : Header1) (m : Moment) → IsReached q h m → Good q h m × ChainedAt q h m
+reached_holds q h m is = subst (λ (n : Moment). Good q h n × ChainedAt q h n) (sym is.is) (stands_turns q h is.events is.records is.from is.count is.choose is.exists is.stands)
 
 -- ---- which turn it is
 
 -- readiness depends on the same in the queue and at the moment
-pub record IsAsHere (h : Header1) (m : Moment) (q : QueueState) (b : Bytes) : Type 0 where
-  pub size : q.ring.size ≡ h.size
-  pub standing_is : standing_at q (waiting q b) ≡ standing h 0 m
+pub record IsAsHere (q : ℕ) (h : Header1) (m : Moment) (state : QueueState) (b : Bytes) : Type 0 where
+  pub size : state.ring.size ≡ h.size
+  pub standing_is : standing_at state (waiting state b) ≡ standing h q m
 
-pub as_here : (h : Header1) (r : SplitRing) (m : Moment) (q : QueueState) (b : Bytes) → IsMainRing r h.size → QueueStands h r m q → b ≡ m.scene.memory → IsAsHere h m q b
-as_here h r m q b main z memory = record {
+pub as_here : (q : ℕ) (h : Header1) (r : SplitRing) (m : Moment) (state : QueueState) (b : Bytes) → LiesAs q r h.size → QueueStands q h r m state → b ≡ m.scene.memory → IsAsHere q h m state b
+as_here q h r m state b main z memory = record {
   size = ap (λ (y : SplitRing). y.size) z.ring ∙ main.size;
-  standing_is = ap (λ (c : Bytes). standing_at q (waiting q c)) memory ∙ standings h r m q main z;
+  standing_is = ap (λ (c : Bytes). standing_at state (waiting state c)) memory ∙ standings q h r m state main z;
 }
 
-pub turn_same : (h : Header1) (r : SplitRing) (m : Moment) (q : QueueState) (b : Bytes) (choice : Choice) → IsMainRing r h.size → QueueStands h r m q → b ≡ m.scene.memory
-    → chosen q.ring.size choice (standing_at q (waiting q b)) ≡ turn_here h choice m
-turn_same h r m q b choice main z memory =
-    let here = as_here h r m q b main z memory in
-    ap (λ (n : ℕ). chosen n choice (standing_at q (waiting q b))) here.size ∙ ap (λ (s : Standing). chosen h.size choice s) here.standing_is
+pub turn_same : (q : ℕ) (h : Header1) (r : SplitRing) (m : Moment) (state : QueueState) (b : Bytes) (choice : Choice) → LiesAs q r h.size → QueueStands q h r m state → b ≡ m.scene.memory
+    → chosen state.ring.size choice (standing_at state (waiting state b)) ≡ turn_here q h choice m
+turn_same q h r m state b choice main z memory =
+    let here = as_here q h r m state b main z memory in
+    ap (λ (n : ℕ). chosen n choice (standing_at state (waiting state b))) here.size ∙ ap (λ (s : Standing). chosen h.size choice s) here.standing_is

@@ -18,9 +18,9 @@ returns-then-not-queue_request-clause-kept c =
     let w : Machine = c.args.self.now in
     on_err c.idle.result _ (ap (λ (g : Guest). record w { guest = g }) (c.queue_request.ensures.kept c.if-not-queue_request.true))
 
-pub returns-clause-performs : goal.returns-clause-performs
-returns-clause-performs c fits es rs m s at =
+pub returns-clause-performs : (q : ℕ) → goal.returns-clause-performs
+returns-clause-performs q c fits es rs m s at =
     let w : Machine = c.args.self.now in
     let q = c.queue_request.ensures in
-    let done = ask_performs w c.queue_request.new.self m c.args.shape c.args.ask.now c.queue_request.result c.requires.sound at q.answer c.if-not-queue_request.false q.driver q.position in
-    (done.0, ap (λ (is : List Item). played is done.0) c.nothing.ensures ∙ done.1, subst (λ (a : Ask). MachineAt (record w { guest = c.queue_request.new.self; asked = Some a }) done.0) (sym c.copied.ensures) done.2)
+    let done = ask_performs q w c.queue_request.new.self m c.args.shape c.args.ask.now c.queue_request.result c.requires.sound at q.answer c.if-not-queue_request.false q.driver q.position in
+    (done.0, ap (λ (is : List Item). played is done.0) c.nothing.ensures ∙ done.1, subst (λ (a : Ask). MachineAt q (record w { guest = c.queue_request.new.self; asked = Some a }) done.0) (sym c.copied.ensures) done.2)

@@ -7,8 +7,8 @@ use Rattle.vub_world.proofs.MachineEvents.{ok_then}
 use Rattle.vub_world.proofs.MachineTurnEvents.{drain_performs}
 use Rattle.vub_world.proofs.machine.Machine.drain.Goals as goal
 
-pub returns-clause-performs : goal.returns-clause-performs
-returns-clause-performs c =
+pub returns-clause-performs : (q : ℕ) → goal.returns-clause-performs
+returns-clause-performs q c =
     let w = c.args.self.now in
     let now = c.several.new.self in
-    ok_then (λ is. PlaysTurns w now sequences.Drain (2 ^ 64 - 1) is) (λ is. Performs w now (events.Drain 0) is) c.several.result (λ is plays. drain_performs w now (2 ^ 64 - 1) is (omega arith) plays) c.several.ensures.plays
+    ok_then (λ is. PlaysTurns q w now sequences.Drain (2 ^ 64 - 1) is) (λ is. Performs q w now (events.Drain q) is) c.several.result (λ is plays. drain_performs q w now (2 ^ 64 - 1) is (omega arith) plays) c.several.ensures.plays

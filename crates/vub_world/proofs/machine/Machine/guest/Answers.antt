@@ -16,11 +16,11 @@ use Rattle.vub_guest.proofs.GuestLemmas.{left_few, left_some}
 use Rattle.vub_world.proofs.MachineGuests.{all_gone}
 use Rattle.vub_world.proofs.machine.Machine.guest.Goals as goal
 
-pub guest_stores-requires-clause-fits : goal.guest_stores-requires-clause-fits
-guest_stores-requires-clause-fits c = front_fits c.args.self.now c.requires.stands
+pub guest_stores-requires-clause-fits : (q : ℕ) → goal.guest_stores-requires-clause-fits
+guest_stores-requires-clause-fits q c = front_fits q c.args.self.now c.requires.stands
 
-pub returns-clause-performs : goal.returns-clause-performs
-returns-clause-performs c es rs m s at = go (m.lanes 0).driver.waiting refl
+pub returns-clause-performs : (q : ℕ) → goal.returns-clause-performs
+returns-clause-performs q c es rs m s at = go (m.lanes q).driver.waiting refl
   where
     w : Machine
     w = c.args.self.now
@@ -31,7 +31,7 @@ returns-clause-performs c es rs m s at = go (m.lanes 0).driver.waiting refl
     is : List Item
     is = c.finish.result
 
-    go : (o : Option Waiting) → (m.lanes 0).driver.waiting ≡ o → (next : Moment) × (played is next ≡ guest w.header 0 c.args.stores m) × MachineAt now next
+    go : (o : Option Waiting) → (m.lanes q).driver.waiting ≡ o → (next : Moment) × (played is next ≡ guest w.header q c.args.stores m) × MachineAt q now next
     go None e =
         let none : w.asked ≡ None = subst (λ (o : Option Waiting). AskAt o w.asked) e at.front.asks in
         let fails : false ≡ true = ap (λ (a : Option Ask). is_some a) (sym none) ∙ c.is_none.ensures ∙ ap not c.if-is_none.false in
@@ -40,12 +40,12 @@ returns-clause-performs c es rs m s at = go (m.lanes 0).driver.waiting refl
         let goes = c.guest_stores.ensures.goes m x at.front e in
         let begins : c.in_ok-room.room.items ≡ [] = ap (λ r. r.items) c.in_ok-room.ensures in
         let most : ℕ = c.min-most.result in
-        let made : GuestGoes most x w now m [] is = subst (λ (js : List Item). GuestGoes most x w now m [] js) (sym c.finish.ensures)
-        (subst (λ (js : List Item). GuestGoes most x w now m js c.guest_stores.new.room.items) begins goes) in
+        let made : GuestGoes q most x w now m [] is = subst (λ (js : List Item). GuestGoes q most x w now m [] js) (sym c.finish.ensures)
+        (subst (λ (js : List Item). GuestGoes q most x w now m js c.guest_stores.new.room.items) begins goes) in
         let waits : (driver_in w.guest).waiting ≡ Some x = ap (λ (v : Driver). v.waiting) at.front.driver ∙ e in
         let few : length x.left ≤ 8 = left_few w.guest x waits in
-        let here : GuestGoes c.args.stores x w now m [] is = elim (cases_lt 8 c.args.stores) [
-          | inl more ↦ all_gone most c.args.stores x w now m [] is (omega (arith, few, more, c.min-most.ensures)) (omega (arith, more, c.min-most.ensures)) made
-          | inr less ↦ subst (λ (k : ℕ). GuestGoes k x w now m [] is) (omega (arith, less, c.min-most.ensures)) made
+        let here : GuestGoes q c.args.stores x w now m [] is = elim (cases_lt 8 c.args.stores) [
+          | inl more ↦ all_gone q most c.args.stores x w now m [] is (omega (arith, few, more, c.min-most.ensures)) (omega (arith, more, c.min-most.ensures)) made
+          | inr less ↦ subst (λ (k : ℕ). GuestGoes q k x w now m [] is) (omega (arith, less, c.min-most.ensures)) made
         ] in
-        guest_performs w now es rs m x is c.args.stores c.guest_stores.ensures.frame c.guest_stores.ensures.position s at (omega (arith, c.ranges.stores.fits)) (left_some w.guest x waits) e here
+        guest_performs q w now es rs m x is c.args.stores c.guest_stores.ensures.frame c.guest_stores.ensures.position s at (omega (arith, c.ranges.stores.fits)) (left_some w.guest x waits) e here

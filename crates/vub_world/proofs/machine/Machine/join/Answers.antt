@@ -10,17 +10,17 @@ use Rattle.vub_world.specs.Machine.{sizes_in}
 use Rattle.vub_world.proofs.MachineLemmas.{sound_ring}
 use Rattle.vub_world.proofs.machine.Machine.join.Goals as goal
 
-pub returns-clause-performs : goal.returns-clause-performs
-returns-clause-performs c es rs m stands at =
+pub returns-clause-performs : (q : ℕ) → goal.returns-clause-performs
+returns-clause-performs q c es rs m stands at =
     let h = c.args.self.now.header in
-    let new = joining_at c.args.self.now m at (sym c.is_joining.ensures ∙ c.if-not-is_joining.false) in (
+    let new = joining_at q c.args.self.now m at (sym c.is_joining.ensures ∙ c.if-not-is_joining.false) in (
       joined m,
       ap (λ (is : List Item). played is (joined m)) c.nothing.ensures ∙ join_plays m new.0 new.1.0,
-      joined_at c.args.self.now m c.in_ok-queue.queue (plain_header h stands.header) (stands_good h es rs m stands) stands.header.begins new.1 new.0 c.in_ok-queue.ensures.state at,
+      joined_at q c.args.self.now m c.in_ok-queue.queue (plain_header h stands.header) (stands_good q h es rs m stands) stands.header.begins new.1 new.0 c.in_ok-queue.ensures.state at,
     )
 
-pub returns-clause-sound : goal.returns-clause-sound
-returns-clause-sound c =
+pub returns-clause-sound : (q : ℕ) → goal.returns-clause-sound
+returns-clause-sound q c =
     let w : Machine = c.args.self.now in
     let s = c.requires.sound in
     record {
@@ -32,5 +32,5 @@ returns-clause-sound c =
       ring = s.ring;
       queue = c.in_ok-queue.ensures.ring;
       disk = s.disk;
-      lies = c.in_ok-queue.ensures.lies (sizes_in w) (capacity_of w.disk) (sound_ring w s);
+      lies = c.in_ok-queue.ensures.lies (sizes_in w) (capacity_of w.disk) (sound_ring q w s);
     }
