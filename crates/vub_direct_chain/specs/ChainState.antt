@@ -97,20 +97,20 @@ pub record MeansRequest (sizes : ℕ → ℕ) (r : SplitRing) (m : Bytes) (l : L
   pub handed : bytes_from (length (handed_bytes request)) m r.desc.0.number (data_start buffer request) ≡ handed_bytes request
   pub room : buffer + (4096 + data_len request) ≤ sizes r.desc.0.number
 
--- the ring of queue 0 in guest memory
-pub record IsFirstRing (sizes : ℕ → ℕ) (r : SplitRing) (n : ℕ) : Type 0 where
+-- the ring of queue q, of n places, in guest memory
+pub record IsRingOf (q : ℕ) (sizes : ℕ → ℕ) (r : SplitRing) (n : ℕ) : Type 0 where
   pub space : r.desc.0.number ≡ 0
-  pub table : r.desc.1 ≡ 0
+  pub table : r.desc.1 ≡ area_place q
   pub size : r.size ≡ n
-  pub room : 1048576 ≤ sizes 0
+  pub room : area_place q + 1048576 ≤ sizes 0
 
--- memory means a request under that head, by some chain in the first queue
-pub record Meant (sizes : ℕ → ℕ) (r : SplitRing) (m : Bytes) (head : ℕ) (o : Option Asked) : Type 0 where
+-- memory means a request under that head, by some chain in queue q
+pub record Meant (q : ℕ) (sizes : ℕ → ℕ) (r : SplitRing) (m : Bytes) (head : ℕ) (o : Option Asked) : Type 0 where
   pub links : Links
   pub at_head : links.head ≡ head
   pub request : Asked
   pub is : o ≡ Some request
-  pub means : MeansRequest sizes r m links (buffer_place (area_place 0) head) request
+  pub means : MeansRequest sizes r m links (buffer_place (area_place q) head) request
 
 -- ---- what the device finds
 

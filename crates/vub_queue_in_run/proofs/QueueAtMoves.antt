@@ -29,6 +29,7 @@ use Rattle.vub_queue.specs.QueueState.{QueueState}
 use Rattle.vub_queue_in_run.specs.QueueAt.{spot_of, left_of, TaskAt, QueueAt}
 use Rattle.vub_split.specs.declared.split.SplitRing.{SplitRing}
 use Rattle.vub_task.specs.declared.task.Task.{Task}
+use Rattle.vub_run_laws.proofs.RunOwn.{accepted_own, published_own, started_own}
 use Rattle.vub_run_laws.proofs.RunNumbers.{among_get, among_filter, missing-among}
 use Rattle.vub_run_laws.proofs.RunGood.{Known, Worked}
 use Rattle.vub_run_laws.proofs.RunOffers.{same_head, same_asked}
@@ -69,36 +70,36 @@ pushed_place (z ∷ xs) x y (suc i) e = elim (pushed_place xs x y i e) [
 -- ---- the requests that are left
 
 -- the same where the same are completed
-pub left_same : (past : List Entry) (a b c d : List ℕ) → ((k : ℕ) → is_among (a ++ b) k ≡ is_among (c ++ d) k) → left_of past a b ≡ left_of past c d
-left_same past a b c d same = filter_same (λ k. not (is_among (a ++ b) k)) (λ k. not (is_among (c ++ d) k)) (open_numbers past 0) (λ k. ap not (same k))
+pub left_same : (q : ℕ) (past : List Entry) (a b c d : List ℕ) → ((k : ℕ) → is_among (a ++ b) k ≡ is_among (c ++ d) k) → left_of q past a b ≡ left_of q past c d
+left_same q past a b c d same = filter_same (λ k. not (is_among (a ++ b) k)) (λ k. not (is_among (c ++ d) k)) (open_numbers past q) (λ k. ap not (same k))
 
 -- one that is left was accepted, isn't published and isn't completed
-pub record IsLeft (past : List Entry) (completed batch : List ℕ) (k : ℕ) : Type 0 where
-  pub is_open : IsOpen past 0 k
+pub record IsLeft (q : ℕ) (past : List Entry) (completed batch : List ℕ) (k : ℕ) : Type 0 where
+  pub is_open : IsOpen past q k
   pub out : is_among (completed ++ batch) k ≡ false
 
-pub left_is : (past : List Entry) (completed batch : List ℕ) (k : ℕ) → is_among (left_of past completed batch) k ≡ true → IsLeft past completed batch k
-left_is past completed batch k held =
-    let kept = among_filter (λ j. not (is_among (completed ++ batch) j)) (open_numbers past 0) k held in
-    let opened = missing-among (published past 0) (accepted past 0) k kept.0 in
+pub left_is : (q : ℕ) (past : List Entry) (completed batch : List ℕ) (k : ℕ) → is_among (left_of q past completed batch) k ≡ true → IsLeft q past completed batch k
+left_is q past completed batch k held =
+    let kept = among_filter (λ j. not (is_among (completed ++ batch) j)) (open_numbers past q) k held in
+    let opened = missing-among (published past q) (accepted past q) k kept.0 in
     let test : not (is_among (completed ++ batch) k) ≡ true = kept.1 in
     record { is_open = record { taken = opened.0; unpublished = opened.1 }; out = grind (arith, nat_tests) }
 
 -- ---- a queue that isn't started
 
-none_left : (past : List Entry) (completed batch : List ℕ) → accepted past 0 ≡ 0 → left_of past completed batch ≡ []
-none_left past completed batch none = ap (λ (n : ℕ). filter (λ k. not (is_among (completed ++ batch) k)) (missing_below (published past 0) n)) none
+none_left : (q : ℕ) (past : List Entry) (completed batch : List ℕ) → accepted past q ≡ 0 → left_of q past completed batch ≡ []
+none_left q past completed batch none = ap (λ (n : ℕ). filter (λ k. not (is_among (completed ++ batch) k)) (missing_below (published past q) n)) none
 
-none_among : (past : List Entry) (completed batch : List ℕ) (k : ℕ) → accepted past 0 ≡ 0 → is_among (left_of past completed batch) k ≡ true → ⊥
-none_among past completed batch k none held =
-    let nothing : is_among [] k ≡ true = subst (λ (ks : List ℕ). is_among ks k ≡ true) (none_left past completed batch none) held in
+none_among : (q : ℕ) (past : List Entry) (completed batch : List ℕ) (k : ℕ) → accepted past q ≡ 0 → is_among (left_of q past completed batch) k ≡ true → ⊥
+none_among q past completed batch k none held =
+    let nothing : is_among [] k ≡ true = subst (λ (ks : List ℕ). is_among ks k ≡ true) (none_left q past completed batch none) held in
     let fails : false ≡ true = nothing in
     cc
 
 -- a new queue stands where no request was accepted
-pub at_new : (h : Header1) (r : SplitRing) (past : List Entry) (heads : List ℕ) (made : ℕ → ℕ) (q : QueueState) → h.base < 65536 → length (published past 0) ≤ accepted past 0 → accepted past 0 ≡ 0 → started past 0 ≡ false
-    → states.IsNew r h.base q → QueueAt h r past heads phases.Rest [] [] made q
-at_new h r past heads made q small fewer none stopped new = subst (λ (t : QueueState). QueueAt h r past heads phases.Rest [] [] made t) (sym new.is) (record {
+pub at_new : (q : ℕ) (h : Header1) (r : SplitRing) (past : List Entry) (heads : List ℕ) (made : ℕ → ℕ) (state : QueueState) → h.base < 65536 → length (published past q) ≤ accepted past q → accepted past q ≡ 0 → started past q ≡ false
+    → states.IsNew r h.base state → QueueAt q h r past heads phases.Rest [] [] made state
+at_new q h r past heads made state small fewer none stopped new = subst (λ (t : QueueState). QueueAt q h r past heads phases.Rest [] [] made t) (sym new.is) (record {
   ring = refl;
   runs = refl;
   started = sym stopped;
@@ -107,22 +108,22 @@ at_new h r past heads made q small fewer none stopped new = subst (λ (t : Queue
   phase = refl;
   batch = refl;
   completed = refl;
-  count = ap (λ (ks : List ℕ). length ks) (sym (none_left past [] [] none));
-  tasks = λ i k task there is. absurd (none_among past [] [] k none (among_get (left_of past [] []) i k there));
+  count = ap (λ (ks : List ℕ). length ks) (sym (none_left q past [] [] none));
+  tasks = λ i k task there is. absurd (none_among q past [] [] k none (among_get (left_of q past [] []) i k there));
   buffers = new.buffers;
   places = length-replicate r.size false;
-  sectors = λ k place request held asks_it next. absurd (none_among past [] [] k none held);
+  sectors = λ k place request held asks_it next. absurd (none_among q past [] [] k none held);
   taken = λ d low held. absurd (let fails : true ≡ false = sym held ∙ get_or-replicate r.size d false true low in cc);
 })
 
 -- ---- a start
 
-pub at_start : (h : Header1) (r : SplitRing) (past : List Entry) (heads : List ℕ) (made : ℕ → ℕ) (q : QueueState) → accepted past 0 ≡ 0
-    → QueueAt h r past heads phases.Rest [] [] made q → QueueAt h r (entries.Start 0 (open_numbers past 0) ∷ past) heads phases.Rest [] [] made (record q { started = true })
-at_start h r past heads made q none x = record {
+pub at_start : (q : ℕ) (h : Header1) (r : SplitRing) (past : List Entry) (heads : List ℕ) (made : ℕ → ℕ) (state : QueueState) → accepted past q ≡ 0
+    → QueueAt q h r past heads phases.Rest [] [] made state → QueueAt q h r (entries.Start q (open_numbers past q) ∷ past) heads phases.Rest [] [] made (record state { started = true })
+at_start q h r past heads made state none x = record {
   ring = x.ring;
   runs = x.runs;
-  started = refl;
+  started = sym (started_own past q (open_numbers past q));
   avail = x.avail;
   used = x.used;
   phase = x.phase;
@@ -132,7 +133,7 @@ at_start h r past heads made q none x = record {
   tasks = λ i k task there is. record { head = (x.tasks i k task there is).head; stands = λ request asks_it. (x.tasks i k task there is).stands request asks_it };
   buffers = x.buffers;
   places = x.places;
-  sectors = λ k place request held asks_it next. absurd (none_among past [] [] k none held);
+  sectors = λ k place request held asks_it next. absurd (none_among q past [] [] k none held);
   taken = λ d low held.
       let t = x.taken d low held in
       (t.0, record { taken = t.1.taken; unpublished = t.1.unpublished }, t.2);
@@ -162,80 +163,80 @@ first_step None request place e = first_disk request place e
 first_step (Some status) request place e = let fails : Some Status ≡ Some (Put place) = e in cc
 
 -- the new request isn't published, and is left
-pub new_unpublished : (n cap : ℕ) (past : List Entry) (heads : List ℕ) → Known n cap past heads → is_among (published past 0) (accepted past 0) ≡ false
-new_unpublished n cap past heads known = elim (cases_Bool (is_among (published past 0) (accepted past 0))) [
-  | inl there ↦ absurd (let low : accepted past 0 < accepted past 0 = known.below (accepted past 0) there in omega arith)
+pub new_unpublished : (q n cap : ℕ) (past : List Entry) (heads : List ℕ) → Known q n cap past heads → is_among (published past q) (accepted past q) ≡ false
+new_unpublished q n cap past heads known = elim (cases_Bool (is_among (published past q) (accepted past q))) [
+  | inl there ↦ absurd (let low : accepted past q < accepted past q = known.below (accepted past q) there in omega arith)
   | inr out ↦ out
 ]
 
-new_out : (past : List Entry) (phase : Phase) (batch completed : List ℕ) (made : ℕ → ℕ) → Worked past phase batch completed made → is_among (completed ++ batch) (accepted past 0) ≡ false
-new_out past phase batch completed made w = elim (cases_Bool (is_among (completed ++ batch) (accepted past 0))) [
-  | inl there ↦ absurd (let low : accepted past 0 < accepted past 0 = (w.opens (accepted past 0) there).taken in omega arith)
+new_out : (q : ℕ) (past : List Entry) (phase : Phase) (batch completed : List ℕ) (made : ℕ → ℕ) → Worked q past phase batch completed made → is_among (completed ++ batch) (accepted past q) ≡ false
+new_out q past phase batch completed made w = elim (cases_Bool (is_among (completed ++ batch) (accepted past q))) [
+  | inl there ↦ absurd (let low : accepted past q < accepted past q = (w.opens (accepted past q) there).taken in omega arith)
   | inr out ↦ out
 ]
 
-pub left_more : (past : List Entry) (completed batch : List ℕ) (k : ℕ) → is_among (published past 0) (accepted past 0) ≡ false → is_among (completed ++ batch) (accepted past 0) ≡ false
-    → left_of (entries.Accept 0 k ∷ past) completed batch ≡ left_of past completed batch ++ accepted past 0 ∷ []
-left_more past completed batch k unpublished out =
-    let a : ℕ = accepted past 0 in
-    let ps : List ℕ = published past 0 in
+pub left_more : (q : ℕ) (past : List Entry) (completed batch : List ℕ) (k : ℕ) → is_among (published past q) (accepted past q) ≡ false → is_among (completed ++ batch) (accepted past q) ≡ false
+    → left_of q (entries.Accept q k ∷ past) completed batch ≡ left_of q past completed batch ++ accepted past q ∷ []
+left_more q past completed batch k unpublished out =
+    let a : ℕ = accepted past q in
+    let ps : List ℕ = published past q in
     let test : ℕ → Bool = λ j. not (is_among (completed ++ batch) j) in
     let next : a + 1 ≡ suc a = omega arith in
     let longer : missing_below ps (suc a) ≡ missing_below ps a ++ a ∷ [] = grind (arith, nat_tests) in
     let kept : filter test (a ∷ []) ≡ a ∷ [] = grind (arith, nat_tests) in
-    ap (λ (n : ℕ). filter test (missing_below ps n)) next ∙ ap (filter test) longer ∙ filter-append test (missing_below ps a) (a ∷ []) ∙ ap (λ (ks : List ℕ). filter test (missing_below ps a) ++ ks) kept
+    ap (λ (n : ℕ). filter test (missing_below ps n)) (accepted_own past q a) ∙ ap (λ (n : ℕ). filter test (missing_below ps n)) next ∙ ap (filter test) longer ∙ filter-append test (missing_below ps a) (a ∷ []) ∙ ap (λ (ks : List ℕ). filter test (missing_below ps a) ++ ks) kept
 
-pub at_fetch : (h : Header1) (r : SplitRing) (past : List Entry) (heads : List ℕ) (completed : List ℕ) (made : ℕ → ℕ) (q : QueueState) (head : ℕ) → Known h.size h.capacity past heads → Worked past phases.Rest [] completed made
-    → head ≡ slice_index heads (accepted past 0) → QueueAt h r past heads phases.Rest [] completed made q
-    → QueueAt h r (entries.Accept 0 (accepted past 0) ∷ past) heads phases.Rest [] completed made (states.accepted head q)
-at_fetch h r past heads completed made q head known w is x =
-    let a : ℕ = accepted past 0 in
-    let past' : List Entry = entries.Accept 0 a ∷ past in
+pub at_fetch : (q : ℕ) (h : Header1) (r : SplitRing) (past : List Entry) (heads : List ℕ) (completed : List ℕ) (made : ℕ → ℕ) (state : QueueState) (head : ℕ) → Known q h.size h.capacity past heads → Worked q past phases.Rest [] completed made
+    → head ≡ slice_index heads (accepted past q) → QueueAt q h r past heads phases.Rest [] completed made state
+    → QueueAt q h r (entries.Accept q (accepted past q) ∷ past) heads phases.Rest [] completed made (states.accepted head state)
+at_fetch q h r past heads completed made state head known w is x =
+    let a : ℕ = accepted past q in
+    let past' : List Entry = entries.Accept q a ∷ past in
     let none : made a ≡ 0 = w.untouched a (omega arith) in
-    let unpublished : is_among (published past 0) a ≡ false = new_unpublished h.size h.capacity past heads known in
-    let more : left_of past' completed [] ≡ left_of past completed [] ++ a ∷ [] = left_more past completed [] a unpublished (new_out past phases.Rest [] completed made w) in
+    let unpublished : is_among (published past q) a ≡ false = new_unpublished q h.size h.capacity past heads known in
+    let more : left_of q past' completed [] ≡ left_of q past completed [] ++ a ∷ [] = left_more q past completed [] a unpublished (new_out q past phases.Rest [] completed made w) in
     record {
       ring = x.ring;
       runs = x.runs;
       started = x.started;
-      avail = omega (arith, x.avail);
+      avail = omega (arith, x.avail, accepted_own past q a);
       used = x.used;
       phase = x.phase;
       batch = x.batch;
       completed = x.completed;
-      count = length_push q.unfinished (fresh_task head) ∙ ap (λ (n : ℕ). n + 1) x.count ∙ sym (ap (λ (ks : List ℕ). length ks) more ∙ length_push (left_of past completed []) a);
+      count = length_push state.unfinished (fresh_task head) ∙ ap (λ (n : ℕ). n + 1) x.count ∙ sym (ap (λ (ks : List ℕ). length ks) more ∙ length_push (left_of q past completed []) a);
       tasks = λ i k task there is_task.
-          let there_too : slice_get (left_of past completed [] ++ a ∷ []) i ≡ Some k = subst (λ (ks : List ℕ). slice_get ks i ≡ Some k) more there in
-          elim (pushed_place (left_of past completed []) a k i there_too) [
-            | inl old ↦ elim (pushed_place q.unfinished (fresh_task head) task i is_task) [
+          let there_too : slice_get (left_of q past completed [] ++ a ∷ []) i ≡ Some k = subst (λ (ks : List ℕ). slice_get ks i ≡ Some k) more there in
+          elim (pushed_place (left_of q past completed []) a k i there_too) [
+            | inl old ↦ elim (pushed_place state.unfinished (fresh_task head) task i is_task) [
               | inl old_task ↦ let t = x.tasks i k task old old_task in record { head = t.head; stands = t.stands }
-              | inr last ↦ absurd (let low : i < length (left_of past completed []) = slice_get_within (left_of past completed []) i k old in omega (arith, last.0, x.count, low))
+              | inr last ↦ absurd (let low : i < length (left_of q past completed []) = slice_get_within (left_of q past completed []) i k old in omega (arith, last.0, x.count, low))
             ]
-            | inr last ↦ elim (pushed_place q.unfinished (fresh_task head) task i is_task) [
-              | inl old_task ↦ absurd (let low : i < length q.unfinished = slice_get_within q.unfinished i task old_task in omega (arith, last.0, x.count, low))
-              | inr new ↦ subst (λ (t : Task). TaskAt h r past' heads k (made k) t) new.1 (subst (λ (j : ℕ). TaskAt h r past' heads j (made j) (fresh_task head)) last.1 (record {
+            | inr last ↦ elim (pushed_place state.unfinished (fresh_task head) task i is_task) [
+              | inl old_task ↦ absurd (let low : i < length state.unfinished = slice_get_within state.unfinished i task old_task in omega (arith, last.0, x.count, low))
+              | inr new ↦ subst (λ (t : Task). TaskAt q h r past' heads k (made k) t) new.1 (subst (λ (j : ℕ). TaskAt q h r past' heads j (made j) (fresh_task head)) last.1 (record {
                 head = is;
                 stands = λ request asks_it. record { begins = λ e. refl; goes_on = λ some. absurd (omega arith) };
               }))
             ]
           ];
       buffers = x.buffers;
-      places = length-set q.taken head true ∙ x.places;
-      sectors = λ k place request held asks_it next. elim (cases_Bool (is_among (left_of past completed []) k)) [
+      places = length-set state.taken head true ∙ x.places;
+      sectors = λ k place request held asks_it next. elim (cases_Bool (is_among (left_of q past completed []) k)) [
         | inl old ↦ x.sectors k place request old asks_it next
         | inr new ↦
-            let joined : is_among (left_of past completed [] ++ a ∷ []) k ≡ (is_among (left_of past completed []) k || is_among (a ∷ []) k) = is_among_append (left_of past completed []) (a ∷ []) k in
-            let whole : is_among (left_of past completed [] ++ a ∷ []) k ≡ true = subst (λ (ks : List ℕ). is_among ks k ≡ true) more held in
+            let joined : is_among (left_of q past completed [] ++ a ∷ []) k ≡ (is_among (left_of q past completed []) k || is_among (a ∷ []) k) = is_among_append (left_of q past completed []) (a ∷ []) k in
+            let whole : is_among (left_of q past completed [] ++ a ∷ []) k ≡ true = subst (λ (ks : List ℕ). is_among ks k ≡ true) more held in
             let same : a ≡ k = grind (arith, nat_tests) in
             let begun : made k ≡ 0 = ap made (sym same) ∙ none in
             absurd (first_step (refused h request) request place (subst (λ (n : ℕ). slice_get (task_steps h request) n ≡ Some (Put place)) begun next))
       ];
       taken = λ d low held. elim (cases_eq d head) [
-        | inl same ↦ (a, record { taken = omega arith; unpublished = unpublished }, sym is ∙ sym same)
+        | inl same ↦ (a, record { taken = omega (arith, accepted_own past q a); unpublished = unpublished }, sym is ∙ sym same)
         | inr apart ↦
-            let before : is_taken q.taken d ≡ true = sym (get_or-set_other q.taken head d true true apart) ∙ held in
+            let before : is_taken state.taken d ≡ true = sym (get_or-set_other state.taken head d true true apart) ∙ held in
             let t = x.taken d low before in
-            (t.0, record { taken = omega (arith, t.1.taken); unpublished = t.1.unpublished }, t.2)
+            (t.0, record { taken = omega (arith, t.1.taken, accepted_own past q a); unpublished = t.1.unpublished }, t.2)
       ];
     }
   where
@@ -244,10 +245,10 @@ at_fetch h r past heads completed made q head known w is x =
 
 -- ---- a batch is taken
 
-pub at_begin : (h : Header1) (r : SplitRing) (past : List Entry) (heads : List ℕ) (completed : List ℕ) (made : ℕ → ℕ) (q : QueueState) (most : ℕ) → QueueAt h r past heads phases.Rest [] completed made q
-    → QueueAt h r past heads (phases.Publish 0) (take most completed) (drop most completed) made (states.begun most q)
-at_begin h r past heads completed made q most x =
-    let same : left_of past (drop most completed) (take most completed) ≡ left_of past completed [] = left_same past (drop most completed) (take most completed) completed [] (swap_among most completed) in
+pub at_begin : (q : ℕ) (h : Header1) (r : SplitRing) (past : List Entry) (heads : List ℕ) (completed : List ℕ) (made : ℕ → ℕ) (state : QueueState) (most : ℕ) → QueueAt q h r past heads phases.Rest [] completed made state
+    → QueueAt q h r past heads (phases.Publish 0) (take most completed) (drop most completed) made (states.begun most state)
+at_begin q h r past heads completed made state most x =
+    let same : left_of q past (drop most completed) (take most completed) ≡ left_of q past completed [] = left_same q past (drop most completed) (take most completed) completed [] (swap_among most completed) in
     record {
       ring = x.ring;
       runs = x.runs;
@@ -255,8 +256,8 @@ at_begin h r past heads completed made q most x =
       avail = x.avail;
       used = x.used;
       phase = refl;
-      batch = ap (take most) x.completed ∙ take-map (spot_of h past heads) most completed;
-      completed = ap (drop most) x.completed ∙ drop_map (spot_of h past heads) most completed;
+      batch = ap (take most) x.completed ∙ take-map (spot_of q h past heads) most completed;
+      completed = ap (drop most) x.completed ∙ drop_map (spot_of q h past heads) most completed;
       count = x.count ∙ ap (λ (ks : List ℕ). length ks) (sym same);
       tasks = λ i k task there is. x.tasks i k task (subst (λ (ks : List ℕ). slice_get ks i ≡ Some k) same there) is;
       buffers = x.buffers;
@@ -268,25 +269,25 @@ at_begin h r past heads completed made q most x =
 -- ---- a step of a publication
 
 -- the phase of a queue goes on
-pub goes_to : (p : Phase) (q : QueueState) → is_publication p ≡ true → states.with_phase p q ≡ record q { phase = p }
-goes_to phases.Rest q goes = absurd (let fails : false ≡ true = goes in cc)
-goes_to (phases.Start done) q goes = refl
-goes_to (phases.Fetch done) q goes = refl
-goes_to (phases.Publish done) q goes = refl
+pub goes_to : (p : Phase) (state : QueueState) → is_publication p ≡ true → states.with_phase p state ≡ record state { phase = p }
+goes_to phases.Rest state goes = absurd (let fails : false ≡ true = goes in cc)
+goes_to (phases.Start done) state goes = refl
+goes_to (phases.Fetch done) state goes = refl
+goes_to (phases.Publish done) state goes = refl
 
 -- the step that is next counts by the batch
-pub moved_is : (h : Header1) (r : SplitRing) (past : List Entry) (heads : List ℕ) (phase : Phase) (batch completed : List ℕ) (made : ℕ → ℕ) (q : QueueState) → QueueAt h r past heads phase batch completed made q
-    → states.moved q ≡ states.with_phase (after_step (length batch) phase) q
-moved_is h r past heads phase batch completed made q x =
-    let many : length q.batch ≡ length batch = ap (λ (ks : List (ℕ × ℕ)). length ks) x.batch ∙ length-map batch (spot_of h past heads) in
-    ap (λ (n : ℕ). states.with_phase (after_step n q.phase) q) many ∙ ap (λ (p : Phase). states.with_phase (after_step (length batch) p) q) x.phase
+pub moved_is : (q : ℕ) (h : Header1) (r : SplitRing) (past : List Entry) (heads : List ℕ) (phase : Phase) (batch completed : List ℕ) (made : ℕ → ℕ) (state : QueueState) → QueueAt q h r past heads phase batch completed made state
+    → states.moved state ≡ states.with_phase (after_step (length batch) phase) state
+moved_is q h r past heads phase batch completed made state x =
+    let many : length state.batch ≡ length batch = ap (λ (ks : List (ℕ × ℕ)). length ks) x.batch ∙ length-map batch (spot_of q h past heads) in
+    ap (λ (n : ℕ). states.with_phase (after_step n state.phase) state) many ∙ ap (λ (p : Phase). states.with_phase (after_step (length batch) p) state) x.phase
 
-pub at_row : (h : Header1) (r : SplitRing) (past : List Entry) (heads : List ℕ) (phase : Phase) (batch completed : List ℕ) (made : ℕ → ℕ) (q : QueueState) → QueueAt h r past heads phase batch completed made q
-    → is_publication (after_step (length batch) phase) ≡ true → QueueAt h r past heads (after_step (length batch) phase) batch completed made (states.moved q)
-at_row h r past heads phase batch completed made q x goes =
+pub at_row : (q : ℕ) (h : Header1) (r : SplitRing) (past : List Entry) (heads : List ℕ) (phase : Phase) (batch completed : List ℕ) (made : ℕ → ℕ) (state : QueueState) → QueueAt q h r past heads phase batch completed made state
+    → is_publication (after_step (length batch) phase) ≡ true → QueueAt q h r past heads (after_step (length batch) phase) batch completed made (states.moved state)
+at_row q h r past heads phase batch completed made state x goes =
     let p : Phase = after_step (length batch) phase in
-    let same : states.moved q ≡ record q { phase = p } = moved_is h r past heads phase batch completed made q x ∙ goes_to p q goes in
-    subst (λ (t : QueueState). QueueAt h r past heads p batch completed made t) (sym same) (record {
+    let same : states.moved state ≡ record state { phase = p } = moved_is q h r past heads phase batch completed made state x ∙ goes_to p state goes in
+    subst (λ (t : QueueState). QueueAt q h r past heads p batch completed made t) (sym same) (record {
       ring = x.ring;
       runs = x.runs;
       started = x.started;
@@ -355,21 +356,22 @@ show_filter ps completed batch (suc n) =
       ]
     ]
 
-pub left_shown : (past : List Entry) (completed batch : List ℕ) (list : List Answered) → numbers list ≡ batch → left_of (entries.Publish 0 list ∷ past) completed [] ≡ left_of past completed batch
-left_shown past completed batch list is =
-    ap (λ (ks : List ℕ). filter (λ k. not (is_among (completed ++ []) k)) (missing_below (published past 0 ++ ks) (accepted past 0))) is
-    ∙ show_filter (published past 0) completed batch (accepted past 0)
+pub left_shown : (q : ℕ) (past : List Entry) (completed batch : List ℕ) (list : List Answered) → numbers list ≡ batch → left_of q (entries.Publish q list ∷ past) completed [] ≡ left_of q past completed batch
+left_shown q past completed batch list is =
+    ap (λ (ks : List ℕ). filter (λ k. not (is_among (completed ++ []) k)) (missing_below ks (accepted past q))) (published_own past q list)
+    ∙ ap (λ (ks : List ℕ). filter (λ k. not (is_among (completed ++ []) k)) (missing_below (published past q ++ ks) (accepted past q))) is
+    ∙ show_filter (published past q) completed batch (accepted past q)
 
-pub at_show : (h : Header1) (r : SplitRing) (past : List Entry) (heads : List ℕ) (phase : Phase) (batch completed : List ℕ) (made : ℕ → ℕ) (q : QueueState) (list : List Answered)
-    → after_step (length batch) phase ≡ phases.Rest → numbers list ≡ batch → QueueAt h r past heads phase batch completed made q
-    → QueueAt h r (entries.Publish 0 list ∷ past) heads phases.Rest [] completed made (states.moved q)
-at_show h r past heads phase batch completed made q list ends is x =
-    let past' : List Entry = entries.Publish 0 list ∷ past in
-    let many : length q.batch ≡ length batch = ap (λ (ks : List (ℕ × ℕ)). length ks) x.batch ∙ length-map batch (spot_of h past heads) in
-    let moved : states.moved q ≡ states.with_phase phases.Rest q = moved_is h r past heads phase batch completed made q x ∙ ap (λ (p : Phase). states.with_phase p q) ends in
-    let same : left_of past' completed [] ≡ left_of past completed batch = left_shown past completed batch list is in
-    let shown : length (published past' 0) ≡ length (published past 0) + length batch = length-append (published past 0) (numbers list) ∙ ap (λ (ks : List ℕ). length (published past 0) + length ks) is in
-    subst (λ (t : QueueState). QueueAt h r past' heads phases.Rest [] completed made t) (sym moved) (record {
+pub at_show : (q : ℕ) (h : Header1) (r : SplitRing) (past : List Entry) (heads : List ℕ) (phase : Phase) (batch completed : List ℕ) (made : ℕ → ℕ) (state : QueueState) (list : List Answered)
+    → after_step (length batch) phase ≡ phases.Rest → numbers list ≡ batch → QueueAt q h r past heads phase batch completed made state
+    → QueueAt q h r (entries.Publish q list ∷ past) heads phases.Rest [] completed made (states.moved state)
+at_show q h r past heads phase batch completed made state list ends is x =
+    let past' : List Entry = entries.Publish q list ∷ past in
+    let many : length state.batch ≡ length batch = ap (λ (ks : List (ℕ × ℕ)). length ks) x.batch ∙ length-map batch (spot_of q h past heads) in
+    let moved : states.moved state ≡ states.with_phase phases.Rest state = moved_is q h r past heads phase batch completed made state x ∙ ap (λ (p : Phase). states.with_phase p state) ends in
+    let same : left_of q past' completed [] ≡ left_of q past completed batch = left_shown q past completed batch list is in
+    let shown : length (published past' q) ≡ length (published past q) + length batch = ap (λ (ks : List ℕ). length ks) (published_own past q list) ∙ length-append (published past q) (numbers list) ∙ ap (λ (ks : List ℕ). length (published past q) + length ks) is in
+    subst (λ (t : QueueState). QueueAt q h r past' heads phases.Rest [] completed made t) (sym moved) (record {
       ring = x.ring;
       runs = x.runs;
       started = x.started;
@@ -383,39 +385,39 @@ at_show h r past heads phase batch completed made q list ends is x =
           let t = x.tasks i k task (subst (λ (ks : List ℕ). slice_get ks i ≡ Some k) same there) is_task in
           record { head = t.head; stands = t.stands };
       buffers = x.buffers;
-      places = length_without q.batch q.taken ∙ x.places;
+      places = length_without state.batch state.taken ∙ x.places;
       sectors = λ k place request held asks_it next. x.sectors k place request (subst (λ (ks : List ℕ). is_among ks k ≡ true) same held) asks_it next;
       taken = λ d low held.
-          let held_too : is_taken (without_heads (map (spot_of h past heads) batch) q.taken) d ≡ true = subst (λ (xs : List (ℕ × ℕ)). is_taken (without_heads xs q.taken) d ≡ true) x.batch held in
-          let still = still_taken (spot_of h past heads) batch q.taken d (omega (arith, low, x.places)) held_too in
+          let held_too : is_taken (without_heads (map (spot_of q h past heads) batch) state.taken) d ≡ true = subst (λ (xs : List (ℕ × ℕ)). is_taken (without_heads xs state.taken) d ≡ true) x.batch held in
+          let still = still_taken (spot_of q h past heads) batch state.taken d (omega (arith, low, x.places)) held_too in
           let t = x.taken d low still.0 in
-          let unpublished : is_among (published past 0) t.0 ≡ false = t.1.unpublished in
+          let unpublished : is_among (published past q) t.0 ≡ false = t.1.unpublished in
           let out : is_among batch t.0 ≡ false = elim (cases_Bool (is_among batch t.0)) [
             | inl there ↦ absurd (still.1 t.0 there t.2)
             | inr out ↦ out
           ] in
-          let both : is_among (published past 0 ++ batch) t.0 ≡ (is_among (published past 0) t.0 || is_among batch t.0) = is_among_append (published past 0) batch t.0 in
-          let neither : is_among (published past 0 ++ batch) t.0 ≡ false = grind (arith, nat_tests) in
-          (t.0, record { taken = t.1.taken; unpublished = ap (λ (ks : List ℕ). is_among (published past 0 ++ ks) t.0) is ∙ neither }, t.2);
+          let both : is_among (published past q ++ batch) t.0 ≡ (is_among (published past q) t.0 || is_among batch t.0) = is_among_append (published past q) batch t.0 in
+          let neither : is_among (published past q ++ batch) t.0 ≡ false = grind (arith, nat_tests) in
+          (t.0, record { taken = t.1.taken; unpublished = ap (λ (ks : List ℕ). is_among ks t.0) (published_own past q list) ∙ ap (λ (ks : List ℕ). is_among (published past q ++ ks) t.0) is ∙ neither }, t.2);
     })
 
 -- ---- an offer
 
-offered_spot : (h : Header1) (past : List Entry) (heads : List ℕ) (request : Asked) (x k : ℕ) → Known h.size h.capacity past heads → k < accepted past 0 → spot_of h (entries.Offer 0 request ∷ past) (heads ++ x ∷ []) k ≡ spot_of h past heads k
-offered_spot h past heads request x k known low =
+offered_spot : (q : ℕ) (h : Header1) (past : List Entry) (heads : List ℕ) (request : Asked) (x k : ℕ) → Known q h.size h.capacity past heads → k < accepted past q → spot_of q h (entries.Offer q request ∷ past) (heads ++ x ∷ []) k ≡ spot_of q h past heads k
+offered_spot q h past heads request x k known low =
     let head : slice_index (heads ++ x ∷ []) k ≡ slice_index heads k = same_head heads x k (omega (arith, low, known.offered)) in
-    let asks_it : asked (entries.Offer 0 request ∷ past) 0 k ≡ asked past 0 k = same_asked past request k (omega (arith, low, known.offered, known.offers_are)) in
-    ap (λ (y : ℕ). (y, len_of h (asked (entries.Offer 0 request ∷ past) 0 k))) head ∙ ap (λ (o : Option Asked). (slice_index heads k, len_of h o)) asks_it
+    let asks_it : asked (entries.Offer q request ∷ past) q k ≡ asked past q k = same_asked q past request k (omega (arith, low, known.offered, known.offers_are)) in
+    ap (λ (y : ℕ). (y, len_of h (asked (entries.Offer q request ∷ past) q k))) head ∙ ap (λ (o : Option Asked). (slice_index heads k, len_of h o)) asks_it
 
-pub at_offer : (h : Header1) (r : SplitRing) (past : List Entry) (heads : List ℕ) (phase : Phase) (batch completed : List ℕ) (made : ℕ → ℕ) (q : QueueState) (request : Asked) (x : ℕ)
-    → Known h.size h.capacity past heads → Worked past phase batch completed made → QueueAt h r past heads phase batch completed made q
-    → QueueAt h r (entries.Offer 0 request ∷ past) (heads ++ x ∷ []) phase batch completed made q
-at_offer h r past heads phase batch completed made q request x known w z =
-    let past' : List Entry = entries.Offer 0 request ∷ past in
+pub at_offer : (q : ℕ) (h : Header1) (r : SplitRing) (past : List Entry) (heads : List ℕ) (phase : Phase) (batch completed : List ℕ) (made : ℕ → ℕ) (state : QueueState) (request : Asked) (x : ℕ)
+    → Known q h.size h.capacity past heads → Worked q past phase batch completed made → QueueAt q h r past heads phase batch completed made state
+    → QueueAt q h r (entries.Offer q request ∷ past) (heads ++ x ∷ []) phase batch completed made state
+at_offer q h r past heads phase batch completed made state request x known w z =
+    let past' : List Entry = entries.Offer q request ∷ past in
     let heads' : List ℕ = heads ++ x ∷ [] in
-    let low_of : (k : ℕ) → is_among (completed ++ batch) k ≡ true → k < accepted past 0 = λ k held. (w.opens k held).taken in
-    let head_is : (k : ℕ) → k < accepted past 0 → slice_index heads' k ≡ slice_index heads k = λ k low. same_head heads x k (omega (arith, low, known.offered)) in
-    let asks_is : (k : ℕ) → k < accepted past 0 → asked past' 0 k ≡ asked past 0 k = λ k low. same_asked past request k (omega (arith, low, known.offered, known.offers_are)) in
+    let low_of : (k : ℕ) → is_among (completed ++ batch) k ≡ true → k < accepted past q = λ k held. (w.opens k held).taken in
+    let head_is : (k : ℕ) → k < accepted past q → slice_index heads' k ≡ slice_index heads k = λ k low. same_head heads x k (omega (arith, low, known.offered)) in
+    let asks_is : (k : ℕ) → k < accepted past q → asked past' q k ≡ asked past q k = λ k low. same_asked q past request k (omega (arith, low, known.offered, known.offers_are)) in
     let joined : (k : ℕ) → is_among (completed ++ batch) k ≡ (is_among completed k || is_among batch k) = is_among_append completed batch in
     record {
       ring = z.ring;
@@ -424,21 +426,21 @@ at_offer h r past heads phase batch completed made q request x known w z =
       avail = z.avail;
       used = z.used;
       phase = z.phase;
-      batch = z.batch ∙ map_same (spot_of h past heads) (spot_of h past' heads') batch (λ k held. sym (offered_spot h past heads request x k known (low_of k (joined k ∙ or_right (is_among completed k) (is_among batch k) held))));
-      completed = z.completed ∙ map_same (spot_of h past heads) (spot_of h past' heads') completed (λ k held. sym (offered_spot h past heads request x k known (low_of k (joined k ∙ or_left (is_among completed k) (is_among batch k) held))));
+      batch = z.batch ∙ map_same (spot_of q h past heads) (spot_of q h past' heads') batch (λ k held. sym (offered_spot q h past heads request x k known (low_of k (joined k ∙ or_right (is_among completed k) (is_among batch k) held))));
+      completed = z.completed ∙ map_same (spot_of q h past heads) (spot_of q h past' heads') completed (λ k held. sym (offered_spot q h past heads request x k known (low_of k (joined k ∙ or_left (is_among completed k) (is_among batch k) held))));
       count = z.count;
       tasks = λ i k task there is.
-          let low : k < accepted past 0 = (left_is past completed batch k (among_get (left_of past completed batch) i k there)).is_open.taken in
+          let low : k < accepted past q = (left_is q past completed batch k (among_get (left_of q past completed batch) i k there)).is_open.taken in
           let t = z.tasks i k task there is in
           record {
             head = t.head ∙ sym (head_is k low);
-            stands = λ asks_this at_k. subst (λ (d : ℕ). IsTaskAt h r (buffer_place (area_place 0) d) asks_this (made k) task) (sym (head_is k low)) (t.stands asks_this (sym (asks_is k low) ∙ at_k));
+            stands = λ asks_this at_k. subst (λ (d : ℕ). IsTaskAt h r (buffer_place (area_place q) d) asks_this (made k) task) (sym (head_is k low)) (t.stands asks_this (sym (asks_is k low) ∙ at_k));
           };
       buffers = z.buffers;
       places = z.places;
       sectors = λ k place asks_this held at_k next.
-          let low : k < accepted past 0 = (left_is past completed batch k held).is_open.taken in
-          ap (λ (d : ℕ). get_or q.sectors d []) (head_is k low) ∙ z.sectors k place asks_this held (sym (asks_is k low) ∙ at_k) next;
+          let low : k < accepted past q = (left_is q past completed batch k held).is_open.taken in
+          ap (λ (d : ℕ). get_or state.sectors d []) (head_is k low) ∙ z.sectors k place asks_this held (sym (asks_is k low) ∙ at_k) next;
       taken = λ d low held.
           let t = z.taken d low held in
           (t.0, record { taken = t.1.taken; unpublished = t.1.unpublished }, head_is t.0 t.1.taken ∙ t.2);
@@ -446,9 +448,9 @@ at_offer h r past heads phase batch completed made q request x known w z =
 
 -- ---- a collection
 
-pub at_collect : (h : Header1) (r : SplitRing) (past : List Entry) (heads : List ℕ) (phase : Phase) (batch completed : List ℕ) (made : ℕ → ℕ) (q : QueueState) (k : ℕ)
-    → QueueAt h r past heads phase batch completed made q → QueueAt h r (entries.Collect 0 k ∷ past) heads phase batch completed made q
-at_collect h r past heads phase batch completed made q k x = record {
+pub at_collect : (q : ℕ) (h : Header1) (r : SplitRing) (past : List Entry) (heads : List ℕ) (phase : Phase) (batch completed : List ℕ) (made : ℕ → ℕ) (state : QueueState) (k : ℕ)
+    → QueueAt q h r past heads phase batch completed made state → QueueAt q h r (entries.Collect q k ∷ past) heads phase batch completed made state
+at_collect q h r past heads phase batch completed made state k x = record {
   ring = x.ring;
   runs = x.runs;
   started = x.started;

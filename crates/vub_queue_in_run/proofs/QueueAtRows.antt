@@ -32,7 +32,8 @@ use Rattle.vub_run.specs.Turns.{Turned, turned, is_rest, begun, under_way, phase
 use Rattle.vub_queue.specs.QueueState as states
 use Rattle.vub_split.specs.Split.{used_side}
 use Rattle.vub_queue.specs.QueueState.{QueueState, row_at, next_row, moved, Moves, publishes, publish_row, Publishes, Turns, is_fault}
-use Rattle.vub_queue_in_run.specs.QueueAt.{spot_of, QueueAt, IsMainRing, QueueStands}
+use Rattle.vub_queue_in_run.specs.QueueAt.{spot_of, QueueAt, LiesAs, QueueStands}
+use Rattle.vub_driver.specs.Layout.{area_place}
 use Rattle.vub_run_laws.proofs.RunGood.{the_ring, Worked, Holds}
 use Rattle.vub_run_laws.proofs.RunPhases.{resting, rest_is, taking, taking_holds}
 use Rattle.vub_run_laws.proofs.RunElements.{StepAt, AtId, AtLen, AtIndex, step_at, get_map}
@@ -47,32 +48,32 @@ ring_same : (s s' d d' a a' u u' n n' : ℕ) → s ≡ s' → d ≡ d' → a ≡
     → ◌≡◌ {A = Ring} (record { space = s; desc = d; avail = a; used = u; size = n }) (record { space = s'; desc = d'; avail = a'; used = u'; size = n' })
 ring_same s s' d d' a a' u u' n n' es ed ea eu en = cc
 
-side_is : (r : SplitRing) (n : ℕ) → IsMainRing r n → used_side r ≡ the_ring n
-side_is r n main = ring_same r.used.0.number 0 r.desc.1 0 r.avail.1 4096 r.used.1 8192 r.size n main.used_space main.desc main.avail main.used main.size
+side_is : (q : ℕ) (r : SplitRing) (n : ℕ) → LiesAs q r n → used_side r ≡ the_ring q n
+side_is q r n main = ring_same r.used.0.number 0 r.desc.1 (area_place q) r.avail.1 (area_place q + 4096) r.used.1 (area_place q + 8192) r.size n main.used_space main.desc main.avail main.used main.size
 
 -- the row that the step table has for a step
-abbrev table_row : Header1 → Scene → List ℕ → Option Step → Option Row
-table_row h s batch None = None
-table_row h s batch (Some step) = row_of (the_ring h.size) (used_idx (the_ring h.size) s.memory) (map (element_of h 0 s) batch) step
+abbrev table_row : ℕ → Header1 → Scene → List ℕ → Option Step → Option Row
+table_row q h s batch None = None
+table_row q h s batch (Some step) = row_of (the_ring q h.size) (used_idx (the_ring q h.size) s.memory) (map (element_of h q s) batch) step
 
 -- the queue's publication stands where that of the lane does
-pub record GoesOn (h : Header1) (r : SplitRing) (s : Scene) (l : Lane) (done : ℕ) (u : QueueState) : Type 0 where
-  pub main : IsMainRing r h.size
-  pub under : IsUnderWay h s l done
-  pub stands : QueueAt h r s.past (s.heads 0) (phases.Publish done) l.batch l.completed l.made u
+pub record GoesOn (q : ℕ) (h : Header1) (r : SplitRing) (s : Scene) (l : Lane) (done : ℕ) (u : QueueState) : Type 0 where
+  pub main : LiesAs q r h.size
+  pub under : IsUnderWay q h s l done
+  pub stands : QueueAt q h r s.past (s.heads q) (phases.Publish done) l.batch l.completed l.made u
 
-rows_same : (h : Header1) (r : SplitRing) (s : Scene) (l : Lane) (done : ℕ) (u : QueueState) (o : Option Step) → GoesOn h r s l done u → row_at u o ≡ table_row h s l.batch o
-rows_same h r s l done u None g = refl
-rows_same h r s l done u (Some step) g =
-    let side : used_side u.ring ≡ the_ring h.size = ap used_side g.stands.ring ∙ side_is r h.size g.main in
-    let used : u.next_used ≡ used_idx (the_ring h.size) s.memory = g.stands.used ∙ sym g.under.holds.ringed.used_idx_is in
+rows_same : (q : ℕ) (h : Header1) (r : SplitRing) (s : Scene) (l : Lane) (done : ℕ) (u : QueueState) (o : Option Step) → GoesOn q h r s l done u → row_at u o ≡ table_row q h s l.batch o
+rows_same q h r s l done u None g = refl
+rows_same q h r s l done u (Some step) g =
+    let side : used_side u.ring ≡ the_ring q h.size = ap used_side g.stands.ring ∙ side_is q r h.size g.main in
+    let used : u.next_used ≡ used_idx (the_ring q h.size) s.memory = g.stands.used ∙ sym g.under.holds.ringed.used_idx_is in
     ap (λ (x : Ring). row_of x u.next_used u.batch step) side
-    ∙ ap (λ (n : ℕ). row_of (the_ring h.size) n u.batch step) used
-    ∙ ap (λ (xs : List (ℕ × ℕ)). row_of (the_ring h.size) (used_idx (the_ring h.size) s.memory) xs step) g.stands.batch
+    ∙ ap (λ (n : ℕ). row_of (the_ring q h.size) n u.batch step) used
+    ∙ ap (λ (xs : List (ℕ × ℕ)). row_of (the_ring q h.size) (used_idx (the_ring q h.size) s.memory) xs step) g.stands.batch
 
-next_same : (h : Header1) (r : SplitRing) (s : Scene) (l : Lane) (done : ℕ) (u : QueueState) → GoesOn h r s l done u → next_step (length u.batch) u.phase ≡ slice_get (publish_steps (length l.batch)) done
-next_same h r s l done u g =
-    let many : length u.batch ≡ length l.batch = ap (λ (ks : List (ℕ × ℕ)). length ks) g.stands.batch ∙ length-map l.batch (spot_of h s.past (s.heads 0)) in
+next_same : (q : ℕ) (h : Header1) (r : SplitRing) (s : Scene) (l : Lane) (done : ℕ) (u : QueueState) → GoesOn q h r s l done u → next_step (length u.batch) u.phase ≡ slice_get (publish_steps (length l.batch)) done
+next_same q h r s l done u g =
+    let many : length u.batch ≡ length l.batch = ap (λ (ks : List (ℕ × ℕ)). length ks) g.stands.batch ∙ length-map l.batch (spot_of q h s.past (s.heads q)) in
     ap (λ (n : ℕ). next_step n u.phase) many ∙ ap (λ (p : Phase). next_step (length l.batch) p) g.stands.phase
 
 -- ---- what a step says
@@ -124,18 +125,18 @@ abbrev pub after_row : Header1 → Row → Scene → Scene
 after_row h y s = after_items h (items.Store SP5 M y.store.place y.store.bytes ∷ []) s
 
 -- used.idx was stored, which publishes the batch
-pub record MadeIndex (h : Header1) (s : Scene) (batch : List ℕ) (u : QueueState) (x : Stepped) (made : List Item) (y : Row) : Type 0 where
+pub record MadeIndex (q : ℕ) (h : Header1) (s : Scene) (batch : List ℕ) (u : QueueState) (x : Stepped) (made : List Item) (y : Row) : Type 0 where
   pub next : next_step (length u.batch) u.phase ≡ Some steps.Index
   pub tag : y.tag ≡ SP5
   pub said : x ≡ says.Published
-  pub items : made ≡ items.Store SP5 M y.store.place y.store.bytes ∷ items.Made (entries.Publish 0 (map (answer_at 0 (after_row h y s)) batch)) ∷ []
+  pub items : made ≡ items.Store SP5 M y.store.place y.store.bytes ∷ items.Made (entries.Publish q (map (answer_at q (after_row h y s)) batch)) ∷ []
 
 -- what a step of a publication under way made and left
-pub record MadeRow (h : Header1) (r : SplitRing) (s : Scene) (batch : List ℕ) (x : Stepped) (u u' : QueueState) (t : Turned) (y : Row) : Type 0 where
+pub record MadeRow (q : ℕ) (h : Header1) (r : SplitRing) (s : Scene) (batch : List ℕ) (x : Stepped) (u u' : QueueState) (t : Turned) (y : Row) : Type 0 where
   pub row : next_row u ≡ Some y
   pub space : y.store.space ≡ 0
-  pub which : MadeElement u x t.items y ⊎ MadeIndex h s batch u x t.items y
-  pub stands : StandsAfter h r s t u'
+  pub which : MadeElement u x t.items y ⊎ MadeIndex q h s batch u x t.items y
+  pub stands : StandsAfter q h r s t u'
 
 -- the step, and what it does of the queue
 pub record DoesStep (x : Stepped) (u u' : QueueState) : Type 0 where
@@ -143,27 +144,27 @@ pub record DoesStep (x : Stepped) (u u' : QueueState) : Type 0 where
   pub moves : Moves x (next_row u) u u'
 
 -- the lane after a step that isn't the last
-goes_lane : (h : Header1) (r : SplitRing) (s : Scene) (l : Lane) (done : ℕ) (u u' : QueueState) → GoesOn h r s l done u → done + 1 < 2 * length l.batch + 1 → u' ≡ moved u
-    → QueueAt h r s.past (s.heads 0) (with_phase (after_step (length l.batch) (phases.Publish done)) (publishing done l)).phase (with_phase (after_step (length l.batch) (phases.Publish done)) (publishing done l)).batch l.completed l.made u'
-goes_lane h r s l done u u' g more is =
+goes_lane : (q : ℕ) (h : Header1) (r : SplitRing) (s : Scene) (l : Lane) (done : ℕ) (u u' : QueueState) → GoesOn q h r s l done u → done + 1 < 2 * length l.batch + 1 → u' ≡ moved u
+    → QueueAt q h r s.past (s.heads q) (with_phase (after_step (length l.batch) (phases.Publish done)) (publishing done l)).phase (with_phase (after_step (length l.batch) (phases.Publish done)) (publishing done l)).batch l.completed l.made u'
+goes_lane q h r s l done u u' g more is =
     let p : Phase = after_step (length l.batch) (phases.Publish done) in
     let left : nat_lt (done + 1) (length (publish_steps (length l.batch))) ≡ true = more_left (length l.batch) done more in
     let goes : p ≡ phases.Publish (done + 1) = ap (λ (b : Bool). cond {A = Phase} b (phases.Publish (done + 1)) phases.Rest) left in
     let publishes_on : is_publication p ≡ true = ap is_publication goes in
-    let after : QueueAt h r s.past (s.heads 0) p l.batch l.completed l.made (moved u) = at_row h r s.past (s.heads 0) (phases.Publish done) l.batch l.completed l.made u g.stands publishes_on in
-    let named : QueueAt h r s.past (s.heads 0) (phases.Publish (done + 1)) l.batch l.completed l.made (moved u) = subst (λ (x : Phase). QueueAt h r s.past (s.heads 0) x l.batch l.completed l.made (moved u)) goes after in
-    subst (λ (t : QueueState). QueueAt h r s.past (s.heads 0) (with_phase p (publishing done l)).phase (with_phase p (publishing done l)).batch l.completed l.made t) (sym is)
-    (subst (λ (x : Phase). QueueAt h r s.past (s.heads 0) (with_phase x (publishing done l)).phase (with_phase x (publishing done l)).batch l.completed l.made (moved u)) (sym goes) named)
+    let after : QueueAt q h r s.past (s.heads q) p l.batch l.completed l.made (moved u) = at_row q h r s.past (s.heads q) (phases.Publish done) l.batch l.completed l.made u g.stands publishes_on in
+    let named : QueueAt q h r s.past (s.heads q) (phases.Publish (done + 1)) l.batch l.completed l.made (moved u) = subst (λ (x : Phase). QueueAt q h r s.past (s.heads q) x l.batch l.completed l.made (moved u)) goes after in
+    subst (λ (t : QueueState). QueueAt q h r s.past (s.heads q) (with_phase p (publishing done l)).phase (with_phase p (publishing done l)).batch l.completed l.made t) (sym is)
+    (subst (λ (x : Phase). QueueAt q h r s.past (s.heads q) (with_phase x (publishing done l)).phase (with_phase x (publishing done l)).batch l.completed l.made (moved u)) (sym goes) named)
 
 -- what a step makes that stores this row and makes no entry
 abbrev element_turn : Lane → ℕ → Option Row → Turned
 element_turn l done o = record { items = row_items o ++ []; lane = with_phase (after_step (length l.batch) (phases.Publish done)) (publishing done l) }
 
-element_step : (h : Header1) (r : SplitRing) (s : Scene) (l : Lane) (done e : ℕ) (step : Step) (x : Stepped) (u u' : QueueState) (y : Row) → GoesOn h r s l done u → done + 1 < 2 * length l.batch + 1
-    → next_step (length u.batch) u.phase ≡ Some step → (Some step ≡ Some (steps.Id e)) ⊎ (Some step ≡ Some (steps.Len e)) → table_row h s l.batch (Some step) ≡ Some y → y.tag ≢ SP5 → y.store.space ≡ 0
-    → DoesStep x u u' → MadeRow h r s l.batch x u u' (element_turn l done (Some y)) y
-element_step h r s l done e step x u u' y g more next kind is other space does =
-    let row_is : next_row u ≡ Some y = ap (row_at u) next ∙ rows_same h r s l done u (Some step) g ∙ is in
+element_step : (q : ℕ) (h : Header1) (r : SplitRing) (s : Scene) (l : Lane) (done e : ℕ) (step : Step) (x : Stepped) (u u' : QueueState) (y : Row) → GoesOn q h r s l done u → done + 1 < 2 * length l.batch + 1
+    → next_step (length u.batch) u.phase ≡ Some step → (Some step ≡ Some (steps.Id e)) ⊎ (Some step ≡ Some (steps.Len e)) → table_row q h s l.batch (Some step) ≡ Some y → y.tag ≢ SP5 → y.store.space ≡ 0
+    → DoesStep x u u' → MadeRow q h r s l.batch x u u' (element_turn l done (Some y)) y
+element_step q h r s l done e step x u u' y g more next kind is other space does =
+    let row_is : next_row u ≡ Some y = ap (row_at u) next ∙ rows_same q h r s l done u (Some step) g ∙ is in
     let said = says_stored x y u u' other does.fine (subst (λ (o : Option Row). Moves x o u u') row_is does.moves) in
     record {
       row = row_is;
@@ -177,125 +178,125 @@ element_step h r s l done e step x u u' y g more next kind is other space does =
         said = said.0;
         items = refl;
       });
-      stands = goes_lane h r s l done u u' g more said.1;
+      stands = goes_lane q h r s l done u u' g more said.1;
     }
 
-id_step : (h : Header1) (r : SplitRing) (s : Scene) (l : Lane) (done e : ℕ) (x : Stepped) (u u' : QueueState) → GoesOn h r s l done u → e < length l.batch → done ≡ 2 * e → next_step (length u.batch) u.phase ≡ Some (steps.Id e)
-    → DoesStep x u u' → (y : Row) × MadeRow h r s l.batch x u u' (phase_turn h 0 s (publishing done l) (Some (steps.Id e))) y
-id_step h r s l done e x u u' g inside at next does =
+id_step : (q : ℕ) (h : Header1) (r : SplitRing) (s : Scene) (l : Lane) (done e : ℕ) (x : Stepped) (u u' : QueueState) → GoesOn q h r s l done u → e < length l.batch → done ≡ 2 * e → next_step (length u.batch) u.phase ≡ Some (steps.Id e)
+    → DoesStep x u u' → (y : Row) × MadeRow q h r s l.batch x u u' (phase_turn h q s (publishing done l) (Some (steps.Id e))) y
+id_step q h r s l done e x u u' g inside at next does =
     let k : ℕ = slice_index l.batch e in
-    let y : Row = row (the_ring h.size) SP1 (used_id_place (the_ring h.size) (used_idx (the_ring h.size) s.memory + e)) (little_bytes 4 (slice_index (s.heads 0) k)) in
-    let is : table_row h s l.batch (Some (steps.Id e)) ≡ Some y =
-    ap (option_map (λ (z : ℕ × ℕ). row (the_ring h.size) SP1 (used_id_place (the_ring h.size) (used_idx (the_ring h.size) s.memory + e)) (little_bytes 4 z.0))) (get_map (element_of h 0 s) l.batch e inside) in
-    let made : MadeRow h r s l.batch x u u' (element_turn l done (Some y)) y =
-    element_step h r s l done e (steps.Id e) x u u' y g (omega arith) next (inl refl) is (λ fails. cc) refl does in
-    (y, subst (λ (o : Option Row). MadeRow h r s l.batch x u u' (element_turn l done o) y) (sym is) made)
+    let y : Row = row (the_ring q h.size) SP1 (used_id_place (the_ring q h.size) (used_idx (the_ring q h.size) s.memory + e)) (little_bytes 4 (slice_index (s.heads q) k)) in
+    let is : table_row q h s l.batch (Some (steps.Id e)) ≡ Some y =
+    ap (option_map (λ (z : ℕ × ℕ). row (the_ring q h.size) SP1 (used_id_place (the_ring q h.size) (used_idx (the_ring q h.size) s.memory + e)) (little_bytes 4 z.0))) (get_map (element_of h q s) l.batch e inside) in
+    let made : MadeRow q h r s l.batch x u u' (element_turn l done (Some y)) y =
+    element_step q h r s l done e (steps.Id e) x u u' y g (omega arith) next (inl refl) is (λ fails. cc) refl does in
+    (y, subst (λ (o : Option Row). MadeRow q h r s l.batch x u u' (element_turn l done o) y) (sym is) made)
 
-len_step : (h : Header1) (r : SplitRing) (s : Scene) (l : Lane) (done e : ℕ) (x : Stepped) (u u' : QueueState) → GoesOn h r s l done u → e < length l.batch → done ≡ 2 * e + 1 → next_step (length u.batch) u.phase ≡ Some (steps.Len e)
-    → DoesStep x u u' → (y : Row) × MadeRow h r s l.batch x u u' (phase_turn h 0 s (publishing done l) (Some (steps.Len e))) y
-len_step h r s l done e x u u' g inside at next does =
+len_step : (q : ℕ) (h : Header1) (r : SplitRing) (s : Scene) (l : Lane) (done e : ℕ) (x : Stepped) (u u' : QueueState) → GoesOn q h r s l done u → e < length l.batch → done ≡ 2 * e + 1 → next_step (length u.batch) u.phase ≡ Some (steps.Len e)
+    → DoesStep x u u' → (y : Row) × MadeRow q h r s l.batch x u u' (phase_turn h q s (publishing done l) (Some (steps.Len e))) y
+len_step q h r s l done e x u u' g inside at next does =
     let k : ℕ = slice_index l.batch e in
-    let y : Row = row (the_ring h.size) SP2 (used_len_place (the_ring h.size) (used_idx (the_ring h.size) s.memory + e)) (little_bytes 4 (element_of h 0 s k).1) in
-    let is : table_row h s l.batch (Some (steps.Len e)) ≡ Some y =
-    ap (option_map (λ (z : ℕ × ℕ). row (the_ring h.size) SP2 (used_len_place (the_ring h.size) (used_idx (the_ring h.size) s.memory + e)) (little_bytes 4 z.1))) (get_map (element_of h 0 s) l.batch e inside) in
-    let made : MadeRow h r s l.batch x u u' (element_turn l done (Some y)) y =
-    element_step h r s l done e (steps.Len e) x u u' y g (omega arith) next (inr refl) is (λ fails. cc) refl does in
-    (y, subst (λ (o : Option Row). MadeRow h r s l.batch x u u' (element_turn l done o) y) (sym is) made)
+    let y : Row = row (the_ring q h.size) SP2 (used_len_place (the_ring q h.size) (used_idx (the_ring q h.size) s.memory + e)) (little_bytes 4 (element_of h q s k).1) in
+    let is : table_row q h s l.batch (Some (steps.Len e)) ≡ Some y =
+    ap (option_map (λ (z : ℕ × ℕ). row (the_ring q h.size) SP2 (used_len_place (the_ring q h.size) (used_idx (the_ring q h.size) s.memory + e)) (little_bytes 4 z.1))) (get_map (element_of h q s) l.batch e inside) in
+    let made : MadeRow q h r s l.batch x u u' (element_turn l done (Some y)) y =
+    element_step q h r s l done e (steps.Len e) x u u' y g (omega arith) next (inr refl) is (λ fails. cc) refl does in
+    (y, subst (λ (o : Option Row). MadeRow q h r s l.batch x u u' (element_turn l done o) y) (sym is) made)
 
 -- ---- the last step
 
 -- what a step makes that stores this row and publishes the batch, and whether more steps follow
-abbrev index_turn : Header1 → Scene → Lane → ℕ → Row → Phase → Turned
-index_turn h s l done y p = record {
-  items = items.Store SP5 M y.store.place y.store.bytes ∷ items.Made (entries.Publish 0 (map (answer_at 0 (after_row h y s)) l.batch)) ∷ [];
+abbrev index_turn : ℕ → Header1 → Scene → Lane → ℕ → Row → Phase → Turned
+index_turn q h s l done y p = record {
+  items = items.Store SP5 M y.store.place y.store.bytes ∷ items.Made (entries.Publish q (map (answer_at q (after_row h y s)) l.batch)) ∷ [];
   lane = with_phase p (publishing done l);
 }
 
-index_step : (h : Header1) (r : SplitRing) (s : Scene) (l : Lane) (done : ℕ) (x : Stepped) (u u' : QueueState) → GoesOn h r s l done u → done ≡ 2 * length l.batch → next_step (length u.batch) u.phase ≡ Some steps.Index
-    → DoesStep x u u' → (y : Row) × MadeRow h r s l.batch x u u' (phase_turn h 0 s (publishing done l) (Some steps.Index)) y
-index_step h r s l done x u u' g whole next does =
-    let y : Row = row (the_ring h.size) SP5 (used_idx_place (the_ring h.size)) (little_bytes 2 ((used_idx (the_ring h.size) s.memory + length (map (element_of h 0 s) l.batch)) % 65536)) in
-    let list : List Answered = map (answer_at 0 (after_row h y s)) l.batch in
+index_step : (q : ℕ) (h : Header1) (r : SplitRing) (s : Scene) (l : Lane) (done : ℕ) (x : Stepped) (u u' : QueueState) → GoesOn q h r s l done u → done ≡ 2 * length l.batch → next_step (length u.batch) u.phase ≡ Some steps.Index
+    → DoesStep x u u' → (y : Row) × MadeRow q h r s l.batch x u u' (phase_turn h q s (publishing done l) (Some steps.Index)) y
+index_step q h r s l done x u u' g whole next does =
+    let y : Row = row (the_ring q h.size) SP5 (used_idx_place (the_ring q h.size)) (little_bytes 2 ((used_idx (the_ring q h.size) s.memory + length (map (element_of h q s) l.batch)) % 65536)) in
+    let list : List Answered = map (answer_at q (after_row h y s)) l.batch in
     let p : Phase = after_step (length l.batch) (phases.Publish done) in
     let ends : p ≡ phases.Rest = ap (λ (b : Bool). cond {A = Phase} b (phases.Publish (done + 1)) phases.Rest) (none_left (length l.batch) done whole) in
-    let row_is : next_row u ≡ Some y = ap (row_at u) next ∙ rows_same h r s l done u (Some steps.Index) g in
+    let row_is : next_row u ≡ Some y = ap (row_at u) next ∙ rows_same q h r s l done u (Some steps.Index) g in
     let rests : (moved u).phase ≡ phases.Rest =
-    ap (λ (t : QueueState). t.phase) (moved_is h r s.past (s.heads 0) (phases.Publish done) l.batch l.completed l.made u g.stands) ∙ ap (λ (z : Phase). (states.with_phase z u).phase) ends in
+    ap (λ (t : QueueState). t.phase) (moved_is q h r s.past (s.heads q) (phases.Publish done) l.batch l.completed l.made u g.stands) ∙ ap (λ (z : Phase). (states.with_phase z u).phase) ends in
     let said = says_published x y u u' rests does.fine (subst (λ (o : Option Row). Moves x o u u') row_is does.moves) in
-    let shown : QueueAt h r (entries.Publish 0 list ∷ s.past) (s.heads 0) phases.Rest [] l.completed l.made (moved u) =
-    at_show h r s.past (s.heads 0) (phases.Publish done) l.batch l.completed l.made u list ends (numbers_answers (after_row h y s) l.batch) g.stands in
-    let rest : StandsAfter h r s (index_turn h s l done y phases.Rest) u' = subst (λ (t : QueueState). QueueAt h r (entries.Publish 0 list ∷ s.past) (s.heads 0) phases.Rest [] l.completed l.made t) (sym said.1) shown in
-    let stands : StandsAfter h r s (index_turn h s l done y p) u' = subst (λ (z : Phase). StandsAfter h r s (index_turn h s l done y z) u') (sym ends) rest in
+    let shown : QueueAt q h r (entries.Publish q list ∷ s.past) (s.heads q) phases.Rest [] l.completed l.made (moved u) =
+    at_show q h r s.past (s.heads q) (phases.Publish done) l.batch l.completed l.made u list ends (numbers_answers q (after_row h y s) l.batch) g.stands in
+    let rest : StandsAfter q h r s (index_turn q h s l done y phases.Rest) u' = subst (λ (t : QueueState). QueueAt q h r (entries.Publish q list ∷ s.past) (s.heads q) phases.Rest [] l.completed l.made t) (sym said.1) shown in
+    let stands : StandsAfter q h r s (index_turn q h s l done y p) u' = subst (λ (z : Phase). StandsAfter q h r s (index_turn q h s l done y z) u') (sym ends) rest in
     (y, record { row = row_is; space = refl; which = inr (record { next = next; tag = refl; said = said.0; items = refl }); stands = stands })
 
 -- the step that is next, whichever it is
-pub step_stands : (h : Header1) (r : SplitRing) (s : Scene) (l : Lane) (done : ℕ) (x : Stepped) (u u' : QueueState) → GoesOn h r s l done u → DoesStep x u u'
-    → (y : Row) × MadeRow h r s l.batch x u u' (phase_goes_on h 0 s (publishing done l)) y
-step_stands h r s l done x u u' g does =
-    let w : Worked s.past (phases.Publish done) l.batch l.completed l.made = g.under.holds.worked in
+pub step_stands : (q : ℕ) (h : Header1) (r : SplitRing) (s : Scene) (l : Lane) (done : ℕ) (x : Stepped) (u u' : QueueState) → GoesOn q h r s l done u → DoesStep x u u'
+    → (y : Row) × MadeRow q h r s l.batch x u u' (phase_goes_on h q s (publishing done l)) y
+step_stands q h r s l done x u u' g does =
+    let w : Worked q s.past (phases.Publish done) l.batch l.completed l.made = g.under.holds.worked in
     let some : (0 < length l.batch) × (done < 2 * length l.batch + 1) = w.phase_is in
-    go (slice_get (publish_steps (length l.batch)) done) (step_at 0 (length l.batch) done some.1) (next_same h r s l done u g)
+    go (slice_get (publish_steps (length l.batch)) done) (step_at 0 (length l.batch) done some.1) (next_same q h r s l done u g)
   where
     P : Option Step → Type 0
-    P o = (y : Row) × MadeRow h r s l.batch x u u' (phase_turn h 0 s (publishing done l) o) y
+    P o = (y : Row) × MadeRow q h r s l.batch x u u' (phase_turn h q s (publishing done l) o) y
 
     go : (o : Option Step) → StepAt 0 (length l.batch) done o → next_step (length u.batch) u.phase ≡ o → P o
     go o (AtId e inside at is) next =
         let same : o ≡ Some (steps.Id e) = is ∙ ap (λ (k : ℕ). Some (steps.Id k)) (let bare : 0 + e ≡ e = omega arith in bare) in
-        subst P (sym same) (id_step h r s l done e x u u' g inside at (next ∙ same) does)
+        subst P (sym same) (id_step q h r s l done e x u u' g inside at (next ∙ same) does)
     go o (AtLen e inside at is) next =
         let same : o ≡ Some (steps.Len e) = is ∙ ap (λ (k : ℕ). Some (steps.Len k)) (let bare : 0 + e ≡ e = omega arith in bare) in
-        subst P (sym same) (len_step h r s l done e x u u' g inside at (next ∙ same) does)
-    go o (AtIndex at is) next = subst P (sym is) (index_step h r s l done x u u' g at (next ∙ is) does)
+        subst P (sym same) (len_step q h r s l done e x u u' g inside at (next ∙ same) does)
+    go o (AtIndex at is) next = subst P (sym is) (index_step q h r s l done x u u' g at (next ∙ is) does)
 
 -- ---- a publication that is ready
 
 -- what a publication's turn says, makes and leaves
-pub record HasPublished (h : Header1) (r : SplitRing) (m : Moment) (most : ℕ) (x : Stepped) (q q' : QueueState) (y : Row) : Type 0 where
-  pub row : publish_row most q ≡ Some y
+pub record HasPublished (q : ℕ) (h : Header1) (r : SplitRing) (m : Moment) (most : ℕ) (x : Stepped) (state state' : QueueState) (y : Row) : Type 0 where
+  pub row : publish_row most state ≡ Some y
   pub space : y.store.space ≡ 0
-  pub which : MadeElement (states.under_way most q) x (turned h 0 (turns.Publish most) m).items y ⊎ MadeIndex h m.scene (under_way (turns.Publish most) (m.lanes 0)).batch (states.under_way most q) x (turned h 0 (turns.Publish most) m).items y
-  pub stands : QueueStands h r (one_turn h 0 (turns.Publish most) m).next q'
+  pub which : MadeElement (states.under_way most state) x (turned h q (turns.Publish most) m).items y ⊎ MadeIndex q h m.scene (under_way (turns.Publish most) (m.lanes q)).batch (states.under_way most state) x (turned h q (turns.Publish most) m).items y
+  pub stands : QueueStands q h r (one_turn h q (turns.Publish most) m).next state'
 
 -- the step of the lane's publication, begun or gone on with
-abbrev WhatIsMade : Header1 → SplitRing → Scene → ℕ → Stepped → QueueState → QueueState → Lane → Type 0
-WhatIsMade h r s most x u u' l = (y : Row) × MadeRow h r s (under_way (turns.Publish most) l).batch x u u' (phase_goes_on h 0 s (under_way (turns.Publish most) l)) y
+abbrev WhatIsMade : ℕ → Header1 → SplitRing → Scene → ℕ → Stepped → QueueState → QueueState → Lane → Type 0
+WhatIsMade q h r s most x u u' l = (y : Row) × MadeRow q h r s (under_way (turns.Publish most) l).batch x u u' (phase_goes_on h q s (under_way (turns.Publish most) l)) y
 
-begin_stands : (h : Header1) (r : SplitRing) (m : Moment) (most : ℕ) (x : Stepped) (q u' : QueueState) → IsPlain h → Good h m → IsMainRing r h.size → QueueStands h r m q → is_ready (standing h 0 m) (turns.Publish most) ≡ true
-    → (m.lanes 0).phase ≡ phases.Rest → (m.lanes 0).batch ≡ [] → DoesStep x (states.under_way most q) u' → WhatIsMade h r m.scene most x (states.under_way most q) u' (m.lanes 0)
-begin_stands h r m most x q u' plain good main z ready rest none does =
-    let l : Lane = m.lanes 0 in
+begin_stands : (q : ℕ) (h : Header1) (r : SplitRing) (m : Moment) (most : ℕ) (x : Stepped) (state u' : QueueState) → IsPlain h → Good q h m → LiesAs q r h.size → QueueStands q h r m state → is_ready (standing h q m) (turns.Publish most) ≡ true
+    → (m.lanes q).phase ≡ phases.Rest → (m.lanes q).batch ≡ [] → DoesStep x (states.under_way most state) u' → WhatIsMade q h r m.scene most x (states.under_way most state) u' (m.lanes q)
+begin_stands q h r m most x state u' plain good main z ready rest none does =
+    let l : Lane = m.lanes q in
     let s : Scene = m.scene in
-    let u : QueueState = states.under_way most q in
-    let run : started s.past 0 ≡ true = grind (arith, nat_tests) in
+    let u : QueueState = states.under_way most state in
+    let run : started s.past q ≡ true = grind (arith, nat_tests) in
     let same : resting l ≡ l = rest_is l rest none in
-    let at_rest : Holds h s (resting l) = subst (λ (y : Lane). Holds h s y) (sym same) good.holds in
-    let z_rest : QueueAt h r s.past (s.heads 0) phases.Rest [] l.completed l.made q = subst (λ (y : Lane). QueueAt h r s.past (s.heads 0) y.phase y.batch y.completed y.made q) (sym same) z in
+    let at_rest : Holds q h s (resting l) = subst (λ (y : Lane). Holds q h s y) (sym same) good.holds in
+    let z_rest : QueueAt q h r s.past (s.heads q) phases.Rest [] l.completed l.made state = subst (λ (y : Lane). QueueAt q h r s.past (s.heads q) y.phase y.batch y.completed y.made state) (sym same) z in
     let quiet : is_publication l.phase ≡ false = ap is_publication rest in
     let some : 0 < most = grind (arith, nat_tests) in
     let any : 0 < length l.completed = grind (arith, nat_tests) in
-    let begins : states.begun most q ≡ u = sym (ap (λ (b : Bool). cond {A = QueueState} b q (states.begun most q)) (ap is_publication (z.phase ∙ rest))) in
-    let under : IsUnderWay h s (taking most l) 0 = record { good = plain.good; back = plain.back; started = run; holds = taking_holds h s l most some any run at_rest } in
-    let stands : QueueAt h r s.past (s.heads 0) (phases.Publish 0) (take most l.completed) (drop most l.completed) l.made u =
-    subst (λ (t : QueueState). QueueAt h r s.past (s.heads 0) (phases.Publish 0) (take most l.completed) (drop most l.completed) l.made t) begins (at_begin h r s.past (s.heads 0) l.completed l.made q most z_rest) in
-    let from_there : WhatIsMade h r s most x u u' (resting l) = step_stands h r s (taking most l) 0 x u u' (record { main = main; under = under; stands = stands }) does in
-    subst (λ (y : Lane). WhatIsMade h r s most x u u' y) same from_there
+    let begins : states.begun most state ≡ u = sym (ap (λ (b : Bool). cond {A = QueueState} b state (states.begun most state)) (ap is_publication (z.phase ∙ rest))) in
+    let under : IsUnderWay q h s (taking most l) 0 = record { good = plain.good; back = plain.back; started = run; holds = taking_holds q h s l most some any run at_rest } in
+    let stands : QueueAt q h r s.past (s.heads q) (phases.Publish 0) (take most l.completed) (drop most l.completed) l.made u =
+    subst (λ (t : QueueState). QueueAt q h r s.past (s.heads q) (phases.Publish 0) (take most l.completed) (drop most l.completed) l.made t) begins (at_begin q h r s.past (s.heads q) l.completed l.made state most z_rest) in
+    let from_there : WhatIsMade q h r s most x u u' (resting l) = step_stands q h r s (taking most l) 0 x u u' (record { main = main; under = under; stands = stands }) does in
+    subst (λ (y : Lane). WhatIsMade q h r s most x u u' y) same from_there
 
-on_stands : (h : Header1) (r : SplitRing) (m : Moment) (most done : ℕ) (x : Stepped) (q u' : QueueState) → IsPlain h → Good h m → IsMainRing r h.size → QueueStands h r m q → is_ready (standing h 0 m) (turns.Publish most) ≡ true
-    → (m.lanes 0).phase ≡ phases.Publish done → DoesStep x (states.under_way most q) u' → WhatIsMade h r m.scene most x (states.under_way most q) u' (m.lanes 0)
-on_stands h r m most done x q u' plain good main z ready shows does =
-    let l : Lane = m.lanes 0 in
+on_stands : (q : ℕ) (h : Header1) (r : SplitRing) (m : Moment) (most done : ℕ) (x : Stepped) (state u' : QueueState) → IsPlain h → Good q h m → LiesAs q r h.size → QueueStands q h r m state → is_ready (standing h q m) (turns.Publish most) ≡ true
+    → (m.lanes q).phase ≡ phases.Publish done → DoesStep x (states.under_way most state) u' → WhatIsMade q h r m.scene most x (states.under_way most state) u' (m.lanes q)
+on_stands q h r m most done x state u' plain good main z ready shows does =
+    let l : Lane = m.lanes q in
     let s : Scene = m.scene in
-    let u : QueueState = states.under_way most q in
-    let run : started s.past 0 ≡ true = grind (arith, nat_tests) in
+    let u : QueueState = states.under_way most state in
+    let run : started s.past q ≡ true = grind (arith, nat_tests) in
     let same : publishing done l ≡ l = ap (λ (p : Phase). record l { phase = p }) (sym shows) in
-    let held : Holds h s (publishing done l) = subst (λ (y : Lane). Holds h s y) (sym same) good.holds in
-    let z_on : QueueAt h r s.past (s.heads 0) (phases.Publish done) l.batch l.completed l.made q = subst (λ (y : Lane). QueueAt h r s.past (s.heads 0) y.phase y.batch y.completed y.made q) (sym same) z in
-    let goes : q ≡ u = sym (ap (λ (b : Bool). cond {A = QueueState} b q (states.begun most q)) (ap is_publication (z.phase ∙ shows))) in
-    let under : IsUnderWay h s l done = record { good = plain.good; back = plain.back; started = run; holds = held } in
-    let stands : QueueAt h r s.past (s.heads 0) (phases.Publish done) l.batch l.completed l.made u = subst (λ (t : QueueState). QueueAt h r s.past (s.heads 0) (phases.Publish done) l.batch l.completed l.made t) goes z_on in
-    let from_there : WhatIsMade h r s most x u u' (publishing done l) = step_stands h r s l done x u u' (record { main = main; under = under; stands = stands }) does in
-    subst (λ (y : Lane). WhatIsMade h r s most x u u' y) same from_there
+    let held : Holds q h s (publishing done l) = subst (λ (y : Lane). Holds q h s y) (sym same) good.holds in
+    let z_on : QueueAt q h r s.past (s.heads q) (phases.Publish done) l.batch l.completed l.made state = subst (λ (y : Lane). QueueAt q h r s.past (s.heads q) y.phase y.batch y.completed y.made state) (sym same) z in
+    let goes : state ≡ u = sym (ap (λ (b : Bool). cond {A = QueueState} b state (states.begun most state)) (ap is_publication (z.phase ∙ shows))) in
+    let under : IsUnderWay q h s l done = record { good = plain.good; back = plain.back; started = run; holds = held } in
+    let stands : QueueAt q h r s.past (s.heads q) (phases.Publish done) l.batch l.completed l.made u = subst (λ (t : QueueState). QueueAt q h r s.past (s.heads q) (phases.Publish done) l.batch l.completed l.made t) goes z_on in
+    let from_there : WhatIsMade q h r s most x u u' (publishing done l) = step_stands q h r s l done x u u' (record { main = main; under = under; stands = stands }) does in
+    subst (λ (y : Lane). WhatIsMade q h r s most x u u' y) same from_there
 
 -- no step of a publication breaks a rule or fails, so it halts nothing
 runs_on : (x : Stepped) (u u' : QueueState) (o : Option Row) → is_fault x ≡ false → Moves x o u u' → states.halted x u' ≡ u'
@@ -327,26 +328,26 @@ runs_on x u u' None fine moves = absurd (no_moves x moves)
     no_moves says.Started moves = moves
     no_moves (says.Broken fault) moves = moves
 
-pub row_stands : (h : Header1) (r : SplitRing) (m : Moment) (most : ℕ) (told : Option Bytes) (x : Stepped) (q q' : QueueState) → IsPlain h → Good h m → IsMainRing r h.size → QueueStands h r m q
-    → is_ready (standing h 0 m) (turns.Publish most) ≡ true → is_fault x ≡ false → Turns (turns.Publish most) told x q q' → (y : Row) × HasPublished h r m most x q q' y
-row_stands h r m most told x q q' plain good main z ready fine made =
-    let l : Lane = m.lanes 0 in
-    let u : QueueState = states.under_way most q in
-    let now : publishes most q ≡ true = ready_same h r m q (turns.Publish most) main z ∙ ready in
-    let does = does_of (turns.Publish most) told x q q' made fine in
-    let moves : Moves x (next_row u) u made.0 = subst (λ (b : Bool). Publishes b x q u made.0) now does in
-    let after : made.0 ≡ q' = sym (made.1 ∙ runs_on x u made.0 (next_row u) fine moves) in
-    let step : DoesStep x u q' = record { fine = fine; moves = subst (λ (t : QueueState). Moves x (next_row u) u t) after moves } in
-    let is : WhatIsMade h r m.scene most x u q' l = elim (phase_cases l.batch l.phase good.holds.worked.phase_is) [
-      | inl rest ↦ begin_stands h r m most x q q' plain good main z ready rest.0 rest.1 step
-      | inr shows ↦ on_stands h r m most shows.0 x q q' plain good main z ready shows.1 step
+pub row_stands : (q : ℕ) (h : Header1) (r : SplitRing) (m : Moment) (most : ℕ) (told : Option Bytes) (x : Stepped) (state state' : QueueState) → IsPlain h → Good q h m → LiesAs q r h.size → QueueStands q h r m state
+    → is_ready (standing h q m) (turns.Publish most) ≡ true → is_fault x ≡ false → Turns (turns.Publish most) told x state state' → (y : Row) × HasPublished q h r m most x state state' y
+row_stands q h r m most told x state state' plain good main z ready fine made =
+    let l : Lane = m.lanes q in
+    let u : QueueState = states.under_way most state in
+    let now : publishes most state ≡ true = ready_same q h r m state (turns.Publish most) main z ∙ ready in
+    let does = does_of (turns.Publish most) told x state state' made fine in
+    let moves : Moves x (next_row u) u made.0 = subst (λ (b : Bool). Publishes b x state u made.0) now does in
+    let after : made.0 ≡ state' = sym (made.1 ∙ runs_on x u made.0 (next_row u) fine moves) in
+    let step : DoesStep x u state' = record { fine = fine; moves = subst (λ (t : QueueState). Moves x (next_row u) u t) after moves } in
+    let is : WhatIsMade q h r m.scene most x u state' l = elim (phase_cases l.batch l.phase good.holds.worked.phase_is) [
+      | inl rest ↦ begin_stands q h r m most x state state' plain good main z ready rest.0 rest.1 step
+      | inr shows ↦ on_stands q h r m most shows.0 x state state' plain good main z ready shows.1 step
     ] in (
       is.0,
       record {
         row = ap (λ (b : Bool). states.row_if b u) now ∙ is.1.row;
         space = is.1.space;
         which = is.1.which;
-        stands = stands_after h r m (turns.Publish most) q' is.1.stands;
+        stands = stands_after q h r m (turns.Publish most) state' is.1.stands;
       },
     )
 
@@ -361,7 +362,7 @@ first_is n some = elim (step_at 0 n 0 (omega arith)) [
 ]
 
 abbrev pub ShowsNext : QueueState → Type 0
-ShowsNext q = next_step (length q.batch) q.phase ≡ Some steps.Index
+ShowsNext state = next_step (length state.batch) state.phase ≡ Some steps.Index
 
 -- a queue whose next step shows its batch goes on
 pub shows_goes : (p : Phase) (n : ℕ) → next_step n p ≡ Some steps.Index → is_publication p ≡ true
@@ -378,8 +379,8 @@ shows_goes (phases.Fetch done) n next = absurd (no_fetch done next)
     no_fetch (suc d) e = let fails : None ≡ Some steps.Index = e in cc
 shows_goes (phases.Publish done) n next = refl
 
-pub goes_under_way : (q : QueueState) (most : ℕ) → is_publication q.phase ≡ true → states.under_way most q ≡ q
-goes_under_way q most goes = ap (λ (b : Bool). cond {A = QueueState} b q (states.begun most q)) goes
+pub goes_under_way : (state : QueueState) (most : ℕ) → is_publication state.phase ≡ true → states.under_way most state ≡ state
+goes_under_way state most goes = ap (λ (b : Bool). cond {A = QueueState} b state (states.begun most state)) goes
 
 lane_goes : (l : Lane) (most : ℕ) → is_publication l.phase ≡ true → under_way (turns.Publish most) l ≡ l
 lane_goes l most goes = ap (λ (b : Bool). cond {A = Lane} b (begun (turns.Publish most) l) l) (not_rest l.phase goes)
@@ -391,17 +392,17 @@ lane_goes l most goes = ap (λ (b : Bool). cond {A = Lane} b (begun (turns.Publi
     not_rest (phases.Publish done) e = refl
 
 -- the store of used.idx, where it was next before the turn: it shows the lane's batch
-pub record HasShown (h : Header1) (m : Moment) (most : ℕ) (x : Stepped) (y : Row) : Type 0 where
+pub record HasShown (q : ℕ) (h : Header1) (m : Moment) (most : ℕ) (x : Stepped) (y : Row) : Type 0 where
   pub tag : y.tag ≡ SP5
   pub said : x ≡ says.Published
-  pub items : (turned h 0 (turns.Publish most) m).items ≡ items.Store SP5 M y.store.place y.store.bytes ∷ items.Made (entries.Publish 0 (map (answer_at 0 (after_row h y m.scene)) (m.lanes 0).batch)) ∷ []
+  pub items : (turned h q (turns.Publish most) m).items ≡ items.Store SP5 M y.store.place y.store.bytes ∷ items.Made (entries.Publish q (map (answer_at q (after_row h y m.scene)) (m.lanes q).batch)) ∷ []
 
-pub shown_stands : (h : Header1) (r : SplitRing) (m : Moment) (most : ℕ) (x : Stepped) (q q' : QueueState) (y : Row) → QueueStands h r m q → HasPublished h r m most x q q' y → ShowsNext q → HasShown h m most x y
-shown_stands h r m most x q q' y z has next =
-    let goes : is_publication q.phase ≡ true = shows_goes q.phase (length q.batch) next in
-    let same : states.under_way most q ≡ q = goes_under_way q most goes in
-    let lane : under_way (turns.Publish most) (m.lanes 0) ≡ m.lanes 0 = lane_goes (m.lanes 0) most (ap is_publication (sym z.phase) ∙ goes) in
-    let next_too : ShowsNext (states.under_way most q) = subst (λ (t : QueueState). ShowsNext t) (sym same) next in
+pub shown_stands : (q : ℕ) (h : Header1) (r : SplitRing) (m : Moment) (most : ℕ) (x : Stepped) (state state' : QueueState) (y : Row) → QueueStands q h r m state → HasPublished q h r m most x state state' y → ShowsNext state → HasShown q h m most x y
+shown_stands q h r m most x state state' y z has next =
+    let goes : is_publication state.phase ≡ true = shows_goes state.phase (length state.batch) next in
+    let same : states.under_way most state ≡ state = goes_under_way state most goes in
+    let lane : under_way (turns.Publish most) (m.lanes q) ≡ m.lanes q = lane_goes (m.lanes q) most (ap is_publication (sym z.phase) ∙ goes) in
+    let next_too : ShowsNext (states.under_way most state) = subst (λ (t : QueueState). ShowsNext t) (sym same) next in
     elim has.which [
       | inl part ↦ elim part.next [
         | inl id ↦ absurd (let fails : Some (steps.Id part.element) ≡ Some steps.Index = sym id ∙ next_too in cc)
@@ -410,15 +411,15 @@ shown_stands h r m most x q q' y z has next =
       | inr last ↦ record {
         tag = last.tag;
         said = last.said;
-        items = last.items ∙ ap (λ (l : Lane). items.Store SP5 M y.store.place y.store.bytes ∷ items.Made (entries.Publish 0 (map (answer_at 0 (after_row h y m.scene)) l.batch)) ∷ []) lane;
+        items = last.items ∙ ap (λ (l : Lane). items.Store SP5 M y.store.place y.store.bytes ∷ items.Made (entries.Publish q (map (answer_at q (after_row h y m.scene)) l.batch)) ∷ []) lane;
       }
     ]
 
 -- any other store makes no entry
-pub stored_stands : (h : Header1) (r : SplitRing) (m : Moment) (most : ℕ) (x : Stepped) (q q' : QueueState) (y : Row) → Good h m → QueueStands h r m q → is_ready (standing h 0 m) (turns.Publish most) ≡ true → HasPublished h r m most x q q' y
-    → (ShowsNext q → ⊥) → MadeElement (states.under_way most q) x (turned h 0 (turns.Publish most) m).items y
-stored_stands h r m most x q q' y good z ready has other =
-    let l : Lane = m.lanes 0 in
+pub stored_stands : (q : ℕ) (h : Header1) (r : SplitRing) (m : Moment) (most : ℕ) (x : Stepped) (state state' : QueueState) (y : Row) → Good q h m → QueueStands q h r m state → is_ready (standing h q m) (turns.Publish most) ≡ true → HasPublished q h r m most x state state' y
+    → (ShowsNext state → ⊥) → MadeElement (states.under_way most state) x (turned h q (turns.Publish most) m).items y
+stored_stands q h r m most x state state' y good z ready has other =
+    let l : Lane = m.lanes q in
     elim has.which [
       | inl part ↦ part
       | inr last ↦ absurd (elim (phase_cases l.batch l.phase good.holds.worked.phase_is) [
@@ -426,14 +427,14 @@ stored_stands h r m most x q q' y good z ready has other =
             let quiet : is_publication l.phase ≡ false = ap is_publication rest.0 in
             let some : 0 < most = grind (arith, nat_tests) in
             let any : 0 < length l.completed = grind (arith, nat_tests) in
-            let begins : states.under_way most q ≡ states.begun most q = ap (λ (b : Bool). cond {A = QueueState} b q (states.begun most q)) (ap is_publication (z.phase ∙ rest.0)) in
-            let many : length q.completed ≡ length l.completed = ap (λ (ks : List (ℕ × ℕ)). length ks) z.completed ∙ length-map l.completed (spot_of h m.scene.past (m.scene.heads 0)) in
-            let next : ShowsNext (states.begun most q) = subst (λ (t : QueueState). ShowsNext t) begins last.next in
-            let first : next_step (length (take most q.completed)) (phases.Publish 0) ≡ Some (steps.Id 0) = first_is (length (take most q.completed)) (omega (arith, length-take most q.completed, many, some, any)) in
+            let begins : states.under_way most state ≡ states.begun most state = ap (λ (b : Bool). cond {A = QueueState} b state (states.begun most state)) (ap is_publication (z.phase ∙ rest.0)) in
+            let many : length state.completed ≡ length l.completed = ap (λ (ks : List (ℕ × ℕ)). length ks) z.completed ∙ length-map l.completed (spot_of q h m.scene.past (m.scene.heads q)) in
+            let next : ShowsNext (states.begun most state) = subst (λ (t : QueueState). ShowsNext t) begins last.next in
+            let first : next_step (length (take most state.completed)) (phases.Publish 0) ≡ Some (steps.Id 0) = first_is (length (take most state.completed)) (omega (arith, length-take most state.completed, many, some, any)) in
             let fails : Some (steps.Id 0) ≡ Some steps.Index = sym first ∙ next in
             cc
         | inr shows ↦
-            let same : states.under_way most q ≡ q = goes_under_way q most (ap is_publication (z.phase ∙ shows.1)) in
+            let same : states.under_way most state ≡ state = goes_under_way state most (ap is_publication (z.phase ∙ shows.1)) in
             other (subst (λ (t : QueueState). ShowsNext t) same last.next)
       ])
     ]

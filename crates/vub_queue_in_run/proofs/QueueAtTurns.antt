@@ -28,7 +28,9 @@ use Rattle.vub_run.specs.Turns.{Turned, turned, under_way, phase_goes_on}
 use Rattle.vub_split.specs.Split.{avail_idx_word, head_word}
 use Rattle.vub_queue.specs.QueueState as states
 use Rattle.vub_queue.specs.QueueState.{QueueState, standing_at, Fetches, Breaks, BreaksBy, Publishes, publishes, DoesOf, Unless, Turns, is_fault}
-use Rattle.vub_queue_in_run.specs.QueueAt.{spot_of, QueueAt, IsMainRing, QueueStands}
+use Rattle.vub_queue_in_run.specs.QueueAt.{spot_of, QueueAt, LiesAs, QueueStands}
+use Rattle.vub_driver.specs.Layout.{area_place}
+use Rattle.vub_run_laws.proofs.RunOwn.{at_own}
 use Rattle.vub_run_laws.proofs.RunNumbers.{not_among-take}
 use Rattle.vub_run_laws.proofs.RunGood.{the_ring, IsOut, PhaseIs, Holds}
 use Rattle.vub_run_laws.proofs.RunFrames.{open_out}
@@ -42,42 +44,44 @@ standing_same : (a a' : Bool) (p p' : Phase) (w w' u u' c c' : ℕ) → a ≡ a'
     → ◌≡◌ {A = Standing} (record { started = a; phase = p; waiting = w; unfinished = u; completed = c }) (record { started = a'; phase = p'; waiting = w'; unfinished = u'; completed = c' })
 standing_same a a' p p' w w' u u' c c' ea ep ew eu ec = cc
 
-avail_word : (r : SplitRing) (n : ℕ) (m : Bytes) → IsMainRing r n → avail_idx_word r m ≡ avail_idx (the_ring n) m
-avail_word r n m main = ap (λ (s : ℕ). word 2 m s (r.avail.1 + 2)) main.avail_space ∙ ap (λ (p : ℕ). word 2 m 0 (p + 2)) main.avail
+avail_word : (q : ℕ) (r : SplitRing) (n : ℕ) (m : Bytes) → LiesAs q r n → avail_idx_word r m ≡ avail_idx (the_ring q n) m
+avail_word q r n m main = ap (λ (s : ℕ). word 2 m s (r.avail.1 + 2)) main.avail_space ∙ ap (λ (p : ℕ). word 2 m 0 (p + 2)) main.avail
 
 -- the queue's own count of what waits is the moment's
-waiting_is : (h : Header1) (r : SplitRing) (m : Moment) (q : QueueState) → IsMainRing r h.size → QueueStands h r m q
-    → states.waiting q m.scene.memory ≡ ahead (avail_idx (the_ring h.size) m.scene.memory) (h.base + accepted m.scene.past 0)
-waiting_is h r m q main z =
-    let position : ℕ = h.base + accepted m.scene.past 0 in
-    let word_is : avail_idx_word q.ring m.scene.memory ≡ avail_idx (the_ring h.size) m.scene.memory = ap (λ (x : SplitRing). avail_idx_word x m.scene.memory) z.ring ∙ avail_word r h.size m.scene.memory main in
+waiting_is : (q : ℕ) (h : Header1) (r : SplitRing) (m : Moment) (state : QueueState) → LiesAs q r h.size → QueueStands q h r m state
+    → states.waiting state m.scene.memory ≡ ahead (avail_idx (the_ring q h.size) m.scene.memory) (h.base + accepted m.scene.past q)
+waiting_is q h r m state main z =
+    let position : ℕ = h.base + accepted m.scene.past q in
+    let word_is : avail_idx_word state.ring m.scene.memory ≡ avail_idx (the_ring q h.size) m.scene.memory = ap (λ (x : SplitRing). avail_idx_word x m.scene.memory) z.ring ∙ avail_word q r h.size m.scene.memory main in
     let wraps : position % 65536 % 65536 ≡ position % 65536 = omega arith in
-    let from : q.next_avail % 65536 ≡ position % 65536 = ap (λ (a : ℕ). a % 65536) z.avail ∙ wraps in
+    let from : state.next_avail % 65536 ≡ position % 65536 = ap (λ (a : ℕ). a % 65536) z.avail ∙ wraps in
     omega (arith, word_is, from)
 
-pub standings : (h : Header1) (r : SplitRing) (m : Moment) (q : QueueState) → IsMainRing r h.size → QueueStands h r m q
-    → standing_at q (states.waiting q m.scene.memory) ≡ standing h 0 m
-standings h r m q main z =
-    let l : Lane = m.lanes 0 in
-    let many : length q.completed ≡ length l.completed = ap (λ (ks : List (ℕ × ℕ)). length ks) z.completed ∙ length-map l.completed (spot_of h m.scene.past (m.scene.heads 0)) in
-    let st : Standing = standing h 0 m in
-    standing_same q.started st.started q.phase st.phase (states.waiting q m.scene.memory) st.waiting (length q.unfinished) st.unfinished (length q.completed) st.completed z.started z.phase (waiting_is h r m q main z) z.count many
+pub standings : (q : ℕ) (h : Header1) (r : SplitRing) (m : Moment) (state : QueueState) → LiesAs q r h.size → QueueStands q h r m state
+    → standing_at state (states.waiting state m.scene.memory) ≡ standing h q m
+standings q h r m state main z =
+    let l : Lane = m.lanes q in
+    let many : length state.completed ≡ length l.completed = ap (λ (ks : List (ℕ × ℕ)). length ks) z.completed ∙ length-map l.completed (spot_of q h m.scene.past (m.scene.heads q)) in
+    let st : Standing = standing h q m in
+    standing_same state.started st.started state.phase st.phase (states.waiting state m.scene.memory) st.waiting (length state.unfinished) st.unfinished (length state.completed) st.completed z.started z.phase (waiting_is q h r m state main z) z.count many
 
 -- so the queue and the moment agree on what is ready
-pub ready_same : (h : Header1) (r : SplitRing) (m : Moment) (q : QueueState) (t : Turn) → IsMainRing r h.size → QueueStands h r m q → is_ready (standing_at q (states.waiting q m.scene.memory)) t ≡ is_ready (standing h 0 m) t
-ready_same h r m q t main z = ap (λ (s : Standing). is_ready s t) (standings h r m q main z)
+pub ready_same : (q : ℕ) (h : Header1) (r : SplitRing) (m : Moment) (state : QueueState) (t : Turn) → LiesAs q r h.size → QueueStands q h r m state → is_ready (standing_at state (states.waiting state m.scene.memory)) t ≡ is_ready (standing h q m) t
+ready_same q h r m state t main z = ap (λ (s : Standing). is_ready s t) (standings q h r m state main z)
 
 -- ---- what a turn that didn't fail does
 
-pub does_of : (t : Turn) (told : Option Bytes) (x : Stepped) (q q' : QueueState) (made : Turns t told x q q') → is_fault x ≡ false → DoesOf t told x q made.0
-does_of t told x q q' made fine = subst (λ (b : Bool). Unless b (DoesOf t told x q made.0)) fine made.2
+pub does_of : (t : Turn) (told : Option Bytes) (x : Stepped) (state state' : QueueState) (made : Turns t told x state state') → is_fault x ≡ false → DoesOf t told x state made.0
+does_of t told x state state' made fine = subst (λ (b : Bool). Unless b (DoesOf t told x state made.0)) fine made.2
 
 -- where the queue stands after these items
-abbrev pub StandsAfter : Header1 → SplitRing → Scene → Turned → QueueState → Type 0
-StandsAfter h r s t q = QueueAt h r (after_items h t.items s).past ((after_items h t.items s).heads 0) t.lane.phase t.lane.batch t.lane.completed t.lane.made q
+abbrev pub StandsAfter : ℕ → Header1 → SplitRing → Scene → Turned → QueueState → Type 0
+StandsAfter q h r s t state = QueueAt q h r (after_items h t.items s).past ((after_items h t.items s).heads q) t.lane.phase t.lane.batch t.lane.completed t.lane.made state
 
-pub stands_after : (h : Header1) (r : SplitRing) (m : Moment) (t : Turn) (q : QueueState) → StandsAfter h r m.scene (turned h 0 t m) q → QueueStands h r (one_turn h 0 t m).next q
-stands_after h r m t q z = z
+pub stands_after : (q : ℕ) (h : Header1) (r : SplitRing) (m : Moment) (t : Turn) (state : QueueState) → StandsAfter q h r m.scene (turned h q t m) state → QueueStands q h r (one_turn h q t m).next state
+stands_after q h r m t state z =
+    let now : Scene = after_items h (turned h q t m).items m.scene in
+    subst (λ (l : Lane). QueueAt q h r now.past (now.heads q) l.phase l.batch l.completed l.made state) (sym (at_own m.lanes q (turned h q t m).lane)) z
 
 -- ---- a start
 
@@ -89,124 +93,124 @@ asleep_is : (l : Lane) → l.phase ≡ phases.Rest → l.batch ≡ [] → l.comp
 asleep_is l phase batch completed =
     ap (λ (p : Phase). record l { phase = p; batch = []; completed = [] }) (sym phase) ∙ ap (λ (b : List ℕ). record l { batch = b; completed = [] }) (sym batch) ∙ ap (λ (c : List ℕ). record l { completed = c }) (sym completed)
 
-none_open : (past : List Entry) → accepted past 0 ≡ 0 → open_numbers past 0 ≡ []
-none_open past none = ap (missing_below (published past 0)) none
+none_open : (q : ℕ) (past : List Entry) → accepted past q ≡ 0 → open_numbers past q ≡ []
+none_open q past none = ap (missing_below (published past q)) none
 
 -- what a start says, makes and leaves
-pub record HasStarted (h : Header1) (r : SplitRing) (m : Moment) (x : Stepped) (q' : QueueState) : Type 0 where
+pub record HasStarted (q : ℕ) (h : Header1) (r : SplitRing) (m : Moment) (x : Stepped) (state' : QueueState) : Type 0 where
   pub said : x ≡ says.Started
-  pub made : (turned h 0 turns.Start m).items ≡ items.Made (entries.Start 0 []) ∷ []
-  pub stands : QueueStands h r (one_turn h 0 turns.Start m).next q'
+  pub made : (turned h q turns.Start m).items ≡ items.Made (entries.Start q []) ∷ []
+  pub stands : QueueStands q h r (one_turn h q turns.Start m).next state'
 
-pub start_stands : (h : Header1) (r : SplitRing) (m : Moment) (told : Option Bytes) (x : Stepped) (q q' : QueueState) → IsPlain h → Good h m → IsMainRing r h.size → QueueStands h r m q
-    → is_ready (standing h 0 m) turns.Start ≡ true → is_fault x ≡ false → Turns turns.Start told x q q' → HasStarted h r m x q'
-start_stands h r m told x q q' plain good main z ready fine made =
-    let l : Lane = m.lanes 0 in
+pub start_stands : (q : ℕ) (h : Header1) (r : SplitRing) (m : Moment) (told : Option Bytes) (x : Stepped) (state state' : QueueState) → IsPlain h → Good q h m → LiesAs q r h.size → QueueStands q h r m state
+    → is_ready (standing h q m) turns.Start ≡ true → is_fault x ≡ false → Turns turns.Start told x state state' → HasStarted q h r m x state'
+start_stands q h r m told x state state' plain good main z ready fine made =
+    let l : Lane = m.lanes q in
     let past : List Entry = m.scene.past in
-    let heads : List ℕ = m.scene.heads 0 in
-    let stopped : started past 0 ≡ false = grind (arith, nat_tests) in
+    let heads : List ℕ = m.scene.heads q in
+    let stopped : started past q ≡ false = grind (arith, nat_tests) in
     let quiet = good.holds.worked.quiet stopped in
     let batch : l.batch ≡ [] = subst (λ (p : Phase). PhaseIs l.batch p) quiet.0 good.holds.worked.phase_is in
     let same : asleep l ≡ l = asleep_is l quiet.0 batch quiet.1.0 in
-    let none : accepted past 0 ≡ 0 = good.idle stopped in
-    let does = does_of turns.Start told x q q' made fine in
+    let none : accepted past q ≡ 0 = good.idle stopped in
+    let does = does_of turns.Start told x state state' made fine in
     let said : x ≡ says.Started = does.0 ∙ ap (λ (b : Bool). cond {A = Stepped} b says.Idle says.Started) (z.started ∙ stopped) in
-    let after : q' ≡ record q { started = true } = made.1 ∙ ap (λ (y : Stepped). states.halted y made.0) said ∙ does.1 in
-    let at_rest : QueueAt h r past heads phases.Rest [] [] l.made q = subst (λ (y : Lane). QueueAt h r past heads y.phase y.batch y.completed y.made q) (sym same) z in
-    let begins : StandsAfter h r m.scene (phase_goes_on h 0 m.scene (under_way turns.Start (asleep l))) (record q { started = true }) = at_start h r past heads l.made q none at_rest in
-    let stands : StandsAfter h r m.scene (turned h 0 turns.Start m) (record q { started = true }) = subst (λ (y : Lane). StandsAfter h r m.scene (phase_goes_on h 0 m.scene (under_way turns.Start y)) (record q { started = true })) same begins in
+    let after : state' ≡ record state { started = true } = made.1 ∙ ap (λ (y : Stepped). states.halted y made.0) said ∙ does.1 in
+    let at_rest : QueueAt q h r past heads phases.Rest [] [] l.made state = subst (λ (y : Lane). QueueAt q h r past heads y.phase y.batch y.completed y.made state) (sym same) z in
+    let begins : StandsAfter q h r m.scene (phase_goes_on h q m.scene (under_way turns.Start (asleep l))) (record state { started = true }) = at_start q h r past heads l.made state none at_rest in
+    let stands : StandsAfter q h r m.scene (turned h q turns.Start m) (record state { started = true }) = subst (λ (y : Lane). StandsAfter q h r m.scene (phase_goes_on h q m.scene (under_way turns.Start y)) (record state { started = true })) same begins in
     record {
       said = said;
-      made = sym (ap (λ (y : Lane). (phase_goes_on h 0 m.scene (under_way turns.Start y)).items) same) ∙ ap (λ (ks : List ℕ). items.Made (entries.Start 0 ks) ∷ []) (none_open past none);
-      stands = stands_after h r m turns.Start q' (subst (λ (y : QueueState). StandsAfter h r m.scene (turned h 0 turns.Start m) y) (sym after) stands);
+      made = sym (ap (λ (y : Lane). (phase_goes_on h q m.scene (under_way turns.Start y)).items) same) ∙ ap (λ (ks : List ℕ). items.Made (entries.Start q ks) ∷ []) (none_open q past none);
+      stands = stands_after q h r m turns.Start state' (subst (λ (y : QueueState). StandsAfter q h r m.scene (turned h q turns.Start m) y) (sym after) stands);
     }
 
 -- ---- a fetch
 
 -- the head that waits is that of the next request
-head_is : (h : Header1) (r : SplitRing) (m : Moment) (q : QueueState) → IsMainRing r h.size → QueueStands h r m q → Holds h m.scene (m.lanes 0) → accepted m.scene.past 0 < length (m.scene.heads 0)
-    → head_word q.ring m.scene.memory q.next_avail ≡ slice_index (m.scene.heads 0) (accepted m.scene.past 0)
-head_is h r m q main z holds more =
+head_is : (q : ℕ) (h : Header1) (r : SplitRing) (m : Moment) (state : QueueState) → LiesAs q r h.size → QueueStands q h r m state → Holds q h m.scene (m.lanes q) → accepted m.scene.past q < length (m.scene.heads q)
+    → head_word state.ring m.scene.memory state.next_avail ≡ slice_index (m.scene.heads q) (accepted m.scene.past q)
+head_is q h r m state main z holds more =
     let mem : Bytes = m.scene.memory in
-    let a : ℕ = accepted m.scene.past 0 in
+    let a : ℕ = accepted m.scene.past q in
     let index : ℕ = (h.base + a) % 65536 in
-    let place : q.next_avail % r.size ≡ index % h.size = ap (λ (i : ℕ). i % r.size) z.avail ∙ ap (λ (n : ℕ). index % n) main.size in
-    ap (λ (x : SplitRing). head_word x mem q.next_avail) z.ring
-    ∙ ap (λ (s : ℕ). word 2 mem s (r.avail.1 + (4 + 2 * (q.next_avail % r.size)))) main.avail_space
-    ∙ ap (λ (p : ℕ). word 2 mem 0 (p + (4 + 2 * (q.next_avail % r.size)))) main.avail
-    ∙ ap (λ (e : ℕ). word 2 mem 0 (4096 + (4 + 2 * e))) place
+    let place : state.next_avail % r.size ≡ index % h.size = ap (λ (i : ℕ). i % r.size) z.avail ∙ ap (λ (n : ℕ). index % n) main.size in
+    ap (λ (x : SplitRing). head_word x mem state.next_avail) z.ring
+    ∙ ap (λ (s : ℕ). word 2 mem s (r.avail.1 + (4 + 2 * (state.next_avail % r.size)))) main.avail_space
+    ∙ ap (λ (p : ℕ). word 2 mem 0 (p + (4 + 2 * (state.next_avail % r.size)))) main.avail
+    ∙ ap (λ (e : ℕ). word 2 mem 0 (area_place q + 4096 + (4 + 2 * e))) place
     ∙ holds.ringed.avail_at a (omega arith) more
 
 -- the next request isn't open, and is offered
-next_out : (h : Header1) (s : Scene) (l : Lane) → Holds h s l → accepted s.past 0 < length (s.heads 0) → IsOut s.past (s.heads 0) (accepted s.past 0)
-next_out h s l holds more = record {
+next_out : (q : ℕ) (h : Header1) (s : Scene) (l : Lane) → Holds q h s l → accepted s.past q < length (s.heads q) → IsOut q s.past (s.heads q) (accepted s.past q)
+next_out q h s l holds more = record {
   below = more;
-  kept = not_among-take (published s.past 0) (collected s.past 0) (accepted s.past 0) (new_unpublished h.size h.capacity s.past (s.heads 0) holds.known);
+  kept = not_among-take (published s.past q) (collected s.past q) (accepted s.past q) (new_unpublished q h.size h.capacity s.past (s.heads q) holds.known);
 }
 
 -- so the avail ring breaks no rule
-keeps_rules : (h : Header1) (r : SplitRing) (m : Moment) (q : QueueState) (fault : RingFault) → IsPlain h → Good h m → IsMainRing r h.size → QueueStands h r m q → Breaks q m.scene.memory fault → ⊥
-keeps_rules h r m q fault plain good main z breaks = go fault breaks.1
+keeps_rules : (q : ℕ) (h : Header1) (r : SplitRing) (m : Moment) (state : QueueState) (fault : RingFault) → IsPlain h → Good q h m → LiesAs q r h.size → QueueStands q h r m state → Breaks state m.scene.memory fault → ⊥
+keeps_rules q h r m state fault plain good main z breaks = go fault breaks.1
   where
     a : ℕ
-    a = accepted m.scene.past 0
+    a = accepted m.scene.past q
 
     heads : List ℕ
-    heads = m.scene.heads 0
+    heads = m.scene.heads q
 
-    holds : Holds h m.scene (m.lanes 0)
+    holds : Holds q h m.scene (m.lanes q)
     holds = good.holds
 
-    far : states.waiting q m.scene.memory + a ≡ length heads
-    far = omega (arith, waiting_is h r m q main z, some_waits h m.scene (m.lanes 0) plain.good holds)
+    far : states.waiting state m.scene.memory + a ≡ length heads
+    far = omega (arith, waiting_is q h r m state main z, some_waits q h m.scene (m.lanes q) plain.good holds)
 
     more : a < length heads
     more = omega (arith, far, breaks.0)
 
-    sized : q.ring.size ≡ h.size
+    sized : state.ring.size ≡ h.size
     sized = ap (λ (x : SplitRing). x.size) z.ring ∙ main.size
 
-    out : IsOut m.scene.past heads a
-    out = next_out h m.scene (m.lanes 0) holds more
+    out : IsOut q m.scene.past heads a
+    out = next_out q h m.scene (m.lanes q) holds more
 
-    go : (f : RingFault) → BreaksBy q m.scene.memory f → ⊥
+    go : (f : RingFault) → BreaksBy state m.scene.memory f → ⊥
     go (faults.Jump ahead) b = omega (arith, b.0, b.1, far, sized, holds.known.room, holds.known.shown, holds.known.fewer)
-    go (faults.BadHead head) b = omega (arith, b.1, b.2, sized, head_is h r m q main z holds more, holds.driven.below a out)
+    go (faults.BadHead head) b = omega (arith, b.1, b.2, sized, head_is q h r m state main z holds more, holds.driven.below a out)
     go (faults.Twice head) b =
         let small : head < r.size = omega (arith, b.2, ap (λ (x : SplitRing). x.size) z.ring) in
         let t = z.taken head small b.3 in
-        let other : IsOut m.scene.past heads t.0 = open_out h.size h.capacity m.scene.past heads t.0 holds.known t.1 in
-        let same : t.0 ≡ a = holds.driven.apart t.0 a other out (t.2 ∙ b.1 ∙ head_is h r m q main z holds more) in
+        let other : IsOut q m.scene.past heads t.0 = open_out q h.size h.capacity m.scene.past heads t.0 holds.known t.1 in
+        let same : t.0 ≡ a = holds.driven.apart t.0 a other out (t.2 ∙ b.1 ∙ head_is q h r m state main z holds more) in
         omega (arith, same, t.1.taken)
     go (faults.NoRoom slot) b = b
     go (faults.Chain fault) b = b
     go (faults.NoStatus head) b = b
 
 -- what a fetch says, makes and leaves
-pub record HasFetched (h : Header1) (r : SplitRing) (m : Moment) (x : Stepped) (q' : QueueState) : Type 0 where
-  pub said : x ≡ says.Accepted (slice_index (m.scene.heads 0) (accepted m.scene.past 0))
-  pub made : (turned h 0 turns.Fetch m).items ≡ items.Made (entries.Accept 0 (accepted m.scene.past 0)) ∷ []
-  pub stands : QueueStands h r (one_turn h 0 turns.Fetch m).next q'
+pub record HasFetched (q : ℕ) (h : Header1) (r : SplitRing) (m : Moment) (x : Stepped) (state' : QueueState) : Type 0 where
+  pub said : x ≡ says.Accepted (slice_index (m.scene.heads q) (accepted m.scene.past q))
+  pub made : (turned h q turns.Fetch m).items ≡ items.Made (entries.Accept q (accepted m.scene.past q)) ∷ []
+  pub stands : QueueStands q h r (one_turn h q turns.Fetch m).next state'
 
 -- a fetch that is ready and doesn't fail accepts a head
-fetch_accepts : (h : Header1) (r : SplitRing) (m : Moment) (x : Stepped) (q u : QueueState) → IsPlain h → Good h m → IsMainRing r h.size → QueueStands h r m q → is_ready (standing h 0 m) turns.Fetch ≡ true → is_fault x ≡ false
-    → Fetches (Some m.scene.memory) x q u → (x ≡ says.Accepted (slice_index (m.scene.heads 0) (accepted m.scene.past 0))) × (u ≡ states.accepted (slice_index (m.scene.heads 0) (accepted m.scene.past 0)) q)
-fetch_accepts h r m x q u plain good main z ready fine fetches = go x fine fetches
+fetch_accepts : (q : ℕ) (h : Header1) (r : SplitRing) (m : Moment) (x : Stepped) (state u : QueueState) → IsPlain h → Good q h m → LiesAs q r h.size → QueueStands q h r m state → is_ready (standing h q m) turns.Fetch ≡ true → is_fault x ≡ false
+    → Fetches (Some m.scene.memory) x state u → (x ≡ says.Accepted (slice_index (m.scene.heads q) (accepted m.scene.past q))) × (u ≡ states.accepted (slice_index (m.scene.heads q) (accepted m.scene.past q)) state)
+fetch_accepts q h r m x state u plain good main z ready fine fetches = go x fine fetches
   where
     a : ℕ
-    a = accepted m.scene.past 0
+    a = accepted m.scene.past q
 
-    go : (y : Stepped) → is_fault y ≡ false → Fetches (Some m.scene.memory) y q u → (y ≡ says.Accepted (slice_index (m.scene.heads 0) a)) × (u ≡ states.accepted (slice_index (m.scene.heads 0) a) q)
+    go : (y : Stepped) → is_fault y ≡ false → Fetches (Some m.scene.memory) y state u → (y ≡ says.Accepted (slice_index (m.scene.heads q) a)) × (u ≡ states.accepted (slice_index (m.scene.heads q) a) state)
     go says.Idle f does = absurd (
-        let unready : is_ready (standing_at q (states.waiting q m.scene.memory)) turns.Fetch ≡ false = does.1 m.scene.memory refl in
-        let fails : true ≡ false = sym ready ∙ sym (ready_same h r m q turns.Fetch main z) ∙ unready in
+        let unready : is_ready (standing_at state (states.waiting state m.scene.memory)) turns.Fetch ≡ false = does.1 m.scene.memory refl in
+        let fails : true ≡ false = sym ready ∙ sym (ready_same q h r m state turns.Fetch main z) ∙ unready in
         cc)
     go (says.Accepted head) f does =
         let finds = does.2 m.scene.memory refl in
-        let more : a < length (m.scene.heads 0) = omega (arith, finds.0.some, waiting_is h r m q main z, some_waits h m.scene (m.lanes 0) plain.good good.holds) in
-        let is : head ≡ slice_index (m.scene.heads 0) a = finds.1 ∙ head_is h r m q main z good.holds more in
-        (ap says.Accepted is, does.0 ∙ ap (λ (d : ℕ). states.accepted d q) is)
-    go (says.Broken fault) f does = absurd (keeps_rules h r m q fault plain good main z (does.2 m.scene.memory refl))
+        let more : a < length (m.scene.heads q) = omega (arith, finds.0.some, waiting_is q h r m state main z, some_waits q h m.scene (m.lanes q) plain.good good.holds) in
+        let is : head ≡ slice_index (m.scene.heads q) a = finds.1 ∙ head_is q h r m state main z good.holds more in
+        (ap says.Accepted is, does.0 ∙ ap (λ (d : ℕ). states.accepted d state) is)
+    go (says.Broken fault) f does = absurd (keeps_rules q h r m state fault plain good main z (does.2 m.scene.memory refl))
     go says.SharedFault f does = absurd (let fails : true ≡ false = f in cc)
     go (says.Stored tag) f does = absurd does
     go (says.Looked head sector) f does = absurd does
@@ -218,9 +222,9 @@ fetch_accepts h r m x q u plain good main z ready fine fetches = go x fine fetch
     go says.Started f does = absurd does
 
 -- the lane is at rest where a fetch is ready
-fetch_rests : (h : Header1) (m : Moment) → Good h m → is_ready (standing h 0 m) turns.Fetch ≡ true → resting (m.lanes 0) ≡ m.lanes 0
-fetch_rests h m good ready =
-    let l : Lane = m.lanes 0 in
+fetch_rests : (q : ℕ) (h : Header1) (m : Moment) → Good q h m → is_ready (standing h q m) turns.Fetch ≡ true → resting (m.lanes q) ≡ m.lanes q
+fetch_rests q h m good ready =
+    let l : Lane = m.lanes q in
     elim (phase_cases l.batch l.phase good.holds.worked.phase_is) [
       | inl rest ↦ rest_is l rest.0 rest.1
       | inr shows ↦
@@ -228,24 +232,24 @@ fetch_rests h m good ready =
           absurd (grind (arith, nat_tests))
     ]
 
-pub fetch_stands : (h : Header1) (r : SplitRing) (m : Moment) (x : Stepped) (q q' : QueueState) → IsPlain h → Good h m → IsMainRing r h.size → QueueStands h r m q
-    → is_ready (standing h 0 m) turns.Fetch ≡ true → is_fault x ≡ false → Turns turns.Fetch (Some m.scene.memory) x q q' → HasFetched h r m x q'
-fetch_stands h r m x q q' plain good main z ready fine made =
-    let l : Lane = m.lanes 0 in
+pub fetch_stands : (q : ℕ) (h : Header1) (r : SplitRing) (m : Moment) (x : Stepped) (state state' : QueueState) → IsPlain h → Good q h m → LiesAs q r h.size → QueueStands q h r m state
+    → is_ready (standing h q m) turns.Fetch ≡ true → is_fault x ≡ false → Turns turns.Fetch (Some m.scene.memory) x state state' → HasFetched q h r m x state'
+fetch_stands q h r m x state state' plain good main z ready fine made =
+    let l : Lane = m.lanes q in
     let past : List Entry = m.scene.past in
-    let heads : List ℕ = m.scene.heads 0 in
-    let head : ℕ = slice_index heads (accepted past 0) in
-    let same : resting l ≡ l = fetch_rests h m good ready in
-    let accepts = fetch_accepts h r m x q made.0 plain good main z ready fine (does_of turns.Fetch (Some m.scene.memory) x q q' made fine) in
-    let after : q' ≡ states.accepted head q = made.1 ∙ ap (λ (y : Stepped). states.halted y made.0) accepts.0 ∙ accepts.1 in
-    let at_rest : QueueAt h r past heads phases.Rest [] l.completed l.made q = subst (λ (y : Lane). QueueAt h r past heads y.phase y.batch y.completed y.made q) (sym same) z in
-    let held : Holds h m.scene (resting l) = subst (λ (y : Lane). Holds h m.scene y) (sym same) good.holds in
-    let begins : StandsAfter h r m.scene (phase_goes_on h 0 m.scene (under_way turns.Fetch (resting l))) (states.accepted head q) = at_fetch h r past heads l.completed l.made q head held.known held.worked refl at_rest in
-    let stands : StandsAfter h r m.scene (turned h 0 turns.Fetch m) (states.accepted head q) = subst (λ (y : Lane). StandsAfter h r m.scene (phase_goes_on h 0 m.scene (under_way turns.Fetch y)) (states.accepted head q)) same begins in
+    let heads : List ℕ = m.scene.heads q in
+    let head : ℕ = slice_index heads (accepted past q) in
+    let same : resting l ≡ l = fetch_rests q h m good ready in
+    let accepts = fetch_accepts q h r m x state made.0 plain good main z ready fine (does_of turns.Fetch (Some m.scene.memory) x state state' made fine) in
+    let after : state' ≡ states.accepted head state = made.1 ∙ ap (λ (y : Stepped). states.halted y made.0) accepts.0 ∙ accepts.1 in
+    let at_rest : QueueAt q h r past heads phases.Rest [] l.completed l.made state = subst (λ (y : Lane). QueueAt q h r past heads y.phase y.batch y.completed y.made state) (sym same) z in
+    let held : Holds q h m.scene (resting l) = subst (λ (y : Lane). Holds q h m.scene y) (sym same) good.holds in
+    let begins : StandsAfter q h r m.scene (phase_goes_on h q m.scene (under_way turns.Fetch (resting l))) (states.accepted head state) = at_fetch q h r past heads l.completed l.made state head held.known held.worked refl at_rest in
+    let stands : StandsAfter q h r m.scene (turned h q turns.Fetch m) (states.accepted head state) = subst (λ (y : Lane). StandsAfter q h r m.scene (phase_goes_on h q m.scene (under_way turns.Fetch y)) (states.accepted head state)) same begins in
     record {
       said = accepts.0;
-      made = sym (ap (λ (y : Lane). (phase_goes_on h 0 m.scene (under_way turns.Fetch y)).items) same);
-      stands = stands_after h r m turns.Fetch q' (subst (λ (y : QueueState). StandsAfter h r m.scene (turned h 0 turns.Fetch m) y) (sym after) stands);
+      made = sym (ap (λ (y : Lane). (phase_goes_on h q m.scene (under_way turns.Fetch y)).items) same);
+      stands = stands_after q h r m turns.Fetch state' (subst (λ (y : QueueState). StandsAfter q h r m.scene (turned h q turns.Fetch m) y) (sym after) stands);
     }
 
 -- ---- a turn that isn't ready
@@ -255,47 +259,47 @@ abbrev pub IsPhaseTurn : Turn → Type 0
 IsPhaseTurn (turns.Work place) = ⊥
 IsPhaseTurn t = ⊤
 
-same_start : (q : QueueState) → q.started ≡ true → record q { started = true } ≡ q
-same_start q is = ap (λ (b : Bool). record q { started = b }) (sym is)
+same_start : (state : QueueState) → state.started ≡ true → record state { started = true } ≡ state
+same_start state is = ap (λ (b : Bool). record state { started = b }) (sym is)
 
-idle_start : (q u : QueueState) (x : Stepped) (told : Option Bytes) → q.started ≡ true → DoesOf turns.Start told x q u → (x ≡ says.Idle) × (u ≡ q)
-idle_start q u x told is does = (does.0 ∙ ap (λ (b : Bool). cond {A = Stepped} b says.Idle says.Started) is, does.1 ∙ same_start q is)
+idle_start : (state u : QueueState) (x : Stepped) (told : Option Bytes) → state.started ≡ true → DoesOf turns.Start told x state u → (x ≡ says.Idle) × (u ≡ state)
+idle_start state u x told is does = (does.0 ∙ ap (λ (b : Bool). cond {A = Stepped} b says.Idle says.Started) is, does.1 ∙ same_start state is)
 
 -- a fetch that finds something is ready
-ready_if : (q : QueueState) (n : ℕ) → states.may_fetch q ≡ true → 1 ≤ n → is_ready (standing_at q n) turns.Fetch ≡ true
-ready_if q n may some = let more : nat_lt 0 n ≡ true = grind (arith, nat_tests) in grind (arith, nat_tests)
+ready_if : (state : QueueState) (n : ℕ) → states.may_fetch state ≡ true → 1 ≤ n → is_ready (standing_at state n) turns.Fetch ≡ true
+ready_if state n may some = let more : nat_lt 0 n ≡ true = grind (arith, nat_tests) in grind (arith, nat_tests)
 
-idle_fetch : (q u : QueueState) (x : Stepped) (m : Bytes) → is_ready (standing_at q (states.waiting q m)) turns.Fetch ≡ false → is_fault x ≡ false → Fetches (Some m) x q u → (x ≡ says.Idle) × (u ≡ q)
-idle_fetch q u says.Idle m unready f does = (refl, does.0)
-idle_fetch q u (says.Accepted head) m unready f does = absurd (
+idle_fetch : (state u : QueueState) (x : Stepped) (m : Bytes) → is_ready (standing_at state (states.waiting state m)) turns.Fetch ≡ false → is_fault x ≡ false → Fetches (Some m) x state u → (x ≡ says.Idle) × (u ≡ state)
+idle_fetch state u says.Idle m unready f does = (refl, does.0)
+idle_fetch state u (says.Accepted head) m unready f does = absurd (
     let finds = does.2 m refl in
-    let fails : true ≡ false = sym (ready_if q (states.waiting q m) does.1 finds.0.some) ∙ unready in
+    let fails : true ≡ false = sym (ready_if state (states.waiting state m) does.1 finds.0.some) ∙ unready in
     cc)
-idle_fetch q u (says.Broken fault) m unready f does = absurd (
+idle_fetch state u (says.Broken fault) m unready f does = absurd (
     let breaks = does.2 m refl in
-    let fails : true ≡ false = sym (ready_if q (states.waiting q m) does.1 breaks.0) ∙ unready in
+    let fails : true ≡ false = sym (ready_if state (states.waiting state m) does.1 breaks.0) ∙ unready in
     cc)
-idle_fetch q u says.SharedFault m unready f does = absurd (let fails : true ≡ false = f in cc)
-idle_fetch q u (says.Stored tag) m unready f does = absurd does
-idle_fetch q u (says.Looked head sector) m unready f does = absurd does
-idle_fetch q u (says.Acted head sector) m unready f does = absurd does
-idle_fetch q u (says.Synced head) m unready f does = absurd does
-idle_fetch q u (says.Faulted head) m unready f does = absurd does
-idle_fetch q u (says.Completed head) m unready f does = absurd does
-idle_fetch q u says.Published m unready f does = absurd does
-idle_fetch q u says.Started m unready f does = absurd does
+idle_fetch state u says.SharedFault m unready f does = absurd (let fails : true ≡ false = f in cc)
+idle_fetch state u (says.Stored tag) m unready f does = absurd does
+idle_fetch state u (says.Looked head sector) m unready f does = absurd does
+idle_fetch state u (says.Acted head sector) m unready f does = absurd does
+idle_fetch state u (says.Synced head) m unready f does = absurd does
+idle_fetch state u (says.Faulted head) m unready f does = absurd does
+idle_fetch state u (says.Completed head) m unready f does = absurd does
+idle_fetch state u says.Published m unready f does = absurd does
+idle_fetch state u says.Started m unready f does = absurd does
 
-idle_publish : (q u : QueueState) (x : Stepped) (most : ℕ) → publishes most q ≡ false → Publishes (publishes most q) x q (states.under_way most q) u → (x ≡ says.Idle) × (u ≡ q)
-idle_publish q u x most unready does = subst (λ (b : Bool). Publishes b x q (states.under_way most q) u) unready does
+idle_publish : (state u : QueueState) (x : Stepped) (most : ℕ) → publishes most state ≡ false → Publishes (publishes most state) x state (states.under_way most state) u → (x ≡ says.Idle) × (u ≡ state)
+idle_publish state u x most unready does = subst (λ (b : Bool). Publishes b x state (states.under_way most state) u) unready does
 
-idle_does : (t : Turn) (q u : QueueState) (x : Stepped) (m : Bytes) → IsPhaseTurn t → is_ready (standing_at q (states.waiting q m)) t ≡ false → is_fault x ≡ false → DoesOf t (Some m) x q u → (x ≡ says.Idle) × (u ≡ q)
-idle_does turns.Start q u x m is unready f does = idle_start q u x (Some m) (grind (arith, nat_tests)) does
-idle_does turns.Fetch q u x m is unready f does = idle_fetch q u x m unready f does
-idle_does (turns.Work place) q u x m is unready f does = absurd is
-idle_does (turns.Publish most) q u x m is unready f does = idle_publish q u x most unready does
+idle_does : (t : Turn) (state u : QueueState) (x : Stepped) (m : Bytes) → IsPhaseTurn t → is_ready (standing_at state (states.waiting state m)) t ≡ false → is_fault x ≡ false → DoesOf t (Some m) x state u → (x ≡ says.Idle) × (u ≡ state)
+idle_does turns.Start state u x m is unready f does = idle_start state u x (Some m) (grind (arith, nat_tests)) does
+idle_does turns.Fetch state u x m is unready f does = idle_fetch state u x m unready f does
+idle_does (turns.Work place) state u x m is unready f does = absurd is
+idle_does (turns.Publish most) state u x m is unready f does = idle_publish state u x most unready does
 
-pub idle_stands : (h : Header1) (r : SplitRing) (m : Moment) (t : Turn) (x : Stepped) (q q' : QueueState) → IsMainRing r h.size → QueueStands h r m q → IsPhaseTurn t
-    → is_ready (standing h 0 m) t ≡ false → is_fault x ≡ false → Turns t (Some m.scene.memory) x q q' → (x ≡ says.Idle) × (q' ≡ q)
-idle_stands h r m t x q q' main z is unready fine made =
-    let idle = idle_does t q made.0 x m.scene.memory is (ready_same h r m q t main z ∙ unready) fine (does_of t (Some m.scene.memory) x q q' made fine) in
+pub idle_stands : (q : ℕ) (h : Header1) (r : SplitRing) (m : Moment) (t : Turn) (x : Stepped) (state state' : QueueState) → LiesAs q r h.size → QueueStands q h r m state → IsPhaseTurn t
+    → is_ready (standing h q m) t ≡ false → is_fault x ≡ false → Turns t (Some m.scene.memory) x state state' → (x ≡ says.Idle) × (state' ≡ state)
+idle_stands q h r m t x state state' main z is unready fine made =
+    let idle = idle_does t state made.0 x m.scene.memory is (ready_same q h r m state t main z ∙ unready) fine (does_of t (Some m.scene.memory) x state state' made fine) in
     (idle.0, made.1 ∙ ap (λ (y : Stepped). states.halted y made.0) idle.0 ∙ idle.1)

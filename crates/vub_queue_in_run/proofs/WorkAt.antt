@@ -14,10 +14,10 @@ use Rattle.vub_device.specs.Past.{asked, accepted, published, is_among, open_num
 use Rattle.vub_device.specs.Requests.{refusal}
 use Rattle.vub_split.specs.declared.split.SplitRing.{SplitRing}
 use Rattle.vub_task.specs.declared.task.Task.{Task}
-use Rattle.vub_direct_chain.specs.ChainState.{IsFirstRing, Meant}
+use Rattle.vub_direct_chain.specs.ChainState.{IsRingOf, Meant}
 use Rattle.vub_driver.specs.GuestChain.{Links}
 use Rattle.vub_run.specs.Moments.{Lane, Moment, standing, unfinished}
-use Rattle.vub_queue_in_run.specs.QueueAt.{QueueStands, IsMainRing, TaskAt}
+use Rattle.vub_queue_in_run.specs.QueueAt.{QueueStands, LiesAs, TaskAt}
 use Rattle.vub_queue.specs.QueueState.{QueueState, IsDue}
 use Rattle.vub_task.specs.TaskState.{fresh_task, Making, IsBasic, IsNext, IsReady, head_in}
 use Rattle.vub_steps.specs.Tasks.{RequestStep, Look, Put, Act, Sync, Status, task_steps, disk_steps, look_steps, act_steps}
@@ -82,14 +82,14 @@ is_some x y e = cc e
 
 read_kind : (h : Header1) (request : Asked) (s c made : ℕ) (step : RequestStep) → h.mode ≡ Back → IsWideRead h.capacity s c → request ≡ asks.Read s c → ReadAt 0 c made (Some step) → Kind h request made step
 read_kind h request s c made step back wide is (ToLook p low at i) =
-    inl (record { sector = s; count = c; wide = wide; is = is; place = p; within = low; at = at; next = is_some step (Look (0 + p)) i ∙ ap (λ (q : ℕ). Look q) (let same : 0 + p ≡ p = omega arith in same) })
+    inl (record { sector = s; count = c; wide = wide; is = is; place = p; within = low; at = at; next = is_some step (Look (0 + p)) i ∙ ap (λ (state : ℕ). Look state) (let same : 0 + p ≡ p = omega arith in same) })
 read_kind h request s c made step back wide is (ToPut p low at i) =
-    inr (inl (record { sector = s; count = c; wide = wide; is = is; place = p; within = low; at = at; next = is_some step (Put (0 + p)) i ∙ ap (λ (q : ℕ). Put q) (let same : 0 + p ≡ p = omega arith in same) }))
+    inr (inl (record { sector = s; count = c; wide = wide; is = is; place = p; within = low; at = at; next = is_some step (Put (0 + p)) i ∙ ap (λ (state : ℕ). Put state) (let same : 0 + p ≡ p = omega arith in same) }))
 read_kind h request s c made step back wide is (ToReply at i) = inr (inr (inr (inr (record { served = ap (refusal h.capacity h.mode) is ∙ wide_served h (asks.Read s c) back wide; next = is_some step Status i }))))
 
 write_kind : (h : Header1) (request : Asked) (s : ℕ) (bytes : List ℕ) (made : ℕ) (step : RequestStep) → h.mode ≡ Back → IsWideWrite h.capacity s bytes → request ≡ asks.Write s bytes → WriteAt 0 (length bytes / 512) made (Some step) → Kind h request made step
 write_kind h request s bytes made step back wide is (ToAct low i) =
-    inr (inr (inl (record { sector = s; bytes = bytes; wide = wide; is = is; place = made; within = low; at = refl; next = is_some step (Act (0 + made)) i ∙ ap (λ (q : ℕ). Act q) (let same : 0 + made ≡ made = omega arith in same) })))
+    inr (inr (inl (record { sector = s; bytes = bytes; wide = wide; is = is; place = made; within = low; at = refl; next = is_some step (Act (0 + made)) i ∙ ap (λ (state : ℕ). Act state) (let same : 0 + made ≡ made = omega arith in same) })))
 write_kind h request s bytes made step back wide is (ToEnd at i) = inr (inr (inr (inr (record { served = ap (refusal h.capacity h.mode) is ∙ wide_served h (asks.Write s bytes) back wide; next = is_some step Status i }))))
 
 flush_kind : (h : Header1) (request : Asked) (made : ℕ) (step : RequestStep) → h.mode ≡ Back → request ≡ asks.Flush → slice_get (Sync ∷ Status ∷ []) made ≡ Some step → Kind h request made step
@@ -98,7 +98,7 @@ flush_kind h request (suc zero) step back is next = inr (inr (inr (inr (record {
 flush_kind h request (suc (suc made)) step back is next = absurd (cc)
 
 steps_are : (h : Header1) (request r : Asked) (made : ℕ) → h.mode ≡ Back → IsWide h.capacity (Some r) → request ≡ r → slice_get (task_steps h request) made ≡ slice_get (disk_steps r ++ Status ∷ []) made
-steps_are h request r made back wide is = ap (λ (q : Asked). slice_get (task_steps h q) made) is ∙ ap (λ (xs : List RequestStep). slice_get xs made) (wide_steps h r back wide)
+steps_are h request r made back wide is = ap (λ (state : Asked). slice_get (task_steps h state) made) is ∙ ap (λ (xs : List RequestStep). slice_get xs made) (wide_steps h r back wide)
 
 -- of which kind a step is
 pub kind_of : (h : Header1) (request : Asked) (made : ℕ) (step : RequestStep) → h.mode ≡ Back → IsWide h.capacity (Some request) → IsPending made (Some request) → slice_get (task_steps h request) made ≡ Some step → Kind h request made step
@@ -160,58 +160,58 @@ wide_basic cap (asks.Zero parts) wide = absurd wide
 -- ---- the step that is due
 
 -- the step of the k-th request whose chain is that
-abbrev pub making_of : Header1 → Moment → ℕ → Links → Asked → RequestStep → Making
-making_of h m k links request step = record {
+abbrev pub making_of : ℕ → Header1 → Moment → ℕ → Links → Asked → RequestStep → Making
+making_of q h m k links request step = record {
   header = h;
   links = links;
-  buffer = buffer_place (area_place 0) (slice_index (m.scene.heads 0) k);
+  buffer = buffer_place (area_place q) (slice_index (m.scene.heads q) k);
   request = request;
-  made = (m.lanes 0).made k;
+  made = (m.lanes q).made k;
   step = step;
 }
 
 -- the request in this place of the unfinished ones, its task, and the step that is due
-pub record WorkReady (h : Header1) (sizes : ℕ → ℕ) (m : Moment) (q : QueueState) (place : ℕ) : Type 0 where
+pub record WorkReady (q : ℕ) (h : Header1) (sizes : ℕ → ℕ) (m : Moment) (state : QueueState) (place : ℕ) : Type 0 where
   pub k : ℕ
   pub request : Asked
   pub task : Task
   pub links : Links
   pub step : RequestStep
-  pub at : slice_get (unfinished 0 m) place ≡ Some k
-  pub is : asked m.scene.past 0 k ≡ Some request
-  pub head : head_in task ≡ slice_index (m.scene.heads 0) k
-  pub is_open : IsOpen m.scene.past 0 k
-  pub due : IsDue h.capacity sizes q m.scene.memory place task (making_of h m k links request step)
+  pub at : slice_get (unfinished q m) place ≡ Some k
+  pub is : asked m.scene.past q k ≡ Some request
+  pub head : head_in task ≡ slice_index (m.scene.heads q) k
+  pub is_open : IsOpen m.scene.past q k
+  pub due : IsDue h.capacity sizes state m.scene.memory place task (making_of q h m k links request step)
 
-abbrev pub making : {h : Header1} {sizes : ℕ → ℕ} {m : Moment} {q : QueueState} {place : ℕ} → WorkReady h sizes m q place → Making
-making {h} {sizes} {m} w = making_of h m w.k w.links w.request w.step
+abbrev pub making : {q : ℕ} {h : Header1} {sizes : ℕ → ℕ} {m : Moment} {state : QueueState} {place : ℕ} → WorkReady q h sizes m state place → Making
+making {q} {h} {sizes} {m} w = making_of q h m w.k w.links w.request w.step
 
-first_ring : (sizes : ℕ → ℕ) (r : SplitRing) (n : ℕ) → IsMainRing r n → 1048576 ≤ sizes 0 → IsFirstRing sizes r n
-first_ring sizes r n main room = record { space = main.desc_space; table = main.desc; size = main.size; room = room }
+ring_is : (q : ℕ) (sizes : ℕ → ℕ) (r : SplitRing) (n : ℕ) → LiesAs q r n → area_place q + 1048576 ≤ sizes 0 → IsRingOf q sizes r n
+ring_is q sizes r n main room = record { space = main.desc_space; table = main.desc; size = main.size; room = room }
 
 -- a number among the unfinished ones is open, and of no completed request
-pub unfinished_open : (m : Moment) (place k : ℕ) → slice_get (unfinished 0 m) place ≡ Some k → IsOpen m.scene.past 0 k × (is_among ((m.lanes 0).completed ++ (m.lanes 0).batch) k ≡ false)
-unfinished_open m place k is =
-    let l : Lane = m.lanes 0 in
-    let kept = among_filter (λ j. not (is_among (l.completed ++ l.batch) j)) (open_numbers m.scene.past 0) k (among_get (unfinished 0 m) place k is) in
-    let opened = missing-among (published m.scene.past 0) (accepted m.scene.past 0) k kept.0 in
+pub unfinished_open : (q : ℕ) (m : Moment) (place k : ℕ) → slice_get (unfinished q m) place ≡ Some k → IsOpen m.scene.past q k × (is_among ((m.lanes q).completed ++ (m.lanes q).batch) k ≡ false)
+unfinished_open q m place k is =
+    let l : Lane = m.lanes q in
+    let kept = among_filter (λ j. not (is_among (l.completed ++ l.batch) j)) (open_numbers m.scene.past q) k (among_get (unfinished q m) place k is) in
+    let opened = missing-among (published m.scene.past q) (accepted m.scene.past q) k kept.0 in
     let t : not (is_among (l.completed ++ l.batch) k) ≡ true = kept.1 in
     (record { taken = opened.0; unpublished = opened.1 }, grind (arith, nat_tests))
 
-due_at : (h : Header1) (m : Moment) (r : SplitRing) (sizes : ℕ → ℕ) (q : QueueState) (place k : ℕ) (task : Task) → IsPlain h → Good h m → ChainedAt h m → IsMainRing r h.size → 1048576 ≤ sizes 0 → QueueStands h r m q → started m.scene.past 0 ≡ true
-    → slice_get (unfinished 0 m) place ≡ Some k → slice_get q.unfinished place ≡ Some task → WorkReady h sizes m q place
-due_at h m r sizes q place k task plain good chained main room a run is at =
-    let l : Lane = m.lanes 0 in
-    let head : ℕ = slice_index (m.scene.heads 0) k in
-    let where_open = unfinished_open m place k is in
-    let is_out : IsOut m.scene.past (m.scene.heads 0) k = open_out h.size h.capacity m.scene.past (m.scene.heads 0) k good.holds.known where_open.0 in
-    let meant : Meant sizes r m.scene.memory head (asked m.scene.past 0 k) = work_means h m sizes r place k plain good chained (first_ring sizes r h.size main room) is in
+due_at : (q : ℕ) (h : Header1) (m : Moment) (r : SplitRing) (sizes : ℕ → ℕ) (state : QueueState) (place k : ℕ) (task : Task) → IsPlain h → Good q h m → ChainedAt q h m → LiesAs q r h.size → area_place q + 1048576 ≤ sizes 0 → QueueStands q h r m state → started m.scene.past q ≡ true
+    → slice_get (unfinished q m) place ≡ Some k → slice_get state.unfinished place ≡ Some task → WorkReady q h sizes m state place
+due_at q h m r sizes state place k task plain good chained main room a run is at =
+    let l : Lane = m.lanes q in
+    let head : ℕ = slice_index (m.scene.heads q) k in
+    let where_open = unfinished_open q m place k is in
+    let is_out : IsOut q m.scene.past (m.scene.heads q) k = open_out q h.size h.capacity m.scene.past (m.scene.heads q) k good.holds.known where_open.0 in
+    let meant : Meant q sizes r m.scene.memory head (asked m.scene.past q k) = work_means q h m sizes r place k plain good chained (ring_is q sizes r h.size main room) is in
     let request : Asked = meant.request in
     let wide : IsWide h.capacity (Some request) = subst (λ (o : Option Asked). IsWide h.capacity o) meant.is (good.holds.known.wide k is_out.below) in
     let pending : IsPending (l.made k) (Some request) = subst (λ (o : Option Asked). IsPending (l.made k) o) meant.is (good.holds.worked.pending k where_open.0 where_open.1) in
     let next = some_step h request (l.made k) plain.back wide pending in
-    let stands : TaskAt h r m.scene.past (m.scene.heads 0) k (l.made k) task = a.tasks place k task is at in
-    let n : Making = making_of h m k meant.links request next.0 in
+    let stands : TaskAt q h r m.scene.past (m.scene.heads q) k (l.made k) task = a.tasks place k task is at in
+    let n : Making = making_of q h m k meant.links request next.0 in
     let low : head < h.size = good.holds.driven.below k is_out in
     let is_next : IsNext h.capacity sizes r m.scene.memory n = record {
       means = meant.means;
@@ -239,11 +239,11 @@ due_at h m r sizes q place k task plain good chained main room a run is at =
     }
 
 -- where work is ready, a step is due
-pub work_ready : (h : Header1) (m : Moment) (r : SplitRing) (sizes : ℕ → ℕ) (q : QueueState) (place : ℕ) → IsPlain h → Good h m → ChainedAt h m → IsMainRing r h.size → 1048576 ≤ sizes 0 → QueueStands h r m q → is_ready (standing h 0 m) (turns.Work place) ≡ true
-    → WorkReady h sizes m q place
-work_ready h m r sizes q place plain good chained main room a ready =
-    let run : started m.scene.past 0 ≡ true = grind (arith, nat_tests) in
-    let inside : place < length (unfinished 0 m) = grind (arith, nat_tests) in
-    let is : slice_get (unfinished 0 m) place ≡ Some (slice_index (unfinished 0 m) place) = slice_get-get_or (unfinished 0 m) place 0 inside in
-    let at : slice_get q.unfinished place ≡ Some (get_or q.unfinished place (fresh_task 0)) = slice_get-get_or q.unfinished place (fresh_task 0) (omega (arith, inside, a.count)) in
-    due_at h m r sizes q place (slice_index (unfinished 0 m) place) (get_or q.unfinished place (fresh_task 0)) plain good chained main room a run is at
+pub work_ready : (q : ℕ) (h : Header1) (m : Moment) (r : SplitRing) (sizes : ℕ → ℕ) (state : QueueState) (place : ℕ) → IsPlain h → Good q h m → ChainedAt q h m → LiesAs q r h.size → area_place q + 1048576 ≤ sizes 0 → QueueStands q h r m state → is_ready (standing h q m) (turns.Work place) ≡ true
+    → WorkReady q h sizes m state place
+work_ready q h m r sizes state place plain good chained main room a ready =
+    let run : started m.scene.past q ≡ true = grind (arith, nat_tests) in
+    let inside : place < length (unfinished q m) = grind (arith, nat_tests) in
+    let is : slice_get (unfinished q m) place ≡ Some (slice_index (unfinished q m) place) = slice_get-get_or (unfinished q m) place 0 inside in
+    let at : slice_get state.unfinished place ≡ Some (get_or state.unfinished place (fresh_task 0)) = slice_get-get_or state.unfinished place (fresh_task 0) (omega (arith, inside, a.count)) in
+    due_at q h m r sizes state place (slice_index (unfinished q m) place) (get_or state.unfinished place (fresh_task 0)) plain good chained main room a run is at

@@ -1,4 +1,4 @@
--- The device's side of the first queue stands at a moment of a run.
+-- The device's side of a queue stands at a moment of a run.
 use Rattle.std.specs.Prelude.{◌≡◌, ◌<◌, ℕ, ◌+◌, ◌*◌, ◌%◌, true, not, List, ◌++◌, length, map, filter, slice_get, slice_index, slice_range, get_or, [], Some, None}
 use Rattle.vub_base.specs.declared.header.Header1.{Header1}
 use Rattle.vub_steps.specs.declared.steps.Phase.{Phase}
@@ -18,52 +18,52 @@ use Rattle.vub_split.specs.declared.split.SplitRing.{SplitRing}
 use Rattle.vub_task.specs.declared.task.Task.{Task}
 
 -- head and used length of the k-th request
-abbrev pub spot_of : Header1 → List Entry → List ℕ → ℕ → ℕ × ℕ
-spot_of h past heads k = (slice_index heads k, len_of h (asked past 0 k))
+abbrev pub spot_of : ℕ → Header1 → List Entry → List ℕ → ℕ → ℕ × ℕ
+spot_of q h past heads k = (slice_index heads k, len_of h (asked past q k))
 
 -- the accepted requests that aren't completed, rising
-abbrev pub left_of : List Entry → List ℕ → List ℕ → List ℕ
-left_of past completed batch = filter (λ k. not (is_among (completed ++ batch) k)) (open_numbers past 0)
+abbrev pub left_of : ℕ → List Entry → List ℕ → List ℕ → List ℕ
+left_of q past completed batch = filter (λ k. not (is_among (completed ++ batch) k)) (open_numbers past q)
 
 -- the task of the k-th request, of which so many steps were made
-pub record TaskAt (h : Header1) (r : SplitRing) (past : List Entry) (heads : List ℕ) (k made : ℕ) (task : Task) : Type 0 where
+pub record TaskAt (q : ℕ) (h : Header1) (r : SplitRing) (past : List Entry) (heads : List ℕ) (k made : ℕ) (task : Task) : Type 0 where
   pub head : head_in task ≡ slice_index heads k
-  pub stands : (request : Asked) → asked past 0 k ≡ Some request → IsTaskAt h r (buffer_place (area_place 0) (slice_index heads k)) request made task
+  pub stands : (request : Asked) → asked past q k ≡ Some request → IsTaskAt h r (buffer_place (area_place q) (slice_index heads k)) request made task
 
-pub record QueueAt (h : Header1) (r : SplitRing) (past : List Entry) (heads : List ℕ) (at_phase : Phase) (in_batch ready : List ℕ) (made : ℕ → ℕ) (q : QueueState) : Type 0 where
-  pub ring : q.ring ≡ r
-  pub runs : q.stopped ≡ None
-  pub started : q.started ≡ started past 0
-  pub avail : q.next_avail ≡ (h.base + accepted past 0) % 65536
-  pub used : q.next_used ≡ (h.base + length (published past 0)) % 65536
-  pub phase : q.phase ≡ at_phase
-  pub batch : q.batch ≡ map (spot_of h past heads) in_batch
-  pub completed : q.completed ≡ map (spot_of h past heads) ready
+pub record QueueAt (q : ℕ) (h : Header1) (r : SplitRing) (past : List Entry) (heads : List ℕ) (at_phase : Phase) (in_batch ready : List ℕ) (made : ℕ → ℕ) (state : QueueState) : Type 0 where
+  pub ring : state.ring ≡ r
+  pub runs : state.stopped ≡ None
+  pub started : state.started ≡ started past q
+  pub avail : state.next_avail ≡ (h.base + accepted past q) % 65536
+  pub used : state.next_used ≡ (h.base + length (published past q)) % 65536
+  pub phase : state.phase ≡ at_phase
+  pub batch : state.batch ≡ map (spot_of q h past heads) in_batch
+  pub completed : state.completed ≡ map (spot_of q h past heads) ready
   -- a task for each request that is left, in order
-  pub count : length q.unfinished ≡ length (left_of past ready in_batch)
-  pub tasks : (i k : ℕ) (task : Task) → slice_get (left_of past ready in_batch) i ≡ Some k → slice_get q.unfinished i ≡ Some task → TaskAt h r past heads k (made k) task
+  pub count : length state.unfinished ≡ length (left_of q past ready in_batch)
+  pub tasks : (i k : ℕ) (task : Task) → slice_get (left_of q past ready in_batch) i ≡ Some k → slice_get state.unfinished i ≡ Some task → TaskAt q h r past heads k (made k) task
   -- between a look and its store, what was read stands at the head
-  pub buffers : length q.sectors ≡ r.size
-  pub places : length q.taken ≡ r.size
-  pub sectors : (k place : ℕ) (request : Asked) → is_among (left_of past ready in_batch) k ≡ true → asked past 0 k ≡ Some request → slice_get (task_steps h request) (made k) ≡ Some (Put place)
-      → get_or q.sectors (slice_index heads k) [] ≡ slice_range (bytes_read past 0 k) (512 * place) (512 * place + 512)
+  pub buffers : length state.sectors ≡ r.size
+  pub places : length state.taken ≡ r.size
+  pub sectors : (k place : ℕ) (request : Asked) → is_among (left_of q past ready in_batch) k ≡ true → asked past q k ≡ Some request → slice_get (task_steps h request) (made k) ≡ Some (Put place)
+      → get_or state.sectors (slice_index heads k) [] ≡ slice_range (bytes_read past q k) (512 * place) (512 * place + 512)
   -- a head that is taken is that of an open request
-  pub taken : (d : ℕ) → d < r.size → is_taken q.taken d ≡ true → (k : ℕ) × IsOpen past 0 k × (slice_index heads k ≡ d)
+  pub taken : (d : ℕ) → d < r.size → is_taken state.taken d ≡ true → (k : ℕ) × IsOpen past q k × (slice_index heads k ≡ d)
 
 -- ---- at a moment
 
--- the queue stands where the first lane of the moment does
-abbrev pub QueueStands : Header1 → SplitRing → Moment → QueueState → Type 0
-QueueStands h r m q = QueueAt h r m.scene.past (m.scene.heads 0) (m.lanes 0).phase (m.lanes 0).batch (m.lanes 0).completed (m.lanes 0).made q
+-- the queue stands where its lane of the moment does
+abbrev pub QueueStands : ℕ → Header1 → SplitRing → Moment → QueueState → Type 0
+QueueStands q h r m state = QueueAt q h r m.scene.past (m.scene.heads q) (m.lanes q).phase (m.lanes q).batch (m.lanes q).completed (m.lanes q).made state
 
--- a ring of n places that lies in guest memory as the first queue's does
-pub record IsMainRing (r : SplitRing) (n : ℕ) : Type 0 where
+-- a ring of n places that lies in guest memory as that of queue q does
+pub record LiesAs (q : ℕ) (r : SplitRing) (n : ℕ) : Type 0 where
   pub desc_space : r.desc.0.number ≡ 0
   pub avail_space : r.avail.0.number ≡ 0
   pub used_space : r.used.0.number ≡ 0
-  pub desc : r.desc.1 ≡ 0
-  pub avail : r.avail.1 ≡ 4096
-  pub used : r.used.1 ≡ 8192
+  pub desc : r.desc.1 ≡ area_place q
+  pub avail : r.avail.1 ≡ area_place q + 4096
+  pub used : r.used.1 ≡ area_place q + 8192
   pub size : r.size ≡ n
 
 -- the disk's values are those of the history

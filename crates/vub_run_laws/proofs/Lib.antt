@@ -22,8 +22,10 @@ pub mod RunGuests
 pub mod RunItems
 pub mod RunNumbers
 pub mod RunOffers
+pub mod RunOwn
 pub mod RunPhases
 pub mod RunPublications
+pub mod RunQueues
 pub mod RunServes
 pub mod RunShown
 pub mod RunSteps

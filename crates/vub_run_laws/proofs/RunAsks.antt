@@ -85,45 +85,45 @@ header_long a =
     let front : length (little_bytes 4 (request_type a) ++ little_bytes 4 0) ≡ 8 = omega (arith, length-append (little_bytes 4 (request_type a)) (little_bytes 4 0)) in
     omega (arith, length-append (little_bytes 4 (request_type a) ++ little_bytes 4 0) (little_bytes 8 (first_sector a)), length-append (little_bytes 4 (request_type a)) (little_bytes 4 0 ++ little_bytes 8 (first_sector a)), length-append (little_bytes 4 0) (little_bytes 8 (first_sector a)))
 
-harmless_append : (head : ℕ) (xs ys : List Store) → AllByRecursion (IsHarmless head) xs → AllByRecursion (IsHarmless head) ys → AllByRecursion (IsHarmless head) (xs ++ ys)
-harmless_append head [] ys p q = q
-harmless_append head (x ∷ xs) ys p q = (p.0, harmless_append head xs ys p.1 q)
+harmless_append : (q head : ℕ) (xs ys : List Store) → AllByRecursion (IsHarmless q head) xs → AllByRecursion (IsHarmless q head) ys → AllByRecursion (IsHarmless q head) (xs ++ ys)
+harmless_append q head [] ys first later = later
+harmless_append q head (x ∷ xs) ys first later = (first.0, harmless_append q head xs ys first.1 later)
 
 -- data of up to eight sectors, in its part of the buffer
-some_harmless : (head p : ℕ) (bytes : List ℕ) → length bytes ≤ 4096 → p ≡ area_place 0 + (65536 + 8192 * head) + 4096 → AllByRecursion (IsHarmless head) (store_of_some 0 p bytes)
-some_harmless head p [] small at = tt
-some_harmless head p (b ∷ bytes) small at = (record { space = refl; lies = inr (omega arith, omega arith) }, tt)
+some_harmless : (q head p : ℕ) (bytes : List ℕ) → length bytes ≤ 4096 → p ≡ area_place q + (65536 + 8192 * head) + 4096 → AllByRecursion (IsHarmless q head) (store_of_some 0 p bytes)
+some_harmless q head p [] small at = tt
+some_harmless q head p (b ∷ bytes) small at = (record { space = refl; lies = inr (omega arith, omega arith) }, tt)
 
 some_few : (p : ℕ) (bytes : List ℕ) → length (store_of_some 0 p bytes) ≤ 1
 some_few p [] = omega arith
 some_few p (b ∷ bytes) = omega arith
 
-buffer_harmless : (n cap head : ℕ) (a : Ask) → IsPlainAsk cap a → AllByRecursion (IsHarmless head) (buffer_stores (the_ring n) (buffer_place (the_ring n).desc head) a) × (length (buffer_stores (the_ring n) (buffer_place (the_ring n).desc head) a) ≤ 3)
-buffer_harmless n cap head (asks.Read s c) plain =
+buffer_harmless : (q n cap head : ℕ) (a : Ask) → IsPlainAsk cap a → AllByRecursion (IsHarmless q head) (buffer_stores (the_ring q n) (buffer_place (the_ring q n).desc head) a) × (length (buffer_stores (the_ring q n) (buffer_place (the_ring q n).desc head) a) ≤ 3)
+buffer_harmless q n cap head (asks.Read s c) plain =
     ((record { space = refl; lies = inr (omega arith, omega (arith, header_long (asks.Read s c))) }, (record { space = refl; lies = inr (omega arith, omega arith) }, tt)), omega arith)
-buffer_harmless n cap head (asks.Write s fills) plain =
+buffer_harmless q n cap head (asks.Write s fills) plain =
     let bytes : List ℕ = written_bytes (asks.Write s fills) in
-    let p : ℕ = data_place (buffer_place (the_ring n).desc head) (asks.Write s fills) in
-    let last : List Store = one_store 0 (status_place (buffer_place (the_ring n).desc head)) (255 ∷ []) ∷ [] in
+    let p : ℕ = data_place (buffer_place (the_ring q n).desc head) (asks.Write s fills) in
+    let last : List Store = one_store 0 (status_place (buffer_place (the_ring q n).desc head)) (255 ∷ []) ∷ [] in
     let size : length bytes ≤ 4096 = plain.few in (
-      (record { space = refl; lies = inr (omega arith, omega (arith, header_long (asks.Write s fills))) }, harmless_append head (store_of_some 0 p bytes) last (some_harmless head p bytes (omega arith) (omega arith)) (record { space = refl; lies = inr (omega arith, omega arith) }, tt)),
+      (record { space = refl; lies = inr (omega arith, omega (arith, header_long (asks.Write s fills))) }, harmless_append q head (store_of_some 0 p bytes) last (some_harmless q head p bytes (omega arith) (omega arith)) (record { space = refl; lies = inr (omega arith, omega arith) }, tt)),
       omega (arith, some_few p bytes, length-append (store_of_some 0 p bytes) last),
     )
-buffer_harmless n cap head asks.Flush plain =
+buffer_harmless q n cap head asks.Flush plain =
     ((record { space = refl; lies = inr (omega arith, omega (arith, header_long asks.Flush)) }, (record { space = refl; lies = inr (omega arith, omega arith) }, tt)), omega arith)
-buffer_harmless n cap head asks.Id plain = absurd plain
-buffer_harmless n cap head (asks.Discard parts) plain = absurd plain
-buffer_harmless n cap head (asks.Zero parts) plain = absurd plain
+buffer_harmless q n cap head asks.Id plain = absurd plain
+buffer_harmless q n cap head (asks.Discard parts) plain = absurd plain
+buffer_harmless q n cap head (asks.Zero parts) plain = absurd plain
 
-chain_harmless : (n head : ℕ) (owner : ℕ → Option ℕ) (ps : List Piece) (ds : List ℕ) → n ≤ 64 → AllByRecursion (IsFree n owner) ds → AllByRecursion (IsHarmless head) (chain_stores (the_ring n) ps ds) × (length (chain_stores (the_ring n) ps ds) ≤ length ds)
-chain_harmless n head owner [] ds small all = (tt, omega arith)
-chain_harmless n head owner (p ∷ []) [] small all = (tt, omega arith)
-chain_harmless n head owner (p ∷ []) (d ∷ ds) small all = ((record { space = refl; lies = inl (omega (arith, all.0.0, desc_long p 0 0)) }, tt), omega arith)
-chain_harmless n head owner (p ∷ p' ∷ ps) [] small all = (tt, omega arith)
-chain_harmless n head owner (p ∷ p' ∷ ps) (d ∷ []) small all = (tt, omega arith)
-chain_harmless n head owner (p ∷ p' ∷ ps) (d ∷ d' ∷ ds) small all =
-    let rest = chain_harmless n head owner (p' ∷ ps) (d' ∷ ds) small all.1 in
-    ((record { space = refl; lies = inl (omega (arith, all.0.0, desc_long p 1 d')) }, rest.0), omega (arith, rest.1))
+chain_harmless : (q n head : ℕ) (owner : ℕ → Option ℕ) (ps : List Piece) (ds : List ℕ) → n ≤ 64 → AllByRecursion (IsFree n owner) ds → AllByRecursion (IsHarmless q head) (chain_stores (the_ring q n) ps ds) × (length (chain_stores (the_ring q n) ps ds) ≤ length ds)
+chain_harmless q n head owner [] ds small all = (tt, omega arith)
+chain_harmless q n head owner (p ∷ []) [] small all = (tt, omega arith)
+chain_harmless q n head owner (p ∷ []) (d ∷ ds) small all = ((record { space = refl; lies = inl (omega arith, omega (arith, all.0.0, desc_long p 0 0)) }, tt), omega arith)
+chain_harmless q n head owner (p ∷ p' ∷ ps) [] small all = (tt, omega arith)
+chain_harmless q n head owner (p ∷ p' ∷ ps) (d ∷ []) small all = (tt, omega arith)
+chain_harmless q n head owner (p ∷ p' ∷ ps) (d ∷ d' ∷ ds) small all =
+    let rest = chain_harmless q n head owner (p' ∷ ps) (d' ∷ ds) small all.1 in
+    ((record { space = refl; lies = inl (omega arith, omega (arith, all.0.0, desc_long p 1 d')) }, rest.0), omega (arith, rest.1))
 
 -- two or three descriptors are needed
 few_needed : (a : Ask) → (0 < descriptors_needed a) × (descriptors_needed a ≤ 3)
@@ -134,24 +134,24 @@ few_needed asks.Id = (omega arith, omega arith)
 few_needed (asks.Discard parts) = (omega arith, omega arith)
 few_needed (asks.Zero parts) = (omega arith, omega arith)
 
-plan_of : (n cap index head : ℕ) (owner : ℕ → Option ℕ) (a : Ask) (ds : List ℕ) → n ≤ 64 → IsPlainAsk cap a → length ds ≤ 2 → AllByRecursion (IsFree n owner) (head ∷ ds) → IsPlan n index head (request_stores (the_ring n) index a (head ∷ ds))
-plan_of n cap index head owner a ds small plain short all =
-    let front : List Store = buffer_stores (the_ring n) (buffer_place (the_ring n).desc head) a in
-    let chain : List Store = chain_stores (the_ring n) (pieces (buffer_place (the_ring n).desc head) a) (head ∷ ds) in
-    let fine = buffer_harmless n cap head a plain in
-    let fine_too = chain_harmless n head owner (pieces (buffer_place (the_ring n).desc head) a) (head ∷ ds) small all in record {
+plan_of : (q n cap index head : ℕ) (owner : ℕ → Option ℕ) (a : Ask) (ds : List ℕ) → n ≤ 64 → IsPlainAsk cap a → length ds ≤ 2 → AllByRecursion (IsFree n owner) (head ∷ ds) → IsPlan q n index head (request_stores (the_ring q n) index a (head ∷ ds))
+plan_of q n cap index head owner a ds small plain short all =
+    let front : List Store = buffer_stores (the_ring q n) (buffer_place (the_ring q n).desc head) a in
+    let chain : List Store = chain_stores (the_ring q n) (pieces (buffer_place (the_ring q n).desc head) a) (head ∷ ds) in
+    let fine = buffer_harmless q n cap head a plain in
+    let fine_too = chain_harmless q n head owner (pieces (buffer_place (the_ring q n).desc head) a) (head ∷ ds) small all in record {
       first = front ++ chain;
       few = omega (arith, fine.1, fine_too.1, length-append front chain);
-      harmless = harmless_append head front chain fine.0 fine_too.0;
-      whole = sym (append_assoc front chain (offer_stores (the_ring n) index head));
+      harmless = harmless_append q head front chain fine.0 fine_too.0;
+      whole = sym (append_assoc front chain (offer_stores (the_ring q n) index head));
     }
 
 -- ---- the driver
 
-ask_driven : (n cap base : ℕ) (past : List Entry) (heads : List ℕ) (a : Ask) (v : Driver) (ds : List ℕ) → n ≤ 64 → IsPlainAsk cap a → 0 < length ds → length ds ≤ 3 → AllByRecursion (IsFree n v.owner) ds → Driven n cap base past heads v
-    → Driven n cap base past heads (record v { owner = owned_by (first_or_zero ds) ds v.owner; waiting = Some (waits_on (the_ring n) a ds v.avail_idx) })
-ask_driven n cap base past heads a v [] small plain some few all d = absurd (omega arith)
-ask_driven n cap base past heads a v (head ∷ ds) small plain some few all d = record {
+ask_driven : (q n cap base : ℕ) (past : List Entry) (heads : List ℕ) (a : Ask) (v : Driver) (ds : List ℕ) → n ≤ 64 → IsPlainAsk cap a → 0 < length ds → length ds ≤ 3 → AllByRecursion (IsFree n v.owner) ds → Driven q n cap base past heads v
+    → Driven q n cap base past heads (record v { owner = owned_by (first_or_zero ds) ds v.owner; waiting = Some (waits_on (the_ring q n) a ds v.avail_idx) })
+ask_driven q n cap base past heads a v [] small plain some few all d = absurd (omega arith)
+ask_driven q n cap base past heads a v (head ∷ ds) small plain some few all d = record {
   index = d.index;
   below = d.below;
   owned = λ k out. owned_other n head (head ∷ ds) v.owner (slice_index heads k) (slice_index heads k) all (d.owned k out);
@@ -164,12 +164,12 @@ ask_driven n cap base past heads a v (head ∷ ds) small plain some few all d = 
         let none : v.owner (slice_index heads k) ≡ None = ap v.owner same ∙ all.0.1 in
         let fails : None ≡ Some (slice_index heads k) = sym none ∙ d.owned k out in
         absurd (cc);
-    plan = inl (plan_of n cap v.avail_idx head v.owner a ds small plain (omega arith) all);
+    plan = inl (plan_of q n cap v.avail_idx head v.owner a ds small plain (omega arith) all);
   };
 }
 
-pub ask_holds : (h : Header1) (s : Scene) (l : Lane) (a : Ask) → IsGood h → IsPlainAsk h.capacity a → can_take h.size Direct a l.driver ≡ true → Holds h s l → Holds h s (with_driver (after_ask (the_ring h.size) a l.driver) l)
-ask_holds h s l a good plain ready x =
+pub ask_holds : (q : ℕ) (h : Header1) (s : Scene) (l : Lane) (a : Ask) → IsGood h → IsPlainAsk h.capacity a → can_take h.size Direct a l.driver ≡ true → Holds q h s l → Holds q h s (with_driver (after_ask (the_ring q h.size) a l.driver) l)
+ask_holds q h s l a good plain ready x =
     let v : Driver = l.driver in
     let free : List ℕ = free_descriptors h.size v in
     let enough : descriptors_needed a ≤ length free = grind (arith, nat_tests) in
@@ -178,7 +178,7 @@ ask_holds h s l a good plain ready x =
     let all : AllByRecursion (IsFree h.size v.owner) (chosen h.size a v) = free_taken h.size v.owner (descriptors_needed a) free (free_are v.owner h.size 0 h.size (omega arith)) in record {
       known = x.known;
       ringed = x.ringed;
-      driven = ask_driven h.size h.capacity h.base s.past (s.heads 0) a v (chosen h.size a v) good.size.small plain (omega (arith, many, needed.0)) (omega (arith, many, needed.1)) all x.driven;
+      driven = ask_driven q h.size h.capacity h.base s.past (s.heads q) a v (chosen h.size a v) good.size.small plain (omega (arith, many, needed.0)) (omega (arith, many, needed.1)) all x.driven;
       worked = x.worked;
       stored = x.stored;
       built = x.built;

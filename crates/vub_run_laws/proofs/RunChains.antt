@@ -15,18 +15,18 @@ use Rattle.vub_direct_chain.specs.ChainState.{type_of, sector_of, handed_bytes, 
 use Rattle.vub_run_laws.proofs.RunFrames.{keeps, length_little}
 
 -- where the descriptor d stands, and the buffer of a head
-abbrev pub table_place : ℕ → ℕ
-table_place d = area_place 0 + 16 * d
+abbrev pub table_place : ℕ → ℕ → ℕ
+table_place q d = area_place q + 16 * d
 
-abbrev pub buffer_at : ℕ → ℕ
-buffer_at head = buffer_place (area_place 0) head
+abbrev pub buffer_at : ℕ → ℕ → ℕ
+buffer_at q head = buffer_place (area_place q) head
 
 -- a descriptor stands in the table
-pub record HasDesc (m : Bytes) (d : ℕ) (x : Desc) : Type 0 where
-  pub addr : word 8 m 0 (table_place d) ≡ x.addr
-  pub len : word 4 m 0 (table_place d + 8) ≡ x.len
-  pub flags : word 2 m 0 (table_place d + 12) ≡ x.flags
-  pub next : word 2 m 0 (table_place d + 14) ≡ x.next
+pub record HasDesc (q : ℕ) (m : Bytes) (d : ℕ) (x : Desc) : Type 0 where
+  pub addr : word 8 m 0 (table_place q d) ≡ x.addr
+  pub len : word 4 m 0 (table_place q d + 8) ≡ x.len
+  pub flags : word 2 m 0 (table_place q d + 12) ≡ x.flags
+  pub next : word 2 m 0 (table_place q d + 14) ≡ x.next
 
 -- header and data of a request stand in its buffer
 pub record HasFront (m : Bytes) (buffer : ℕ) (request : Asked) : Type 0 where
@@ -45,12 +45,12 @@ chain_of true head body status = head ∷ body ∷ status ∷ []
 chain_of false head body status = head ∷ status ∷ []
 
 -- the chain of header, data and status, and the buffer. Without data the second descriptor is that of the status
-pub record HasChain (m : Bytes) (head body status : ℕ) (request : Asked) : Type 0 where
-  pub first : HasDesc m head (desc_of (readable_piece (buffer_at head) 16) (Some body))
-  pub middle : has_body request ≡ true → HasDesc m body (desc_of (data_of (buffer_at head) request) (Some status))
+pub record HasChain (q : ℕ) (m : Bytes) (head body status : ℕ) (request : Asked) : Type 0 where
+  pub first : HasDesc q m head (desc_of (readable_piece (buffer_at q head) 16) (Some body))
+  pub middle : has_body request ≡ true → HasDesc q m body (desc_of (data_of (buffer_at q head) request) (Some status))
   pub none : has_body request ≡ false → body ≡ status
-  pub last : HasDesc m status (desc_of (writable_piece (status_place (buffer_at head)) 1) None)
-  pub front : HasFront m (buffer_at head) request
+  pub last : HasDesc q m status (desc_of (writable_piece (status_place (buffer_at q head)) 1) None)
+  pub front : HasFront m (buffer_at q head) request
 
 -- ---- what stores leave
 
@@ -62,12 +62,12 @@ off_part : (p : ℕ) (bs : List ℕ) (q v q' w : ℕ) → IsOff p bs q v → q �
 off_part p bs q v q' w (inl below) from upto = inl (omega arith)
 off_part p bs q v q' w (inr above) from upto = inr (omega arith)
 
-pub desc_kept : (m : Bytes) (d : ℕ) (x : Desc) (p : ℕ) (bs : List ℕ) → IsOff p bs (table_place d) 16 → HasDesc m d x → HasDesc (put m 0 p bs) d x
-desc_kept m d x p bs off h = record {
-  addr = keeps 8 m p bs (table_place d) (off_part p bs (table_place d) 16 (table_place d) 8 off (omega arith) (omega arith)) ∙ h.addr;
-  len = keeps 4 m p bs (table_place d + 8) (off_part p bs (table_place d) 16 (table_place d + 8) 4 off (omega arith) (omega arith)) ∙ h.len;
-  flags = keeps 2 m p bs (table_place d + 12) (off_part p bs (table_place d) 16 (table_place d + 12) 2 off (omega arith) (omega arith)) ∙ h.flags;
-  next = keeps 2 m p bs (table_place d + 14) (off_part p bs (table_place d) 16 (table_place d + 14) 2 off (omega arith) (omega arith)) ∙ h.next;
+pub desc_kept : (q : ℕ) (m : Bytes) (d : ℕ) (x : Desc) (p : ℕ) (bs : List ℕ) → IsOff p bs (table_place q d) 16 → HasDesc q m d x → HasDesc q (put m 0 p bs) d x
+desc_kept q m d x p bs off h = record {
+  addr = keeps 8 m p bs (table_place q d) (off_part p bs (table_place q d) 16 (table_place q d) 8 off (omega arith) (omega arith)) ∙ h.addr;
+  len = keeps 4 m p bs (table_place q d + 8) (off_part p bs (table_place q d) 16 (table_place q d + 8) 4 off (omega arith) (omega arith)) ∙ h.len;
+  flags = keeps 2 m p bs (table_place q d + 12) (off_part p bs (table_place q d) 16 (table_place q d + 12) 2 off (omega arith) (omega arith)) ∙ h.flags;
+  next = keeps 2 m p bs (table_place q d + 14) (off_part p bs (table_place q d) 16 (table_place q d + 14) 2 off (omega arith) (omega arith)) ∙ h.next;
 }
 
 pub front_kept : (m : Bytes) (buffer : ℕ) (request : Asked) (p : ℕ) (bs : List ℕ) → IsOff p bs buffer 16 → IsOff p bs (data_start buffer request) (length (handed_bytes request)) → HasFront m buffer request → HasFront (put m 0 p bs) buffer request
@@ -78,20 +78,20 @@ front_kept m buffer request p bs off off_handed h = record {
 }
 
 -- a store that touches nothing of a chain
-pub record Spares (head body status : ℕ) (request : Asked) (p : ℕ) (bs : List ℕ) : Type 0 where
-  pub first : IsOff p bs (table_place head) 16
-  pub middle : IsOff p bs (table_place body) 16
-  pub last : IsOff p bs (table_place status) 16
-  pub header : IsOff p bs (buffer_at head) 16
-  pub handed : IsOff p bs (data_start (buffer_at head) request) (length (handed_bytes request))
+pub record Spares (q head body status : ℕ) (request : Asked) (p : ℕ) (bs : List ℕ) : Type 0 where
+  pub first : IsOff p bs (table_place q head) 16
+  pub middle : IsOff p bs (table_place q body) 16
+  pub last : IsOff p bs (table_place q status) 16
+  pub header : IsOff p bs (buffer_at q head) 16
+  pub handed : IsOff p bs (data_start (buffer_at q head) request) (length (handed_bytes request))
 
-pub chain_kept : (m : Bytes) (head body status : ℕ) (request : Asked) (p : ℕ) (bs : List ℕ) → Spares head body status request p bs → HasChain m head body status request → HasChain (put m 0 p bs) head body status request
-chain_kept m head body status request p bs s h = record {
-  first = desc_kept m head (desc_of (readable_piece (buffer_at head) 16) (Some body)) p bs s.first h.first;
-  middle = λ some. desc_kept m body (desc_of (data_of (buffer_at head) request) (Some status)) p bs s.middle (h.middle some);
+pub chain_kept : (q : ℕ) (m : Bytes) (head body status : ℕ) (request : Asked) (p : ℕ) (bs : List ℕ) → Spares q head body status request p bs → HasChain q m head body status request → HasChain q (put m 0 p bs) head body status request
+chain_kept q m head body status request p bs s h = record {
+  first = desc_kept q m head (desc_of (readable_piece (buffer_at q head) 16) (Some body)) p bs s.first h.first;
+  middle = λ some. desc_kept q m body (desc_of (data_of (buffer_at q head) request) (Some status)) p bs s.middle (h.middle some);
   none = h.none;
-  last = desc_kept m status (desc_of (writable_piece (status_place (buffer_at head)) 1) None) p bs s.last h.last;
-  front = front_kept m (buffer_at head) request p bs s.header s.handed h.front;
+  last = desc_kept q m status (desc_of (writable_piece (status_place (buffer_at q head)) 1) None) p bs s.last h.last;
+  front = front_kept m (buffer_at q head) request p bs s.header s.handed h.front;
 }
 
 -- ---- words of what was stored
@@ -112,9 +112,9 @@ four_long a b c d la lb lc ld = simp length-append (omega arith)
 pub desc_long : (p : Piece) (flag next : ℕ) → length (descriptor_bytes p flag next) ≡ 16
 desc_long p flag next = four_long (little_bytes 8 p.place) (little_bytes 4 p.len) (little_bytes 2 (write_flag p.writable + flag)) (little_bytes 2 next) (length_little 8 p.place) (length_little 4 p.len) (length_little 2 (write_flag p.writable + flag)) (length_little 2 next)
 
-pub desc_made : (m : Bytes) (d at : ℕ) (p : Piece) (flag next : ℕ) → at ≡ table_place d → p.place < 256 ^ 8 → p.len < 256 ^ 4 → write_flag p.writable + flag < 256 ^ 2 → next < 256 ^ 2
-    → HasDesc (put m 0 at (descriptor_bytes p flag next)) d (record { addr = p.place; len = p.len; flags = write_flag p.writable + flag; next = next })
-desc_made m d at p flag next here fits_a fits_b fits_c fits_d =
+pub desc_made : (q : ℕ) (m : Bytes) (d at : ℕ) (p : Piece) (flag next : ℕ) → at ≡ table_place q d → p.place < 256 ^ 8 → p.len < 256 ^ 4 → write_flag p.writable + flag < 256 ^ 2 → next < 256 ^ 2
+    → HasDesc q (put m 0 at (descriptor_bytes p flag next)) d (record { addr = p.place; len = p.len; flags = write_flag p.writable + flag; next = next })
+desc_made q m d at p flag next here fits_a fits_b fits_c fits_d =
     let f : ℕ = write_flag p.writable + flag in
     let a : List ℕ = little_bytes 8 p.place in
     let b : List ℕ = little_bytes 4 p.len in
@@ -130,8 +130,8 @@ desc_made m d at p flag next here fits_a fits_b fits_c fits_d =
     let after_b : bs ≡ (a ++ b) ++ (c ++ e) = sym (append_assoc a b (c ++ e)) in
     let after_c : bs ≡ ((a ++ b) ++ c) ++ (e ++ []) = after_b ∙ sym (append_assoc (a ++ b) c e) ∙ ap (λ (xs : List ℕ). ((a ++ b) ++ c) ++ xs) (sym (append-nil e)) in
     record {
-      addr = word_made m at (table_place d) [] (b ++ c ++ e) bs 8 p.place refl (omega arith) (omega arith) fits_a;
-      len = word_made m at (table_place d + 8) a (c ++ e) bs 4 p.len refl (omega arith) (omega arith) fits_b;
-      flags = word_made m at (table_place d + 12) (a ++ b) e bs 2 f after_b (omega arith) (omega arith) fits_c;
-      next = word_made m at (table_place d + 14) ((a ++ b) ++ c) [] bs 2 next after_c (omega arith) (omega arith) fits_d;
+      addr = word_made m at (table_place q d) [] (b ++ c ++ e) bs 8 p.place refl (omega arith) (omega arith) fits_a;
+      len = word_made m at (table_place q d + 8) a (c ++ e) bs 4 p.len refl (omega arith) (omega arith) fits_b;
+      flags = word_made m at (table_place q d + 12) (a ++ b) e bs 2 f after_b (omega arith) (omega arith) fits_c;
+      next = word_made m at (table_place q d + 14) ((a ++ b) ++ c) [] bs 2 next after_c (omega arith) (omega arith) fits_d;
     }

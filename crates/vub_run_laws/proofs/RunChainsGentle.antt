@@ -3,6 +3,7 @@ use Rattle.std.proofs.Common.{◌≡◌, ◌≢◌, ◌≤◌, ◌<◌, ◌⊎�
 use Rattle.std.specs.Prelude.{Option, Some, slice_index}
 use Rattle.std.specs.List.{AllByRecursion}
 use Rattle.std.proofs.lemmas.Bool.{cases_lt}
+use Rattle.vub_driver.specs.Layout.{area_place}
 use Rattle.vub_base.specs.declared.header.Header1.{Header1}
 use Rattle.vub_shared.specs.Stores.{Store}
 use Rattle.vub_device.specs.declared.entry.Asked.{Asked}
@@ -17,43 +18,43 @@ use Rattle.vub_run_laws.proofs.RunChainsStores.{handed_fits}
 use Rattle.vub_run_laws.proofs.RunChainsMade.{Stand, stand_kept, Serves, serving_off}
 
 -- a head under which no request is offered and not collected
-abbrev pub IsUnused : Scene → ℕ → Type 0
-IsUnused s head = (k : ℕ) → IsOut s.past (s.heads 0) k → slice_index (s.heads 0) k ≢ head
+abbrev pub IsUnused : ℕ → Scene → ℕ → Type 0
+IsUnused q s head = (k : ℕ) → IsOut q s.past (s.heads q) k → slice_index (s.heads q) k ≢ head
 
-pub record IsGentle (n : ℕ) (s s' : Scene) : Type 0 where
-  pub heads : s'.heads 0 ≡ s.heads 0
-  pub same : (k : ℕ) → asked s'.past 0 k ≡ asked s.past 0 k
-  pub out : (k : ℕ) → IsOut s'.past (s.heads 0) k → IsOut s.past (s.heads 0) k
-  pub chain : (k body status : ℕ) (r : Asked) → IsOut s.past (s.heads 0) k → body < n → status < n → asked s.past 0 k ≡ Some r
-      → HasChain s.memory (slice_index (s.heads 0) k) body status r → HasChain s'.memory (slice_index (s.heads 0) k) body status r
+pub record IsGentle (q n : ℕ) (s s' : Scene) : Type 0 where
+  pub heads : s'.heads q ≡ s.heads q
+  pub same : (k : ℕ) → asked s'.past q k ≡ asked s.past q k
+  pub out : (k : ℕ) → IsOut q s'.past (s.heads q) k → IsOut q s.past (s.heads q) k
+  pub chain : (k body status : ℕ) (r : Asked) → IsOut q s.past (s.heads q) k → body < n → status < n → asked s.past q k ≡ Some r
+      → HasChain q s.memory (slice_index (s.heads q) k) body status r → HasChain q s'.memory (slice_index (s.heads q) k) body status r
   -- what was made of a request that isn't offered
-  pub made : (head : ℕ) (sts : List Store) → IsUnused s head → AllByRecursion (Serves head) sts → Stand sts s.memory → Stand sts s'.memory
+  pub made : (head : ℕ) (sts : List Store) → IsUnused q s head → AllByRecursion (Serves q head) sts → Stand sts s.memory → Stand sts s'.memory
 
-pub gentle_none : (n : ℕ) (s : Scene) → IsGentle n s s
-gentle_none n s = record { heads = refl; same = λ k. refl; out = λ k o. o; chain = λ k body status r out fb fs is c. c; made = λ head sts unused serve stand. stand }
+pub gentle_none : (q n : ℕ) (s : Scene) → IsGentle q n s s
+gentle_none q n s = record { heads = refl; same = λ k. refl; out = λ k o. o; chain = λ k body status r out fb fs is c. c; made = λ head sts unused serve stand. stand }
 
 -- outside the buffer of a head
-abbrev pub IsAway : ℕ → ℕ → List ℕ → Type 0
-IsAway head p bs = (p + length bs ≤ buffer_at head) ⊎ (buffer_at head + 8192 ≤ p)
+abbrev pub IsAway : ℕ → ℕ → ℕ → List ℕ → Type 0
+IsAway q head p bs = (p + length bs ≤ buffer_at q head) ⊎ (buffer_at q head + 8192 ≤ p)
 
 -- a store above the avail ring that spares each chain, and the buffers of unused heads
-pub store_gentle : (h : Header1) (s : Scene) (l : Lane) (p : ℕ) (bs : List ℕ) → Holds h s l → 8192 ≤ p → ((head : ℕ) → IsUnused s head → IsAway head p bs)
-    → ((k body status : ℕ) (r : Asked) → IsOut s.past (s.heads 0) k → slice_index (s.heads 0) k < h.size → body < h.size → status < h.size → asked s.past 0 k ≡ Some r → IsWide h.capacity (Some r) → Spares (slice_index (s.heads 0) k) body status r p bs)
-    → IsGentle h.size s (stored_at p bs s)
-store_gentle h s l p bs x above away spares = record {
+pub store_gentle : (q : ℕ) (h : Header1) (s : Scene) (l : Lane) (p : ℕ) (bs : List ℕ) → Holds q h s l → area_place q + 8192 ≤ p → ((head : ℕ) → IsUnused q s head → IsAway q head p bs)
+    → ((k body status : ℕ) (r : Asked) → IsOut q s.past (s.heads q) k → slice_index (s.heads q) k < h.size → body < h.size → status < h.size → asked s.past q k ≡ Some r → IsWide h.capacity (Some r) → Spares q (slice_index (s.heads q) k) body status r p bs)
+    → IsGentle q h.size s (stored_at p bs s)
+store_gentle q h s l p bs x above away spares = record {
   heads = refl;
   same = λ k. refl;
   out = λ k o. o;
   chain = λ k body status r out fb fs is held.
       let simple : IsWide h.capacity (Some r) = subst (λ (o : Option Asked). IsWide h.capacity o) is (x.known.wide k out.below) in
-      chain_kept s.memory (slice_index (s.heads 0) k) body status r p bs (spares k body status r out (x.driven.below k out) fb fs is simple) held;
-  made = λ head sts unused serve stand. stand_kept sts s.memory p bs (serving_off head sts p bs above (away head unused) serve) stand;
+      chain_kept q s.memory (slice_index (s.heads q) k) body status r p bs (spares k body status r out (x.driven.below k out) fb fs is simple) held;
+  made = λ head sts unused serve stand. stand_kept sts s.memory p bs (serving_off q head sts p bs above (away head unused) serve) stand;
 }
 
 -- between table and buffers
-pub ring_spares : (cap head body status : ℕ) (r : Asked) (p : ℕ) (bs : List ℕ) → head < 64 → body < 64 → status < 64 → IsWide cap (Some r) → 4096 ≤ p → p + length bs ≤ 65536 → Spares head body status r p bs
-ring_spares cap head body status r p bs fh fb fs simple from upto =
-    let at = handed_fits cap (buffer_at head) r simple in record {
+pub ring_spares : (q cap head body status : ℕ) (r : Asked) (p : ℕ) (bs : List ℕ) → head < 64 → body < 64 → status < 64 → IsWide cap (Some r) → area_place q + 4096 ≤ p → p + length bs ≤ area_place q + 65536 → Spares q head body status r p bs
+ring_spares q cap head body status r p bs fh fb fs simple from upto =
+    let at = handed_fits cap (buffer_at q head) r simple in record {
       first = inl (omega arith);
       middle = inl (omega arith);
       last = inl (omega arith);
@@ -62,9 +63,9 @@ ring_spares cap head body status r p bs fh fb fs simple from upto =
     }
 
 -- in the buffer of another head
-pub buffer_spares : (cap head body status other : ℕ) (r : Asked) (p : ℕ) (bs : List ℕ) → head < 64 → body < 64 → status < 64 → IsWide cap (Some r) → head ≢ other → 65536 + 8192 * other ≤ p → p + length bs ≤ 65536 + 8192 * other + 8192 → Spares head body status r p bs
-buffer_spares cap head body status other r p bs fh fb fs simple apart from upto =
-    let at = handed_fits cap (buffer_at head) r simple in record {
+pub buffer_spares : (q cap head body status other : ℕ) (r : Asked) (p : ℕ) (bs : List ℕ) → head < 64 → body < 64 → status < 64 → IsWide cap (Some r) → head ≢ other → area_place q + (65536 + 8192 * other) ≤ p → p + length bs ≤ area_place q + (65536 + 8192 * other) + 8192 → Spares q head body status r p bs
+buffer_spares q cap head body status other r p bs fh fb fs simple apart from upto =
+    let at = handed_fits cap (buffer_at q head) r simple in record {
       first = inl (omega arith);
       middle = inl (omega arith);
       last = inl (omega arith);
@@ -79,11 +80,11 @@ buffer_spares cap head body status other r p bs fh fb fs simple apart from upto 
     }
 
 -- a store in the buffer of a request that is offered is outside those of unused heads
-pub offered_away : (s : Scene) (k p : ℕ) (bs : List ℕ) → IsOut s.past (s.heads 0) k → buffer_at (slice_index (s.heads 0) k) ≤ p → p + length bs ≤ buffer_at (slice_index (s.heads 0) k) + 8192 → (head : ℕ) → IsUnused s head → IsAway head p bs
-offered_away s k p bs out from upto head unused = other_buffer (head ∷ []) 0 (slice_index (s.heads 0) k) p bs (λ same. unused k out (sym same)) (omega arith) (omega arith)
+pub offered_away : (q : ℕ) (s : Scene) (k p : ℕ) (bs : List ℕ) → IsOut q s.past (s.heads q) k → buffer_at q (slice_index (s.heads q) k) ≤ p → p + length bs ≤ buffer_at q (slice_index (s.heads q) k) + 8192 → (head : ℕ) → IsUnused q s head → IsAway q head p bs
+offered_away q s k p bs out from upto head unused = other_buffer q (head ∷ []) 0 (slice_index (s.heads q) k) p bs (λ same. unused k out (sym same)) (omega arith) (omega arith)
 
 -- in the used ring
-pub ring_gentle : (h : Header1) (s : Scene) (l : Lane) (p : ℕ) (bs : List ℕ) → IsGood h → Holds h s l → 8192 ≤ p → p + length bs ≤ 65536 → IsGentle h.size s (stored_at p bs s)
-ring_gentle h s l p bs good x from upto =
+pub ring_gentle : (q : ℕ) (h : Header1) (s : Scene) (l : Lane) (p : ℕ) (bs : List ℕ) → IsGood h → Holds q h s l → area_place q + 8192 ≤ p → p + length bs ≤ area_place q + 65536 → IsGentle q h.size s (stored_at p bs s)
+ring_gentle q h s l p bs good x from upto =
     let small : h.size ≤ 64 = good.size.small in
-    store_gentle h s l p bs x from (λ head unused. inl (omega arith)) (λ k body status r out fh fb fs is simple. ring_spares h.capacity (slice_index (s.heads 0) k) body status r p bs (omega arith) (omega arith) (omega arith) simple (omega arith) upto)
+    store_gentle q h s l p bs x from (λ head unused. inl (omega arith)) (λ k body status r out fh fb fs is simple. ring_spares q h.capacity (slice_index (s.heads q) k) body status r p bs (omega arith) (omega arith) (omega arith) simple (omega arith) upto)

@@ -12,7 +12,7 @@ use Rattle.vub_base.specs.declared.request.Ask.TheVariants as wants
 use Rattle.vub_shared.specs.Bytes.{Bytes, put}
 use Rattle.vub_shared.specs.Stores.{Store, one_store}
 use Rattle.vub_shared.proofs.BytesLemmas.{put_other}
-use Rattle.vub_driver.specs.Layout.{status_place, sectors_place}
+use Rattle.vub_driver.specs.Layout.{area_place, status_place, sectors_place}
 use Rattle.vub_driver.specs.Requests.{Piece, readable_piece, writable_piece, written_bytes, has_data}
 use Rattle.vub_driver.specs.Stores.{store_of_some, request_stores}
 use Rattle.vub_direct_chain.specs.ChainState.{data_of}
@@ -121,90 +121,90 @@ stand_kept sts m q bs off stand = fun_ext (λ s. fun_ext (λ p. at s p))
 -- ---- where the stores of a request are
 
 -- in the avail ring, in the buffer of the head, or in the entry of a descriptor that belongs to it
-abbrev pub IsMine : (ℕ → Option ℕ) → ℕ → ℕ → List ℕ → Type 0
-IsMine owner head p bs =
-    ((4096 ≤ p) × (p + length bs ≤ 8192))
-    ⊎ (((65536 + 8192 * head ≤ p) × (p + length bs ≤ 65536 + 8192 * head + 8192))
-    ⊎ ((d : ℕ) × (d < 64) × (owner d ≡ Some head) × (p ≡ table_place d) × (length bs ≡ 16)))
+abbrev pub IsMine : ℕ → (ℕ → Option ℕ) → ℕ → ℕ → List ℕ → Type 0
+IsMine q owner head p bs =
+    ((area_place q + 4096 ≤ p) × (p + length bs ≤ area_place q + 8192))
+    ⊎ (((area_place q + (65536 + 8192 * head) ≤ p) × (p + length bs ≤ area_place q + (65536 + 8192 * head) + 8192))
+    ⊎ ((d : ℕ) × (d < 64) × (owner d ≡ Some head) × (p ≡ table_place q d) × (length bs ≡ 16)))
 
-abbrev pub AreMine : (ℕ → Option ℕ) → ℕ → List Store → Type 0
-AreMine owner head sts = AllByRecursion (λ (st : Store). IsMine owner head st.place st.bytes) sts
+abbrev pub AreMine : ℕ → (ℕ → Option ℕ) → ℕ → List Store → Type 0
+AreMine q owner head sts = AllByRecursion (λ (st : Store). IsMine q owner head st.place st.bytes) sts
 
-some_mine : (owner : ℕ → Option ℕ) (head : ℕ) (bytes : List ℕ) → length bytes ≤ 4096 → AreMine owner head (store_of_some 0 (sectors_place (buffer_at head)) bytes)
-some_mine owner head [] few = tt
-some_mine owner head (b ∷ bytes) few = (inr (inl (omega arith, omega arith)), tt)
+some_mine : (q : ℕ) (owner : ℕ → Option ℕ) (head : ℕ) (bytes : List ℕ) → length bytes ≤ 4096 → AreMine q owner head (store_of_some 0 (sectors_place (buffer_at q head)) bytes)
+some_mine q owner head [] few = tt
+some_mine q owner head (b ∷ bytes) few = (inr (inl (omega arith, omega arith)), tt)
 
-linked_mine : (n index : ℕ) (owner : ℕ → Option ℕ) (head body status : ℕ) (p : Piece) → IsSize n → head < 64 → body < 64 → status < 64 → owner head ≡ Some head → owner body ≡ Some head → owner status ≡ Some head → AreMine owner head (linked n index head body status p)
-linked_mine n index owner head body status p size fh fb fs mh mb ms =
+linked_mine : (q n index : ℕ) (owner : ℕ → Option ℕ) (head body status : ℕ) (p : Piece) → IsSize n → head < 64 → body < 64 → status < 64 → owner head ≡ Some head → owner body ≡ Some head → owner status ≡ Some head → AreMine q owner head (linked q n index head body status p)
+linked_mine q n index owner head body status p size fh fb fs mh mb ms =
     let low = entry_small n index size in
     let e : length (little_bytes 2 head) ≡ 2 = length_little 2 head in
     let i : length (little_bytes 2 ((index + 1) % 65536)) ≡ 2 = length_little 2 ((index + 1) % 65536) in (
-      inr (inr (head, fh, mh, refl, desc_long (readable_piece (buffer_at head) 16) 1 body)),
+      inr (inr (head, fh, mh, refl, desc_long (readable_piece (buffer_at q head) 16) 1 body)),
       (
         inr (inr (body, fb, mb, refl, desc_long p 1 status)),
         (
-          inr (inr (status, fs, ms, refl, desc_long (writable_piece (status_place (buffer_at head)) 1) 0 0)),
+          inr (inr (status, fs, ms, refl, desc_long (writable_piece (status_place (buffer_at q head)) 1) 0 0)),
           (inl (omega arith, omega arith), (inl (omega arith, omega arith), tt)),
         ),
       ),
     )
 
 -- those of a request without data
-two_mine : (n index : ℕ) (owner : ℕ → Option ℕ) (head status : ℕ) → IsSize n → head < 64 → status < 64 → owner head ≡ Some head → owner status ≡ Some head
-    → AreMine owner head (linked_two n index head status)
-two_mine n index owner head status size fh fs mh ms =
+two_mine : (q n index : ℕ) (owner : ℕ → Option ℕ) (head status : ℕ) → IsSize n → head < 64 → status < 64 → owner head ≡ Some head → owner status ≡ Some head
+    → AreMine q owner head (linked_two q n index head status)
+two_mine q n index owner head status size fh fs mh ms =
     let low = entry_small n index size in
     let e : length (little_bytes 2 head) ≡ 2 = length_little 2 head in
     let i : length (little_bytes 2 ((index + 1) % 65536)) ≡ 2 = length_little 2 ((index + 1) % 65536) in (
-      inr (inr (head, fh, mh, refl, desc_long (readable_piece (buffer_at head) 16) 1 status)),
-      (inr (inr (status, fs, ms, refl, desc_long (writable_piece (status_place (buffer_at head)) 1) 0 0)), (inl (omega arith, omega arith), (inl (omega arith, omega arith), tt))),
+      inr (inr (head, fh, mh, refl, desc_long (readable_piece (buffer_at q head) 16) 1 status)),
+      (inr (inr (status, fs, ms, refl, desc_long (writable_piece (status_place (buffer_at q head)) 1) 0 0)), (inl (omega arith, omega arith), (inl (omega arith, omega arith), tt))),
     )
 
-pub stores_mine : (n cap index : ℕ) (owner : ℕ → Option ℕ) (head body status : ℕ) (a : Ask) → IsSize n → IsWide cap (Some (request_of a)) → head < n → body < n → status < n → owner head ≡ Some head → owner body ≡ Some head → owner status ≡ Some head
-    → AreMine owner head (request_stores (the_ring n) index a (chain_of (has_data a) head body status))
-stores_mine n cap index owner head body status (wants.Read s c) size wide fh fb fs mh mb ms =
+pub stores_mine : (q n cap index : ℕ) (owner : ℕ → Option ℕ) (head body status : ℕ) (a : Ask) → IsSize n → IsWide cap (Some (request_of a)) → head < n → body < n → status < n → owner head ≡ Some head → owner body ≡ Some head → owner status ≡ Some head
+    → AreMine q owner head (request_stores (the_ring q n) index a (chain_of (has_data a) head body status))
+stores_mine q n cap index owner head body status (wants.Read s c) size wide fh fb fs mh mb ms =
     let small : n ≤ 64 = size.small in
-    (inr (inl (omega arith, omega (arith, header_long 0 s))), (inr (inl (omega arith, omega arith)), linked_mine n index owner head body status (data_of (buffer_at head) (request_of (wants.Read s c))) size (omega arith) (omega arith) (omega arith) mh mb ms))
-stores_mine n cap index owner head body status (wants.Write s fills) size wide fh fb fs mh mb ms =
+    (inr (inl (omega arith, omega (arith, header_long 0 s))), (inr (inl (omega arith, omega arith)), linked_mine q n index owner head body status (data_of (buffer_at q head) (request_of (wants.Read s c))) size (omega arith) (omega arith) (omega arith) mh mb ms))
+stores_mine q n cap index owner head body status (wants.Write s fills) size wide fh fb fs mh mb ms =
     let small : n ≤ 64 = size.small in
     let bytes : List ℕ = written_bytes (wants.Write s fills) in
-    let front : List Store = store_of_some 0 (sectors_place (buffer_at head)) bytes in
-    let last : List Store = one_store 0 (status_place (buffer_at head)) (255 ∷ []) ∷ [] in
-    let mine : Store → Type 0 = λ st. IsMine owner head st.place st.bytes in
-    let rest : List Store = linked n index head body status (data_of (buffer_at head) (request_of (wants.Write s fills))) in (
+    let front : List Store = store_of_some 0 (sectors_place (buffer_at q head)) bytes in
+    let last : List Store = one_store 0 (status_place (buffer_at q head)) (255 ∷ []) ∷ [] in
+    let mine : Store → Type 0 = λ st. IsMine q owner head st.place st.bytes in
+    let rest : List Store = linked q n index head body status (data_of (buffer_at q head) (request_of (wants.Write s fills))) in (
       inr (inl (omega arith, omega (arith, header_long 1 s))),
       all_append mine (front ++ last) rest
-          (all_append mine front last (some_mine owner head bytes wide.few) (inr (inl (omega arith, omega arith)), tt))
-          (linked_mine n index owner head body status (data_of (buffer_at head) (request_of (wants.Write s fills))) size (omega arith) (omega arith) (omega arith) mh mb ms),
+          (all_append mine front last (some_mine q owner head bytes wide.few) (inr (inl (omega arith, omega arith)), tt))
+          (linked_mine q n index owner head body status (data_of (buffer_at q head) (request_of (wants.Write s fills))) size (omega arith) (omega arith) (omega arith) mh mb ms),
     )
-stores_mine n cap index owner head body status wants.Flush size wide fh fb fs mh mb ms =
+stores_mine q n cap index owner head body status wants.Flush size wide fh fb fs mh mb ms =
     let small : n ≤ 64 = size.small in
-    (inr (inl (omega arith, omega (arith, header_long 4 0))), (inr (inl (omega arith, omega arith)), two_mine n index owner head status size (omega arith) (omega arith) mh ms))
-stores_mine n cap index owner head body status wants.Id size wide fh fb fs mh mb ms = absurd wide
-stores_mine n cap index owner head body status (wants.Discard parts) size wide fh fb fs mh mb ms = absurd wide
-stores_mine n cap index owner head body status (wants.Zero parts) size wide fh fb fs mh mb ms = absurd wide
+    (inr (inl (omega arith, omega (arith, header_long 4 0))), (inr (inl (omega arith, omega arith)), two_mine q n index owner head status size (omega arith) (omega arith) mh ms))
+stores_mine q n cap index owner head body status wants.Id size wide fh fb fs mh mb ms = absurd wide
+stores_mine q n cap index owner head body status (wants.Discard parts) size wide fh fb fs mh mb ms = absurd wide
+stores_mine q n cap index owner head body status (wants.Zero parts) size wide fh fb fs mh mb ms = absurd wide
 
 -- below the used ring, or in the buffer of that head
-abbrev pub Serves : ℕ → Store → Type 0
-Serves head st = (st.place + length st.bytes ≤ 8192) ⊎ ((65536 + 8192 * head ≤ st.place) × (st.place + length st.bytes ≤ 65536 + 8192 * head + 8192))
+abbrev pub Serves : ℕ → ℕ → Store → Type 0
+Serves q head st = (st.place + length st.bytes ≤ area_place q + 8192) ⊎ ((area_place q + (65536 + 8192 * head) ≤ st.place) × (st.place + length st.bytes ≤ area_place q + (65536 + 8192 * head) + 8192))
 
-pub all_serve : (owner : ℕ → Option ℕ) (head : ℕ) (sts : List Store) → AreMine owner head sts → AllByRecursion (Serves head) sts
-all_serve owner head [] mine = tt
-all_serve owner head (st ∷ sts) mine = (
+pub all_serve : (q : ℕ) (owner : ℕ → Option ℕ) (head : ℕ) (sts : List Store) → AreMine q owner head sts → AllByRecursion (Serves q head) sts
+all_serve q owner head [] mine = tt
+all_serve q owner head (st ∷ sts) mine = (
   elim mine.0 [
     | inl ring ↦ inl ring.1
     | inr (inl own) ↦ inr own
     | inr (inr t) ↦ inl (let low : t.0 < 64 = t.1 in omega (arith, t.3, t.4))
   ],
-  all_serve owner head sts mine.1,
+  all_serve q owner head sts mine.1,
 )
 
 -- a store above the avail ring and outside that buffer shares no byte with them
-pub serving_off : (head : ℕ) (sts : List Store) (p : ℕ) (bs : List ℕ) → 8192 ≤ p → (p + length bs ≤ buffer_at head) ⊎ (buffer_at head + 8192 ≤ p) → AllByRecursion (Serves head) sts → AreOff p (length bs) sts
-serving_off head [] p bs from away serve = tt
-serving_off head (st ∷ sts) p bs from away serve = (here away serve.0, serving_off head sts p bs from away serve.1)
+pub serving_off : (q head : ℕ) (sts : List Store) (p : ℕ) (bs : List ℕ) → area_place q + 8192 ≤ p → (p + length bs ≤ buffer_at q head) ⊎ (buffer_at q head + 8192 ≤ p) → AllByRecursion (Serves q head) sts → AreOff p (length bs) sts
+serving_off q head [] p bs from away serve = tt
+serving_off q head (st ∷ sts) p bs from away serve = (here away serve.0, serving_off q head sts p bs from away serve.1)
   where
-    here : (p + length bs ≤ buffer_at head) ⊎ (buffer_at head + 8192 ≤ p) → Serves head st → IsOff st.place st.bytes p (length bs)
+    here : (p + length bs ≤ buffer_at q head) ⊎ (buffer_at q head + 8192 ≤ p) → Serves q head st → IsOff st.place st.bytes p (length bs)
     here a (inl low) = inr (omega arith)
     here (inl below) (inr own) = inl (omega arith)
     here (inr above) (inr own) = inr (omega arith)

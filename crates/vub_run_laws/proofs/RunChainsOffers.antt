@@ -64,8 +64,8 @@ needed_is wants.Id = refl
 needed_is (wants.Discard parts) = refl
 needed_is (wants.Zero parts) = refl
 
-linked_still : (n : ℕ) (owner owner' : ℕ → Option ℕ) (m : Bytes) (head : ℕ) (o : Option Asked) → ((d : ℕ) → owner d ≡ Some head → owner' d ≡ Some head) → IsLinked n owner m head o → IsLinked n owner' m head o
-linked_still n owner owner' m head o still was = record {
+linked_still : (q n : ℕ) (owner owner' : ℕ → Option ℕ) (m : Bytes) (head : ℕ) (o : Option Asked) → ((d : ℕ) → owner d ≡ Some head → owner' d ≡ Some head) → IsLinked q n owner m head o → IsLinked q n owner' m head o
+linked_still q n owner owner' m head o still was = record {
   body = was.body;
   status = was.status;
   body_fits = was.body_fits;
@@ -77,12 +77,12 @@ linked_still n owner owner' m head o still was = record {
   stands = was.stands;
 }
 
-prepared_three : (n : ℕ) (m : Bytes) (a : Ask) (v : Driver) (ds : List ℕ) → has_data a ≡ true → length ds ≡ 3 → IsFreeFrom n v.owner 0 ds
-    → IsPrepared n m (record v { owner = owned_by (first_or_zero ds) ds v.owner; waiting = Some (waits_on (the_ring n) a ds v.avail_idx) }) (waits_on (the_ring n) a ds v.avail_idx)
-prepared_three n m a v [] some three all = absurd (omega arith)
-prepared_three n m a v (x ∷ []) some three all = absurd (omega arith)
-prepared_three n m a v (x ∷ y ∷ []) some three all = absurd (omega arith)
-prepared_three n m a v (x ∷ y ∷ z ∷ []) some three all = record {
+prepared_three : (q n : ℕ) (m : Bytes) (a : Ask) (v : Driver) (ds : List ℕ) → has_data a ≡ true → length ds ≡ 3 → IsFreeFrom n v.owner 0 ds
+    → IsPrepared q n m (record v { owner = owned_by (first_or_zero ds) ds v.owner; waiting = Some (waits_on (the_ring q n) a ds v.avail_idx) }) (waits_on (the_ring q n) a ds v.avail_idx)
+prepared_three q n m a v [] some three all = absurd (omega arith)
+prepared_three q n m a v (x ∷ []) some three all = absurd (omega arith)
+prepared_three q n m a v (x ∷ y ∷ []) some three all = absurd (omega arith)
+prepared_three q n m a v (x ∷ y ∷ z ∷ []) some three all = record {
   body = y;
   status = z;
   up = omega (arith, all.1.1.1.0);
@@ -93,17 +93,17 @@ prepared_three n m a v (x ∷ y ∷ z ∷ []) some three all = record {
   body_mine = grind (arith, nat_tests);
   status_mine = grind (arith, nat_tests);
   made = [];
-  stores = ap (λ (b : Bool). request_stores (the_ring n) v.avail_idx a (chain_of b x y z)) (sym some);
+  stores = ap (λ (b : Bool). request_stores (the_ring q n) v.avail_idx a (chain_of b x y z)) (sym some);
   some = omega arith;
   stand = refl;
 }
-prepared_three n m a v (x ∷ y ∷ z ∷ t ∷ ts) some three all = absurd (omega arith)
+prepared_three q n m a v (x ∷ y ∷ z ∷ t ∷ ts) some three all = absurd (omega arith)
 
-prepared_two : (n : ℕ) (m : Bytes) (a : Ask) (v : Driver) (ds : List ℕ) → has_data a ≡ false → length ds ≡ 2 → IsFreeFrom n v.owner 0 ds
-    → IsPrepared n m (record v { owner = owned_by (first_or_zero ds) ds v.owner; waiting = Some (waits_on (the_ring n) a ds v.avail_idx) }) (waits_on (the_ring n) a ds v.avail_idx)
-prepared_two n m a v [] none two all = absurd (omega arith)
-prepared_two n m a v (x ∷ []) none two all = absurd (omega arith)
-prepared_two n m a v (x ∷ y ∷ []) none two all = record {
+prepared_two : (q n : ℕ) (m : Bytes) (a : Ask) (v : Driver) (ds : List ℕ) → has_data a ≡ false → length ds ≡ 2 → IsFreeFrom n v.owner 0 ds
+    → IsPrepared q n m (record v { owner = owned_by (first_or_zero ds) ds v.owner; waiting = Some (waits_on (the_ring q n) a ds v.avail_idx) }) (waits_on (the_ring q n) a ds v.avail_idx)
+prepared_two q n m a v [] none two all = absurd (omega arith)
+prepared_two q n m a v (x ∷ []) none two all = absurd (omega arith)
+prepared_two q n m a v (x ∷ y ∷ []) none two all = record {
   body = y;
   status = y;
   up = omega (arith, all.1.1.1.0);
@@ -114,28 +114,28 @@ prepared_two n m a v (x ∷ y ∷ []) none two all = record {
   body_mine = grind (arith, nat_tests);
   status_mine = grind (arith, nat_tests);
   made = [];
-  stores = ap (λ (b : Bool). request_stores (the_ring n) v.avail_idx a (chain_of b x y y)) (sym none);
+  stores = ap (λ (b : Bool). request_stores (the_ring q n) v.avail_idx a (chain_of b x y y)) (sym none);
   some = omega arith;
   stand = refl;
 }
-prepared_two n m a v (x ∷ y ∷ z ∷ ds) none two all = absurd (omega arith)
+prepared_two q n m a v (x ∷ y ∷ z ∷ ds) none two all = absurd (omega arith)
 
-prepared : (n : ℕ) (m : Bytes) (a : Ask) (v : Driver) (ds : List ℕ) (b : Bool) → has_data a ≡ b → length ds ≡ cond b 3 2 → IsFreeFrom n v.owner 0 ds
-    → IsPrepared n m (record v { owner = owned_by (first_or_zero ds) ds v.owner; waiting = Some (waits_on (the_ring n) a ds v.avail_idx) }) (waits_on (the_ring n) a ds v.avail_idx)
-prepared n m a v ds true is many all = prepared_three n m a v ds is many all
-prepared n m a v ds false is many all = prepared_two n m a v ds is many all
+prepared : (q n : ℕ) (m : Bytes) (a : Ask) (v : Driver) (ds : List ℕ) (b : Bool) → has_data a ≡ b → length ds ≡ cond b 3 2 → IsFreeFrom n v.owner 0 ds
+    → IsPrepared q n m (record v { owner = owned_by (first_or_zero ds) ds v.owner; waiting = Some (waits_on (the_ring q n) a ds v.avail_idx) }) (waits_on (the_ring q n) a ds v.avail_idx)
+prepared q n m a v ds true is many all = prepared_three q n m a v ds is many all
+prepared q n m a v ds false is many all = prepared_two q n m a v ds is many all
 
-pub ask_chained : (h : Header1) (s : Scene) (v : Driver) (a : Ask) → can_take h.size Direct a v ≡ true → Chained h.size s v → Chained h.size s (after_ask (the_ring h.size) a v)
-ask_chained h s v a ready c =
+pub ask_chained : (q : ℕ) (h : Header1) (s : Scene) (v : Driver) (a : Ask) → can_take h.size Direct a v ≡ true → Chained q h.size s v → Chained q h.size s (after_ask (the_ring q h.size) a v)
+ask_chained q h s v a ready c =
     let free : List ℕ = free_descriptors h.size v in
     let ds : List ℕ = chosen h.size a v in
     let enough : descriptors_needed a ≤ length free = grind (arith, nat_tests) in
     let many : length ds ≡ cond (has_data a) 3 2 = length-take-le (descriptors_needed a) free enough ∙ needed_is a in
     let all : IsFreeFrom h.size v.owner 0 ds = free_taken h.size v.owner 0 (descriptors_needed a) free (free_are v.owner h.size 0 h.size (omega arith)) in
     record {
-      linked = λ k out. linked_still h.size v.owner (owned_by (first_or_zero ds) ds v.owner) s.memory (slice_index (s.heads 0) k) (asked s.past 0 k)
-          (λ d is. owned_still h.size (first_or_zero ds) 0 ds v.owner d (slice_index (s.heads 0) k) all is) (c.linked k out);
-      waits = prepared h.size s.memory a v ds (has_data a) refl many all;
+      linked = λ k out. linked_still q h.size v.owner (owned_by (first_or_zero ds) ds v.owner) s.memory (slice_index (s.heads q) k) (asked s.past q k)
+          (λ d is. owned_still h.size (first_or_zero ds) 0 ds v.owner d (slice_index (s.heads q) k) all is) (c.linked k out);
+      waits = prepared q h.size s.memory a v ds (has_data a) refl many all;
     }
 
 -- ---- a collection
@@ -145,9 +145,9 @@ kept_owner owner x e d apart is =
     let other : (e == x) ≡ false = grind (arith, nat_tests) in
     ap (λ (o : Option ℕ). cond (is_that x o) None o) is ∙ ap (λ (b : Bool). cond {A = Option ℕ} b None (Some e)) other
 
-prepared_still : (h : Header1) (s : Scene) (l : Lane) (x : ℕ) (o : Option Waiting) → IsTaken h s l x → PreparedWell h.size s.memory l.driver o → ((w : Waiting) → o ≡ Some w → w.head ≢ x) → PreparedWell h.size s.memory (record l.driver { owner = without_owner x l.driver.owner }) o
-prepared_still h s l x None t p apart = tt
-prepared_still h s l x (Some w) t p apart = record {
+prepared_still : (q : ℕ) (h : Header1) (s : Scene) (l : Lane) (x : ℕ) (o : Option Waiting) → IsTaken q h s l x → PreparedWell q h.size s.memory l.driver o → ((w : Waiting) → o ≡ Some w → w.head ≢ x) → PreparedWell q h.size s.memory (record l.driver { owner = without_owner x l.driver.owner }) o
+prepared_still q h s l x None t p apart = tt
+prepared_still q h s l x (Some w) t p apart = record {
   body = p.body;
   status = p.status;
   up = p.up;
@@ -163,14 +163,14 @@ prepared_still h s l x (Some w) t p apart = record {
   stand = p.stand;
 }
 
-pub collect_chained : (h : Header1) (s : Scene) (l : Lane) (x k : ℕ) → IsTaken h s l x → Chained h.size s l.driver → Chained h.size (record s { past = entries.Collect 0 k ∷ s.past }) (record l.driver { owner = without_owner x l.driver.owner })
-collect_chained h s l x k t c =
-    let d : Driven h.size h.capacity h.base s.past (s.heads 0) l.driver = t.holds.driven in record {
+pub collect_chained : (q : ℕ) (h : Header1) (s : Scene) (l : Lane) (x k : ℕ) → IsTaken q h s l x → Chained q h.size s l.driver → Chained q h.size (record s { past = entries.Collect q k ∷ s.past }) (record l.driver { owner = without_owner x l.driver.owner })
+collect_chained q h s l x k t c =
+    let d : Driven q h.size h.capacity h.base s.past (s.heads q) l.driver = t.holds.driven in record {
       linked = λ j out.
-          let was = later_out h s l x j k t out in
-          let differs : slice_index (s.heads 0) j ≢ x = λ same. was.1 (d.apart j (next_number s) was.0 (next_out h s l x t) (same ∙ t.head)) in
-          linked_still h.size l.driver.owner (without_owner x l.driver.owner) s.memory (slice_index (s.heads 0) j) (asked s.past 0 j) (λ e is. kept_owner l.driver.owner x (slice_index (s.heads 0) j) e differs is) (c.linked j was.0);
-      waits = prepared_still h s l x l.driver.waiting t c.waits (λ w waits same.
-          let well : IsWaiting h.size h.capacity s.past (s.heads 0) l.driver w = subst (λ (o : Option Waiting). WaitsWell h.size h.capacity s.past (s.heads 0) l.driver o) waits d.waits in
-          well.apart (next_number s) (next_out h s l x t) (sym t.head ∙ sym same));
+          let was = later_out q h s l x j k t out in
+          let differs : slice_index (s.heads q) j ≢ x = λ same. was.1 (d.apart j (next_number q s) was.0 (next_out q h s l x t) (same ∙ t.head)) in
+          linked_still q h.size l.driver.owner (without_owner x l.driver.owner) s.memory (slice_index (s.heads q) j) (asked s.past q j) (λ e is. kept_owner l.driver.owner x (slice_index (s.heads q) j) e differs is) (c.linked j was.0);
+      waits = prepared_still q h s l x l.driver.waiting t c.waits (λ w waits same.
+          let well : IsWaiting q h.size h.capacity s.past (s.heads q) l.driver w = subst (λ (o : Option Waiting). WaitsWell q h.size h.capacity s.past (s.heads q) l.driver o) waits d.waits in
+          well.apart (next_number q s) (next_out q h s l x t) (sym t.head ∙ sym same));
     }

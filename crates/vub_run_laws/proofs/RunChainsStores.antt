@@ -30,11 +30,11 @@ put_all (st ∷ sts) m = put_all sts (put m 0 st.place st.bytes)
 abbrev pub AreOff : ℕ → ℕ → List Store → Type 0
 AreOff q v sts = AllByRecursion (λ (st : Store). IsOff st.place st.bytes q v) sts
 
-desc_stays : (sts : List Store) (m : Bytes) (d q : ℕ) (x : Desc) → q ≡ table_place d → AreOff q 16 sts → HasDesc m d x → HasDesc (put_all sts m) d x
-desc_stays [] m d q x at off h = h
-desc_stays (st ∷ sts) m d q x at off h =
-    let here : IsOff st.place st.bytes (table_place d) 16 = subst (λ (y : ℕ). IsOff st.place st.bytes y 16) at off.0 in
-    desc_stays sts (put m 0 st.place st.bytes) d q x at off.1 (desc_kept m d x st.place st.bytes here h)
+desc_stays : (q : ℕ) (sts : List Store) (m : Bytes) (d place : ℕ) (x : Desc) → place ≡ table_place q d → AreOff place 16 sts → HasDesc q m d x → HasDesc q (put_all sts m) d x
+desc_stays q [] m d place x at off h = h
+desc_stays q (st ∷ sts) m d place x at off h =
+    let here : IsOff st.place st.bytes (table_place q d) 16 = subst (λ (y : ℕ). IsOff st.place st.bytes y 16) at off.0 in
+    desc_stays q sts (put m 0 st.place st.bytes) d place x at off.1 (desc_kept q m d x st.place st.bytes here h)
 
 front_stays : (sts : List Store) (m : Bytes) (buffer : ℕ) (request : Asked) → AreOff buffer 16 sts → AreOff (data_start buffer request) (length (handed_bytes request)) sts → HasFront m buffer request → HasFront (put_all sts m) buffer request
 front_stays [] m buffer request off handed h = h
@@ -53,25 +53,25 @@ handed_fits cap buffer (asks.Zero parts) wide = absurd wide
 -- ---- table and offer
 
 -- three descriptors and the offer
-abbrev pub linked : ℕ → ℕ → ℕ → ℕ → ℕ → Piece → List Store
-linked n index head body status p =
-    one_store 0 (table_place head) (descriptor_bytes (readable_piece (buffer_at head) 16) 1 body)
-    ∷ one_store 0 (table_place body) (descriptor_bytes p 1 status)
-    ∷ one_store 0 (table_place status) (descriptor_bytes (writable_piece (status_place (buffer_at head)) 1) 0 0)
-    ∷ offer_stores (the_ring n) index head
+abbrev pub linked : ℕ → ℕ → ℕ → ℕ → ℕ → ℕ → Piece → List Store
+linked q n index head body status p =
+    one_store 0 (table_place q head) (descriptor_bytes (readable_piece (buffer_at q head) 16) 1 body)
+    ∷ one_store 0 (table_place q body) (descriptor_bytes p 1 status)
+    ∷ one_store 0 (table_place q status) (descriptor_bytes (writable_piece (status_place (buffer_at q head)) 1) 0 0)
+    ∷ offer_stores (the_ring q n) index head
 
-table_off : (d e : ℕ) (bs : List ℕ) → d ≢ e → length bs ≡ 16 → IsOff (table_place d) bs (table_place e) 16
-table_off d e bs apart long = elim (cases_lt d e) [
+table_off : (q d e : ℕ) (bs : List ℕ) → d ≢ e → length bs ≡ 16 → IsOff (table_place q d) bs (table_place q e) 16
+table_off q d e bs apart long = elim (cases_lt d e) [
   | inl less ↦ inr (omega arith)
   | inr more ↦ inl (let above : e < d = omega arith in omega arith)
 ]
 
-chain_made : (n cap index head body status : ℕ) (r : Asked) (m : Bytes) → IsSize n → IsWide cap (Some r) → has_body r ≡ true → head < body → body < status → status < n → HasFront m (buffer_at head) r
-    → HasChain (put_all (linked n index head body status (data_of (buffer_at head) r)) m) head body status r
-chain_made n cap index head body status r m size wide some up upper fits front =
+chain_made : (q n cap index head body status : ℕ) (r : Asked) (m : Bytes) → q < 65536 → IsSize n → IsWide cap (Some r) → has_body r ≡ true → head < body → body < status → status < n → HasFront m (buffer_at q head) r
+    → HasChain q (put_all (linked q n index head body status (data_of (buffer_at q head) r)) m) head body status r
+chain_made q n cap index head body status r m numbered size wide some up upper fits front =
     let small : n ≤ 64 = size.small in
     let entry = entry_small n index size in
-    let b : ℕ = buffer_at head in
+    let b : ℕ = buffer_at q head in
     let p : Piece = data_of b r in
     let where_data = handed_fits cap b r wide in
     let one : List ℕ = descriptor_bytes (readable_piece b 16) 1 body in
@@ -82,28 +82,28 @@ chain_made n cap index head body status r m size wide some up upper fits front =
     let long_three : length three ≡ 16 = desc_long (writable_piece (status_place b) 1) 0 0 in
     let long_entry : length (little_bytes 2 head) ≡ 2 = length_little 2 head in
     let long_index : length (little_bytes 2 ((index + 1) % 65536)) ≡ 2 = length_little 2 ((index + 1) % 65536) in
-    let m1 : Bytes = put m 0 (table_place head) one in
-    let m2 : Bytes = put m1 0 (table_place body) two in
-    let offers : (d : ℕ) → d < 64 → AreOff (table_place d) 16 (offer_stores (the_ring n) index head) = λ d low. (inl (omega arith), (inl (omega arith), tt)) in
-    let first : HasDesc m1 head (desc_of (readable_piece b 16) (Some body)) = desc_made m head (table_place head) (readable_piece b 16) 1 body refl (omega arith) (omega arith) (omega arith) (omega arith) in
+    let m1 : Bytes = put m 0 (table_place q head) one in
+    let m2 : Bytes = put m1 0 (table_place q body) two in
+    let offers : (d : ℕ) → d < 64 → AreOff (table_place q d) 16 (offer_stores (the_ring q n) index head) = λ d low. (inl (omega arith), (inl (omega arith), tt)) in
+    let first : HasDesc q m1 head (desc_of (readable_piece b 16) (Some body)) = desc_made q m head (table_place q head) (readable_piece b 16) 1 body refl (omega arith) (omega arith) (omega arith) (omega arith) in
     let place : p.place ≡ sectors_place b = where_data.0 in
     let len : p.len ≤ 4096 = where_data.1.1 in
-    let flag : (desc_of (data_of (buffer_at head) r) (Some status)).flags < 256 ^ 2 = flags_small r in
-    let middle : HasDesc m2 body (desc_of p (Some status)) = desc_made m1 body (table_place body) p 1 status refl (omega (arith, place)) (omega (arith, len)) flag (omega arith) in
-    let last : HasDesc (put m2 0 (table_place status) three) status (desc_of (writable_piece (status_place b) 1) None) = desc_made m2 status (table_place status) (writable_piece (status_place b) 1) 0 0 refl (omega arith) (omega arith) (omega arith) (omega arith) in
+    let flag : (desc_of (data_of (buffer_at q head) r) (Some status)).flags < 256 ^ 2 = flags_small r in
+    let middle : HasDesc q m2 body (desc_of p (Some status)) = desc_made q m1 body (table_place q body) p 1 status refl (omega (arith, place)) (omega (arith, len)) flag (omega arith) in
+    let last : HasDesc q (put m2 0 (table_place q status) three) status (desc_of (writable_piece (status_place b) 1) None) = desc_made q m2 status (table_place q status) (writable_piece (status_place b) 1) 0 0 refl (omega arith) (omega arith) (omega arith) (omega arith) in
     record {
-      first = desc_stays (one_store 0 (table_place body) two ∷ one_store 0 (table_place status) three ∷ offer_stores (the_ring n) index head) m1 head (table_place head) (desc_of (readable_piece b 16) (Some body)) refl
-          (table_off body head two (omega arith) long_two, (table_off status head three (omega arith) long_three, offers head (omega arith))) first;
-      middle = λ given. desc_stays (one_store 0 (table_place status) three ∷ offer_stores (the_ring n) index head) m2 body (table_place body) (desc_of p (Some status)) refl
-          (table_off status body three (omega arith) long_three, offers body (omega arith)) middle;
+      first = desc_stays q (one_store 0 (table_place q body) two ∷ one_store 0 (table_place q status) three ∷ offer_stores (the_ring q n) index head) m1 head (table_place q head) (desc_of (readable_piece b 16) (Some body)) refl
+          (table_off q body head two (omega arith) long_two, (table_off q status head three (omega arith) long_three, offers head (omega arith))) first;
+      middle = λ given. desc_stays q (one_store 0 (table_place q status) three ∷ offer_stores (the_ring q n) index head) m2 body (table_place q body) (desc_of p (Some status)) refl
+          (table_off q status body three (omega arith) long_three, offers body (omega arith)) middle;
       none = λ lacks. absurd (let fails : true ≡ false = sym some ∙ lacks in cc);
-      last = desc_stays (offer_stores (the_ring n) index head) (put m2 0 (table_place status) three) status (table_place status) (desc_of (writable_piece (status_place b) 1) None) refl (offers status (omega arith)) last;
-      front = front_stays (linked n index head body status p) m b r
+      last = desc_stays q (offer_stores (the_ring q n) index head) (put m2 0 (table_place q status) three) status (table_place q status) (desc_of (writable_piece (status_place b) 1) None) refl (offers status (omega arith)) last;
+      front = front_stays (linked q n index head body status p) m b r
           (inr (omega arith), (inr (omega arith), (inr (omega arith), (inr (omega arith), (inr (omega arith), tt)))))
           (inr (omega (arith, where_data.0)), (inr (omega (arith, where_data.0)), (inr (omega (arith, where_data.0)), (inr (omega (arith, where_data.0)), (inr (omega (arith, where_data.0)), tt))))) front;
     }
   where
-    flags_small : (q : Asked) → (desc_of (data_of (buffer_at head) q) (Some status)).flags < 256 ^ 2
+    flags_small : (each : Asked) → (desc_of (data_of (buffer_at q head) each) (Some status)).flags < 256 ^ 2
     flags_small (asks.Read s c) = omega arith
     flags_small (asks.Write s bytes) = omega arith
     flags_small asks.Flush = omega arith
@@ -112,33 +112,33 @@ chain_made n cap index head body status r m size wide some up upper fits front =
     flags_small (asks.Zero parts) = omega arith
 
 -- two descriptors and the offer
-abbrev pub linked_two : ℕ → ℕ → ℕ → ℕ → List Store
-linked_two n index head status =
-    one_store 0 (table_place head) (descriptor_bytes (readable_piece (buffer_at head) 16) 1 status)
-    ∷ one_store 0 (table_place status) (descriptor_bytes (writable_piece (status_place (buffer_at head)) 1) 0 0)
-    ∷ offer_stores (the_ring n) index head
+abbrev pub linked_two : ℕ → ℕ → ℕ → ℕ → ℕ → List Store
+linked_two q n index head status =
+    one_store 0 (table_place q head) (descriptor_bytes (readable_piece (buffer_at q head) 16) 1 status)
+    ∷ one_store 0 (table_place q status) (descriptor_bytes (writable_piece (status_place (buffer_at q head)) 1) 0 0)
+    ∷ offer_stores (the_ring q n) index head
 
-flush_made : (n index head status : ℕ) (m : Bytes) → IsSize n → head < status → status < n → HasFront m (buffer_at head) asks.Flush → HasChain (put_all (linked_two n index head status) m) head status status asks.Flush
-flush_made n index head status m size up fits front =
+flush_made : (q n index head status : ℕ) (m : Bytes) → q < 65536 → IsSize n → head < status → status < n → HasFront m (buffer_at q head) asks.Flush → HasChain q (put_all (linked_two q n index head status) m) head status status asks.Flush
+flush_made q n index head status m numbered size up fits front =
     let small : n ≤ 64 = size.small in
     let entry = entry_small n index size in
-    let b : ℕ = buffer_at head in
+    let b : ℕ = buffer_at q head in
     let one : List ℕ = descriptor_bytes (readable_piece b 16) 1 status in
     let two : List ℕ = descriptor_bytes (writable_piece (status_place b) 1) 0 0 in
     let long_one : length one ≡ 16 = desc_long (readable_piece b 16) 1 status in
     let long_two : length two ≡ 16 = desc_long (writable_piece (status_place b) 1) 0 0 in
     let long_entry : length (little_bytes 2 head) ≡ 2 = length_little 2 head in
     let long_index : length (little_bytes 2 ((index + 1) % 65536)) ≡ 2 = length_little 2 ((index + 1) % 65536) in
-    let m1 : Bytes = put m 0 (table_place head) one in
-    let offers : (d : ℕ) → d < 64 → AreOff (table_place d) 16 (offer_stores (the_ring n) index head) = λ d low. (inl (omega arith), (inl (omega arith), tt)) in
-    let first : HasDesc m1 head (desc_of (readable_piece b 16) (Some status)) = desc_made m head (table_place head) (readable_piece b 16) 1 status refl (omega arith) (omega arith) (omega arith) (omega arith) in
-    let last : HasDesc (put m1 0 (table_place status) two) status (desc_of (writable_piece (status_place b) 1) None) = desc_made m1 status (table_place status) (writable_piece (status_place b) 1) 0 0 refl (omega arith) (omega arith) (omega arith) (omega arith) in
+    let m1 : Bytes = put m 0 (table_place q head) one in
+    let offers : (d : ℕ) → d < 64 → AreOff (table_place q d) 16 (offer_stores (the_ring q n) index head) = λ d low. (inl (omega arith), (inl (omega arith), tt)) in
+    let first : HasDesc q m1 head (desc_of (readable_piece b 16) (Some status)) = desc_made q m head (table_place q head) (readable_piece b 16) 1 status refl (omega arith) (omega arith) (omega arith) (omega arith) in
+    let last : HasDesc q (put m1 0 (table_place q status) two) status (desc_of (writable_piece (status_place b) 1) None) = desc_made q m1 status (table_place q status) (writable_piece (status_place b) 1) 0 0 refl (omega arith) (omega arith) (omega arith) (omega arith) in
     record {
-      first = desc_stays (one_store 0 (table_place status) two ∷ offer_stores (the_ring n) index head) m1 head (table_place head) (desc_of (readable_piece b 16) (Some status)) refl (table_off status head two (omega arith) long_two, offers head (omega arith)) first;
+      first = desc_stays q (one_store 0 (table_place q status) two ∷ offer_stores (the_ring q n) index head) m1 head (table_place q head) (desc_of (readable_piece b 16) (Some status)) refl (table_off q status head two (omega arith) long_two, offers head (omega arith)) first;
       middle = λ given. absurd (let fails : false ≡ true = given in cc);
       none = λ lacks. refl;
-      last = desc_stays (offer_stores (the_ring n) index head) (put m1 0 (table_place status) two) status (table_place status) (desc_of (writable_piece (status_place b) 1) None) refl (offers status (omega arith)) last;
-      front = front_stays (linked_two n index head status) m b asks.Flush (inr (omega arith), (inr (omega arith), (inr (omega arith), (inr (omega arith), tt)))) (inr (omega arith), (inr (omega arith), (inr (omega arith), (inr (omega arith), tt)))) front;
+      last = desc_stays q (offer_stores (the_ring q n) index head) (put m1 0 (table_place q status) two) status (table_place q status) (desc_of (writable_piece (status_place b) 1) None) refl (offers status (omega arith)) last;
+      front = front_stays (linked_two q n index head status) m b asks.Flush (inr (omega arith), (inr (omega arith), (inr (omega arith), (inr (omega arith), tt)))) (inr (omega arith), (inr (omega arith), (inr (omega arith), (inr (omega arith), tt)))) front;
     }
 
 -- ---- header and data
@@ -168,17 +168,17 @@ some_put m p [] xs ys some = absurd (omega arith)
 some_put m p (b ∷ bytes) xs ys some = refl
 
 -- the stores of a request make its chain, in any memory
-pub stores_make : (n cap index head body status : ℕ) (a : Ask) (m : Bytes) → IsSize n → cap ≤ 4096 → IsWide cap (Some (request_of a)) → head < body → (has_data a ≡ true → body < status) → (has_data a ≡ false → body ≡ status) → status < n
-    → HasChain (put_all (request_stores (the_ring n) index a (chain_of (has_data a) head body status)) m) head body status (request_of a)
-stores_make n cap index head body status (wants.Read s c) m size few wide up upper none fits =
-    let b : ℕ = buffer_at head in
+pub stores_make : (q n cap index head body status : ℕ) (a : Ask) (m : Bytes) → q < 65536 → IsSize n → cap ≤ 4096 → IsWide cap (Some (request_of a)) → head < body → (has_data a ≡ true → body < status) → (has_data a ≡ false → body ≡ status) → status < n
+    → HasChain q (put_all (request_stores (the_ring q n) index a (chain_of (has_data a) head body status)) m) head body status (request_of a)
+stores_make q n cap index head body status (wants.Read s c) m numbered size few wide up upper none fits =
+    let b : ℕ = buffer_at q head in
     let m1 : Bytes = put m 0 b (header_bytes (wants.Read s c)) in
     let h = header_made m b 0 s (omega arith) (omega (arith, wide.fits)) in
     let front : HasFront m1 b (asks.Read s c) = record { kind = h.0; sector = h.1; handed = refl } in
     let front_too : HasFront (put m1 0 (status_place b) (255 ∷ [])) b (asks.Read s c) = front_kept m1 b (asks.Read s c) (status_place b) (255 ∷ []) (inl (omega arith)) (inr (omega arith)) front in
-    chain_made n cap index head body status (asks.Read s c) (put m1 0 (status_place b) (255 ∷ [])) size wide refl up (upper refl) fits front_too
-stores_make n cap index head body status (wants.Write s fills) m size few wide up upper none fits =
-    let b : ℕ = buffer_at head in
+    chain_made q n cap index head body status (asks.Read s c) (put m1 0 (status_place b) (255 ∷ [])) numbered size wide refl up (upper refl) fits front_too
+stores_make q n cap index head body status (wants.Write s fills) m numbered size few wide up upper none fits =
+    let b : ℕ = buffer_at q head in
     let bytes : List ℕ = written_bytes (wants.Write s fills) in
     let r : Asked = asks.Write s bytes in
     let many : 512 ≤ length bytes = wide.some in
@@ -194,18 +194,18 @@ stores_make n cap index head body status (wants.Write s fills) m size few wide u
     } in
     let front_too : HasFront m3 b r = front_kept m2 b r (status_place b) (255 ∷ []) (inl (omega arith)) (inr (omega arith)) front in
     let last : Store = one_store 0 (status_place b) (255 ∷ []) in
-    let rest : List Store = linked n index head body status (data_of b r) in
+    let rest : List Store = linked q n index head body status (data_of b r) in
     let same : put_all ((store_of_some 0 (sectors_place b) bytes ++ last ∷ []) ++ rest) m1 ≡ put_all rest m3 = some_put m1 (sectors_place b) bytes (last ∷ []) rest (omega arith) in
-    subst (λ (x : Bytes). HasChain x head body status r) (sym same) (chain_made n cap index head body status r m3 size wide refl up (upper refl) fits front_too)
-stores_make n cap index head body status wants.Flush m size few wide up upper none fits =
-    let b : ℕ = buffer_at head in
+    subst (λ (x : Bytes). HasChain q x head body status r) (sym same) (chain_made q n cap index head body status r m3 numbered size wide refl up (upper refl) fits front_too)
+stores_make q n cap index head body status wants.Flush m numbered size few wide up upper none fits =
+    let b : ℕ = buffer_at q head in
     let m1 : Bytes = put m 0 b (header_bytes wants.Flush) in
     let h = header_made m b 4 0 (omega arith) (omega arith) in
     let front : HasFront m1 b asks.Flush = record { kind = h.0; sector = h.1; handed = refl } in
     let front_too : HasFront (put m1 0 (status_place b) (255 ∷ [])) b asks.Flush = front_kept m1 b asks.Flush (status_place b) (255 ∷ []) (inl (omega arith)) (inr (omega arith)) front in
     let same : body ≡ status = none refl in
-    subst (λ (d : ℕ). HasChain (put_all (request_stores (the_ring n) index wants.Flush (head ∷ status ∷ [])) m) head d status asks.Flush) (sym same)
-    (flush_made n index head status (put m1 0 (status_place b) (255 ∷ [])) size (omega (arith, up, same)) fits front_too)
-stores_make n cap index head body status wants.Id m size few wide up upper none fits = absurd wide
-stores_make n cap index head body status (wants.Discard parts) m size few wide up upper none fits = absurd wide
-stores_make n cap index head body status (wants.Zero parts) m size few wide up upper none fits = absurd wide
+    subst (λ (d : ℕ). HasChain q (put_all (request_stores (the_ring q n) index wants.Flush (head ∷ status ∷ [])) m) head d status asks.Flush) (sym same)
+    (flush_made q n index head status (put m1 0 (status_place b) (255 ∷ [])) numbered size (omega (arith, up, same)) fits front_too)
+stores_make q n cap index head body status wants.Id m numbered size few wide up upper none fits = absurd wide
+stores_make q n cap index head body status (wants.Discard parts) m numbered size few wide up upper none fits = absurd wide
+stores_make q n cap index head body status (wants.Zero parts) m numbered size few wide up upper none fits = absurd wide

@@ -25,9 +25,9 @@ abbrev pub phase_left : List ℕ → Phase → ℕ
 phase_left batch (phases.Publish done) = 2 * length batch + 1 - done
 phase_left batch phase = 0
 
-abbrev pub effort : List Entry → ℕ → Lane → ℕ
-effort past offered l =
-    (if started past 0 then 0 else 1) + 21 * (offered - accepted past 0) + sum_below (weight (published past 0) (l.completed ++ l.batch) l.made) (accepted past 0) + 3 * length l.completed + phase_left l.batch l.phase
+abbrev pub effort : ℕ → List Entry → ℕ → Lane → ℕ
+effort q past offered l =
+    (if started past q then 0 else 1) + 21 * (offered - accepted past q) + sum_below (weight (published past q) (l.completed ++ l.batch) l.made) (accepted past q) + 3 * length l.completed + phase_left l.batch l.phase
 
 pub sum_more : (f : ℕ → ℕ) (a : ℕ) → sum_below f (a + 1) ≡ sum_below f a + f a
 sum_more f a = let next : a + 1 ≡ suc a = omega arith in ap (sum_below f) next

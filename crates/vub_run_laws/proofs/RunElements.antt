@@ -5,6 +5,7 @@ use Rattle.byteorder.specs.Endian.{little_bytes}
 use Rattle.std.proofs.lemmas.Bool.Decides.{nat_tests}
 use Rattle.std.proofs.lemmas.Bool.{cases_lt, cases_Bool, or_right}
 use Rattle.std.proofs.lemmas.List.{length-append}
+use Rattle.vub_driver.specs.Layout.{area_place}
 use Rattle.vub_base.specs.declared.header.CacheMode.TheVariants.{Back}
 use Rattle.vub_base.specs.declared.header.Header1.{Header1}
 use Rattle.vub_shared.specs.Bytes.{Bytes, put, word}
@@ -76,106 +77,106 @@ len_is h (Some r) back wide = (ap (λ (x : Option ℕ). answered_len (unwrap_or 
 len_is h None back wide = absurd wide
 
 -- the numbers of a batch are as many as open ones, so the ring has room for their elements
-pub batch_room : (past : List Entry) (phase : Phase) (batch completed : List ℕ) (made : ℕ → ℕ) (n cap : ℕ) (heads : List ℕ) → Known n cap past heads → Worked past phase batch completed made → length (published past 0) + length batch ≤ accepted past 0
-batch_room past phase batch completed made n cap heads known w =
+pub batch_room : (q : ℕ) (past : List Entry) (phase : Phase) (batch completed : List ℕ) (made : ℕ → ℕ) (n cap : ℕ) (heads : List ℕ) → Known q n cap past heads → Worked q past phase batch completed made → length (published past q) + length batch ≤ accepted past q
+batch_room q past phase batch completed made n cap heads known w =
     let parts = distinct_parts completed batch w.distinct in
-    let in_batch : (k : ℕ) → is_among batch k ≡ true → IsOpen past 0 k = λ k held. w.opens k (is_among_append completed batch k ∙ or_right (is_among completed k) (is_among batch k) held) in
-    let d = distinct_join (published past 0) batch known.distinct parts.1.0 (λ k held. (in_batch k held).unpublished) in
-    let few : length (published past 0 ++ batch) ≤ accepted past 0 = few_below (published past 0 ++ batch) (accepted past 0) d (λ k held. elim (cases_Bool (is_among batch k)) [
+    let in_batch : (k : ℕ) → is_among batch k ≡ true → IsOpen past q k = λ k held. w.opens k (is_among_append completed batch k ∙ or_right (is_among completed k) (is_among batch k) held) in
+    let d = distinct_join (published past q) batch known.distinct parts.1.0 (λ k held. (in_batch k held).unpublished) in
+    let few : length (published past q ++ batch) ≤ accepted past q = few_below (published past q ++ batch) (accepted past q) d (λ k held. elim (cases_Bool (is_among batch k)) [
       | inl there ↦ (in_batch k there).taken
-      | inr out ↦ known.below k (let joined : is_among (published past 0 ++ batch) k ≡ (is_among (published past 0) k || is_among batch k) = is_among_append (published past 0) batch k in grind (arith, nat_tests))
+      | inr out ↦ known.below k (let joined : is_among (published past q ++ batch) k ≡ (is_among (published past q) k || is_among batch k) = is_among_append (published past q) batch k in grind (arith, nat_tests))
     ]) in
-    omega (arith, few, length-append (published past 0) batch)
+    omega (arith, few, length-append (published past q) batch)
 
 -- the place of the e-th element of a publication, from used.idx as it stands
-pub element_place : (n base : ℕ) (past : List Entry) (heads : List ℕ) (m : Bytes) (e : ℕ) → Ringed n base past heads m → entry_of (the_ring n) (used_idx (the_ring n) m + e) ≡ entry_of (the_ring n) (base + length (published past 0) + e)
-element_place n base past heads m e r =
-    let u : used_idx (the_ring n) m ≡ (base + length (published past 0)) % 65536 = r.used_idx_is in
-    let same : (used_idx (the_ring n) m + e) % 65536 ≡ (base + length (published past 0) + e) % 65536 = omega arith in
+pub element_place : (q n base : ℕ) (past : List Entry) (heads : List ℕ) (m : Bytes) (e : ℕ) → Ringed q n base past heads m → entry_of (the_ring q n) (used_idx (the_ring q n) m + e) ≡ entry_of (the_ring q n) (base + length (published past q) + e)
+element_place q n base past heads m e r =
+    let u : used_idx (the_ring q n) m ≡ (base + length (published past q)) % 65536 = r.used_idx_is in
+    let same : (used_idx (the_ring q n) m + e) % 65536 ≡ (base + length (published past q) + e) % 65536 = omega arith in
     ap (λ (y : ℕ). y % n) same
 
 -- id words of two entries, and an id word and a len word
-id_and_id : (a b x : ℕ) (m : Bytes) → a ≢ b → word 4 (put m 0 (1048576 * 0 + 8192 + (4 + 8 * a)) (little_bytes 4 x)) 0 (1048576 * 0 + 8192 + (4 + 8 * b)) ≡ word 4 m 0 (1048576 * 0 + 8192 + (4 + 8 * b))
-id_and_id a b x m apart =
+id_and_id : (q a b x : ℕ) (m : Bytes) → a ≢ b → word 4 (put m 0 (area_place q + 8192 + (4 + 8 * a)) (little_bytes 4 x)) 0 (area_place q + 8192 + (4 + 8 * b)) ≡ word 4 m 0 (area_place q + 8192 + (4 + 8 * b))
+id_and_id q a b x m apart =
     let four : length (little_bytes 4 x) ≡ 4 = length_little 4 x in
-    keeps 4 m (1048576 * 0 + 8192 + (4 + 8 * a)) (little_bytes 4 x) (1048576 * 0 + 8192 + (4 + 8 * b)) (elim (cases_lt a b) [
+    keeps 4 m (area_place q + 8192 + (4 + 8 * a)) (little_bytes 4 x) (area_place q + 8192 + (4 + 8 * b)) (elim (cases_lt a b) [
       | inl less ↦ inr (omega arith)
       | inr more ↦ inl (let above : b < a = omega arith in omega arith)
     ])
 
-len_and_len : (a b x : ℕ) (m : Bytes) → a ≢ b → word 4 (put m 0 (1048576 * 0 + 8192 + (8 + 8 * a)) (little_bytes 4 x)) 0 (1048576 * 0 + 8192 + (8 + 8 * b)) ≡ word 4 m 0 (1048576 * 0 + 8192 + (8 + 8 * b))
-len_and_len a b x m apart =
+len_and_len : (q a b x : ℕ) (m : Bytes) → a ≢ b → word 4 (put m 0 (area_place q + 8192 + (8 + 8 * a)) (little_bytes 4 x)) 0 (area_place q + 8192 + (8 + 8 * b)) ≡ word 4 m 0 (area_place q + 8192 + (8 + 8 * b))
+len_and_len q a b x m apart =
     let four : length (little_bytes 4 x) ≡ 4 = length_little 4 x in
-    keeps 4 m (1048576 * 0 + 8192 + (8 + 8 * a)) (little_bytes 4 x) (1048576 * 0 + 8192 + (8 + 8 * b)) (elim (cases_lt a b) [
+    keeps 4 m (area_place q + 8192 + (8 + 8 * a)) (little_bytes 4 x) (area_place q + 8192 + (8 + 8 * b)) (elim (cases_lt a b) [
       | inl less ↦ inr (omega arith)
       | inr more ↦ inl (let above : b < a = omega arith in omega arith)
     ])
 
-id_and_len : (a b x : ℕ) (m : Bytes) → word 4 (put m 0 (1048576 * 0 + 8192 + (4 + 8 * a)) (little_bytes 4 x)) 0 (1048576 * 0 + 8192 + (8 + 8 * b)) ≡ word 4 m 0 (1048576 * 0 + 8192 + (8 + 8 * b))
-id_and_len a b x m =
+id_and_len : (q a b x : ℕ) (m : Bytes) → word 4 (put m 0 (area_place q + 8192 + (4 + 8 * a)) (little_bytes 4 x)) 0 (area_place q + 8192 + (8 + 8 * b)) ≡ word 4 m 0 (area_place q + 8192 + (8 + 8 * b))
+id_and_len q a b x m =
     let four : length (little_bytes 4 x) ≡ 4 = length_little 4 x in
-    keeps 4 m (1048576 * 0 + 8192 + (4 + 8 * a)) (little_bytes 4 x) (1048576 * 0 + 8192 + (8 + 8 * b)) (elim (cases_lt b a) [
+    keeps 4 m (area_place q + 8192 + (4 + 8 * a)) (little_bytes 4 x) (area_place q + 8192 + (8 + 8 * b)) (elim (cases_lt b a) [
       | inl less ↦ inl (omega arith)
       | inr more ↦ inr (omega arith)
     ])
 
-len_and_id : (a b x : ℕ) (m : Bytes) → word 4 (put m 0 (1048576 * 0 + 8192 + (8 + 8 * a)) (little_bytes 4 x)) 0 (1048576 * 0 + 8192 + (4 + 8 * b)) ≡ word 4 m 0 (1048576 * 0 + 8192 + (4 + 8 * b))
-len_and_id a b x m =
+len_and_id : (q a b x : ℕ) (m : Bytes) → word 4 (put m 0 (area_place q + 8192 + (8 + 8 * a)) (little_bytes 4 x)) 0 (area_place q + 8192 + (4 + 8 * b)) ≡ word 4 m 0 (area_place q + 8192 + (4 + 8 * b))
+len_and_id q a b x m =
     let four : length (little_bytes 4 x) ≡ 4 = length_little 4 x in
-    keeps 4 m (1048576 * 0 + 8192 + (8 + 8 * a)) (little_bytes 4 x) (1048576 * 0 + 8192 + (4 + 8 * b)) (elim (cases_lt a b) [
+    keeps 4 m (area_place q + 8192 + (8 + 8 * a)) (little_bytes 4 x) (area_place q + 8192 + (4 + 8 * b)) (elim (cases_lt a b) [
       | inl less ↦ inr (omega arith)
       | inr more ↦ inl (omega arith)
     ])
 
 -- the facts of one more element
-pub record IsNextElement (h : Header1) (s : Scene) (l : Lane) (done e : ℕ) : Type 0 where
+pub record IsNextElement (q : ℕ) (h : Header1) (s : Scene) (l : Lane) (done e : ℕ) : Type 0 where
   pub good : IsGood h
   pub back : h.mode ≡ Back
-  pub holds : Holds h s l
+  pub holds : Holds q h s l
   pub phase : l.phase ≡ phases.Publish done
   pub inside : e < length l.batch
 
 -- an element of the batch isn't one that the driver sees
-pub unseen_entry : (h : Header1) (s : Scene) (l : Lane) (done e i : ℕ) → IsNextElement h s l done e → collected s.past 0 ≤ i → i < length (published s.past 0) → (h.base + length (published s.past 0) + e) % 65536 % h.size ≢ (h.base + i) % 65536 % h.size
-unseen_entry h s l done e i x from upto same =
-    let room = batch_room s.past l.phase l.batch l.completed l.made h.size h.capacity (s.heads 0) x.holds.known x.holds.worked in
+pub unseen_entry : (q : ℕ) (h : Header1) (s : Scene) (l : Lane) (done e i : ℕ) → IsNextElement q h s l done e → collected s.past q ≤ i → i < length (published s.past q) → (h.base + length (published s.past q) + e) % 65536 % h.size ≢ (h.base + i) % 65536 % h.size
+unseen_entry q h s l done e i x from upto same =
+    let room = batch_room q s.past l.phase l.batch l.completed l.made h.size h.capacity (s.heads q) x.holds.known x.holds.worked in
     let inside : e < length l.batch = x.inside in
     let offered = x.holds.known.offered in
     let few = x.holds.known.room in
-    entries_apart h.size (h.base + i) (h.base + length (published s.past 0) + e) x.good.size.some x.good.size.laps (omega arith) (omega arith) (sym same)
+    entries_apart h.size (h.base + i) (h.base + length (published s.past q) + e) x.good.size.some x.good.size.laps (omega arith) (omega arith) (sym same)
 
 -- nor another one of the batch
-pub other_element : (h : Header1) (s : Scene) (l : Lane) (done e j : ℕ) → IsNextElement h s l done e → j < e → (h.base + length (published s.past 0) + e) % 65536 % h.size ≢ (h.base + length (published s.past 0) + j) % 65536 % h.size
-other_element h s l done e j x less same =
-    let room = batch_room s.past l.phase l.batch l.completed l.made h.size h.capacity (s.heads 0) x.holds.known x.holds.worked in
+pub other_element : (q : ℕ) (h : Header1) (s : Scene) (l : Lane) (done e j : ℕ) → IsNextElement q h s l done e → j < e → (h.base + length (published s.past q) + e) % 65536 % h.size ≢ (h.base + length (published s.past q) + j) % 65536 % h.size
+other_element q h s l done e j x less same =
+    let room = batch_room q s.past l.phase l.batch l.completed l.made h.size h.capacity (s.heads q) x.holds.known x.holds.worked in
     let inside : e < length l.batch = x.inside in
     let offered = x.holds.known.offered in
     let few = x.holds.known.room in
     let shown = x.holds.known.shown in
-    entries_apart h.size (h.base + length (published s.past 0) + j) (h.base + length (published s.past 0) + e) x.good.size.some x.good.size.laps (omega arith) (omega arith) (sym same)
+    entries_apart h.size (h.base + length (published s.past q) + j) (h.base + length (published s.past q) + e) x.good.size.some x.good.size.laps (omega arith) (omega arith) (sym same)
 
 -- a store into the used ring, past used.idx, leaves the words of the avail ring and used.idx
-ring_words : (n base : ℕ) (past : List Entry) (heads : List ℕ) (m : Bytes) (p : ℕ) (bs : List ℕ) → IsSize n → 8192 + 4 ≤ p
-    → ((i : ℕ) → collected past 0 ≤ i → i < length (published past 0) → word 4 (put m 0 p bs) 0 (used_id_place (the_ring n) (base + i)) ≡ word 4 m 0 (used_id_place (the_ring n) (base + i)))
-    → ((i : ℕ) → collected past 0 ≤ i → i < length (published past 0) → word 4 (put m 0 p bs) 0 (used_len_place (the_ring n) (base + i)) ≡ word 4 m 0 (used_len_place (the_ring n) (base + i)))
-    → Ringed n base past heads m → Ringed n base past heads (put m 0 p bs)
-ring_words n base past heads m p bs size high ids lens r = record {
-  avail_idx_is = keeps 2 m p bs (avail_idx_place (the_ring n)) (inl (omega arith)) ∙ r.avail_idx_is;
-  used_idx_is = keeps 2 m p bs (used_idx_place (the_ring n)) (inl (omega arith)) ∙ r.used_idx_is;
-  avail_at = λ i from upto. let small = entry_small n (base + i) size in keeps 2 m p bs (avail_entry_place (the_ring n) (base + i)) (inl (omega arith)) ∙ r.avail_at i from upto;
+ring_words : (q n base : ℕ) (past : List Entry) (heads : List ℕ) (m : Bytes) (p : ℕ) (bs : List ℕ) → IsSize n → area_place q + 8192 + 4 ≤ p
+    → ((i : ℕ) → collected past q ≤ i → i < length (published past q) → word 4 (put m 0 p bs) 0 (used_id_place (the_ring q n) (base + i)) ≡ word 4 m 0 (used_id_place (the_ring q n) (base + i)))
+    → ((i : ℕ) → collected past q ≤ i → i < length (published past q) → word 4 (put m 0 p bs) 0 (used_len_place (the_ring q n) (base + i)) ≡ word 4 m 0 (used_len_place (the_ring q n) (base + i)))
+    → Ringed q n base past heads m → Ringed q n base past heads (put m 0 p bs)
+ring_words q n base past heads m p bs size high ids lens r = record {
+  avail_idx_is = keeps 2 m p bs (avail_idx_place (the_ring q n)) (inl (omega arith)) ∙ r.avail_idx_is;
+  used_idx_is = keeps 2 m p bs (used_idx_place (the_ring q n)) (inl (omega arith)) ∙ r.used_idx_is;
+  avail_at = λ i from upto. let small = entry_small n (base + i) size in keeps 2 m p bs (avail_entry_place (the_ring q n) (base + i)) (inl (omega arith)) ∙ r.avail_at i from upto;
   used_at = λ i from upto.
-      ap (λ (y : ℕ). (y, word 4 (put m 0 p bs) 0 (used_len_place (the_ring n) (base + i)))) (ids i from upto) ∙ ap (λ (y : ℕ). (word 4 m 0 (used_id_place (the_ring n) (base + i)), y)) (lens i from upto) ∙ r.used_at i from upto;
+      ap (λ (y : ℕ). (y, word 4 (put m 0 p bs) 0 (used_len_place (the_ring q n) (base + i)))) (ids i from upto) ∙ ap (λ (y : ℕ). (word 4 m 0 (used_id_place (the_ring q n) (base + i)), y)) (lens i from upto) ∙ r.used_at i from upto;
 }
 
 -- the lane with one more store made
 abbrev pub one_on : ℕ → Lane → Lane
 one_on done l = record l { phase = phases.Publish (done + 1) }
 
-built_of : (n base : ℕ) (past : List Entry) (heads : List ℕ) (m : Bytes) (batch : List ℕ) (phase : Phase) (done : ℕ) → phase ≡ phases.Publish done → Built n base past heads m batch phase → IsBuilt n base past heads m batch done
-built_of n base past heads m batch phase done is b = subst (λ (p : Phase). Built n base past heads m batch p) is b
+built_of : (q n base : ℕ) (past : List Entry) (heads : List ℕ) (m : Bytes) (batch : List ℕ) (phase : Phase) (done : ℕ) → phase ≡ phases.Publish done → Built q n base past heads m batch phase → IsBuilt q n base past heads m batch done
+built_of q n base past heads m batch phase done is b = subst (λ (p : Phase). Built q n base past heads m batch p) is b
 
-worked_on : (past : List Entry) (batch completed : List ℕ) (made : ℕ → ℕ) (phase : Phase) (done : ℕ) → phase ≡ phases.Publish done → done + 1 < 2 * length batch + 1 → Worked past phase batch completed made → Worked past (phases.Publish (done + 1)) batch completed made
-worked_on past batch completed made phase done is more w =
+worked_on : (q : ℕ) (past : List Entry) (batch completed : List ℕ) (made : ℕ → ℕ) (phase : Phase) (done : ℕ) → phase ≡ phases.Publish done → done + 1 < 2 * length batch + 1 → Worked q past phase batch completed made → Worked q past (phases.Publish (done + 1)) batch completed made
+worked_on q past batch completed made phase done is more w =
     let some : (0 < length batch) × (done < 2 * length batch + 1) = subst (λ (p : Phase). PhaseIs batch p) is w.phase_is in record {
       distinct = w.distinct;
       opens = w.opens;
@@ -187,58 +188,58 @@ worked_on past batch completed made phase done is more w =
       phase_is = (some.0, more);
     }
 
-pub id_holds : (h : Header1) (s : Scene) (l : Lane) (done e x : ℕ) → IsNextElement h s l done e → done ≡ 2 * e → x ≡ slice_index (s.heads 0) (slice_index l.batch e) → x < 256 ^ 4
-    → Holds h (stored_at (used_id_place (the_ring h.size) (h.base + length (published s.past 0) + e)) (little_bytes 4 x) s) (one_on done l)
-id_holds h s l done e x n at is fits =
-    let P : ℕ = h.base + length (published s.past 0) in
-    let p : ℕ = used_id_place (the_ring h.size) (P + e) in
+pub id_holds : (q : ℕ) (h : Header1) (s : Scene) (l : Lane) (done e x : ℕ) → IsNextElement q h s l done e → done ≡ 2 * e → x ≡ slice_index (s.heads q) (slice_index l.batch e) → x < 256 ^ 4
+    → Holds q h (stored_at (used_id_place (the_ring q h.size) (h.base + length (published s.past q) + e)) (little_bytes 4 x) s) (one_on done l)
+id_holds q h s l done e x n at is fits =
+    let P : ℕ = h.base + length (published s.past q) in
+    let p : ℕ = used_id_place (the_ring q h.size) (P + e) in
     let bs : List ℕ = little_bytes 4 x in
     let four : length bs ≡ 4 = length_little 4 x in
     let small = entry_small h.size (P + e) n.good.size in
     let inside : e < length l.batch = n.inside in
-    let old : IsBuilt h.size h.base s.past (s.heads 0) s.memory l.batch done = built_of h.size h.base s.past (s.heads 0) s.memory l.batch l.phase done n.phase n.holds.built in record {
+    let old : IsBuilt q h.size h.base s.past (s.heads q) s.memory l.batch done = built_of q h.size h.base s.past (s.heads q) s.memory l.batch l.phase done n.phase n.holds.built in record {
       known = n.holds.known;
-      ringed = ring_words h.size h.base s.past (s.heads 0) s.memory p bs n.good.size (omega arith)
-          (λ i from upto. id_and_id ((P + e) % 65536 % h.size) ((h.base + i) % 65536 % h.size) x s.memory (unseen_entry h s l done e i n from upto))
-          (λ i from upto. id_and_len ((P + e) % 65536 % h.size) ((h.base + i) % 65536 % h.size) x s.memory) n.holds.ringed;
+      ringed = ring_words q h.size h.base s.past (s.heads q) s.memory p bs n.good.size (omega arith)
+          (λ i from upto. id_and_id q ((P + e) % 65536 % h.size) ((h.base + i) % 65536 % h.size) x s.memory (unseen_entry q h s l done e i n from upto))
+          (λ i from upto. id_and_len q ((P + e) % 65536 % h.size) ((h.base + i) % 65536 % h.size) x s.memory) n.holds.ringed;
       driven = n.holds.driven;
-      worked = worked_on s.past l.batch l.completed l.made l.phase done n.phase (omega arith) n.holds.worked;
-      stored = stored_elsewhere s.past (s.heads 0) s.memory p bs l.batch l.completed l.made n.holds.worked.opens (λ k is_open. below_buffers (s.heads 0) k p bs (omega arith)) n.holds.stored;
+      worked = worked_on q s.past l.batch l.completed l.made l.phase done n.phase (omega arith) n.holds.worked;
+      stored = stored_elsewhere q s.past (s.heads q) s.memory p bs l.batch l.completed l.made n.holds.worked.opens (λ k is_open. below_buffers q (s.heads q) k p bs (omega arith)) n.holds.stored;
       built = record {
         ids = λ j l_j d. elim (cases_lt j e) [
-          | inl less ↦ id_and_id ((P + e) % 65536 % h.size) ((P + j) % 65536 % h.size) x s.memory (other_element h s l done e j n less) ∙ old.ids j l_j (omega arith)
+          | inl less ↦ id_and_id q ((P + e) % 65536 % h.size) ((P + j) % 65536 % h.size) x s.memory (other_element q h s l done e j n less) ∙ old.ids j l_j (omega arith)
           | inr more ↦
               let same : j ≡ e = omega arith in
-              ap (λ (i : ℕ). word 4 (put s.memory 0 p bs) 0 (used_id_place (the_ring h.size) (P + i))) same ∙ word-put_same 4 s.memory 0 p x fits ∙ is ∙ sym (ap (λ (i : ℕ). slice_index (s.heads 0) (slice_index l.batch i)) same)
+              ap (λ (i : ℕ). word 4 (put s.memory 0 p bs) 0 (used_id_place (the_ring q h.size) (P + i))) same ∙ word-put_same 4 s.memory 0 p x fits ∙ is ∙ sym (ap (λ (i : ℕ). slice_index (s.heads q) (slice_index l.batch i)) same)
         ];
-        lens = λ j l_j d. id_and_len ((P + e) % 65536 % h.size) ((P + j) % 65536 % h.size) x s.memory ∙ old.lens j l_j (omega arith);
+        lens = λ j l_j d. id_and_len q ((P + e) % 65536 % h.size) ((P + j) % 65536 % h.size) x s.memory ∙ old.lens j l_j (omega arith);
       };
     }
 
-pub len_holds : (h : Header1) (s : Scene) (l : Lane) (done e x : ℕ) → IsNextElement h s l done e → done ≡ 2 * e + 1 → x ≡ answered_len 0 (asked s.past 0 (slice_index l.batch e)) → x < 256 ^ 4
-    → Holds h (stored_at (used_len_place (the_ring h.size) (h.base + length (published s.past 0) + e)) (little_bytes 4 x) s) (one_on done l)
-len_holds h s l done e x n at is fits =
-    let P : ℕ = h.base + length (published s.past 0) in
-    let p : ℕ = used_len_place (the_ring h.size) (P + e) in
+pub len_holds : (q : ℕ) (h : Header1) (s : Scene) (l : Lane) (done e x : ℕ) → IsNextElement q h s l done e → done ≡ 2 * e + 1 → x ≡ answered_len 0 (asked s.past q (slice_index l.batch e)) → x < 256 ^ 4
+    → Holds q h (stored_at (used_len_place (the_ring q h.size) (h.base + length (published s.past q) + e)) (little_bytes 4 x) s) (one_on done l)
+len_holds q h s l done e x n at is fits =
+    let P : ℕ = h.base + length (published s.past q) in
+    let p : ℕ = used_len_place (the_ring q h.size) (P + e) in
     let bs : List ℕ = little_bytes 4 x in
     let four : length bs ≡ 4 = length_little 4 x in
     let small = entry_small h.size (P + e) n.good.size in
     let inside : e < length l.batch = n.inside in
-    let old : IsBuilt h.size h.base s.past (s.heads 0) s.memory l.batch done = built_of h.size h.base s.past (s.heads 0) s.memory l.batch l.phase done n.phase n.holds.built in record {
+    let old : IsBuilt q h.size h.base s.past (s.heads q) s.memory l.batch done = built_of q h.size h.base s.past (s.heads q) s.memory l.batch l.phase done n.phase n.holds.built in record {
       known = n.holds.known;
-      ringed = ring_words h.size h.base s.past (s.heads 0) s.memory p bs n.good.size (omega arith)
-          (λ i from upto. len_and_id ((P + e) % 65536 % h.size) ((h.base + i) % 65536 % h.size) x s.memory)
-          (λ i from upto. len_and_len ((P + e) % 65536 % h.size) ((h.base + i) % 65536 % h.size) x s.memory (unseen_entry h s l done e i n from upto)) n.holds.ringed;
+      ringed = ring_words q h.size h.base s.past (s.heads q) s.memory p bs n.good.size (omega arith)
+          (λ i from upto. len_and_id q ((P + e) % 65536 % h.size) ((h.base + i) % 65536 % h.size) x s.memory)
+          (λ i from upto. len_and_len q ((P + e) % 65536 % h.size) ((h.base + i) % 65536 % h.size) x s.memory (unseen_entry q h s l done e i n from upto)) n.holds.ringed;
       driven = n.holds.driven;
-      worked = worked_on s.past l.batch l.completed l.made l.phase done n.phase (omega arith) n.holds.worked;
-      stored = stored_elsewhere s.past (s.heads 0) s.memory p bs l.batch l.completed l.made n.holds.worked.opens (λ k is_open. below_buffers (s.heads 0) k p bs (omega arith)) n.holds.stored;
+      worked = worked_on q s.past l.batch l.completed l.made l.phase done n.phase (omega arith) n.holds.worked;
+      stored = stored_elsewhere q s.past (s.heads q) s.memory p bs l.batch l.completed l.made n.holds.worked.opens (λ k is_open. below_buffers q (s.heads q) k p bs (omega arith)) n.holds.stored;
       built = record {
-        ids = λ j l_j d. len_and_id ((P + e) % 65536 % h.size) ((P + j) % 65536 % h.size) x s.memory ∙ old.ids j l_j (omega arith);
+        ids = λ j l_j d. len_and_id q ((P + e) % 65536 % h.size) ((P + j) % 65536 % h.size) x s.memory ∙ old.ids j l_j (omega arith);
         lens = λ j l_j d. elim (cases_lt j e) [
-          | inl less ↦ len_and_len ((P + e) % 65536 % h.size) ((P + j) % 65536 % h.size) x s.memory (other_element h s l done e j n less) ∙ old.lens j l_j (omega arith)
+          | inl less ↦ len_and_len q ((P + e) % 65536 % h.size) ((P + j) % 65536 % h.size) x s.memory (other_element q h s l done e j n less) ∙ old.lens j l_j (omega arith)
           | inr more ↦
               let same : j ≡ e = omega arith in
-              ap (λ (i : ℕ). word 4 (put s.memory 0 p bs) 0 (used_len_place (the_ring h.size) (P + i))) same ∙ word-put_same 4 s.memory 0 p x fits ∙ is ∙ sym (ap (λ (i : ℕ). answered_len 0 (asked s.past 0 (slice_index l.batch i))) same)
+              ap (λ (i : ℕ). word 4 (put s.memory 0 p bs) 0 (used_len_place (the_ring q h.size) (P + i))) same ∙ word-put_same 4 s.memory 0 p x fits ∙ is ∙ sym (ap (λ (i : ℕ). answered_len 0 (asked s.past q (slice_index l.batch i))) same)
         ];
       };
     }

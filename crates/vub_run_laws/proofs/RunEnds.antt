@@ -1,5 +1,5 @@
 -- A drain ends: each turn leaves less to do, and there is never much.
-use Rattle.std.proofs.Common.{◌≡◌, ◌≤◌, ◌<◌, ℕ, zero, suc, ◌+◌, ◌*◌, Bool, true, false, cond, List, [], ◌∷◌, ◌++◌, length, refl, ap, sym, ◌∙◌, inl, inr, arith, length-append}
+use Rattle.std.proofs.Common.{◌≡◌, ◌≤◌, ◌<◌, ℕ, zero, suc, ◌+◌, ◌*◌, Bool, true, false, cond, List, [], ◌∷◌, ◌++◌, length, refl, ap, sym, ◌∙◌, subst, inl, inr, arith, length-append}
 use Rattle.std.specs.Prelude.{◌||◌}
 use Rattle.std.proofs.lemmas.Bool.Decides.{nat_tests}
 use Rattle.std.proofs.lemmas.Bool.{cases_Bool}
@@ -16,21 +16,24 @@ use Rattle.vub_device.proofs.Numbers.{is_among_append}
 use Rattle.vub_report.specs.declared.items.Item.{Item}
 use Rattle.vub_run.specs.Memory.{Scene}
 use Rattle.vub_run.specs.Moments.{Lane, Moment, standing}
+use Rattle.vub_run.specs.Turns.{turned}
 use Rattle.vub_run.specs.Run.{Played, played, one_turn, is_due, then_played, turns}
 use Rattle.vub_run_laws.proofs.RunNumbers.{missing-among, distinct_push, distinct_join, few_below}
+use Rattle.vub_run_laws.proofs.RunOwn.{at_own}
 use Rattle.vub_run_laws.proofs.RunGood.{Known, Worked}
 use Rattle.vub_run_laws.proofs.RunEfforts.{weight, sum_below, phase_left, effort, weight_small}
 use Rattle.vub_run_laws.proofs.RunTurns.{IsPlain, Good, turn_fine}
 
 -- what is left to do at a moment
-abbrev pub effort_at : Moment → ℕ
-effort_at m = effort m.scene.past (length (m.scene.heads 0)) (m.lanes 0)
+abbrev pub effort_at : ℕ → Moment → ℕ
+effort_at q m = effort q m.scene.past (length (m.scene.heads q)) (m.lanes q)
 
 -- a due turn leaves less
-pub turn_falls : (h : Header1) (t : Turn) (m : Moment) → IsPlain h → Good h m → is_due h 0 t m ≡ true → effort_at (one_turn h 0 t m).next + 1 ≤ effort_at m
-turn_falls h t m plain good due =
-    let ready : is_ready (standing h 0 m) t ≡ true = grind (arith, nat_tests) in
-    (turn_fine h t m plain good ready).falls
+pub turn_falls : (q : ℕ) (h : Header1) (t : Turn) (m : Moment) → IsPlain h → Good q h m → is_due h q t m ≡ true → effort_at q (one_turn h q t m).next + 1 ≤ effort_at q m
+turn_falls q h t m plain good due =
+    let ready : is_ready (standing h q m) t ≡ true = grind (arith, nat_tests) in
+    let left : Lane → ℕ = λ l. effort q (one_turn h q t m).next.scene.past (length ((one_turn h q t m).next.scene.heads q)) l in
+    subst (λ (l : Lane). left l + 1 ≤ effort_at q m) (sym (at_own m.lanes q (turned h q t m).lane)) (turn_fine q h t m plain good ready).falls
 
 -- ---- how much there is
 
@@ -50,13 +53,13 @@ missing_distinct xs (suc a) =
     ]
 
 -- what is open and what was published are no more than what was accepted
-open_few : (n cap : ℕ) (past : List Entry) (heads : List ℕ) → Known n cap past heads → length (published past 0) + length (open_numbers past 0) ≤ accepted past 0
-open_few n cap past heads known =
-    let ps : List ℕ = published past 0 in
-    let os : List ℕ = open_numbers past 0 in
-    let d : are_distinct (ps ++ os) ≡ true = distinct_join ps os known.distinct (missing_distinct ps (accepted past 0)) (λ k held. (missing-among ps (accepted past 0) k held).1) in
-    let few : length (ps ++ os) ≤ accepted past 0 = few_below (ps ++ os) (accepted past 0) d (λ k held. elim (cases_Bool (is_among os k)) [
-      | inl there ↦ (missing-among ps (accepted past 0) k there).0
+open_few : (q n cap : ℕ) (past : List Entry) (heads : List ℕ) → Known q n cap past heads → length (published past q) + length (open_numbers past q) ≤ accepted past q
+open_few q n cap past heads known =
+    let ps : List ℕ = published past q in
+    let os : List ℕ = open_numbers past q in
+    let d : are_distinct (ps ++ os) ≡ true = distinct_join ps os known.distinct (missing_distinct ps (accepted past q)) (λ k held. (missing-among ps (accepted past q) k held).1) in
+    let few : length (ps ++ os) ≤ accepted past q = few_below (ps ++ os) (accepted past q) d (λ k held. elim (cases_Bool (is_among os k)) [
+      | inl there ↦ (missing-among ps (accepted past q) k there).0
       | inr out ↦ known.below k (let joined : is_among (ps ++ os) k ≡ (is_among ps k || is_among os k) = is_among_append ps os k in grind (arith, nat_tests))
     ]) in
     omega (arith, few, length-append ps os)
@@ -76,13 +79,13 @@ sum_few gone done made (suc a) =
     ]
 
 -- those completed or in the batch are open ones
-done_few : (n cap : ℕ) (past : List Entry) (heads : List ℕ) (phase : Phase) (batch completed : List ℕ) (made : ℕ → ℕ) → Known n cap past heads → Worked past phase batch completed made
-    → length (published past 0) + (length completed + length batch) ≤ accepted past 0
-done_few n cap past heads phase batch completed made known w =
-    let ps : List ℕ = published past 0 in
+done_few : (q n cap : ℕ) (past : List Entry) (heads : List ℕ) (phase : Phase) (batch completed : List ℕ) (made : ℕ → ℕ) → Known q n cap past heads → Worked q past phase batch completed made
+    → length (published past q) + (length completed + length batch) ≤ accepted past q
+done_few q n cap past heads phase batch completed made known w =
+    let ps : List ℕ = published past q in
     let ds : List ℕ = completed ++ batch in
     let d : are_distinct (ps ++ ds) ≡ true = distinct_join ps ds known.distinct w.distinct (λ k held. (w.opens k held).unpublished) in
-    let few : length (ps ++ ds) ≤ accepted past 0 = few_below (ps ++ ds) (accepted past 0) d (λ k held. elim (cases_Bool (is_among ds k)) [
+    let few : length (ps ++ ds) ≤ accepted past q = few_below (ps ++ ds) (accepted past q) d (λ k held. elim (cases_Bool (is_among ds k)) [
       | inl there ↦ (w.opens k there).taken
       | inr out ↦ known.below k (let joined : is_among (ps ++ ds) k ≡ (is_among ps k || is_among ds k) = is_among_append ps ds k in grind (arith, nat_tests))
     ]) in
@@ -99,20 +102,20 @@ start_few true = omega arith
 start_few false = omega arith
 
 -- there is never much to do
-pub effort_small : (h : Header1) (m : Moment) → IsPlain h → Good h m → effort_at m ≤ 2000
-effort_small h m plain good =
+pub effort_small : (q : ℕ) (h : Header1) (m : Moment) → IsPlain h → Good q h m → effort_at q m ≤ 2000
+effort_small q h m plain good =
     let s : Scene = m.scene in
-    let l : Lane = m.lanes 0 in
-    let known : Known h.size h.capacity s.past (s.heads 0) = good.holds.known in
+    let l : Lane = m.lanes q in
+    let known : Known q h.size h.capacity s.past (s.heads q) = good.holds.known in
     let small : h.size ≤ 64 = plain.good.size.small in
-    let room : length (s.heads 0) ≤ h.size + collected s.past 0 = known.room in
-    let shown : collected s.past 0 ≤ length (published s.past 0) = known.shown in
-    let offered : accepted s.past 0 ≤ length (s.heads 0) = known.offered in
-    let opens = open_few h.size h.capacity s.past (s.heads 0) known in
-    let dones = done_few h.size h.capacity s.past (s.heads 0) l.phase l.batch l.completed l.made known good.holds.worked in
-    let sum = sum_few (published s.past 0) (l.completed ++ l.batch) l.made (accepted s.past 0) in
+    let room : length (s.heads q) ≤ h.size + collected s.past q = known.room in
+    let shown : collected s.past q ≤ length (published s.past q) = known.shown in
+    let offered : accepted s.past q ≤ length (s.heads q) = known.offered in
+    let opens = open_few q h.size h.capacity s.past (s.heads q) known in
+    let dones = done_few q h.size h.capacity s.past (s.heads q) l.phase l.batch l.completed l.made known good.holds.worked in
+    let sum = sum_few (published s.past q) (l.completed ++ l.batch) l.made (accepted s.past q) in
     let stores = phase_few l.batch l.phase in
-    let begins = start_few (started s.past 0) in
+    let begins = start_few (started s.past q) in
     omega (arith, opens, dones, sum, stores, begins)
 
 -- ---- one more turn at the end
@@ -124,21 +127,21 @@ then_then : (p q r : Played) → then_played p (then_played q r) ≡ then_played
 then_then p q r = ap (λ (is : List Item). played is r.next) (sym (append_assoc p.items q.items r.items))
 
 -- where the next turn is due, as many turns and one more are these and that one
-pub turns_more : (count : ℕ) (choose : Moment → Turn) (h : Header1) (m : Moment) → is_due h 0 (choose (turns count choose h 0 m).next) (turns count choose h 0 m).next ≡ true
-    → turns (suc count) choose h 0 m ≡ then_played (turns count choose h 0 m) (one_turn h 0 (choose (turns count choose h 0 m).next) (turns count choose h 0 m).next)
-turns_more zero choose h m due =
-    ap (λ (b : Bool). cond {A = Played} b (then_played (one_turn h 0 (choose m) m) (played [] (one_turn h 0 (choose m) m).next)) (played [] m)) due ∙ then_nothing (one_turn h 0 (choose m) m)
-turns_more (suc count) choose h m due = go (is_due h 0 (choose m) m) refl due (turns_more count choose h (one_turn h 0 (choose m) m).next)
+pub turns_more : (q count : ℕ) (choose : Moment → Turn) (h : Header1) (m : Moment) → is_due h q (choose (turns count choose h q m).next) (turns count choose h q m).next ≡ true
+    → turns (suc count) choose h q m ≡ then_played (turns count choose h q m) (one_turn h q (choose (turns count choose h q m).next) (turns count choose h q m).next)
+turns_more q zero choose h m due =
+    ap (λ (b : Bool). cond {A = Played} b (then_played (one_turn h q (choose m) m) (played [] (one_turn h q (choose m) m).next)) (played [] m)) due ∙ then_nothing (one_turn h q (choose m) m)
+turns_more q (suc count) choose h m due = go (is_due h q (choose m) m) refl due (turns_more q count choose h (one_turn h q (choose m) m).next)
   where
-    go : (b : Bool) → is_due h 0 (choose m) m ≡ b
-        → is_due h 0 (choose (cond {A = Played} b (then_played (one_turn h 0 (choose m) m) (turns count choose h 0 (one_turn h 0 (choose m) m).next)) (played [] m)).next) (cond {A = Played} b (then_played (one_turn h 0 (choose m) m) (turns count choose h 0 (one_turn h 0 (choose m) m).next)) (played [] m)).next ≡ true
-        → (is_due h 0 (choose (turns count choose h 0 (one_turn h 0 (choose m) m).next).next) (turns count choose h 0 (one_turn h 0 (choose m) m).next).next ≡ true
-        → turns (suc count) choose h 0 (one_turn h 0 (choose m) m).next ≡ then_played (turns count choose h 0 (one_turn h 0 (choose m) m).next) (one_turn h 0 (choose (turns count choose h 0 (one_turn h 0 (choose m) m).next).next) (turns count choose h 0 (one_turn h 0 (choose m) m).next).next))
-        → cond {A = Played} b (then_played (one_turn h 0 (choose m) m) (turns (suc count) choose h 0 (one_turn h 0 (choose m) m).next)) (played [] m)
-        ≡ then_played (cond {A = Played} b (then_played (one_turn h 0 (choose m) m) (turns count choose h 0 (one_turn h 0 (choose m) m).next)) (played [] m))
-        (one_turn h 0 (choose (cond {A = Played} b (then_played (one_turn h 0 (choose m) m) (turns count choose h 0 (one_turn h 0 (choose m) m).next)) (played [] m)).next)
-        (cond {A = Played} b (then_played (one_turn h 0 (choose m) m) (turns count choose h 0 (one_turn h 0 (choose m) m).next)) (played [] m)).next)
+    go : (b : Bool) → is_due h q (choose m) m ≡ b
+        → is_due h q (choose (cond {A = Played} b (then_played (one_turn h q (choose m) m) (turns count choose h q (one_turn h q (choose m) m).next)) (played [] m)).next) (cond {A = Played} b (then_played (one_turn h q (choose m) m) (turns count choose h q (one_turn h q (choose m) m).next)) (played [] m)).next ≡ true
+        → (is_due h q (choose (turns count choose h q (one_turn h q (choose m) m).next).next) (turns count choose h q (one_turn h q (choose m) m).next).next ≡ true
+        → turns (suc count) choose h q (one_turn h q (choose m) m).next ≡ then_played (turns count choose h q (one_turn h q (choose m) m).next) (one_turn h q (choose (turns count choose h q (one_turn h q (choose m) m).next).next) (turns count choose h q (one_turn h q (choose m) m).next).next))
+        → cond {A = Played} b (then_played (one_turn h q (choose m) m) (turns (suc count) choose h q (one_turn h q (choose m) m).next)) (played [] m)
+        ≡ then_played (cond {A = Played} b (then_played (one_turn h q (choose m) m) (turns count choose h q (one_turn h q (choose m) m).next)) (played [] m))
+        (one_turn h q (choose (cond {A = Played} b (then_played (one_turn h q (choose m) m) (turns count choose h q (one_turn h q (choose m) m).next)) (played [] m)).next)
+        (cond {A = Played} b (then_played (one_turn h q (choose m) m) (turns count choose h q (one_turn h q (choose m) m).next)) (played [] m)).next)
     go true is later rest =
-        let P : Played = turns count choose h 0 (one_turn h 0 (choose m) m).next in
-        ap (then_played (one_turn h 0 (choose m) m)) (rest later) ∙ then_then (one_turn h 0 (choose m) m) P (one_turn h 0 (choose P.next) P.next)
+        let P : Played = turns count choose h q (one_turn h q (choose m) m).next in
+        ap (then_played (one_turn h q (choose m) m)) (rest later) ∙ then_then (one_turn h q (choose m) m) P (one_turn h q (choose P.next) P.next)
     go false is later rest = absurd (let fails : true ≡ false = sym later ∙ is in cc)

@@ -4,6 +4,8 @@ use Rattle.std.specs.Prelude.{Option, Some, None, slice_get, slice_range, nat_lt
 use Rattle.std.specs.List.{AllByRecursion}
 use Rattle.std.proofs.lemmas.Bool.Decides.{nat_tests}
 use Rattle.std.proofs.lemmas.List.{length-replicate}
+use Rattle.vub_run_laws.proofs.RunOwn.{offers_own}
+use Rattle.vub_run_laws.proofs.RunQueues.{on_one, IsOn}
 use Rattle.vub_base.specs.declared.header.Header1.{Header1}
 use Rattle.vub_base.specs.declared.request.Ask.{Ask}
 use Rattle.vub_base.specs.declared.request.Part.{Part}
@@ -43,7 +45,7 @@ use Rattle.vub_run_laws.proofs.Runs.{plain_header}
 use Rattle.vub_run_laws.proofs.RunEvents.{Right, turn_right}
 use Rattle.vub_run_laws.proofs.RunGood.{IsWide, IsWaiting}
 use Rattle.vub_run_laws.proofs.RunGuests.{waits_well}
-use Rattle.vub_run_laws.proofs.RunsLegal.{IsHeld, held_right, held_next, right_past}
+use Rattle.vub_run_laws.proofs.RunsLegal.{some_queue, IsHeld, held_right, held_next, right_past}
 use Rattle.vub_run_laws.proofs.RunTurns.{IsPlain, Good}
 use Rattle.vub_run_laws.proofs.RunWork.{sector_long}
 
@@ -93,30 +95,30 @@ made_entries [] all = tt
 made_entries (e ∷ es) all = (made_entry e all.0, made_entries es all.1)
 
 -- they add no offer
-made_offer : (past : List Entry) (e : Entry) → IsMade e → offers (e ∷ past) 0 ≤ offers past 0
-made_offer past (entries.Offer q r) is = absurd is
-made_offer past (entries.Accept q k) is = omega arith
-made_offer past (entries.Look q k s v) is = omega arith
-made_offer past (entries.Act q k s v) is = omega arith
-made_offer past (entries.Sync q k) is = omega arith
-made_offer past (entries.Fault q k) is = omega arith
-made_offer past (entries.Publish q answers) is = omega arith
-made_offer past entries.Kill is = omega arith
-made_offer past (entries.Start q list) is = omega arith
-made_offer past (entries.Collect q k) is = omega arith
-made_offer past (entries.Power image) is = omega arith
+made_offer : (q : ℕ) (past : List Entry) (e : Entry) → IsMade e → offers (e ∷ past) q ≤ offers past q
+made_offer q past (entries.Offer p r) is = absurd is
+made_offer q past (entries.Accept p k) is = omega arith
+made_offer q past (entries.Look p k s v) is = omega arith
+made_offer q past (entries.Act p k s v) is = omega arith
+made_offer q past (entries.Sync p k) is = omega arith
+made_offer q past (entries.Fault p k) is = omega arith
+made_offer q past (entries.Publish p answers) is = omega arith
+made_offer q past entries.Kill is = omega arith
+made_offer q past (entries.Start p list) is = omega arith
+made_offer q past (entries.Collect p k) is = omega arith
+made_offer q past (entries.Power image) is = omega arith
 
-made_offers : (past es : List Entry) → AreMade es → offers (after past es) 0 ≤ offers past 0
-made_offers past [] all = omega arith
-made_offers past (e ∷ es) all = omega (arith, made_offer past e all.0, made_offers (e ∷ past) es all.1)
+made_offers : (q : ℕ) (past es : List Entry) → AreMade es → offers (after past es) q ≤ offers past q
+made_offers q past [] all = omega arith
+made_offers q past (e ∷ es) all = omega (arith, made_offer q past e all.0, made_offers q (e ∷ past) es all.1)
 
 -- the entries of an event are of those that there are, and at most one is an offer
-pub record Enters (past : List Entry) (is : List Item) : Type 0 where
+pub record Enters (q : ℕ) (past : List Entry) (is : List Item) : Type 0 where
   pub entries : AllByRecursion IsEntry (entries_of is)
-  pub one : offers (after past (entries_of is)) 0 ≤ offers past 0 + 1
+  pub one : offers (after past (entries_of is)) q ≤ offers past q + 1
 
-made_enters : (past : List Entry) (is : List Item) → Makes is → Enters past is
-made_enters past is makes = record { entries = made_entries (entries_of is) makes; one = omega (arith, made_offers past (entries_of is) makes) }
+made_enters : (q : ℕ) (past : List Entry) (is : List Item) → Makes is → Enters q past is
+made_enters q past is makes = record { entries = made_entries (entries_of is) makes; one = omega (arith, made_offers q past (entries_of is) makes) }
 
 -- ---- the driver
 
@@ -128,36 +130,36 @@ request_wide cap asks.Id wide = absurd wide
 request_wide cap (asks.Discard parts) wide = absurd wide
 request_wide cap (asks.Zero parts) wide = absurd wide
 
-no_entry : (past : List Entry) → Enters past []
-no_entry past = record { entries = tt; one = omega arith }
+no_entry : (q : ℕ) (past : List Entry) → Enters q past []
+no_entry q past = record { entries = tt; one = omega arith }
 
-guest_enters : (past : List Entry) (count : ℕ) (a : Ask) (stores : List Store) → IsRequest (request_of a) → Enters past (guest_items count 0 a stores)
-guest_enters past zero a stores is = no_entry past
-guest_enters past (suc count) a [] is = no_entry past
-guest_enters past (suc count) a (st ∷ []) is = record { entries = (is, tt); one = omega arith }
-guest_enters past (suc count) a (st ∷ st' ∷ stores) is =
-    let rest = guest_enters past count a (st' ∷ stores) is in
+guest_enters : (q : ℕ) (past : List Entry) (count : ℕ) (a : Ask) (stores : List Store) → IsRequest (request_of a) → Enters q past (guest_items count q a stores)
+guest_enters q past zero a stores is = no_entry q past
+guest_enters q past (suc count) a [] is = no_entry q past
+guest_enters q past (suc count) a (st ∷ []) is = record { entries = (is, tt); one = omega (arith, offers_own past q (request_of a)) }
+guest_enters q past (suc count) a (st ∷ st' ∷ stores) is =
+    let rest = guest_enters q past count a (st' ∷ stores) is in
     record { entries = rest.entries; one = rest.one }
 
-waiting_enters : (h : Header1) (m : Moment) (count : ℕ) → Good h m → Enters m.scene.past (guest_stores h 0 count (m.lanes 0).driver.waiting m).items
-waiting_enters h m count good = go (m.lanes 0).driver.waiting refl
+waiting_enters : (q : ℕ) (h : Header1) (m : Moment) (count : ℕ) → Good q h m → Enters q m.scene.past (guest_stores h q count (m.lanes q).driver.waiting m).items
+waiting_enters q h m count good = go (m.lanes q).driver.waiting refl
   where
-    go : (o : Option Waiting) → (m.lanes 0).driver.waiting ≡ o → Enters m.scene.past (guest_stores h 0 count o m).items
-    go None is = no_entry m.scene.past
+    go : (o : Option Waiting) → (m.lanes q).driver.waiting ≡ o → Enters q m.scene.past (guest_stores h q count o m).items
+    go None is = no_entry q m.scene.past
     go (Some w) is =
-        let waits : IsWaiting h.size h.capacity m.scene.past (m.scene.heads 0) (m.lanes 0).driver w = waits_well h m.scene (m.lanes 0) w is good.holds in
-        guest_enters m.scene.past count w.ask w.left (request_wide h.capacity (request_of w.ask) waits.wide)
+        let waits : IsWaiting q h.size h.capacity m.scene.past (m.scene.heads q) (m.lanes q).driver w = waits_well q h m.scene (m.lanes q) w is good.holds in
+        guest_enters q m.scene.past count w.ask w.left (request_wide h.capacity (request_of w.ask) waits.wide)
 
-guest_event : (h : Header1) (m : Moment) (count : ℕ) → Good h m → Enters m.scene.past (guest h 0 count m).items
-guest_event h m count good = go (is_some (m.lanes 0).driver.waiting)
+guest_event : (q : ℕ) (h : Header1) (m : Moment) (count : ℕ) → Good q h m → Enters q m.scene.past (guest h q count m).items
+guest_event q h m count good = go (is_some (m.lanes q).driver.waiting)
   where
-    go : (b : Bool) → Enters m.scene.past (if_ready b (guest_stores h 0 count (m.lanes 0).driver.waiting m) m).items
-    go true = waiting_enters h m count good
+    go : (b : Bool) → Enters q m.scene.past (if_ready b (guest_stores h q count (m.lanes q).driver.waiting m) m).items
+    go true = waiting_enters q h m count good
     go false = record { entries = tt; one = omega arith }
 
-taken_makes : (h : Header1) (xs : List (ℕ × ℕ)) (m : Moment) → Makes (take_first h 0 xs m).items
-taken_makes h [] m = tt
-taken_makes h (x ∷ xs) m = (tt, tt)
+taken_makes : (q : ℕ) (h : Header1) (xs : List (ℕ × ℕ)) (m : Moment) → Makes (take_first h q xs m).items
+taken_makes q h [] m = tt
+taken_makes q h (x ∷ xs) m = (tt, tt)
 
 -- ---- the device
 
@@ -165,18 +167,18 @@ row_makes : (o : Option Row) → entries_of (row_items o) ≡ []
 row_makes None = refl
 row_makes (Some x) = refl
 
-step_makes : (batch : List ℕ) (step : Step) (s : Scene) → Makes (entry_items 0 batch step s)
-step_makes batch steps.Start s = (tt, tt)
-step_makes batch steps.Accept s = (tt, tt)
-step_makes batch (steps.Id e) s = tt
-step_makes batch (steps.Len e) s = tt
-step_makes batch steps.Index s = (tt, tt)
+step_makes : (q : ℕ) (batch : List ℕ) (step : Step) (s : Scene) → Makes (entry_items q batch step s)
+step_makes q batch steps.Start s = (tt, tt)
+step_makes q batch steps.Accept s = (tt, tt)
+step_makes q batch (steps.Id e) s = tt
+step_makes q batch (steps.Len e) s = tt
+step_makes q batch steps.Index s = (tt, tt)
 
-phase_makes : (h : Header1) (s : Scene) (l : Lane) (o : Option Step) → Makes (phase_turn h 0 s l o).items
-phase_makes h s l None = tt
-phase_makes h s l (Some step) =
-    let stores : List Item = step_stores h 0 l.batch step s in
-    makes-append stores (entry_items 0 l.batch step (after_items h stores s)) (subst AreMade (sym (row_makes _)) tt) (step_makes l.batch step (after_items h stores s))
+phase_makes : (q : ℕ) (h : Header1) (s : Scene) (l : Lane) (o : Option Step) → Makes (phase_turn h q s l o).items
+phase_makes q h s l None = tt
+phase_makes q h s l (Some step) =
+    let stores : List Item = step_stores h q l.batch step s in
+    makes-append stores (entry_items q l.batch step (after_items h stores s)) (subst AreMade (sym (row_makes _)) tt) (step_makes q l.batch step (after_items h stores s))
 
 zeros_long : length zeros ≡ 512
 unfolding zeros
@@ -211,51 +213,51 @@ effect_long (asks.Zero parts) i = zeroed_long parts.items i
 abbrev AreLong : List Entry → Type 0
 AreLong past = (s : ℕ) → length (value past s) ≡ 512
 
-look_makes : (k : ℕ) (past : List Entry) (o : Option ℕ) → AreLong past → Makes (look_items 0 k past o)
-look_makes k past None long = tt
-look_makes k past (Some s) long = (long s, tt)
+look_makes : (q k : ℕ) (past : List Entry) (o : Option ℕ) → AreLong past → Makes (look_items q k past o)
+look_makes q k past None long = tt
+look_makes q k past (Some s) long = (long s, tt)
 
-act_makes : (k : ℕ) (o : Option SectorValue) → IsLong o → Makes (act_items 0 k o)
-act_makes k None long = tt
-act_makes k (Some x) long = (long, tt)
+act_makes : (q k : ℕ) (o : Option SectorValue) → IsLong o → Makes (act_items q k o)
+act_makes q k None long = tt
+act_makes q k (Some x) long = (long, tt)
 
-task_makes : (h : Header1) (s : Scene) (l : Lane) (k : ℕ) (r : Asked) (o : Option RequestStep) → AreLong s.past → Makes (task_turn h 0 s l k r o).items
-task_makes h s l k r None long = tt
-task_makes h s l k r (Some (Look place)) long = look_makes k s.past (look_at r place) long
-task_makes h s l k r (Some (Put place)) long = tt
-task_makes h s l k r (Some (Act place)) long = act_makes k (effect_at r place) (effect_long r place)
-task_makes h s l k r (Some Sync) long = (tt, tt)
-task_makes h s l k r (Some Status) long = tt
+task_makes : (q : ℕ) (h : Header1) (s : Scene) (l : Lane) (k : ℕ) (r : Asked) (o : Option RequestStep) → AreLong s.past → Makes (task_turn h q s l k r o).items
+task_makes q h s l k r None long = tt
+task_makes q h s l k r (Some (Look place)) long = look_makes q k s.past (look_at r place) long
+task_makes q h s l k r (Some (Put place)) long = tt
+task_makes q h s l k r (Some (Act place)) long = act_makes q k (effect_at r place) (effect_long r place)
+task_makes q h s l k r (Some Sync) long = (tt, tt)
+task_makes q h s l k r (Some Status) long = tt
 
-request_makes : (h : Header1) (s : Scene) (l : Lane) (k : ℕ) (o : Option Asked) → AreLong s.past → Makes (request_turn h 0 s l k o).items
-request_makes h s l k None long = tt
-request_makes h s l k (Some r) long = task_makes h s l k r (slice_get (task_steps h r) (l.made k)) long
+request_makes : (q : ℕ) (h : Header1) (s : Scene) (l : Lane) (k : ℕ) (o : Option Asked) → AreLong s.past → Makes (request_turn h q s l k o).items
+request_makes q h s l k None long = tt
+request_makes q h s l k (Some r) long = task_makes q h s l k r (slice_get (task_steps h r) (l.made k)) long
 
-work_makes : (h : Header1) (s : Scene) (l : Lane) (o : Option ℕ) → AreLong s.past → Makes (work_turn h 0 s l o).items
-work_makes h s l None long = tt
-work_makes h s l (Some k) long = request_makes h s l k (asked s.past 0 k) long
+work_makes : (q : ℕ) (h : Header1) (s : Scene) (l : Lane) (o : Option ℕ) → AreLong s.past → Makes (work_turn h q s l o).items
+work_makes q h s l None long = tt
+work_makes q h s l (Some k) long = request_makes q h s l k (asked s.past q k) long
 
-goes_makes : (h : Header1) (s : Scene) (l : Lane) → Makes (phase_goes_on h 0 s l).items
-goes_makes h s l = phase_makes h s l (next_step (length l.batch) l.phase)
+goes_makes : (q : ℕ) (h : Header1) (s : Scene) (l : Lane) → Makes (phase_goes_on h q s l).items
+goes_makes q h s l = phase_makes q h s l (next_step (length l.batch) l.phase)
 
-turned_makes : (h : Header1) (t : Turn) (m : Moment) → AreLong m.scene.past → Makes (turned h 0 t m).items
-turned_makes h turns.Start m long = goes_makes h m.scene (under_way turns.Start (m.lanes 0))
-turned_makes h turns.Fetch m long = goes_makes h m.scene (under_way turns.Fetch (m.lanes 0))
-turned_makes h (turns.Publish most) m long = goes_makes h m.scene (under_way (turns.Publish most) (m.lanes 0))
-turned_makes h (turns.Work place) m long = work_makes h m.scene (m.lanes 0) (slice_get (unfinished 0 m) place) long
+turned_makes : (q : ℕ) (h : Header1) (t : Turn) (m : Moment) → AreLong m.scene.past → Makes (turned h q t m).items
+turned_makes q h turns.Start m long = goes_makes q h m.scene (under_way turns.Start (m.lanes q))
+turned_makes q h turns.Fetch m long = goes_makes q h m.scene (under_way turns.Fetch (m.lanes q))
+turned_makes q h (turns.Publish most) m long = goes_makes q h m.scene (under_way (turns.Publish most) (m.lanes q))
+turned_makes q h (turns.Work place) m long = work_makes q h m.scene (m.lanes q) (slice_get (unfinished q m) place) long
 
-turn_makes : (h : Header1) (t : Turn) (m : Moment) → Good h m → Makes (one_turn h 0 t m).items
-turn_makes h t m good = turned_makes h t m good.holds.known.values
+turn_makes : (q : ℕ) (h : Header1) (t : Turn) (m : Moment) → Good q h m → Makes (one_turn h q t m).items
+turn_makes q h t m good = turned_makes q h t m good.holds.known.values
 
-turns_make : (count : ℕ) (choose : Moment → Turn) (h : Header1) (m : Moment) → IsPlain h → Good h m → Makes (many_turns count choose h 0 m).items
-turns_make zero choose h m plain good = tt
-turns_make (suc count) choose h m plain good = go (is_due h 0 (choose m) m) refl (λ good'. turns_make count choose h (one_turn h 0 (choose m) m).next plain good')
+turns_make : (q count : ℕ) (choose : Moment → Turn) (h : Header1) (m : Moment) → IsPlain h → Good q h m → Makes (many_turns count choose h q m).items
+turns_make q zero choose h m plain good = tt
+turns_make q (suc count) choose h m plain good = go (is_due h q (choose m) m) refl (λ good'. turns_make q count choose h (one_turn h q (choose m) m).next plain good')
   where
-    go : (b : Bool) → is_due h 0 (choose m) m ≡ b → (Good h (one_turn h 0 (choose m) m).next → Makes (many_turns count choose h 0 (one_turn h 0 (choose m) m).next).items)
-        → Makes (cond {A = Played} b (then_played (one_turn h 0 (choose m) m) (many_turns count choose h 0 (one_turn h 0 (choose m) m).next)) (played [] m)).items
+    go : (b : Bool) → is_due h q (choose m) m ≡ b → (Good q h (one_turn h q (choose m) m).next → Makes (many_turns count choose h q (one_turn h q (choose m) m).next).items)
+        → Makes (cond {A = Played} b (then_played (one_turn h q (choose m) m) (many_turns count choose h q (one_turn h q (choose m) m).next)) (played [] m)).items
     go true due rest =
-        makes-append (one_turn h 0 (choose m) m).items (many_turns count choose h 0 (one_turn h 0 (choose m) m).next).items
-        (turn_makes h (choose m) m good) (rest (turn_right h (choose m) m plain good due).good)
+        makes-append (one_turn h q (choose m) m).items (many_turns count choose h q (one_turn h q (choose m) m).next).items
+        (turn_makes q h (choose m) m good) (rest (turn_right q h (choose m) m plain good due).good)
     go false due rest = tt
 
 -- ---- any event
@@ -267,12 +269,12 @@ tested false p m makes = tt
 made_makes : (is : List Item) (next : Moment) (p : Played) → played is next ≡ p → Makes p.items → Makes is
 made_makes is next p e makes = subst (λ (x : Played). Makes x.items) (sym e) makes
 
-drain_makes : (h : Header1) (m : Moment) (choose : Moment → Turn) (is : List Item) (next : Moment) → IsPlain h → Good h m → Drains h 0 m choose is next → Makes is
-drain_makes h m choose is next plain good (inl none) = made_makes is next (played (items.Idle ∷ []) m) none.1 tt
-drain_makes h m choose is next plain good (inr some) = made_makes is next (many_turns some.1.count choose h 0 m) some.1.made (turns_make some.1.count choose h m plain good)
+drain_makes : (q : ℕ) (h : Header1) (m : Moment) (choose : Moment → Turn) (is : List Item) (next : Moment) → IsPlain h → Good q h m → Drains h q m choose is next → Makes is
+drain_makes q h m choose is next plain good (inl none) = made_makes is next (played (items.Idle ∷ []) m) none.1 tt
+drain_makes q h m choose is next plain good (inr some) = made_makes is next (many_turns some.1.count choose h q m) some.1.made (turns_make q some.1.count choose h m plain good)
 
-single_makes : (h : Header1) (t : Turn) (m : Moment) → Good h m → Makes (single h 0 t m).items
-single_makes h t m good = tested (is_due h 0 t m) (one_turn h 0 t m) m (turn_makes h t m good)
+single_makes : (q : ℕ) (h : Header1) (t : Turn) (m : Moment) → Good q h m → Makes (single h q t m).items
+single_makes q h t m good = tested (is_due h q t m) (one_turn h q t m) m (turn_makes q h t m good)
 
 boot_makes : (m : Moment) → Makes (boot m).items
 boot_makes m = tested (not m.lives) (played [] (record m { lives = true; joined = false; lanes = λ q. fresh (m.lanes q) })) m tt
@@ -280,35 +282,39 @@ boot_makes m = tested (not m.lives) (played [] (record m { lives = true; joined 
 join_makes : (m : Moment) → Makes (join m).items
 join_makes m = tested (m.lives && not m.joined) (played [] (record m { joined = true; lanes = λ q. record (m.lanes q) { attached = true } })) m tt
 
-pub event_enters : (h : Header1) (m : Moment) (e : Event) (is : List Item) (next : Moment) → IsPlain h → Good h m → IsEvent h e → Plays h m e is next → Enters m.scene.past is
-event_enters h m (events.Ask q shape a) is next plain good fits plays =
-    made_enters m.scene.past is (made_makes is next (ask h q shape a m) plays (tested (can_take h.size shape a (m.lanes q).driver) _ m tt))
-event_enters h m (events.Guest q k) is next plain good fits plays =
-    let here : Plays h m (events.Guest 0 k) is next = subst (λ (p : ℕ). Plays h m (events.Guest p k) is next) fits.0 plays in
-    subst (λ (x : Played). Enters m.scene.past x.items) (sym here) (guest_event h m k good)
-event_enters h m (events.Collect q) is next plain good fits plays =
-    let here : Plays h m (events.Collect 0) is next = subst (λ (p : ℕ). Plays h m (events.Collect p) is next) fits plays in
-    made_enters m.scene.past is (made_makes is next (collect h 0 m) here (taken_makes h _ m))
-event_enters h m events.Boot is next plain good fits plays = made_enters m.scene.past is (made_makes is next (boot m) plays (boot_makes m))
-event_enters h m events.Join is next plain good fits plays = made_enters m.scene.past is (made_makes is next (join m) plays (join_makes m))
-event_enters h m (events.Start q) is next plain good fits plays =
-    let here : Plays h m (events.Start 0) is next = subst (λ (p : ℕ). Plays h m (events.Start p) is next) fits plays in
-    made_enters m.scene.past is (made_makes is next (single h 0 turns.Start m) here (single_makes h turns.Start m good))
-event_enters h m (events.Fetch q) is next plain good fits plays =
-    let here : Plays h m (events.Fetch 0) is next = subst (λ (p : ℕ). Plays h m (events.Fetch p) is next) fits plays in
-    made_enters m.scene.past is (made_makes is next (single h 0 turns.Fetch m) here (single_makes h turns.Fetch m good))
-event_enters h m (events.Work q place) is next plain good fits plays =
-    let here : Plays h m (events.Work 0 place) is next = subst (λ (p : ℕ). Plays h m (events.Work p place) is next) fits.0 plays in
-    made_enters m.scene.past is (made_makes is next (single h 0 (turns.Work place) m) here (single_makes h (turns.Work place) m good))
-event_enters h m (events.Publish q most) is next plain good fits plays =
-    let here : Plays h m (events.Publish 0 most) is next = subst (λ (p : ℕ). Plays h m (events.Publish p most) is next) fits.0 plays in
-    made_enters m.scene.past is (made_makes is next (single h 0 (turns.Publish most) m) here (single_makes h (turns.Publish most) m good))
-event_enters h m (events.Turn q count) is next plain good fits plays =
-    let here : Plays h m (events.Turn 0 count) is next = subst (λ (p : ℕ). Plays h m (events.Turn p count) is next) fits.0 plays in
-    made_enters m.scene.past is (made_makes is next (up_to count (any_choice h 0) h 0 m) here (tested (is_due h 0 (any_choice h 0 m) m) (many_turns count (any_choice h 0) h 0 m) m (turns_make count (any_choice h 0) h m plain good)))
-event_enters h m (events.Drain q) is next plain good fits plays =
-    let here : Plays h m (events.Drain 0) is next = subst (λ (p : ℕ). Plays h m (events.Drain p) is next) fits plays in
-    made_enters m.scene.past is (drain_makes h m (drain_choice h 0 (accepted m.scene.past 0)) is next plain good here)
+pub event_enters : (q : ℕ) (h : Header1) (m : Moment) (e : Event) (is : List Item) (next : Moment) → IsPlain h → Good q h m → IsOn q e → IsEvent h e → Plays h m e is next → Enters q m.scene.past is
+event_enters q h m (events.Ask p shape a) is next plain good on fits plays =
+    made_enters q m.scene.past is (made_makes is next (ask h p shape a m) plays (tested (can_take h.size shape a (m.lanes p).driver) _ m tt))
+event_enters q h m (events.Guest p k) is next plain good on fits plays =
+    let here : Plays h m (events.Guest q k) is next = subst (λ (p : ℕ). Plays h m (events.Guest p k) is next) on plays in
+    subst (λ (x : Played). Enters q m.scene.past x.items) (sym here) (guest_event q h m k good)
+event_enters q h m (events.Collect p) is next plain good on fits plays =
+    let here : Plays h m (events.Collect q) is next = subst (λ (p : ℕ). Plays h m (events.Collect p) is next) on plays in
+    made_enters q m.scene.past is (made_makes is next (collect h q m) here (taken_makes q h _ m))
+event_enters q h m events.Boot is next plain good on fits plays = made_enters q m.scene.past is (made_makes is next (boot m) plays (boot_makes m))
+event_enters q h m events.Join is next plain good on fits plays = made_enters q m.scene.past is (made_makes is next (join m) plays (join_makes m))
+event_enters q h m (events.Start p) is next plain good on fits plays =
+    let here : Plays h m (events.Start q) is next = subst (λ (p : ℕ). Plays h m (events.Start p) is next) on plays in
+    made_enters q m.scene.past is (made_makes is next (single h q turns.Start m) here (single_makes q h turns.Start m good))
+event_enters q h m (events.Fetch p) is next plain good on fits plays =
+    let here : Plays h m (events.Fetch q) is next = subst (λ (p : ℕ). Plays h m (events.Fetch p) is next) on plays in
+    made_enters q m.scene.past is (made_makes is next (single h q turns.Fetch m) here (single_makes q h turns.Fetch m good))
+event_enters q h m (events.Work p place) is next plain good on fits plays =
+    let here : Plays h m (events.Work q place) is next = subst (λ (p : ℕ). Plays h m (events.Work p place) is next) on plays in
+    made_enters q m.scene.past is (made_makes is next (single h q (turns.Work place) m) here (single_makes q h (turns.Work place) m good))
+event_enters q h m (events.Publish p most) is next plain good on fits plays =
+    let here : Plays h m (events.Publish q most) is next = subst (λ (p : ℕ). Plays h m (events.Publish p most) is next) on plays in
+    made_enters q m.scene.past is (made_makes is next (single h q (turns.Publish most) m) here (single_makes q h (turns.Publish most) m good))
+event_enters q h m (events.Turn p count) is next plain good on fits plays =
+    let here : Plays h m (events.Turn q count) is next = subst (λ (p : ℕ). Plays h m (events.Turn p count) is next) on plays in
+    made_enters q m.scene.past is (made_makes is next (up_to count (any_choice h q) h q m) here (tested (is_due h q (any_choice h q m) m) (many_turns count (any_choice h q) h q m) m (turns_make q count (any_choice h q) h m plain good)))
+event_enters q h m (events.Drain p) is next plain good on fits plays =
+    let here : Plays h m (events.Drain q) is next = subst (λ (p : ℕ). Plays h m (events.Drain p) is next) on plays in
+    made_enters q m.scene.past is (drain_makes q h m (drain_choice h q (accepted m.scene.past q)) is next plain good here)
+
+-- where all that holds does
+held_enters : (q : ℕ) (h : Header1) (m : Moment) (e : Event) (is : List Item) (next : Moment) → IsHeader h → q < h.queues → IsHeld h m → IsEvent h e → Plays h m e is next → Enters q m.scene.past is
+held_enters q h m e is next header low held fits plays = event_enters q h m e is next (plain_header h header) (held q low).good (on_one h q e header low fits) fits plays
 
 -- ---- runs
 
@@ -318,24 +324,24 @@ run_enters h m [] (r ∷ rs) header held fits run = absurd run
 run_enters h m (e ∷ es) [] header held fits run = absurd run
 run_enters h m (e ∷ es) (r ∷ rs) header held fits run =
     all_both IsEntry (entries_of r.items) (history_of rs)
-    (event_enters h m e r.items run.1.0 (plain_header h header) held.0 fits.0 run.1.1).entries
+    (held_enters 0 h m e r.items run.1.0 header (some_queue h header) held fits.0 run.1.1).entries
     (run_enters h run.1.0 es rs header (held_next h m e r.items run.1.0 header held fits.0 run.1.1) fits.1 run.1.2)
 
 -- an event offers one request at most
-pub event_offers : (h : Header1) (m : Moment) (e : Event) (is : List Item) (next : Moment) → IsHeader h → IsHeld h m → IsEvent h e → Plays h m e is next → length (next.scene.heads 0) ≤ length (m.scene.heads 0) + 1
-event_offers h m e is next header held fits plays =
-    let enters : Enters m.scene.past is = event_enters h m e is next (plain_header h header) held.0 fits plays in
-    let right : Right h m is next = held_right h m e is next header held fits plays in
-    let past : next.scene.past ≡ after m.scene.past (entries_of is) = right_past h m is next right in
-    let few : offers next.scene.past 0 ≤ offers m.scene.past 0 + 1 = subst (λ (p : List Entry). offers p 0 ≤ offers m.scene.past 0 + 1) (sym past) enters.one in
-    omega (arith, few, right.good.holds.known.offers_are, held.0.holds.known.offers_are)
+pub event_offers : (q : ℕ) (h : Header1) (m : Moment) (e : Event) (is : List Item) (next : Moment) → IsHeader h → q < h.queues → IsHeld h m → IsEvent h e → Plays h m e is next → length (next.scene.heads q) ≤ length (m.scene.heads q) + 1
+event_offers q h m e is next header low held fits plays =
+    let enters : Enters q m.scene.past is = held_enters q h m e is next header low held fits plays in
+    let right : Right q h m is next = held_right q h m e is next header low held fits plays in
+    let past : next.scene.past ≡ after m.scene.past (entries_of is) = right_past q h m is next right in
+    let few : offers next.scene.past q ≤ offers m.scene.past q + 1 = subst (λ (p : List Entry). offers p q ≤ offers m.scene.past q + 1) (sym past) enters.one in
+    omega (arith, few, right.good.holds.known.offers_are, (held q low).good.holds.known.offers_are)
 
 -- so a run offers no more requests than it has events
-pub run_offers : (h : Header1) (m : Moment) (es : List Event) (rs : List Record) (n : Moment) → IsHeader h → IsHeld h m → AllByRecursion (IsEvent h) es → RunTo h m es rs n → length (n.scene.heads 0) ≤ length (m.scene.heads 0) + length es
-run_offers h m [] [] n header held fits run = subst (λ (x : Moment). length (x.scene.heads 0) ≤ length (m.scene.heads 0) + 0) (sym run) (omega arith)
-run_offers h m [] (r ∷ rs) n header held fits run = absurd run
-run_offers h m (e ∷ es) [] n header held fits run = absurd run
-run_offers h m (e ∷ es) (r ∷ rs) n header held fits run =
-    let first = event_offers h m e r.items run.1.0 header held fits.0 run.1.1 in
-    let rest = run_offers h run.1.0 es rs n header (held_next h m e r.items run.1.0 header held fits.0 run.1.1) fits.1 run.1.2 in
+pub run_offers : (q : ℕ) (h : Header1) (m : Moment) (es : List Event) (rs : List Record) (n : Moment) → IsHeader h → q < h.queues → IsHeld h m → AllByRecursion (IsEvent h) es → RunTo h m es rs n → length (n.scene.heads q) ≤ length (m.scene.heads q) + length es
+run_offers q h m [] [] n header low held fits run = subst (λ (x : Moment). length (x.scene.heads q) ≤ length (m.scene.heads q) + 0) (sym run) (omega arith)
+run_offers q h m [] (r ∷ rs) n header low held fits run = absurd run
+run_offers q h m (e ∷ es) [] n header low held fits run = absurd run
+run_offers q h m (e ∷ es) (r ∷ rs) n header low held fits run =
+    let first = event_offers q h m e r.items run.1.0 header low held fits.0 run.1.1 in
+    let rest = run_offers q h run.1.0 es rs n header low (held_next h m e r.items run.1.0 header held fits.0 run.1.1) fits.1 run.1.2 in
     omega (arith, first, rest)

@@ -5,6 +5,8 @@ use Rattle.std.specs.List.{AllByRecursion}
 use Rattle.std.proofs.lemmas.Bool.Decides.{nat_tests}
 use Rattle.std.proofs.lemmas.Bool.{cases_lt}
 use Rattle.std.proofs.lemmas.List.{length-append, drop_all}
+use Rattle.vub_run_laws.proofs.RunOwn.{at_own}
+use Rattle.vub_run_laws.proofs.RunQueues.{IsOn}
 use Rattle.vub_base.specs.declared.header.Header1.{Header1}
 use Rattle.vub_base.specs.declared.request.Ask.{Ask}
 use Rattle.vub_base.specs.declared.request.Shape.{Shape}
@@ -28,14 +30,14 @@ use Rattle.vub_schedule.specs.declared.types.Event.TheVariants as events
 use Rattle.vub_schedule.specs.Spelling.{IsAsk, IsEvent}
 use Rattle.vub_report.specs.declared.items.Item.{Item}
 use Rattle.vub_report.specs.declared.items.Item.TheVariants as items
-use Rattle.vub_run.specs.Memory.{Scene, after_items}
+use Rattle.vub_run.specs.Memory.{Scene, with_at, after_items}
 use Rattle.vub_run.specs.Moments.{Lane, Moment, fresh, standing}
 use Rattle.vub_run.specs.Run.{Played, played, if_ready, with_lane, comes_about, with_driver, ask, guest, guest_items, guest_stores, take_first, collect, boot, join, one_turn, is_due, then_played, turns, single, up_to, any_choice, drain_choice, Drains, Plays}
 use Rattle.vub_device.specs.Requests.{request_of}
-use Rattle.vub_run.specs.Tracking.{EveryTracks, AfterEach}
+use Rattle.vub_run.specs.Tracking.{Tracks, AfterEach}
 use Rattle.vub_report.specs.Histories.{entries_of}
 use Rattle.vub_run.specs.Turns.{turned}
-use Rattle.vub_run_laws.proofs.RunGood.{the_ring, index_store, IsHarmless, IsLeft, IsWaiting, EntryWell, EntryStands, IsPending, PhaseIs, Worked}
+use Rattle.vub_run_laws.proofs.RunGood.{the_ring, index_store, IsHarmless, IsLeft, IsWaiting, EntryWell, EntryStands, IsPending, PhaseIs, Worked, Holds}
 use Rattle.vub_run_laws.proofs.RunGuests.{holds_track, offered, Offered, guest_holds, last_holds, Unoffered, part_holds, left_after, left_some, left_waits, rest_waits, waits_well}
 use Rattle.vub_run_laws.proofs.RunWork.{Fine}
 use Rattle.vub_run_laws.proofs.RunItems.{after-append, each-append, legal-append, past_after}
@@ -45,171 +47,176 @@ use Rattle.vub_run_laws.proofs.RunAsks.{plain_ask, ask_holds}
 use Rattle.vub_run_laws.proofs.RunCollects.{IsTaken, next_number, after_taken, taken_holds, taken_legal, first_seen}
 
 -- items from one moment to another
-pub record Right (h : Header1) (m : Moment) (is : List Item) (next : Moment) : Type 0 where
-  pub good : Good h next
-  pub each : AfterEach h (EveryTracks h) m.scene is
+pub record Right (q : ℕ) (h : Header1) (m : Moment) (is : List Item) (next : Moment) : Type 0 where
+  pub good : Good q h next
+  pub each : AfterEach h (Tracks h q) m.scene is
   pub scene : next.scene ≡ after_items h is m.scene
   pub legal : LegalFrom h.capacity h.mode m.scene.past (entries_of is)
 
-abbrev pub Leads : Header1 → Moment → Played → Type 0
-Leads h m p = Right h m p.items p.next
+abbrev pub Leads : ℕ → Header1 → Moment → Played → Type 0
+Leads q h m p = Right q h m p.items p.next
 
 -- one after another
-pub right-append : (h : Header1) (m n k : Moment) (xs ys : List Item) → Right h m xs n → Right h n ys k → Right h m (xs ++ ys) k
-right-append h m n k xs ys p q =
+pub right-append : (q : ℕ) (h : Header1) (m n k : Moment) (xs ys : List Item) → Right q h m xs n → Right q h n ys k → Right q h m (xs ++ ys) k
+right-append q h m n k xs ys p later =
     let legal_next : LegalFrom h.capacity h.mode (after m.scene.past (entries_of xs)) (entries_of ys) =
-    subst (λ (past : List Entry). LegalFrom h.capacity h.mode past (entries_of ys)) (ap (λ (s : Scene). s.past) p.scene ∙ past_after h xs m.scene) q.legal in record {
-      good = q.good;
-      each = each-append h (EveryTracks h) m.scene xs ys p.each (subst (λ (s : Scene). AfterEach h (EveryTracks h) s ys) p.scene q.each);
-      scene = q.scene ∙ ap (after_items h ys) p.scene ∙ sym (after-append h xs ys m.scene);
+    subst (λ (past : List Entry). LegalFrom h.capacity h.mode past (entries_of ys)) (ap (λ (s : Scene). s.past) p.scene ∙ past_after h xs m.scene) later.legal in record {
+      good = later.good;
+      each = each-append h (Tracks h q) m.scene xs ys p.each (subst (λ (s : Scene). AfterEach h (Tracks h q) s ys) p.scene later.each);
+      scene = later.scene ∙ ap (after_items h ys) p.scene ∙ sym (after-append h xs ys m.scene);
       legal = subst (λ (es : List Entry). LegalFrom h.capacity h.mode m.scene.past es) (sym (entries-append xs ys)) (legal-append h.capacity h.mode m.scene.past (entries_of xs) (entries_of ys) p.legal legal_next);
     }
 
 -- ---- nothing happens
 
-pub nothing_right : (h : Header1) (m : Moment) → Good h m → Right h m [] m
-nothing_right h m good = record { good = good; each = tt; scene = refl; legal = tt }
+pub nothing_right : (q : ℕ) (h : Header1) (m : Moment) → Good q h m → Right q h m [] m
+nothing_right q h m good = record { good = good; each = tt; scene = refl; legal = tt }
 
-pub idle_right : (h : Header1) (m : Moment) → IsPlain h → Good h m → Right h m (items.Idle ∷ []) m
-idle_right h m plain good = record {
+pub idle_right : (q : ℕ) (h : Header1) (m : Moment) → IsPlain h → Good q h m → Right q h m (items.Idle ∷ []) m
+idle_right q h m plain good = record {
   good = good;
-  each = (inr (holds_track h m.scene (m.lanes 0) plain.good good.holds), tt);
+  each = (inr (holds_track q h m.scene (m.lanes q) plain.good good.holds), tt);
   scene = refl;
   legal = tt;
 }
 
 -- an event that has a test
-tested : (h : Header1) (m : Moment) (ready : Bool) (p : Played) → IsPlain h → Good h m → (ready ≡ true → Leads h m p) → Leads h m (if_ready ready p m)
-tested h m true p plain good then = then refl
-tested h m false p plain good then = idle_right h m plain good
+tested : (q : ℕ) (h : Header1) (m : Moment) (ready : Bool) (p : Played) → IsPlain h → Good q h m → (ready ≡ true → Leads q h m p) → Leads q h m (if_ready ready p m)
+tested q h m true p plain good then = then refl
+tested q h m false p plain good then = idle_right q h m plain good
 
 -- ---- the driver
 
-ask_right : (h : Header1) (m : Moment) (a : Ask) → IsPlain h → Good h m → IsAsk h a → Leads h m (ask h 0 Direct a m)
-ask_right h m a plain good is = tested h m (can_take h.size Direct a (m.lanes 0).driver) (played [] (with_lane 0 (with_driver (after_ask (the_ring h.size) a (m.lanes 0).driver) (m.lanes 0)) m)) plain good (λ ready. record {
-  good = record { holds = ask_holds h m.scene (m.lanes 0) a plain.good (plain_ask h a is) ready good.holds; asleep = good.asleep; idle = good.idle };
+-- what holds of a lane holds where it is set
+lane_good : (q : ℕ) (h : Header1) (n : Moment) (l : Lane) → Holds q h n.scene l → (n.lives ≡ false → (l.attached ≡ false) × (started n.scene.past q ≡ false)) → (started n.scene.past q ≡ false → accepted n.scene.past q ≡ 0) → Good q h (with_lane q l n)
+lane_good q h n l holds asleep idle =
+    let own : with_at n.lanes q l q ≡ l = at_own n.lanes q l in record {
+      holds = subst (λ (x : Lane). Holds q h n.scene x) (sym own) holds;
+      asleep = λ dead. (ap (λ (x : Lane). x.attached) own ∙ (asleep dead).0, (asleep dead).1);
+      idle = idle;
+    }
+
+ask_right : (q : ℕ) (h : Header1) (m : Moment) (a : Ask) → IsPlain h → Good q h m → IsAsk h a → Leads q h m (ask h q Direct a m)
+ask_right q h m a plain good is = tested q h m (can_take h.size Direct a (m.lanes q).driver) (played [] (with_lane q (with_driver (after_ask (the_ring q h.size) a (m.lanes q).driver) (m.lanes q)) m)) plain good (λ ready. record {
+  good = lane_good q h m (with_driver (after_ask (the_ring q h.size) a (m.lanes q).driver) (m.lanes q)) (ask_holds q h m.scene (m.lanes q) a plain.good (plain_ask h a is) ready good.holds) good.asleep good.idle;
   each = tt;
   scene = refl;
   legal = tt;
 })
 
 -- after these stores the request is offered
-offers_right : (h : Header1) (m : Moment) (r : Asked) (is : List Item) → Good h m → Offered h h.mode m.scene (m.lanes 0) r is → Leads h m (comes_about h 0 is (offered (m.lanes 0)) m)
-offers_right h m r is good all = record {
-  good = record {
-    holds = all.holds;
-    asleep = λ dead. ((good.asleep dead).0, ap (λ (p : List Entry). started p 0) all.past ∙ (good.asleep dead).1);
-    idle = λ stopped. ap (λ (p : List Entry). accepted p 0) all.past ∙ good.idle (sym (ap (λ (p : List Entry). started p 0) all.past) ∙ stopped);
-  };
+offers_right : (q : ℕ) (h : Header1) (m : Moment) (r : Asked) (is : List Item) → Good q h m → Offered q h h.mode m.scene (m.lanes q) r is → Leads q h m (comes_about h q is (offered (m.lanes q)) m)
+offers_right q h m r is good all = record {
+  good = lane_good q h (record m { scene = after_items h is m.scene }) (offered (m.lanes q)) all.holds
+      (λ dead. ((good.asleep dead).0, ap (λ (p : List Entry). started p q) all.past ∙ (good.asleep dead).1))
+      (λ stopped. ap (λ (p : List Entry). accepted p q) all.past ∙ good.idle (sym (ap (λ (p : List Entry). started p q) all.past) ∙ stopped));
   each = all.each;
   scene = refl;
   legal = all.legal;
 }
 
 -- the queue after so many stores, where these are left
-abbrev StoresRight : Header1 → Moment → Waiting → ℕ → List Store → Type 0
-StoresRight h m w count left = Leads h m (comes_about h 0 (guest_items count 0 w.ask left) (with_driver (with_left w (drop count left) (m.lanes 0).driver) (m.lanes 0)) m)
+abbrev StoresRight : ℕ → Header1 → Moment → Waiting → ℕ → List Store → Type 0
+StoresRight q h m w count left = Leads q h m (comes_about h q (guest_items count q w.ask left) (with_driver (with_left w (drop count left) (m.lanes q).driver) (m.lanes q)) m)
 
 -- with none left
-nothing_left : (h : Header1) (m : Moment) (w : Waiting) (count : ℕ) (left : List Store) → length left ≤ count → Leads h m (comes_about h 0 (guest_items count 0 w.ask left) (offered (m.lanes 0)) m) → StoresRight h m w count left
-nothing_left h m w count left enough all = subst (λ (rest : List Store). Leads h m (comes_about h 0 (guest_items count 0 w.ask left) (with_driver (with_left w rest (m.lanes 0).driver) (m.lanes 0)) m)) (sym (drop_all count left enough)) all
+nothing_left : (q : ℕ) (h : Header1) (m : Moment) (w : Waiting) (count : ℕ) (left : List Store) → length left ≤ count → Leads q h m (comes_about h q (guest_items count q w.ask left) (offered (m.lanes q)) m) → StoresRight q h m w count left
+nothing_left q h m w count left enough all = subst (λ (rest : List Store). Leads q h m (comes_about h q (guest_items count q w.ask left) (with_driver (with_left w rest (m.lanes q).driver) (m.lanes q)) m)) (sym (drop_all count left enough)) all
 
 -- fewer stores of a plan than are left: nothing is offered
-guest_part : (h : Header1) (m : Moment) (w : Waiting) (count : ℕ) (first : List Store) → IsPlain h → Good h m → (m.lanes 0).driver.waiting ≡ Some w → AllByRecursion (IsHarmless w.head) first → length first ≤ 14 → count < length first + 2
-    → StoresRight h m w count (first ++ offer_stores (the_ring h.size) (m.lanes 0).driver.avail_idx w.head)
-guest_part h m w count first plain good waiting harmless few less =
-    let l : Lane = m.lanes 0 in
-    let stores : List Store = first ++ offer_stores (the_ring h.size) l.driver.avail_idx w.head in
-    let is : List Item = guest_items count 0 w.ask stores in
-    let part : Unoffered h m.scene l is = part_holds h m.scene l w count first plain.good (waits_well h m.scene l w waiting good.holds) harmless less good.holds in
+guest_part : (q : ℕ) (h : Header1) (m : Moment) (w : Waiting) (count : ℕ) (first : List Store) → IsPlain h → Good q h m → (m.lanes q).driver.waiting ≡ Some w → AllByRecursion (IsHarmless q w.head) first → length first ≤ 14 → count < length first + 2
+    → StoresRight q h m w count (first ++ offer_stores (the_ring q h.size) (m.lanes q).driver.avail_idx w.head)
+guest_part q h m w count first plain good waiting harmless few less =
+    let l : Lane = m.lanes q in
+    let stores : List Store = first ++ offer_stores (the_ring q h.size) l.driver.avail_idx w.head in
+    let is : List Item = guest_items count q w.ask stores in
+    let part : Unoffered q h m.scene l is = part_holds q h m.scene l w count first plain.good (waits_well q h m.scene l w waiting good.holds) harmless less good.holds in
     let s' : Scene = after_items h is m.scene in
-    let rest : IsLeft h.size l.driver.avail_idx w.head (drop count stores) = left_after h.size l.driver.avail_idx w.head count first harmless few less in
+    let rest : IsLeft q h.size l.driver.avail_idx w.head (drop count stores) = left_after q h.size l.driver.avail_idx w.head count first harmless few less in
     let v' : Driver = record (l.driver) { waiting = Some (record w { left = drop count stores }) } in
-    let next : Leads h m (comes_about h 0 is (with_driver v' l) m) = record {
-      good = record {
-        holds = rest_waits h s' l w (drop count stores) (waits_well h s' l w waiting part.holds) rest part.holds;
-        asleep = λ dead. ((good.asleep dead).0, ap (λ (p : List Entry). started p 0) part.past ∙ (good.asleep dead).1);
-        idle = λ stopped. ap (λ (p : List Entry). accepted p 0) part.past ∙ good.idle (sym (ap (λ (p : List Entry). started p 0) part.past) ∙ stopped);
-      };
+    let next : Leads q h m (comes_about h q is (with_driver v' l) m) = record {
+      good = lane_good q h (record m { scene = s' }) (with_driver v' l) (rest_waits q h s' l w (drop count stores) (waits_well q h s' l w waiting part.holds) rest part.holds)
+          (λ dead. ((good.asleep dead).0, ap (λ (p : List Entry). started p q) part.past ∙ (good.asleep dead).1))
+          (λ stopped. ap (λ (p : List Entry). accepted p q) part.past ∙ good.idle (sym (ap (λ (p : List Entry). started p q) part.past) ∙ stopped));
       each = part.each;
       scene = refl;
       legal = subst (λ (es : List Entry). LegalFrom h.capacity h.mode m.scene.past es) (sym part.none) tt;
     } in
-    subst (λ (v : Driver). Leads h m (comes_about h 0 is (with_driver v l) m)) (sym (left_waits w (drop count stores) l.driver (left_some h.size l.driver.avail_idx w.head (drop count stores) rest))) next
+    subst (λ (v : Driver). Leads q h m (comes_about h q is (with_driver v l) m)) (sym (left_waits w (drop count stores) l.driver (left_some q h.size l.driver.avail_idx w.head (drop count stores) rest))) next
 
 -- the next stores of the request that waits
-guest_some : (h : Header1) (m : Moment) (w : Waiting) (count : ℕ) → IsPlain h → Good h m → EntryStands h m → 1 ≤ count → (m.lanes 0).driver.waiting ≡ Some w → StoresRight h m w count w.left
-guest_some h m w count plain good entry some waiting =
-    let l : Lane = m.lanes 0 in
-    let waits : IsWaiting h.size h.capacity m.scene.past (m.scene.heads 0) l.driver w = waits_well h m.scene l w waiting good.holds in
+guest_some : (q : ℕ) (h : Header1) (m : Moment) (w : Waiting) (count : ℕ) → IsPlain h → Good q h m → EntryStands q h m → 1 ≤ count → (m.lanes q).driver.waiting ≡ Some w → StoresRight q h m w count w.left
+guest_some q h m w count plain good entry some waiting =
+    let l : Lane = m.lanes q in
+    let waits : IsWaiting q h.size h.capacity m.scene.past (m.scene.heads q) l.driver w = waits_well q h m.scene l w waiting good.holds in
     elim waits.plan [
       | inl plan ↦
-          let stores : List Store = plan.first ++ offer_stores (the_ring h.size) l.driver.avail_idx w.head in
-          let long : length stores ≡ length plan.first + 2 = length-append plan.first (offer_stores (the_ring h.size) l.driver.avail_idx w.head) in
-          let here : StoresRight h m w count stores = elim (cases_lt count (length plan.first + 2)) [
-            | inl less ↦ guest_part h m w count plan.first plain good waiting plan.harmless plan.few less
+          let stores : List Store = plan.first ++ offer_stores (the_ring q h.size) l.driver.avail_idx w.head in
+          let long : length stores ≡ length plan.first + 2 = length-append plan.first (offer_stores (the_ring q h.size) l.driver.avail_idx w.head) in
+          let here : StoresRight q h m w count stores = elim (cases_lt count (length plan.first + 2)) [
+            | inl less ↦ guest_part q h m w count plan.first plain good waiting plan.harmless plan.few less
             | inr enough ↦
-                nothing_left h m w count stores (omega (arith, long)) (offers_right h m (request_of w.ask) (guest_items count 0 w.ask stores) good (guest_holds h h.mode m.scene l w count plan.first plain.good waits plan.harmless enough good.holds))
+                nothing_left q h m w count stores (omega (arith, long)) (offers_right q h m (request_of w.ask) (guest_items count q w.ask stores) good (guest_holds q h h.mode m.scene l w count plan.first plain.good waits plan.harmless enough good.holds))
           ] in
-          subst (λ (left : List Store). StoresRight h m w count left) (sym plan.whole) here
+          subst (λ (left : List Store). StoresRight q h m w count left) (sym plan.whole) here
       | inr last ↦
-          let stores : List Store = index_store (the_ring h.size) l.driver.avail_idx ∷ [] in
-          let well : EntryWell h.size (h.base + length (m.scene.heads 0)) m.scene.memory (Some w) = subst (λ (o : Option Waiting). EntryWell h.size (h.base + length (m.scene.heads 0)) m.scene.memory o) waiting entry in
-          let here : StoresRight h m w count stores = nothing_left h m w count stores (omega (arith, some)) (offers_right h m (request_of w.ask) (guest_items count 0 w.ask stores) good (last_holds h h.mode m.scene l w count plain.good waits (omega (arith, some)) good.holds (well (ap length last)))) in
-          subst (λ (left : List Store). StoresRight h m w count left) (sym last) here
+          let stores : List Store = index_store (the_ring q h.size) l.driver.avail_idx ∷ [] in
+          let well : EntryWell q h.size (h.base + length (m.scene.heads q)) m.scene.memory (Some w) = subst (λ (o : Option Waiting). EntryWell q h.size (h.base + length (m.scene.heads q)) m.scene.memory o) waiting entry in
+          let here : StoresRight q h m w count stores = nothing_left q h m w count stores (omega (arith, some)) (offers_right q h m (request_of w.ask) (guest_items count q w.ask stores) good (last_holds q h h.mode m.scene l w count plain.good waits (omega (arith, some)) good.holds (well (ap length last)))) in
+          subst (λ (left : List Store). StoresRight q h m w count left) (sym last) here
     ]
 
-guest_right : (h : Header1) (m : Moment) (count : ℕ) → IsPlain h → Good h m → EntryStands h m → 1 ≤ count → Leads h m (guest h 0 count m)
-guest_right h m count plain good entry some = tested h m (is_some (m.lanes 0).driver.waiting) (guest_stores h 0 count (m.lanes 0).driver.waiting m) plain good (λ ready. go (m.lanes 0).driver.waiting refl)
+guest_right : (q : ℕ) (h : Header1) (m : Moment) (count : ℕ) → IsPlain h → Good q h m → EntryStands q h m → 1 ≤ count → Leads q h m (guest h q count m)
+guest_right q h m count plain good entry some = tested q h m (is_some (m.lanes q).driver.waiting) (guest_stores h q count (m.lanes q).driver.waiting m) plain good (λ ready. go (m.lanes q).driver.waiting refl)
   where
-    go : (o : Option Waiting) → (m.lanes 0).driver.waiting ≡ o → Leads h m (guest_stores h 0 count o m)
-    go None e = nothing_right h m good
-    go (Some w) e = guest_some h m w count plain good entry some e
+    go : (o : Option Waiting) → (m.lanes q).driver.waiting ≡ o → Leads q h m (guest_stores h q count o m)
+    go None e = nothing_right q h m good
+    go (Some w) e = guest_some q h m w count plain good entry some e
 
-collect_right : (h : Header1) (m : Moment) → IsPlain h → Good h m → Leads h m (collect h 0 m)
-collect_right h m plain good = go (seen (the_ring h.size) m.scene.memory (h.base + collected m.scene.past 0)) refl
+collect_right : (q : ℕ) (h : Header1) (m : Moment) → IsPlain h → Good q h m → Leads q h m (collect h q m)
+collect_right q h m plain good = go (seen (the_ring q h.size) m.scene.memory (h.base + collected m.scene.past q)) refl
   where
-    go : (xs : List (ℕ × ℕ)) → seen (the_ring h.size) m.scene.memory (h.base + collected m.scene.past 0) ≡ xs → Leads h m (take_first h 0 xs m)
-    go [] e = idle_right h m plain good
+    go : (xs : List (ℕ × ℕ)) → seen (the_ring q h.size) m.scene.memory (h.base + collected m.scene.past q) ≡ xs → Leads q h m (take_first h q xs m)
+    go [] e = idle_right q h m plain good
     go (x ∷ xs) e =
-        let l : Lane = m.lanes 0 in
-        let t : IsTaken h m.scene l x.0 = first_seen h m.scene l x xs plain.good good.holds e in
-        let k : ℕ = next_number m.scene in
+        let l : Lane = m.lanes q in
+        let t : IsTaken q h m.scene l x.0 = first_seen q h m.scene l x xs plain.good good.holds e in
+        let k : ℕ = next_number q m.scene in
         let v : Driver = record l.driver { owner = without_owner x.0 l.driver.owner } in
-        let next = taken_holds h m.scene l x.0 k t in
-        let whole : Leads h m (comes_about h 0 (items.Made (entries.Collect 0 k) ∷ []) (with_driver v l) m) = record {
-          good = record { holds = next; asleep = good.asleep; idle = good.idle };
-          each = (inr (holds_track h (record m.scene { past = entries.Collect 0 k ∷ m.scene.past }) (with_driver v l) plain.good next), tt);
+        let next = taken_holds q h m.scene l x.0 k t in
+        let whole : Leads q h m (comes_about h q (items.Made (entries.Collect q k) ∷ []) (with_driver v l) m) = record {
+          good = lane_good q h (record m { scene = record m.scene { past = entries.Collect q k ∷ m.scene.past } }) (with_driver v l) next good.asleep good.idle;
+          each = (inr (holds_track q h (record m.scene { past = entries.Collect q k ∷ m.scene.past }) (with_driver v l) plain.good next), tt);
           scene = refl;
-          legal = (taken_legal h m.scene l x.0 t, tt);
+          legal = (taken_legal q h m.scene l x.0 t, tt);
         } in
-        subst (λ (d : Driver). Leads h m (comes_about h 0 (items.Made (entries.Collect 0 k) ∷ []) (with_driver d l) m)) (sym (after_taken h m.scene l x.0 t)) whole
+        subst (λ (d : Driver). Leads q h m (comes_about h q (items.Made (entries.Collect q k) ∷ []) (with_driver d l) m)) (sym (after_taken q h m.scene l x.0 t)) whole
 
 -- ---- lives
 
-fresh_worked : (past : List Entry) (l : Lane) → started past 0 ≡ false → Worked past l.phase l.batch l.completed l.made → Worked past phases.Rest [] [] (λ k. 0)
-fresh_worked past l stopped w =
+fresh_worked : (q : ℕ) (past : List Entry) (l : Lane) → started past q ≡ false → Worked q past l.phase l.batch l.completed l.made → Worked q past phases.Rest [] [] (λ k. 0)
+fresh_worked q past l stopped w =
     let none : (k : ℕ) → l.made k ≡ 0 = (w.quiet stopped).1.1 in record {
       distinct = refl;
       opens = λ k held. absurd (let fails : false ≡ true = held in cc);
       untouched = λ k high. refl;
       progress = λ k. record { fresh = λ e. (w.progress k).fresh (none k); begun = λ some. absurd (omega arith) };
       full = λ k held. absurd (let fails : false ≡ true = held in cc);
-      pending = λ k is_open out. subst (λ (c : ℕ). IsPending c (asked past 0 k)) (none k) (w.pending k is_open (ap (λ (xs : List ℕ). is_among (xs ++ l.batch) k) (w.quiet stopped).1.0 ∙ ap (λ (xs : List ℕ). is_among xs k) (subst (λ (p : Phase). PhaseIs l.batch p) (w.quiet stopped).0 w.phase_is)));
+      pending = λ k is_open out. subst (λ (c : ℕ). IsPending c (asked past q k)) (none k) (w.pending k is_open (ap (λ (xs : List ℕ). is_among (xs ++ l.batch) k) (w.quiet stopped).1.0 ∙ ap (λ (xs : List ℕ). is_among xs k) (subst (λ (p : Phase). PhaseIs l.batch p) (w.quiet stopped).0 w.phase_is)));
       quiet = λ e. (refl, (refl, λ k. refl));
       phase_is = refl;
     }
 
-boot_right : (h : Header1) (m : Moment) → IsPlain h → Good h m → Leads h m (boot m)
-boot_right h m plain good = tested h m (not m.lives) (played [] (record m { lives = true; joined = false; lanes = λ q. fresh (m.lanes q) })) plain good (λ ready.
+boot_right : (q : ℕ) (h : Header1) (m : Moment) → IsPlain h → Good q h m → Leads q h m (boot m)
+boot_right q h m plain good = tested q h m (not m.lives) (played [] (record m { lives = true; joined = false; lanes = λ q. fresh (m.lanes q) })) plain good (λ ready.
     let dead : m.lives ≡ false = grind (arith, nat_tests) in
-    let stopped : started m.scene.past 0 ≡ false = (good.asleep dead).1 in record {
+    let stopped : started m.scene.past q ≡ false = (good.asleep dead).1 in record {
       good = record {
         holds = record {
           known = good.holds.known;
           ringed = good.holds.ringed;
           driven = good.holds.driven;
-          worked = fresh_worked m.scene.past (m.lanes 0) stopped good.holds.worked;
+          worked = fresh_worked q m.scene.past (m.lanes q) stopped good.holds.worked;
           stored = record { sectors = λ k i is_open kept read. absurd (omega (arith, kept.put)); status = λ k held. absurd (let fails : false ≡ true = held in cc) };
           built = tt;
         };
@@ -221,8 +228,8 @@ boot_right h m plain good = tested h m (not m.lives) (played [] (record m { live
       legal = tt;
     })
 
-join_right : (h : Header1) (m : Moment) → IsPlain h → Good h m → Leads h m (join m)
-join_right h m plain good = tested h m (m.lives && not m.joined) (played [] (record m { joined = true; lanes = λ q. record (m.lanes q) { attached = true } })) plain good (λ ready. record {
+join_right : (q : ℕ) (h : Header1) (m : Moment) → IsPlain h → Good q h m → Leads q h m (join m)
+join_right q h m plain good = tested q h m (m.lives && not m.joined) (played [] (record m { joined = true; lanes = λ q. record (m.lanes q) { attached = true } })) plain good (λ ready. record {
   good = record {
     holds = record { known = good.holds.known; ringed = good.holds.ringed; driven = good.holds.driven; worked = good.holds.worked; stored = good.holds.stored; built = good.holds.built };
     asleep = λ dead. absurd (grind (arith, nat_tests));
@@ -235,77 +242,75 @@ join_right h m plain good = tested h m (m.lives && not m.joined) (played [] (rec
 
 -- ---- turns
 
-pub turn_right : (h : Header1) (t : Turn) (m : Moment) → IsPlain h → Good h m → is_due h 0 t m ≡ true → Leads h m (one_turn h 0 t m)
-turn_right h t m plain good due =
-    let ready : is_ready (standing h 0 m) t ≡ true = grind (arith, nat_tests) in
-    let attached : (m.lanes 0).attached ≡ true = grind (arith, nat_tests) in
-    let fine : Fine h m.scene (m.lanes 0) (turned h 0 t m) = turn_fine h t m plain good ready in record {
-      good = record {
-        holds = fine.holds;
-        asleep = λ dead. absurd (let fails : true ≡ false = sym attached ∙ (good.asleep dead).0 in cc);
-        idle = λ stopped. absurd (let fails : true ≡ false = sym fine.runs ∙ stopped in cc);
-      };
+pub turn_right : (q : ℕ) (h : Header1) (t : Turn) (m : Moment) → IsPlain h → Good q h m → is_due h q t m ≡ true → Leads q h m (one_turn h q t m)
+turn_right q h t m plain good due =
+    let ready : is_ready (standing h q m) t ≡ true = grind (arith, nat_tests) in
+    let attached : (m.lanes q).attached ≡ true = grind (arith, nat_tests) in
+    let fine : Fine q h m.scene (m.lanes q) (turned h q t m) = turn_fine q h t m plain good ready in record {
+      good = lane_good q h (record m { scene = after_items h (turned h q t m).items m.scene }) (turned h q t m).lane fine.holds
+          (λ dead. absurd (let fails : true ≡ false = sym attached ∙ (good.asleep dead).0 in cc))
+          (λ stopped. absurd (let fails : true ≡ false = sym fine.runs ∙ stopped in cc));
       each = fine.each;
       scene = refl;
       legal = fine.legal;
     }
 
-pub turns_right : (count : ℕ) (choose : Moment → Turn) (h : Header1) (m : Moment) → IsPlain h → Good h m → Leads h m (turns count choose h 0 m)
-turns_right zero choose h m plain good = nothing_right h m good
-turns_right (suc count) choose h m plain good = go (is_due h 0 (choose m) m) refl (λ good'. turns_right count choose h (one_turn h 0 (choose m) m).next plain good')
+pub turns_right : (q count : ℕ) (choose : Moment → Turn) (h : Header1) (m : Moment) → IsPlain h → Good q h m → Leads q h m (turns count choose h q m)
+turns_right q zero choose h m plain good = nothing_right q h m good
+turns_right q (suc count) choose h m plain good = go (is_due h q (choose m) m) refl (λ good'. turns_right q count choose h (one_turn h q (choose m) m).next plain good')
   where
-    go : (b : Bool) → is_due h 0 (choose m) m ≡ b → (Good h (one_turn h 0 (choose m) m).next → Leads h (one_turn h 0 (choose m) m).next (turns count choose h 0 (one_turn h 0 (choose m) m).next))
-        → Leads h m (cond {A = Played} b (then_played (one_turn h 0 (choose m) m) (turns count choose h 0 (one_turn h 0 (choose m) m).next)) (played [] m))
+    go : (b : Bool) → is_due h q (choose m) m ≡ b → (Good q h (one_turn h q (choose m) m).next → Leads q h (one_turn h q (choose m) m).next (turns count choose h q (one_turn h q (choose m) m).next))
+        → Leads q h m (cond {A = Played} b (then_played (one_turn h q (choose m) m) (turns count choose h q (one_turn h q (choose m) m).next)) (played [] m))
     go true due rest =
-        let first = turn_right h (choose m) m plain good due in
-        right-append h m (one_turn h 0 (choose m) m).next (turns count choose h 0 (one_turn h 0 (choose m) m).next).next (one_turn h 0 (choose m) m).items (turns count choose h 0 (one_turn h 0 (choose m) m).next).items first (rest first.good)
-    go false due rest = nothing_right h m good
+        let first = turn_right q h (choose m) m plain good due in
+        right-append q h m (one_turn h q (choose m) m).next (turns count choose h q (one_turn h q (choose m) m).next).next (one_turn h q (choose m) m).items (turns count choose h q (one_turn h q (choose m) m).next).items first (rest first.good)
+    go false due rest = nothing_right q h m good
 
 -- what is made is right
-made_right : (h : Header1) (m : Moment) (is : List Item) (next : Moment) (p : Played) → played is next ≡ p → Leads h m p → Right h m is next
-made_right h m is next p e r = subst (λ (x : Played). Leads h m x) (sym e) r
+made_right : (q : ℕ) (h : Header1) (m : Moment) (is : List Item) (next : Moment) (p : Played) → played is next ≡ p → Leads q h m p → Right q h m is next
+made_right q h m is next p e r = subst (λ (x : Played). Leads q h m x) (sym e) r
 
-pub drain_right : (h : Header1) (m : Moment) (choose : Moment → Turn) (is : List Item) (next : Moment) → IsPlain h → Good h m → Drains h 0 m choose is next → Right h m is next
-drain_right h m choose is next plain good (inl none) = made_right h m is next (played (items.Idle ∷ []) m) none.1 (idle_right h m plain good)
-drain_right h m choose is next plain good (inr some) = made_right h m is next (turns some.1.count choose h 0 m) some.1.made (turns_right some.1.count choose h m plain good)
+pub drain_right : (q : ℕ) (h : Header1) (m : Moment) (choose : Moment → Turn) (is : List Item) (next : Moment) → IsPlain h → Good q h m → Drains h q m choose is next → Right q h m is next
+drain_right q h m choose is next plain good (inl none) = made_right q h m is next (played (items.Idle ∷ []) m) none.1 (idle_right q h m plain good)
+drain_right q h m choose is next plain good (inr some) = made_right q h m is next (turns some.1.count choose h q m) some.1.made (turns_right q some.1.count choose h m plain good)
 
 -- a single turn, and up to so many
-single_right : (h : Header1) (t : Turn) (m : Moment) → IsPlain h → Good h m → Leads h m (single h 0 t m)
-single_right h t m plain good = tested h m (is_due h 0 t m) (one_turn h 0 t m) plain good (λ due. turn_right h t m plain good due)
+single_right : (q : ℕ) (h : Header1) (t : Turn) (m : Moment) → IsPlain h → Good q h m → Leads q h m (single h q t m)
+single_right q h t m plain good = tested q h m (is_due h q t m) (one_turn h q t m) plain good (λ due. turn_right q h t m plain good due)
 
-up_to_right : (count : ℕ) (choose : Moment → Turn) (h : Header1) (m : Moment) → IsPlain h → Good h m → Leads h m (up_to count choose h 0 m)
-up_to_right count choose h m plain good = tested h m (is_due h 0 (choose m) m) (turns count choose h 0 m) plain good (λ due. turns_right count choose h m plain good)
+up_to_right : (q count : ℕ) (choose : Moment → Turn) (h : Header1) (m : Moment) → IsPlain h → Good q h m → Leads q h m (up_to count choose h q m)
+up_to_right q count choose h m plain good = tested q h m (is_due h q (choose m) m) (turns count choose h q m) plain good (λ due. turns_right q count choose h m plain good)
 
 -- ---- any event
 
-pub event_right : (h : Header1) (m : Moment) (e : Event) (is : List Item) (next : Moment) → IsPlain h → Good h m → EntryStands h m → IsEvent h e → Plays h m e is next → Right h m is next
-event_right h m (events.Ask q shape a) is next plain good entry fits plays =
+pub event_right : (q : ℕ) (h : Header1) (m : Moment) (e : Event) (is : List Item) (next : Moment) → IsPlain h → Good q h m → EntryStands q h m → IsOn q e → IsEvent h e → Plays h m e is next → Right q h m is next
+event_right q h m (events.Ask p shape a) is next plain good entry on fits plays =
     let P : ℕ → Shape → Type 0 = λ p sh. Plays h m (events.Ask p sh a) is next in
-    let here : P 0 Direct = subst (λ (sh : Shape). P 0 sh) fits.1 (subst (λ (p : ℕ). P p shape) fits.0 plays) in
-    made_right h m is next (ask h 0 Direct a m) here (ask_right h m a plain good fits.2)
-event_right h m (events.Guest q k) is next plain good entry fits plays =
-    let here : Plays h m (events.Guest 0 k) is next = subst (λ (p : ℕ). Plays h m (events.Guest p k) is next) fits.0 plays in
-    made_right h m is next (guest h 0 k m) here (guest_right h m k plain good entry fits.1)
-event_right h m (events.Collect q) is next plain good entry fits plays =
-    let here : Plays h m (events.Collect 0) is next = subst (λ (p : ℕ). Plays h m (events.Collect p) is next) fits plays in
-    made_right h m is next (collect h 0 m) here (collect_right h m plain good)
-event_right h m events.Boot is next plain good entry fits plays = made_right h m is next (boot m) plays (boot_right h m plain good)
-event_right h m events.Join is next plain good entry fits plays = made_right h m is next (join m) plays (join_right h m plain good)
-event_right h m (events.Start q) is next plain good entry fits plays =
-    let here : Plays h m (events.Start 0) is next = subst (λ (p : ℕ). Plays h m (events.Start p) is next) fits plays in
-    made_right h m is next (single h 0 Start m) here (single_right h Start m plain good)
-event_right h m (events.Fetch q) is next plain good entry fits plays =
-    let here : Plays h m (events.Fetch 0) is next = subst (λ (p : ℕ). Plays h m (events.Fetch p) is next) fits plays in
-    made_right h m is next (single h 0 Fetch m) here (single_right h Fetch m plain good)
-event_right h m (events.Work q place) is next plain good entry fits plays =
-    let here : Plays h m (events.Work 0 place) is next = subst (λ (p : ℕ). Plays h m (events.Work p place) is next) fits.0 plays in
-    made_right h m is next (single h 0 (Work place) m) here (single_right h (Work place) m plain good)
-event_right h m (events.Publish q most) is next plain good entry fits plays =
-    let here : Plays h m (events.Publish 0 most) is next = subst (λ (p : ℕ). Plays h m (events.Publish p most) is next) fits.0 plays in
-    made_right h m is next (single h 0 (Publish most) m) here (single_right h (Publish most) m plain good)
-event_right h m (events.Turn q count) is next plain good entry fits plays =
-    let here : Plays h m (events.Turn 0 count) is next = subst (λ (p : ℕ). Plays h m (events.Turn p count) is next) fits.0 plays in
-    made_right h m is next (up_to count (any_choice h 0) h 0 m) here (up_to_right count (any_choice h 0) h m plain good)
-event_right h m (events.Drain q) is next plain good entry fits plays =
-    let here : Plays h m (events.Drain 0) is next = subst (λ (p : ℕ). Plays h m (events.Drain p) is next) fits plays in
-    drain_right h m (drain_choice h 0 (accepted m.scene.past 0)) is next plain good here
+    let here : P q Direct = subst (λ (sh : Shape). P q sh) fits.1 (subst (λ (p : ℕ). P p shape) on plays) in
+    made_right q h m is next (ask h q Direct a m) here (ask_right q h m a plain good fits.2)
+event_right q h m (events.Guest p k) is next plain good entry on fits plays =
+    let here : Plays h m (events.Guest q k) is next = subst (λ (p : ℕ). Plays h m (events.Guest p k) is next) on plays in
+    made_right q h m is next (guest h q k m) here (guest_right q h m k plain good entry fits.1)
+event_right q h m (events.Collect p) is next plain good entry on fits plays =
+    let here : Plays h m (events.Collect q) is next = subst (λ (p : ℕ). Plays h m (events.Collect p) is next) on plays in
+    made_right q h m is next (collect h q m) here (collect_right q h m plain good)
+event_right q h m events.Boot is next plain good entry on fits plays = made_right q h m is next (boot m) plays (boot_right q h m plain good)
+event_right q h m events.Join is next plain good entry on fits plays = made_right q h m is next (join m) plays (join_right q h m plain good)
+event_right q h m (events.Start p) is next plain good entry on fits plays =
+    let here : Plays h m (events.Start q) is next = subst (λ (p : ℕ). Plays h m (events.Start p) is next) on plays in
+    made_right q h m is next (single h q Start m) here (single_right q h Start m plain good)
+event_right q h m (events.Fetch p) is next plain good entry on fits plays =
+    let here : Plays h m (events.Fetch q) is next = subst (λ (p : ℕ). Plays h m (events.Fetch p) is next) on plays in
+    made_right q h m is next (single h q Fetch m) here (single_right q h Fetch m plain good)
+event_right q h m (events.Work p place) is next plain good entry on fits plays =
+    let here : Plays h m (events.Work q place) is next = subst (λ (p : ℕ). Plays h m (events.Work p place) is next) on plays in
+    made_right q h m is next (single h q (Work place) m) here (single_right q h (Work place) m plain good)
+event_right q h m (events.Publish p most) is next plain good entry on fits plays =
+    let here : Plays h m (events.Publish q most) is next = subst (λ (p : ℕ). Plays h m (events.Publish p most) is next) on plays in
+    made_right q h m is next (single h q (Publish most) m) here (single_right q h (Publish most) m plain good)
+event_right q h m (events.Turn p count) is next plain good entry on fits plays =
+    let here : Plays h m (events.Turn q count) is next = subst (λ (p : ℕ). Plays h m (events.Turn p count) is next) on plays in
+    made_right q h m is next (up_to count (any_choice h q) h q m) here (up_to_right q count (any_choice h q) h m plain good)
+event_right q h m (events.Drain p) is next plain good entry on fits plays =
+    let here : Plays h m (events.Drain q) is next = subst (λ (p : ℕ). Plays h m (events.Drain p) is next) on plays in
+    drain_right q h m (drain_choice h q (accepted m.scene.past q)) is next plain good here

@@ -1,6 +1,7 @@
 -- Every schedule of the grammar has a run.
-use Rattle.std.proofs.Common.{◌≡◌, ◌≤◌, ℕ, zero, suc, Bool, true, false, cond, List, [], ◌∷◌, refl, ap, sym, subst, inl, inr, arith}
+use Rattle.std.proofs.Common.{◌<◌, ◌≡◌, ◌≤◌, ℕ, zero, suc, Bool, true, false, cond, List, [], ◌∷◌, refl, ap, sym, subst, inl, inr, arith}
 use Rattle.std.specs.List.{AllByRecursion}
+use Rattle.vub_run_laws.proofs.RunQueues.{on_one, IsOn}
 use Rattle.vub_base.specs.declared.header.Header1.{Header1}
 use Rattle.vub_steps.specs.declared.readiness.Turn.{Turn}
 use Rattle.vub_steps.specs.declared.readiness.Turn.TheVariants.{Start, Fetch, Work, Publish}
@@ -18,28 +19,28 @@ use Rattle.vub_run_laws.proofs.RunTurns.{IsPlain, Good}
 use Rattle.vub_run_laws.proofs.RunEvents.{turn_right}
 use Rattle.vub_run_laws.proofs.RunEnds.{effort_at, turn_falls}
 use Rattle.vub_run_laws.proofs.Runs.{plain_header}
-use Rattle.vub_run_laws.proofs.RunsLegal.{IsHeld, opening_held, held_next}
+use Rattle.vub_run_laws.proofs.RunsLegal.{some_queue, IsHeld, opening_held, held_next}
 
 -- turns end
-pub turns_end : (fuel : ℕ) (choose : Moment → Turn) (h : Header1) (m : Moment) → IsPlain h → Good h m → effort_at m ≤ fuel
-    → (count : ℕ) × (is_due h 0 (choose (turns count choose h 0 m).next) (turns count choose h 0 m).next ≡ false)
-turns_end zero choose h m plain good small = go (is_due h 0 (choose m) m) refl
+pub turns_end : (q fuel : ℕ) (choose : Moment → Turn) (h : Header1) (m : Moment) → IsPlain h → Good q h m → effort_at q m ≤ fuel
+    → (count : ℕ) × (is_due h q (choose (turns count choose h q m).next) (turns count choose h q m).next ≡ false)
+turns_end q zero choose h m plain good small = go (is_due h q (choose m) m) refl
   where
-    go : (b : Bool) → is_due h 0 (choose m) m ≡ b → (count : ℕ) × (is_due h 0 (choose (turns count choose h 0 m).next) (turns count choose h 0 m).next ≡ false)
+    go : (b : Bool) → is_due h q (choose m) m ≡ b → (count : ℕ) × (is_due h q (choose (turns count choose h q m).next) (turns count choose h q m).next ≡ false)
     go false is = (0, is)
-    go true is = absurd (omega (arith, turn_falls h (choose m) m plain good is))
-turns_end (suc fuel) choose h m plain good small = go (is_due h 0 (choose m) m) refl (λ good' small'. turns_end fuel choose h (one_turn h 0 (choose m) m).next plain good' small')
+    go true is = absurd (omega (arith, turn_falls q h (choose m) m plain good is))
+turns_end q (suc fuel) choose h m plain good small = go (is_due h q (choose m) m) refl (λ good' small'. turns_end q fuel choose h (one_turn h q (choose m) m).next plain good' small')
   where
-    go : (b : Bool) → is_due h 0 (choose m) m ≡ b
-        → (Good h (one_turn h 0 (choose m) m).next → effort_at (one_turn h 0 (choose m) m).next ≤ fuel
-        → (count : ℕ) × (is_due h 0 (choose (turns count choose h 0 (one_turn h 0 (choose m) m).next).next) (turns count choose h 0 (one_turn h 0 (choose m) m).next).next ≡ false))
-        → (count : ℕ) × (is_due h 0 (choose (turns count choose h 0 m).next) (turns count choose h 0 m).next ≡ false)
+    go : (b : Bool) → is_due h q (choose m) m ≡ b
+        → (Good q h (one_turn h q (choose m) m).next → effort_at q (one_turn h q (choose m) m).next ≤ fuel
+        → (count : ℕ) × (is_due h q (choose (turns count choose h q (one_turn h q (choose m) m).next).next) (turns count choose h q (one_turn h q (choose m) m).next).next ≡ false))
+        → (count : ℕ) × (is_due h q (choose (turns count choose h q m).next) (turns count choose h q m).next ≡ false)
     go false is rest = (0, is)
     go true is rest =
-        let later = rest (turn_right h (choose m) m plain good is).good (omega (arith, turn_falls h (choose m) m plain good is)) in
-        let whole : turns (suc later.0) choose h 0 m ≡ then_played (one_turn h 0 (choose m) m) (turns later.0 choose h 0 (one_turn h 0 (choose m) m).next) =
-        ap (λ (b : Bool). cond {A = Played} b (then_played (one_turn h 0 (choose m) m) (turns later.0 choose h 0 (one_turn h 0 (choose m) m).next)) (played [] m)) is in
-        (suc later.0, subst (λ (p : Played). is_due h 0 (choose p.next) p.next ≡ false) (sym whole) later.1)
+        let later = rest (turn_right q h (choose m) m plain good is).good (omega (arith, turn_falls q h (choose m) m plain good is)) in
+        let whole : turns (suc later.0) choose h q m ≡ then_played (one_turn h q (choose m) m) (turns later.0 choose h q (one_turn h q (choose m) m).next) =
+        ap (λ (b : Bool). cond {A = Played} b (then_played (one_turn h q (choose m) m) (turns later.0 choose h q (one_turn h q (choose m) m).next)) (played [] m)) is in
+        (suc later.0, subst (λ (p : Played). is_due h q (choose p.next) p.next ≡ false) (sym whole) later.1)
 
 -- what an event leads to
 pub record Outcome (h : Header1) (m : Moment) (e : Event) : Type 0 where
@@ -47,34 +48,35 @@ pub record Outcome (h : Header1) (m : Moment) (e : Event) : Type 0 where
   pub next : Moment
   pub plays : Plays h m e items next
 
-drain_plays : (h : Header1) (m : Moment) (choose : Moment → Turn) → IsPlain h → Good h m → (is : List Item) × (next : Moment) × Drains h 0 m choose is next
-drain_plays h m choose plain good = go (is_due h 0 (choose m) m) refl
+drain_plays : (q : ℕ) (h : Header1) (m : Moment) (choose : Moment → Turn) → IsPlain h → Good q h m → (is : List Item) × (next : Moment) × Drains h q m choose is next
+drain_plays q h m choose plain good = go (is_due h q (choose m) m) refl
   where
-    go : (b : Bool) → is_due h 0 (choose m) m ≡ b → (is : List Item) × (next : Moment) × Drains h 0 m choose is next
+    go : (b : Bool) → is_due h q (choose m) m ≡ b → (is : List Item) × (next : Moment) × Drains h q m choose is next
     go false is = (items.Idle ∷ [], m, inl (is, refl))
     go true is =
-        let ends = turns_end (effort_at m) choose h m plain good (omega arith) in
-        ((turns ends.0 choose h 0 m).items, (turns ends.0 choose h 0 m).next, inr (is, record { count = ends.0; made = refl; ends = ends.1 }))
+        let ends = turns_end q (effort_at q m) choose h m plain good (omega arith) in
+        ((turns ends.0 choose h q m).items, (turns ends.0 choose h q m).next, inr (is, record { count = ends.0; made = refl; ends = ends.1 }))
 
-pub event_plays : (h : Header1) (m : Moment) (e : Event) → IsPlain h → Good h m → IsEvent h e → Outcome h m e
-event_plays h m (events.Ask q shape a) plain good fits = record { items = (ask h q shape a m).items; next = (ask h q shape a m).next; plays = refl }
-event_plays h m (events.Guest q k) plain good fits = record { items = (guest h q k m).items; next = (guest h q k m).next; plays = refl }
-event_plays h m (events.Collect q) plain good fits = record { items = (collect h q m).items; next = (collect h q m).next; plays = refl }
-event_plays h m events.Boot plain good fits = record { items = (boot m).items; next = (boot m).next; plays = refl }
-event_plays h m events.Join plain good fits = record { items = (join m).items; next = (join m).next; plays = refl }
-event_plays h m (events.Start q) plain good fits = record { items = (single h q Start m).items; next = (single h q Start m).next; plays = refl }
-event_plays h m (events.Fetch q) plain good fits = record { items = (single h q Fetch m).items; next = (single h q Fetch m).next; plays = refl }
-event_plays h m (events.Work q place) plain good fits = record { items = (single h q (Work place) m).items; next = (single h q (Work place) m).next; plays = refl }
-event_plays h m (events.Publish q most) plain good fits = record { items = (single h q (Publish most) m).items; next = (single h q (Publish most) m).next; plays = refl }
-event_plays h m (events.Turn q count) plain good fits = record { items = (up_to count (any_choice h q) h q m).items; next = (up_to count (any_choice h q) h q m).next; plays = refl }
-event_plays h m (events.Drain q) plain good fits =
-    let d = drain_plays h m (drain_choice h 0 (accepted m.scene.past 0)) plain good in
-    record { items = d.0; next = d.1; plays = subst (λ (p : ℕ). Plays h m (events.Drain p) d.0 d.1) (sym fits) d.2 }
+pub event_plays : (q : ℕ) (h : Header1) (m : Moment) (e : Event) → IsPlain h → Good q h m → IsOn q e → IsEvent h e → Outcome h m e
+event_plays q h m (events.Ask p shape a) plain good on fits = record { items = (ask h p shape a m).items; next = (ask h p shape a m).next; plays = refl }
+event_plays q h m (events.Guest p k) plain good on fits = record { items = (guest h p k m).items; next = (guest h p k m).next; plays = refl }
+event_plays q h m (events.Collect p) plain good on fits = record { items = (collect h p m).items; next = (collect h p m).next; plays = refl }
+event_plays q h m events.Boot plain good on fits = record { items = (boot m).items; next = (boot m).next; plays = refl }
+event_plays q h m events.Join plain good on fits = record { items = (join m).items; next = (join m).next; plays = refl }
+event_plays q h m (events.Start p) plain good on fits = record { items = (single h p Start m).items; next = (single h p Start m).next; plays = refl }
+event_plays q h m (events.Fetch p) plain good on fits = record { items = (single h p Fetch m).items; next = (single h p Fetch m).next; plays = refl }
+event_plays q h m (events.Work p place) plain good on fits = record { items = (single h p (Work place) m).items; next = (single h p (Work place) m).next; plays = refl }
+event_plays q h m (events.Publish p most) plain good on fits = record { items = (single h p (Publish most) m).items; next = (single h p (Publish most) m).next; plays = refl }
+event_plays q h m (events.Turn p count) plain good on fits = record { items = (up_to count (any_choice h p) h p m).items; next = (up_to count (any_choice h p) h p m).next; plays = refl }
+event_plays q h m (events.Drain p) plain good on fits =
+    let d = drain_plays q h m (drain_choice h q (accepted m.scene.past q)) plain good in
+    record { items = d.0; next = d.1; plays = subst (λ (p : ℕ). Plays h m (events.Drain p) d.0 d.1) (sym on) d.2 }
 
 pub run_from_some : (h : Header1) (m : Moment) (es : List Event) → IsHeader h → IsHeld h m → AllByRecursion (IsEvent h) es → (rs : List Record) × RunFrom h m es rs
 run_from_some h m [] header held fits = ([], tt)
 run_from_some h m (e ∷ es) header held fits =
-    let o : Outcome h m e = event_plays h m e (plain_header h header) held.0 fits.0 in
+    let low : 0 < h.queues = some_queue h header in
+    let o : Outcome h m e = event_plays 0 h m e (plain_header h header) (held 0 low).good (on_one h 0 e header low fits.0) fits.0 in
     let rest = run_from_some h o.next es header (held_next h m e o.items o.next header held fits.0 o.plays) fits.1 in
     (record { event = e; items = o.items } ∷ rest.0, (refl, (o.next, o.plays, rest.1)))
 

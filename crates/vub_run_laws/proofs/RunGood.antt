@@ -25,8 +25,8 @@ use Rattle.vub_run.specs.Moments.{Lane, Moment}
 use Rattle.vub_device.specs.Requests.{request_of}
 use Rattle.vub_run.specs.Tracking.{answers, answered_len}
 
-abbrev pub the_ring : ℕ → Ring
-the_ring n = ring_of 0 n
+abbrev pub the_ring : ℕ → ℕ → Ring
+the_ring q n = ring_of q n
 
 -- a size of a ring
 pub record IsSize (n : ℕ) : Type 0 where
@@ -56,84 +56,84 @@ IsWide cap (Some (asks.Write s bytes)) = IsWideWrite cap s bytes
 IsWide cap (Some asks.Flush) = ⊤
 IsWide cap r = ⊥
 
-pub record Known (n cap : ℕ) (past : List Entry) (heads : List ℕ) : Type 0 where
-  pub offers_are : length heads ≡ offers past 0
-  pub offered : accepted past 0 ≤ length heads
-  pub distinct : are_distinct (published past 0) ≡ true
-  pub below : (k : ℕ) → is_among (published past 0) k ≡ true → k < accepted past 0
-  pub shown : collected past 0 ≤ length (published past 0)
-  pub fewer : length (published past 0) ≤ accepted past 0
-  pub room : length heads ≤ n + collected past 0
-  pub good : AllByRecursion (λ (a : Answered). a.status ≡ 0) (answers past 0)
-  pub wide : (k : ℕ) → k < length heads → IsWide cap (asked past 0 k)
-  pub unfaulted : (k : ℕ) → faulted past 0 k ≡ false
+pub record Known (q n cap : ℕ) (past : List Entry) (heads : List ℕ) : Type 0 where
+  pub offers_are : length heads ≡ offers past q
+  pub offered : accepted past q ≤ length heads
+  pub distinct : are_distinct (published past q) ≡ true
+  pub below : (k : ℕ) → is_among (published past q) k ≡ true → k < accepted past q
+  pub shown : collected past q ≤ length (published past q)
+  pub fewer : length (published past q) ≤ accepted past q
+  pub room : length heads ≤ n + collected past q
+  pub good : AllByRecursion (λ (a : Answered). a.status ≡ 0) (answers past q)
+  pub wide : (k : ℕ) → k < length heads → IsWide cap (asked past q k)
+  pub unfaulted : (k : ℕ) → faulted past q k ≡ false
   pub values : (s : ℕ) → length (value past s) ≡ 512
 
 -- ---- the ring
 
 -- the used element of a number that succeeded
-abbrev pub spot : List ℕ → List Entry → ℕ → ℕ × ℕ
-spot heads past k = (slice_index heads k, answered_len 0 (asked past 0 k))
+abbrev pub spot : ℕ → List ℕ → List Entry → ℕ → ℕ × ℕ
+spot q heads past k = (slice_index heads k, answered_len 0 (asked past q k))
 
-pub record Ringed (n base : ℕ) (past : List Entry) (heads : List ℕ) (m : Bytes) : Type 0 where
-  pub avail_idx_is : avail_idx (the_ring n) m ≡ (base + length heads) % 65536
-  pub used_idx_is : used_idx (the_ring n) m ≡ (base + length (published past 0)) % 65536
-  pub avail_at : (i : ℕ) → accepted past 0 ≤ i → i < length heads → head_at (the_ring n) m (base + i) ≡ slice_index heads i
-  pub used_at : (i : ℕ) → collected past 0 ≤ i → i < length (published past 0) → element_at (the_ring n) m (base + i) ≡ spot heads past (slice_index (published past 0) i)
+pub record Ringed (q n base : ℕ) (past : List Entry) (heads : List ℕ) (m : Bytes) : Type 0 where
+  pub avail_idx_is : avail_idx (the_ring q n) m ≡ (base + length heads) % 65536
+  pub used_idx_is : used_idx (the_ring q n) m ≡ (base + length (published past q)) % 65536
+  pub avail_at : (i : ℕ) → accepted past q ≤ i → i < length heads → head_at (the_ring q n) m (base + i) ≡ slice_index heads i
+  pub used_at : (i : ℕ) → collected past q ≤ i → i < length (published past q) → element_at (the_ring q n) m (base + i) ≡ spot q heads past (slice_index (published past q) i)
 
 -- ---- the driver
 
 -- offered and not collected
-pub record IsOut (past : List Entry) (heads : List ℕ) (k : ℕ) : Type 0 where
+pub record IsOut (q : ℕ) (past : List Entry) (heads : List ℕ) (k : ℕ) : Type 0 where
   pub below : k < length heads
-  pub kept : is_among (take (collected past 0) (published past 0)) k ≡ false
+  pub kept : is_among (take (collected past q) (published past q)) k ≡ false
 
 -- the store of avail.idx, which offers
 abbrev pub index_store : Ring → ℕ → Store
 index_store r index = one_store r.space (avail_idx_place r) (little_bytes 2 ((index + 1) % 65536))
 
 -- a store into the descriptor table, or into the buffer of that head
-pub record IsHarmless (head : ℕ) (st : Store) : Type 0 where
+pub record IsHarmless (q head : ℕ) (st : Store) : Type 0 where
   pub space : st.space ≡ 0
-  pub lies : (st.place + length st.bytes ≤ 4096) ⊎ ((65536 + 8192 * head ≤ st.place) × (st.place + length st.bytes ≤ 65536 + 8192 * head + 8192))
+  pub lies : ((area_place q ≤ st.place) × (st.place + length st.bytes ≤ area_place q + 4096)) ⊎ ((area_place q + (65536 + 8192 * head) ≤ st.place) × (st.place + length st.bytes ≤ area_place q + (65536 + 8192 * head) + 8192))
 
 -- the stores of a request up to its offer
-pub record IsPlan (n index head : ℕ) (left : List Store) : Type 0 where
+pub record IsPlan (q n index head : ℕ) (left : List Store) : Type 0 where
   pub first : List Store
   pub few : length first ≤ 14
-  pub harmless : AllByRecursion (IsHarmless head) first
-  pub whole : left ≡ first ++ offer_stores (the_ring n) index head
+  pub harmless : AllByRecursion (IsHarmless q head) first
+  pub whole : left ≡ first ++ offer_stores (the_ring q n) index head
 
 -- the store of avail.idx alone is left
-abbrev pub IsLast : ℕ → ℕ → List Store → Type 0
-IsLast n index left = left ≡ index_store (the_ring n) index ∷ []
+abbrev pub IsLast : ℕ → ℕ → ℕ → List Store → Type 0
+IsLast q n index left = left ≡ index_store (the_ring q n) index ∷ []
 
 -- what is left of a request's stores: some before the offer's two and these, or the last alone
-abbrev pub IsLeft : ℕ → ℕ → ℕ → List Store → Type 0
-IsLeft n index head left = IsPlan n index head left ⊎ IsLast n index left
+abbrev pub IsLeft : ℕ → ℕ → ℕ → ℕ → List Store → Type 0
+IsLeft q n index head left = IsPlan q n index head left ⊎ IsLast q n index left
 
-pub record IsWaiting (n cap : ℕ) (past : List Entry) (heads : List ℕ) (v : Driver) (w : Waiting) : Type 0 where
+pub record IsWaiting (q n cap : ℕ) (past : List Entry) (heads : List ℕ) (v : Driver) (w : Waiting) : Type 0 where
   pub wide : IsWide cap (Some (request_of w.ask))
   pub below : w.head < n
   pub mine : v.owner w.head ≡ Some w.head
-  pub apart : (k : ℕ) → IsOut past heads k → slice_index heads k ≢ w.head
-  pub plan : IsLeft n v.avail_idx w.head w.left
+  pub apart : (k : ℕ) → IsOut q past heads k → slice_index heads k ≢ w.head
+  pub plan : IsLeft q n v.avail_idx w.head w.left
 
-abbrev pub WaitsWell : ℕ → ℕ → List Entry → List ℕ → Driver → Option Waiting → Type 0
-WaitsWell n cap past heads v None = ⊤
-WaitsWell n cap past heads v (Some w) = IsWaiting n cap past heads v w
+abbrev pub WaitsWell : ℕ → ℕ → ℕ → List Entry → List ℕ → Driver → Option Waiting → Type 0
+WaitsWell q n cap past heads v None = ⊤
+WaitsWell q n cap past heads v (Some w) = IsWaiting q n cap past heads v w
 
-pub record Driven (n cap base : ℕ) (past : List Entry) (heads : List ℕ) (v : Driver) : Type 0 where
+pub record Driven (q n cap base : ℕ) (past : List Entry) (heads : List ℕ) (v : Driver) : Type 0 where
   pub index : v.avail_idx ≡ (base + length heads) % 65536
-  pub below : (k : ℕ) → IsOut past heads k → slice_index heads k < n
-  pub owned : (k : ℕ) → IsOut past heads k → v.owner (slice_index heads k) ≡ Some (slice_index heads k)
-  pub apart : (j k : ℕ) → IsOut past heads j → IsOut past heads k → slice_index heads j ≡ slice_index heads k → j ≡ k
-  pub waits : WaitsWell n cap past heads v v.waiting
+  pub below : (k : ℕ) → IsOut q past heads k → slice_index heads k < n
+  pub owned : (k : ℕ) → IsOut q past heads k → v.owner (slice_index heads k) ≡ Some (slice_index heads k)
+  pub apart : (j k : ℕ) → IsOut q past heads j → IsOut q past heads k → slice_index heads j ≡ slice_index heads k → j ≡ k
+  pub waits : WaitsWell q n cap past heads v v.waiting
 
 -- where avail.idx alone is left to store, the entry before it names the head
-abbrev pub EntryWell : ℕ → ℕ → Bytes → Option Waiting → Type 0
-EntryWell n index m None = ⊤
-EntryWell n index m (Some w) = length w.left ≡ 1 → head_at (the_ring n) m index ≡ w.head
+abbrev pub EntryWell : ℕ → ℕ → ℕ → Bytes → Option Waiting → Type 0
+EntryWell q n index m None = ⊤
+EntryWell q n index m (Some w) = length w.left ≡ 1 → head_at (the_ring q n) m index ≡ w.head
 
 -- ---- the device
 
@@ -178,20 +178,20 @@ PhaseIs batch phases.Rest = batch ≡ []
 PhaseIs batch (phases.Publish done) = (0 < length batch) × (done < 2 * length batch + 1)
 PhaseIs batch phase = ⊥
 
-pub record Worked (past : List Entry) (phase : Phase) (batch completed : List ℕ) (made : ℕ → ℕ) : Type 0 where
+pub record Worked (q : ℕ) (past : List Entry) (phase : Phase) (batch completed : List ℕ) (made : ℕ → ℕ) : Type 0 where
   pub distinct : are_distinct (completed ++ batch) ≡ true
-  pub opens : (k : ℕ) → is_among (completed ++ batch) k ≡ true → IsOpen past 0 k
-  pub untouched : (k : ℕ) → accepted past 0 ≤ k → made k ≡ 0
-  pub progress : (k : ℕ) → Progress (made k) (looks past 0 k) (acts past 0 k) (bytes_read past 0 k) (synced past 0 k) (asked past 0 k)
-  pub full : (k : ℕ) → is_among (completed ++ batch) k ≡ true → IsFull (made k) (asked past 0 k)
-  pub pending : (k : ℕ) → IsOpen past 0 k → is_among (completed ++ batch) k ≡ false → IsPending (made k) (asked past 0 k)
-  pub quiet : started past 0 ≡ false → (phase ≡ phases.Rest) × ((completed ≡ []) × ((k : ℕ) → made k ≡ 0))
+  pub opens : (k : ℕ) → is_among (completed ++ batch) k ≡ true → IsOpen past q k
+  pub untouched : (k : ℕ) → accepted past q ≤ k → made k ≡ 0
+  pub progress : (k : ℕ) → Progress (made k) (looks past q k) (acts past q k) (bytes_read past q k) (synced past q k) (asked past q k)
+  pub full : (k : ℕ) → is_among (completed ++ batch) k ≡ true → IsFull (made k) (asked past q k)
+  pub pending : (k : ℕ) → IsOpen past q k → is_among (completed ++ batch) k ≡ false → IsPending (made k) (asked past q k)
+  pub quiet : started past q ≡ false → (phase ≡ phases.Rest) × ((completed ≡ []) × ((k : ℕ) → made k ≡ 0))
   pub phase_is : PhaseIs batch phase
 
 -- ---- what stands in buffers
 
-abbrev pub buffer : List ℕ → ℕ → ℕ
-buffer heads k = buffer_place (area_place 0) (slice_index heads k)
+abbrev pub buffer : ℕ → List ℕ → ℕ → ℕ
+buffer q heads k = buffer_place (area_place q) (slice_index heads k)
 
 abbrev pub IsRead : Option Asked → Type 0
 IsRead (Some (asks.Read s c)) = ⊤
@@ -203,30 +203,30 @@ pub record IsKept (made read i : ℕ) : Type 0 where
   pub put : i < 512 * (made / 2)
   pub looked : i < read
 
-pub record Stored (past : List Entry) (heads : List ℕ) (m : Bytes) (batch completed : List ℕ) (made : ℕ → ℕ) : Type 0 where
-  pub sectors : (k i : ℕ) → IsOpen past 0 k → IsKept (made k) (length (bytes_read past 0 k)) i → IsRead (asked past 0 k) → m 0 (sectors_place (buffer heads k) + i) ≡ slice_index (bytes_read past 0 k) i
-  pub status : (k : ℕ) → is_among (completed ++ batch) k ≡ true → m 0 (status_place (buffer heads k)) ≡ 0
+pub record Stored (q : ℕ) (past : List Entry) (heads : List ℕ) (m : Bytes) (batch completed : List ℕ) (made : ℕ → ℕ) : Type 0 where
+  pub sectors : (k i : ℕ) → IsOpen past q k → IsKept (made k) (length (bytes_read past q k)) i → IsRead (asked past q k) → m 0 (sectors_place (buffer q heads k) + i) ≡ slice_index (bytes_read past q k) i
+  pub status : (k : ℕ) → is_among (completed ++ batch) k ≡ true → m 0 (status_place (buffer q heads k)) ≡ 0
 
 -- ---- what stands in the used ring of a publication under way
 
-pub record IsBuilt (n base : ℕ) (past : List Entry) (heads : List ℕ) (m : Bytes) (batch : List ℕ) (done : ℕ) : Type 0 where
-  pub ids : (e : ℕ) → e < length batch → 2 * e < done → word 4 m 0 (used_id_place (the_ring n) (base + length (published past 0) + e)) ≡ slice_index heads (slice_index batch e)
-  pub lens : (e : ℕ) → e < length batch → 2 * e + 1 < done → word 4 m 0 (used_len_place (the_ring n) (base + length (published past 0) + e)) ≡ answered_len 0 (asked past 0 (slice_index batch e))
+pub record IsBuilt (q n base : ℕ) (past : List Entry) (heads : List ℕ) (m : Bytes) (batch : List ℕ) (done : ℕ) : Type 0 where
+  pub ids : (e : ℕ) → e < length batch → 2 * e < done → word 4 m 0 (used_id_place (the_ring q n) (base + length (published past q) + e)) ≡ slice_index heads (slice_index batch e)
+  pub lens : (e : ℕ) → e < length batch → 2 * e + 1 < done → word 4 m 0 (used_len_place (the_ring q n) (base + length (published past q) + e)) ≡ answered_len 0 (asked past q (slice_index batch e))
 
-abbrev pub Built : ℕ → ℕ → List Entry → List ℕ → Bytes → List ℕ → Phase → Type 0
-Built n base past heads m batch (phases.Publish done) = IsBuilt n base past heads m batch done
-Built n base past heads m batch phase = ⊤
+abbrev pub Built : ℕ → ℕ → ℕ → List Entry → List ℕ → Bytes → List ℕ → Phase → Type 0
+Built q n base past heads m batch (phases.Publish done) = IsBuilt q n base past heads m batch done
+Built q n base past heads m batch phase = ⊤
 
 -- ---- all of it
 
-pub record Holds (h : Header1) (s : Scene) (l : Lane) : Type 0 where
-  pub known : Known h.size h.capacity s.past (s.heads 0)
-  pub ringed : Ringed h.size h.base s.past (s.heads 0) s.memory
-  pub driven : Driven h.size h.capacity h.base s.past (s.heads 0) l.driver
-  pub worked : Worked s.past l.phase l.batch l.completed l.made
-  pub stored : Stored s.past (s.heads 0) s.memory l.batch l.completed l.made
-  pub built : Built h.size h.base s.past (s.heads 0) s.memory l.batch l.phase
+pub record Holds (q : ℕ) (h : Header1) (s : Scene) (l : Lane) : Type 0 where
+  pub known : Known q h.size h.capacity s.past (s.heads q)
+  pub ringed : Ringed q h.size h.base s.past (s.heads q) s.memory
+  pub driven : Driven q h.size h.capacity h.base s.past (s.heads q) l.driver
+  pub worked : Worked q s.past l.phase l.batch l.completed l.made
+  pub stored : Stored q s.past (s.heads q) s.memory l.batch l.completed l.made
+  pub built : Built q h.size h.base s.past (s.heads q) s.memory l.batch l.phase
 
 -- the entry of the next offer, at a moment
-abbrev pub EntryStands : Header1 → Moment → Type 0
-EntryStands h m = EntryWell h.size (h.base + length (m.scene.heads 0)) m.scene.memory (m.lanes 0).driver.waiting
+abbrev pub EntryStands : ℕ → Header1 → Moment → Type 0
+EntryStands q h m = EntryWell q h.size (h.base + length (m.scene.heads q)) m.scene.memory (m.lanes q).driver.waiting

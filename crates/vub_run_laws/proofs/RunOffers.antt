@@ -5,6 +5,7 @@ use Rattle.byteorder.specs.Endian.{little_bytes}
 use Rattle.std.proofs.lemmas.Bool.Decides.{nat_tests}
 use Rattle.std.proofs.lemmas.Bool.{cases_lt, or_right}
 use Rattle.std.proofs.lemmas.List.{length_push, get_or_append_left, get_or_push, length-take-le}
+use Rattle.vub_driver.specs.Layout.{area_place}
 use Rattle.vub_shared.specs.Bytes.{Bytes, put, word}
 use Rattle.vub_shared.proofs.BytesLemmas.{word-put_same}
 use Rattle.vub_steps.specs.declared.steps.Phase.{Phase}
@@ -17,6 +18,7 @@ use Rattle.vub_device.specs.declared.entry.Entry.TheVariants as entries
 use Rattle.vub_device.specs.Past.{offers, asked, accepted, published, collected, is_among, looks, bytes_read, acts, synced}
 use Rattle.vub_device.proofs.Numbers.{is_among_append}
 use Rattle.vub_run.specs.Tracking.{answered_len}
+use Rattle.vub_run_laws.proofs.RunOwn.{offers_own}
 use Rattle.vub_run_laws.proofs.RunNumbers.{among_at, few_places}
 use Rattle.vub_run_laws.proofs.RunGood.{the_ring, IsSize, IsWide, Known, Ringed, spot, IsOut, IsWaiting, Driven, IsBegun, IsFull, IsPending, Worked, Stored, IsRead, Built}
 use Rattle.vub_run_laws.proofs.RunFrames.{keeps, length_little}
@@ -27,23 +29,23 @@ same_head heads h k l = get_or_append_left heads (h ∷ []) 0 k l
 pub new_head : (heads : List ℕ) (h : ℕ) → slice_index (heads ++ h ∷ []) (length heads) ≡ h
 new_head heads h = get_or_push heads h 0 (length heads) refl
 
-pub same_asked : (past : List Entry) (r : Asked) (k : ℕ) → k < offers past 0 → asked (entries.Offer 0 r ∷ past) 0 k ≡ asked past 0 k
-same_asked past r k l = grind (arith, nat_tests)
+pub same_asked : (q : ℕ) (past : List Entry) (r : Asked) (k : ℕ) → k < offers past q → asked (entries.Offer q r ∷ past) q k ≡ asked past q k
+same_asked q past r k l = grind (arith, nat_tests)
 
-pub new_asked : (past : List Entry) (r : Asked) (k : ℕ) → k ≡ offers past 0 → asked (entries.Offer 0 r ∷ past) 0 k ≡ Some r
-new_asked past r k l = grind (arith, nat_tests)
+pub new_asked : (q : ℕ) (past : List Entry) (r : Asked) (k : ℕ) → k ≡ offers past q → asked (entries.Offer q r ∷ past) q k ≡ Some r
+new_asked q past r k l = grind (arith, nat_tests)
 
 -- the driver's requests have room, with the one that waits
-pub offer_room : (n cap base : ℕ) (past : List Entry) (heads : List ℕ) (v : Driver) (w : Waiting) → Known n cap past heads → Driven n cap base past heads v → IsWaiting n cap past heads v w → length heads < n + collected past 0
-offer_room n cap base past heads v w known driven waits =
-    let c : ℕ = collected past 0 in
-    let taken : List ℕ = take c (published past 0) in
-    let many : length taken ≡ c = length-take-le c (published past 0) known.shown in
+pub offer_room : (q n cap base : ℕ) (past : List Entry) (heads : List ℕ) (v : Driver) (w : Waiting) → Known q n cap past heads → Driven q n cap base past heads v → IsWaiting q n cap past heads v w → length heads < n + collected past q
+offer_room q n cap base past heads v w known driven waits =
+    let c : ℕ = collected past q in
+    let taken : List ℕ = take c (published past q) in
+    let many : length taken ≡ c = length-take-le c (published past q) known.shown in
     let f : ℕ → ℕ = slice_index (heads ++ w.head ∷ []) in
     let all : length heads + 1 ≤ n + length taken = few_places f taken (length heads + 1) n (λ j k less upto out_j out_k same.
     let j_low : j < length heads = omega arith in
     let at_j : f j ≡ slice_index heads j = same_head heads w.head j j_low in
-    let is_j : IsOut past heads j = record { below = j_low; kept = out_j } in
+    let is_j : IsOut q past heads j = record { below = j_low; kept = out_j } in
     elim (cases_lt k (length heads)) [
       | inl low ↦
           let at_k : f k ≡ slice_index heads k = same_head heads w.head k low in
@@ -65,10 +67,10 @@ offer_room n cap base past heads v w known driven waits =
     ]) in
     omega (arith, all, many)
 
-pub offer_known : (n cap : ℕ) (past : List Entry) (heads : List ℕ) (r : Asked) (h : ℕ) → Known n cap past heads → IsWide cap (Some r) → length heads < n + collected past 0 → Known n cap (entries.Offer 0 r ∷ past) (heads ++ h ∷ [])
-offer_known n cap past heads r h known simple room =
+pub offer_known : (q n cap : ℕ) (past : List Entry) (heads : List ℕ) (r : Asked) (h : ℕ) → Known q n cap past heads → IsWide cap (Some r) → length heads < n + collected past q → Known q n cap (entries.Offer q r ∷ past) (heads ++ h ∷ [])
+offer_known q n cap past heads r h known simple room =
     let longer : length (heads ++ h ∷ []) ≡ length heads + 1 = length_push heads h in record {
-      offers_are = omega (arith, longer, known.offers_are);
+      offers_are = omega (arith, longer, known.offers_are, offers_own past q r);
       offered = omega (arith, longer, known.offered);
       distinct = known.distinct;
       below = known.below;
@@ -77,59 +79,59 @@ offer_known n cap past heads r h known simple room =
       room = omega (arith, longer, room);
       good = known.good;
       wide = λ k l. elim (cases_lt k (length heads)) [
-        | inl low ↦ subst (λ (o : Option Asked). IsWide cap o) (sym (same_asked past r k (omega (arith, known.offers_are)))) (known.wide k low)
-        | inr high ↦ subst (λ (o : Option Asked). IsWide cap o) (sym (new_asked past r k (omega (arith, longer, known.offers_are)))) simple
+        | inl low ↦ subst (λ (o : Option Asked). IsWide cap o) (sym (same_asked q past r k (omega (arith, known.offers_are)))) (known.wide k low)
+        | inr high ↦ subst (λ (o : Option Asked). IsWide cap o) (sym (new_asked q past r k (omega (arith, longer, known.offers_are)))) simple
       ];
       unfaulted = known.unfaulted;
       values = known.values;
     }
 
-pub offer_spot : (n cap : ℕ) (past : List Entry) (heads : List ℕ) (r : Asked) (h k : ℕ) → Known n cap past heads → k < length heads → spot (heads ++ h ∷ []) (entries.Offer 0 r ∷ past) k ≡ spot heads past k
-offer_spot n cap past heads r h k known low =
-    ap (λ (x : ℕ). (x, answered_len 0 (asked (entries.Offer 0 r ∷ past) 0 k))) (same_head heads h k low)
-    ∙ ap (λ (o : Option Asked). (slice_index heads k, answered_len 0 o)) (same_asked past r k (omega (arith, known.offers_are)))
+pub offer_spot : (q n cap : ℕ) (past : List Entry) (heads : List ℕ) (r : Asked) (h k : ℕ) → Known q n cap past heads → k < length heads → spot q (heads ++ h ∷ []) (entries.Offer q r ∷ past) k ≡ spot q heads past k
+offer_spot q n cap past heads r h k known low =
+    ap (λ (x : ℕ). (x, answered_len 0 (asked (entries.Offer q r ∷ past) q k))) (same_head heads h k low)
+    ∙ ap (λ (o : Option Asked). (slice_index heads k, answered_len 0 o)) (same_asked q past r k (omega (arith, known.offers_are)))
 
-pub offer_ringed : (n cap base : ℕ) (past : List Entry) (heads : List ℕ) (m : Bytes) (r : Asked) (h index : ℕ) → IsSize n → Known n cap past heads → index ≡ (base + length heads) % 65536 → head_at (the_ring n) m (base + length heads) ≡ h
-    → Ringed n base past heads m → Ringed n base (entries.Offer 0 r ∷ past) (heads ++ h ∷ []) (put m 0 (avail_idx_place (the_ring n)) (little_bytes 2 ((index + 1) % 65536)))
-offer_ringed n cap base past heads m r h index size known at stands ringed =
+pub offer_ringed : (q n cap base : ℕ) (past : List Entry) (heads : List ℕ) (m : Bytes) (r : Asked) (h index : ℕ) → IsSize n → Known q n cap past heads → index ≡ (base + length heads) % 65536 → head_at (the_ring q n) m (base + length heads) ≡ h
+    → Ringed q n base past heads m → Ringed q n base (entries.Offer q r ∷ past) (heads ++ h ∷ []) (put m 0 (avail_idx_place (the_ring q n)) (little_bytes 2 ((index + 1) % 65536)))
+offer_ringed q n cap base past heads m r h index size known at stands ringed =
     let x : ℕ = (index + 1) % 65536 in
     let bs : List ℕ = little_bytes 2 x in
     let two : length bs ≡ 2 = length_little 2 x in
-    let p : ℕ = avail_idx_place (the_ring n) in
+    let p : ℕ = avail_idx_place (the_ring q n) in
     let longer : length (heads ++ h ∷ []) ≡ length heads + 1 = length_push heads h in record {
       avail_idx_is = word-put_same 2 m 0 p x (omega arith) ∙ omega (arith, longer);
-      used_idx_is = keeps 2 m p bs (1048576 * 0 + 8192 + 2) (inr (omega arith)) ∙ ringed.used_idx_is;
+      used_idx_is = keeps 2 m p bs (area_place q + 8192 + 2) (inr (omega arith)) ∙ ringed.used_idx_is;
       avail_at = λ i from upto.
-          let same : word 2 (put m 0 p bs) 0 (avail_entry_place (the_ring n) (base + i)) ≡ word 2 m 0 (avail_entry_place (the_ring n) (base + i)) = keeps 2 m p bs (avail_entry_place (the_ring n) (base + i)) (inr (omega arith)) in
+          let same : word 2 (put m 0 p bs) 0 (avail_entry_place (the_ring q n) (base + i)) ≡ word 2 m 0 (avail_entry_place (the_ring q n) (base + i)) = keeps 2 m p bs (avail_entry_place (the_ring q n) (base + i)) (inr (omega arith)) in
           elim (cases_lt i (length heads)) [
             | inl low ↦ same ∙ ringed.avail_at i from low ∙ sym (same_head heads h i low)
             | inr high ↦
                 let last : i ≡ length heads = omega (arith, longer) in
-                same ∙ ap (λ (j : ℕ). head_at (the_ring n) m (base + j)) last ∙ stands ∙ sym (ap (slice_index (heads ++ h ∷ [])) last ∙ new_head heads h)
+                same ∙ ap (λ (j : ℕ). head_at (the_ring q n) m (base + j)) last ∙ stands ∙ sym (ap (slice_index (heads ++ h ∷ [])) last ∙ new_head heads h)
           ];
       used_at = λ i from upto.
-          let low : slice_index (published past 0) i < length heads = omega (arith, known.below (slice_index (published past 0) i) (among_at (published past 0) i upto), known.offered) in
-          let id : word 4 (put m 0 p bs) 0 (used_id_place (the_ring n) (base + i)) ≡ word 4 m 0 (used_id_place (the_ring n) (base + i)) = keeps 4 m p bs (used_id_place (the_ring n) (base + i)) (inr (omega arith)) in
-          let len : word 4 (put m 0 p bs) 0 (used_len_place (the_ring n) (base + i)) ≡ word 4 m 0 (used_len_place (the_ring n) (base + i)) = keeps 4 m p bs (used_len_place (the_ring n) (base + i)) (inr (omega arith)) in
-          ap (λ (y : ℕ). (y, word 4 (put m 0 p bs) 0 (used_len_place (the_ring n) (base + i)))) id ∙ ap (λ (y : ℕ). (word 4 m 0 (used_id_place (the_ring n) (base + i)), y)) len
-          ∙ ringed.used_at i from upto ∙ sym (offer_spot n cap past heads r h (slice_index (published past 0) i) known low);
+          let low : slice_index (published past q) i < length heads = omega (arith, known.below (slice_index (published past q) i) (among_at (published past q) i upto), known.offered) in
+          let id : word 4 (put m 0 p bs) 0 (used_id_place (the_ring q n) (base + i)) ≡ word 4 m 0 (used_id_place (the_ring q n) (base + i)) = keeps 4 m p bs (used_id_place (the_ring q n) (base + i)) (inr (omega arith)) in
+          let len : word 4 (put m 0 p bs) 0 (used_len_place (the_ring q n) (base + i)) ≡ word 4 m 0 (used_len_place (the_ring q n) (base + i)) = keeps 4 m p bs (used_len_place (the_ring q n) (base + i)) (inr (omega arith)) in
+          ap (λ (y : ℕ). (y, word 4 (put m 0 p bs) 0 (used_len_place (the_ring q n) (base + i)))) id ∙ ap (λ (y : ℕ). (word 4 m 0 (used_id_place (the_ring q n) (base + i)), y)) len
+          ∙ ringed.used_at i from upto ∙ sym (offer_spot q n cap past heads r h (slice_index (published past q) i) known low);
     }
 
 -- the head that the offer shows is the one that was stored
-pub shown_head : (n base : ℕ) (past : List Entry) (heads : List ℕ) (m : Bytes) (r : Asked) (h : ℕ) → accepted past 0 ≤ length heads → Ringed n base (entries.Offer 0 r ∷ past) (heads ++ h ∷ []) m → last_head (the_ring n) m ≡ h
-shown_head n base past heads m r h offered ringed =
+pub shown_head : (q n base : ℕ) (past : List Entry) (heads : List ℕ) (m : Bytes) (r : Asked) (h : ℕ) → accepted past q ≤ length heads → Ringed q n base (entries.Offer q r ∷ past) (heads ++ h ∷ []) m → last_head (the_ring q n) m ≡ h
+shown_head q n base past heads m r h offered ringed =
     let longer : length (heads ++ h ∷ []) ≡ length heads + 1 = length_push heads h in
-    let at : avail_idx (the_ring n) m ≡ (base + length heads + 1) % 65536 = ringed.avail_idx_is ∙ omega (arith, longer) in
-    let wraps : (avail_idx (the_ring n) m + 65535) % 65536 ≡ (base + length heads) % 65536 = omega arith in
-    ap (λ (y : ℕ). word 2 m 0 (1048576 * 0 + 4096 + (4 + 2 * (y % n)))) wraps ∙ ringed.avail_at (length heads) offered (omega (arith, longer)) ∙ new_head heads h
+    let at : avail_idx (the_ring q n) m ≡ (base + length heads + 1) % 65536 = ringed.avail_idx_is ∙ omega (arith, longer) in
+    let wraps : (avail_idx (the_ring q n) m + 65535) % 65536 ≡ (base + length heads) % 65536 = omega arith in
+    ap (λ (y : ℕ). word 2 m 0 (area_place q + 4096 + (4 + 2 * (y % n)))) wraps ∙ ringed.avail_at (length heads) offered (omega (arith, longer)) ∙ new_head heads h
 
-pub offer_driven : (n cap base : ℕ) (past : List Entry) (heads : List ℕ) (v : Driver) (w : Waiting) (r : Asked) → Driven n cap base past heads v → IsWaiting n cap past heads v w
-    → Driven n cap base (entries.Offer 0 r ∷ past) (heads ++ w.head ∷ []) (record v { avail_idx = (v.avail_idx + 1) % 65536; waiting = None })
-offer_driven n cap base past heads v w r driven waits =
+pub offer_driven : (q n cap base : ℕ) (past : List Entry) (heads : List ℕ) (v : Driver) (w : Waiting) (r : Asked) → Driven q n cap base past heads v → IsWaiting q n cap past heads v w
+    → Driven q n cap base (entries.Offer q r ∷ past) (heads ++ w.head ∷ []) (record v { avail_idx = (v.avail_idx + 1) % 65536; waiting = None })
+offer_driven q n cap base past heads v w r driven waits =
     let longer : length (heads ++ w.head ∷ []) ≡ length heads + 1 = length_push heads w.head in
     let hs : List ℕ = heads ++ w.head ∷ [] in
-    let old : (k : ℕ) → IsOut (entries.Offer 0 r ∷ past) hs k → k < length heads → IsOut past heads k = λ k out low. record { below = low; kept = out.kept } in
-    let last : (k : ℕ) → IsOut (entries.Offer 0 r ∷ past) hs k → length heads ≤ k → slice_index hs k ≡ w.head = λ k out high.
+    let old : (k : ℕ) → IsOut q (entries.Offer q r ∷ past) hs k → k < length heads → IsOut q past heads k = λ k out low. record { below = low; kept = out.kept } in
+    let last : (k : ℕ) → IsOut q (entries.Offer q r ∷ past) hs k → length heads ≤ k → slice_index hs k ≡ w.head = λ k out high.
     let is_last : k ≡ length heads = omega (arith, longer, out.below) in ap (slice_index hs) is_last ∙ new_head heads w.head in record {
       index = omega (arith, longer, driven.index);
       below = λ k out. elim (cases_lt k (length heads)) [
@@ -153,52 +155,52 @@ offer_driven n cap base past heads v w r driven waits =
       waits = tt;
     }
 
-pub offer_worked : (n cap : ℕ) (past : List Entry) (heads : List ℕ) (r : Asked) (phase : Phase) (batch completed : List ℕ) (made : ℕ → ℕ) → Known n cap past heads → Worked past phase batch completed made → Worked (entries.Offer 0 r ∷ past) phase batch completed made
-offer_worked n cap past heads r phase batch completed made known worked = record {
+pub offer_worked : (q n cap : ℕ) (past : List Entry) (heads : List ℕ) (r : Asked) (phase : Phase) (batch completed : List ℕ) (made : ℕ → ℕ) → Known q n cap past heads → Worked q past phase batch completed made → Worked q (entries.Offer q r ∷ past) phase batch completed made
+offer_worked q n cap past heads r phase batch completed made known worked = record {
   distinct = worked.distinct;
   opens = λ k held. record { taken = (worked.opens k held).taken; unpublished = (worked.opens k held).unpublished };
   untouched = worked.untouched;
   progress = λ k. record {
     fresh = (worked.progress k).fresh;
-    begun = λ some. elim (cases_lt k (offers past 0)) [
-      | inl low ↦ subst (λ (o : Option Asked). IsBegun (made k) (looks past 0 k) (acts past 0 k) (bytes_read past 0 k) (synced past 0 k) o) (sym (same_asked past r k low)) ((worked.progress k).begun some)
+    begun = λ some. elim (cases_lt k (offers past q)) [
+      | inl low ↦ subst (λ (o : Option Asked). IsBegun (made k) (looks past q k) (acts past q k) (bytes_read past q k) (synced past q k) o) (sym (same_asked q past r k low)) ((worked.progress k).begun some)
       | inr high ↦ absurd (let none : made k ≡ 0 = worked.untouched k (omega (arith, known.offers_are, known.offered)) in omega arith)
     ];
   };
   full = λ k held.
-      let low : k < offers past 0 = omega (arith, (worked.opens k held).taken, known.offers_are, known.offered) in
-      subst (λ (o : Option Asked). IsFull (made k) o) (sym (same_asked past r k low)) (worked.full k held);
+      let low : k < offers past q = omega (arith, (worked.opens k held).taken, known.offers_are, known.offered) in
+      subst (λ (o : Option Asked). IsFull (made k) o) (sym (same_asked q past r k low)) (worked.full k held);
   pending = λ k is_open out.
-      let low : k < offers past 0 = omega (arith, is_open.taken, known.offers_are, known.offered) in
-      subst (λ (o : Option Asked). IsPending (made k) o) (sym (same_asked past r k low)) (worked.pending k (record { taken = is_open.taken; unpublished = is_open.unpublished }) out);
+      let low : k < offers past q = omega (arith, is_open.taken, known.offers_are, known.offered) in
+      subst (λ (o : Option Asked). IsPending (made k) o) (sym (same_asked q past r k low)) (worked.pending k (record { taken = is_open.taken; unpublished = is_open.unpublished }) out);
   quiet = worked.quiet;
   phase_is = worked.phase_is;
 }
 
-pub offer_stored : (n cap : ℕ) (past : List Entry) (heads : List ℕ) (r : Asked) (h : ℕ) (m : Bytes) (phase : Phase) (batch completed : List ℕ) (made : ℕ → ℕ) → Known n cap past heads → Worked past phase batch completed made
-    → Stored past heads m batch completed made → Stored (entries.Offer 0 r ∷ past) (heads ++ h ∷ []) m batch completed made
-offer_stored n cap past heads r h m phase batch completed made known worked stored = record {
+pub offer_stored : (q n cap : ℕ) (past : List Entry) (heads : List ℕ) (r : Asked) (h : ℕ) (m : Bytes) (phase : Phase) (batch completed : List ℕ) (made : ℕ → ℕ) → Known q n cap past heads → Worked q past phase batch completed made
+    → Stored q past heads m batch completed made → Stored q (entries.Offer q r ∷ past) (heads ++ h ∷ []) m batch completed made
+offer_stored q n cap past heads r h m phase batch completed made known worked stored = record {
   sectors = λ k i is_open kept read.
       let low : k < length heads = omega (arith, is_open.taken, known.offered) in
-      let low_too : k < offers past 0 = omega (arith, low, known.offers_are) in
-      let read_too : IsRead (asked past 0 k) = subst (λ (o : Option Asked). IsRead o) (same_asked past r k low_too) read in
-      ap (λ (x : ℕ). m 0 (1048576 * 0 + (65536 + 8192 * x) + 4096 + i)) (same_head heads h k low) ∙ stored.sectors k i (record { taken = is_open.taken; unpublished = is_open.unpublished }) kept read_too;
+      let low_too : k < offers past q = omega (arith, low, known.offers_are) in
+      let read_too : IsRead (asked past q k) = subst (λ (o : Option Asked). IsRead o) (same_asked q past r k low_too) read in
+      ap (λ (x : ℕ). m 0 (area_place q + (65536 + 8192 * x) + 4096 + i)) (same_head heads h k low) ∙ stored.sectors k i (record { taken = is_open.taken; unpublished = is_open.unpublished }) kept read_too;
   status = λ k held.
       let low : k < length heads = omega (arith, (worked.opens k held).taken, known.offered) in
-      ap (λ (x : ℕ). m 0 (1048576 * 0 + (65536 + 8192 * x) + 16)) (same_head heads h k low) ∙ stored.status k held;
+      ap (λ (x : ℕ). m 0 (area_place q + (65536 + 8192 * x) + 16)) (same_head heads h k low) ∙ stored.status k held;
 }
 
-pub offer_built : (n cap base : ℕ) (past : List Entry) (heads : List ℕ) (r : Asked) (h : ℕ) (m : Bytes) (phase : Phase) (batch completed : List ℕ) (made : ℕ → ℕ) → Known n cap past heads
-    → ((k : ℕ) → is_among batch k ≡ true → k < accepted past 0) → Built n base past heads m batch phase → Built n base (entries.Offer 0 r ∷ past) (heads ++ h ∷ []) m batch phase
-offer_built n cap base past heads r h m phases.Rest batch completed made known low b = tt
-offer_built n cap base past heads r h m (phases.Start done) batch completed made known low b = tt
-offer_built n cap base past heads r h m (phases.Fetch done) batch completed made known low b = tt
-offer_built n cap base past heads r h m (phases.Publish done) batch completed made known low b = record {
+pub offer_built : (q n cap base : ℕ) (past : List Entry) (heads : List ℕ) (r : Asked) (h : ℕ) (m : Bytes) (phase : Phase) (batch completed : List ℕ) (made : ℕ → ℕ) → Known q n cap past heads
+    → ((k : ℕ) → is_among batch k ≡ true → k < accepted past q) → Built q n base past heads m batch phase → Built q n base (entries.Offer q r ∷ past) (heads ++ h ∷ []) m batch phase
+offer_built q n cap base past heads r h m phases.Rest batch completed made known low b = tt
+offer_built q n cap base past heads r h m (phases.Start done) batch completed made known low b = tt
+offer_built q n cap base past heads r h m (phases.Fetch done) batch completed made known low b = tt
+offer_built q n cap base past heads r h m (phases.Publish done) batch completed made known low b = record {
   ids = λ e l d. b.ids e l d ∙ sym (same_head heads h (slice_index batch e) (omega (arith, low (slice_index batch e) (among_at batch e l), known.offered)));
-  lens = λ e l d. b.lens e l d ∙ sym (ap (answered_len 0) (same_asked past r (slice_index batch e) (omega (arith, low (slice_index batch e) (among_at batch e l), known.offers_are, known.offered))));
+  lens = λ e l d. b.lens e l d ∙ sym (ap (answered_len 0) (same_asked q past r (slice_index batch e) (omega (arith, low (slice_index batch e) (among_at batch e l), known.offers_are, known.offered))));
 }
 
 -- what is in the batch was accepted
-pub batch_taken : (past : List Entry) (phase : Phase) (batch completed : List ℕ) (made : ℕ → ℕ) → Worked past phase batch completed made → (k : ℕ) → is_among batch k ≡ true → k < accepted past 0
-batch_taken past phase batch completed made worked k held =
+pub batch_taken : (q : ℕ) (past : List Entry) (phase : Phase) (batch completed : List ℕ) (made : ℕ → ℕ) → Worked q past phase batch completed made → (k : ℕ) → is_among batch k ≡ true → k < accepted past q
+batch_taken q past phase batch completed made worked k held =
     (worked.opens k (is_among_append completed batch k ∙ or_right (is_among completed k) (is_among batch k) held)).taken

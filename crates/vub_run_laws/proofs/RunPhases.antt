@@ -1,5 +1,5 @@
 -- Start and fetch keep what holds, and so does the begin of a publication.
-use Rattle.std.proofs.Common.{◌≡◌, ◌≤◌, ◌<◌, ℕ, ◌+◌, true, false, List, [], ◌∷◌, ◌++◌, length, take, drop, refl, ap, sym, ◌∙◌, subst, inl, inr, arith}
+use Rattle.std.proofs.Common.{◌≡◌, ◌≤◌, ◌<◌, ℕ, ◌+◌, true, false, List, [], ◌∷◌, ◌++◌, length, take, drop, refl, ap, sym, ◌∙◌, subst, inl, inr, arith, Bool}
 use Rattle.std.specs.Prelude.{Option, Some, None, ◌||◌, if◌then◌else◌}
 use Rattle.std.proofs.lemmas.Bool.Decides.{nat_tests}
 use Rattle.std.proofs.lemmas.Bool.{cases_lt, cases_Bool}
@@ -20,10 +20,11 @@ use Rattle.vub_device.proofs.Numbers.{is_among_append}
 use Rattle.vub_run.specs.Memory.{Scene}
 use Rattle.vub_run.specs.Moments.{Lane}
 use Rattle.vub_run.specs.Turns.{under_way, phase_goes_on}
+use Rattle.vub_run_laws.proofs.RunOwn.{accepted_own, started_own, looks_start, acts_start, bytes_start, synced_start, faulted_start}
 use Rattle.vub_run_laws.proofs.RunNumbers.{distinct_parts, distinct_join}
 use Rattle.vub_run_laws.proofs.RunGood.{the_ring, IsPending, Worked, Holds}
 use Rattle.vub_run_laws.proofs.RunTracks.{ahead_by}
-use Rattle.vub_run_laws.proofs.RunEfforts.{weight, effort, sum_more, weight_small, sum_moved}
+use Rattle.vub_run_laws.proofs.RunEfforts.{weight, effort, sum_below, sum_more, weight_small, sum_moved}
 use Rattle.vub_run_laws.proofs.RunGuests.{IsGood, holds_track}
 use Rattle.vub_run_laws.proofs.RunWork.{Fine, driven_same, built_same}
 
@@ -36,21 +37,21 @@ rest_is l phase batch = ap (λ (p : Phase). record l { phase = p; batch = [] }) 
 
 -- ---- start
 
-start_worked : (past : List Entry) (list batch completed : List ℕ) (made : ℕ → ℕ) (phase : Phase) → started past 0 ≡ false → Worked past phase batch completed made → Worked (entries.Start 0 list ∷ past) phase batch completed made
-start_worked past list batch completed made phase stopped w =
+start_worked : (q : ℕ) (past : List Entry) (list batch completed : List ℕ) (made : ℕ → ℕ) (phase : Phase) → started past q ≡ false → Worked q past phase batch completed made → Worked q (entries.Start q list ∷ past) phase batch completed made
+start_worked q past list batch completed made phase stopped w =
     let none : (k : ℕ) → made k ≡ 0 = (w.quiet stopped).1.1 in record {
       distinct = w.distinct;
       opens = λ j held. record { taken = (w.opens j held).taken; unpublished = (w.opens j held).unpublished };
       untouched = w.untouched;
-      progress = λ k. record { fresh = λ e. (refl, (refl, (refl, refl))); begun = λ some. absurd (let zero_made : made k ≡ 0 = none k in omega arith) };
+      progress = λ k. record { fresh = λ e. (looks_start past q list k, (acts_start past q list k, (bytes_start past q list k, synced_start past q list k))); begun = λ some. absurd (let zero_made : made k ≡ 0 = none k in omega arith) };
       full = w.full;
       pending = λ j is_open out. w.pending j (record { taken = is_open.taken; unpublished = is_open.unpublished }) out;
-      quiet = λ stops. absurd (let fails : true ≡ false = stops in cc);
+      quiet = λ stops. absurd (let fails : true ≡ false = sym (started_own past q list) ∙ stops in cc);
       phase_is = w.phase_is;
     }
 
-start_holds : (h : Header1) (s : Scene) (l : Lane) (list : List ℕ) → started s.past 0 ≡ false → Holds h s l → Holds h (record s { past = entries.Start 0 list ∷ s.past }) l
-start_holds h s l list stopped x = record {
+start_holds : (q : ℕ) (h : Header1) (s : Scene) (l : Lane) (list : List ℕ) → started s.past q ≡ false → Holds q h s l → Holds q h (record s { past = entries.Start q list ∷ s.past }) l
+start_holds q h s l list stopped x = record {
   known = record {
     offers_are = x.known.offers_are;
     offered = x.known.offered;
@@ -61,45 +62,49 @@ start_holds h s l list stopped x = record {
     room = x.known.room;
     good = x.known.good;
     wide = x.known.wide;
-    unfaulted = λ k. refl;
+    unfaulted = λ k. faulted_start s.past q list k;
     values = x.known.values;
   };
   ringed = record { avail_idx_is = x.ringed.avail_idx_is; used_idx_is = x.ringed.used_idx_is; avail_at = x.ringed.avail_at; used_at = x.ringed.used_at };
-  driven = driven_same h.size h.capacity h.base s.past (entries.Start 0 list ∷ s.past) (s.heads 0) l.driver (λ j o. record { below = o.below; kept = o.kept }) x.driven;
-  worked = start_worked s.past list l.batch l.completed l.made l.phase stopped x.worked;
+  driven = driven_same q h.size h.capacity h.base s.past (entries.Start q list ∷ s.past) (s.heads q) l.driver (λ j o. record { below = o.below; kept = o.kept }) x.driven;
+  worked = start_worked q s.past list l.batch l.completed l.made l.phase stopped x.worked;
   stored = record {
     sectors = λ k i is_open kept read. absurd (let zero_made : l.made k ≡ 0 = (x.worked.quiet stopped).1.1 k in omega (arith, kept.put));
     status = x.stored.status;
   };
-  built = built_same h.size h.base s.past (entries.Start 0 list ∷ s.past) (s.heads 0) s.memory l.batch l.phase refl (λ j. refl) x.built;
+  built = built_same q h.size h.base s.past (entries.Start q list ∷ s.past) (s.heads q) s.memory l.batch l.phase refl (λ j. refl) x.built;
 }
 
-pub start_fine : (h : Header1) (s : Scene) (l : Lane) → IsGood h → started s.past 0 ≡ false → Holds h s (resting l) → Fine h s (resting l) (phase_goes_on h 0 s (under_way turns.Start (resting l)))
-start_fine h s l good stopped x =
-    let list : List ℕ = open_numbers s.past 0 in
-    let holds : Holds h (record s { past = entries.Start 0 list ∷ s.past }) (resting l) = start_holds h s (resting l) list stopped x in
-    let may : MayStart s.past 0 list = record { stopped = stopped; resubmits = refl } in
+pub start_fine : (q : ℕ) (h : Header1) (s : Scene) (l : Lane) → IsGood h → started s.past q ≡ false → Holds q h s (resting l) → Fine q h s (resting l) (phase_goes_on h q s (under_way turns.Start (resting l)))
+start_fine q h s l good stopped x =
+    let list : List ℕ = open_numbers s.past q in
+    let holds : Holds q h (record s { past = entries.Start q list ∷ s.past }) (resting l) = start_holds q h s (resting l) list stopped x in
+    let may : MayStart s.past q list = record { stopped = stopped; resubmits = refl } in
     record {
-      each = (inr (holds_track h (record s { past = entries.Start 0 list ∷ s.past }) (resting l) good holds), tt);
+      each = (inr (holds_track q h (record s { past = entries.Start q list ∷ s.past }) (resting l) good holds), tt);
       holds = holds;
       legal = (may, tt);
-      runs = refl;
+      runs = started_own s.past q list;
       collects = refl;
-      falls = let rest : ℕ = if started s.past 0 then 0 else 1 in let one : rest ≡ 1 = grind (arith, nat_tests) in omega (arith, one);
+      falls =
+          let left : Bool → ℕ = λ runs. if runs then 0 else 1 in
+          let one : left (started s.past q) ≡ 1 = ap left stopped in
+          let none : left (started (entries.Start q list ∷ s.past) q) ≡ 0 = ap left (started_own s.past q list) in
+          omega (arith, one, none);
     }
 
 -- ---- fetch
 
-accept_worked : (past : List Entry) (k : ℕ) (batch completed : List ℕ) (made : ℕ → ℕ) (phase : Phase) → Worked past phase batch completed made → Worked (entries.Accept 0 k ∷ past) phase batch completed made
-accept_worked past k batch completed made phase w = record {
+accept_worked : (q : ℕ) (past : List Entry) (k : ℕ) (batch completed : List ℕ) (made : ℕ → ℕ) (phase : Phase) → Worked q past phase batch completed made → Worked q (entries.Accept q k ∷ past) phase batch completed made
+accept_worked q past k batch completed made phase w = record {
   distinct = w.distinct;
-  opens = λ j held. record { taken = omega (arith, (w.opens j held).taken); unpublished = (w.opens j held).unpublished };
-  untouched = λ j high. w.untouched j (omega arith);
+  opens = λ j held. record { taken = omega (arith, (w.opens j held).taken, accepted_own past q k); unpublished = (w.opens j held).unpublished };
+  untouched = λ j high. w.untouched j (omega (arith, high, accepted_own past q k));
   progress = w.progress;
   full = w.full;
-  pending = λ j is_open out. elim (cases_lt j (accepted past 0)) [
+  pending = λ j is_open out. elim (cases_lt j (accepted past q)) [
     | inl low ↦ w.pending j (record { taken = low; unpublished = is_open.unpublished }) out
-    | inr high ↦ subst (λ (c : ℕ). IsPending c (asked past 0 j)) (sym (w.untouched j high)) (pending_none (asked past 0 j))
+    | inr high ↦ subst (λ (c : ℕ). IsPending c (asked past q j)) (sym (w.untouched j high)) (pending_none (asked past q j))
   ];
   quiet = w.quiet;
   phase_is = w.phase_is;
@@ -114,27 +119,27 @@ accept_worked past k batch completed made phase w = record {
     pending_none (Some (asks.Zero parts)) = tt
     pending_none None = tt
 
-accept_holds : (h : Header1) (s : Scene) (l : Lane) (k : ℕ) → accepted s.past 0 < length (s.heads 0) → Holds h s l → Holds h (record s { past = entries.Accept 0 k ∷ s.past }) l
-accept_holds h s l k more x = record {
+accept_holds : (q : ℕ) (h : Header1) (s : Scene) (l : Lane) (k : ℕ) → accepted s.past q < length (s.heads q) → Holds q h s l → Holds q h (record s { past = entries.Accept q k ∷ s.past }) l
+accept_holds q h s l k more x = record {
   known = record {
     offers_are = x.known.offers_are;
-    offered = omega arith;
+    offered = omega (arith, more, accepted_own s.past q k);
     distinct = x.known.distinct;
-    below = λ j held. omega (arith, x.known.below j held);
+    below = λ j held. omega (arith, x.known.below j held, accepted_own s.past q k);
     shown = x.known.shown;
-    fewer = omega (arith, x.known.fewer);
+    fewer = omega (arith, x.known.fewer, accepted_own s.past q k);
     room = x.known.room;
     good = x.known.good;
     wide = x.known.wide;
     unfaulted = x.known.unfaulted;
     values = x.known.values;
   };
-  ringed = record { avail_idx_is = x.ringed.avail_idx_is; used_idx_is = x.ringed.used_idx_is; avail_at = λ i from upto. x.ringed.avail_at i (omega arith) upto; used_at = x.ringed.used_at };
-  driven = driven_same h.size h.capacity h.base s.past (entries.Accept 0 k ∷ s.past) (s.heads 0) l.driver (λ j o. record { below = o.below; kept = o.kept }) x.driven;
-  worked = accept_worked s.past k l.batch l.completed l.made l.phase x.worked;
+  ringed = record { avail_idx_is = x.ringed.avail_idx_is; used_idx_is = x.ringed.used_idx_is; avail_at = λ i from upto. x.ringed.avail_at i (omega (arith, from, accepted_own s.past q k)) upto; used_at = x.ringed.used_at };
+  driven = driven_same q h.size h.capacity h.base s.past (entries.Accept q k ∷ s.past) (s.heads q) l.driver (λ j o. record { below = o.below; kept = o.kept }) x.driven;
+  worked = accept_worked q s.past k l.batch l.completed l.made l.phase x.worked;
   stored = record {
     sectors = λ j i is_open kept read. x.stored.sectors j i (record {
-      taken = elim (cases_lt j (accepted s.past 0)) [
+      taken = elim (cases_lt j (accepted s.past q)) [
         | inl low ↦ low
         | inr high ↦ absurd (let none : l.made j ≡ 0 = x.worked.untouched j high in omega (arith, kept.put))
       ];
@@ -142,30 +147,32 @@ accept_holds h s l k more x = record {
     }) kept read;
     status = x.stored.status;
   };
-  built = built_same h.size h.base s.past (entries.Accept 0 k ∷ s.past) (s.heads 0) s.memory l.batch l.phase refl (λ j. refl) x.built;
+  built = built_same q h.size h.base s.past (entries.Accept q k ∷ s.past) (s.heads q) s.memory l.batch l.phase refl (λ j. refl) x.built;
 }
 
 -- where something waits, an offer isn't accepted
-pub some_waits : (h : Header1) (s : Scene) (l : Lane) → IsGood h → Holds h s l → ahead (avail_idx (the_ring h.size) s.memory) (h.base + accepted s.past 0) + accepted s.past 0 ≡ length (s.heads 0)
-some_waits h s l good x =
+pub some_waits : (q : ℕ) (h : Header1) (s : Scene) (l : Lane) → IsGood h → Holds q h s l → ahead (avail_idx (the_ring q h.size) s.memory) (h.base + accepted s.past q) + accepted s.past q ≡ length (s.heads q)
+some_waits q h s l good x =
     let small : h.size ≤ 64 = good.size.small in
     let room = x.known.room in
     let shown = x.known.shown in
     let fewer = x.known.fewer in
-    ap (λ (u : ℕ). ahead u (h.base + accepted s.past 0) + accepted s.past 0) x.ringed.avail_idx_is ∙ ahead_by h.base (length (s.heads 0)) (accepted s.past 0) x.known.offered (omega arith)
+    ap (λ (u : ℕ). ahead u (h.base + accepted s.past q) + accepted s.past q) x.ringed.avail_idx_is ∙ ahead_by h.base (length (s.heads q)) (accepted s.past q) x.known.offered (omega arith)
 
-pub fetch_fine : (h : Header1) (s : Scene) (l : Lane) → IsGood h → started s.past 0 ≡ true → accepted s.past 0 < length (s.heads 0) → Holds h s (resting l) → Fine h s (resting l) (phase_goes_on h 0 s (under_way turns.Fetch (resting l)))
-fetch_fine h s l good run more x =
-    let k : ℕ = accepted s.past 0 in
-    let holds : Holds h (record s { past = entries.Accept 0 k ∷ s.past }) (resting l) = accept_holds h s (resting l) k more x in
-    let may : MayAccept s.past 0 k = record { started = run; next = refl; offered = omega (arith, x.known.offers_are) } in
+pub fetch_fine : (q : ℕ) (h : Header1) (s : Scene) (l : Lane) → IsGood h → started s.past q ≡ true → accepted s.past q < length (s.heads q) → Holds q h s (resting l) → Fine q h s (resting l) (phase_goes_on h q s (under_way turns.Fetch (resting l)))
+fetch_fine q h s l good run more x =
+    let k : ℕ = accepted s.past q in
+    let holds : Holds q h (record s { past = entries.Accept q k ∷ s.past }) (resting l) = accept_holds q h s (resting l) k more x in
+    let may : MayAccept s.past q k = record { started = run; next = refl; offered = omega (arith, x.known.offers_are) } in
     record {
-      each = (inr (holds_track h (record s { past = entries.Accept 0 k ∷ s.past }) (resting l) good holds), tt);
+      each = (inr (holds_track q h (record s { past = entries.Accept q k ∷ s.past }) (resting l) good holds), tt);
       holds = holds;
       legal = (may, tt);
       runs = run;
       collects = refl;
-      falls = omega (arith, sum_more (weight (published s.past 0) (l.completed ++ []) l.made) k, weight_small (published s.past 0) (l.completed ++ []) l.made k);
+      falls =
+          let w : ℕ → ℕ = weight (published s.past q) (l.completed ++ []) l.made in
+          omega (arith, accepted_own s.past q k, ap (sum_below w) (accepted_own s.past q k), sum_more w k, weight_small (published s.past q) (l.completed ++ []) l.made k);
     }
 
 -- ---- a batch is taken
@@ -190,8 +197,8 @@ swap_distinct most xs d =
       | inr out ↦ out
     ])
 
-pub taking_holds : (h : Header1) (s : Scene) (l : Lane) (most : ℕ) → 0 < most → 0 < length l.completed → started s.past 0 ≡ true → Holds h s (resting l) → Holds h s (taking most l)
-taking_holds h s l most some any run x =
+pub taking_holds : (q : ℕ) (h : Header1) (s : Scene) (l : Lane) (most : ℕ) → 0 < most → 0 < length l.completed → started s.past q ≡ true → Holds q h s (resting l) → Holds q h s (taking most l)
+taking_holds q h s l most some any run x =
     let same : (k : ℕ) → is_among (drop most l.completed ++ take most l.completed) k ≡ true → is_among (l.completed ++ []) k ≡ true = λ k held. sym (swap_among most l.completed k) ∙ held in
     record {
       known = x.known;
@@ -218,6 +225,6 @@ taking_holds h s l most some any run x =
     }
 
 -- and what is left to do grows by no more than the store that follows
-pub taking_effort : (past : List Entry) (offered most : ℕ) (l : Lane) → 0 < most → 0 < length l.completed → effort past offered (taking most l) ≤ effort past offered (resting l)
-taking_effort past offered most l some any =
-    omega (arith, length-take most l.completed, length-drop most l.completed, sum_moved (published past 0) (l.completed ++ []) (drop most l.completed ++ take most l.completed) l.made (accepted past 0) (swap_among most l.completed))
+pub taking_effort : (q : ℕ) (past : List Entry) (offered most : ℕ) (l : Lane) → 0 < most → 0 < length l.completed → effort q past offered (taking most l) ≤ effort q past offered (resting l)
+taking_effort q past offered most l some any =
+    omega (arith, length-take most l.completed, length-drop most l.completed, sum_moved (published past q) (l.completed ++ []) (drop most l.completed ++ take most l.completed) l.made (accepted past q) (swap_among most l.completed))

@@ -42,11 +42,11 @@ abbrev pub publishing : ℕ → Lane → Lane
 publishing done l = record l { phase = phases.Publish done }
 
 -- a publication under way
-pub record IsUnderWay (h : Header1) (s : Scene) (l : Lane) (done : ℕ) : Type 0 where
+pub record IsUnderWay (q : ℕ) (h : Header1) (s : Scene) (l : Lane) (done : ℕ) : Type 0 where
   pub good : IsGood h
   pub back : h.mode ≡ Back
-  pub started : started s.past 0 ≡ true
-  pub holds : Holds h s (publishing done l)
+  pub started : started s.past q ≡ true
+  pub holds : Holds q h s (publishing done l)
 
 pub more_left : (m done : ℕ) → done + 1 < 2 * m + 1 → nat_lt (done + 1) (length (publish_steps m)) ≡ true
 more_left m done l = let many : length (publish_steps m) ≡ 2 * m + 1 = steps_many 0 m in grind (arith, nat_tests)
@@ -54,82 +54,82 @@ more_left m done l = let many : length (publish_steps m) ≡ 2 * m + 1 = steps_m
 pub none_left : (m done : ℕ) → done ≡ 2 * m → nat_lt (done + 1) (length (publish_steps m)) ≡ false
 none_left m done l = let many : length (publish_steps m) ≡ 2 * m + 1 = steps_many 0 m in grind (arith, nat_tests)
 
-pub in_batch : (h : Header1) (s : Scene) (l : Lane) (done k : ℕ) → IsUnderWay h s l done → is_among l.batch k ≡ true → is_among (l.completed ++ l.batch) k ≡ true
-in_batch h s l done k x held = is_among_append l.completed l.batch k ∙ or_right (is_among l.completed k) (is_among l.batch k) held
+pub in_batch : (q : ℕ) (h : Header1) (s : Scene) (l : Lane) (done k : ℕ) → IsUnderWay q h s l done → is_among l.batch k ≡ true → is_among (l.completed ++ l.batch) k ≡ true
+in_batch q h s l done k x held = is_among_append l.completed l.batch k ∙ or_right (is_among l.completed k) (is_among l.batch k) held
 
-pub batch_open : (h : Header1) (s : Scene) (l : Lane) (done k : ℕ) → IsUnderWay h s l done → is_among l.batch k ≡ true → IsOpen s.past 0 k
-batch_open h s l done k x held = x.holds.worked.opens k (in_batch h s l done k x held)
+pub batch_open : (q : ℕ) (h : Header1) (s : Scene) (l : Lane) (done k : ℕ) → IsUnderWay q h s l done → is_among l.batch k ≡ true → IsOpen s.past q k
+batch_open q h s l done k x held = x.holds.worked.opens k (in_batch q h s l done k x held)
 
-batch_wide : (h : Header1) (s : Scene) (l : Lane) (done k : ℕ) → IsUnderWay h s l done → is_among l.batch k ≡ true → IsWide h.capacity (asked s.past 0 k)
-batch_wide h s l done k x held = (x.holds.known.wide k (omega (arith, (batch_open h s l done k x held).taken, x.holds.known.offered)))
+batch_wide : (q : ℕ) (h : Header1) (s : Scene) (l : Lane) (done k : ℕ) → IsUnderWay q h s l done → is_among l.batch k ≡ true → IsWide h.capacity (asked s.past q k)
+batch_wide q h s l done k x held = (x.holds.known.wide k (omega (arith, (batch_open q h s l done k x held).taken, x.holds.known.offered)))
 
 -- ---- the stores of elements
 
-abbrev id_turn : (h : Header1) (l : Lane) (done : ℕ) → Option (ℕ × ℕ) → ℕ → Bool → Turned
-id_turn h l done o y more = record {
-  items = row_items (option_map (λ (x : ℕ × ℕ). row (the_ring h.size) SP1 ((the_ring h.size).used + (4 + 8 * y)) (little_bytes 4 x.0)) o) ++ [];
+abbrev id_turn : (q : ℕ) (h : Header1) (l : Lane) (done : ℕ) → Option (ℕ × ℕ) → ℕ → Bool → Turned
+id_turn q h l done o y more = record {
+  items = row_items (option_map (λ (x : ℕ × ℕ). row (the_ring q h.size) SP1 ((the_ring q h.size).used + (4 + 8 * y)) (little_bytes 4 x.0)) o) ++ [];
   lane = with_phase (if more then phases.Publish (done + 1) else phases.Rest) (publishing done l);
 }
 
-pub id_fine : (h : Header1) (s : Scene) (l : Lane) (done e : ℕ) → IsUnderWay h s l done → e < length l.batch → done ≡ 2 * e → Fine h s (publishing done l) (phase_turn h 0 s (publishing done l) (Some (steps.Id e)))
-id_fine h s l done e x inside at =
+pub id_fine : (q : ℕ) (h : Header1) (s : Scene) (l : Lane) (done e : ℕ) → IsUnderWay q h s l done → e < length l.batch → done ≡ 2 * e → Fine q h s (publishing done l) (phase_turn h q s (publishing done l) (Some (steps.Id e)))
+id_fine q h s l done e x inside at =
     let k : ℕ = slice_index l.batch e in
     let held : is_among l.batch k ≡ true = among_at l.batch e inside in
-    let head : ℕ = slice_index (s.heads 0) k in
-    let low : head < h.size = x.holds.driven.below k (open_out h.size h.capacity s.past (s.heads 0) k x.holds.known (batch_open h s l done k x held)) in
+    let head : ℕ = slice_index (s.heads q) k in
+    let low : head < h.size = x.holds.driven.below k (open_out q h.size h.capacity s.past (s.heads q) k x.holds.known (batch_open q h s l done k x held)) in
     let small : h.size ≤ 64 = x.good.size.small in
-    let P : ℕ = h.base + length (published s.past 0) in
-    let next : IsNextElement h s (publishing done l) done e = record { good = x.good; back = x.back; holds = x.holds; phase = refl; inside = inside } in
-    let holds = id_holds h s (publishing done l) done e head next at refl (omega arith) in
-    let whole : Fine h s (publishing done l) (id_turn h l done (Some (element_of h 0 s k)) (entry_of (the_ring h.size) (P + e)) true) = record {
-      each = (inr (holds_track h (stored_at (used_id_place (the_ring h.size) (P + e)) (little_bytes 4 head) s) (one_on done l) x.good holds), tt);
+    let P : ℕ = h.base + length (published s.past q) in
+    let next : IsNextElement q h s (publishing done l) done e = record { good = x.good; back = x.back; holds = x.holds; phase = refl; inside = inside } in
+    let holds = id_holds q h s (publishing done l) done e head next at refl (omega arith) in
+    let whole : Fine q h s (publishing done l) (id_turn q h l done (Some (element_of h q s k)) (entry_of (the_ring q h.size) (P + e)) true) = record {
+      each = (inr (holds_track q h (stored_at (used_id_place (the_ring q h.size) (P + e)) (little_bytes 4 head) s) (one_on done l) x.good holds), tt);
       holds = holds;
       legal = tt;
       runs = x.started;
       collects = refl;
       falls = omega arith;
     } in
-    let one : Fine h s (publishing done l) (id_turn h l done (slice_get (map (element_of h 0 s) l.batch) e) (entry_of (the_ring h.size) (P + e)) true) =
-    subst (λ (o : Option (ℕ × ℕ)). Fine h s (publishing done l) (id_turn h l done o (entry_of (the_ring h.size) (P + e)) true)) (sym (get_map (element_of h 0 s) l.batch e inside)) whole in
-    let two : Fine h s (publishing done l) (id_turn h l done (slice_get (map (element_of h 0 s) l.batch) e) (entry_of (the_ring h.size) (used_idx (the_ring h.size) s.memory + e)) true) =
-    subst (λ (y : ℕ). Fine h s (publishing done l) (id_turn h l done (slice_get (map (element_of h 0 s) l.batch) e) y true)) (sym (element_place h.size h.base s.past (s.heads 0) s.memory e x.holds.ringed)) one in
-    subst (λ (b : Bool). Fine h s (publishing done l) (id_turn h l done (slice_get (map (element_of h 0 s) l.batch) e) (entry_of (the_ring h.size) (used_idx (the_ring h.size) s.memory + e)) b)) (sym (more_left (length l.batch) done (omega arith))) two
+    let one : Fine q h s (publishing done l) (id_turn q h l done (slice_get (map (element_of h q s) l.batch) e) (entry_of (the_ring q h.size) (P + e)) true) =
+    subst (λ (o : Option (ℕ × ℕ)). Fine q h s (publishing done l) (id_turn q h l done o (entry_of (the_ring q h.size) (P + e)) true)) (sym (get_map (element_of h q s) l.batch e inside)) whole in
+    let two : Fine q h s (publishing done l) (id_turn q h l done (slice_get (map (element_of h q s) l.batch) e) (entry_of (the_ring q h.size) (used_idx (the_ring q h.size) s.memory + e)) true) =
+    subst (λ (y : ℕ). Fine q h s (publishing done l) (id_turn q h l done (slice_get (map (element_of h q s) l.batch) e) y true)) (sym (element_place q h.size h.base s.past (s.heads q) s.memory e x.holds.ringed)) one in
+    subst (λ (b : Bool). Fine q h s (publishing done l) (id_turn q h l done (slice_get (map (element_of h q s) l.batch) e) (entry_of (the_ring q h.size) (used_idx (the_ring q h.size) s.memory + e)) b)) (sym (more_left (length l.batch) done (omega arith))) two
 
-abbrev len_turn : (h : Header1) (l : Lane) (done : ℕ) → Option (ℕ × ℕ) → ℕ → Bool → Turned
-len_turn h l done o y more = record {
-  items = row_items (option_map (λ (x : ℕ × ℕ). row (the_ring h.size) SP2 ((the_ring h.size).used + (8 + 8 * y)) (little_bytes 4 x.1)) o) ++ [];
+abbrev len_turn : (q : ℕ) (h : Header1) (l : Lane) (done : ℕ) → Option (ℕ × ℕ) → ℕ → Bool → Turned
+len_turn q h l done o y more = record {
+  items = row_items (option_map (λ (x : ℕ × ℕ). row (the_ring q h.size) SP2 ((the_ring q h.size).used + (8 + 8 * y)) (little_bytes 4 x.1)) o) ++ [];
   lane = with_phase (if more then phases.Publish (done + 1) else phases.Rest) (publishing done l);
 }
 
-pub len_fine : (h : Header1) (s : Scene) (l : Lane) (done e : ℕ) → IsUnderWay h s l done → e < length l.batch → done ≡ 2 * e + 1 → Fine h s (publishing done l) (phase_turn h 0 s (publishing done l) (Some (steps.Len e)))
-len_fine h s l done e x inside at =
+pub len_fine : (q : ℕ) (h : Header1) (s : Scene) (l : Lane) (done e : ℕ) → IsUnderWay q h s l done → e < length l.batch → done ≡ 2 * e + 1 → Fine q h s (publishing done l) (phase_turn h q s (publishing done l) (Some (steps.Len e)))
+len_fine q h s l done e x inside at =
     let k : ℕ = slice_index l.batch e in
     let held : is_among l.batch k ≡ true = among_at l.batch e inside in
-    let len : ℕ = len_of h (asked s.past 0 k) in
-    let is_len = len_is h (asked s.past 0 k) x.back (batch_wide h s l done k x held) in
+    let len : ℕ = len_of h (asked s.past q k) in
+    let is_len = len_is h (asked s.past q k) x.back (batch_wide q h s l done k x held) in
     let fits : len < 256 ^ 4 = subst (λ (y : ℕ). y < 256 ^ 4) (sym is_len.0) is_len.1 in
-    let P : ℕ = h.base + length (published s.past 0) in
-    let next : IsNextElement h s (publishing done l) done e = record { good = x.good; back = x.back; holds = x.holds; phase = refl; inside = inside } in
-    let holds = len_holds h s (publishing done l) done e len next at is_len.0 fits in
-    let whole : Fine h s (publishing done l) (len_turn h l done (Some (element_of h 0 s k)) (entry_of (the_ring h.size) (P + e)) true) = record {
-      each = (inr (holds_track h (stored_at (used_len_place (the_ring h.size) (P + e)) (little_bytes 4 len) s) (one_on done l) x.good holds), tt);
+    let P : ℕ = h.base + length (published s.past q) in
+    let next : IsNextElement q h s (publishing done l) done e = record { good = x.good; back = x.back; holds = x.holds; phase = refl; inside = inside } in
+    let holds = len_holds q h s (publishing done l) done e len next at is_len.0 fits in
+    let whole : Fine q h s (publishing done l) (len_turn q h l done (Some (element_of h q s k)) (entry_of (the_ring q h.size) (P + e)) true) = record {
+      each = (inr (holds_track q h (stored_at (used_len_place (the_ring q h.size) (P + e)) (little_bytes 4 len) s) (one_on done l) x.good holds), tt);
       holds = holds;
       legal = tt;
       runs = x.started;
       collects = refl;
       falls = omega arith;
     } in
-    let one : Fine h s (publishing done l) (len_turn h l done (slice_get (map (element_of h 0 s) l.batch) e) (entry_of (the_ring h.size) (P + e)) true) =
-    subst (λ (o : Option (ℕ × ℕ)). Fine h s (publishing done l) (len_turn h l done o (entry_of (the_ring h.size) (P + e)) true)) (sym (get_map (element_of h 0 s) l.batch e inside)) whole in
-    let two : Fine h s (publishing done l) (len_turn h l done (slice_get (map (element_of h 0 s) l.batch) e) (entry_of (the_ring h.size) (used_idx (the_ring h.size) s.memory + e)) true) =
-    subst (λ (y : ℕ). Fine h s (publishing done l) (len_turn h l done (slice_get (map (element_of h 0 s) l.batch) e) y true)) (sym (element_place h.size h.base s.past (s.heads 0) s.memory e x.holds.ringed)) one in
-    subst (λ (b : Bool). Fine h s (publishing done l) (len_turn h l done (slice_get (map (element_of h 0 s) l.batch) e) (entry_of (the_ring h.size) (used_idx (the_ring h.size) s.memory + e)) b)) (sym (more_left (length l.batch) done (omega arith))) two
+    let one : Fine q h s (publishing done l) (len_turn q h l done (slice_get (map (element_of h q s) l.batch) e) (entry_of (the_ring q h.size) (P + e)) true) =
+    subst (λ (o : Option (ℕ × ℕ)). Fine q h s (publishing done l) (len_turn q h l done o (entry_of (the_ring q h.size) (P + e)) true)) (sym (get_map (element_of h q s) l.batch e inside)) whole in
+    let two : Fine q h s (publishing done l) (len_turn q h l done (slice_get (map (element_of h q s) l.batch) e) (entry_of (the_ring q h.size) (used_idx (the_ring q h.size) s.memory + e)) true) =
+    subst (λ (y : ℕ). Fine q h s (publishing done l) (len_turn q h l done (slice_get (map (element_of h q s) l.batch) e) y true)) (sym (element_place q h.size h.base s.past (s.heads q) s.memory e x.holds.ringed)) one in
+    subst (λ (b : Bool). Fine q h s (publishing done l) (len_turn q h l done (slice_get (map (element_of h q s) l.batch) e) (entry_of (the_ring q h.size) (used_idx (the_ring q h.size) s.memory + e)) b)) (sym (more_left (length l.batch) done (omega arith))) two
 
 -- ---- the answers
 
-pub numbers_answers : (s : Scene) (xs : List ℕ) → numbers (map (answer_at 0 s) xs) ≡ xs
-numbers_answers s [] = refl
-numbers_answers s (x ∷ xs) = ap (λ ks. x ∷ ks) (numbers_answers s xs)
+pub numbers_answers : (q : ℕ) (s : Scene) (xs : List ℕ) → numbers (map (answer_at q s) xs) ≡ xs
+numbers_answers q s [] = refl
+numbers_answers q s (x ∷ xs) = ap (λ ks. x ∷ ks) (numbers_answers q s xs)
 
 pub all_map : (P : Answered → Type 0) (f : ℕ → Answered) (xs : List ℕ) → ((k : ℕ) → is_among xs k ≡ true → P (f k)) → All P (map f xs)
 all_map P f [] each i d l = absurd (omega arith)
@@ -151,74 +151,74 @@ read_stands m p n read long each =
     ext_get_or 0 (bytes_from n m 0 p) read (omega (arith, wide, long)) (λ i low. let within : i < n = omega (arith, wide, low) in get_or-bytes_from n m 0 p i within ∙ each i within)
 
 -- a request of the batch, with what stands in its buffer
-record IsShown (h : Header1) (past : List Entry) (heads : List ℕ) (m : Bytes) (batch completed : List ℕ) (made : ℕ → ℕ) (phase : Phase) (k : ℕ) (r : Asked) : Type 0 where
-  pub worked : Worked past phase batch completed made
-  pub stored : Stored past heads m batch completed made
+record IsShown (q : ℕ) (h : Header1) (past : List Entry) (heads : List ℕ) (m : Bytes) (batch completed : List ℕ) (made : ℕ → ℕ) (phase : Phase) (k : ℕ) (r : Asked) : Type 0 where
+  pub worked : Worked q past phase batch completed made
+  pub stored : Stored q past heads m batch completed made
   pub held : is_among (completed ++ batch) k ≡ true
-  pub is : asked past 0 k ≡ Some r
+  pub is : asked past q k ≡ Some r
   pub wide : IsWide h.capacity (Some r)
 
 -- the bytes of its answer
-abbrev answer_bytes : List Entry → List ℕ → Bytes → ℕ → List ℕ
-answer_bytes past heads m k = bytes_from (answer_len (m 0 (status_place (buffer heads k))) (asked past 0 k)) m 0 (sectors_place (buffer heads k))
+abbrev answer_bytes : ℕ → List Entry → List ℕ → Bytes → ℕ → List ℕ
+answer_bytes q past heads m k = bytes_from (answer_len (m 0 (status_place (buffer q heads k))) (asked past q k)) m 0 (sectors_place (buffer q heads k))
 
-answer_bytes_are : (h : Header1) (past : List Entry) (heads : List ℕ) (m : Bytes) (batch completed : List ℕ) (made : ℕ → ℕ) (phase : Phase) (k : ℕ) (r : Asked) → IsShown h past heads m batch completed made phase k r → answer_bytes past heads m k ≡ bytes_from (answer_len 0 (Some r)) m 0 (sectors_place (buffer heads k))
-answer_bytes_are h past heads m batch completed made phase k r x =
-    ap (λ (c : ℕ). bytes_from (answer_len c (asked past 0 k)) m 0 (sectors_place (buffer heads k))) (x.stored.status k x.held) ∙ ap (λ (o : Option Asked). bytes_from (answer_len 0 o) m 0 (sectors_place (buffer heads k))) x.is
+answer_bytes_are : (q : ℕ) (h : Header1) (past : List Entry) (heads : List ℕ) (m : Bytes) (batch completed : List ℕ) (made : ℕ → ℕ) (phase : Phase) (k : ℕ) (r : Asked) → IsShown q h past heads m batch completed made phase k r → answer_bytes q past heads m k ≡ bytes_from (answer_len 0 (Some r)) m 0 (sectors_place (buffer q heads k))
+answer_bytes_are q h past heads m batch completed made phase k r x =
+    ap (λ (c : ℕ). bytes_from (answer_len c (asked past q k)) m 0 (sectors_place (buffer q heads k))) (x.stored.status k x.held) ∙ ap (λ (o : Option Asked). bytes_from (answer_len 0 o) m 0 (sectors_place (buffer q heads k))) x.is
 
-read_answer : (h : Header1) (past : List Entry) (heads : List ℕ) (m : Bytes) (batch completed : List ℕ) (made : ℕ → ℕ) (phase : Phase) (k sector c : ℕ) → IsShown h past heads m batch completed made phase k (asks.Read sector c) → IsDone h.mode past 0 k (asks.Read sector c) (answer_bytes past heads m k)
-read_answer h past heads m batch completed made phase k sector c x =
-    let is_open : IsOpen past 0 k = x.worked.opens k x.held in
+read_answer : (q : ℕ) (h : Header1) (past : List Entry) (heads : List ℕ) (m : Bytes) (batch completed : List ℕ) (made : ℕ → ℕ) (phase : Phase) (k sector c : ℕ) → IsShown q h past heads m batch completed made phase k (asks.Read sector c) → IsDone h.mode past q k (asks.Read sector c) (answer_bytes q past heads m k)
+read_answer q h past heads m batch completed made phase k sector c x =
+    let is_open : IsOpen past q k = x.worked.opens k x.held in
     let enough : 2 * c ≤ made k = subst (λ (o : Option Asked). IsFull (made k) o) x.is (x.worked.full k x.held) in
-    let to : IsReadTo c (made k) (looks past 0 k) (bytes_read past 0 k) = read_to sector c (made k) (looks past 0 k) (acts past 0 k) (bytes_read past 0 k) (synced past 0 k) (asked past 0 k) x.is (x.worked.progress k) in
-    let looked : looks past 0 k ≡ c = to.whole enough in
-    let long : length (bytes_read past 0 k) ≡ 512 * c = omega (arith, to.long, looked) in
+    let to : IsReadTo c (made k) (looks past q k) (bytes_read past q k) = read_to sector c (made k) (looks past q k) (acts past q k) (bytes_read past q k) (synced past q k) (asked past q k) x.is (x.worked.progress k) in
+    let looked : looks past q k ≡ c = to.whole enough in
+    let long : length (bytes_read past q k) ≡ 512 * c = omega (arith, to.long, looked) in
     let few : c ≤ 8 = x.wide.few in
-    let read : IsRead (asked past 0 k) = subst (λ (o : Option Asked). IsRead o) (sym x.is) tt in (
+    let read : IsRead (asked past q k) = subst (λ (o : Option Asked). IsRead o) (sym x.is) tt in (
       ap (look_at (asks.Read sector c)) looked ∙ looks_end sector c,
-      answer_bytes_are h past heads m batch completed made phase k (asks.Read sector c) x
-          ∙ read_stands m (sectors_place (buffer heads k)) (512 * c) (bytes_read past 0 k) long (λ i low. x.stored.sectors k i is_open (record { small = omega (arith, low, few); put = omega (arith, low, enough); looked = omega (arith, low, long) }) read),
+      answer_bytes_are q h past heads m batch completed made phase k (asks.Read sector c) x
+          ∙ read_stands m (sectors_place (buffer q heads k)) (512 * c) (bytes_read past q k) long (λ i low. x.stored.sectors k i is_open (record { small = omega (arith, low, few); put = omega (arith, low, enough); looked = omega (arith, low, long) }) read),
     )
 
-write_answer : (h : Header1) (past : List Entry) (heads : List ℕ) (m : Bytes) (batch completed : List ℕ) (made : ℕ → ℕ) (phase : Phase) (k sector : ℕ) (bytes : List ℕ) → h.mode ≡ Back → IsShown h past heads m batch completed made phase k (asks.Write sector bytes)
-    → IsDone h.mode past 0 k (asks.Write sector bytes) (answer_bytes past heads m k)
-write_answer h past heads m batch completed made phase k sector bytes back x =
+write_answer : (q : ℕ) (h : Header1) (past : List Entry) (heads : List ℕ) (m : Bytes) (batch completed : List ℕ) (made : ℕ → ℕ) (phase : Phase) (k sector : ℕ) (bytes : List ℕ) → h.mode ≡ Back → IsShown q h past heads m batch completed made phase k (asks.Write sector bytes)
+    → IsDone h.mode past q k (asks.Write sector bytes) (answer_bytes q past heads m k)
+write_answer q h past heads m batch completed made phase k sector bytes back x =
     let enough : length bytes / 512 ≤ made k = subst (λ (o : Option Asked). IsFull (made k) o) x.is (x.worked.full k x.held) in
-    let to : IsWrittenTo (length bytes / 512) (made k) (acts past 0 k) = written_to sector (made k) (looks past 0 k) (acts past 0 k) bytes (bytes_read past 0 k) (synced past 0 k) (asked past 0 k) x.is (x.worked.progress k) in (
+    let to : IsWrittenTo (length bytes / 512) (made k) (acts past q k) = written_to sector (made k) (looks past q k) (acts past q k) bytes (bytes_read past q k) (synced past q k) (asked past q k) x.is (x.worked.progress k) in (
       ap (effect_at (asks.Write sector bytes)) (to.whole enough) ∙ effects_end sector bytes,
       (λ through. absurd (let fails : Back ≡ Through = sym back ∙ through in cc)),
-      answer_bytes_are h past heads m batch completed made phase k (asks.Write sector bytes) x,
+      answer_bytes_are q h past heads m batch completed made phase k (asks.Write sector bytes) x,
     )
 
-flush_answer : (h : Header1) (past : List Entry) (heads : List ℕ) (m : Bytes) (batch completed : List ℕ) (made : ℕ → ℕ) (phase : Phase) (k : ℕ) → IsShown h past heads m batch completed made phase k asks.Flush → IsDone h.mode past 0 k asks.Flush (answer_bytes past heads m k)
-flush_answer h past heads m batch completed made phase k x =
+flush_answer : (q : ℕ) (h : Header1) (past : List Entry) (heads : List ℕ) (m : Bytes) (batch completed : List ℕ) (made : ℕ → ℕ) (phase : Phase) (k : ℕ) → IsShown q h past heads m batch completed made phase k asks.Flush → IsDone h.mode past q k asks.Flush (answer_bytes q past heads m k)
+flush_answer q h past heads m batch completed made phase k x =
     let enough : 1 ≤ made k = subst (λ (o : Option Asked). IsFull (made k) o) x.is (x.worked.full k x.held) in (
-      flushed_to (made k) (looks past 0 k) (acts past 0 k) (bytes_read past 0 k) (synced past 0 k) (asked past 0 k) x.is enough (x.worked.progress k),
-      answer_bytes_are h past heads m batch completed made phase k asks.Flush x,
+      flushed_to (made k) (looks past q k) (acts past q k) (bytes_read past q k) (synced past q k) (asked past q k) x.is enough (x.worked.progress k),
+      answer_bytes_are q h past heads m batch completed made phase k asks.Flush x,
     )
 
-done_right : (h : Header1) (past : List Entry) (heads : List ℕ) (m : Bytes) (batch completed : List ℕ) (made : ℕ → ℕ) (phase : Phase) (k : ℕ) (r : Asked) → h.mode ≡ Back → IsShown h past heads m batch completed made phase k r → IsDone h.mode past 0 k r (answer_bytes past heads m k)
-done_right h past heads m batch completed made phase k (asks.Read sector c) back x = read_answer h past heads m batch completed made phase k sector c x
-done_right h past heads m batch completed made phase k (asks.Write sector bytes) back x = write_answer h past heads m batch completed made phase k sector bytes back x
-done_right h past heads m batch completed made phase k asks.Flush back x = flush_answer h past heads m batch completed made phase k x
-done_right h past heads m batch completed made phase k asks.Id back x = absurd x.wide
-done_right h past heads m batch completed made phase k (asks.Discard parts) back x = absurd x.wide
-done_right h past heads m batch completed made phase k (asks.Zero parts) back x = absurd x.wide
+done_right : (q : ℕ) (h : Header1) (past : List Entry) (heads : List ℕ) (m : Bytes) (batch completed : List ℕ) (made : ℕ → ℕ) (phase : Phase) (k : ℕ) (r : Asked) → h.mode ≡ Back → IsShown q h past heads m batch completed made phase k r → IsDone h.mode past q k r (answer_bytes q past heads m k)
+done_right q h past heads m batch completed made phase k (asks.Read sector c) back x = read_answer q h past heads m batch completed made phase k sector c x
+done_right q h past heads m batch completed made phase k (asks.Write sector bytes) back x = write_answer q h past heads m batch completed made phase k sector bytes back x
+done_right q h past heads m batch completed made phase k asks.Flush back x = flush_answer q h past heads m batch completed made phase k x
+done_right q h past heads m batch completed made phase k asks.Id back x = absurd x.wide
+done_right q h past heads m batch completed made phase k (asks.Discard parts) back x = absurd x.wide
+done_right q h past heads m batch completed made phase k (asks.Zero parts) back x = absurd x.wide
 
 -- each request of the batch was done, and its answer says so
-pub answer_right : (h : Header1) (s : Scene) (l : Lane) (done : ℕ) (m : Bytes) (k : ℕ) → IsUnderWay h s l done → Stored s.past (s.heads 0) m l.batch l.completed l.made → is_among l.batch k ≡ true → IsAnswer h.capacity h.mode s.past 0 (answer_at 0 (record s { memory = m }) k)
-answer_right h s l done m k x st held =
-    let among = in_batch h s l done k x held in
-    let status : m 0 (status_place (buffer (s.heads 0) k)) ≡ 0 = st.status k among in
-    let wide : IsWide h.capacity (asked s.past 0 k) = batch_wide h s l done k x held in
-    let asks_it = wide_some h.capacity (asked s.past 0 k) wide in
+pub answer_right : (q : ℕ) (h : Header1) (s : Scene) (l : Lane) (done : ℕ) (m : Bytes) (k : ℕ) → IsUnderWay q h s l done → Stored q s.past (s.heads q) m l.batch l.completed l.made → is_among l.batch k ≡ true → IsAnswer h.capacity h.mode s.past q (answer_at q (record s { memory = m }) k)
+answer_right q h s l done m k x st held =
+    let among = in_batch q h s l done k x held in
+    let status : m 0 (status_place (buffer q (s.heads q) k)) ≡ 0 = st.status k among in
+    let wide : IsWide h.capacity (asked s.past q k) = batch_wide q h s l done k x held in
+    let asks_it = wide_some h.capacity (asked s.past q k) wide in
     let is_wide : IsWide h.capacity (Some asks_it.0) = subst (λ (o : Option Asked). IsWide h.capacity o) asks_it.1 wide in
-    let shown : IsShown h s.past (s.heads 0) m l.batch l.completed l.made (phases.Publish done) k asks_it.0 = record { worked = x.holds.worked; stored = st; held = among; is = asks_it.1; wide = is_wide } in
+    let shown : IsShown q h s.past (s.heads q) m l.batch l.completed l.made (phases.Publish done) k asks_it.0 = record { worked = x.holds.worked; stored = st; held = among; is = asks_it.1; wide = is_wide } in
     record {
       request = asks_it.0;
       offered = asks_it.1;
       known = omega arith;
-      success = λ is_zero. record { served = wide_served h asks_it.0 x.back is_wide; unfaulted = x.holds.known.unfaulted k; done = done_right h s.past (s.heads 0) m l.batch l.completed l.made (phases.Publish done) k asks_it.0 x.back shown };
+      success = λ is_zero. record { served = wide_served h asks_it.0 x.back is_wide; unfaulted = x.holds.known.unfaulted k; done = done_right q h s.past (s.heads q) m l.batch l.completed l.made (phases.Publish done) k asks_it.0 x.back shown };
       failure = λ is_one. absurd (omega arith);
       unsupported = λ is_two. absurd (omega arith);
     }

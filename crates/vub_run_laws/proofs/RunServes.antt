@@ -1,5 +1,5 @@
 -- Each drain of an attached queue in a run serves it.
-use Rattle.std.proofs.Common.{◌≡◌, ℕ, Bool, true, false, not, List, [], ◌∷◌, ◌++◌, refl, ap, sym, ◌∙◌, subst, inl, inr}
+use Rattle.std.proofs.Common.{◌≡◌, ◌<◌, ℕ, Bool, true, false, not, List, [], ◌∷◌, ◌++◌, refl, ap, sym, ◌∙◌, subst, inl, inr, arith}
 use Rattle.std.specs.Prelude.{Option, Some, None, is_some, ◌&&◌}
 use Rattle.std.specs.List.{AllByRecursion}
 use Rattle.vub_base.specs.declared.header.Header1.{Header1}
@@ -14,44 +14,46 @@ use Rattle.vub_schedule.specs.Spelling.{IsHeader, IsEvent}
 use Rattle.vub_report.specs.declared.items.Item.{Item}
 use Rattle.vub_report.specs.declared.items.Record.{Record}
 use Rattle.vub_run.specs.LegalRuns.{past_of, attached_after, attached_from, IsServed, EveryDrainServes, IsLegalRun}
-use Rattle.vub_run.specs.Moments.{Moment, opening, fresh}
+use Rattle.vub_run.specs.Moments.{Lane, Moment, opening, fresh}
 use Rattle.vub_run.specs.Run.{Played, played, if_ready, ask, guest, guest_stores, take_first, collect, one_turn, is_due, turns as many_turns, single, up_to, any_choice, drain_choice, Drains, Plays, RunFrom, RunTo, Stands}
+use Rattle.vub_run_laws.proofs.RunOwn.{at_own}
 use Rattle.vub_run_laws.proofs.RunEntries.{run_enters}
 use Rattle.vub_run_laws.proofs.RunTurns.{IsPlain, Good}
 use Rattle.vub_run_laws.proofs.RunDrains.{turned_stays, turns_stay}
 use Rattle.vub_run_laws.proofs.Runs.{plain_header}
+use Rattle.vub_run_laws.proofs.RunQueues.{IsOn, on_one}
 use Rattle.vub_run_laws.proofs.RunsLegal.{IsHeld, opening_held, held_next}
 use Rattle.vub_run_laws.proofs.RunsTo.{run_of, stands_more, stands_past, stands_true, stands_drained}
 
 -- ---- what records say of attached queues
 
-abbrev is_on : Moment → Bool
-is_on m = (m.lanes 0).attached
+abbrev is_on : ℕ → Moment → Bool
+is_on q m = (m.lanes q).attached
 
-abbrev Stays : Moment → Moment → Type 0
-Stays m n = is_on n ≡ is_on m
+abbrev Stays : ℕ → Moment → Moment → Type 0
+Stays q m n = is_on q n ≡ is_on q m
 
-tested : (ready : Bool) (p : Played) (m : Moment) → Stays m p.next → Stays m (if_ready ready p m).next
-tested true p m stays = stays
-tested false p m stays = refl
+tested : (q : ℕ) (ready : Bool) (p : Played) (m : Moment) → Stays q m p.next → Stays q m (if_ready ready p m).next
+tested q true p m stays = stays
+tested q false p m stays = refl
 
-made_stays : (m : Moment) (is : List Item) (next : Moment) (p : Played) → played is next ≡ p → Stays m p.next → Stays m next
-made_stays m is next p e stays = subst (λ (x : Played). Stays m x.next) (sym e) stays
+made_stays : (q : ℕ) (m : Moment) (is : List Item) (next : Moment) (p : Played) → played is next ≡ p → Stays q m p.next → Stays q m next
+made_stays q m is next p e stays = subst (λ (x : Played). Stays q m x.next) (sym e) stays
 
-stores_stay : (h : Header1) (m : Moment) (count : ℕ) (o : Option Waiting) → Stays m (guest_stores h 0 count o m).next
-stores_stay h m count None = refl
-stores_stay h m count (Some w) = refl
+stores_stay : (q : ℕ) (h : Header1) (m : Moment) (count : ℕ) (o : Option Waiting) → Stays q m (guest_stores h q count o m).next
+stores_stay q h m count None = refl
+stores_stay q h m count (Some w) = ap (λ (l : Lane). l.attached) (at_own m.lanes q _)
 
-taken_stays : (h : Header1) (m : Moment) (xs : List (ℕ × ℕ)) → Stays m (take_first h 0 xs m).next
-taken_stays h m [] = refl
-taken_stays h m (x ∷ xs) = refl
+taken_stays : (q : ℕ) (h : Header1) (m : Moment) (xs : List (ℕ × ℕ)) → Stays q m (take_first h q xs m).next
+taken_stays q h m [] = refl
+taken_stays q h m (x ∷ xs) = ap (λ (l : Lane). l.attached) (at_own m.lanes q _)
 
-single_stays : (h : Header1) (m : Moment) (t : Turn) → Stays m (single h 0 t m).next
-single_stays h m t = tested (is_due h 0 t m) (one_turn h 0 t m) m (turned_stays h t m)
+single_stays : (q : ℕ) (h : Header1) (m : Moment) (t : Turn) → Stays q m (single h q t m).next
+single_stays q h m t = tested q (is_due h q t m) (one_turn h q t m) m (ap (λ (l : Lane). l.attached) (at_own m.lanes q _) ∙ turned_stays q h t m)
 
-drain_stays : (h : Header1) (m : Moment) (choose : Moment → Turn) (is : List Item) (next : Moment) → IsPlain h → Good h m → Drains h 0 m choose is next → Stays m next
-drain_stays h m choose is next plain good (inl none) = ap (λ (p : Played). is_on p.next) none.1
-drain_stays h m choose is next plain good (inr some) = made_stays m is next (many_turns some.1.count choose h 0 m) some.1.made (turns_stay some.1.count choose h m plain good).0
+drain_stays : (q : ℕ) (h : Header1) (m : Moment) (choose : Moment → Turn) (is : List Item) (next : Moment) → IsPlain h → Good q h m → Drains h q m choose is next → Stays q m next
+drain_stays q h m choose is next plain good (inl none) = ap (λ (p : Played). is_on q p.next) none.1
+drain_stays q h m choose is next plain good (inr some) = made_stays q m is next (many_turns some.1.count choose h q m) some.1.made (turns_stay q some.1.count choose h m plain good).0
 
 -- items and moment of an event that has a test are these
 tested_is : (P : List Item → Moment → Type 0) (test : Bool) (p : Played) (m : Moment) (is : List Item) (next : Moment) → played is next ≡ if_ready test p m → P p.items p.next → P (if_ready false p m).items m → P is next
@@ -59,50 +61,50 @@ tested_is P true p m is next e ready idle = subst (λ (x : Played). P x.items x.
 tested_is P false p m is next e ready idle = subst (λ (x : Played). P x.items x.next) (sym e) idle
 
 -- after an event
-event_attaches : (h : Header1) (m : Moment) (e : Event) (is : List Item) (next : Moment) → IsPlain h → Good h m → IsEvent h e → Plays h m e is next → is_on next ≡ attached_after e is (is_on m)
-event_attaches h m (events.Ask q shape a) is next plain good fits plays =
-    let here : Plays h m (events.Ask 0 shape a) is next = subst (λ (p : ℕ). Plays h m (events.Ask p shape a) is next) fits.0 plays in
-    made_stays m is next (ask h 0 shape a m) here (tested (can_take h.size shape a (m.lanes 0).driver) _ m refl)
-event_attaches h m (events.Guest q k) is next plain good fits plays =
-    let here : Plays h m (events.Guest 0 k) is next = subst (λ (p : ℕ). Plays h m (events.Guest p k) is next) fits.0 plays in
-    made_stays m is next (guest h 0 k m) here (tested (is_some (m.lanes 0).driver.waiting) _ m (stores_stay h m k (m.lanes 0).driver.waiting))
-event_attaches h m (events.Collect q) is next plain good fits plays =
-    let here : Plays h m (events.Collect 0) is next = subst (λ (p : ℕ). Plays h m (events.Collect p) is next) fits plays in
-    made_stays m is next (collect h 0 m) here (taken_stays h m _)
-event_attaches h m events.Boot is next plain good fits plays =
-    tested_is (λ js n. is_on n ≡ attached_after events.Boot js (is_on m)) (not m.lives) (played [] (record m { lives = true; joined = false; lanes = λ q. fresh (m.lanes q) })) m is next plays refl refl
-event_attaches h m events.Join is next plain good fits plays =
-    tested_is (λ js n. is_on n ≡ attached_after events.Join js (is_on m)) (m.lives && not m.joined) (played [] (record m { joined = true; lanes = λ q. record (m.lanes q) { attached = true } })) m is next plays refl refl
-event_attaches h m (events.Start q) is next plain good fits plays =
-    let here : Plays h m (events.Start 0) is next = subst (λ (p : ℕ). Plays h m (events.Start p) is next) fits plays in
-    made_stays m is next (single h 0 turns.Start m) here (single_stays h m turns.Start)
-event_attaches h m (events.Fetch q) is next plain good fits plays =
-    let here : Plays h m (events.Fetch 0) is next = subst (λ (p : ℕ). Plays h m (events.Fetch p) is next) fits plays in
-    made_stays m is next (single h 0 turns.Fetch m) here (single_stays h m turns.Fetch)
-event_attaches h m (events.Work q place) is next plain good fits plays =
-    let here : Plays h m (events.Work 0 place) is next = subst (λ (p : ℕ). Plays h m (events.Work p place) is next) fits.0 plays in
-    made_stays m is next (single h 0 (turns.Work place) m) here (single_stays h m (turns.Work place))
-event_attaches h m (events.Publish q most) is next plain good fits plays =
-    let here : Plays h m (events.Publish 0 most) is next = subst (λ (p : ℕ). Plays h m (events.Publish p most) is next) fits.0 plays in
-    made_stays m is next (single h 0 (turns.Publish most) m) here (single_stays h m (turns.Publish most))
-event_attaches h m (events.Turn q count) is next plain good fits plays =
-    let here : Plays h m (events.Turn 0 count) is next = subst (λ (p : ℕ). Plays h m (events.Turn p count) is next) fits.0 plays in
-    made_stays m is next (up_to count (any_choice h 0) h 0 m) here
-    (tested (is_due h 0 (any_choice h 0 m) m) (many_turns count (any_choice h 0) h 0 m) m (turns_stay count (any_choice h 0) h m plain good).0)
-event_attaches h m (events.Drain q) is next plain good fits plays =
-    let here : Plays h m (events.Drain 0) is next = subst (λ (p : ℕ). Plays h m (events.Drain p) is next) fits plays in
-    drain_stays h m (drain_choice h 0 (accepted m.scene.past 0)) is next plain good here
+event_attaches : (q : ℕ) (h : Header1) (m : Moment) (e : Event) (is : List Item) (next : Moment) → IsPlain h → Good q h m → IsOn q e → IsEvent h e → Plays h m e is next → is_on q next ≡ attached_after e is (is_on q m)
+event_attaches q h m (events.Ask p shape a) is next plain good on fits plays =
+    let here : Plays h m (events.Ask q shape a) is next = subst (λ (p : ℕ). Plays h m (events.Ask p shape a) is next) on plays in
+    made_stays q m is next (ask h q shape a m) here (tested q (can_take h.size shape a (m.lanes q).driver) _ m (ap (λ (l : Lane). l.attached) (at_own m.lanes q _)))
+event_attaches q h m (events.Guest p k) is next plain good on fits plays =
+    let here : Plays h m (events.Guest q k) is next = subst (λ (p : ℕ). Plays h m (events.Guest p k) is next) on plays in
+    made_stays q m is next (guest h q k m) here (tested q (is_some (m.lanes q).driver.waiting) _ m (stores_stay q h m k (m.lanes q).driver.waiting))
+event_attaches q h m (events.Collect p) is next plain good on fits plays =
+    let here : Plays h m (events.Collect q) is next = subst (λ (p : ℕ). Plays h m (events.Collect p) is next) on plays in
+    made_stays q m is next (collect h q m) here (taken_stays q h m _)
+event_attaches q h m events.Boot is next plain good on fits plays =
+    tested_is (λ js n. is_on q n ≡ attached_after events.Boot js (is_on q m)) (not m.lives) (played [] (record m { lives = true; joined = false; lanes = λ q. fresh (m.lanes q) })) m is next plays refl refl
+event_attaches q h m events.Join is next plain good on fits plays =
+    tested_is (λ js n. is_on q n ≡ attached_after events.Join js (is_on q m)) (m.lives && not m.joined) (played [] (record m { joined = true; lanes = λ q. record (m.lanes q) { attached = true } })) m is next plays refl refl
+event_attaches q h m (events.Start p) is next plain good on fits plays =
+    let here : Plays h m (events.Start q) is next = subst (λ (p : ℕ). Plays h m (events.Start p) is next) on plays in
+    made_stays q m is next (single h q turns.Start m) here (single_stays q h m turns.Start)
+event_attaches q h m (events.Fetch p) is next plain good on fits plays =
+    let here : Plays h m (events.Fetch q) is next = subst (λ (p : ℕ). Plays h m (events.Fetch p) is next) on plays in
+    made_stays q m is next (single h q turns.Fetch m) here (single_stays q h m turns.Fetch)
+event_attaches q h m (events.Work p place) is next plain good on fits plays =
+    let here : Plays h m (events.Work q place) is next = subst (λ (p : ℕ). Plays h m (events.Work p place) is next) on plays in
+    made_stays q m is next (single h q (turns.Work place) m) here (single_stays q h m (turns.Work place))
+event_attaches q h m (events.Publish p most) is next plain good on fits plays =
+    let here : Plays h m (events.Publish q most) is next = subst (λ (p : ℕ). Plays h m (events.Publish p most) is next) on plays in
+    made_stays q m is next (single h q (turns.Publish most) m) here (single_stays q h m (turns.Publish most))
+event_attaches q h m (events.Turn p count) is next plain good on fits plays =
+    let here : Plays h m (events.Turn q count) is next = subst (λ (p : ℕ). Plays h m (events.Turn p count) is next) on plays in
+    made_stays q m is next (up_to count (any_choice h q) h q m) here
+    (tested q (is_due h q (any_choice h q m) m) (many_turns count (any_choice h q) h q m) m (turns_stay q count (any_choice h q) h m plain good).0)
+event_attaches q h m (events.Drain p) is next plain good on fits plays =
+    let here : Plays h m (events.Drain q) is next = subst (λ (p : ℕ). Plays h m (events.Drain p) is next) on plays in
+    drain_stays q h m (drain_choice h q (accepted m.scene.past q)) is next plain good here
 
 -- and after a run
-run_attaches : (h : Header1) (m : Moment) (es : List Event) (rs : List Record) (n : Moment) → IsHeader h → IsHeld h m → AllByRecursion (IsEvent h) es → RunTo h m es rs n → is_on n ≡ attached_from (is_on m) rs
-run_attaches h m [] [] n header held fits run = ap is_on run
-run_attaches h m [] (r ∷ rs) n header held fits run = absurd run
-run_attaches h m (e ∷ es) [] n header held fits run = absurd run
-run_attaches h m (e ∷ es) (r ∷ rs) n header held fits run =
+run_attaches : (q : ℕ) (h : Header1) (m : Moment) (es : List Event) (rs : List Record) (n : Moment) → IsHeader h → q < h.queues → IsHeld h m → AllByRecursion (IsEvent h) es → RunTo h m es rs n → is_on q n ≡ attached_from (is_on q m) rs
+run_attaches q h m [] [] n header low held fits run = ap (is_on q) run
+run_attaches q h m [] (r ∷ rs) n header low held fits run = absurd run
+run_attaches q h m (e ∷ es) [] n header low held fits run = absurd run
+run_attaches q h m (e ∷ es) (r ∷ rs) n header low held fits run =
     let next : Moment = run.1.0 in
-    let first : is_on next ≡ attached_after e r.items (is_on m) = event_attaches h m e r.items next (plain_header h header) held.0 fits.0 run.1.1 in
-    run_attaches h next es rs n header (held_next h m e r.items next header held fits.0 run.1.1) fits.1 run.1.2
-    ∙ ap (λ (b : Bool). attached_from b rs) (first ∙ ap (λ (x : Event). attached_after x r.items (is_on m)) (sym run.0))
+    let first : is_on q next ≡ attached_after e r.items (is_on q m) = event_attaches q h m e r.items next (plain_header h header) (held q low).good (on_one h q e header low fits.0) fits.0 run.1.1 in
+    run_attaches q h next es rs n header low (held_next h m e r.items next header held fits.0 run.1.1) fits.1 run.1.2
+    ∙ ap (λ (b : Bool). attached_from b rs) (first ∙ ap (λ (x : Event). attached_after x r.items (is_on q m)) (sym run.0))
 
 -- ---- a run is parted at a record
 
@@ -141,13 +143,13 @@ parted h m (e ∷ es) (x ∷ before) r later n fits run =
 
 -- ---- drains
 
-pub drain_serves : (h : Header1) (es : List Event) (rs : List Record) (m k : Moment) (r : Record) → Stands h es rs m → Stands h (es ++ events.Drain 0 ∷ []) (rs ++ r ∷ []) k → is_on m ≡ true → Plays h m (events.Drain 0) r.items k → IsServed 0 (rs ++ r ∷ [])
-drain_serves h es rs m k r stands next attached plays =
-    let both = stands_drained h es rs m k r.items stands attached plays in
-    let past : k.scene.past ≡ past_of (rs ++ r ∷ []) = stands_past h (es ++ events.Drain 0 ∷ []) (rs ++ r ∷ []) k next in
+pub drain_serves : (q : ℕ) (h : Header1) (es : List Event) (rs : List Record) (m k : Moment) (r : Record) → q < h.queues → Stands h es rs m → Stands h (es ++ events.Drain q ∷ []) (rs ++ r ∷ []) k → is_on q m ≡ true → Plays h m (events.Drain q) r.items k → IsServed q (rs ++ r ∷ [])
+drain_serves q h es rs m k r low stands next attached plays =
+    let both = stands_drained q h es rs m k r.items low stands attached plays in
+    let past : k.scene.past ≡ past_of (rs ++ r ∷ []) = stands_past h (es ++ events.Drain q ∷ []) (rs ++ r ∷ []) k next in
     record {
-      none_open = subst (λ (p : List Entry). open_numbers p 0 ≡ []) past both.0;
-      all_accepted = subst (λ (p : List Entry). accepted p 0 ≡ offers p 0) past both.1;
+      none_open = subst (λ (p : List Entry). open_numbers p q ≡ []) past both.0;
+      all_accepted = subst (λ (p : List Entry). accepted p q ≡ offers p q) past both.1;
     }
 
 stands_serves : (h : Header1) (es : List Event) (rs : List Record) (n : Moment) → Stands h es rs n → EveryDrainServes rs
@@ -155,12 +157,12 @@ stands_serves h es rs n s before r later q parts is attached =
     let run : RunTo h (opening h) es (before ++ r ∷ later) n = subst (λ (xs : List Record). RunTo h (opening h) es xs n) parts s.run in
     let p : PartedAt h (opening h) es before r = parted h (opening h) es before r later n s.events run in
     let stands : Stands h p.first before p.at = record { header = s.header; events = p.fits; run = p.upto } in
-    let first : q ≡ 0 = subst (λ (x : Event). IsEvent h x) is p.is_event in
-    let drains : r.event ≡ events.Drain 0 = is ∙ ap (λ (k : ℕ). events.Drain k) first in
-    let plays : Plays h p.at (events.Drain 0) r.items p.next = subst (λ (x : Event). Plays h p.at x r.items p.next) drains p.plays in
-    let next : Stands h (p.first ++ events.Drain 0 ∷ []) (before ++ r ∷ []) p.next = stands_more h p.first before p.at p.next (events.Drain 0) r stands refl drains plays in
-    let on : is_on p.at ≡ true = run_attaches h (opening h) p.first before p.at s.header (opening_held h s.header) p.fits p.upto ∙ attached in
-    subst (λ (k : ℕ). IsServed k (before ++ r ∷ [])) (sym first) (drain_serves h p.first before p.at p.next r stands next on plays)
+    let fits : IsEvent h (events.Drain q) = subst (λ (x : Event). IsEvent h x) is p.is_event in
+    let low : q < h.queues = omega (arith, fits, s.header.one) in
+    let plays : Plays h p.at (events.Drain q) r.items p.next = subst (λ (x : Event). Plays h p.at x r.items p.next) is p.plays in
+    let next : Stands h (p.first ++ events.Drain q ∷ []) (before ++ r ∷ []) p.next = stands_more h p.first before p.at p.next (events.Drain q) r stands fits is plays in
+    let on : is_on q p.at ≡ true = run_attaches q h (opening h) p.first before p.at s.header low (opening_held h s.header) p.fits p.upto ∙ attached in
+    drain_serves q h p.first before p.at p.next r low stands next on plays
 
 -- ---- all that is true of a run
 

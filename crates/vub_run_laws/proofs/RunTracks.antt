@@ -1,17 +1,19 @@
 -- What holds at a moment makes memory and history agree.
-use Rattle.std.proofs.Common.{◌≡◌, ◌≤◌, ◌<◌, ℕ, zero, suc, ◌+◌, ◌%◌, List, [], ◌∷◌, ◌++◌, length, drop, map, get_or, refl, ap, sym, ◌∙◌, subst, arith}
+use Rattle.std.proofs.Common.{◌≡◌, ◌≤◌, ◌<◌, ◌⊎◌, ℕ, zero, suc, ◌+◌, ◌%◌, List, [], ◌∷◌, ◌++◌, length, drop, map, get_or, refl, ap, sym, ◌∙◌, subst, inl, inr, arith}
 use Rattle.std.specs.Prelude.{slice_index}
 use Rattle.std.specs.List.{AllByRecursion}
 use Rattle.std.proofs.lemmas.List.{length-drop, get_or-drop, length-map}
 use Rattle.std.proofs.lemmas.Bool.Decides.{nat_tests}
+use Rattle.vub_report.specs.declared.items.Item.TheVariants as items
+use Rattle.vub_report.specs.declared.items.Item.{Item}
 use Rattle.vub_base.specs.declared.header.Header1.{Header1}
 use Rattle.vub_ring.specs.Ring.{head_at, element_at, ahead, avail_idx, used_idx, seen as seen_elements}
 use Rattle.vub_device.specs.declared.entry.Answered.{Answered}
 use Rattle.vub_device.specs.declared.entry.Entry.{Entry}
 use Rattle.vub_device.specs.declared.entry.Entry.TheVariants as entries
 use Rattle.vub_device.specs.Past.{asked, accepted, published, collected, numbers}
-use Rattle.vub_run.specs.Memory.{Scene}
-use Rattle.vub_run.specs.Tracking.{answers, answered_len, element, Tracks, EveryTracks}
+use Rattle.vub_run.specs.Memory.{after_item, Scene}
+use Rattle.vub_run.specs.Tracking.{GoesWithNext, AfterEach, answers, answered_len, element, Tracks, EveryTracks}
 use Rattle.vub_split.proofs.Rings.{heads_are, elements_are}
 use Rattle.vub_run_laws.proofs.RunGood.{the_ring, IsSize, Known, Ringed, spot}
 
@@ -48,11 +50,11 @@ good-drop (suc c) [] good = tt
 good-drop (suc c) (x ∷ xs) good = good-drop c xs good.1
 
 -- the elements of answers with status 0 are those of their numbers
-elements_of_good : (s : Scene) (xs : List Answered) → AllByRecursion (λ (a : Answered). a.status ≡ 0) xs → map (element 0 s) xs ≡ map (spot (s.heads 0) s.past) (numbers xs)
-elements_of_good s [] good = refl
-elements_of_good s (x ∷ xs) good =
-    let rest : map (element 0 s) xs ≡ map (spot (s.heads 0) s.past) (numbers xs) = elements_of_good s xs good.1 in
-    let first : element 0 s x ≡ spot (s.heads 0) s.past x.number = ap (λ (st : ℕ). (slice_index (s.heads 0) x.number, answered_len st (asked s.past 0 x.number))) good.0 in
+elements_of_good : (q : ℕ) (s : Scene) (xs : List Answered) → AllByRecursion (λ (a : Answered). a.status ≡ 0) xs → map (element q s) xs ≡ map (spot q (s.heads q) s.past) (numbers xs)
+elements_of_good q s [] good = refl
+elements_of_good q s (x ∷ xs) good =
+    let rest : map (element q s) xs ≡ map (spot q (s.heads q) s.past) (numbers xs) = elements_of_good q s xs good.1 in
+    let first : element q s x ≡ spot q (s.heads q) s.past x.number = ap (λ (st : ℕ). (slice_index (s.heads q) x.number, answered_len st (asked s.past q x.number))) good.0 in
     cc
 
 get_map : (f : ℕ → ℕ × ℕ) (xs : List ℕ) (i : ℕ) (d : ℕ × ℕ) → i < length xs → get_or (map f xs) i d ≡ f (slice_index xs i)
@@ -63,37 +65,73 @@ get_map f (x ∷ xs) (suc i) d l = get_map f xs i d (omega arith)
 pub ahead_by : (base a b : ℕ) → b ≤ a → a < b + 65536 → ahead ((base + a) % 65536) (base + b) + b ≡ a
 ahead_by base a b le near = omega arith
 
-pub tracks : (h : Header1) (s : Scene) → IsSize h.size → Known h.size h.capacity s.past (s.heads 0) → Ringed h.size h.base s.past (s.heads 0) s.memory → Tracks h 0 s
-tracks h s size known ringed =
-    let c : ℕ = collected s.past 0 in
-    let a : ℕ = accepted s.past 0 in
-    let ps : List ℕ = published s.past 0 in
+pub tracks : (q : ℕ) (h : Header1) (s : Scene) → IsSize h.size → Known q h.size h.capacity s.past (s.heads q) → Ringed q h.size h.base s.past (s.heads q) s.memory → Tracks h q s
+tracks q h s size known ringed =
+    let c : ℕ = collected s.past q in
+    let a : ℕ = accepted s.past q in
+    let ps : List ℕ = published s.past q in
     let small : h.size ≤ 64 = size.small in
-    let room : length (s.heads 0) ≤ h.size + c = known.room in
-    let in_order : a ≤ length (s.heads 0) = known.offered in
+    let room : length (s.heads q) ≤ h.size + c = known.room in
+    let in_order : a ≤ length (s.heads q) = known.offered in
     let fewer : length ps ≤ a = known.fewer in
     let shown : c ≤ length ps = known.shown in
-    let seen_far : ahead (used_idx (the_ring h.size) s.memory) (h.base + c) + c ≡ length ps = ap (λ (u : ℕ). ahead u (h.base + c) + c) ringed.used_idx_is ∙ ahead_by h.base (length ps) c shown (omega arith) in
-    let waits_far : ahead (avail_idx (the_ring h.size) s.memory) (h.base + a) + a ≡ length (s.heads 0) = ap (λ (u : ℕ). ahead u (h.base + a) + a) ringed.avail_idx_is ∙ ahead_by h.base (length (s.heads 0)) a in_order (omega arith) in
-    let left : drop c ps ≡ numbers (drop c (answers s.past 0)) = ap (drop c) (sym (numbers_published s.past 0)) ∙ sym (numbers-drop c (answers s.past 0)) in
-    let right : map (element 0 s) (drop c (answers s.past 0)) ≡ map (spot (s.heads 0) s.past) (drop c ps) =
-    elements_of_good s (drop c (answers s.past 0)) (good-drop c (answers s.past 0) known.good) ∙ ap (map (spot (s.heads 0) s.past)) (sym left) in
-    let many : length (map (spot (s.heads 0) s.past) (drop c ps)) ≡ ahead (used_idx (the_ring h.size) s.memory) (h.base + c) = omega (arith, length-map (drop c ps) (spot (s.heads 0) s.past), length-drop c ps, seen_far) in
-    let sees : seen_elements (the_ring h.size) s.memory (h.base + c) ≡ map (spot (s.heads 0) s.past) (drop c ps) =
-    elements_are (the_ring h.size) s.memory (ahead (used_idx (the_ring h.size) s.memory) (h.base + c)) (h.base + c) (map (spot (s.heads 0) s.past) (drop c ps)) many (λ i l.
+    let seen_far : ahead (used_idx (the_ring q h.size) s.memory) (h.base + c) + c ≡ length ps = ap (λ (u : ℕ). ahead u (h.base + c) + c) ringed.used_idx_is ∙ ahead_by h.base (length ps) c shown (omega arith) in
+    let waits_far : ahead (avail_idx (the_ring q h.size) s.memory) (h.base + a) + a ≡ length (s.heads q) = ap (λ (u : ℕ). ahead u (h.base + a) + a) ringed.avail_idx_is ∙ ahead_by h.base (length (s.heads q)) a in_order (omega arith) in
+    let left : drop c ps ≡ numbers (drop c (answers s.past q)) = ap (drop c) (sym (numbers_published s.past q)) ∙ sym (numbers-drop c (answers s.past q)) in
+    let right : map (element q s) (drop c (answers s.past q)) ≡ map (spot q (s.heads q) s.past) (drop c ps) =
+    elements_of_good q s (drop c (answers s.past q)) (good-drop c (answers s.past q) known.good) ∙ ap (map (spot q (s.heads q) s.past)) (sym left) in
+    let many : length (map (spot q (s.heads q) s.past) (drop c ps)) ≡ ahead (used_idx (the_ring q h.size) s.memory) (h.base + c) = omega (arith, length-map (drop c ps) (spot q (s.heads q) s.past), length-drop c ps, seen_far) in
+    let sees : seen_elements (the_ring q h.size) s.memory (h.base + c) ≡ map (spot q (s.heads q) s.past) (drop c ps) =
+    elements_are (the_ring q h.size) s.memory (ahead (used_idx (the_ring q h.size) s.memory) (h.base + c)) (h.base + c) (map (spot q (s.heads q) s.past) (drop c ps)) many (λ i l.
     let place : h.base + c + i ≡ h.base + (c + i) = omega arith in
     let within : c + i < length ps = omega arith in
     let inside : i < length (drop c ps) = omega (arith, length-drop c ps) in
     let named : slice_index (drop c ps) i ≡ slice_index ps (c + i) = get_or-drop c ps i 0 in
-    subst (λ (p : ℕ). element_at (the_ring h.size) s.memory p ≡ spot (s.heads 0) s.past (slice_index ps (c + i))) (sym place) (ringed.used_at (c + i) (omega arith) within)
-    ∙ ap (spot (s.heads 0) s.past) (sym named) ∙ sym (get_map (spot (s.heads 0) s.past) (drop c ps) i (0, 0) inside)) in
+    subst (λ (p : ℕ). element_at (the_ring q h.size) s.memory p ≡ spot q (s.heads q) s.past (slice_index ps (c + i))) (sym place) (ringed.used_at (c + i) (omega arith) within)
+    ∙ ap (spot q (s.heads q) s.past) (sym named) ∙ sym (get_map (spot q (s.heads q) s.past) (drop c ps) i (0, 0) inside)) in
     record {
       sees = sees ∙ sym right;
-      waits = heads_are (the_ring h.size) s.memory (ahead (avail_idx (the_ring h.size) s.memory) (h.base + a)) (h.base + a) (drop a (s.heads 0)) (omega (arith, length-drop a (s.heads 0), waits_far)) (λ i l.
+      waits = heads_are (the_ring q h.size) s.memory (ahead (avail_idx (the_ring q h.size) s.memory) (h.base + a)) (h.base + a) (drop a (s.heads q)) (omega (arith, length-drop a (s.heads q), waits_far)) (λ i l.
           let place : h.base + a + i ≡ h.base + (a + i) = omega arith in
-          let within : a + i < length (s.heads 0) = omega arith in
-          ap (head_at (the_ring h.size) s.memory) place ∙ ringed.avail_at (a + i) (omega arith) within ∙ sym (get_or-drop a (s.heads 0) i 0));
+          let within : a + i < length (s.heads q) = omega arith in
+          ap (head_at (the_ring q h.size) s.memory) place ∙ ringed.avail_at (a + i) (omega arith) within ∙ sym (get_or-drop a (s.heads q) i 0));
     }
 
-pub every_tracks : (h : Header1) (s : Scene) → h.queues ≡ 1 → Tracks h 0 s → EveryTracks h s
-every_tracks h s one t q l = let same : q ≡ 0 = omega arith in subst (λ (p : ℕ). Tracks h p s) (sym same) t
+-- ---- every queue
+
+-- whether an item counts as one with what follows
+goes : (i : Item) (is : List Item) → GoesWithNext i is ⊎ (GoesWithNext i is → ⊥)
+goes (items.Store tag area place bytes) [] = inr (λ x. x)
+goes (items.Store tag area place bytes) (items.Made e ∷ is) = of_entry e
+  where
+    of_entry : (e : Entry) → GoesWithNext (items.Store tag area place bytes) (items.Made e ∷ is) ⊎ (GoesWithNext (items.Store tag area place bytes) (items.Made e ∷ is) → ⊥)
+    of_entry (entries.Offer q request) = inl tt
+    of_entry (entries.Publish q list) = inl tt
+    of_entry (entries.Accept q k) = inr (λ x. x)
+    of_entry (entries.Look q k sector v) = inr (λ x. x)
+    of_entry (entries.Act q k sector v) = inr (λ x. x)
+    of_entry (entries.Sync q k) = inr (λ x. x)
+    of_entry (entries.Fault q k) = inr (λ x. x)
+    of_entry (entries.Collect q k) = inr (λ x. x)
+    of_entry (entries.Start q list) = inr (λ x. x)
+    of_entry (entries.Power image) = inr (λ x. x)
+    of_entry entries.Kill = inr (λ x. x)
+goes (items.Store tag area place bytes) (items.Store tag' area' place' bytes' ∷ is) = inr (λ x. x)
+goes (items.Store tag area place bytes) (items.Idle ∷ is) = inr (λ x. x)
+goes (items.Made e) is = inr (λ x. x)
+goes items.Idle is = inr (λ x. x)
+
+-- what holds of each queue after each item holds of every queue after it
+pub each_every : (h : Header1) (s : Scene) (is : List Item) → ((q : ℕ) → q < h.queues → AfterEach h (Tracks h q) s is) → AfterEach h (EveryTracks h) s is
+each_every h s [] each = tt
+each_every h s (i ∷ is) each = (
+  elim (goes i is) [
+    | inl one ↦ inl one
+    | inr apart ↦
+        inr (λ q low. elim (each q low).0 [
+          | inl one ↦ absurd (apart one)
+          | inr tracks ↦ tracks
+        ])
+  ],
+  each_every h (after_item h i s) is (λ q low. (each q low).1),
+)

@@ -27,10 +27,10 @@ pub record IsPlain (h : Header1) : Type 0 where
   pub back : h.mode ≡ Back
 
 -- what holds at a moment
-pub record Good (h : Header1) (m : Moment) : Type 0 where
-  pub holds : Holds h m.scene (m.lanes 0)
-  pub asleep : m.lives ≡ false → ((m.lanes 0).attached ≡ false) × (started m.scene.past 0 ≡ false)
-  pub idle : started m.scene.past 0 ≡ false → accepted m.scene.past 0 ≡ 0
+pub record Good (q : ℕ) (h : Header1) (m : Moment) : Type 0 where
+  pub holds : Holds q h m.scene (m.lanes q)
+  pub asleep : m.lives ≡ false → ((m.lanes q).attached ≡ false) × (started m.scene.past q ≡ false)
+  pub idle : started m.scene.past q ≡ false → accepted m.scene.past q ≡ 0
 
 below_all : {a b c : ℕ} → a ≤ b → b ≤ c → a ≤ c
 below_all p q = omega arith
@@ -42,79 +42,79 @@ phase_cases batch (phases.Publish done) is = inr (done, refl)
 phase_cases batch (phases.Start done) is = absurd is
 phase_cases batch (phases.Fetch done) is = absurd is
 
-start_due : (h : Header1) (m : Moment) → IsPlain h → Good h m → is_ready (standing h 0 m) turns.Start ≡ true → Fine h m.scene (m.lanes 0) (turned h 0 turns.Start m)
-start_due h m plain good ready =
-    let l : Lane = m.lanes 0 in
-    let stopped : started m.scene.past 0 ≡ false = grind (arith, nat_tests) in
+start_due : (q : ℕ) (h : Header1) (m : Moment) → IsPlain h → Good q h m → is_ready (standing h q m) turns.Start ≡ true → Fine q h m.scene (m.lanes q) (turned h q turns.Start m)
+start_due q h m plain good ready =
+    let l : Lane = m.lanes q in
+    let stopped : started m.scene.past q ≡ false = grind (arith, nat_tests) in
     let quiet = good.holds.worked.quiet stopped in
     let batch : l.batch ≡ [] = subst (λ (p : Phase). PhaseIs l.batch p) quiet.0 good.holds.worked.phase_is in
     let same : resting l ≡ l = rest_is l quiet.0 batch in
-    let at_rest : Holds h m.scene (resting l) = subst (λ (x : Lane). Holds h m.scene x) (sym same) good.holds in
-    subst (λ (x : Lane). Fine h m.scene x (phase_goes_on h 0 m.scene (under_way turns.Start x))) same (start_fine h m.scene l plain.good stopped at_rest)
+    let at_rest : Holds q h m.scene (resting l) = subst (λ (x : Lane). Holds q h m.scene x) (sym same) good.holds in
+    subst (λ (x : Lane). Fine q h m.scene x (phase_goes_on h q m.scene (under_way turns.Start x))) same (start_fine q h m.scene l plain.good stopped at_rest)
 
-fetch_due : (h : Header1) (m : Moment) → IsPlain h → Good h m → is_ready (standing h 0 m) turns.Fetch ≡ true → Fine h m.scene (m.lanes 0) (turned h 0 turns.Fetch m)
-fetch_due h m plain good ready =
-    let l : Lane = m.lanes 0 in
+fetch_due : (q : ℕ) (h : Header1) (m : Moment) → IsPlain h → Good q h m → is_ready (standing h q m) turns.Fetch ≡ true → Fine q h m.scene (m.lanes q) (turned h q turns.Fetch m)
+fetch_due q h m plain good ready =
+    let l : Lane = m.lanes q in
     elim (phase_cases l.batch l.phase good.holds.worked.phase_is) [
       | inl rest ↦
           let same : resting l ≡ l = rest_is l rest.0 rest.1 in
-          let at_rest : Holds h m.scene (resting l) = subst (λ (x : Lane). Holds h m.scene x) (sym same) good.holds in
-          let run : started m.scene.past 0 ≡ true = grind (arith, nat_tests) in
+          let at_rest : Holds q h m.scene (resting l) = subst (λ (x : Lane). Holds q h m.scene x) (sym same) good.holds in
+          let run : started m.scene.past q ≡ true = grind (arith, nat_tests) in
           let no_fetch : is_fetch l.phase ≡ false = ap is_fetch rest.0 in
-          let some : 0 < (standing h 0 m).waiting = grind (arith, nat_tests) in
-          let more : accepted m.scene.past 0 < length (m.scene.heads 0) = omega (arith, some, some_waits h m.scene l plain.good good.holds) in
-          subst (λ (x : Lane). Fine h m.scene x (phase_goes_on h 0 m.scene (under_way turns.Fetch x))) same (fetch_fine h m.scene l plain.good run more at_rest)
+          let some : 0 < (standing h q m).waiting = grind (arith, nat_tests) in
+          let more : accepted m.scene.past q < length (m.scene.heads q) = omega (arith, some, some_waits q h m.scene l plain.good good.holds) in
+          subst (λ (x : Lane). Fine q h m.scene x (phase_goes_on h q m.scene (under_way turns.Fetch x))) same (fetch_fine q h m.scene l plain.good run more at_rest)
       | inr shows ↦
           let publishes : is_publication l.phase ≡ true = ap is_publication shows.1 in
           absurd (grind (arith, nat_tests))
     ]
 
-publish_due : (h : Header1) (m : Moment) (most : ℕ) → IsPlain h → Good h m → is_ready (standing h 0 m) (turns.Publish most) ≡ true → Fine h m.scene (m.lanes 0) (turned h 0 (turns.Publish most) m)
-publish_due h m most plain good ready =
-    let l : Lane = m.lanes 0 in
-    let run : started m.scene.past 0 ≡ true = grind (arith, nat_tests) in
+publish_due : (q : ℕ) (h : Header1) (m : Moment) (most : ℕ) → IsPlain h → Good q h m → is_ready (standing h q m) (turns.Publish most) ≡ true → Fine q h m.scene (m.lanes q) (turned h q (turns.Publish most) m)
+publish_due q h m most plain good ready =
+    let l : Lane = m.lanes q in
+    let run : started m.scene.past q ≡ true = grind (arith, nat_tests) in
     elim (phase_cases l.batch l.phase good.holds.worked.phase_is) [
       | inl rest ↦
           let same : resting l ≡ l = rest_is l rest.0 rest.1 in
-          let at_rest : Holds h m.scene (resting l) = subst (λ (x : Lane). Holds h m.scene x) (sym same) good.holds in
+          let at_rest : Holds q h m.scene (resting l) = subst (λ (x : Lane). Holds q h m.scene x) (sym same) good.holds in
           let quiet : is_publication l.phase ≡ false = ap is_publication rest.0 in
           let some : 0 < most = grind (arith, nat_tests) in
           let any : 0 < length l.completed = grind (arith, nat_tests) in
-          let from_there : Fine h m.scene (taking most l) (phase_goes_on h 0 m.scene (under_way (turns.Publish most) (resting l))) =
-          publication_fine h m.scene (taking most l) 0 (record { good = plain.good; back = plain.back; started = run; holds = taking_holds h m.scene l most some any run at_rest }) in
-          let begins : Fine h m.scene (resting l) (phase_goes_on h 0 m.scene (under_way (turns.Publish most) (resting l))) = record {
+          let from_there : Fine q h m.scene (taking most l) (phase_goes_on h q m.scene (under_way (turns.Publish most) (resting l))) =
+          publication_fine q h m.scene (taking most l) 0 (record { good = plain.good; back = plain.back; started = run; holds = taking_holds q h m.scene l most some any run at_rest }) in
+          let begins : Fine q h m.scene (resting l) (phase_goes_on h q m.scene (under_way (turns.Publish most) (resting l))) = record {
             each = from_there.each;
             holds = from_there.holds;
             legal = from_there.legal;
             runs = from_there.runs;
             collects = from_there.collects;
-            falls = below_all from_there.falls (taking_effort m.scene.past (length (m.scene.heads 0)) most l some any);
+            falls = below_all from_there.falls (taking_effort q m.scene.past (length (m.scene.heads q)) most l some any);
           } in
-          subst (λ (x : Lane). Fine h m.scene x (phase_goes_on h 0 m.scene (under_way (turns.Publish most) x))) same begins
+          subst (λ (x : Lane). Fine q h m.scene x (phase_goes_on h q m.scene (under_way (turns.Publish most) x))) same begins
       | inr shows ↦
           let done : ℕ = shows.0 in
           let same : publishing done l ≡ l = ap (λ (p : Phase). record l { phase = p }) (sym shows.1) in
-          let under : Holds h m.scene (publishing done l) = subst (λ (x : Lane). Holds h m.scene x) (sym same) good.holds in
-          let goes_on : Fine h m.scene (publishing done l) (phase_goes_on h 0 m.scene (under_way (turns.Publish most) (publishing done l))) =
-          publication_fine h m.scene l done (record { good = plain.good; back = plain.back; started = run; holds = under }) in
-          subst (λ (x : Lane). Fine h m.scene x (phase_goes_on h 0 m.scene (under_way (turns.Publish most) x))) same goes_on
+          let under : Holds q h m.scene (publishing done l) = subst (λ (x : Lane). Holds q h m.scene x) (sym same) good.holds in
+          let goes_on : Fine q h m.scene (publishing done l) (phase_goes_on h q m.scene (under_way (turns.Publish most) (publishing done l))) =
+          publication_fine q h m.scene l done (record { good = plain.good; back = plain.back; started = run; holds = under }) in
+          subst (λ (x : Lane). Fine q h m.scene x (phase_goes_on h q m.scene (under_way (turns.Publish most) x))) same goes_on
     ]
 
-work_due : (h : Header1) (m : Moment) (place : ℕ) → IsPlain h → Good h m → is_ready (standing h 0 m) (turns.Work place) ≡ true → Fine h m.scene (m.lanes 0) (turned h 0 (turns.Work place) m)
-work_due h m place plain good ready = go (slice_get (unfinished 0 m) place) refl
+work_due : (q : ℕ) (h : Header1) (m : Moment) (place : ℕ) → IsPlain h → Good q h m → is_ready (standing h q m) (turns.Work place) ≡ true → Fine q h m.scene (m.lanes q) (turned h q (turns.Work place) m)
+work_due q h m place plain good ready = go (slice_get (unfinished q m) place) refl
   where
-    go : (o : Option ℕ) → slice_get (unfinished 0 m) place ≡ o → Fine h m.scene (m.lanes 0) (work_turn h 0 m.scene (m.lanes 0) o)
+    go : (o : Option ℕ) → slice_get (unfinished q m) place ≡ o → Fine q h m.scene (m.lanes q) (work_turn h q m.scene (m.lanes q) o)
     go None is = absurd (
-        let inside : place < length (unfinished 0 m) = grind (arith, nat_tests) in
-        let there : slice_get (unfinished 0 m) place ≡ Some (slice_index (unfinished 0 m) place) = slice_get-get_or (unfinished 0 m) place 0 inside in
-        let fails : None ≡ Some (slice_index (unfinished 0 m) place) = sym is ∙ there in
+        let inside : place < length (unfinished q m) = grind (arith, nat_tests) in
+        let there : slice_get (unfinished q m) place ≡ Some (slice_index (unfinished q m) place) = slice_get-get_or (unfinished q m) place 0 inside in
+        let fails : None ≡ Some (slice_index (unfinished q m) place) = sym is ∙ there in
         cc)
     go (Some k) is =
-        let l : Lane = m.lanes 0 in
-        let kept = among_filter (λ j. not (is_among (l.completed ++ l.batch) j)) (open_numbers m.scene.past 0) k (among_get (unfinished 0 m) place k is) in
-        let opened = missing-among (published m.scene.past 0) (accepted m.scene.past 0) k kept.0 in
+        let l : Lane = m.lanes q in
+        let kept = among_filter (λ j. not (is_among (l.completed ++ l.batch) j)) (open_numbers m.scene.past q) k (among_get (unfinished q m) place k is) in
+        let opened = missing-among (published m.scene.past q) (accepted m.scene.past q) k kept.0 in
         let left : is_among (l.completed ++ l.batch) k ≡ false = let t : not (is_among (l.completed ++ l.batch) k) ≡ true = kept.1 in grind (arith, nat_tests) in
-        request_fine h m.scene l k (record {
+        request_fine q h m.scene l k (record {
           good = plain.good;
           back = plain.back;
           holds = good.holds;
@@ -124,8 +124,8 @@ work_due h m place plain good ready = go (slice_get (unfinished 0 m) place) refl
         })
 
 -- any turn that is ready
-pub turn_fine : (h : Header1) (t : Turn) (m : Moment) → IsPlain h → Good h m → is_ready (standing h 0 m) t ≡ true → Fine h m.scene (m.lanes 0) (turned h 0 t m)
-turn_fine h turns.Start m plain good ready = start_due h m plain good ready
-turn_fine h turns.Fetch m plain good ready = fetch_due h m plain good ready
-turn_fine h (turns.Publish most) m plain good ready = publish_due h m most plain good ready
-turn_fine h (turns.Work place) m plain good ready = work_due h m place plain good ready
+pub turn_fine : (q : ℕ) (h : Header1) (t : Turn) (m : Moment) → IsPlain h → Good q h m → is_ready (standing h q m) t ≡ true → Fine q h m.scene (m.lanes q) (turned h q t m)
+turn_fine q h turns.Start m plain good ready = start_due q h m plain good ready
+turn_fine q h turns.Fetch m plain good ready = fetch_due q h m plain good ready
+turn_fine q h (turns.Publish most) m plain good ready = publish_due q h m most plain good ready
+turn_fine q h (turns.Work place) m plain good ready = work_due q h m place plain good ready

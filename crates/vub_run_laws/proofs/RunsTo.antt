@@ -1,5 +1,5 @@
 -- Runs with the moment to which they lead.
-use Rattle.std.proofs.Common.{◌≡◌, ℕ, true, List, [], ◌∷◌, ◌++◌, refl, ap, sym, ◌∙◌, subst}
+use Rattle.std.proofs.Common.{◌≡◌, ◌<◌, ℕ, true, List, [], ◌∷◌, ◌++◌, refl, ap, sym, ◌∙◌, subst}
 use Rattle.std.specs.List.{AllByRecursion}
 use Rattle.vub_base.specs.declared.header.Header1.{Header1}
 use Rattle.vub_steps.specs.declared.readiness.Turn.{Turn}
@@ -21,7 +21,7 @@ use Rattle.vub_run_laws.proofs.RunEvents.{Right}
 use Rattle.vub_run_laws.proofs.RunChainsEvents.{ChainedAt, turns_chained}
 use Rattle.vub_run_laws.proofs.RunDrains.{drained}
 use Rattle.vub_run_laws.proofs.Runs.{plain_header}
-use Rattle.vub_run_laws.proofs.RunsLegal.{IsHeld, opening_held, held_right, held_next, right_past, run_from}
+use Rattle.vub_run_laws.proofs.RunsLegal.{IsHeld, opening_held, held_right, held_next, right_past, some_queue, run_from}
 
 pub run_of : (h : Header1) (m : Moment) (es : List Event) (rs : List Record) (n : Moment) → RunTo h m es rs n → RunFrom h m es rs
 run_of h m [] [] n run = tt
@@ -53,9 +53,9 @@ run_past h m [] [] n header held fits run = ap (λ (x : Moment). x.scene.past) r
 run_past h m [] (r ∷ rs) n header held fits run = absurd run
 run_past h m (e ∷ es) [] n header held fits run = absurd run
 run_past h m (e ∷ es) (r ∷ rs) n header held fits run =
-    let right : Right h m r.items run.1.0 = held_right h m e r.items run.1.0 header held fits.0 run.1.1 in
+    let right : Right 0 h m r.items run.1.0 = held_right 0 h m e r.items run.1.0 header (some_queue h header) held fits.0 run.1.1 in
     let rest : n.scene.past ≡ after run.1.0.scene.past (history_of rs) = run_past h run.1.0 es rs n header (held_next h m e r.items run.1.0 header held fits.0 run.1.1) fits.1 run.1.2 in
-    rest ∙ ap (λ (p : List Entry). after p (history_of rs)) (right_past h m r.items run.1.0 right) ∙ sym (after-append m.scene.past (entries_of r.items) (history_of rs))
+    rest ∙ ap (λ (p : List Entry). after p (history_of rs)) (right_past 0 h m r.items run.1.0 right) ∙ sym (after-append m.scene.past (entries_of r.items) (history_of rs))
 
 pub stands_none : (h : Header1) → IsHeader h → Stands h [] [] (opening h)
 stands_none h is = record { header = is; events = tt; run = refl }
@@ -75,16 +75,16 @@ stands_more h es rs n k e r s fits is plays = record {
 pub stands_held : (h : Header1) (es : List Event) (rs : List Record) (n : Moment) → Stands h es rs n → IsHeld h n
 stands_held h es rs n s = run_held h (opening h) es rs n s.header (opening_held h s.header) s.events s.run
 
-pub stands_good : (h : Header1) (es : List Event) (rs : List Record) (n : Moment) → Stands h es rs n → Good h n
-stands_good h es rs n s = (stands_held h es rs n s).0
+pub stands_good : (q : ℕ) (h : Header1) (es : List Event) (rs : List Record) (n : Moment) → q < h.queues → Stands h es rs n → Good q h n
+stands_good q h es rs n low s = (stands_held h es rs n s q low).good
 
 -- the chain of each request that is offered and not collected stands in memory
-pub stands_chained : (h : Header1) (es : List Event) (rs : List Record) (n : Moment) → Stands h es rs n → ChainedAt h n
-stands_chained h es rs n s = (stands_held h es rs n s).1
+pub stands_chained : (q : ℕ) (h : Header1) (es : List Event) (rs : List Record) (n : Moment) → q < h.queues → Stands h es rs n → ChainedAt q h n
+stands_chained q h es rs n low s = (stands_held h es rs n s q low).chained
 
 -- also after any number of turns from there on, as in the middle of a drain
-pub stands_turns : (h : Header1) (es : List Event) (rs : List Record) (n : Moment) (count : ℕ) (choose : Moment → Turn) → Stands h es rs n → Good h (turns count choose h 0 n).next × ChainedAt h (turns count choose h 0 n).next
-stands_turns h es rs n count choose s = turns_chained count choose h n (plain_header h s.header) (stands_good h es rs n s) (stands_chained h es rs n s)
+pub stands_turns : (q : ℕ) (h : Header1) (es : List Event) (rs : List Record) (n : Moment) (count : ℕ) (choose : Moment → Turn) → q < h.queues → Stands h es rs n → Good q h (turns count choose h q n).next × ChainedAt q h (turns count choose h q n).next
+stands_turns q h es rs n count choose low s = turns_chained q count choose h n (plain_header h s.header) (stands_good q h es rs n low s) (stands_chained q h es rs n low s)
 
 -- its history is that of the records
 pub stands_past : (h : Header1) (es : List Event) (rs : List Record) (n : Moment) → Stands h es rs n → n.scene.past ≡ past_of rs
@@ -95,6 +95,6 @@ pub stands_true : (h : Header1) (es : List Event) (rs : List Record) (n : Moment
 stands_true h es rs n s = run_from h (opening h) es rs s.header (opening_held h s.header) s.events (run_of h (opening h) es rs n s.run)
 
 -- after a drain on an attached queue nothing is open, and every offer is accepted
-pub stands_drained : (h : Header1) (es : List Event) (rs : List Record) (n k : Moment) (is : List Item) → Stands h es rs n → (n.lanes 0).attached ≡ true → Plays h n (events.Drain 0) is k
-    → (open_numbers k.scene.past 0 ≡ []) × (accepted k.scene.past 0 ≡ offers k.scene.past 0)
-stands_drained h es rs n k is s attached plays = drained h n is k (plain_header h s.header) (stands_good h es rs n s) attached plays
+pub stands_drained : (q : ℕ) (h : Header1) (es : List Event) (rs : List Record) (n k : Moment) (is : List Item) → q < h.queues → Stands h es rs n → (n.lanes q).attached ≡ true → Plays h n (events.Drain q) is k
+    → (open_numbers k.scene.past q ≡ []) × (accepted k.scene.past q ≡ offers k.scene.past q)
+stands_drained q h es rs n k is low s attached plays = drained q h n is k (plain_header h s.header) (stands_good q h es rs n low s) attached plays

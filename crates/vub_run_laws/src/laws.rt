@@ -10,7 +10,7 @@ ghost use Rattle.vub_schedule.specs.Spelling.{IsSchedule};
 ghost use Rattle.vub_report.specs.declared.items.Item.{Item};
 ghost use Rattle.vub_report.specs.declared.items.Record.{Record};
 ghost use Rattle.vub_split.specs.declared.split.SplitRing.{SplitRing};
-ghost use Rattle.vub_direct_chain.specs.ChainState.{IsFirstRing, Meant};
+ghost use Rattle.vub_direct_chain.specs.ChainState.{IsRingOf, Meant};
 ghost use Rattle.vub_run.specs.Moments.{Moment};
 ghost use Rattle.vub_run.specs.Run.{Run, Stands, Plays};
 ghost use Rattle.vub_run.specs.Tracking.{TracksAlways};
@@ -45,15 +45,15 @@ pub fn every_schedule_runs()
 
 /// After a drain of an attached queue no request is open, and every offer is accepted.
 pub fn every_drain_ends()
-    ensures published { (h : Header1) (es : List Event) (rs : List Record) (m next : Moment) (items : List Item) → Stands h es rs m → (m.lanes 0).attached ≡ true
-        → Plays h m (Event.Drain 0) items next → open_numbers next.scene.past 0 ≡ [] }
-    ensures accepted { (h : Header1) (es : List Event) (rs : List Record) (m next : Moment) (items : List Item) → Stands h es rs m → (m.lanes 0).attached ≡ true
-        → Plays h m (Event.Drain 0) items next → accepted next.scene.past 0 ≡ offers next.scene.past 0 }
+    ensures published { (h : Header1) (es : List Event) (rs : List Record) (m next : Moment) (items : List Item) (q : ℕ) → q < h.queues → Stands h es rs m → (m.lanes q).attached ≡ true
+        → Plays h m (Event.Drain q) items next → open_numbers next.scene.past q ≡ [] }
+    ensures accepted { (h : Header1) (es : List Event) (rs : List Record) (m next : Moment) (items : List Item) (q : ℕ) → q < h.queues → Stands h es rs m → (m.lanes q).attached ≡ true
+        → Plays h m (Event.Drain q) items next → accepted next.scene.past q ≡ offers next.scene.past q }
 {}
 
 /// Where a run leads, guest memory means each request that is offered and not published, under the
 /// head that its offer showed.
 pub fn every_open_request_is_meant()
-    ensures { (h : Header1) (es : List Event) (rs : List Record) (m : Moment) (sizes : ℕ → ℕ) (r : SplitRing) (k : ℕ) → Stands h es rs m → IsFirstRing sizes r h.size
-        → k < length (m.scene.heads 0) → is_among (published m.scene.past 0) k ≡ false → Meant sizes r m.scene.memory (slice_index (m.scene.heads 0) k) (asked m.scene.past 0 k) }
+    ensures { (h : Header1) (es : List Event) (rs : List Record) (m : Moment) (sizes : ℕ → ℕ) (r : SplitRing) (q k : ℕ) → q < h.queues → Stands h es rs m → IsRingOf q sizes r h.size
+        → k < length (m.scene.heads q) → is_among (published m.scene.past q) k ≡ false → Meant q sizes r m.scene.memory (slice_index (m.scene.heads q) k) (asked m.scene.past q k) }
 {}
