@@ -1,5 +1,5 @@
 -- Where the machine stands after the driver took a request.
-use Rattle.std.proofs.Common.{◌≡◌, Bool, true, cond, [], refl, ap, sym, ◌∙◌}
+use Rattle.std.proofs.Common.{◌≡◌, ℕ, Bool, true, cond, [], refl, ap, sym, ◌∙◌}
 use Rattle.std.specs.Prelude.{Option, Some, None}
 use Rattle.vub_base.specs.declared.header.Header1.{Header1}
 use Rattle.vub_base.specs.declared.request.Ask.{Ask}
@@ -8,13 +8,14 @@ use Rattle.vub_ring.specs.Ring.{Ring}
 use Rattle.vub_driver.specs.Layout.{ring_of}
 use Rattle.vub_driver.specs.Drivers.{Driver, can_take, after_ask}
 use Rattle.vub_guest.specs.declared.guest.Guest.{Guest}
-use Rattle.vub_world.specs.Fronts.{Parts}
+use Rattle.vub_world.specs.Fronts.{Parts, desk}
 use Rattle.vub_queue.specs.declared.queue.Queue.{Queue}
 use Rattle.vub_split.specs.declared.split.SplitRing.{SplitRing}
 use Rattle.vub_guest.specs.GuestState.{ring_in, driver_in, last_used_in}
-use Rattle.vub_world.specs.MachineAt.{LifeAt, AttachedAt, PartsAt}
+use Rattle.vub_world.specs.MachineAt.{LifeAt, PartsAt}
 use Rattle.vub_run.specs.Moments.{Moment}
 use Rattle.vub_run.specs.Run.{played, if_ready, with_lane, with_driver, ask}
+use Rattle.vub_world.proofs.MachineLanes.{all_lanes, life_with, front_with}
 
 -- the moment with another driver
 abbrev pub driven_moment : ℕ → Driver → Moment → Moment
@@ -22,12 +23,12 @@ driven_moment q v m = with_lane q (with_driver v (m.lanes q)) m
 
 -- the device's side stays
 pub life_driven : (q : ℕ) (h : Header1) (r : SplitRing) (m : Moment) (v : Driver) (life : Option (Option Queue)) → LifeAt q h r m life → LifeAt q h r (driven_moment q v m) life
-life_driven q h r m v None at = at
-life_driven q h r m v (Some l) at = (at.0, attached l at.1)
+life_driven q h r m v life at = life_with q h r m (with_driver v (m.lanes q)) life (same life at)
   where
-    attached : (o : Option Queue) → AttachedAt q h r m o → AttachedAt q h r (driven_moment q v m) o
-    attached None a = a
-    attached (Some queue) a = a
+    same : (life : Option (Option Queue)) → LifeAt q h r m life → LifeAt q h r (all_lanes (with_driver v (m.lanes q)) m) life
+    same None at = at
+    same (Some None) at = at
+    same (Some (Some queue)) at = at
 
 pub ask_performs : (q : ℕ) (w : Parts) (guest' : Guest) (m : Moment) (shape : Shape) (a : Ask) (ready : Bool) → ring_in w.front.guest ≡ ring_of q w.front.header.size → PartsAt q w m → ready ≡ can_take (ring_in w.front.guest).size shape a (driver_in w.front.guest) → ready ≡ true
     → driver_in guest' ≡ cond ready (after_ask (ring_in w.front.guest) a (driver_in w.front.guest)) (driver_in w.front.guest) → last_used_in guest' ≡ last_used_in w.front.guest
@@ -44,7 +45,7 @@ ask_performs q w guest' m shape a ready ring at says taken driver position =
       next,
       sym (ap (λ (b : Bool). if_ready b (played [] next) m) can),
       record {
-        front = record { memory = at.front.memory; driver = now_driver; asks = refl };
+        front = front_with q (desk w.memory (record w.front { guest = guest'; asked = Some a })) m (with_driver (after_ask (ring_of q h.size) a v) (m.lanes q)) (record { memory = at.front.memory; driver = now_driver; asks = refl });
         position = position ∙ at.position;
         life = life_driven q h w.front.ring m (after_ask (ring_of q h.size) a v) w.life at.life;
         disk = at.disk;

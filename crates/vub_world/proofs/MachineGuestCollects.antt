@@ -21,8 +21,11 @@ use Rattle.vub_driver.specs.Layout.{ring_of}
 use Rattle.vub_guest.specs.declared.guest.Collected.TheVariants as takes
 use Rattle.vub_report.specs.declared.items.Item.{Item}
 use Rattle.vub_world.specs.declared.front.Front.{Front}
-use Rattle.vub_world.specs.Fronts.{Parts}
+use Rattle.vub_world.specs.Fronts.{Parts, desk_of}
 use Rattle.vub_world.specs.MachineFront.{HasPlaces, TakesOne, TakesFirst}
+use Rattle.vub_run.specs.Memory.{after_items}
+use Rattle.vub_run_laws.proofs.RunOwn.{collected_own}
+use Rattle.vub_world.proofs.MachineLanes.{all_lanes, life_with, front_with}
 use Rattle.vub_world.proofs.MachineGuestOffers.{with_desk}
 use Rattle.vub_queue.specs.declared.queue.Queue.{Queue}
 use Rattle.vub_split.specs.declared.split.SplitRing.{SplitRing}
@@ -30,10 +33,10 @@ use Rattle.vub_report.specs.declared.items.Item.TheVariants as items
 use Rattle.vub_report.specs.declared.items.Record.{Record}
 use Rattle.vub_guest.specs.GuestState.{ring_in, driver_in, last_used_in, Shows}
 use Rattle.vub_world.specs.OutstandingRequests.{offered_in, collected_in, size_in, slot_in}
-use Rattle.vub_world.specs.MachineAt.{AskAt, LifeAt, AttachedAt, PartsAt, PartsStand}
+use Rattle.vub_world.specs.MachineAt.{AskAt, LifeAt, PartsAt, PartsStand}
 use Rattle.vub_run.specs.Moments.{Lane, Moment}
 use Rattle.vub_queue.specs.QueueState.{state_of}
-use Rattle.vub_run.specs.Run.{Stands, played, next_collected, take_first, collect}
+use Rattle.vub_run.specs.Run.{Stands, played, with_driver, next_collected, take_first, collect}
 use Rattle.vub_run_laws.proofs.RunNumbers.{among_at}
 use Rattle.vub_run_laws.proofs.RunGood.{the_ring, IsOut, Known}
 use Rattle.vub_run_laws.proofs.RunCollects.{IsTaken, none_before, first_seen, after_taken}
@@ -89,13 +92,21 @@ fewer_among xs c k less out =
     let none : (is_among (take c xs) k || is_among (slice_index xs c ∷ []) k) ≡ false = sym joined ∙ ap (λ (ks : List ℕ). is_among ks k) (sym more) ∙ out in
     grind (arith, nat_tests)
 
+-- the lane after the element was taken
+abbrev taken_lane : ℕ → ℕ → Moment → Lane
+taken_lane q x m = with_driver (after_collect x (m.lanes q).driver) (m.lanes q)
+
+-- the moment with the scene after it
+abbrev taken_moment : Header1 → ℕ → Moment → Moment
+taken_moment h q m = record m { scene = after_items h (items.Made (entries.Collect q (next_collected q m)) ∷ []) m.scene }
+
 taken_life : (q : ℕ) (h : Header1) (ring : SplitRing) (m : Moment) (x : ℕ × ℕ) (xs : List (ℕ × ℕ)) (life : Option (Option Queue)) → LifeAt q h ring m life → LifeAt q h ring (take_first h q (x ∷ xs) m).next life
-taken_life q h ring m x xs None at = at
-taken_life q h ring m x xs (Some l) at = (at.0, attached l at.1)
+taken_life q h ring m x xs life at = life_with q h ring (taken_moment h q m) (taken_lane q x.0 m) life (taken life at)
   where
-    attached : (o : Option Queue) → AttachedAt q h ring m o → AttachedAt q h ring (take_first h q (x ∷ xs) m).next o
-    attached None a = a
-    attached (Some queue) a = (a.0, a.1, at_collect q h ring m.scene.past (m.scene.heads q) (m.lanes q).phase (m.lanes q).batch (m.lanes q).completed (m.lanes q).made (state_of queue) (next_collected q m) a.2)
+    taken : (life : Option (Option Queue)) → LifeAt q h ring m life → LifeAt q h ring (all_lanes (taken_lane q x.0 m) (taken_moment h q m)) life
+    taken None at = at
+    taken (Some None) at = at
+    taken (Some (Some queue)) at = (at.0, (at.1.0, at.1.1, at_collect q h ring m.scene.past (m.scene.heads q) (m.lanes q).phase (m.lanes q).batch (m.lanes q).completed (m.lanes q).made (state_of queue) (next_collected q m) at.1.2))
 
 head_plays : (q : ℕ) (h : Header1) (m : Moment) (x : ℕ × ℕ) (xs : List (ℕ × ℕ)) (number : ℕ) → number ≡ next_collected q m → seen (the_ring q h.size) m.scene.memory (h.base + collected m.scene.past q) ≡ x ∷ xs
     → played (items.Made (entries.Collect q number) ∷ []) (take_first h q (x ∷ xs) m).next ≡ collect h q m
@@ -197,23 +208,24 @@ head_performs q w memory guest' outstanding es rs m head low s at bytes shown he
     let kept : is_among (take c ps) k ≡ false = f.out.kept in
     let t : IsTaken q h m.scene l x.0 = f.taken in
     let number : (slot_in w.front.outstanding head).number ≡ k = ap (λ (d : ℕ). (slot_in w.front.outstanding d).number) (f.is ∙ t.head) ∙ ap (λ (o : OutstandingRequest). o.number) (at.outstanding.slots k there kept) in
-    let next : Moment = (take_first h q (x ∷ f.rest) m).next in (
+    let next : Moment = (take_first h q (x ∷ f.rest) m).next in
+    let own : collected next.scene.past q ≡ c + 1 = collected_own m.scene.past q (next_collected q m) in (
       next,
       head_plays q h m x f.rest (slot_in w.front.outstanding head).number number f.sees,
       record {
-        front = record {
+        front = front_with q (desk_of (with_taken w memory guest' outstanding)) (taken_moment h q m) (taken_lane q x.0 m) (record {
           memory = bytes ∙ at.front.memory;
           driver = driver ∙ ap (λ (d : ℕ). after_collect d (driver_in w.front.guest)) f.is ∙ ap (λ (v : Driver). after_collect x.0 v) at.front.driver;
           asks = subst (λ (v : Driver). AskAt v.waiting w.front.asked) (sym (after_taken q h m.scene l x.0 t)) at.front.asks;
-        };
-        position = omega (arith, position, at.position);
+        });
+        position = let e : last_used_in guest' ≡ (h.base + collected next.scene.past q) % 65536 = omega (arith, position, at.position, own) in e;
         life = taken_life q h w.front.ring m x f.rest w.life at.life;
         disk = at.disk;
         outstanding = record {
           offers_are = takes.offers ∙ at.outstanding.offers_are;
-          collects_are = takes.collects ∙ ap (λ (i : ℕ). i + 1) at.outstanding.collects_are;
+          collects_are = takes.collects ∙ ap (λ (i : ℕ). i + 1) at.outstanding.collects_are ∙ sym own;
           places = takes.places ∙ at.outstanding.places;
-          slots = λ j below out. takes.slots (slice_index (m.scene.heads q) j) ∙ at.outstanding.slots j below (fewer_among ps c j t.more out);
+          slots = λ j below out. takes.slots (slice_index (m.scene.heads q) j) ∙ at.outstanding.slots j below (fewer_among ps c j t.more (subst (λ (n : ℕ). is_among (take n ps) j ≡ false) own out));
         };
       },
     )

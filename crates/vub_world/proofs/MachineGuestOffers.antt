@@ -29,7 +29,7 @@ use Rattle.vub_report.specs.declared.items.Item.TheVariants as items
 use Rattle.vub_report.specs.declared.items.Record.{Record}
 use Rattle.vub_guest.specs.GuestState.{last_used_in}
 use Rattle.vub_world.specs.OutstandingRequests.{offered_in, slot_in, reads_in, new_slot, Offers}
-use Rattle.vub_world.specs.MachineAt.{FrontAt, LifeAt, AttachedAt, OutstandingAt, PartsAt, reads_of}
+use Rattle.vub_world.specs.MachineAt.{FrontAt, LifeAt, OutstandingAt, PartsAt, reads_of}
 use Rattle.vub_world.specs.MachineFront.{head_shown, GuestGoes}
 use Rattle.vub_run.specs.Memory.{Scene, after_item, after_items}
 use Rattle.vub_run.specs.Moments.{Lane, Moment}
@@ -43,6 +43,9 @@ use Rattle.vub_run_laws.proofs.RunsTo.{stands_good, stands_more}
 use Rattle.vub_run_laws.proofs.RunChainsStores.{put_all}
 use Rattle.vub_run_laws.proofs.RunChainsGuests.{guest_scene, part_scene}
 use Rattle.vub_queue_in_run.proofs.QueueAtMoves.{at_offer}
+use Rattle.vub_queue_in_run.specs.QueueAt.{QueueAt}
+use Rattle.vub_run_laws.proofs.RunOwn.{at_own}
+use Rattle.vub_world.proofs.MachineLanes.{all_lanes, life_with}
 
 -- ---- the outstanding requests
 
@@ -124,25 +127,32 @@ stored_lane q count x m = with_driver (after_stores count x (m.lanes q).driver) 
 abbrev pub offered_scene : ℕ → Header1 → Asked → Bytes → Scene → Scene
 offered_scene q h r b s = after_item h (items.Made (entries.Offer q r)) (record s { memory = b })
 
+-- the heads after it
+pub offered_heads : (q : ℕ) (h : Header1) (r : Asked) (b : Bytes) (s : Scene) → (offered_scene q h r b s).heads q ≡ s.heads q ++ last_head (the_ring q h.size) b ∷ []
+offered_heads q h r b s = at_own s.heads q (s.heads q ++ last_head (the_ring q h.size) b ∷ [])
+
 abbrev pub moment_with : ℕ → ℕ → Waiting → Moment → Scene → Moment
 moment_with q count x m s = with_lane q (stored_lane q count x m) (record m { scene = s })
 
 offered_life : (q : ℕ) (h : Header1) (ring : SplitRing) (count : ℕ) (m : Moment) (x : Waiting) (r : Asked) (b : Bytes) (life : Option (Option Queue)) → Good q h m → LifeAt q h ring m life → LifeAt q h ring (moment_with q count x m (offered_scene q h r b m.scene)) life
-offered_life q h ring count m x r b None good at = at
-offered_life q h ring count m x r b (Some l) good at = (at.0, attached l at.1)
+offered_life q h ring count m x r b life good at = life_with q h ring (record m { scene = offered_scene q h r b m.scene }) (stored_lane q count x m) life (offered life at)
   where
-    attached : (o : Option Queue) → AttachedAt q h ring m o → AttachedAt q h ring (moment_with q count x m (offered_scene q h r b m.scene)) o
-    attached None a = a
-    attached (Some queue) a = (a.0, a.1, at_offer q h ring m.scene.past (m.scene.heads q) (m.lanes q).phase (m.lanes q).batch (m.lanes q).completed (m.lanes q).made (state_of queue) r (last_head (the_ring q h.size) b) good.holds.known good.holds.worked a.2)
+    offered : (life : Option (Option Queue)) → LifeAt q h ring m life → LifeAt q h ring (all_lanes (stored_lane q count x m) (record m { scene = offered_scene q h r b m.scene })) life
+    offered None at = at
+    offered (Some None) at = at
+    offered (Some (Some queue)) at =
+        let heads = offered_heads q h r b m.scene in
+        let stands = at_offer q h ring m.scene.past (m.scene.heads q) (m.lanes q).phase (m.lanes q).batch (m.lanes q).completed (m.lanes q).made (state_of queue) r (last_head (the_ring q h.size) b) good.holds.known good.holds.worked at.1.2 in
+        (at.0, (at.1.0, at.1.1, subst (λ (hs : List ℕ). QueueAt q h ring (entries.Offer q r ∷ m.scene.past) hs (m.lanes q).phase (m.lanes q).batch (m.lanes q).completed (m.lanes q).made (state_of queue)) (sym heads) stands))
 
 -- stores that offer nothing are nothing to the device
 stored_life : (q : ℕ) (h : Header1) (ring : SplitRing) (count : ℕ) (m : Moment) (x : Waiting) (b : Bytes) (life : Option (Option Queue)) → LifeAt q h ring m life → LifeAt q h ring (moment_with q count x m (record m.scene { memory = b })) life
-stored_life q h ring count m x b None at = at
-stored_life q h ring count m x b (Some l) at = (at.0, attached l at.1)
+stored_life q h ring count m x b life at = life_with q h ring (record m { scene = record m.scene { memory = b } }) (stored_lane q count x m) life (stored life at)
   where
-    attached : (o : Option Queue) → AttachedAt q h ring m o → AttachedAt q h ring (moment_with q count x m (record m.scene { memory = b })) o
-    attached None a = a
-    attached (Some queue) a = a
+    stored : (life : Option (Option Queue)) → LifeAt q h ring m life → LifeAt q h ring (all_lanes (stored_lane q count x m) (record m { scene = record m.scene { memory = b } })) life
+    stored None at = at
+    stored (Some None) at = at
+    stored (Some (Some queue)) at = at
 
 -- the parts with another memory and front
 abbrev pub with_desk : Parts → WatchedShared → Front → Parts
@@ -174,8 +184,11 @@ shown_below q h es rs m x low s waits some few =
     let plays : played is (stored_moment q h count x m) ≡ guest h q count m = ap (λ (o : Option Waiting). if_ready (is_some o) (guest_stores h q count o m) m) (sym waits) in
     let good = offered_good q h es rs m x is count low s (omega (arith, few)) some (omega arith) plays in
     let known : Known q h.size h.capacity m.scene.past heads = (stands_good q h es rs m low s).holds.known in
-    let low : slice_index (heads ++ head ∷ []) (length heads) < h.size = good.holds.driven.below (length heads) (new_out q h.size h.capacity m.scene.past heads (request_of x.ask) head known) in
-    omega (arith, low, new_head heads head)
+    let r : Asked = request_of x.ask in
+    let own : (offered_scene q h r (put_all x.left m.scene.memory) m.scene).heads q ≡ heads ++ head ∷ [] = offered_heads q h r (put_all x.left m.scene.memory) m.scene in
+    let out = subst (λ (hs : List ℕ). IsOut q (entries.Offer q r ∷ m.scene.past) hs (length heads)) (sym own) (new_out q h.size h.capacity m.scene.past heads r head known) in
+    let below : slice_index (heads ++ head ∷ []) (length heads) < h.size = subst (λ (hs : List ℕ). slice_index hs (length heads) < h.size) own (good.holds.driven.below (length heads) out) in
+    omega (arith, below, new_head heads head)
 
 -- where these are all that were left
 offered_at : (q : ℕ) (w : Parts) (memory : WatchedShared) (guest' : Guest) (asked' : Option Ask) (outstanding : OutstandingRequests) (es : List Event) (rs : List Record) (m : Moment) (x : Waiting) (is : List Item) (count : ℕ)
@@ -195,12 +208,18 @@ offered_at q w memory guest' asked' outstanding es rs m x is count position low 
     let good_next : Good q h (moment_with q count x m (offered_scene q h r b m.scene)) = offered_good q h es rs m x is count low s fits some few plays in
     let shown : head_shown q (desk_of now) ≡ last_head (the_ring q h.size) b = ap (λ (bs : Bytes). last_head (the_ring q h.size) bs) front.memory in
     let offers : Offers w.front.outstanding outstanding (last_head (the_ring q h.size) b) x.ask = subst (λ (d : ℕ). Offers w.front.outstanding outstanding d x.ask) shown (goes.outstanding.offers few) in
+    let own = offered_heads q h r b m.scene in
+    let lane : (moment_with q count x m (offered_scene q h r b m.scene)).lanes q ≡ stored_lane q count x m = at_own m.lanes q (stored_lane q count x m) in
+    let driven : Driven q h.size h.capacity h.base (entries.Offer q r ∷ m.scene.past) (m.scene.heads q ++ last_head (the_ring q h.size) b ∷ []) (stored_lane q count x m).driver =
+    subst (λ (l : Lane). Driven q h.size h.capacity h.base (entries.Offer q r ∷ m.scene.past) (m.scene.heads q ++ last_head (the_ring q h.size) b ∷ []) l.driver) lane
+    (subst (λ (hs : List ℕ). Driven q h.size h.capacity h.base (entries.Offer q r ∷ m.scene.past) hs ((moment_with q count x m (offered_scene q h r b m.scene)).lanes q).driver) own good_next.holds.driven) in
     let stands : PartsAt q now (moment_with q count x m (offered_scene q h r b m.scene)) = record {
       front = front;
       position = position ∙ at.position;
       life = offered_life q h w.front.ring count m x r b w.life good at.life;
       disk = at.disk;
-      outstanding = offered_outstanding q h.size h.capacity h.base m.scene.past (m.scene.heads q) x.ask (last_head (the_ring q h.size) b) (stored_lane q count x m).driver w.front.outstanding outstanding at.outstanding good.holds.known good_next.holds.driven offers;
+      outstanding = subst (λ (hs : List ℕ). OutstandingAt q h.size (entries.Offer q r ∷ m.scene.past) hs outstanding) (sym own)
+          (offered_outstanding q h.size h.capacity h.base m.scene.past (m.scene.heads q) x.ask (last_head (the_ring q h.size) b) (stored_lane q count x m).driver w.front.outstanding outstanding at.outstanding good.holds.known driven offers);
     } in
     subst (λ (n : Moment). PartsAt q now n) (sym whole) stands
 

@@ -25,6 +25,7 @@ use Rattle.vub_shared.specs.Watched.{sizes_in}
 use Rattle.vub_world.specs.declared.front.Front.{Front}
 use Rattle.vub_world.specs.MachineFront.{head_shown, FrontFits, GuestGoes, GuestSteps}
 use Rattle.vub_run_laws.proofs.RunItems.{after-append}
+use Rattle.vub_world.proofs.MachineLanes.{stored_driver}
 
 -- ---- the stores that are left
 
@@ -83,7 +84,7 @@ pub none_gone : (q : ℕ) (w : Desk) (m : Moment) (x : Waiting) (before : List I
 none_gone q w m x before f waits =
     let some : 0 < length x.left = left_some w.front.guest x (ap (λ (v : Driver). v.waiting) f.driver ∙ waits) in
     record {
-      front = front_of q w m (guest_stores w.front.header q 0 (Some x) m).next refl (left_whole x (m.lanes q).driver x.left waits refl some) f;
+      front = front_of q w m (guest_stores w.front.header q 0 (Some x) m).next refl (stored_driver q w.front.header 0 x m ∙ left_whole x (m.lanes q).driver x.left waits refl some) f;
       items = sym (append-nil before);
       outstanding = record { before = λ less. refl; offers = λ none. absurd (omega arith) };
     }
@@ -102,7 +103,7 @@ one_gone q count x w v now m before mid after more same less went step =
     let c : Cut count x.left = cut count x.left less in
     let y : Waiting = record x { left = c.first ∷ c.rest } in
     let n : Moment = (guest_stores h q count (Some x) m).next in
-    let driver : (n.lanes q).driver ≡ with_left x (c.first ∷ c.rest) d = ap (λ (left : List Store). with_left x left d) c.here in
+    let driver : (n.lanes q).driver ≡ with_left x (c.first ∷ c.rest) d = stored_driver q h count x m ∙ ap (λ (left : List Store). with_left x left d) c.here in
     let made = subst (λ (o : Option Waiting). GuestSteps q o v now n mid after more) (ap (λ (t : Driver). t.waiting) driver) (step n went.front) in
     let goes : GuestGoes q 1 y v now n mid after = made.1 in
     let is : List Item = guest_items 1 q x.ask (c.first ∷ c.rest) in
@@ -113,7 +114,7 @@ one_gone q count x w v now m before mid after more same less went step =
     let outstanding : v.front.outstanding ≡ w.front.outstanding = went.outstanding.before less in
     let long : length x.left ≡ count + 1 + length c.rest = c.long in (
       record {
-        front = front_of q now (guest_stores h q 1 (Some y) n).next (guest_stores h q (suc count) (Some x) m).next (ap (λ (s : Scene). s.memory) scene) (sym after_one) front;
+        front = front_of q now (guest_stores h q 1 (Some y) n).next (guest_stores h q (suc count) (Some x) m).next (ap (λ (s : Scene). s.memory) scene) (stored_driver q h (suc count) x m ∙ sym after_one ∙ sym (stored_driver q h 1 y n)) front;
         items = goes.items ∙ ap (λ (js : List Item). js ++ is) went.items ∙ append_assoc before (guest_items count q x.ask x.left) is ∙ ap (λ (js : List Item). before ++ js) (sym whole);
         outstanding = record {
           before = λ left. goes.outstanding.before (omega arith) ∙ outstanding;
@@ -130,7 +131,7 @@ all_gone q count most x w now m before after last le went =
     let same : guest_items most q x.ask x.left ≡ guest_items count q x.ask x.left = items_all q count most x.ask x.left last le in
     let none : drop most x.left ≡ drop count x.left = drop_all most x.left (omega arith) ∙ sym (drop_all count x.left last) in
     record {
-      front = front_of q now (guest_stores h q count (Some x) m).next (guest_stores h q most (Some x) m).next (ap (λ (js : List Item). (after_items h js m.scene).memory) same) (ap (λ (left : List Store). with_left x left (m.lanes q).driver) none) went.front;
+      front = front_of q now (guest_stores h q count (Some x) m).next (guest_stores h q most (Some x) m).next (ap (λ (js : List Item). (after_items h js m.scene).memory) same) (stored_driver q h most x m ∙ ap (λ (left : List Store). with_left x left (m.lanes q).driver) none ∙ sym (stored_driver q h count x m)) went.front;
       items = went.items ∙ ap (λ (js : List Item). before ++ js) (sym same);
       outstanding = record { before = λ less. absurd (omega arith); offers = λ l. went.outstanding.offers last };
     }

@@ -37,6 +37,8 @@ use Rattle.vub_run_laws.proofs.RunNumbers.{missing-among, distinct_join, few_bel
 use Rattle.vub_run_laws.proofs.RunGood.{Known, Worked}
 use Rattle.vub_run_laws.proofs.RunEfforts.{weight, sum_below, weight_small}
 use Rattle.vub_run_laws.proofs.RunEnds.{effort_at, missing_distinct, phase_few, start_few}
+use Rattle.vub_device.specs.declared.entry.Answered.{Answered}
+use Rattle.vub_run_laws.proofs.RunOwn.{published_own}
 use Rattle.vub_run_laws.proofs.RunPublications.{numbers_answers}
 use Rattle.vub_run_laws.proofs.RunTurns.{Good, phase_cases}
 
@@ -87,7 +89,8 @@ step_shows q h s l (steps.Id e) = row_shows q h s (row_of (ring_of q h.size) (us
 step_shows q h s l (steps.Len e) = row_shows q h s (row_of (ring_of q h.size) (used_idx (ring_of q h.size) s.memory) (map (element_of h q s) l.batch) (steps.Len e)) ∙ omega arith
 step_shows q h s l steps.Index =
     let s' : Scene = after_items h (step_stores h q l.batch steps.Index s) s in
-    length-append (published s.past q) (numbers (map (answer_at q s') l.batch)) ∙ ap (λ (ks : List ℕ). length (published s.past q) + length ks) (numbers_answers q s' l.batch)
+    let list : List Answered = map (answer_at q s') l.batch in
+    ap (λ (ks : List ℕ). length ks) (published_own s.past q list) ∙ length-append (published s.past q) (numbers list) ∙ ap (λ (ks : List ℕ). length (published s.past q) + length ks) (numbers_answers q s' l.batch)
 
 phase_shows : (q : ℕ) (h : Header1) (s : Scene) (l : Lane) (o : Option Step) → count_in q (after_items h (phase_turn h q s l o).items s) ≡ count_in q s + step_shown (length l.batch) o
 phase_shows q h s l None = omega arith

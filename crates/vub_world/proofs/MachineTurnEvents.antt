@@ -89,6 +89,12 @@ pub turns_event_as : (q : ℕ) (h : Header1) (sequence : Sequence) (most : ℕ) 
 turns_event_as q h sequence most P Q m is f (inl x) = inl (x.0, f m x.1, x.2)
 turns_event_as q h sequence most P Q m is f (inr x) = inr (x.0, record { count = x.1.count; few = x.1.few; small = x.1.small; at = f (turns x.1.count (choices_from q h sequence m) h q m).next x.1.at; items_are = x.1.items_are; ends = x.1.ends })
 
+pub turns_event_of : (p q : ℕ) (h k : Header1) (sequence : Sequence) (most : ℕ) (There : Moment → Type 0) (m : Moment) (is : List Item) → p ≡ q → h ≡ k → TurnsEvent p h sequence most There m is → TurnsEvent q k sequence most There m is
+turns_event_of p q h k sequence most There m is same header event = subst (λ (j : ℕ). TurnsEvent j k sequence most There m is) same (subst (λ (g : Header1). TurnsEvent p g sequence most There m is) header event)
+
+pub single_as : (p q : ℕ) (h k : Header1) (t : Turn) (P Q : Moment → Type 0) (m : Moment) (is : List Item) → p ≡ q → h ≡ k → ((n : Moment) → P n → Q n) → (next : Moment) × (played is next ≡ single h p t m) × P next → (next : Moment) × (played is next ≡ single k q t m) × Q next
+single_as p q h k t P Q m is same header f x = (x.0, subst (λ (j : ℕ). played is x.0 ≡ single k j t m) same (subst (λ (g : Header1). played is x.0 ≡ single g p t m) header x.1), f x.0 x.2)
+
 -- no turn is due where no queue is attached
 pub several_none : (q : ℕ) (h : Header1) (There : Moment → Type 0) (sequence : Sequence) (most : ℕ) (m : Moment) (is : List Item) → (m.lanes q).attached ≡ false → There m → is ≡ items.Idle ∷ [] → TurnsEvent q h sequence most There m is
 several_none q h There sequence most m is none there noted = inl (undue q h (choices_from q h sequence m m) m none, there, noted)

@@ -54,6 +54,7 @@ use Rattle.vub_run.specs.Turns.{turned, answer_len, answer_at}
 use Rattle.vub_run_laws.proofs.RunNumbers.{not_among-take}
 use Rattle.vub_run_laws.proofs.RunFrames.{open_out, length_little}
 use Rattle.vub_run_laws.proofs.RunGood.{IsWide, IsOut, PhaseIs}
+use Rattle.vub_run_laws.proofs.RunOwn.{accepted_own}
 use Rattle.vub_run_laws.proofs.RunPhases.{some_waits}
 use Rattle.vub_run_laws.proofs.RunTurns.{IsPlain, Good}
 use Rattle.vub_run_laws.proofs.RunChainsEvents.{ChainedAt}
@@ -149,7 +150,7 @@ fetch_made q h r m outstanding cap sizes d now x a ready does =
     let slot = a.numbered.slots k offered new in
     let number : number_at outstanding head ≡ k = ap (λ (o : OutstandingRequest). o.number) slot in
     let one : accepts x ≡ 1 = ap accepts s.said in
-    let more : accepted (one_turn h q turns.Fetch m).next.scene.past q ≡ k + 1 = ap (λ (is : List Item). accepted (after_items h is m.scene).past q) s.made in
+    let more : accepted (one_turn h q turns.Fetch m).next.scene.past q ≡ k + 1 = ap (λ (is : List Item). accepted (after_items h is m.scene).past q) s.made ∙ accepted_own m.scene.past q k in
     record {
       goes = ap is_idle s.said;
       made = subst (λ (y : Stepped). IsMade y) (sym s.said) tt;

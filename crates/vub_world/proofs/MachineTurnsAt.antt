@@ -36,10 +36,11 @@ use Rattle.vub_world.specs.MachineAt.{AskAt, AttachedAt, LifeAt, OutstandingAt, 
 use Rattle.vub_world.specs.MachineDevice.{Device, device, DeviceAt, TurnMade, DeviceTurns, noted, stored_items, shown_of, answers_shown}
 use Rattle.vub_world.specs.MachineSteps.{TurnGoes}
 use Rattle.vub_run.specs.Memory.{Scene, after_items}
-use Rattle.vub_run.specs.Moments.{Moment, standing}
+use Rattle.vub_run.specs.Moments.{Lane, Moment, standing}
 use Rattle.vub_queue.specs.QueueState.{state_of, QueueLies}
 use Rattle.vub_run.specs.Run.{one_turn, is_due}
 use Rattle.vub_run.specs.Turns.{turned}
+use Rattle.vub_run_laws.proofs.RunOwn.{at_own, published_own}
 use Rattle.vub_run_laws.proofs.RunDrains.{turned_stays}
 use Rattle.vub_run_laws.proofs.RunTurns.{Good}
 use Rattle.vub_run_laws.proofs.RunChainsTurns.{turn_driver}
@@ -66,9 +67,9 @@ stores_same q h tag (st ∷ []) s = (refl, refl, λ k. refl, refl)
 stores_same q h tag (st ∷ more ∷ stores) s = (refl, refl, λ k. refl, refl)
 
 shows_keeps : (q : ℕ) (h : Header1) (tag : Tag) (stores : List Store) (answers : List Answered) (s : Scene) → Keeps q s (after_items h (stored_items tag stores ++ items.Made (entries.Publish q answers) ∷ []) s)
-shows_keeps q h tag [] answers s = record { heads_are = refl; collects = refl; asked_are = λ k. refl; more = numbers answers; shown = refl }
-shows_keeps q h tag (st ∷ []) answers s = record { heads_are = refl; collects = refl; asked_are = λ k. refl; more = numbers answers; shown = refl }
-shows_keeps q h tag (st ∷ next ∷ stores) answers s = record { heads_are = refl; collects = refl; asked_are = λ k. refl; more = numbers answers; shown = refl }
+shows_keeps q h tag [] answers s = record { heads_are = refl; collects = refl; asked_are = λ k. refl; more = numbers answers; shown = published_own s.past q answers }
+shows_keeps q h tag (st ∷ []) answers s = record { heads_are = refl; collects = refl; asked_are = λ k. refl; more = numbers answers; shown = published_own s.past q answers }
+shows_keeps q h tag (st ∷ next ∷ stores) answers s = record { heads_are = refl; collects = refl; asked_are = λ k. refl; more = numbers answers; shown = published_own s.past q answers }
 
 noted_keeps : (q : ℕ) (h : Header1) (outstanding : OutstandingRequests) (v : Values) (stores : List Store) (answers : List Answered) (x : Stepped) (s : Scene) → Keeps q s (after_items h (noted q outstanding v stores answers x) s)
 noted_keeps q h outstanding v stores answers (says.Stored tag) s = same_keeps q s _ (stores_same q h tag stores s)
@@ -128,7 +129,8 @@ made_at : (q : ℕ) (w : Parts) (m : Moment) (queue queue' : Queue) (t : Turn) (
 made_at q w m queue queue' t memory disk d x has made =
     let life = life_at q w m queue has in
     let keeps : Keeps q m.scene (after_turn q w t m).scene = subst (λ (is : List Item). Keeps q m.scene (after_items w.front.header is m.scene)) (sym made.items_are) (noted_keeps q w.front.header w.front.outstanding (values_of disk) (stores_in memory) (shown_of q w.front.outstanding d.memory d.queue) x m.scene) in
-    let driver : (turned w.front.header q t m).lane.driver ≡ (m.lanes q).driver = turn_driver q w.front.header t m in
+    let own : (after_turn q w t m).lanes q ≡ (turned w.front.header q t m).lane = at_own m.lanes q (turned w.front.header q t m).lane in
+    let driver : ((after_turn q w t m).lanes q).driver ≡ (m.lanes q).driver = ap (λ (l : Lane). l.driver) own ∙ turn_driver q w.front.header t m in
     record {
       front = record {
         memory = made.at.memory_is;
@@ -136,7 +138,7 @@ made_at q w m queue queue' t memory disk d x has made =
         asks = subst (λ (v : Driver). AskAt v.waiting w.front.asked) (sym driver) has.at.front.asks;
       };
       position = has.at.position ∙ ap (λ (n : ℕ). (w.front.header.base + n) % 65536) (sym keeps.collects);
-      life = (life.0, (life.1.0, turned_stays q w.front.header t m ∙ life.1.1, made.at.stands));
+      life = (life.0, (life.1.0, ap (λ (l : Lane). l.attached) own ∙ turned_stays q w.front.header t m ∙ life.1.1, made.at.stands));
       disk = made.at.disk;
       outstanding = kept_slots q w.front.header.size m.scene (after_turn q w t m).scene w.front.outstanding keeps has.good.holds.known.shown has.at.outstanding;
     }

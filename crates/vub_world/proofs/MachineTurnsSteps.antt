@@ -14,7 +14,7 @@ use Rattle.vub_report.specs.declared.items.Item.{Item}
 use Rattle.vub_world.specs.MachineAt.{PartsAt}
 use Rattle.vub_world.specs.MachineDevice.{noted, answers_shown, accepts}
 use Rattle.vub_world.specs.MachineSteps.{TurnGoes, MachineTurns, StepGoes}
-use Rattle.vub_room.specs.Rooms.{SpendsUpTo, RoomState}
+use Rattle.vub_room.specs.Rooms.{SpendsUpTo, SpendsTurn, SpendsStep, RoomState}
 use Rattle.vub_run.specs.Moments.{Moment}
 use Rattle.vub_queue.specs.QueueState.{is_idle}
 use Rattle.vub_run.specs.Run.{is_due}
@@ -22,6 +22,30 @@ use Rattle.vub_run.specs.Run.{is_due}
 pub same_items : (shown : ℕ) (r now : RoomState) → SpendsUpTo shown r now → now.items ≡ r.items
 same_items zero r now spent = ap (λ (x : RoomState). x.items) spent
 same_items (suc shown) r now spent = spent.items
+
+-- the room that a step spends
+pub spends_none : (shown : ℕ) (r now : RoomState) → SpendsUpTo shown r now → SpendsStep shown r now
+spends_none zero r now spent = subst (λ (x : RoomState). SpendsStep 0 r x) (sym spent) (record { item_room = omega arith; lists_left = omega arith; answer_lists = omega arith; answers = refl })
+spends_none (suc shown) r now spent = record {
+  item_room = omega (arith, spent.item_room);
+  lists_left = omega (arith, spent.lists_left);
+  answer_lists = omega (arith, spent.answer_lists);
+  answers = spent.answers;
+}
+
+pub spends_turn : (shown : ℕ) (r mid now : RoomState) → SpendsUpTo shown r mid → SpendsTurn mid now → SpendsStep shown r now
+spends_turn zero r mid now spent turn = record {
+  item_room = omega (arith, turn.item_room, ap (λ (x : RoomState). x.item_room) spent);
+  lists_left = omega (arith, turn.lists_left, ap (λ (x : RoomState). x.lists) spent);
+  answer_lists = omega (arith, turn.answer_lists, ap (λ (x : RoomState). x.answer_lists) spent);
+  answers = turn.answers ∙ ap (λ (x : RoomState). x.answers) spent;
+}
+spends_turn (suc shown) r mid now spent turn = record {
+  item_room = omega (arith, turn.item_room, spent.item_room);
+  lists_left = omega (arith, turn.lists_left, spent.lists_left);
+  answer_lists = omega (arith, turn.answer_lists, spent.answer_lists);
+  answers = turn.answers ∙ spent.answers;
+}
 
 -- a turn that made nothing
 pub step_ends : (q : ℕ) (t : Turn) (w now : Parts) (m : Moment) (x : Stepped) → is_idle x ≡ true → TurnGoes q t w now m x → (is_due w.front.header q t m ≡ false) × PartsAt q now m

@@ -172,7 +172,7 @@ pub work_made : (q : ℕ) (h : Header1) (r : SplitRing) (m : Moment) (outstandin
 work_made q h r m outstanding sizes place d now x a room ready does =
     let state : QueueState = d.queue in
     let w : WorkReady q h sizes m state place = work_ready q h m r sizes state place a.plain a.good a.chained a.main room a.at.stands ready in
-    let n : Making = making q w in
+    let n : Making = making w in
     let due : IsDue h.capacity sizes state d.memory place w.task n = subst (λ (b : Bytes). IsDue h.capacity sizes state b place w.task n) (sym a.at.memory_is) w.due in
     let out : WorksOut place w.task n d.memory (Some now.memory) (Some d.stores) (Some now.stores) (Some d.values) (Some now.values) x state now.queue = stepped_out x _ does.fine does.served (does.made place w.task n refl due) in
     let kind = work_kind q h sizes m state place w a.plain a.good in

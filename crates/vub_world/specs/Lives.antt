@@ -7,7 +7,7 @@ use Rattle.vub_queue.specs.Queue.{ring_in}
 use Rattle.vub_queue.specs.QueueState.{QueueLies, state_of}
 
 -- queue q, where the queues are attached
-abbrev pub queue_of : ℕ → Option (Vec Queue) → Option Queue
+abbrev pub queue_of : {Z : Type 0} → ℕ → Option (Vec Queue Z) → Option Queue
 queue_of q None = None
 queue_of q (Some queues) = slice_get queues.items q
 

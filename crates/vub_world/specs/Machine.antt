@@ -16,7 +16,7 @@ use Rattle.vub_world.specs.Fronts.{PartsSound, parts_of, offers_in}
 use Rattle.vub_world.specs.declared.machine.Machine.{Machine}
 
 -- the queues of a life are as many as that, where they are attached
-abbrev pub AreAttached : ℕ → Option (Vec Queue) → Type 0
+abbrev pub AreAttached : {Z : Type 0} → ℕ → Option (Vec Queue Z) → Type 0
 AreAttached count None = ⊤
 AreAttached count (Some queues) = length queues.items ≡ count
 

@@ -70,8 +70,8 @@ pub record PartsAt (q : ℕ) (p : Parts) (m : Moment) : Type 0 where
   pub outstanding : OutstandingAt q p.front.header.size m.scene.past (m.scene.heads q) p.front.outstanding
 
 -- the machine stands at a moment: the parts of each queue do
-abbrev pub MachineAt : Machine → Moment → Type 0
-MachineAt w m = (q : ℕ) (front : Front) → slice_get w.fronts.items q ≡ Some front → PartsAt q (parts_of q front w) m
+pub record MachineAt (w : Machine) (m : Moment) : Type 0 where
+  pub queues : (q : ℕ) (front : Front) → slice_get w.fronts.items q ≡ Some front → PartsAt q (parts_of q front w) m
 
 -- the machine stands for these events and their records
 abbrev pub StandsFor : Machine → List Event → List Record → Type 0
@@ -81,9 +81,12 @@ StandsFor w es rs = (m : Moment) × Stands w.header es rs m × MachineAt w m
 abbrev pub IsStanding : Machine → Type 0
 IsStanding w = (es : List Event) × (rs : List Record) × StandsFor w es rs
 
--- the parts of a queue stand for some events
+-- the parts of a queue, which is one of the header's, stand for some events
+abbrev pub PartsStandFor : ℕ → Parts → List Event → List Record → Type 0
+PartsStandFor q p es rs = (m : Moment) × Stands p.front.header es rs m × PartsAt q p m × (q < p.front.header.queues)
+
 abbrev pub PartsStand : ℕ → Parts → Type 0
-PartsStand q p = (es : List Event) × (rs : List Record) × (m : Moment) × Stands p.front.header es rs m × PartsAt q p m × (q < p.front.header.queues)
+PartsStand q p = (es : List Event) × (rs : List Record) × PartsStandFor q p es rs
 
 -- whether there is a life with its queues attached
 abbrev pub is_attached : Option Life → Bool

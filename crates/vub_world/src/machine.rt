@@ -60,6 +60,18 @@ fn guest_memory(alloc: Global, queues: u16) -> Result<(WatchedShared, Space), Me
     }
 }
 
+fn add_front(fronts: &mut Vec<Front>, front: Front) -> Result<(), Memory>
+    ensures { OnOk result (fronts.new.items ≡ fronts.old.items ++ front ∷ []) }
+{
+    fronts.push(front).map_err(|_| Memory)
+}
+
+fn add_queue(queues: &mut Vec<Queue>, queue: Queue) -> Result<(), Memory>
+    ensures { OnOk result (queues.new.items ≡ queues.old.items ++ queue ∷ []) }
+{
+    queues.push(queue).map_err(|_| Memory)
+}
+
 /// The fronts of the header's queues, in the order of their numbers.
 fn new_fronts(alloc: Global, header: &Header1, space: Space) -> Result<Vec<Front>, Memory>
     requires header { IsHeader header.now }
@@ -70,7 +82,7 @@ fn new_fronts(alloc: Global, header: &Header1, space: Space) -> Result<Vec<Front
         Vec::with_capacity(alloc, usize::from(header.queues)).map_err(|_| Memory)?;
     for queue in 0..header.queues {
         let front = Front::new(alloc, header, queue, space)?;
-        fronts.push_reserved(front);
+        add_front(&mut fronts, front)?;
     }
     Ok(fronts)
 }
@@ -82,7 +94,7 @@ impl Machine {
     ghost use Rattle.vub_report.specs.declared.items.Item.TheVariants as items;
     ghost use Rattle.vub_world.specs.Fronts.{AreNewQueues};
     ghost use Rattle.vub_world.specs.Machine.{IsSound, LendsSound};
-    ghost use Rattle.vub_world.specs.MachineAt.{MachineAt, IsStanding, Performs, StandsOn};
+    ghost use Rattle.vub_world.specs.MachineAt.{MachineAt, IsStanding, Performs, StandsOn, is_attached};
     ghost use Rattle.vub_world.specs.MachineDevice.{is_joining};
     ghost use Rattle.vub_world.specs.MachineSteps.{PlaysSingle, PlaysTurns};
     ghost use Rattle.vub_world.specs.Fronts.{offers_in};
@@ -191,10 +203,11 @@ impl Machine {
     {
         let mut room = Room::of_items(self.alloc, 1)?;
         let front = &mut self.fronts[usize::from(queue)];
-        room.note(match front.collect(&mut self.memory) {
+        let item = match front.collect(&mut self.memory) {
             Some(number) => Item::Made(Entry::Collect(queue, number)),
             None => Item::Idle,
-        });
+        };
+        room.note(item);
         Ok(room.into_items())
     }
 
@@ -220,22 +233,29 @@ impl Machine {
         matches!(&self.life, Some(Life { queues: None }))
     }
 
+    /// Whether there is a life with its queues attached.
+    fn is_attached(&self) -> bool
+        ensures { result ≡ is_attached self.now.life }
+    {
+        matches!(&self.life, Some(Life { queues: Some(_) }))
+    }
+
     /// A queue of the device for each front, in their order.
     fn new_queues(&self) -> Result<Vec<Queue>, Memory>
         requires { IsSound self.now }
-        ensures { IfOk result (λ queues. AreNewQueues (length self.now.fronts.items) self.now.fronts.items queues.items) }
+        ensures { IfOk result (λ queues. AreNewQueues self.now.header.queues self.now.fronts.items queues.items) }
     {
         let mut queues =
             Vec::with_capacity(self.alloc, self.fronts.len()).map_err(|_| Memory)?;
-        for place in 0..self.fronts.len() {
-            let front = &self.fronts[place];
+        for index in 0..self.header.queues {
+            let front = &self.fronts[usize::from(index)];
             let setup = QueueSetup {
-                index: front.index,
+                index,
                 ring: front.ring,
                 base: front.header.base,
             };
             let queue = Queue::new(self.alloc, &setup)?;
-            queues.push_reserved(queue);
+            add_queue(&mut queues, queue)?;
         }
         Ok(queues)
     }
@@ -268,16 +288,19 @@ impl Machine {
         ensures kept { OnErr result (self.new ≡ self.old) }
         ensures plays { IfOk result (λ is. PlaysSingle queue self.old self.new turn is) }
     {
+        if !self.is_attached() {
+            return self.idle();
+        }
         let place = usize::from(queue);
+        let front = &self.fronts[place];
+        let undone = front.outstanding.count();
+        let mut room = Room::for_turns(self.alloc, &mut self.spare, 1, undone)?;
         let Some(Life {
             queues: Some(queues),
         }) = &mut self.life
         else {
-            return self.idle();
+            unreachable!();
         };
-        let front = &self.fronts[place];
-        let undone = front.outstanding.count();
-        let mut room = Room::for_turns(self.alloc, &mut self.spare, 1, undone)?;
         let stepped = front.play(
             &mut queues[place],
             Choice::Only(turn),
@@ -302,16 +325,19 @@ impl Machine {
         ensures kept { OnErr result (self.new ≡ self.old) }
         ensures plays { IfOk result (λ is. PlaysTurns queue self.old self.new sequence count is) }
     {
+        if !self.is_attached() {
+            return self.idle();
+        }
         let place = usize::from(queue);
+        let front = &self.fronts[place];
+        let undone = front.outstanding.count();
+        let mut room = Room::for_turns(self.alloc, &mut self.spare, count, undone)?;
         let Some(Life {
             queues: Some(queues),
         }) = &mut self.life
         else {
-            return self.idle();
+            unreachable!();
         };
-        let front = &self.fronts[place];
-        let undone = front.outstanding.count();
-        let mut room = Room::for_turns(self.alloc, &mut self.spare, count, undone)?;
         let made = front.play_turns(
             &mut queues[place],
             sequence,

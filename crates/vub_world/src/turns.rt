@@ -228,7 +228,7 @@ impl Front {
         requires stands { PartsStand self.now.index (parts memory.old self.now queue.old disk.old) }
         ensures sound { PartsSound self.now.index (parts memory.new self.now queue.new disk.new) }
         ensures sizes { (s : ℕ) → sizes_in memory.new s ≡ sizes_in memory.old s }
-        ensures turns { (es : List Event) (rs : List Record) (m : Moment) → Stands self.now.header es rs m → PartsAt self.now.index (parts memory.old self.now queue.old disk.old) m → TurnsGo self.now.index result sequence count (parts memory.old self.now queue.old disk.old) (parts memory.new self.now queue.new disk.new) m room.old.items room.new.items }
+        ensures turns { (es : List Event) (rs : List Record) (m : Moment) → Stands self.now.header es rs m → PartsAt self.now.index (parts memory.old self.now queue.old disk.old) m → TurnsGo self.now.index self.now.header result sequence count (PartsAt self.now.index (parts memory.new self.now queue.new disk.new)) m room.old.items room.new.items }
         ensures idle { result ≡ false → room.new.item_room ≡ room.old.item_room }
     {
         let mut accepted: u16 = 0;

@@ -17,11 +17,11 @@ pub store-requires-clause-more : goal.store-requires-clause-more
 store-requires-clause-more c = subst (λ (l : OutstandingRequests). offered_in l < 18446744073709551615) (sym c.loop-done.invariant.outstanding) c.requires.more
 
 -- the number of the queue stays
-index_stays : (c : goal.In-loop-done) → c.args.self.now.index ≡ c.loop-done.self.index
-index_stays c = sym (ap (λ (f : Front). f.index) c.loop-done.invariant.frame)
+index_stays : (w v : Front) → v ≡ record w { guest = v.guest; asked = v.asked; outstanding = v.outstanding } → w.index ≡ v.index
+index_stays w v frame = sym (ap (λ (f : Front). f.index) frame)
 
 pub store-requires-clause-fits : goal.store-requires-clause-fits
-store-requires-clause-fits c = subst (λ (k : ℕ). FrontFits k (desk c.loop-done.memory c.loop-done.self)) (index_stays c) c.loop-done.invariant.fits
+store-requires-clause-fits c = subst (λ (k : ℕ). FrontFits k (desk c.loop-done.memory c.loop-done.self)) (index_stays c.args.self.now c.loop-done.self c.loop-done.invariant.frame) c.loop-done.invariant.fits
 
 pub store-requires-clause-items : goal.store-requires-clause-items
 store-requires-clause-items c = omega (arith, c.requires.items, c.loop-done.invariant.items_left, c.loop-done-test.true)
@@ -45,7 +45,7 @@ returns-then-not-store-clause-goes c =
     let v : Desk = desk c.loop-done.memory c.loop-done.self in
     let now : Desk = desk c.store.new.memory c.store.new.self in
     loop_last q c.loop-done.done c.args.count w v now c.args.room.now c.loop-done.room c.store.new.room c.loop-done.invariant c.loop-done-test.true
-    (λ n f. steps_as q v.front.index v now n c.loop-done.room.items c.store.new.room.items c.store.result false (index_stays c) c.if-not-store.true (c.store.ensures.goes n) f)
+    (λ n f. steps_as q v.front.index v now n c.loop-done.room.items c.store.new.room.items c.store.result false (index_stays c.args.self.now c.loop-done.self c.loop-done.invariant.frame) c.if-not-store.true (c.store.ensures.goes n) f)
 
 pub loop-done-preserved : goal.loop-done-preserved
 loop-done-preserved c =
@@ -53,10 +53,10 @@ loop-done-preserved c =
     let w : Desk = desk c.args.memory.now c.args.self.now in
     let v : Desk = desk c.loop-done.memory c.loop-done.self in
     let now : Desk = desk c.store.new.memory c.store.new.self in
-    let fits : FrontFits q now = subst (λ (k : ℕ). FrontFits k now) (sym (index_stays c)) c.store.ensures.fits in
+    let fits : FrontFits q now = subst (λ (k : ℕ). FrontFits k now) (sym (index_stays c.args.self.now c.loop-done.self c.loop-done.invariant.frame)) c.store.ensures.fits in
     subst (λ (k : ℕ). GuestLoop q k w now c.args.room.now c.store.new.room) (omega arith) (loop_more q c.loop-done.done w v now c.args.room.now c.loop-done.room c.store.new.room c.loop-done.invariant
     c.store.ensures.frame c.store.ensures.sound c.store.ensures.sizes fits (c.store.ensures.outstanding c.if-not-store.false) c.store.ensures.position (c.store.ensures.spent c.if-not-store.false)
-    (λ n f. steps_as q v.front.index v now n c.loop-done.room.items c.store.new.room.items c.store.result true (index_stays c) c.if-not-store.false (c.store.ensures.goes n) f))
+    (λ n f. steps_as q v.front.index v now n c.loop-done.room.items c.store.new.room.items c.store.result true (index_stays c.args.self.now c.loop-done.self c.loop-done.invariant.frame) c.if-not-store.false (c.store.ensures.goes n) f))
 
 pub returns-clause-frame : goal.returns-clause-frame
 returns-clause-frame c = c.loop-done.invariant.frame

@@ -1,4 +1,4 @@
-use Rattle.std.proofs.Common.{◌≡◌, ℕ, ap, ◌∙◌}
+use Rattle.std.proofs.Common.{◌≡◌, ℕ, refl, ap, ◌∙◌}
 use Rattle.vub_shared.specs.declared.mem_shared.MemShared.{MemShared}
 use Rattle.vub_shared.specs.MemSpaces.{sizes_of}
 use Rattle.vub_shared.specs.Watched.{sizes_in}
@@ -8,6 +8,7 @@ use Rattle.vub_world.specs.MachineDevice.{turn_here}
 use Rattle.vub_world.proofs.MachineLemmas.{still_sound}
 use Rattle.vub_world.proofs.MachineTurnsNext.{reached_holds}
 use Rattle.vub_world.proofs.MachineTurnsAt.{HasQueue, turn_goes, queue_lies_still, kept_room, kept_bytes}
+use Rattle.vub_world.proofs.front.Front.turn.Goals.{After-turn_queue}
 use Rattle.vub_world.proofs.front.Front.turn.Goals as goal
 
 pub turn_queue-requires-clause-lies : goal.turn_queue-requires-clause-lies
@@ -18,7 +19,7 @@ turn_queue-requires-clause-lies c =
 pub turn_queue-requires-clause-unfailed : goal.turn_queue-requires-clause-unfailed
 turn_queue-requires-clause-unfailed c = restarted_unfailed c.args.memory.now c.restart.new.self c.requires.sound.front.unfailed c.restart.ensures.memory c.restart.ensures.faults
 
-sizes_stay : (c : goal.After-turn_queue) → (s : ℕ) → sizes_in c.turn_queue.new.memory s ≡ sizes_in c.args.memory.now s
+sizes_stay : (c : After-turn_queue) → (s : ℕ) → sizes_in c.turn_queue.new.memory s ≡ sizes_in c.args.memory.now s
 sizes_stay c s = c.turn_queue.ensures.sizes s ∙ ap (λ (x : MemShared). sizes_of x s) c.restart.ensures.memory
 
 pub returns-clause-sizes : goal.returns-clause-sizes

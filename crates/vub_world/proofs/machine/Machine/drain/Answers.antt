@@ -7,8 +7,9 @@ use Rattle.vub_world.proofs.MachineEvents.{ok_then}
 use Rattle.vub_world.proofs.MachineTurnEvents.{drain_performs}
 use Rattle.vub_world.proofs.machine.Machine.drain.Goals as goal
 
-pub returns-clause-performs : (q : ℕ) → goal.returns-clause-performs
-returns-clause-performs q c =
+pub returns-clause-performs : goal.returns-clause-performs
+returns-clause-performs c =
     let w = c.args.self.now in
     let now = c.several.new.self in
-    ok_then (λ is. PlaysTurns q w now sequences.Drain (2 ^ 64 - 1) is) (λ is. Performs q w now (events.Drain q) is) c.several.result (λ is plays. drain_performs q w now (2 ^ 64 - 1) is (omega arith) plays) c.several.ensures.plays
+    let q = c.args.queue in
+    ok_then (λ is. PlaysTurns q w now sequences.Drain (2 ^ 64 - 1) is) (λ is. Performs w now (events.Drain q) is) c.several.result (λ is plays. drain_performs q w now (2 ^ 64 - 1) is (omega arith) plays) c.several.ensures.plays
