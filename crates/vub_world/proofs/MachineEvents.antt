@@ -4,7 +4,7 @@ use Rattle.std.specs.Prelude.{Vec, Result, Ok, Err, IfOk, Option, Some, None, is
 use Rattle.vub_base.specs.declared.header.Header1.{Header1}
 use Rattle.vub_schedule.specs.declared.types.Event.{Event}
 use Rattle.vub_schedule.specs.declared.types.Event.TheVariants as events
-use Rattle.vub_schedule.specs.Spelling.{IsEvent}
+use Rattle.vub_schedule.specs.Spelling.{IsHeader, IsEvent}
 use Rattle.vub_world.specs.declared.front.Front.{Front}
 use Rattle.vub_world.specs.declared.machine.Life.{Life}
 use Rattle.vub_world.specs.declared.machine.Machine.{Machine}
@@ -78,34 +78,34 @@ stands_on w now e r spare sound fits same is goes es rs stood =
     let went = goes es rs m stood.1 stood.2 in
     let stands : Stands w.header (es ++ e ∷ []) (rs ++ r ∷ []) went.0 = stands_more w.header es rs m went.0 e r stood.1 fits is went.1 in
     record {
-      stands = (went.0, subst (λ (h : Header1). Stands h (es ++ e ∷ []) (rs ++ r ∷ []) went.0) (sym same) stands, record { queues = went.2.queues });
+      stands = (went.0, subst (λ (h : Header1). Stands h (es ++ e ∷ []) (rs ++ r ∷ []) went.0) (sym same) stands, record { many = went.2.many; queues = went.2.queues });
       runs = stands_legal w.header (es ++ e ∷ []) (rs ++ r ∷ []) went.0 stands;
       serves = serves_all w e es rs m went.0 r sound fits stood.2 stood.1 stands went.1;
     }
 
 -- all offers of a machine are in the heads of its queue
-offers_are : (w : Machine) (m : Moment) → IsSound w → MachineAt w m → offers_in w ≡ length (m.scene.heads 0)
-offers_are w m sound at =
-    let front = event_front w 0 sound refl in
-    offered_only w.fronts.items front.0 (sound.many ∙ sound.header.one) front.1 ∙ (at.queues 0 front.0 front.1).outstanding.offers_are
+offers_are : (w : Machine) (m : Moment) → IsHeader w.header → MachineAt w m → offers_in w ≡ length (m.scene.heads 0)
+offers_are w m header at =
+    let front = found_there w.fronts.items 0 (omega (arith, at.many, header.one)) in
+    offered_only w.fronts.items front.0 (at.many ∙ header.one) front.1 ∙ (at.queues 0 front.0 front.1).outstanding.offers_are
 
 -- an event offers one request at most
-pub one_offer : (w now : Machine) (e : Event) (is : List Item) → IsSound w → IsSound now → IsEvent w.header e → IsStanding w → Performs w now e is → offers_in now ≤ offers_in w + 1
-one_offer w now e is sound after fits stood goes =
+pub one_offer : (w now : Machine) (e : Event) (is : List Item) → IsSound now → IsEvent w.header e → IsStanding w → Performs w now e is → offers_in now ≤ offers_in w + 1
+one_offer w now e is after fits stood goes =
     let m : Moment = stood.2.0 in
     let stands : Stands w.header stood.0 stood.1 m = stood.2.1 in
     let at : MachineAt w m = stood.2.2 in
     let went = goes stood.0 stood.1 m stands at in
     let few : length (went.0.scene.heads 0) ≤ length (m.scene.heads 0) + 1 = event_offers 0 w.header m e is went.0 stands.header (omega (arith, stands.header.one)) (stands_held w.header stood.0 stood.1 m stands) fits went.1 in
-    omega (arith, few, offers_are now went.0 after went.2, offers_are w m sound at)
+    omega (arith, few, offers_are now went.0 after.header went.2, offers_are w m stands.header at)
 
 -- no more requests were offered than events were played
-pub offers_few : (w : Machine) (es : List Event) (rs : List Record) → IsSound w → StandsFor w es rs → offers_in w ≤ length es
-offers_few w es rs sound stood =
+pub offers_few : (w : Machine) (es : List Event) (rs : List Record) → StandsFor w es rs → offers_in w ≤ length es
+offers_few w es rs stood =
     let m : Moment = stood.0 in
     let stands : Stands w.header es rs m = stood.1 in
     let few : length (m.scene.heads 0) ≤ 0 + length es = run_offers 0 w.header (opening w.header) es rs m stands.header (omega (arith, stands.header.one)) (opening_held w.header stands.header) stands.events stands.run in
-    omega (arith, few, offers_are w m sound stood.2)
+    omega (arith, few, offers_are w m stands.header stood.2)
 
 pub standing_on : (w now : Machine) (e : Event) (r : Record) → IsStanding w → StandsOn w now e r → IsStanding now
 standing_on w now e r s on = (s.0 ++ e ∷ [], s.1 ++ r ∷ [], (on s.0 s.1 s.2).stands)

@@ -65,7 +65,7 @@ new_sound h q memory f is new low size unfailed = record {
 
 pub opens : (w : Machine) → IsHeader w.header → ((s p : ℕ) → bytes_in w.memory s p ≡ 0) → AreNewFronts w.header w.header.queues w.fronts.items → w.life ≡ None → ((s : ℕ) → s < w.header.capacity → values_of w.disk s ≡ replicate 512 0) → MachineAt w (opening w.header)
 unfolding zeros
-opens w is none fronts life disk = record { queues = λ q f found.
+opens w is none fronts life disk = record { many = fronts.many; queues = λ q f found.
     let new = fronts.each q f found in
     record {
       front = record {

@@ -155,7 +155,7 @@ asked_sound w q f g sound is frame ring =
     front_sound w w.memory q f g sound is (record { header = ap (λ (x : Front). x.header) frame; index = ap (λ (x : Front). x.index) frame; ring = ap (λ (x : Front). x.ring) frame }) (subst (λ (x : Front). FrontSound w.memory x) (sym frame) asked) (λ s. refl)
 
 pub front_at : (w : Machine) (memory : WatchedShared) (q : ℕ) (f g : Front) (next : Moment) → IsSound w → slice_get w.fronts.items q ≡ Some f → PartsAt q (with_desk (parts_of q f w) memory g) next → MachineAt (with_front_at w memory q g) next
-front_at w memory q f g next sound is at = record { queues = each_front w q f g (λ p x. PartsAt p (parts_of p x (with_front_at w memory q g)) next) sound is at }
+front_at w memory q f g next sound is at = record { many = length-set w.fronts.items q g ∙ sound.many; queues = each_front w q f g (λ p x. PartsAt p (parts_of p x (with_front_at w memory q g)) next) sound is at }
 
 -- a Vec stays where its item is stored again
 same_item : {X Z : Type 0} (v : Vec X Z) (i : ℕ) (x : X) → v.items ≡ set v.items i x → with_item v i x ≡ v
@@ -194,7 +194,7 @@ turned_sound w memory q k queue disk f sound is has parts_sound = record {
 }
 
 pub turned_at : (w : Machine) (memory : WatchedShared) (q : ℕ) (k : Life) (queue : Queue) (disk : MemDisk) (f : Front) → IsSound w → slice_get w.fronts.items q ≡ Some f → HasTurned w q k queue → (next : Moment) → PartsAt q (parts memory f queue disk) next → MachineAt (with_turned w memory k disk) next
-turned_at w memory q k queue disk f sound is has next at = record { queues = each_same w q f (λ p x. PartsAt p (parts_of p x (with_turned w memory k disk)) next) sound is (subst (λ (p : Parts). PartsAt q p next) (turned_parts w memory q k queue disk f has) at) }
+turned_at w memory q k queue disk f sound is has next at = record { many = sound.many; queues = each_same w q f (λ p x. PartsAt p (parts_of p x (with_turned w memory k disk)) next) sound is (subst (λ (p : Parts). PartsAt q p next) (turned_parts w memory q k queue disk f has) at) }
 
 -- ---- the machine with another life
 

@@ -55,6 +55,7 @@ booted_sound w l sound none = record {
 
 pub booted_on : (w : Machine) (l : Life) (es : List Event) (rs : List Record) (m : Moment) → IsSound w → l.queues ≡ None → Stands w.header es rs m → m.lives ≡ false → MachineAt w m → MachineAt (with_life_of w (Some l)) (booted m)
 booted_on w l es rs m sound none stands asleep at = record {
+  many = sound.many;
   queues = λ q f is.
       let low : q < w.header.queues = omega (arith, the_low w q f sound is, ap (λ (h : Header1). h.queues) (sound.headers q f is)) in
       let quiet = ((stands_good q w.header es rs m low stands).asleep asleep).1 in
@@ -94,6 +95,7 @@ joined_sound w l qs sound new many has = record {
 pub joined_on : (w : Machine) (l : Life) (qs : List Queue) (es : List Event) (rs : List Record) (m : Moment) → IsSound w → AreNewQueues w.header.queues w.fronts.items qs → is_joining w.life ≡ true → ((q : ℕ) → queue_of q l.queues ≡ slice_get qs q) → Stands w.header es rs m → MachineAt w m
     → MachineAt (with_life_of w (Some l)) (joined m)
 joined_on w l qs es rs m sound new joining has stands at = record {
+  many = sound.many;
   queues = λ q f is.
       let h : Header1 = f.header in
       let s : Stands h es rs m = subst (λ (k : Header1). Stands k es rs m) (sym (sound.headers q f is)) stands in

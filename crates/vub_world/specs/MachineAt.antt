@@ -69,8 +69,9 @@ pub record PartsAt (q : ℕ) (p : Parts) (m : Moment) : Type 0 where
   pub disk : DiskAt p.front.header.capacity m.scene.past (values_of p.disk)
   pub outstanding : OutstandingAt q p.front.header.size m.scene.past (m.scene.heads q) p.front.outstanding
 
--- the machine stands at a moment: the parts of each queue do
+-- the machine stands at a moment: each of the header's queues has its parts, and these do
 pub record MachineAt (w : Machine) (m : Moment) : Type 0 where
+  pub many : length w.fronts.items ≡ w.header.queues
   pub queues : (q : ℕ) (front : Front) → slice_get w.fronts.items q ≡ Some front → PartsAt q (parts_of q front w) m
 
 -- the machine stands for these events and their records
