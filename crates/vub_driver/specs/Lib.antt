@@ -1,6 +1,7 @@
 pub mod Drivers
 pub mod GuestChain
-pub mod Lawful
 pub mod Layout
+pub mod OwnStores
 pub mod Requests
 pub mod Stores
+pub mod TableChain

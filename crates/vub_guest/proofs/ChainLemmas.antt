@@ -1,15 +1,13 @@
-use Rattle.std.proofs.Common.{◌≡◌, ◌<◌, ◌≤◌, ℕ, zero, suc, ◌+◌, ◌%◌, Bool, true, false, List, [], ◌∷◌, length, get_or, refl, ap, sym, ◌∙◌, subst, arith, lit≤, inl, inr}
+use Rattle.std.proofs.Common.{◌≡◌, ◌<◌, ◌≤◌, ℕ, zero, suc, ◌+◌, Bool, true, false, List, [], ◌∷◌, length, get_or, refl, ap, sym, ◌∙◌, subst, arith, lit≤, inl, inr}
 use Rattle.std.proofs.lemmas.Bool.Decides.{nat_tests}
 use Rattle.std.specs.Prelude.{◌==◌, if◌then◌else◌, All, Option, Some, None, option_map, IfSome}
 use Rattle.std.specs.Option.{ForSome}
-use Rattle.byteorder.specs.Endian.{little_bytes}
 use Rattle.vub_base.specs.declared.request.Ask.{Ask}
 use Rattle.vub_base.specs.declared.request.Ask.TheVariants.{Read, Write, Flush, Id, Discard, Zero}
-use Rattle.vub_shared.specs.Bytes.{Bytes}
 use Rattle.vub_shared.specs.Stores.{Store}
-use Rattle.vub_ring.specs.Ring.{Ring, avail_idx, avail_entry_place}
+use Rattle.vub_ring.specs.Ring.{Ring}
 use Rattle.vub_driver.specs.Drivers.{Driver, Waiting, owned_by, without_owner, is_that, is_head}
-use Rattle.vub_driver.specs.Lawful.{IsOwn, IsLawful}
+use Rattle.vub_driver.specs.OwnStores.{IsOwn, IsOwnStore}
 use Rattle.vub_driver.specs.Requests.{Piece, written_bytes, data_place}
 use Rattle.vub_guest.specs.declared.guest.Pending.{Pending}
 use Rattle.vub_guest.specs.declared.guest.Stage.{Stage}
@@ -17,7 +15,7 @@ use Rattle.vub_guest.specs.declared.guest.Stage.TheVariants.{Header, Data, Statu
 use Rattle.vub_guest.specs.GuestRequest.{table_entry}
 use Rattle.vub_driver.specs.GuestChain.{Links, second, after_head, Owns, IsOwned}
 use Rattle.vub_guest.specs.GuestStores.{links_of, buffer_of, store_at}
-use Rattle.vub_guest.specs.GuestState.{owner_at, waiting_in, next_store, is_busy}
+use Rattle.vub_guest.specs.GuestState.{owner_at, waiting_in, next_store}
 use Rattle.vub_guest.proofs.GuestLemmas.{next_store-is}
 
 -- ---- what belongs to a head
@@ -64,7 +62,7 @@ waits_still r index old new head o apart count owners waits = λ p is.
 pub waits_of : (owners : List (Option ℕ)) (p : Pending) → IsOwned owners (links_of p.chain) → Waits owners (Some p)
 waits_of owners p owned = λ x is. subst (λ (o : Option Pending). IfSome o (λ q. IsOwned owners (links_of q.chain))) is owned
 
--- ---- lawful stores
+-- ---- the driver's own stores
 
 pub length-table_entry : (p : Piece) (next : Option ℕ) → length (table_entry p next) ≡ 16
 unfolding table_entry
@@ -78,30 +76,22 @@ data_place-near buffer Id = (omega arith, omega arith)
 data_place-near buffer (Discard parts) = (omega arith, omega arith)
 data_place-near buffer (Zero parts) = (omega arith, omega arith)
 
--- each store of a request is lawful while its descriptors are the driver's own
-lawful_store : (r : Ring) (busy : ℕ → Bool) (m : Bytes) (index : ℕ) (ask : Ask) (l : Links) (stage : Stage) → (stage ≡ Data → length (written_bytes ask) ≤ 4096)
-    → IsOwn r busy l.head → IsOwn r busy (second l) → IsOwn r busy l.status → avail_idx r m ≡ index → IsLawful r busy m (store_at r index ask l stage)
-lawful_store r busy m index ask l Header small head next status is =
-    record { space = refl; owned = inr (inl (l.head, head, record { from = omega arith; upto = omega arith })) }
-lawful_store r busy m index ask l Data small head next status is =
+-- each store of a request keeps to the driver's rule while its descriptors are the driver's own
+own_store : (r : Ring) (v : Driver) (ask : Ask) (l : Links) (stage : Stage) → (stage ≡ Data → length (written_bytes ask) ≤ 4096) → IsOwn r v l.head → IsOwn r v (second l) → IsOwn r v l.status → IsOwnStore r v (store_at r v.avail_idx ask l stage)
+own_store r v ask l Header small head next status = record { space = refl; owned = inr (inl (l.head, head, record { from = omega arith; upto = omega arith })) }
+own_store r v ask l Data small head next status =
     let few : length (written_bytes ask) ≤ 4096 = small refl in
     let near = data_place-near (buffer_of r l) ask in
     record { space = refl; owned = inr (inl (l.head, head, record { from = near.0; upto = omega (arith, near.1, few) })) }
-lawful_store r busy m index ask l Status small head next status is =
-    record { space = refl; owned = inr (inl (l.head, head, record { from = omega arith; upto = omega arith })) }
-lawful_store r busy m index ask l HeaderDescriptor small head next status is =
-    record { space = refl; owned = inl (l.head, head, record { from = omega arith; upto = omega (arith, length-table_entry) }) }
-lawful_store r busy m index ask l DataDescriptor small head next status is =
-    record { space = refl; owned = inl (second l, next, record { from = omega arith; upto = omega (arith, length-table_entry) }) }
-lawful_store r busy m index ask l StatusDescriptor small head next status is =
-    record { space = refl; owned = inl (l.status, status, record { from = omega arith; upto = omega (arith, length-table_entry) }) }
-lawful_store r busy m index ask l AvailEntry small head next status is =
-    record { space = refl; owned = inr (inr (inl (ap (avail_entry_place r) (sym is), refl))) }
-lawful_store r busy m index ask l AvailIdx small head next status is =
-    record { space = refl; owned = inr (inr (inr (refl, ap (λ i. little_bytes 2 ((i + 1) % 65536)) (sym is)))) }
+own_store r v ask l Status small head next status = record { space = refl; owned = inr (inl (l.head, head, record { from = omega arith; upto = omega arith })) }
+own_store r v ask l HeaderDescriptor small head next status = record { space = refl; owned = inl (l.head, head, record { from = omega arith; upto = omega (arith, length-table_entry) }) }
+own_store r v ask l DataDescriptor small head next status = record { space = refl; owned = inl (second l, next, record { from = omega arith; upto = omega (arith, length-table_entry) }) }
+own_store r v ask l StatusDescriptor small head next status = record { space = refl; owned = inl (l.status, status, record { from = omega arith; upto = omega (arith, length-table_entry) }) }
+own_store r v ask l AvailEntry small head next status = record { space = refl; owned = inr (inr (inl (refl, refl))) }
+own_store r v ask l AvailIdx small head next status = record { space = refl; owned = inr (inr (inr (refl, refl))) }
 
 -- what belongs to the head that waits is the driver's own
-own : (r : Ring) (v : Driver) (w : Waiting) (owners : List (Option ℕ)) (d : ℕ) → v.owner ≡ owner_at owners → v.waiting ≡ Some w → length owners ≡ r.size → Owns owners w.head d → IsOwn r (is_busy v) d
+own : (r : Ring) (v : Driver) (w : Waiting) (owners : List (Option ℕ)) (d : ℕ) → v.owner ≡ owner_at owners → v.waiting ≡ Some w → length owners ≡ r.size → Owns owners w.head d → IsOwn r v d
 own r v w owners d owner waits size owns =
     let same : w.head == w.head ≡ true = grind (arith, nat_tests) in
     let has : v.owner d ≡ Some w.head = ap (λ f. f d) owner ∙ owns.1 in
@@ -110,17 +100,15 @@ own r v w owners d owner waits size owns =
       free = grind (arith, nat_tests);
     }
 
-pub lawful_next : (r : Ring) (m : Bytes) (index : ℕ) (p : Pending) (o : Option Pending) (owners : List (Option ℕ)) → o ≡ Some p → length owners ≡ r.size → Waits owners o
-    → (p.stage ≡ Data → length (written_bytes p.ask) ≤ 4096) → avail_idx r m ≡ index
+pub own_next : (r : Ring) (index : ℕ) (p : Pending) (o : Option Pending) (owners : List (Option ℕ)) → o ≡ Some p → length owners ≡ r.size → Waits owners o → (p.stage ≡ Data → length (written_bytes p.ask) ≤ 4096)
     → let v : Driver = record { avail_idx = index; owner = owner_at owners; waiting = option_map (waiting_in r index) o } in
-    IfSome (next_store v.waiting) (IsLawful r (is_busy v) m)
-lawful_next r m index p o owners is size waits small at_index =
+    IfSome (next_store v.waiting) (IsOwnStore r v)
+own_next r index p o owners is size waits small =
     let v : Driver = record { avail_idx = index; owner = owner_at owners; waiting = option_map (waiting_in r index) o } in
     let w : Waiting = waiting_in r index p in
     let l : Links = links_of p.chain in
     let awaits : v.waiting ≡ Some w = ap (option_map (waiting_in r index)) is in
     let owned : IsOwned owners l = waits p is in
-    let mine : (d : ℕ) → Owns owners w.head d → IsOwn r (is_busy v) d = λ d. own r v w owners d refl awaits size in
+    let mine : (d : ℕ) → Owns owners w.head d → IsOwn r v d = λ d. own r v w owners d refl awaits size in
     let next : next_store v.waiting ≡ Some (store_at r index p.ask l p.stage) = ap next_store awaits ∙ next_store-is r index p in
-    subst (λ (x : Option Store). IfSome x (IsLawful r (is_busy v) m)) (sym next)
-    (lawful_store r (is_busy v) m index p.ask l p.stage small (mine l.head owned.0) (mine (second l) owned.1.0) (mine l.status owned.1.1) at_index)
+    subst (λ (x : Option Store). IfSome x (IsOwnStore r v)) (sym next) (own_store r v p.ask l p.stage small (mine l.head owned.0) (mine (second l) owned.1.0) (mine l.status owned.1.1))

@@ -1,11 +1,11 @@
 -- The guest as the driver of a ring, and what its calls do with both.
-use Rattle.std.specs.Prelude.{◌≡◌, ◌≢◌, ◌<◌, ℕ, ◌+◌, ◌-◌, ◌%◌, Bool, true, false, not, nat_le, is_some, List, [], ◌∷◌, length, take, get_or, All, Option, Some, None, option_map, Result, Ok, Err, ⊤}
+use Rattle.std.specs.Prelude.{◌≡◌, ◌≢◌, ◌<◌, ℕ, ◌+◌, ◌-◌, ◌%◌, true, false, nat_le, is_some, List, [], ◌∷◌, length, take, get_or, All, Option, Some, None, option_map, Result, Ok, Err, ⊤}
 use Rattle.vub_base.specs.declared.request.Ask.{Ask}
 use Rattle.vub_shared.specs.Bytes.{Bytes}
 use Rattle.vub_shared.specs.Stores.{Store, Stores, Trails}
 use Rattle.vub_ring.specs.Ring.{Ring, used_idx, element_at}
 use Rattle.vub_driver.specs.Requests.{descriptors_needed, has_data}
-use Rattle.vub_driver.specs.Drivers.{Driver, Waiting, free_from, after_stores, after_collect, is_head}
+use Rattle.vub_driver.specs.Drivers.{Driver, Waiting, free_from, after_stores, after_collect}
 use Rattle.vub_driver.specs.GuestChain.{descriptors}
 use Rattle.vub_guest.specs.GuestStores.{links_of, store_at, stores_from}
 use Rattle.vub_guest.specs.declared.guest.Chain.{Chain}
@@ -42,15 +42,6 @@ pending_store g p stage = store_at (ring_in g) g.avail_idx p.ask (links_of p.cha
 -- the index of the used element that it takes next
 abbrev pub last_used_in : Guest → ℕ
 last_used_in g = g.last_used
-
--- whether a request that is offered and not collected has this head
-abbrev pub is_outstanding : Option Waiting → Option ℕ → Bool
-is_outstanding waiting None = false
-is_outstanding waiting (Some head) = not (is_head head waiting)
-
--- whether a descriptor belongs to such a request
-abbrev pub is_busy : Driver → ℕ → Bool
-is_busy v d = is_outstanding v.waiting (v.owner d)
 
 -- ---- a step
 

@@ -162,9 +162,8 @@ impl Guest {
     ghost use Rattle.vub_base.specs.Causes.{HasCause};
     ghost use Rattle.vub_base.specs.Told.{WhereTold};
     ghost use Rattle.vub_shared.specs.Frames.{OnlyLoads, MakesStore, KeepsSpaces};
-    ghost use Rattle.vub_ring.specs.Ring.{avail_idx};
     ghost use Rattle.vub_driver.specs.Layout.{ring_of};
-    ghost use Rattle.vub_driver.specs.Lawful.{IsLawful};
+    ghost use Rattle.vub_driver.specs.OwnStores.{IsOwnStore};
     ghost use Rattle.vub_driver.specs.Requests.{written_bytes};
     ghost use Rattle.vub_driver.specs.Drivers.{new_driver, can_take, after_ask, after_collect, is_head, without_owner};
     ghost use Rattle.vub_guest.specs.declared.guest.Stage.TheVariants.{Data};
@@ -176,7 +175,7 @@ impl Guest {
     ghost use Rattle.vub_guest.specs.GuestStores.{links_of};
     ghost use Rattle.vub_guest.specs.GuestStores.{buffer_of as links_buffer};
     ghost use Rattle.vub_guest.specs.Guest.{GuestLies};
-    ghost use Rattle.vub_guest.specs.GuestState.{ring_in, driver_in, pending_store, last_used_in, is_busy, owner_at, FindsFree, Chooses, StoresNext, TrailsNext, Steps, outcome, next_store, Shows, ShowsNext, Collects, fetched};
+    ghost use Rattle.vub_guest.specs.GuestState.{ring_in, driver_in, pending_store, last_used_in, owner_at, FindsFree, Chooses, StoresNext, TrailsNext, Steps, outcome, next_store, Shows, ShowsNext, Collects, fetched};
 
     /// The driver of one of the header's queues, whose area lies in this space.
     pub fn new(alloc: Global, header: &Header1, queue: u16, memory: Space) -> Result<Guest, Memory>
@@ -379,7 +378,7 @@ impl Guest {
         ensures driver { Steps result (driver_in self.old) (driver_in self.new) }
         ensures stores { StoresNext (M.told mem.old) (M.told mem.new) result (next_store (driver_in self.old).waiting) }
         ensures trails { TrailsNext (M.trail mem.old) (M.trail mem.new) result (next_store (driver_in self.old).waiting) }
-        ensures lawful { WhereTold (M.told mem.old) (λ m. avail_idx (ring_in self.old) m ≡ (driver_in self.old).avail_idx → IfSome (next_store (driver_in self.old).waiting) (IsLawful (ring_in self.old) (is_busy (driver_in self.old)) m)) }
+        ensures own { IfSome (next_store (driver_in self.old).waiting) (IsOwnStore (ring_in self.old) (driver_in self.old)) }
         ensures ring { ring_in self.new ≡ ring_in self.old }
         ensures position { last_used_in self.new ≡ last_used_in self.old }
         ensures cause { HasCause (M.faults mem.old) (M.faults mem.new) (outcome result) }

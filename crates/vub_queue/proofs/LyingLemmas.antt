@@ -1,6 +1,6 @@
 -- A queue lies where it lay: its tasks one by one.
 use mathlib.Core.Path.{fun_ext}
-use Rattle.std.proofs.Common.{◌≡◌, ◌<◌, ℕ, zero, suc, List, [], ◌∷◌, ◌++◌, length, refl, ap, sym, ◌∙◌, subst}
+use Rattle.std.proofs.Common.{◌≡◌, ◌<◌, ℕ, zero, suc, List, [], ◌∷◌, ◌++◌, refl, ap, sym, ◌∙◌, subst}
 use Rattle.std.specs.Prelude.{Bool, true, false, if◌then◌else◌, Option, None, take, drop, set, slice_get, Some, Ok}
 use Rattle.vub_split.specs.Split.{RingLies}
 use Rattle.vub_split.specs.declared.split.SplitRing.{SplitRing}
@@ -15,7 +15,7 @@ use Rattle.vub_task.specs.declared.task.TaskStep.TheVariants as answers
 use Rattle.vub_task.specs.TaskState.{TaskLies, fresh_task, head_in, IfFaulted, OwesFailure}
 use Rattle.vub_queue.specs.declared.queue.Stepped.{Stepped}
 use Rattle.vub_queue.specs.declared.queue.Stepped.TheVariants as says
-use Rattle.vub_queue.specs.QueueState.{QueueState, TaskFits, TasksFit, QueueLies, KeepsLying, Moves, moved, begun, under_way, with_phase, accepted, worked, concluded, halted, said, OwesAt, Owes, disk_outcome}
+use Rattle.vub_queue.specs.QueueState.{QueueState, course_in, TaskFits, TasksFit, QueueLies, KeepsLying, Moves, moved, begun, under_way, with_phase, accepted, worked, concluded, halted, said, OwesAt, Owes, disk_outcome}
 
 pub lies_with : (old new : ℕ → ℕ) (before after : ℕ) (s : QueueState) → ((x : ℕ) → new x ≡ old x) → after ≡ before → QueueLies old before s → QueueLies new after s
 lies_with old new before after s sizes capacity h =
@@ -166,7 +166,7 @@ phase_tasks (Fetch k) s sizes capacity h = record { ring = h.ring; tasks = h.tas
 phase_tasks (Publish k) s sizes capacity h = record { ring = h.ring; tasks = h.tasks }
 
 moved_lies : (s t : QueueState) → t ≡ moved s → KeepsLying s t
-moved_lies s t is sizes capacity h = subst (QueueLies sizes capacity) (sym is) (phase_tasks (after_step (length s.batch) s.phase) s sizes capacity h)
+moved_lies s t is sizes capacity h = subst (QueueLies sizes capacity) (sym is) (phase_tasks (after_step (course_in s) s.phase) s sizes capacity h)
 
 pub moves_lies : (x : Stepped) (o : Option Row) (s t : QueueState) → Moves x o s t → KeepsLying s t
 moves_lies (says.Stored tag) (Some y) s t h = moved_lies s t h.1

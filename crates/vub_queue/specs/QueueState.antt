@@ -9,6 +9,7 @@ use Rattle.vub_shared.specs.Stores.{Store, Stores, Trails}
 use Rattle.vub_shared.specs.Spaces.{Names}
 use Rattle.vub_shared.specs.Frames.{KeepsSpaces}
 use Rattle.vub_disk.specs.Values.{Values}
+use Rattle.vub_steps.specs.declared.steps.Course.{Course}
 use Rattle.vub_steps.specs.declared.steps.Phase.{Phase}
 use Rattle.vub_steps.specs.declared.steps.Phase.TheVariants as phases
 use Rattle.vub_steps.specs.declared.steps.Step.{Step}
@@ -189,9 +190,13 @@ abbrev pub row_at : QueueState → Option Step → Option Row
 row_at s None = None
 row_at s (Some step) = row_of (used_side s.ring) s.next_used s.batch step
 
+-- what determines the steps of its phases
+abbrev pub course_in : QueueState → Course
+course_in s = record { size = s.ring.size; batch = length s.batch }
+
 -- the row of the next step of the publication
 abbrev pub next_row : QueueState → Option Row
-next_row s = row_at s (next_step (length s.batch) s.phase)
+next_row s = row_at s (next_step (course_in s) s.phase)
 
 -- after the last step the batch is shown, and its heads are free
 abbrev pub with_phase : Phase → QueueState → QueueState
@@ -200,7 +205,7 @@ with_phase p s = record s { phase = p }
 
 -- the queue after the next step of its publication
 abbrev pub moved : QueueState → QueueState
-moved s = with_phase (after_step (length s.batch) s.phase) s
+moved s = with_phase (after_step (course_in s) s.phase) s
 
 -- what a step with this row says, and the queue before and after it
 abbrev pub Moves : Stepped → Option Row → QueueState → QueueState → Type 0

@@ -9,7 +9,7 @@ use vub_base::{Failed, Memory, RingFault, Tag};
 use vub_disk::Disk;
 use vub_shared::Shared;
 use vub_split::SplitRing;
-use vub_steps::{Choice, Phase, Standing, Step, Turn, after_step, is_ready, next_step};
+use vub_steps::{Choice, Course, Phase, Standing, Step, Turn, after_step, is_ready, next_step};
 use vub_task::{Task, TaskStep};
 
 /// Why a queue stopped.
@@ -154,7 +154,7 @@ impl Queue {
     ghost use Rattle.vub_steps.specs.declared.steps.Phase.TheVariants.{Rest};
     ghost use Rattle.vub_steps.specs.declared.steps.Step.TheVariants.{Id, Len, Index};
     ghost use Rattle.vub_queue.specs.Queue.{ring_in};
-    ghost use Rattle.vub_queue.specs.QueueState.{QueueState, QueueLies, KeepsLying, Owes, OwesAt, state_of, IsNew, started_from, said, concluded, StepsAt, IsDue, IfStepped, StepsOut, WorksOut, StepsTask, WorksTask, Rests, disk_outcome, standing_at, waiting, IsFree, Finds, Fetches, accepted, may_fetch, begun, under_way, next_row, moved, with_phase, Moves, outcome, found_outcome, MakesRow, publishes, publish_row, Publishes, is_idle, is_fault, Unless, Works, Does, DoesStore, DoesTrail, DoesDisk, StableAfter, halted, Turns};
+    ghost use Rattle.vub_queue.specs.QueueState.{QueueState, QueueLies, KeepsLying, Owes, OwesAt, state_of, IsNew, started_from, said, concluded, StepsAt, IsDue, IfStepped, StepsOut, WorksOut, StepsTask, WorksTask, Rests, disk_outcome, standing_at, waiting, IsFree, Finds, Fetches, accepted, may_fetch, begun, under_way, course_in, next_row, moved, with_phase, Moves, outcome, found_outcome, MakesRow, publishes, publish_row, Publishes, is_idle, is_fault, Unless, Works, Does, DoesStore, DoesTrail, DoesDisk, StableAfter, halted, Turns};
 
     /// A queue that isn't started. All memory that it needs is reserved here.
     pub fn new(alloc: Global, setup: &QueueSetup) -> Result<Queue, Memory>
@@ -186,11 +186,21 @@ impl Queue {
         matches!(self.phase, Phase::Publish(_))
     }
 
+    /// What determines the steps of its phases.
+    fn course(&self) -> Course
+        ensures { result ≡ course_in (state_of self.now) }
+    {
+        Course {
+            size: self.ring.size,
+            batch: self.batch,
+        }
+    }
+
     /// Whether the next store shows the batch.
     pub fn shows_next(&self) -> bool
-        ensures { IsTrue result ↔ (next_step (length (state_of self.now).batch) (state_of self.now).phase ≡ Some Index) }
+        ensures { IsTrue result ↔ (next_step (course_in (state_of self.now)) (state_of self.now).phase ≡ Some Index) }
     {
-        next_step(self.batch, self.phase) == Some(Step::Index)
+        next_step(&self.course(), self.phase) == Some(Step::Index)
     }
 
     /// How many requests the batch under way has.
@@ -458,18 +468,18 @@ impl Queue {
 
     /// The next step of the publication was made, and not its last.
     fn advance(&mut self)
-        requires goes { is_publication (after_step self.old.batch self.old.phase) ≡ true }
+        requires goes { is_publication (after_step (course_in (state_of self.old)) self.old.phase) ≡ true }
         requires started { self.old.started ≡ true }
         ensures ring { ring_in self.new ≡ ring_in self.old }
         ensures state { state_of self.new ≡ moved (state_of self.old) }
         ensures goes { is_publication self.new.phase ≡ true }
     {
-        self.phase = after_step(self.batch, self.phase);
+        self.phase = after_step(&self.course(), self.phase);
     }
 
     fn store_id<M: Shared>(&mut self, element: u32, mem: &mut M) -> Stepped
         requires lies { RingLies (M.sizes mem.old) (ring_in self.old) }
-        requires next { next_step self.old.batch self.old.phase ≡ Some (Id element) }
+        requires next { next_step (course_in (state_of self.old)) self.old.phase ≡ Some (Id element) }
         ensures ring { ring_in self.new ≡ ring_in self.old }
         ensures moves { Moves result (next_row (state_of self.old)) (state_of self.old) (state_of self.new) }
         ensures makes_row { MakesRow M.told M.trail M.names M.handed M.sizes mem.old mem.new result (next_row (state_of self.old)) }
@@ -490,7 +500,7 @@ impl Queue {
 
     fn store_len<M: Shared>(&mut self, element: u32, mem: &mut M) -> Stepped
         requires lies { RingLies (M.sizes mem.old) (ring_in self.old) }
-        requires next { next_step self.old.batch self.old.phase ≡ Some (Len element) }
+        requires next { next_step (course_in (state_of self.old)) self.old.phase ≡ Some (Len element) }
         ensures ring { ring_in self.new ≡ ring_in self.old }
         ensures moves { Moves result (next_row (state_of self.old)) (state_of self.old) (state_of self.new) }
         ensures makes_row { MakesRow M.told M.trail M.names M.handed M.sizes mem.old mem.new result (next_row (state_of self.old)) }
@@ -510,7 +520,7 @@ impl Queue {
 
     fn show<M: Shared>(&mut self, mem: &mut M) -> Stepped
         requires lies { RingLies (M.sizes mem.old) (ring_in self.old) }
-        requires next { next_step self.old.batch self.old.phase ≡ Some Index }
+        requires next { next_step (course_in (state_of self.old)) self.old.phase ≡ Some Index }
         ensures ring { ring_in self.new ≡ ring_in self.old }
         ensures moves { Moves result (next_row (state_of self.old)) (state_of self.old) (state_of self.new) }
         ensures makes_row { MakesRow M.told M.trail M.names M.handed M.sizes mem.old mem.new result (next_row (state_of self.old)) }
@@ -537,7 +547,7 @@ impl Queue {
         ensures cause { HasCause (M.faults mem.old) (M.faults mem.new) (outcome result) }
         ensures no_disk { disk_outcome result ≡ Ok tt }
     {
-        match next_step(self.batch, self.phase) {
+        match next_step(&self.course(), self.phase) {
             Some(Step::Id(element)) => self.store_id(element, mem),
             Some(Step::Len(element)) => self.store_len(element, mem),
             Some(Step::Index) => self.show(mem),

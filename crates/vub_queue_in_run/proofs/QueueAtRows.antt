@@ -8,6 +8,7 @@ use Rattle.vub_base.specs.declared.header.Header1.{Header1}
 use Rattle.vub_base.specs.declared.store.Tag.TheVariants.{SP1, SP2, SP5}
 use Rattle.vub_base.specs.declared.store.Area.TheVariants.{M}
 use Rattle.vub_shared.specs.Bytes.{Bytes}
+use Rattle.vub_steps.specs.declared.steps.Course.{Course}
 use Rattle.vub_steps.specs.declared.steps.Phase.{Phase}
 use Rattle.vub_steps.specs.declared.steps.Phase.TheVariants as phases
 use Rattle.vub_steps.specs.declared.steps.Step.{Step}
@@ -28,18 +29,18 @@ use Rattle.vub_split.specs.declared.split.SplitRing.{SplitRing}
 use Rattle.vub_run.specs.Memory.{Scene, after_items}
 use Rattle.vub_run.specs.Moments.{Lane, Moment, standing}
 use Rattle.vub_run.specs.Run.{one_turn}
-use Rattle.vub_run.specs.Turns.{Turned, turned, is_rest, begun, under_way, phase_turn, phase_goes_on, element_of, answer_at, row_items, with_phase}
+use Rattle.vub_run.specs.Turns.{Turned, course_of, turned, is_rest, begun, under_way, phase_turn, phase_goes_on, element_of, answer_at, row_items, with_phase}
 use Rattle.vub_queue.specs.QueueState as states
 use Rattle.vub_split.specs.Split.{used_side}
-use Rattle.vub_queue.specs.QueueState.{QueueState, row_at, next_row, moved, Moves, publishes, publish_row, Publishes, Turns, is_fault}
+use Rattle.vub_queue.specs.QueueState.{QueueState, course_in, row_at, next_row, moved, Moves, publishes, publish_row, Publishes, Turns, is_fault}
 use Rattle.vub_queue_in_run.specs.QueueAt.{spot_of, QueueAt, LiesAs, QueueStands}
 use Rattle.vub_driver.specs.Layout.{area_place}
 use Rattle.vub_run_laws.proofs.RunGood.{the_ring, Worked, Holds}
 use Rattle.vub_run_laws.proofs.RunPhases.{resting, rest_is, taking, taking_holds}
 use Rattle.vub_run_laws.proofs.RunElements.{StepAt, AtId, AtLen, AtIndex, step_at, get_map}
-use Rattle.vub_run_laws.proofs.RunPublications.{publishing, IsUnderWay, more_left, none_left, numbers_answers}
+use Rattle.vub_run_laws.proofs.RunPublications.{publishing, IsUnderWay, more_left, none_left, numbers_answers, batch_open}
 use Rattle.vub_run_laws.proofs.RunTurns.{IsPlain, Good, phase_cases}
-use Rattle.vub_queue_in_run.proofs.QueueAtMoves.{moved_is, at_begin, at_row, at_show}
+use Rattle.vub_queue_in_run.proofs.QueueAtMoves.{course_same, moved_is, at_begin, at_row, at_show}
 use Rattle.vub_queue_in_run.proofs.QueueAtTurns.{ready_same, does_of, StandsAfter, stands_after}
 
 -- ---- the row of a step
@@ -66,15 +67,15 @@ rows_same : (q : ℕ) (h : Header1) (r : SplitRing) (s : Scene) (l : Lane) (done
 rows_same q h r s l done u None g = refl
 rows_same q h r s l done u (Some step) g =
     let side : used_side u.ring ≡ the_ring q h.size = ap used_side g.stands.ring ∙ side_is q r h.size g.main in
-    let used : u.next_used ≡ used_idx (the_ring q h.size) s.memory = g.stands.used ∙ sym g.under.holds.ringed.used_idx_is in
+    let used : u.next_used ≡ used_idx (the_ring q h.size) s.memory = g.stands.used ∙ sym g.under.holds.queue.ringed.used_idx_is in
     ap (λ (x : Ring). row_of x u.next_used u.batch step) side
     ∙ ap (λ (n : ℕ). row_of (the_ring q h.size) n u.batch step) used
     ∙ ap (λ (xs : List (ℕ × ℕ)). row_of (the_ring q h.size) (used_idx (the_ring q h.size) s.memory) xs step) g.stands.batch
 
-next_same : (q : ℕ) (h : Header1) (r : SplitRing) (s : Scene) (l : Lane) (done : ℕ) (u : QueueState) → GoesOn q h r s l done u → next_step (length u.batch) u.phase ≡ slice_get (publish_steps (length l.batch)) done
+next_same : (q : ℕ) (h : Header1) (r : SplitRing) (s : Scene) (l : Lane) (done : ℕ) (u : QueueState) → GoesOn q h r s l done u → next_step (course_in u) u.phase ≡ slice_get (publish_steps (length l.batch)) done
 next_same q h r s l done u g =
-    let many : length u.batch ≡ length l.batch = ap (λ (ks : List (ℕ × ℕ)). length ks) g.stands.batch ∙ length-map l.batch (spot_of q h s.past (s.heads q)) in
-    ap (λ (n : ℕ). next_step n u.phase) many ∙ ap (λ (p : Phase). next_step (length l.batch) p) g.stands.phase
+    ap (λ (c : Course). next_step c u.phase) (course_same q h r s.past (s.heads q) (phases.Publish done) l.batch l.completed l.made u g.main g.stands)
+    ∙ ap (λ (p : Phase). next_step (course_of h l) p) g.stands.phase
 
 -- ---- what a step says
 
@@ -116,7 +117,7 @@ says_published (says.Broken fault) y u u' ends fine does = absurd does
 -- id or length of an element was stored
 pub record MadeElement (u : QueueState) (x : Stepped) (made : List Item) (y : Row) : Type 0 where
   pub element : ℕ
-  pub next : (next_step (length u.batch) u.phase ≡ Some (steps.Id element)) ⊎ (next_step (length u.batch) u.phase ≡ Some (steps.Len element))
+  pub next : (next_step (course_in u) u.phase ≡ Some (steps.Id element)) ⊎ (next_step (course_in u) u.phase ≡ Some (steps.Len element))
   pub said : x ≡ says.Stored y.tag
   pub items : made ≡ items.Store y.tag M y.store.place y.store.bytes ∷ []
 
@@ -126,7 +127,7 @@ after_row h y s = after_items h (items.Store SP5 M y.store.place y.store.bytes �
 
 -- used.idx was stored, which publishes the batch
 pub record MadeIndex (q : ℕ) (h : Header1) (s : Scene) (batch : List ℕ) (u : QueueState) (x : Stepped) (made : List Item) (y : Row) : Type 0 where
-  pub next : next_step (length u.batch) u.phase ≡ Some steps.Index
+  pub next : next_step (course_in u) u.phase ≡ Some steps.Index
   pub tag : y.tag ≡ SP5
   pub said : x ≡ says.Published
   pub items : made ≡ items.Store SP5 M y.store.place y.store.bytes ∷ items.Made (entries.Publish q (map (answer_at q (after_row h y s)) batch)) ∷ []
@@ -145,24 +146,24 @@ pub record DoesStep (x : Stepped) (u u' : QueueState) : Type 0 where
 
 -- the lane after a step that isn't the last
 goes_lane : (q : ℕ) (h : Header1) (r : SplitRing) (s : Scene) (l : Lane) (done : ℕ) (u u' : QueueState) → GoesOn q h r s l done u → done + 1 < 2 * length l.batch + 1 → u' ≡ moved u
-    → QueueAt q h r s.past (s.heads q) (with_phase (after_step (length l.batch) (phases.Publish done)) (publishing done l)).phase (with_phase (after_step (length l.batch) (phases.Publish done)) (publishing done l)).batch l.completed l.made u'
+    → QueueAt q h r s.past (s.heads q) (with_phase (after_step (course_of h l) (phases.Publish done)) (publishing done l)).phase (with_phase (after_step (course_of h l) (phases.Publish done)) (publishing done l)).batch l.completed l.made u'
 goes_lane q h r s l done u u' g more is =
-    let p : Phase = after_step (length l.batch) (phases.Publish done) in
+    let p : Phase = after_step (course_of h l) (phases.Publish done) in
     let left : nat_lt (done + 1) (length (publish_steps (length l.batch))) ≡ true = more_left (length l.batch) done more in
     let goes : p ≡ phases.Publish (done + 1) = ap (λ (b : Bool). cond {A = Phase} b (phases.Publish (done + 1)) phases.Rest) left in
     let publishes_on : is_publication p ≡ true = ap is_publication goes in
-    let after : QueueAt q h r s.past (s.heads q) p l.batch l.completed l.made (moved u) = at_row q h r s.past (s.heads q) (phases.Publish done) l.batch l.completed l.made u g.stands publishes_on in
+    let after : QueueAt q h r s.past (s.heads q) p l.batch l.completed l.made (moved u) = at_row q h r s.past (s.heads q) (phases.Publish done) l.batch l.completed l.made u g.main g.stands publishes_on in
     let named : QueueAt q h r s.past (s.heads q) (phases.Publish (done + 1)) l.batch l.completed l.made (moved u) = subst (λ (x : Phase). QueueAt q h r s.past (s.heads q) x l.batch l.completed l.made (moved u)) goes after in
     subst (λ (t : QueueState). QueueAt q h r s.past (s.heads q) (with_phase p (publishing done l)).phase (with_phase p (publishing done l)).batch l.completed l.made t) (sym is)
     (subst (λ (x : Phase). QueueAt q h r s.past (s.heads q) (with_phase x (publishing done l)).phase (with_phase x (publishing done l)).batch l.completed l.made (moved u)) (sym goes) named)
 
 -- what a step makes that stores this row and makes no entry
-abbrev element_turn : Lane → ℕ → Option Row → Turned
-element_turn l done o = record { items = row_items o ++ []; lane = with_phase (after_step (length l.batch) (phases.Publish done)) (publishing done l) }
+abbrev element_turn : Header1 → Lane → ℕ → Option Row → Turned
+element_turn h l done o = record { items = row_items o ++ []; lane = with_phase (after_step (course_of h l) (phases.Publish done)) (publishing done l) }
 
 element_step : (q : ℕ) (h : Header1) (r : SplitRing) (s : Scene) (l : Lane) (done e : ℕ) (step : Step) (x : Stepped) (u u' : QueueState) (y : Row) → GoesOn q h r s l done u → done + 1 < 2 * length l.batch + 1
-    → next_step (length u.batch) u.phase ≡ Some step → (Some step ≡ Some (steps.Id e)) ⊎ (Some step ≡ Some (steps.Len e)) → table_row q h s l.batch (Some step) ≡ Some y → y.tag ≢ SP5 → y.store.space ≡ 0
-    → DoesStep x u u' → MadeRow q h r s l.batch x u u' (element_turn l done (Some y)) y
+    → next_step (course_in u) u.phase ≡ Some step → (Some step ≡ Some (steps.Id e)) ⊎ (Some step ≡ Some (steps.Len e)) → table_row q h s l.batch (Some step) ≡ Some y → y.tag ≢ SP5 → y.store.space ≡ 0
+    → DoesStep x u u' → MadeRow q h r s l.batch x u u' (element_turn h l done (Some y)) y
 element_step q h r s l done e step x u u' y g more next kind is other space does =
     let row_is : next_row u ≡ Some y = ap (row_at u) next ∙ rows_same q h r s l done u (Some step) g ∙ is in
     let said = says_stored x y u u' other does.fine (subst (λ (o : Option Row). Moves x o u u') row_is does.moves) in
@@ -181,27 +182,27 @@ element_step q h r s l done e step x u u' y g more next kind is other space does
       stands = goes_lane q h r s l done u u' g more said.1;
     }
 
-id_step : (q : ℕ) (h : Header1) (r : SplitRing) (s : Scene) (l : Lane) (done e : ℕ) (x : Stepped) (u u' : QueueState) → GoesOn q h r s l done u → e < length l.batch → done ≡ 2 * e → next_step (length u.batch) u.phase ≡ Some (steps.Id e)
+id_step : (q : ℕ) (h : Header1) (r : SplitRing) (s : Scene) (l : Lane) (done e : ℕ) (x : Stepped) (u u' : QueueState) → GoesOn q h r s l done u → e < length l.batch → done ≡ 2 * e → next_step (course_in u) u.phase ≡ Some (steps.Id e)
     → DoesStep x u u' → (y : Row) × MadeRow q h r s l.batch x u u' (phase_turn h q s (publishing done l) (Some (steps.Id e))) y
 id_step q h r s l done e x u u' g inside at next does =
     let k : ℕ = slice_index l.batch e in
     let y : Row = row (the_ring q h.size) SP1 (used_id_place (the_ring q h.size) (used_idx (the_ring q h.size) s.memory + e)) (little_bytes 4 (slice_index (s.heads q) k)) in
     let is : table_row q h s l.batch (Some (steps.Id e)) ≡ Some y =
     ap (option_map (λ (z : ℕ × ℕ). row (the_ring q h.size) SP1 (used_id_place (the_ring q h.size) (used_idx (the_ring q h.size) s.memory + e)) (little_bytes 4 z.0))) (get_map (element_of h q s) l.batch e inside) in
-    let made : MadeRow q h r s l.batch x u u' (element_turn l done (Some y)) y =
+    let made : MadeRow q h r s l.batch x u u' (element_turn h l done (Some y)) y =
     element_step q h r s l done e (steps.Id e) x u u' y g (omega arith) next (inl refl) is (λ fails. cc) refl does in
-    (y, subst (λ (o : Option Row). MadeRow q h r s l.batch x u u' (element_turn l done o) y) (sym is) made)
+    (y, subst (λ (o : Option Row). MadeRow q h r s l.batch x u u' (element_turn h l done o) y) (sym is) made)
 
-len_step : (q : ℕ) (h : Header1) (r : SplitRing) (s : Scene) (l : Lane) (done e : ℕ) (x : Stepped) (u u' : QueueState) → GoesOn q h r s l done u → e < length l.batch → done ≡ 2 * e + 1 → next_step (length u.batch) u.phase ≡ Some (steps.Len e)
+len_step : (q : ℕ) (h : Header1) (r : SplitRing) (s : Scene) (l : Lane) (done e : ℕ) (x : Stepped) (u u' : QueueState) → GoesOn q h r s l done u → e < length l.batch → done ≡ 2 * e + 1 → next_step (course_in u) u.phase ≡ Some (steps.Len e)
     → DoesStep x u u' → (y : Row) × MadeRow q h r s l.batch x u u' (phase_turn h q s (publishing done l) (Some (steps.Len e))) y
 len_step q h r s l done e x u u' g inside at next does =
     let k : ℕ = slice_index l.batch e in
     let y : Row = row (the_ring q h.size) SP2 (used_len_place (the_ring q h.size) (used_idx (the_ring q h.size) s.memory + e)) (little_bytes 4 (element_of h q s k).1) in
     let is : table_row q h s l.batch (Some (steps.Len e)) ≡ Some y =
     ap (option_map (λ (z : ℕ × ℕ). row (the_ring q h.size) SP2 (used_len_place (the_ring q h.size) (used_idx (the_ring q h.size) s.memory + e)) (little_bytes 4 z.1))) (get_map (element_of h q s) l.batch e inside) in
-    let made : MadeRow q h r s l.batch x u u' (element_turn l done (Some y)) y =
+    let made : MadeRow q h r s l.batch x u u' (element_turn h l done (Some y)) y =
     element_step q h r s l done e (steps.Len e) x u u' y g (omega arith) next (inr refl) is (λ fails. cc) refl does in
-    (y, subst (λ (o : Option Row). MadeRow q h r s l.batch x u u' (element_turn l done o) y) (sym is) made)
+    (y, subst (λ (o : Option Row). MadeRow q h r s l.batch x u u' (element_turn h l done o) y) (sym is) made)
 
 -- ---- the last step
 
@@ -212,19 +213,19 @@ index_turn q h s l done y p = record {
   lane = with_phase p (publishing done l);
 }
 
-index_step : (q : ℕ) (h : Header1) (r : SplitRing) (s : Scene) (l : Lane) (done : ℕ) (x : Stepped) (u u' : QueueState) → GoesOn q h r s l done u → done ≡ 2 * length l.batch → next_step (length u.batch) u.phase ≡ Some steps.Index
+index_step : (q : ℕ) (h : Header1) (r : SplitRing) (s : Scene) (l : Lane) (done : ℕ) (x : Stepped) (u u' : QueueState) → GoesOn q h r s l done u → done ≡ 2 * length l.batch → next_step (course_in u) u.phase ≡ Some steps.Index
     → DoesStep x u u' → (y : Row) × MadeRow q h r s l.batch x u u' (phase_turn h q s (publishing done l) (Some steps.Index)) y
 index_step q h r s l done x u u' g whole next does =
     let y : Row = row (the_ring q h.size) SP5 (used_idx_place (the_ring q h.size)) (little_bytes 2 ((used_idx (the_ring q h.size) s.memory + length (map (element_of h q s) l.batch)) % 65536)) in
     let list : List Answered = map (answer_at q (after_row h y s)) l.batch in
-    let p : Phase = after_step (length l.batch) (phases.Publish done) in
+    let p : Phase = after_step (course_of h l) (phases.Publish done) in
     let ends : p ≡ phases.Rest = ap (λ (b : Bool). cond {A = Phase} b (phases.Publish (done + 1)) phases.Rest) (none_left (length l.batch) done whole) in
     let row_is : next_row u ≡ Some y = ap (row_at u) next ∙ rows_same q h r s l done u (Some steps.Index) g in
     let rests : (moved u).phase ≡ phases.Rest =
-    ap (λ (t : QueueState). t.phase) (moved_is q h r s.past (s.heads q) (phases.Publish done) l.batch l.completed l.made u g.stands) ∙ ap (λ (z : Phase). (states.with_phase z u).phase) ends in
+    ap (λ (t : QueueState). t.phase) (moved_is q h r s.past (s.heads q) (phases.Publish done) l.batch l.completed l.made u g.main g.stands) ∙ ap (λ (z : Phase). (states.with_phase z u).phase) ends in
     let said = says_published x y u u' rests does.fine (subst (λ (o : Option Row). Moves x o u u') row_is does.moves) in
     let shown : QueueAt q h r (entries.Publish q list ∷ s.past) (s.heads q) phases.Rest [] l.completed l.made (moved u) =
-    at_show q h r s.past (s.heads q) (phases.Publish done) l.batch l.completed l.made u list ends (numbers_answers q (after_row h y s) l.batch) g.stands in
+    at_show q h r s.past (s.heads q) (phases.Publish done) l.batch l.completed l.made u list ends (numbers_answers q (after_row h y s) l.batch) (λ k held. batch_open q h s l done k g.under held) g.main g.stands in
     let rest : StandsAfter q h r s (index_turn q h s l done y phases.Rest) u' = subst (λ (t : QueueState). QueueAt q h r (entries.Publish q list ∷ s.past) (s.heads q) phases.Rest [] l.completed l.made t) (sym said.1) shown in
     let stands : StandsAfter q h r s (index_turn q h s l done y p) u' = subst (λ (z : Phase). StandsAfter q h r s (index_turn q h s l done y z) u') (sym ends) rest in
     (y, record { row = row_is; space = refl; which = inr (record { next = next; tag = refl; said = said.0; items = refl }); stands = stands })
@@ -240,7 +241,7 @@ step_stands q h r s l done x u u' g does =
     P : Option Step → Type 0
     P o = (y : Row) × MadeRow q h r s l.batch x u u' (phase_turn h q s (publishing done l) o) y
 
-    go : (o : Option Step) → StepAt 0 (length l.batch) done o → next_step (length u.batch) u.phase ≡ o → P o
+    go : (o : Option Step) → StepAt 0 (length l.batch) done o → next_step (course_in u) u.phase ≡ o → P o
     go o (AtId e inside at is) next =
         let same : o ≡ Some (steps.Id e) = is ∙ ap (λ (k : ℕ). Some (steps.Id k)) (let bare : 0 + e ≡ e = omega arith in bare) in
         subst P (sym same) (id_step q h r s l done e x u u' g inside at (next ∙ same) does)
@@ -333,7 +334,7 @@ pub row_stands : (q : ℕ) (h : Header1) (r : SplitRing) (m : Moment) (most : �
 row_stands q h r m most told x state state' plain good main z ready fine made =
     let l : Lane = m.lanes q in
     let u : QueueState = states.under_way most state in
-    let now : publishes most state ≡ true = ready_same q h r m state (turns.Publish most) main z ∙ ready in
+    let now : publishes most state ≡ true = ready_same q h r m state (turns.Publish most) main good.holds z ∙ ready in
     let does = does_of (turns.Publish most) told x state state' made fine in
     let moves : Moves x (next_row u) u made.0 = subst (λ (b : Bool). Publishes b x state u made.0) now does in
     let after : made.0 ≡ state' = sym (made.1 ∙ runs_on x u made.0 (next_row u) fine moves) in
@@ -354,30 +355,30 @@ row_stands q h r m most told x state state' plain good main z ready fine made =
 -- ---- which step it is, as the queue tells before the turn
 
 -- the begin of a publication isn't its end
-first_is : (n : ℕ) → 0 < n → next_step n (phases.Publish 0) ≡ Some (steps.Id 0)
-first_is n some = elim (step_at 0 n 0 (omega arith)) [
+first_is : (c : Course) → 0 < c.batch → next_step c (phases.Publish 0) ≡ Some (steps.Id 0)
+first_is c some = elim (step_at 0 c.batch 0 (omega arith)) [
   | AtId e inside at is ↦ is ∙ ap (λ (k : ℕ). Some (steps.Id k)) (let none : 0 + e ≡ 0 = omega arith in none)
   | AtLen e inside at is ↦ absurd (omega arith)
   | AtIndex at is ↦ absurd (omega arith)
 ]
 
 abbrev pub ShowsNext : QueueState → Type 0
-ShowsNext state = next_step (length state.batch) state.phase ≡ Some steps.Index
+ShowsNext state = next_step (course_in state) state.phase ≡ Some steps.Index
 
 -- a queue whose next step shows its batch goes on
-pub shows_goes : (p : Phase) (n : ℕ) → next_step n p ≡ Some steps.Index → is_publication p ≡ true
-shows_goes phases.Rest n next = absurd (let fails : None ≡ Some steps.Index = next in cc)
-shows_goes (phases.Start done) n next = absurd (no_start done next)
+pub shows_goes : (p : Phase) (c : Course) → next_step c p ≡ Some steps.Index → is_publication p ≡ true
+shows_goes phases.Rest c next = absurd (let fails : None ≡ Some steps.Index = next in cc)
+shows_goes (phases.Start done) c next = absurd (no_start done next)
   where
     no_start : (d : ℕ) → slice_get start_steps d ≡ Some steps.Index → ⊥
     no_start zero e = let fails : Some steps.Start ≡ Some steps.Index = e in cc
     no_start (suc d) e = let fails : None ≡ Some steps.Index = e in cc
-shows_goes (phases.Fetch done) n next = absurd (no_fetch done next)
+shows_goes (phases.Fetch done) c next = absurd (no_fetch done next)
   where
     no_fetch : (d : ℕ) → slice_get fetch_steps d ≡ Some steps.Index → ⊥
     no_fetch zero e = let fails : Some steps.Accept ≡ Some steps.Index = e in cc
     no_fetch (suc d) e = let fails : None ≡ Some steps.Index = e in cc
-shows_goes (phases.Publish done) n next = refl
+shows_goes (phases.Publish done) c next = refl
 
 pub goes_under_way : (state : QueueState) (most : ℕ) → is_publication state.phase ≡ true → states.under_way most state ≡ state
 goes_under_way state most goes = ap (λ (b : Bool). cond {A = QueueState} b state (states.begun most state)) goes
@@ -399,7 +400,7 @@ pub record HasShown (q : ℕ) (h : Header1) (m : Moment) (most : ℕ) (x : Stepp
 
 pub shown_stands : (q : ℕ) (h : Header1) (r : SplitRing) (m : Moment) (most : ℕ) (x : Stepped) (state state' : QueueState) (y : Row) → QueueStands q h r m state → HasPublished q h r m most x state state' y → ShowsNext state → HasShown q h m most x y
 shown_stands q h r m most x state state' y z has next =
-    let goes : is_publication state.phase ≡ true = shows_goes state.phase (length state.batch) next in
+    let goes : is_publication state.phase ≡ true = shows_goes state.phase (course_in state) next in
     let same : states.under_way most state ≡ state = goes_under_way state most goes in
     let lane : under_way (turns.Publish most) (m.lanes q) ≡ m.lanes q = lane_goes (m.lanes q) most (ap is_publication (sym z.phase) ∙ goes) in
     let next_too : ShowsNext (states.under_way most state) = subst (λ (t : QueueState). ShowsNext t) (sym same) next in
@@ -430,7 +431,7 @@ stored_stands q h r m most x state state' y good z ready has other =
             let begins : states.under_way most state ≡ states.begun most state = ap (λ (b : Bool). cond {A = QueueState} b state (states.begun most state)) (ap is_publication (z.phase ∙ rest.0)) in
             let many : length state.completed ≡ length l.completed = ap (λ (ks : List (ℕ × ℕ)). length ks) z.completed ∙ length-map l.completed (spot_of q h m.scene.past (m.scene.heads q)) in
             let next : ShowsNext (states.begun most state) = subst (λ (t : QueueState). ShowsNext t) begins last.next in
-            let first : next_step (length (take most state.completed)) (phases.Publish 0) ≡ Some (steps.Id 0) = first_is (length (take most state.completed)) (omega (arith, length-take most state.completed, many, some, any)) in
+            let first : next_step (course_in (states.begun most state)) (phases.Publish 0) ≡ Some (steps.Id 0) = first_is (course_in (states.begun most state)) (omega (arith, length-take most state.completed, many, some, any)) in
             let fails : Some (steps.Id 0) ≡ Some steps.Index = sym first ∙ next in
             cc
         | inr shows ↦

@@ -40,7 +40,7 @@ use Rattle.vub_run.specs.Run.{one_turn}
 use Rattle.vub_task.specs.TaskState.{Making, answer_in, memory_after, values_after, with_effect, head_in}
 use Rattle.vub_steps.specs.Tasks.{RequestStep, Look, Put, Act, Status, status_of}
 use Rattle.vub_run.specs.TaskItems.{task_items, look_items, act_items}
-use Rattle.vub_run.specs.Turns.{Turned, turned, work_turn, request_turn, task_turn, phase_turn, under_way, step_stores, row_items, entry_items}
+use Rattle.vub_run.specs.Turns.{course_of, Turned, turned, work_turn, request_turn, task_turn, phase_turn, under_way, step_stores, row_items, entry_items}
 use Rattle.vub_run_laws.proofs.RunNumbers.{among_get}
 use Rattle.vub_run_laws.proofs.RunGood.{IsWide, IsOut, IsPending}
 use Rattle.vub_run_laws.proofs.RunFrames.{open_out}
@@ -266,9 +266,9 @@ IsNoWork (turns.Work place) = ⊥
 IsNoWork t = ⊤
 
 turn_quiet : (q : ℕ) (h : Header1) (m : Moment) (t : Turn) → IsNoWork t → AllByRecursion (IsQuiet h) (turned h q t m).items
-turn_quiet q h m turns.Start none = phase_quiet q h m.scene (under_way turns.Start (m.lanes q)) (next_step (length (under_way turns.Start (m.lanes q)).batch) (under_way turns.Start (m.lanes q)).phase)
-turn_quiet q h m turns.Fetch none = phase_quiet q h m.scene (under_way turns.Fetch (m.lanes q)) (next_step (length (under_way turns.Fetch (m.lanes q)).batch) (under_way turns.Fetch (m.lanes q)).phase)
-turn_quiet q h m (turns.Publish most) none = phase_quiet q h m.scene (under_way (turns.Publish most) (m.lanes q)) (next_step (length (under_way (turns.Publish most) (m.lanes q)).batch) (under_way (turns.Publish most) (m.lanes q)).phase)
+turn_quiet q h m turns.Start none = phase_quiet q h m.scene (under_way turns.Start (m.lanes q)) (next_step (course_of h (under_way turns.Start (m.lanes q))) (under_way turns.Start (m.lanes q)).phase)
+turn_quiet q h m turns.Fetch none = phase_quiet q h m.scene (under_way turns.Fetch (m.lanes q)) (next_step (course_of h (under_way turns.Fetch (m.lanes q))) (under_way turns.Fetch (m.lanes q)).phase)
+turn_quiet q h m (turns.Publish most) none = phase_quiet q h m.scene (under_way (turns.Publish most) (m.lanes q)) (next_step (course_of h (under_way (turns.Publish most) (m.lanes q))) (under_way (turns.Publish most) (m.lanes q)).phase)
 turn_quiet q h m (turns.Work place) none = absurd none
 
 -- any other turn leaves the disk

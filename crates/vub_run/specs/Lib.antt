@@ -1,3 +1,4 @@
+pub mod Lawful
 pub mod LegalRuns
 pub mod Memory
 pub mod Moments

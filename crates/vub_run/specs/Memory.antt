@@ -8,6 +8,7 @@ use Rattle.vub_shared.specs.Bytes.{Bytes}
 use Rattle.vub_shared.specs.Stores.{one_store, after_store}
 use Rattle.vub_ring.specs.Ring.{Ring, avail_idx_place, used_idx_place, last_head}
 use Rattle.vub_driver.specs.Layout.{guest_space, inflight_space, ring_of}
+use Rattle.vub_driver.specs.TableChain.{chain_in}
 use Rattle.vub_device.specs.declared.entry.Entry.{Entry}
 use Rattle.vub_device.specs.declared.entry.Entry.TheVariants as entries
 use Rattle.vub_report.specs.declared.items.Item.{Item}
@@ -41,18 +42,32 @@ pub record Scene : Type 0 where
   pub past : List Entry
   -- of each queue the heads under which its requests were offered, in order
   pub heads : ℕ → List ℕ
+  -- and the descriptors of each one's chain, as memory told them when it was offered
+  pub descriptors : ℕ → List (List ℕ)
 
 abbrev pub opening_scene : Header1 → Scene
-opening_scene h = record { memory = opening_memory h; past = []; heads = λ q. [] }
+opening_scene h = record { memory = opening_memory h; past = []; heads = λ q. []; descriptors = λ q. [] }
 
 -- the same, but that one at q
 abbrev pub with_at : {A : Type 0} → (ℕ → A) → ℕ → A → ℕ → A
 with_at f q x i = if i == q then x else f i
 
--- an offer is made under the head that avail.idx has just passed
+-- the same, but that list at q has one more element
+abbrev pub with_last : {A : Type 0} → (ℕ → List A) → ℕ → A → ℕ → List A
+with_last f q x = with_at f q (f q ++ x ∷ [])
+
+-- the head that an offer on the queue shows: the one that avail.idx has just passed
+abbrev pub shown_head : Header1 → ℕ → Bytes → ℕ
+shown_head h q m = last_head (ring_of q h.size) m
+
+-- an offer is made under the head that it shows, with the chain that stands there
 abbrev pub after_entry : Header1 → Entry → Scene → Scene
-after_entry h (entries.Offer q request) s =
-    record s { past = entries.Offer q request ∷ s.past; heads = with_at s.heads q (s.heads q ++ last_head (ring_of q h.size) s.memory ∷ []) }
+after_entry h (entries.Offer q request) s = record {
+  memory = s.memory;
+  past = entries.Offer q request ∷ s.past;
+  heads = with_last s.heads q (shown_head h q s.memory);
+  descriptors = with_last s.descriptors q (chain_in (ring_of q h.size) s.memory (shown_head h q s.memory));
+}
 after_entry h e s = record s { past = e ∷ s.past }
 
 -- a store changes memory, and an entry lengthens the history

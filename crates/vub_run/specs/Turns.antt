@@ -3,6 +3,7 @@ use Rattle.std.specs.Prelude.{ℕ, ◌+◌, ◌*◌, Bool, true, false, ◌==◌
 use Rattle.vub_base.specs.declared.header.Header1.{Header1}
 use Rattle.vub_base.specs.declared.store.Area.TheVariants.{M}
 use Rattle.vub_shared.specs.Bytes.{Bytes, bytes_from}
+use Rattle.vub_steps.specs.declared.steps.Course.{Course}
 use Rattle.vub_steps.specs.declared.steps.Phase.{Phase}
 use Rattle.vub_steps.specs.declared.steps.Phase.TheVariants as phases
 use Rattle.vub_steps.specs.declared.steps.Step.{Step}
@@ -92,13 +93,17 @@ step_stores h q batch step s = row_items (row_of (ring_of q h.size) (used_idx (r
 abbrev pub step_items : Header1 → ℕ → List ℕ → Step → Scene → List Item
 step_items h q batch step s = step_stores h q batch step s ++ entry_items q batch step (after_items h (step_stores h q batch step s) s)
 
+-- what determines the steps of a queue's phases
+abbrev pub course_of : Header1 → Lane → Course
+course_of h l = record { size = h.size; batch = length l.batch }
+
 -- the phase goes on, and nothing is left of the batch at its end
 abbrev pub with_phase : Phase → Lane → Lane
 with_phase p l = record l { phase = p; batch = if is_rest p then [] else l.batch }
 
 abbrev pub phase_turn : Header1 → ℕ → Scene → Lane → Option Step → Turned
 phase_turn h q s l None = nothing l
-phase_turn h q s l (Some step) = record { items = step_items h q l.batch step s; lane = with_phase (after_step (length l.batch) l.phase) l }
+phase_turn h q s l (Some step) = record { items = step_items h q l.batch step s; lane = with_phase (after_step (course_of h l) l.phase) l }
 
 -- ---- work
 
@@ -121,7 +126,7 @@ work_turn h q s l (Some k) = request_turn h q s l k (asked s.past q k)
 -- ---- any of them
 
 abbrev pub phase_goes_on : Header1 → ℕ → Scene → Lane → Turned
-phase_goes_on h q s l = phase_turn h q s l (next_step (length l.batch) l.phase)
+phase_goes_on h q s l = phase_turn h q s l (next_step (course_of h l) l.phase)
 
 -- the row of the step table for a turn that is ready
 abbrev pub turned : Header1 → ℕ → Turn → Moment → Turned

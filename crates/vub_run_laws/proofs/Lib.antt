@@ -9,6 +9,7 @@ pub mod RunChainsOffers
 pub mod RunChainsStores
 pub mod RunChainsTurns
 pub mod RunCollects
+pub mod RunDescriptors
 pub mod RunDrains
 pub mod RunEfforts
 pub mod RunElements
@@ -19,13 +20,18 @@ pub mod RunExists
 pub mod RunFrames
 pub mod RunGood
 pub mod RunGuests
+pub mod RunHeads
 pub mod RunItems
+pub mod RunLawful
 pub mod RunNumbers
 pub mod RunOffers
 pub mod RunOwn
+pub mod RunParts
 pub mod RunPhases
 pub mod RunPublications
+pub mod RunQueue
 pub mod RunQueues
+pub mod RunQuiet
 pub mod RunServes
 pub mod RunShown
 pub mod RunSteps

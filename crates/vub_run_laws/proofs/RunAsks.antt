@@ -21,6 +21,7 @@ use Rattle.vub_run.specs.Memory.{Scene}
 use Rattle.vub_run.specs.Moments.{Lane}
 use Rattle.vub_run.specs.Run.{with_driver}
 use Rattle.vub_device.specs.Requests.{request_of}
+use Rattle.vub_run_laws.proofs.RunQueue.{queue_driver}
 use Rattle.vub_run_laws.proofs.RunGood.{the_ring, IsWide, IsHarmless, IsPlan, Driven, Holds}
 use Rattle.vub_run_laws.proofs.RunFrames.{length_little}
 use Rattle.vub_run_laws.proofs.RunGuests.{IsGood}
@@ -37,7 +38,7 @@ pub is_none_means : (o : Option ℕ) → is_none o ≡ true → o ≡ None
 is_none_means None e = refl
 is_none_means (Some x) e = absurd (let fails : false ≡ true = e in cc)
 
-free_are : (owner : ℕ → Option ℕ) (count d n : ℕ) → d + count ≤ n → AllByRecursion (IsFree n owner) (free_from owner count d)
+pub free_are : (owner : ℕ → Option ℕ) (count d n : ℕ) → d + count ≤ n → AllByRecursion (IsFree n owner) (free_from owner count d)
 free_are owner zero d n l = tt
 free_are owner (suc count) d n l = go (is_none (owner d)) refl (free_are owner count (d + 1) n (omega arith))
   where
@@ -45,13 +46,13 @@ free_are owner (suc count) d n l = go (is_none (owner d)) refl (free_are owner c
     go true e rest = ((omega arith, is_none_means (owner d) e), rest)
     go false e rest = rest
 
-free_taken : (n : ℕ) (owner : ℕ → Option ℕ) (k : ℕ) (xs : List ℕ) → AllByRecursion (IsFree n owner) xs → AllByRecursion (IsFree n owner) (take k xs)
+pub free_taken : (n : ℕ) (owner : ℕ → Option ℕ) (k : ℕ) (xs : List ℕ) → AllByRecursion (IsFree n owner) xs → AllByRecursion (IsFree n owner) (take k xs)
 free_taken n owner zero xs all = tt
 free_taken n owner (suc k) [] all = tt
 free_taken n owner (suc k) (x ∷ xs) all = (all.0, free_taken n owner k xs all.1)
 
 -- who owns something owns it still
-owned_other : (n head : ℕ) (ds : List ℕ) (owner : ℕ → Option ℕ) (d e : ℕ) → AllByRecursion (IsFree n owner) ds → owner d ≡ Some e → owned_by head ds owner d ≡ Some e
+pub owned_other : (n head : ℕ) (ds : List ℕ) (owner : ℕ → Option ℕ) (d e : ℕ) → AllByRecursion (IsFree n owner) ds → owner d ≡ Some e → owned_by head ds owner d ≡ Some e
 owned_other n head [] owner d e all is = is
 owned_other n head (x ∷ xs) owner d e all is = elim (cases_eq x d) [
   | inl same ↦ absurd (let none : owner d ≡ None = ap owner (sym same) ∙ all.0.1 in let fails : None ≡ Some e = sym none ∙ is in cc)
@@ -177,9 +178,7 @@ ask_holds q h s l a good plain ready x =
     let needed = few_needed a in
     let all : AllByRecursion (IsFree h.size v.owner) (chosen h.size a v) = free_taken h.size v.owner (descriptors_needed a) free (free_are v.owner h.size 0 h.size (omega arith)) in record {
       known = x.known;
-      ringed = x.ringed;
-      driven = ask_driven q h.size h.capacity h.base s.past (s.heads q) a v (chosen h.size a v) good.size.small plain (omega (arith, many, needed.0)) (omega (arith, many, needed.1)) all x.driven;
       worked = x.worked;
       stored = x.stored;
-      built = x.built;
+      queue = queue_driver q h s v (after_ask (the_ring q h.size) a v) l.batch l.phase (ask_driven q h.size h.capacity h.base s.past (s.heads q) a v (chosen h.size a v) good.size.small plain (omega (arith, many, needed.0)) (omega (arith, many, needed.1)) all x.queue.driven) x.queue;
     }

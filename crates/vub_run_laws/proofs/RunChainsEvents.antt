@@ -57,17 +57,17 @@ tested q h m false p c then = c
 -- some of the stores, or all that are left
 guest_some : (q : ℕ) (h : Header1) (count : ℕ) (m : Moment) (w : Waiting) → IsPlain h → h.capacity ≤ 4096 → q < 65536 → Good q h m → ChainedAt q h m → (m.lanes q).driver.waiting ≡ Some w → ChainedAt q h (guest_stores h q count (Some w) m).next
 guest_some q h count m w plain few numbered good c waiting = lane_chained q h (record m { scene = after_items h (guest_items count q w.ask w.left) m.scene }) (with_driver (after_stores count w v) (m.lanes q)) (elim (cases_lt count (length w.left)) [
-  | inl part ↦ subst (λ (x : Scene). Chained q h.size x (after_stores count w v)) (sym (part_scene q h count w.ask w.left m.scene part)) (part_chained q h m.scene v w count plain.good good.holds.known good.holds.driven waits part ready c)
+  | inl part ↦ subst (λ (x : Scene). Chained q h.size x (after_stores count w v)) (sym (part_scene q h count w.ask w.left m.scene part)) (part_chained q h m.scene v w count plain.good good.holds.known good.holds.queue.driven waits part ready c)
   | inr all ↦
       let none : drop count w.left ≡ [] = drop_all count w.left (omega arith) in
-      subst (λ (rest : List Store). Chained q h.size (after_items h (guest_items count q w.ask w.left) m.scene) (with_left w rest v)) (sym none) (guest_chained q h m.scene v w count plain.good few numbered good.holds.known good.holds.driven waits (omega arith) ready c)
+      subst (λ (rest : List Store). Chained q h.size (after_items h (guest_items count q w.ask w.left) m.scene) (with_left w rest v)) (sym none) (guest_chained q h m.scene v w count plain.good few numbered good.holds.known good.holds.queue.driven waits (omega arith) ready c)
 ])
   where
     v : Driver
     v = (m.lanes q).driver
 
     waits : IsWaiting q h.size h.capacity m.scene.past (m.scene.heads q) v w
-    waits = subst (λ (o : Option Waiting). WaitsWell q h.size h.capacity m.scene.past (m.scene.heads q) v o) waiting good.holds.driven.waits
+    waits = subst (λ (o : Option Waiting). WaitsWell q h.size h.capacity m.scene.past (m.scene.heads q) v o) waiting good.holds.queue.driven.waits
 
     ready : IsPrepared q h.size m.scene.memory v w
     ready = subst (λ (o : Option Waiting). PreparedWell q h.size m.scene.memory v o) waiting c.waits
@@ -105,7 +105,7 @@ join_all q h m c = tested q h m (m.lives && not m.joined) _ c (λ ready. record 
 pub one_turn_chained : (q : ℕ) (h : Header1) (t : Turn) (m : Moment) → IsPlain h → Good q h m → ChainedAt q h m → ChainedAt q h (one_turn h q t m).next
 one_turn_chained q h t m plain good c =
     let s' : Scene = after_items h (turned h q t m).items m.scene in
-    let kept : Chained q h.size s' (m.lanes q).driver = gentle_chained q h.size h.capacity m.scene s' (m.lanes q).driver plain.good.size good.holds.driven.waits (turn_gentle q h t m plain good) c in
+    let kept : Chained q h.size s' (m.lanes q).driver = gentle_chained q h.size h.capacity m.scene s' (m.lanes q).driver plain.good.size good.holds.queue.driven.waits (turn_gentle q h t m plain good) c in
     lane_chained q h (record m { scene = s' }) (turned h q t m).lane (subst (λ (v : Driver). Chained q h.size s' v) (sym (turn_driver q h t m)) kept)
 
 -- after any number of turns that are due
@@ -148,7 +148,7 @@ entry_made : (q : ℕ) (h : Header1) (m : Moment) (w : Waiting) → IsPlain h �
 entry_made q h m w plain good c waiting one =
     let n : ℕ = h.size in
     let v : Driver = (m.lanes q).driver in
-    let waits : IsWaiting q n h.capacity m.scene.past (m.scene.heads q) v w = subst (λ (o : Option Waiting). WaitsWell q n h.capacity m.scene.past (m.scene.heads q) v o) waiting good.holds.driven.waits in
+    let waits : IsWaiting q n h.capacity m.scene.past (m.scene.heads q) v w = subst (λ (o : Option Waiting). WaitsWell q n h.capacity m.scene.past (m.scene.heads q) v o) waiting good.holds.queue.driven.waits in
     let ready : IsPrepared q n m.scene.memory v w = subst (λ (o : Option Waiting). PreparedWell q n m.scene.memory v o) waiting c.waits in
     let ends = front_stores q n v.avail_idx w.head ready.body ready.status w.ask (has_data w.ask) in
     let entry : Store = one_store 0 (avail_entry_place (the_ring q n) v.avail_idx) (little_bytes 2 w.head) in
@@ -156,7 +156,7 @@ entry_made q h m w plain good c waiting one =
     let all : ready.made ++ w.left ≡ (ends.0 ++ entry ∷ []) ++ index_store (the_ring q n) v.avail_idx ∷ [] = ready.stores ∙ ends.1 ∙ sym (append_assoc ends.0 (entry ∷ []) (index_store (the_ring q n) v.avail_idx ∷ [])) in
     let made : ready.made ≡ ends.0 ++ entry ∷ [] = before_last ready.made w.left (ends.0 ++ entry ∷ []) (index_store (the_ring q n) v.avail_idx) all one in
     let stands : m.scene.memory ≡ put front 0 (avail_entry_place (the_ring q n) v.avail_idx) (little_bytes 2 w.head) = sym ready.stand ∙ ap (λ (sts : List Store). put_all sts m.scene.memory) made ∙ put_append ends.0 (entry ∷ []) m.scene.memory in
-    let index : v.avail_idx ≡ (h.base + length (m.scene.heads q)) % 65536 = good.holds.driven.index in
+    let index : v.avail_idx ≡ (h.base + length (m.scene.heads q)) % 65536 = good.holds.queue.driven.index in
     let same : entry_of (the_ring q n) v.avail_idx ≡ entry_of (the_ring q n) (h.base + length (m.scene.heads q)) = ap (entry_of (the_ring q n)) index ∙ same_entry q n (h.base + length (m.scene.heads q)) in
     let small : n ≤ 64 = plain.good.size.small in
     ap (λ (e : ℕ). word 2 m.scene.memory 0 (area_place q + 4096 + (4 + 2 * e))) (sym same)

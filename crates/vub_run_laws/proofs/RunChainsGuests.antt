@@ -15,12 +15,13 @@ use Rattle.vub_ring.specs.Ring.{avail_idx, avail_entry_place, avail_idx_place, l
 use Rattle.vub_driver.specs.Drivers.{Driver, Waiting, with_left, after_stores}
 use Rattle.vub_driver.specs.Requests.{pieces, has_data}
 use Rattle.vub_driver.specs.Stores.{buffer_stores, chain_stores, offer_stores, stores_with, request_stores}
+use Rattle.vub_driver.specs.TableChain.{chain_in}
 use Rattle.vub_device.specs.declared.entry.Asked.{Asked}
 use Rattle.vub_device.specs.declared.entry.Entry.{Entry}
 use Rattle.vub_device.specs.declared.entry.Entry.TheVariants as entries
 use Rattle.vub_device.specs.Past.{asked}
 use Rattle.vub_report.specs.declared.items.Item.TheVariants as items
-use Rattle.vub_run.specs.Memory.{Scene, with_at, after_item, after_items}
+use Rattle.vub_run.specs.Memory.{Scene, with_at, with_last, after_item, after_items}
 use Rattle.vub_run.specs.Run.{guest_items}
 use Rattle.vub_device.specs.Requests.{request_of}
 use Rattle.vub_run_laws.proofs.RunOwn.{at_own}
@@ -203,7 +204,7 @@ guest_chained q h s v w count good few numbered known driven waits whole ready c
     (stores_make q n h.capacity v.avail_idx w.head ready.body ready.status w.ask s.memory numbered good.size few waits.wide up ready.upper ready.none ready.fits) in
     let past : List Entry = entries.Offer q r ∷ s.past in
     let heads : List ℕ = s.heads q ++ w.head ∷ [] in
-    let next : Scene = record { memory = m; past = past; heads = with_at s.heads q heads } in
+    let next : Scene = record { memory = m; past = past; heads = with_at s.heads q heads; descriptors = with_last s.descriptors q (chain_in (the_ring q n) m w.head) } in
     let own : heads ≡ next.heads q = sym (at_own s.heads q heads) in
     let each : (k : ℕ) → IsOut q past heads k → IsLinked q n v.owner m (slice_index heads k) (asked past q k) = λ k out. elim (cases_lt k (length (s.heads q))) [
       | inl low ↦
@@ -232,5 +233,5 @@ guest_chained q h s v w count good few numbered known driven waits whole ready c
       waits = tt;
     } in
     let shown : Chained q n (after_item h (items.Made (entries.Offer q r)) (record s { memory = m })) (offered_driver v) =
-    subst (λ (x : ℕ). Chained q n (record { memory = m; past = past; heads = with_at s.heads q (s.heads q ++ x ∷ []) }) (offered_driver v)) (sym shows) stands in
+    subst (λ (x : ℕ). Chained q n (record { memory = m; past = past; heads = with_last s.heads q x; descriptors = with_last s.descriptors q (chain_in (the_ring q n) m x) }) (offered_driver v)) (sym shows) stands in
     subst (λ (x : Scene). Chained q n x (offered_driver v)) (sym (guest_scene q h count w.ask w.left s ready.some whole)) shown

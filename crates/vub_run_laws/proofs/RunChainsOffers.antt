@@ -140,7 +140,7 @@ ask_chained q h s v a ready c =
 
 -- ---- a collection
 
-kept_owner : (owner : ℕ → Option ℕ) (x e d : ℕ) → e ≢ x → owner d ≡ Some e → without_owner x owner d ≡ Some e
+pub kept_owner : (owner : ℕ → Option ℕ) (x e d : ℕ) → e ≢ x → owner d ≡ Some e → without_owner x owner d ≡ Some e
 kept_owner owner x e d apart is =
     let other : (e == x) ≡ false = grind (arith, nat_tests) in
     ap (λ (o : Option ℕ). cond (is_that x o) None o) is ∙ ap (λ (b : Bool). cond {A = Option ℕ} b None (Some e)) other
@@ -165,7 +165,7 @@ prepared_still q h s l x (Some w) t p apart = record {
 
 pub collect_chained : (q : ℕ) (h : Header1) (s : Scene) (l : Lane) (x k : ℕ) → IsTaken q h s l x → Chained q h.size s l.driver → Chained q h.size (record s { past = entries.Collect q k ∷ s.past }) (record l.driver { owner = without_owner x l.driver.owner })
 collect_chained q h s l x k t c =
-    let d : Driven q h.size h.capacity h.base s.past (s.heads q) l.driver = t.holds.driven in record {
+    let d : Driven q h.size h.capacity h.base s.past (s.heads q) l.driver = t.holds.queue.driven in record {
       linked = λ j out.
           let was = later_out q h s l x j k t out in
           let differs : slice_index (s.heads q) j ≢ x = λ same. was.1 (d.apart j (next_number q s) was.0 (next_out q h s l x t) (same ∙ t.head)) in

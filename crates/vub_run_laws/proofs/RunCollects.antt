@@ -22,7 +22,7 @@ use Rattle.vub_run_laws.proofs.RunNumbers.{among_at}
 use Rattle.vub_run_laws.proofs.RunGood.{the_ring, Known, Ringed, spot, IsOut, WaitsWell, Driven, Worked, Holds}
 use Rattle.vub_run_laws.proofs.RunTracks.{ahead_by}
 use Rattle.vub_run_laws.proofs.RunGuests.{IsGood}
-use Rattle.vub_run_laws.proofs.RunWork.{built_same}
+use Rattle.vub_run_laws.proofs.RunQueue.{queue_collect}
 
 -- where something is seen, the first element stands at the position
 pub first_element : (r : Ring) (m : Bytes) (k d : ℕ) (x : ℕ × ℕ) (xs : List (ℕ × ℕ)) → elements_from r m k d ≡ x ∷ xs → (0 < k) × (element_at r m d ≡ x)
@@ -86,7 +86,7 @@ waits_on_still q h s l x k (Some y) t w =
 
 taken_driven : (q : ℕ) (h : Header1) (s : Scene) (l : Lane) (x k : ℕ) → IsTaken q h s l x → Driven q h.size h.capacity h.base (entries.Collect q k ∷ s.past) (s.heads q) (record l.driver { owner = without_owner x l.driver.owner })
 taken_driven q h s l x k t =
-    let d : Driven q h.size h.capacity h.base s.past (s.heads q) l.driver = t.holds.driven in record {
+    let d : Driven q h.size h.capacity h.base s.past (s.heads q) l.driver = t.holds.queue.driven in record {
       index = d.index;
       below = λ j out. d.below j (later_out q h s l x j k t out).0;
       owned = λ j out.
@@ -109,11 +109,11 @@ not_waiting q h s l x (Some y) t w =
 
 pub after_taken : (q : ℕ) (h : Header1) (s : Scene) (l : Lane) (x : ℕ) → IsTaken q h s l x → after_collect x l.driver ≡ record l.driver { owner = without_owner x l.driver.owner }
 after_taken q h s l x t =
-    let low : slice_index (s.heads q) (next_number q s) < h.size = t.holds.driven.below (next_number q s) (next_out q h s l x t) in
+    let low : slice_index (s.heads q) (next_number q s) < h.size = t.holds.queue.driven.below (next_number q s) (next_out q h s l x t) in
     let small : h.size ≤ 64 = t.good.size.small in
     let is : x ≡ slice_index (s.heads q) (next_number q s) = t.head in
     let whole : x % 65536 ≡ x = omega arith in
-    let free : is_head x l.driver.waiting ≡ false = not_waiting q h s l x l.driver.waiting t t.holds.driven.waits in
+    let free : is_head x l.driver.waiting ≡ false = not_waiting q h s l x l.driver.waiting t t.holds.queue.driven.waits in
     ap (λ (y : ℕ). cond {A = Driver} (is_head y l.driver.waiting) l.driver (record l.driver { owner = without_owner y l.driver.owner })) whole
     ∙ ap (λ (b : Bool). cond {A = Driver} b l.driver (record l.driver { owner = without_owner x l.driver.owner })) free
 
@@ -132,7 +132,7 @@ taken_worked q h s l k w = record {
 pub taken_holds : (q : ℕ) (h : Header1) (s : Scene) (l : Lane) (x k : ℕ) → IsTaken q h s l x → Holds q h (record s { past = entries.Collect q k ∷ s.past }) (with_driver (record l.driver { owner = without_owner x l.driver.owner }) l)
 taken_holds q h s l x k t =
     let a : Known q h.size h.capacity s.past (s.heads q) = t.holds.known in
-    let r : Ringed q h.size h.base s.past (s.heads q) s.memory = t.holds.ringed in record {
+    let r : Ringed q h.size h.base s.past (s.heads q) s.memory = t.holds.queue.ringed in record {
       known = record {
         offers_are = a.offers_are;
         offered = a.offered;
@@ -146,11 +146,10 @@ taken_holds q h s l x k t =
         unfaulted = a.unfaulted;
         values = a.values;
       };
-      ringed = record { avail_idx_is = r.avail_idx_is; used_idx_is = r.used_idx_is; avail_at = r.avail_at; used_at = λ i from upto. r.used_at i (omega (arith, from, collected_own s.past q k)) upto };
-      driven = taken_driven q h s l x k t;
       worked = taken_worked q h s l k t.holds.worked;
       stored = record { sectors = λ j i is_open kept read. t.holds.stored.sectors j i (record { taken = is_open.taken; unpublished = is_open.unpublished }) kept read; status = t.holds.stored.status };
-      built = built_same q h.size h.base s.past (entries.Collect q k ∷ s.past) (s.heads q) s.memory l.batch l.phase refl (λ j. refl) t.holds.built;
+      queue = queue_collect q h s (entries.Collect q k ∷ s.past) l.driver (record l.driver { owner = without_owner x l.driver.owner }) l.batch l.phase
+          (record { accepts = omega arith; shows = refl; collects = omega (arith, collected_own s.past q k); asks = λ j. refl }) (taken_driven q h s l x k t) t.holds.queue;
     }
 
 pub taken_legal : (q : ℕ) (h : Header1) (s : Scene) (l : Lane) (x : ℕ) → IsTaken q h s l x → MayCollect s.past q (next_number q s)
@@ -166,9 +165,9 @@ first_seen q h s l x xs good holds e =
     let offered = known.offered in
     let fewer = known.fewer in
     let shown = known.shown in
-    let far : ahead (used_idx (the_ring q h.size) s.memory) (h.base + c) + c ≡ length (published s.past q) = ap (λ (u : ℕ). ahead u (h.base + c) + c) holds.ringed.used_idx_is ∙ ahead_by h.base (length (published s.past q)) c shown (omega arith) in
+    let far : ahead (used_idx (the_ring q h.size) s.memory) (h.base + c) + c ≡ length (published s.past q) = ap (λ (u : ℕ). ahead u (h.base + c) + c) holds.queue.ringed.used_idx_is ∙ ahead_by h.base (length (published s.past q)) c shown (omega arith) in
     let first = first_element (the_ring q h.size) s.memory (ahead (used_idx (the_ring q h.size) s.memory) (h.base + c)) (h.base + c) x xs e in
     let some : 0 < ahead (used_idx (the_ring q h.size) s.memory) (h.base + c) = first.0 in
     let more : c < length (published s.past q) = omega arith in
-    let is : x ≡ spot q (s.heads q) s.past (slice_index (published s.past q) c) = sym first.1 ∙ holds.ringed.used_at c (omega arith) more in
+    let is : x ≡ spot q (s.heads q) s.past (slice_index (published s.past q) c) = sym first.1 ∙ holds.queue.ringed.used_at c (omega arith) more in
     record { good = good; holds = holds; more = more; head = ap (λ (p : ℕ × ℕ). p.0) is }

@@ -20,7 +20,7 @@ use Rattle.vub_run.specs.Memory.{Scene}
 use Rattle.vub_run.specs.Moments.{Lane, Moment, standing, unfinished}
 use Rattle.vub_run.specs.Run.{Played, played, one_turn, is_due, then_played, turns as many_turns, drain_choice, IsDrained, Drains}
 use Rattle.vub_steps.specs.Tasks.{RequestStep, Look, Put, Act, Sync, Status, task_steps}
-use Rattle.vub_run.specs.Turns.{is_rest, turned, phase_turn, phase_goes_on, under_way, begun, work_turn, request_turn, task_turn}
+use Rattle.vub_run.specs.Turns.{course_of, is_rest, turned, phase_turn, phase_goes_on, under_way, begun, work_turn, request_turn, task_turn}
 use Rattle.vub_run_laws.proofs.RunNumbers.{filter_none}
 use Rattle.vub_run_laws.proofs.RunOwn.{at_own}
 use Rattle.vub_run_laws.proofs.RunGood.{Known}
@@ -62,7 +62,7 @@ work_stays q h s l None = refl
 work_stays q h s l (Some k) = request_stays q h s l k (asked s.past q k)
 
 phase_goes_stays : (q : ℕ) (h : Header1) (s : Scene) (l : Lane) → (phase_goes_on h q s l).lane.attached ≡ l.attached
-phase_goes_stays q h s l = phase_stays q h s l (next_step (length l.batch) l.phase)
+phase_goes_stays q h s l = phase_stays q h s l (next_step (course_of h l) l.phase)
 
 under_stays : (q : ℕ) (h : Header1) (t : Turn) (m : Moment) → (phase_goes_on h q m.scene (under_way t (m.lanes q))).lane.attached ≡ (m.lanes q).attached
 under_stays q h t m = phase_goes_stays q h m.scene (under_way t (m.lanes q)) ∙ under_way_stays t (m.lanes q) (is_rest (m.lanes q).phase)

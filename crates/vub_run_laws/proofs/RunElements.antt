@@ -197,22 +197,24 @@ id_holds q h s l done e x n at is fits =
     let four : length bs ≡ 4 = length_little 4 x in
     let small = entry_small h.size (P + e) n.good.size in
     let inside : e < length l.batch = n.inside in
-    let old : IsBuilt q h.size h.base s.past (s.heads q) s.memory l.batch done = built_of q h.size h.base s.past (s.heads q) s.memory l.batch l.phase done n.phase n.holds.built in record {
+    let old : IsBuilt q h.size h.base s.past (s.heads q) s.memory l.batch done = built_of q h.size h.base s.past (s.heads q) s.memory l.batch l.phase done n.phase n.holds.queue.built in record {
       known = n.holds.known;
-      ringed = ring_words q h.size h.base s.past (s.heads q) s.memory p bs n.good.size (omega arith)
-          (λ i from upto. id_and_id q ((P + e) % 65536 % h.size) ((h.base + i) % 65536 % h.size) x s.memory (unseen_entry q h s l done e i n from upto))
-          (λ i from upto. id_and_len q ((P + e) % 65536 % h.size) ((h.base + i) % 65536 % h.size) x s.memory) n.holds.ringed;
-      driven = n.holds.driven;
       worked = worked_on q s.past l.batch l.completed l.made l.phase done n.phase (omega arith) n.holds.worked;
       stored = stored_elsewhere q s.past (s.heads q) s.memory p bs l.batch l.completed l.made n.holds.worked.opens (λ k is_open. below_buffers q (s.heads q) k p bs (omega arith)) n.holds.stored;
-      built = record {
-        ids = λ j l_j d. elim (cases_lt j e) [
-          | inl less ↦ id_and_id q ((P + e) % 65536 % h.size) ((P + j) % 65536 % h.size) x s.memory (other_element q h s l done e j n less) ∙ old.ids j l_j (omega arith)
-          | inr more ↦
-              let same : j ≡ e = omega arith in
-              ap (λ (i : ℕ). word 4 (put s.memory 0 p bs) 0 (used_id_place (the_ring q h.size) (P + i))) same ∙ word-put_same 4 s.memory 0 p x fits ∙ is ∙ sym (ap (λ (i : ℕ). slice_index (s.heads q) (slice_index l.batch i)) same)
-        ];
-        lens = λ j l_j d. id_and_len q ((P + e) % 65536 % h.size) ((P + j) % 65536 % h.size) x s.memory ∙ old.lens j l_j (omega arith);
+      queue = record {
+        ringed = ring_words q h.size h.base s.past (s.heads q) s.memory p bs n.good.size (omega arith)
+            (λ i from upto. id_and_id q ((P + e) % 65536 % h.size) ((h.base + i) % 65536 % h.size) x s.memory (unseen_entry q h s l done e i n from upto))
+            (λ i from upto. id_and_len q ((P + e) % 65536 % h.size) ((h.base + i) % 65536 % h.size) x s.memory) n.holds.queue.ringed;
+        driven = n.holds.queue.driven;
+        built = record {
+          ids = λ j l_j d. elim (cases_lt j e) [
+            | inl less ↦ id_and_id q ((P + e) % 65536 % h.size) ((P + j) % 65536 % h.size) x s.memory (other_element q h s l done e j n less) ∙ old.ids j l_j (omega arith)
+            | inr more ↦
+                let same : j ≡ e = omega arith in
+                ap (λ (i : ℕ). word 4 (put s.memory 0 p bs) 0 (used_id_place (the_ring q h.size) (P + i))) same ∙ word-put_same 4 s.memory 0 p x fits ∙ is ∙ sym (ap (λ (i : ℕ). slice_index (s.heads q) (slice_index l.batch i)) same)
+          ];
+          lens = λ j l_j d. id_and_len q ((P + e) % 65536 % h.size) ((P + j) % 65536 % h.size) x s.memory ∙ old.lens j l_j (omega arith);
+        };
       };
     }
 
@@ -225,21 +227,23 @@ len_holds q h s l done e x n at is fits =
     let four : length bs ≡ 4 = length_little 4 x in
     let small = entry_small h.size (P + e) n.good.size in
     let inside : e < length l.batch = n.inside in
-    let old : IsBuilt q h.size h.base s.past (s.heads q) s.memory l.batch done = built_of q h.size h.base s.past (s.heads q) s.memory l.batch l.phase done n.phase n.holds.built in record {
+    let old : IsBuilt q h.size h.base s.past (s.heads q) s.memory l.batch done = built_of q h.size h.base s.past (s.heads q) s.memory l.batch l.phase done n.phase n.holds.queue.built in record {
       known = n.holds.known;
-      ringed = ring_words q h.size h.base s.past (s.heads q) s.memory p bs n.good.size (omega arith)
-          (λ i from upto. len_and_id q ((P + e) % 65536 % h.size) ((h.base + i) % 65536 % h.size) x s.memory)
-          (λ i from upto. len_and_len q ((P + e) % 65536 % h.size) ((h.base + i) % 65536 % h.size) x s.memory (unseen_entry q h s l done e i n from upto)) n.holds.ringed;
-      driven = n.holds.driven;
       worked = worked_on q s.past l.batch l.completed l.made l.phase done n.phase (omega arith) n.holds.worked;
       stored = stored_elsewhere q s.past (s.heads q) s.memory p bs l.batch l.completed l.made n.holds.worked.opens (λ k is_open. below_buffers q (s.heads q) k p bs (omega arith)) n.holds.stored;
-      built = record {
-        ids = λ j l_j d. len_and_id q ((P + e) % 65536 % h.size) ((P + j) % 65536 % h.size) x s.memory ∙ old.ids j l_j (omega arith);
-        lens = λ j l_j d. elim (cases_lt j e) [
-          | inl less ↦ len_and_len q ((P + e) % 65536 % h.size) ((P + j) % 65536 % h.size) x s.memory (other_element q h s l done e j n less) ∙ old.lens j l_j (omega arith)
-          | inr more ↦
-              let same : j ≡ e = omega arith in
-              ap (λ (i : ℕ). word 4 (put s.memory 0 p bs) 0 (used_len_place (the_ring q h.size) (P + i))) same ∙ word-put_same 4 s.memory 0 p x fits ∙ is ∙ sym (ap (λ (i : ℕ). answered_len 0 (asked s.past q (slice_index l.batch i))) same)
-        ];
+      queue = record {
+        ringed = ring_words q h.size h.base s.past (s.heads q) s.memory p bs n.good.size (omega arith)
+            (λ i from upto. len_and_id q ((P + e) % 65536 % h.size) ((h.base + i) % 65536 % h.size) x s.memory)
+            (λ i from upto. len_and_len q ((P + e) % 65536 % h.size) ((h.base + i) % 65536 % h.size) x s.memory (unseen_entry q h s l done e i n from upto)) n.holds.queue.ringed;
+        driven = n.holds.queue.driven;
+        built = record {
+          ids = λ j l_j d. len_and_id q ((P + e) % 65536 % h.size) ((P + j) % 65536 % h.size) x s.memory ∙ old.ids j l_j (omega arith);
+          lens = λ j l_j d. elim (cases_lt j e) [
+            | inl less ↦ len_and_len q ((P + e) % 65536 % h.size) ((P + j) % 65536 % h.size) x s.memory (other_element q h s l done e j n less) ∙ old.lens j l_j (omega arith)
+            | inr more ↦
+                let same : j ≡ e = omega arith in
+                ap (λ (i : ℕ). word 4 (put s.memory 0 p bs) 0 (used_len_place (the_ring q h.size) (P + i))) same ∙ word-put_same 4 s.memory 0 p x fits ∙ is ∙ sym (ap (λ (i : ℕ). answered_len 0 (asked s.past q (slice_index l.batch i))) same)
+          ];
+        };
       };
     }

@@ -40,7 +40,7 @@ use Rattle.vub_run.specs.Memory.{Scene, after_items}
 use Rattle.vub_run.specs.Moments.{Lane, Moment, fresh, unfinished}
 use Rattle.vub_run.specs.Run.{Played, played, if_ready, ask, guest, guest_items, guest_stores, take_first, collect, boot, join, one_turn, is_due, then_played, turns as many_turns, single, up_to, any_choice, drain_choice, Drains, Plays, RunFrom, RunTo}
 use Rattle.vub_run.specs.TaskItems.{look_items, act_items}
-use Rattle.vub_run.specs.Turns.{turned, row_items, entry_items, step_stores, phase_turn, phase_goes_on, under_way, work_turn, request_turn, task_turn}
+use Rattle.vub_run.specs.Turns.{course_of, turned, row_items, entry_items, step_stores, phase_turn, phase_goes_on, under_way, work_turn, request_turn, task_turn}
 use Rattle.vub_run_laws.proofs.Runs.{plain_header}
 use Rattle.vub_run_laws.proofs.RunEvents.{Right, turn_right}
 use Rattle.vub_run_laws.proofs.RunGood.{IsWide, IsWaiting}
@@ -238,7 +238,7 @@ work_makes q h s l None long = tt
 work_makes q h s l (Some k) long = request_makes q h s l k (asked s.past q k) long
 
 goes_makes : (q : ℕ) (h : Header1) (s : Scene) (l : Lane) → Makes (phase_goes_on h q s l).items
-goes_makes q h s l = phase_makes q h s l (next_step (length l.batch) l.phase)
+goes_makes q h s l = phase_makes q h s l (next_step (course_of h l) l.phase)
 
 turned_makes : (q : ℕ) (h : Header1) (t : Turn) (m : Moment) → AreLong m.scene.past → Makes (turned h q t m).items
 turned_makes q h turns.Start m long = goes_makes q h m.scene (under_way turns.Start (m.lanes q))

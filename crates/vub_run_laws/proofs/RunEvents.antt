@@ -37,6 +37,7 @@ use Rattle.vub_device.specs.Requests.{request_of}
 use Rattle.vub_run.specs.Tracking.{Tracks, AfterEach}
 use Rattle.vub_report.specs.Histories.{entries_of}
 use Rattle.vub_run.specs.Turns.{turned}
+use Rattle.vub_run_laws.proofs.RunQueue.{queue_rests}
 use Rattle.vub_run_laws.proofs.RunGood.{the_ring, index_store, IsHarmless, IsLeft, IsWaiting, EntryWell, EntryStands, IsPending, PhaseIs, Worked, Holds}
 use Rattle.vub_run_laws.proofs.RunGuests.{holds_track, offered, Offered, guest_holds, last_holds, Unoffered, part_holds, left_after, left_some, left_waits, rest_waits, waits_well}
 use Rattle.vub_run_laws.proofs.RunWork.{Fine}
@@ -214,11 +215,9 @@ boot_right q h m plain good = tested q h m (not m.lives) (played [] (record m { 
       good = record {
         holds = record {
           known = good.holds.known;
-          ringed = good.holds.ringed;
-          driven = good.holds.driven;
           worked = fresh_worked q m.scene.past (m.lanes q) stopped good.holds.worked;
           stored = record { sectors = λ k i is_open kept read. absurd (omega (arith, kept.put)); status = λ k held. absurd (let fails : false ≡ true = held in cc) };
-          built = tt;
+          queue = queue_rests q h m.scene (m.lanes q).driver (m.lanes q).batch (m.lanes q).phase good.holds.queue;
         };
         asleep = λ e. absurd (let fails : true ≡ false = e in cc);
         idle = good.idle;
@@ -231,7 +230,7 @@ boot_right q h m plain good = tested q h m (not m.lives) (played [] (record m { 
 join_right : (q : ℕ) (h : Header1) (m : Moment) → IsPlain h → Good q h m → Leads q h m (join m)
 join_right q h m plain good = tested q h m (m.lives && not m.joined) (played [] (record m { joined = true; lanes = λ q. record (m.lanes q) { attached = true } })) plain good (λ ready. record {
   good = record {
-    holds = record { known = good.holds.known; ringed = good.holds.ringed; driven = good.holds.driven; worked = good.holds.worked; stored = good.holds.stored; built = good.holds.built };
+    holds = record { known = good.holds.known; worked = good.holds.worked; stored = good.holds.stored; queue = good.holds.queue };
     asleep = λ dead. absurd (grind (arith, nat_tests));
     idle = good.idle;
   };

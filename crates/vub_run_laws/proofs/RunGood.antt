@@ -219,13 +219,18 @@ Built q n base past heads m batch phase = ⊤
 
 -- ---- all of it
 
+-- the ring and the slots of the driver
+pub record QueueFacts (q : ℕ) (h : Header1) (s : Scene) (v : Driver) (batch : List ℕ) (phase : Phase) : Type 0 where
+  pub ringed : Ringed q h.size h.base s.past (s.heads q) s.memory
+  pub driven : Driven q h.size h.capacity h.base s.past (s.heads q) v
+  pub built : Built q h.size h.base s.past (s.heads q) s.memory batch phase
+
+-- counts, numbers and answers; work; what stands in buffers; and the queue
 pub record Holds (q : ℕ) (h : Header1) (s : Scene) (l : Lane) : Type 0 where
   pub known : Known q h.size h.capacity s.past (s.heads q)
-  pub ringed : Ringed q h.size h.base s.past (s.heads q) s.memory
-  pub driven : Driven q h.size h.capacity h.base s.past (s.heads q) l.driver
   pub worked : Worked q s.past l.phase l.batch l.completed l.made
   pub stored : Stored q s.past (s.heads q) s.memory l.batch l.completed l.made
-  pub built : Built q h.size h.base s.past (s.heads q) s.memory l.batch l.phase
+  pub queue : QueueFacts q h s l.driver l.batch l.phase
 
 -- the entry of the next offer, at a moment
 abbrev pub EntryStands : ℕ → Header1 → Moment → Type 0

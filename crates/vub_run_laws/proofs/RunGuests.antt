@@ -15,13 +15,14 @@ use Rattle.vub_shared.specs.Stores.{Store, one_store}
 use Rattle.vub_ring.specs.Ring.{avail_entry_place, avail_idx_place, head_at, last_head}
 use Rattle.vub_driver.specs.Drivers.{Driver, Waiting, with_left}
 use Rattle.vub_driver.specs.Stores.{offer_stores}
+use Rattle.vub_driver.specs.TableChain.{chain_in}
 use Rattle.vub_device.specs.declared.entry.Asked.{Asked}
 use Rattle.vub_device.specs.declared.entry.Entry.TheVariants as entries
 use Rattle.vub_device.specs.Legal.{LegalFrom}
 use Rattle.vub_device.specs.Past.{IsOpen}
 use Rattle.vub_report.specs.declared.items.Item.{Item}
 use Rattle.vub_report.specs.declared.items.Item.TheVariants as items
-use Rattle.vub_run.specs.Memory.{Scene, with_at, after_item, after_items}
+use Rattle.vub_run.specs.Memory.{Scene, with_at, with_last, after_item, after_items}
 use Rattle.vub_run.specs.Moments.{Lane}
 use Rattle.vub_run.specs.Run.{guest_items, with_driver}
 use Rattle.vub_device.specs.Requests.{request_of}
@@ -30,7 +31,8 @@ use Rattle.vub_report.specs.Histories.{entries_of}
 use Rattle.vub_run_laws.proofs.RunOwn.{at_own}
 use Rattle.vub_run_laws.proofs.RunGood.{the_ring, IsSize, index_store, IsHarmless, IsLeft, IsWaiting, WaitsWell, Holds, Known, Ringed, Driven, Stored, Built}
 use Rattle.vub_run_laws.proofs.RunTracks.{tracks}
-use Rattle.vub_run_laws.proofs.RunFrames.{entry_small, open_out, OffRings, OffBuffer, ringed_elsewhere, built_elsewhere, built_below, stored_elsewhere, below_buffers, other_buffer, length_little, ringed_entry, same_entry}
+use Rattle.vub_run_laws.proofs.RunQueue.{queue_elsewhere}
+use Rattle.vub_run_laws.proofs.RunFrames.{entry_small, open_out, OffRings, OffBuffer, built_below, stored_elsewhere, below_buffers, other_buffer, length_little, ringed_entry, same_entry}
 use Rattle.vub_run_laws.proofs.RunOffers.{offer_room, offer_known, offer_ringed, shown_head, offer_driven, offer_worked, offer_stored, offer_built, batch_taken}
 
 -- the scene after a store into guest memory
@@ -44,7 +46,7 @@ pub record IsGood (h : Header1) : Type 0 where
   pub base : h.base < 65536
 
 pub holds_track : (q : ℕ) (h : Header1) (s : Scene) (l : Lane) → IsGood h → Holds q h s l → Tracks h q s
-holds_track q h s l good holds = tracks q h s good.size holds.known holds.ringed
+holds_track q h s l good holds = tracks q h s good.size holds.known holds.queue.ringed
 
 -- a store of the driver into the table, or into the buffer of the request that waits
 pub harmless_holds : (q : ℕ) (h : Header1) (s : Scene) (l : Lane) (w : Waiting) (p : ℕ) (bs : List ℕ) → IsGood h → IsWaiting q h.size h.capacity s.past (s.heads q) l.driver w → IsHarmless q w.head (one_store 0 p bs) → Holds q h s l → Holds q h (stored_at p bs s) l
@@ -58,11 +60,9 @@ harmless_holds q h s l w p bs good waits harmless holds =
       | inr high ↦ other_buffer q (s.heads q) k w.head p bs (waits.apart k (open_out q h.size h.capacity s.past (s.heads q) k holds.known is_open)) high.0 high.1
     ] in record {
       known = holds.known;
-      ringed = ringed_elsewhere q h.size h.base s.past (s.heads q) s.memory p bs good.size off holds.ringed;
-      driven = holds.driven;
       worked = holds.worked;
       stored = stored_elsewhere q s.past (s.heads q) s.memory p bs l.batch l.completed l.made holds.worked.opens off_buffers holds.stored;
-      built = built_elsewhere q h.size h.base s.past (s.heads q) s.memory p bs l.batch l.phase good.size off holds.built;
+      queue = queue_elsewhere q h s p bs l.driver l.batch l.phase good.size off holds.queue;
     }
 
 abbrev pub offered : Lane → Lane
@@ -82,20 +82,22 @@ entry_holds q h s l w good waits holds =
     let p : ℕ = avail_entry_place (the_ring q h.size) l.driver.avail_idx in
     let bs : List ℕ = little_bytes 2 w.head in
     let two : length bs ≡ 2 = length_little 2 w.head in
-    let index : l.driver.avail_idx ≡ (h.base + length (s.heads q)) % 65536 = holds.driven.index in
+    let index : l.driver.avail_idx ≡ (h.base + length (s.heads q)) % 65536 = holds.queue.driven.index in
     let at : p ≡ avail_entry_place (the_ring q h.size) (h.base + length (s.heads q)) = ap (avail_entry_place (the_ring q h.size)) index ∙ ap (λ (y : ℕ). area_place q + 4096 + (4 + 2 * y)) (same_entry q h.size (h.base + length (s.heads q))) in
-    let room = offer_room q h.size h.capacity h.base s.past (s.heads q) l.driver w holds.known holds.driven waits in
+    let room = offer_room q h.size h.capacity h.base s.past (s.heads q) l.driver w holds.known holds.queue.driven waits in
     let small : h.size ≤ 64 = good.size.small in
     let low = entry_small h.size l.driver.avail_idx good.size in
     let below : p + length bs ≤ area_place q + 8192 = omega arith in
-    let ring = ringed_entry q h.size h.capacity h.base s.past (s.heads q) s.memory p w.head good.size holds.known room at (omega (arith, waits.below)) holds.ringed in (
+    let ring = ringed_entry q h.size h.capacity h.base s.past (s.heads q) s.memory p w.head good.size holds.known room at (omega (arith, waits.below)) holds.queue.ringed in (
       record {
         known = holds.known;
-        ringed = ring.0;
-        driven = holds.driven;
         worked = holds.worked;
         stored = stored_elsewhere q s.past (s.heads q) s.memory p bs l.batch l.completed l.made holds.worked.opens (λ k is_open. below_buffers q (s.heads q) k p bs (omega arith)) holds.stored;
-        built = built_below q h.size h.base s.past (s.heads q) s.memory p bs l.batch l.phase below holds.built;
+        queue = record {
+          ringed = ring.0;
+          driven = holds.queue.driven;
+          built = built_below q h.size h.base s.past (s.heads q) s.memory p bs l.batch l.phase below holds.queue.built;
+        };
       },
       ring.1,
     )
@@ -109,23 +111,25 @@ index_holds q h s l w good waits holds stands =
     let two : length bs ≡ 2 = length_little 2 x in
     let m : Bytes = put s.memory 0 p bs in
     let r = request_of w.ask in
-    let room = offer_room q h.size h.capacity h.base s.past (s.heads q) l.driver w holds.known holds.driven waits in
-    let ringed = offer_ringed q h.size h.capacity h.base s.past (s.heads q) s.memory r w.head l.driver.avail_idx good.size holds.known holds.driven.index stands holds.ringed in
+    let room = offer_room q h.size h.capacity h.base s.past (s.heads q) l.driver w holds.known holds.queue.driven waits in
+    let ringed = offer_ringed q h.size h.capacity h.base s.past (s.heads q) s.memory r w.head l.driver.avail_idx good.size holds.known holds.queue.driven.index stands holds.queue.ringed in
     let last : last_head (the_ring q h.size) m ≡ w.head = shown_head q h.size h.base s.past (s.heads q) m r w.head holds.known.offered ringed in
     let stored = stored_elsewhere q s.past (s.heads q) s.memory p bs l.batch l.completed l.made holds.worked.opens (λ k is_open. below_buffers q (s.heads q) k p bs (omega arith)) holds.stored in
-    let built = built_below q h.size h.base s.past (s.heads q) s.memory p bs l.batch l.phase (omega arith) holds.built in
+    let built = built_below q h.size h.base s.past (s.heads q) s.memory p bs l.batch l.phase (omega arith) holds.queue.built in
     let past' : List Entry = entries.Offer q r ∷ s.past in
     let heads' : List ℕ = s.heads q ++ w.head ∷ [] in
     let own : heads' ≡ with_at s.heads q heads' q = sym (at_own s.heads q heads') in
-    let whole : Holds q h (record { memory = m; past = past'; heads = with_at s.heads q heads' }) (offered l) = record {
+    let whole : Holds q h (record { memory = m; past = past'; heads = with_at s.heads q heads'; descriptors = with_last s.descriptors q (chain_in (the_ring q h.size) m w.head) }) (offered l) = record {
       known = subst (Known q h.size h.capacity past') own (offer_known q h.size h.capacity s.past (s.heads q) r w.head holds.known waits.wide room);
-      ringed = subst (λ (hs : List ℕ). Ringed q h.size h.base past' hs m) own ringed;
-      driven = subst (λ (hs : List ℕ). Driven q h.size h.capacity h.base past' hs (offered l).driver) own (offer_driven q h.size h.capacity h.base s.past (s.heads q) l.driver w r holds.driven waits);
       worked = offer_worked q h.size h.capacity s.past (s.heads q) r l.phase l.batch l.completed l.made holds.known holds.worked;
       stored = subst (λ (hs : List ℕ). Stored q past' hs m l.batch l.completed l.made) own (offer_stored q h.size h.capacity s.past (s.heads q) r w.head m l.phase l.batch l.completed l.made holds.known holds.worked stored);
-      built = subst (λ (hs : List ℕ). Built q h.size h.base past' hs m l.batch l.phase) own (offer_built q h.size h.capacity h.base s.past (s.heads q) r w.head m l.phase l.batch l.completed l.made holds.known (batch_taken q s.past l.phase l.batch l.completed l.made holds.worked) built);
+      queue = record {
+        ringed = subst (λ (hs : List ℕ). Ringed q h.size h.base past' hs m) own ringed;
+        driven = subst (λ (hs : List ℕ). Driven q h.size h.capacity h.base past' hs (offered l).driver) own (offer_driven q h.size h.capacity h.base s.past (s.heads q) l.driver w r holds.queue.driven waits);
+        built = subst (λ (hs : List ℕ). Built q h.size h.base past' hs m l.batch l.phase) own (offer_built q h.size h.capacity h.base s.past (s.heads q) r w.head m l.phase l.batch l.completed l.made holds.known (batch_taken q s.past l.phase l.batch l.completed l.made holds.worked) built);
+      };
     } in
-    subst (λ (y : ℕ). Holds q h (record { memory = m; past = entries.Offer q r ∷ s.past; heads = with_at s.heads q (s.heads q ++ y ∷ []) }) (offered l)) (sym last) whole
+    subst (λ (y : ℕ). Holds q h (record { memory = m; past = entries.Offer q r ∷ s.past; heads = with_last s.heads q y; descriptors = with_last s.descriptors q (chain_in (the_ring q h.size) m y) }) (offered l)) (sym last) whole
 
 -- all that are left from a plan, up to the offer
 pub guest_holds : (q : ℕ) (h : Header1) (mode : CacheMode) (s : Scene) (l : Lane) (w : Waiting) (count : ℕ) (first : List Store) → IsGood h → IsWaiting q h.size h.capacity s.past (s.heads q) l.driver w → AllByRecursion (IsHarmless q w.head) first → length first + 2 ≤ count → Holds q h s l
@@ -174,7 +178,7 @@ last_holds q h mode s l w (suc count) good waits some holds stands =
 
 -- what is known of the request that waits
 pub waits_well : (q : ℕ) (h : Header1) (s : Scene) (l : Lane) (w : Waiting) → l.driver.waiting ≡ Some w → Holds q h s l → IsWaiting q h.size h.capacity s.past (s.heads q) l.driver w
-waits_well q h s l w waiting holds = subst (λ (o : Option Waiting). WaitsWell q h.size h.capacity s.past (s.heads q) l.driver o) waiting holds.driven.waits
+waits_well q h s l w waiting holds = subst (λ (o : Option Waiting). WaitsWell q h.size h.capacity s.past (s.heads q) l.driver o) waiting holds.queue.driven.waits
 
 -- ---- a part of what is left
 
@@ -225,17 +229,19 @@ pub rest_waits : (q : ℕ) (h : Header1) (s : Scene) (l : Lane) (w : Waiting) (l
     → Holds q h s (with_driver (record (l.driver) { waiting = Some (record w { left = left }) }) l)
 rest_waits q h s l w left waits rest holds = record {
   known = holds.known;
-  ringed = holds.ringed;
-  driven = record {
-    index = holds.driven.index;
-    below = holds.driven.below;
-    owned = holds.driven.owned;
-    apart = holds.driven.apart;
-    waits = record { wide = waits.wide; below = waits.below; mine = waits.mine; apart = waits.apart; plan = rest };
-  };
   worked = holds.worked;
   stored = holds.stored;
-  built = holds.built;
+  queue = record {
+    ringed = holds.queue.ringed;
+    driven = record {
+      index = holds.queue.driven.index;
+      below = holds.queue.driven.below;
+      owned = holds.queue.driven.owned;
+      apart = holds.queue.driven.apart;
+      waits = record { wide = waits.wide; below = waits.below; mine = waits.mine; apart = waits.apart; plan = rest };
+    };
+    built = holds.queue.built;
+  };
 }
 
 -- something is left

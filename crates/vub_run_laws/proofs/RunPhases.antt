@@ -26,7 +26,8 @@ use Rattle.vub_run_laws.proofs.RunGood.{the_ring, IsPending, Worked, Holds}
 use Rattle.vub_run_laws.proofs.RunTracks.{ahead_by}
 use Rattle.vub_run_laws.proofs.RunEfforts.{weight, effort, sum_below, sum_more, weight_small, sum_moved}
 use Rattle.vub_run_laws.proofs.RunGuests.{IsGood, holds_track}
-use Rattle.vub_run_laws.proofs.RunWork.{Fine, driven_same, built_same}
+use Rattle.vub_run_laws.proofs.RunWork.{Fine}
+use Rattle.vub_run_laws.proofs.RunQueue.{queue_same, queue_entry, queue_begins}
 
 -- the lane at rest
 abbrev pub resting : Lane → Lane
@@ -65,14 +66,12 @@ start_holds q h s l list stopped x = record {
     unfaulted = λ k. faulted_start s.past q list k;
     values = x.known.values;
   };
-  ringed = record { avail_idx_is = x.ringed.avail_idx_is; used_idx_is = x.ringed.used_idx_is; avail_at = x.ringed.avail_at; used_at = x.ringed.used_at };
-  driven = driven_same q h.size h.capacity h.base s.past (entries.Start q list ∷ s.past) (s.heads q) l.driver (λ j o. record { below = o.below; kept = o.kept }) x.driven;
   worked = start_worked q s.past list l.batch l.completed l.made l.phase stopped x.worked;
   stored = record {
     sectors = λ k i is_open kept read. absurd (let zero_made : l.made k ≡ 0 = (x.worked.quiet stopped).1.1 k in omega (arith, kept.put));
     status = x.stored.status;
   };
-  built = built_same q h.size h.base s.past (entries.Start q list ∷ s.past) (s.heads q) s.memory l.batch l.phase refl (λ j. refl) x.built;
+  queue = queue_same q h s (entries.Start q list ∷ s.past) l.driver l.batch l.phase refl refl refl (λ j. refl) x.queue;
 }
 
 pub start_fine : (q : ℕ) (h : Header1) (s : Scene) (l : Lane) → IsGood h → started s.past q ≡ false → Holds q h s (resting l) → Fine q h s (resting l) (phase_goes_on h q s (under_way turns.Start (resting l)))
@@ -134,8 +133,6 @@ accept_holds q h s l k more x = record {
     unfaulted = x.known.unfaulted;
     values = x.known.values;
   };
-  ringed = record { avail_idx_is = x.ringed.avail_idx_is; used_idx_is = x.ringed.used_idx_is; avail_at = λ i from upto. x.ringed.avail_at i (omega (arith, from, accepted_own s.past q k)) upto; used_at = x.ringed.used_at };
-  driven = driven_same q h.size h.capacity h.base s.past (entries.Accept q k ∷ s.past) (s.heads q) l.driver (λ j o. record { below = o.below; kept = o.kept }) x.driven;
   worked = accept_worked q s.past k l.batch l.completed l.made l.phase x.worked;
   stored = record {
     sectors = λ j i is_open kept read. x.stored.sectors j i (record {
@@ -147,7 +144,7 @@ accept_holds q h s l k more x = record {
     }) kept read;
     status = x.stored.status;
   };
-  built = built_same q h.size h.base s.past (entries.Accept q k ∷ s.past) (s.heads q) s.memory l.batch l.phase refl (λ j. refl) x.built;
+  queue = queue_entry q h s (entries.Accept q k ∷ s.past) l.driver l.batch l.phase (record { accepts = omega (arith, accepted_own s.past q k); shows = refl; collects = omega arith; asks = λ j. refl }) refl x.queue;
 }
 
 -- where something waits, an offer isn't accepted
@@ -157,7 +154,7 @@ some_waits q h s l good x =
     let room = x.known.room in
     let shown = x.known.shown in
     let fewer = x.known.fewer in
-    ap (λ (u : ℕ). ahead u (h.base + accepted s.past q) + accepted s.past q) x.ringed.avail_idx_is ∙ ahead_by h.base (length (s.heads q)) (accepted s.past q) x.known.offered (omega arith)
+    ap (λ (u : ℕ). ahead u (h.base + accepted s.past q) + accepted s.past q) x.queue.ringed.avail_idx_is ∙ ahead_by h.base (length (s.heads q)) (accepted s.past q) x.known.offered (omega arith)
 
 pub fetch_fine : (q : ℕ) (h : Header1) (s : Scene) (l : Lane) → IsGood h → started s.past q ≡ true → accepted s.past q < length (s.heads q) → Holds q h s (resting l) → Fine q h s (resting l) (phase_goes_on h q s (under_way turns.Fetch (resting l)))
 fetch_fine q h s l good run more x =
@@ -202,8 +199,6 @@ taking_holds q h s l most some any run x =
     let same : (k : ℕ) → is_among (drop most l.completed ++ take most l.completed) k ≡ true → is_among (l.completed ++ []) k ≡ true = λ k held. sym (swap_among most l.completed k) ∙ held in
     record {
       known = x.known;
-      ringed = x.ringed;
-      driven = x.driven;
       worked = record {
         distinct = swap_distinct most l.completed x.worked.distinct;
         opens = λ k held. x.worked.opens k (same k held);
@@ -218,10 +213,7 @@ taking_holds q h s l most some any run x =
         sectors = x.stored.sectors;
         status = λ k held. x.stored.status k (same k held);
       };
-      built = record {
-        ids = λ e l d. absurd (omega arith);
-        lens = λ e l d. absurd (omega arith);
-      };
+      queue = queue_begins q h s l.driver (take most l.completed) [] phases.Rest x.queue;
     }
 
 -- and what is left to do grows by no more than the store that follows

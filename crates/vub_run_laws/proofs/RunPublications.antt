@@ -76,7 +76,7 @@ id_fine q h s l done e x inside at =
     let k : ℕ = slice_index l.batch e in
     let held : is_among l.batch k ≡ true = among_at l.batch e inside in
     let head : ℕ = slice_index (s.heads q) k in
-    let low : head < h.size = x.holds.driven.below k (open_out q h.size h.capacity s.past (s.heads q) k x.holds.known (batch_open q h s l done k x held)) in
+    let low : head < h.size = x.holds.queue.driven.below k (open_out q h.size h.capacity s.past (s.heads q) k x.holds.known (batch_open q h s l done k x held)) in
     let small : h.size ≤ 64 = x.good.size.small in
     let P : ℕ = h.base + length (published s.past q) in
     let next : IsNextElement q h s (publishing done l) done e = record { good = x.good; back = x.back; holds = x.holds; phase = refl; inside = inside } in
@@ -92,7 +92,7 @@ id_fine q h s l done e x inside at =
     let one : Fine q h s (publishing done l) (id_turn q h l done (slice_get (map (element_of h q s) l.batch) e) (entry_of (the_ring q h.size) (P + e)) true) =
     subst (λ (o : Option (ℕ × ℕ)). Fine q h s (publishing done l) (id_turn q h l done o (entry_of (the_ring q h.size) (P + e)) true)) (sym (get_map (element_of h q s) l.batch e inside)) whole in
     let two : Fine q h s (publishing done l) (id_turn q h l done (slice_get (map (element_of h q s) l.batch) e) (entry_of (the_ring q h.size) (used_idx (the_ring q h.size) s.memory + e)) true) =
-    subst (λ (y : ℕ). Fine q h s (publishing done l) (id_turn q h l done (slice_get (map (element_of h q s) l.batch) e) y true)) (sym (element_place q h.size h.base s.past (s.heads q) s.memory e x.holds.ringed)) one in
+    subst (λ (y : ℕ). Fine q h s (publishing done l) (id_turn q h l done (slice_get (map (element_of h q s) l.batch) e) y true)) (sym (element_place q h.size h.base s.past (s.heads q) s.memory e x.holds.queue.ringed)) one in
     subst (λ (b : Bool). Fine q h s (publishing done l) (id_turn q h l done (slice_get (map (element_of h q s) l.batch) e) (entry_of (the_ring q h.size) (used_idx (the_ring q h.size) s.memory + e)) b)) (sym (more_left (length l.batch) done (omega arith))) two
 
 abbrev len_turn : (q : ℕ) (h : Header1) (l : Lane) (done : ℕ) → Option (ℕ × ℕ) → ℕ → Bool → Turned
@@ -122,7 +122,7 @@ len_fine q h s l done e x inside at =
     let one : Fine q h s (publishing done l) (len_turn q h l done (slice_get (map (element_of h q s) l.batch) e) (entry_of (the_ring q h.size) (P + e)) true) =
     subst (λ (o : Option (ℕ × ℕ)). Fine q h s (publishing done l) (len_turn q h l done o (entry_of (the_ring q h.size) (P + e)) true)) (sym (get_map (element_of h q s) l.batch e inside)) whole in
     let two : Fine q h s (publishing done l) (len_turn q h l done (slice_get (map (element_of h q s) l.batch) e) (entry_of (the_ring q h.size) (used_idx (the_ring q h.size) s.memory + e)) true) =
-    subst (λ (y : ℕ). Fine q h s (publishing done l) (len_turn q h l done (slice_get (map (element_of h q s) l.batch) e) y true)) (sym (element_place q h.size h.base s.past (s.heads q) s.memory e x.holds.ringed)) one in
+    subst (λ (y : ℕ). Fine q h s (publishing done l) (len_turn q h l done (slice_get (map (element_of h q s) l.batch) e) y true)) (sym (element_place q h.size h.base s.past (s.heads q) s.memory e x.holds.queue.ringed)) one in
     subst (λ (b : Bool). Fine q h s (publishing done l) (len_turn q h l done (slice_get (map (element_of h q s) l.batch) e) (entry_of (the_ring q h.size) (used_idx (the_ring q h.size) s.memory + e)) b)) (sym (more_left (length l.batch) done (omega arith))) two
 
 -- ---- the answers

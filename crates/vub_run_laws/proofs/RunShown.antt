@@ -36,7 +36,8 @@ use Rattle.vub_run_laws.proofs.RunEfforts.{shown_falls}
 use Rattle.vub_run_laws.proofs.RunFrames.{keeps, entry_small, length_little, stored_elsewhere, below_buffers}
 use Rattle.vub_run_laws.proofs.RunGuests.{stored_at, holds_track}
 use Rattle.vub_run_laws.proofs.RunPhases.{resting}
-use Rattle.vub_run_laws.proofs.RunWork.{Fine, driven_same}
+use Rattle.vub_run_laws.proofs.RunWork.{Fine}
+use Rattle.vub_run_laws.proofs.RunQueue.{driven_same}
 use Rattle.vub_run_laws.proofs.RunElements.{StepAt, AtId, AtLen, AtIndex, step_at, batch_room}
 use Rattle.vub_run_laws.proofs.RunPublications.{publishing, IsUnderWay, none_left, in_batch, batch_open, id_fine, len_fine, numbers_answers, all_map, good_map, good_append, answer_right}
 
@@ -100,7 +101,7 @@ element_stays q h x s i =
 new_element : (q : ℕ) (h : Header1) (s : Scene) (l : Lane) (done e : ℕ) → IsUnderWay q h s l done → done ≡ 2 * length l.batch → e < length l.batch
     → element_at (the_ring q h.size) s.memory (h.base + length (published s.past q) + e) ≡ spot q (s.heads q) s.past (slice_index l.batch e)
 new_element q h s l done e u whole inside =
-    let b : IsBuilt q h.size h.base s.past (s.heads q) s.memory l.batch done = u.holds.built in
+    let b : IsBuilt q h.size h.base s.past (s.heads q) s.memory l.batch done = u.holds.queue.built in
     pairs (b.ids e inside (omega arith)) (b.lens e inside (omega arith))
   where
     pairs : {a b c d : ℕ} → a ≡ b → c ≡ d → ◌≡◌ {A = ℕ × ℕ} (a, c) (b, d)
@@ -110,7 +111,7 @@ new_element q h s l done e u whole inside =
 shown_element : (q : ℕ) (h : Header1) (s : Scene) (l : Lane) (done i : ℕ) → IsUnderWay q h s l done → done ≡ 2 * length l.batch → collected s.past q ≤ i → i < length (published s.past q) + length l.batch
     → element_at (the_ring q h.size) s.memory (h.base + i) ≡ spot q (s.heads q) s.past (slice_index (published s.past q ++ l.batch) i)
 shown_element q h s l done i u whole from upto =
-    let r : Ringed q h.size h.base s.past (s.heads q) s.memory = u.holds.ringed in
+    let r : Ringed q h.size h.base s.past (s.heads q) s.memory = u.holds.queue.ringed in
     elim (cases_lt i (length (published s.past q))) [
       | inl low ↦ r.used_at i from low ∙ sym (ap (spot q (s.heads q) s.past) (get_or_append_left (published s.past q) l.batch 0 i low))
       | inr high ↦
@@ -124,8 +125,8 @@ shown_element q h s l done i u whole from upto =
 shown_ringed : (q : ℕ) (h : Header1) (x : ℕ) (s : Scene) (l : Lane) (done : ℕ) → IsUnderWay q h s l done → done ≡ 2 * length l.batch → x ≡ (h.base + length (published s.past q) + length l.batch) % 65536
     → Ringed q h.size h.base (shown_past q h x s l) (s.heads q) (shown_scene q h x s).memory
 shown_ringed q h x s l done u whole is =
-    let r : Ringed q h.size h.base s.past (s.heads q) s.memory = u.holds.ringed in
-    let b : IsBuilt q h.size h.base s.past (s.heads q) s.memory l.batch done = u.holds.built in
+    let r : Ringed q h.size h.base s.past (s.heads q) s.memory = u.holds.queue.ringed in
+    let b : IsBuilt q h.size h.base s.past (s.heads q) s.memory l.batch done = u.holds.queue.built in
     let bs : List ℕ = little_bytes 2 x in
     let two : length bs ≡ 2 = length_little 2 x in
     let p : ℕ = used_idx_place (the_ring q h.size) in
@@ -189,14 +190,16 @@ shown_holds q h x s l done u whole is =
     let c : ℕ = collected s.past q in
     let front : take c (published (shown_past q h x s l) q) ≡ take c (published s.past q) = ap (take c) ps ∙ take-append-le c (published s.past q) l.batch u.holds.known.shown in record {
       known = shown_known q h x s l done u;
-      ringed = shown_ringed q h x s l done u whole is;
-      driven = driven_same q h.size h.capacity h.base s.past (shown_past q h x s l) (s.heads q) l.driver (λ k out. record { below = out.below; kept = ap (λ (ks : List ℕ). is_among ks k) (sym front) ∙ out.kept }) u.holds.driven;
       worked = shown_worked q h x s l done u;
       stored = record {
         sectors = λ k i is_open kept read. st.sectors k i (still_open q h x s l k is_open) kept read;
         status = λ k held. st.status k (is_among_append l.completed l.batch k ∙ or_left (is_among l.completed k) (is_among l.batch k) (ap (λ (ks : List ℕ). is_among ks k) (sym (append-nil l.completed)) ∙ held));
       };
-      built = tt;
+      queue = record {
+        ringed = shown_ringed q h x s l done u whole is;
+        driven = driven_same q h.size h.capacity h.base s.past (shown_past q h x s l) (s.heads q) l.driver (λ k out. record { below = out.below; kept = ap (λ (ks : List ℕ). is_among ks k) (sym front) ∙ out.kept }) u.holds.queue.driven;
+        built = tt;
+      };
     }
 
 shown_legal : (q : ℕ) (h : Header1) (x : ℕ) (s : Scene) (l : Lane) (done : ℕ) → IsUnderWay q h s l done → MayPublish h.capacity h.mode s.past q (shown_list q h x s l)
@@ -223,7 +226,7 @@ index_fine : (q : ℕ) (h : Header1) (s : Scene) (l : Lane) (done : ℕ) → IsU
 index_fine q h s l done u whole =
     let x : ℕ = (used_idx (the_ring q h.size) s.memory + length (map (element_of h q s) l.batch)) % 65536 in
     let many : length (map (element_of h q s) l.batch) ≡ length l.batch = length-map l.batch (element_of h q s) in
-    let is : x ≡ (h.base + length (published s.past q) + length l.batch) % 65536 = omega (arith, u.holds.ringed.used_idx_is, many) in
+    let is : x ≡ (h.base + length (published s.past q) + length l.batch) % 65536 = omega (arith, u.holds.queue.ringed.used_idx_is, many) in
     let holds = shown_holds q h x s l done u whole is in
     let fine : Fine q h s (publishing done l) (index_turn q h s l done x false) = record {
       each = (inl tt, (inr (holds_track q h (record (shown_scene q h x s) { past = shown_past q h x s l }) (resting l) u.good holds), tt));

@@ -38,39 +38,9 @@ use Rattle.vub_run_laws.proofs.RunNumbers.{distinct_parts, distinct_join, distin
 use Rattle.vub_run_laws.proofs.RunGood.{the_ring, IsWideRead, IsWideWrite, IsWide, Known, IsOut, WaitsWell, Driven, IsReadTo, IsWrittenTo, Progress, IsBegun, IsFull, IsPending, Worked, IsKept, Stored, IsRead, Built, buffer, Holds}
 use Rattle.vub_run_laws.proofs.RunSteps.{WideCases, AtRead, AtWrite, AtFlush, wide_cases, wide_served, wide_steps, ReadAt, ToLook, ToPut, ToReply, read_at, WriteAt, ToAct, ToEnd, write_at, look_is, written, effect_is, read_to, written_to}
 use Rattle.vub_run_laws.proofs.RunEfforts.{effort, step_falls, status_falls}
-use Rattle.vub_run_laws.proofs.RunFrames.{open_out, OffBuffer, ringed_elsewhere, built_elsewhere, sector_elsewhere, status_elsewhere, other_buffer}
+use Rattle.vub_run_laws.proofs.RunFrames.{open_out, OffBuffer, sector_elsewhere, status_elsewhere, other_buffer}
+use Rattle.vub_run_laws.proofs.RunQueue.{queue_same, queue_elsewhere}
 use Rattle.vub_run_laws.proofs.RunGuests.{IsGood, stored_at, holds_track}
-
--- ---- what doesn't change with most entries
-
-waits_same : (q n cap : ℕ) (past past' : List Entry) (heads : List ℕ) (v : Driver) (o : Option Waiting) → ((k : ℕ) → IsOut q past' heads k → IsOut q past heads k) → WaitsWell q n cap past heads v o → WaitsWell q n cap past' heads v o
-waits_same q n cap past past' heads v None out w = tt
-waits_same q n cap past past' heads v (Some x) out w = record {
-  wide = w.wide;
-  below = w.below;
-  mine = w.mine;
-  apart = λ k o. w.apart k (out k o);
-  plan = w.plan;
-}
-
-pub driven_same : (q n cap base : ℕ) (past past' : List Entry) (heads : List ℕ) (v : Driver) → ((k : ℕ) → IsOut q past' heads k → IsOut q past heads k) → Driven q n cap base past heads v → Driven q n cap base past' heads v
-driven_same q n cap base past past' heads v out d = record {
-  index = d.index;
-  below = λ k o. d.below k (out k o);
-  owned = λ k o. d.owned k (out k o);
-  apart = λ j k oj ok same. d.apart j k (out j oj) (out k ok) same;
-  waits = waits_same q n cap past past' heads v v.waiting out d.waits;
-}
-
-pub built_same : (q n base : ℕ) (past past' : List Entry) (heads : List ℕ) (m : Bytes) (batch : List ℕ) (phase : Phase) → published past' q ≡ published past q → ((k : ℕ) → asked past' q k ≡ asked past q k)
-    → Built q n base past heads m batch phase → Built q n base past' heads m batch phase
-built_same q n base past past' heads m batch phases.Rest ps ks b = tt
-built_same q n base past past' heads m batch (phases.Start done) ps ks b = tt
-built_same q n base past past' heads m batch (phases.Fetch done) ps ks b = tt
-built_same q n base past past' heads m batch (phases.Publish done) ps ks b = record {
-  ids = λ e l d. ap (λ (qs : List ℕ). word 4 m 0 (used_id_place (the_ring q n) (base + length qs + e))) ps ∙ b.ids e l d;
-  lens = λ e l d. ap (λ (qs : List ℕ). word 4 m 0 (used_len_place (the_ring q n) (base + length qs + e))) ps ∙ b.lens e l d ∙ sym (ap (answered_len 0) (ks (slice_index batch e)));
-}
 
 -- ---- requests
 
@@ -276,11 +246,9 @@ look_seen q h s l k sector c p place v x low at = λ i read kept.
 look_holds : (q : ℕ) (h : Header1) (s : Scene) (l : Lane) (k sector c p place : ℕ) (v : List ℕ) → IsReading q h s l k sector c → p < c → l.made k ≡ 2 * p → length v ≡ 512 → Holds q h (record s { past = entries.Look q k place v ∷ s.past }) (one_more k l)
 look_holds q h s l k sector c p place v x low at long = record {
   known = look_known q h.size h.capacity s.past (s.heads q) k place v x.left.holds.known;
-  ringed = record { avail_idx_is = x.left.holds.ringed.avail_idx_is; used_idx_is = x.left.holds.ringed.used_idx_is; avail_at = x.left.holds.ringed.avail_at; used_at = x.left.holds.ringed.used_at };
-  driven = driven_same q h.size h.capacity h.base s.past (entries.Look q k place v ∷ s.past) (s.heads q) l.driver (λ j o. record { below = o.below; kept = o.kept }) x.left.holds.driven;
   worked = look_worked q h s l k sector c p place v x low at long;
   stored = step_stored q s.past (entries.Look q k place v ∷ s.past) (s.heads q) s.memory l.batch l.completed l.made k (look_follows q s.past k place v x.left.started) (look_seen q h s l k sector c p place v x low at) x.left.holds.stored;
-  built = built_same q h.size h.base s.past (entries.Look q k place v ∷ s.past) (s.heads q) s.memory l.batch l.phase refl (λ j. refl) x.left.holds.built;
+  queue = queue_same q h s (entries.Look q k place v ∷ s.past) l.driver l.batch l.phase refl refl refl (λ j. refl) x.left.holds.queue;
 }
 
 look_fine : (q : ℕ) (h : Header1) (s : Scene) (l : Lane) (k sector c p : ℕ) → IsReading q h s l k sector c → p < c → l.made k ≡ 2 * p → Fine q h s l (task_turn h q s l k (asks.Read sector c) (Some (Look p)))
@@ -368,11 +336,9 @@ act_worked q h s l k sector place bytes v x low =
 act_holds : (q : ℕ) (h : Header1) (s : Scene) (l : Lane) (k sector place : ℕ) (bytes v : List ℕ) → IsWriting q h s l k sector bytes → l.made k < length bytes / 512 → length v ≡ 512 → Holds q h (record s { past = entries.Act q k place v ∷ s.past }) (one_more k l)
 act_holds q h s l k sector place bytes v x low long = record {
   known = act_known q h.size h.capacity s.past (s.heads q) k place v long x.left.holds.known;
-  ringed = record { avail_idx_is = x.left.holds.ringed.avail_idx_is; used_idx_is = x.left.holds.ringed.used_idx_is; avail_at = x.left.holds.ringed.avail_at; used_at = x.left.holds.ringed.used_at };
-  driven = driven_same q h.size h.capacity h.base s.past (entries.Act q k place v ∷ s.past) (s.heads q) l.driver (λ j o. record { below = o.below; kept = o.kept }) x.left.holds.driven;
   worked = act_worked q h s l k sector place bytes v x low;
   stored = step_stored q s.past (entries.Act q k place v ∷ s.past) (s.heads q) s.memory l.batch l.completed l.made k (act_follows q s.past k place v x.left.started) (seen_never q s.past (entries.Act q k place v ∷ s.past) l.made k (write_never sector bytes (asked s.past q k) x.is)) x.left.holds.stored;
-  built = built_same q h.size h.base s.past (entries.Act q k place v ∷ s.past) (s.heads q) s.memory l.batch l.phase refl (λ j. refl) x.left.holds.built;
+  queue = queue_same q h s (entries.Act q k place v ∷ s.past) l.driver l.batch l.phase refl refl refl (λ j. refl) x.left.holds.queue;
 }
 
 -- a sector of some bytes
@@ -455,11 +421,9 @@ sync_worked q h s l k x is none =
 sync_holds : (q : ℕ) (h : Header1) (s : Scene) (l : Lane) (k : ℕ) → IsLeft q h s l k → asked s.past q k ≡ Some asks.Flush → l.made k ≡ 0 → Holds q h (record s { past = entries.Sync q k ∷ s.past }) (one_more k l)
 sync_holds q h s l k x is none = record {
   known = sync_known q h.size h.capacity s.past (s.heads q) k x.holds.known;
-  ringed = record { avail_idx_is = x.holds.ringed.avail_idx_is; used_idx_is = x.holds.ringed.used_idx_is; avail_at = x.holds.ringed.avail_at; used_at = x.holds.ringed.used_at };
-  driven = driven_same q h.size h.capacity h.base s.past (entries.Sync q k ∷ s.past) (s.heads q) l.driver (λ j o. record { below = o.below; kept = o.kept }) x.holds.driven;
   worked = sync_worked q h s l k x is none;
   stored = step_stored q s.past (entries.Sync q k ∷ s.past) (s.heads q) s.memory l.batch l.completed l.made k (sync_follows q s.past k x.started) (seen_never q s.past (entries.Sync q k ∷ s.past) l.made k (flush_never (asked s.past q k) is)) x.holds.stored;
-  built = built_same q h.size h.base s.past (entries.Sync q k ∷ s.past) (s.heads q) s.memory l.batch l.phase refl (λ j. refl) x.holds.built;
+  queue = queue_same q h s (entries.Sync q k ∷ s.past) l.driver l.batch l.phase refl refl refl (λ j. refl) x.holds.queue;
 }
 
 sync_fine : (q : ℕ) (h : Header1) (s : Scene) (l : Lane) (k : ℕ) → IsLeft q h s l k → asked s.past q k ≡ Some asks.Flush → l.made k ≡ 0 → Fine q h s l (task_turn h q s l k asks.Flush (Some Sync))
@@ -484,7 +448,7 @@ sync_fine q h s l k x is none =
 
 pub other_open : (q : ℕ) (h : Header1) (s : Scene) (l : Lane) (k j : ℕ) → IsLeft q h s l k → IsOpen s.past q j → j ≢ k → slice_index (s.heads q) j ≢ slice_index (s.heads q) k
 other_open q h s l k j x is_open apart same =
-    apart (x.holds.driven.apart j k (open_out q h.size h.capacity s.past (s.heads q) j x.holds.known is_open) (open_out q h.size h.capacity s.past (s.heads q) k x.holds.known x.is_open) same)
+    apart (x.holds.queue.driven.apart j k (open_out q h.size h.capacity s.past (s.heads q) j x.holds.known is_open) (open_out q h.size h.capacity s.past (s.heads q) k x.holds.known x.is_open) same)
 
 -- a store into the buffer of one request leaves those of the others
 off_other : (q : ℕ) (h : Header1) (s : Scene) (l : Lane) (k j p : ℕ) (bs : List ℕ) → IsLeft q h s l k → IsOpen s.past q j → j ≢ k → buffer q (s.heads q) k ≤ p → p + length bs ≤ buffer q (s.heads q) k + 8192 → OffBuffer q (s.heads q) j p bs
@@ -529,8 +493,6 @@ put_holds q h s l k sector c p x low at =
     let fits : 512 * p + 512 ≤ length read = omega (arith, looked, to.long, at) in
     let long : length bs ≡ 512 = sector_long read p fits in record {
       known = x.left.holds.known;
-      ringed = ringed_elsewhere q h.size h.base s.past (s.heads q) s.memory place bs x.left.good.size (inr (omega arith)) x.left.holds.ringed;
-      driven = x.left.holds.driven;
       worked = put_worked q h s l k sector c p x low at;
       stored = record {
         sectors = λ j i is_open kept reads. elim (cases_eq j k) [
@@ -549,7 +511,7 @@ put_holds q h s l k sector c p x low at =
         status = λ j held.
             status_elsewhere q (s.heads q) j s.memory place bs (off_other q h s l k j place bs x.left (x.left.holds.worked.opens j held) (among_apart (l.completed ++ l.batch) j k held x.left.left) (omega arith) (omega arith)) ∙ x.left.holds.stored.status j held;
       };
-      built = built_elsewhere q h.size h.base s.past (s.heads q) s.memory place bs l.batch l.phase x.left.good.size (inr (omega arith)) x.left.holds.built;
+      queue = queue_elsewhere q h s place bs l.driver l.batch l.phase x.left.good.size (inr (omega arith)) x.left.holds.queue;
     }
 
 put_fine : (q : ℕ) (h : Header1) (s : Scene) (l : Lane) (k sector c p : ℕ) → IsReading q h s l k sector c → p < c → l.made k ≡ 2 * p + 1 → Fine q h s l (task_turn h q s l k (asks.Read sector c) (Some (Put p)))
@@ -653,8 +615,6 @@ status_holds : (q : ℕ) (h : Header1) (s : Scene) (l : Lane) (k p : ℕ) → Is
     → Holds q h (stored_at p (0 ∷ []) s) (finished k l)
 status_holds q h s l k p x whole half at = record {
   known = x.holds.known;
-  ringed = ringed_elsewhere q h.size h.base s.past (s.heads q) s.memory p (0 ∷ []) x.good.size (inr (omega arith)) x.holds.ringed;
-  driven = x.holds.driven;
   worked = status_worked q s.past l.phase l.batch l.completed l.made k x.started x.is_open x.left whole x.holds.worked;
   stored = record {
     sectors = λ j i is_open kept read. elim (cases_eq j k) [
@@ -681,7 +641,7 @@ status_holds q h s l k p x whole half at = record {
           status_elsewhere q (s.heads q) j s.memory p (0 ∷ []) (off_other q h s l k j p (0 ∷ []) x (x.holds.worked.opens j old) (among_apart (l.completed ++ l.batch) j k old x.left) (omega arith) (omega arith)) ∙ x.holds.stored.status j old
     ];
   };
-  built = built_elsewhere q h.size h.base s.past (s.heads q) s.memory p (0 ∷ []) l.batch l.phase x.good.size (inr (omega arith)) x.holds.built;
+  queue = queue_elsewhere q h s p (0 ∷ []) l.driver l.batch l.phase x.good.size (inr (omega arith)) x.holds.queue;
 }
 
 status_fine : (q : ℕ) (h : Header1) (s : Scene) (l : Lane) (k : ℕ) (r : Asked) → IsLeft q h s l k → refusal h.capacity h.mode r ≡ None → IsFull (l.made k) (asked s.past q k) → (IsRead (asked s.past q k) → (l.made k + 1) / 2 ≡ l.made k / 2) → l.made k ≤ 16

@@ -47,9 +47,9 @@ open_words h q (suc p) fits low =
       | inl less ↦
           let rest = open_words h q p fits less in (
             keeps 2 first (used_idx_place (the_ring p h.size)) bs (avail_idx_place (the_ring q h.size)) (inl (omega arith))
-            ∙ keeps 2 before (avail_idx_place (the_ring p h.size)) bs (avail_idx_place (the_ring q h.size)) (inl (omega arith)) ∙ rest.0,
+                ∙ keeps 2 before (avail_idx_place (the_ring p h.size)) bs (avail_idx_place (the_ring q h.size)) (inl (omega arith)) ∙ rest.0,
             keeps 2 first (used_idx_place (the_ring p h.size)) bs (used_idx_place (the_ring q h.size)) (inl (omega arith))
-            ∙ keeps 2 before (avail_idx_place (the_ring p h.size)) bs (used_idx_place (the_ring q h.size)) (inl (omega arith)) ∙ rest.1,
+                ∙ keeps 2 before (avail_idx_place (the_ring p h.size)) bs (used_idx_place (the_ring q h.size)) (inl (omega arith)) ∙ rest.1,
           )
       | inr more ↦
           let same : q ≡ p = omega arith in
@@ -75,14 +75,6 @@ none_out q k out = let low : k < 0 = out.below in omega arith
 opening_holds : (q : ℕ) (h : Header1) → IsPlain h → q < h.queues → Holds q h (opening_scene h) (opening_lane h)
 opening_holds q h plain low = record {
   known = none_known q h.size h.capacity plain.good.size.some;
-  ringed = open_ringed q h plain.good.base low;
-  driven = record {
-    index = let fits : h.base < 65536 = plain.good.base in omega arith;
-    below = λ k out. absurd (none_out q k out);
-    owned = λ k out. absurd (none_out q k out);
-    apart = λ j k out_j out_k same. absurd (none_out q j out_j);
-    waits = tt;
-  };
   worked = record {
     distinct = refl;
     opens = λ k held. absurd (let fails : false ≡ true = held in cc);
@@ -94,7 +86,17 @@ opening_holds q h plain low = record {
     phase_is = refl;
   };
   stored = record { sectors = λ k i is_open kept read. absurd (omega (arith, kept.put)); status = λ k held. absurd (let fails : false ≡ true = held in cc) };
-  built = tt;
+  queue = record {
+    ringed = open_ringed q h plain.good.base low;
+    driven = record {
+      index = let fits : h.base < 65536 = plain.good.base in omega arith;
+      below = λ k out. absurd (none_out q k out);
+      owned = λ k out. absurd (none_out q k out);
+      apart = λ j k out_j out_k same. absurd (none_out q j out_j);
+      waits = tt;
+    };
+    built = tt;
+  };
 }
 
 -- a run begins well

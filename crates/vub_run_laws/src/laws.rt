@@ -16,6 +16,7 @@ ghost use Rattle.vub_run.specs.Run.{Run, Stands, Plays};
 ghost use Rattle.vub_run.specs.Tracking.{TracksAlways};
 ghost use Rattle.vub_report.specs.Entries.{IsEntry};
 ghost use Rattle.vub_report.specs.Histories.{history_of};
+ghost use Rattle.vub_run.specs.Lawful.{EveryStoreIsLawful};
 ghost use Rattle.vub_run.specs.LegalRuns.{EveryDrainServes};
 
 /// The history of every run of a schedule is legal: the device answers each request at most once,
@@ -30,6 +31,13 @@ pub fn every_run_is_legal()
 /// sector, and none of a part of one.
 pub fn every_entry_is_whole()
     ensures { (s : Schedule) (records : List Record) → IsSchedule s → Run s records → AllByRecursion IsEntry (history_of records) }
+{}
+
+/// Each store of a driver in every run of a schedule is lawful where it is made, by the history and
+/// the memory before it: never of what the device may use, of a used ring, of another queue or of
+/// requests in flight.
+pub fn every_driver_store_is_lawful()
+    ensures { (s : Schedule) (records : List Record) → IsSchedule s → Run s records → EveryStoreIsLawful s.header records }
 {}
 
 /// In every run of a schedule a drain of an attached queue serves it: after its record no request of

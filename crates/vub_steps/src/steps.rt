@@ -1,6 +1,5 @@
-ghost use Rattle.std.specs.Prelude.{◌≡◌, ◌<◌, ◌^◌};
-ghost use Rattle.vub_steps.specs.Steps.{next_step, after_step};
-ghost use Rattle.vub_steps.specs.declared.steps.Phase.TheVariants.{Publish};
+ghost use Rattle.std.specs.Prelude.{◌≡◌, ◌<◌, ◌^◌, ◌-◌, length, slice_get};
+ghost use Rattle.vub_steps.specs.Steps.{publish_steps, steps_of, done_of, at_step, next_step, after_step};
 
 /// What the device has under way on a queue, and how many of its steps were made.
 #[derive(Clone, Copy, Debug, PartialEq, Eq)]
@@ -9,6 +8,15 @@ pub enum Phase {
     Start(u32),
     Fetch(u32),
     Publish(u32),
+}
+
+/// What determines the steps of each phase of a queue.
+#[derive(Clone, Copy, Debug, PartialEq, Eq)]
+pub struct Course {
+    /// The places of the queue.
+    pub size: u16,
+    /// The requests in the batch.
+    pub batch: u16,
 }
 
 /// One step of a phase. The elements of a batch are counted from 0.
@@ -26,16 +34,15 @@ pub enum Step {
     Index,
 }
 
-/// The next step of a phase, where the batch has so many elements; none at rest.
-pub fn next_step(batch: u16, phase: Phase) -> Option<Step>
-    ensures { result ≡ next_step batch phase }
+/// The next step of a phase; none at rest.
+pub fn next_step(course: &Course, phase: Phase) -> Option<Step>
+    ensures { result ≡ next_step course.now phase }
 {
-    let elements = u32::from(batch);
     match phase {
         Phase::Rest => None,
         Phase::Start(done) => if done == 0 { Some(Step::Start) } else { None },
         Phase::Fetch(done) => if done == 0 { Some(Step::Accept) } else { None },
-        Phase::Publish(done) => publish_step(elements, done),
+        Phase::Publish(done) => publish_step(u32::from(course.batch), done),
     }
 }
 
@@ -43,7 +50,7 @@ pub fn next_step(batch: u16, phase: Phase) -> Option<Step>
 #[tactic(auto, using(crate::proofs::StepLemmas::id_at, crate::proofs::StepLemmas::len_at, crate::proofs::StepLemmas::index_at, crate::proofs::StepLemmas::none_at))]
 fn publish_step(elements: u32, done: u32) -> Option<Step>
     requires { elements < 2 ^ 16 }
-    ensures { result ≡ next_step elements (Publish done) }
+    ensures { result ≡ slice_get (publish_steps elements) done }
 {
     let element = done / 2;
     if element < elements {
@@ -59,27 +66,47 @@ fn publish_step(elements: u32, done: u32) -> Option<Step>
     }
 }
 
-/// The phase of a publication after the step that follows so many.
-#[tactic(auto, using(crate::proofs::StepLemmas::length_publish))]
-fn after_publish_step(elements: u32, done: u32) -> Phase
-    requires { elements < 2 ^ 16 }
-    ensures { result ≡ after_step elements (Publish done) }
+/// How many steps of a phase were made.
+fn done_of(phase: Phase) -> u32
+    ensures { result ≡ done_of phase }
 {
-    if done < 2 * elements {
-        Phase::Publish(done + 1)
-    } else {
-        Phase::Rest
+    match phase {
+        Phase::Rest => 0,
+        Phase::Start(done) | Phase::Fetch(done) | Phase::Publish(done) => done,
+    }
+}
+
+/// The same phase with so many steps made.
+fn at_step(phase: Phase, done: u32) -> Phase
+    ensures { result ≡ at_step phase done }
+{
+    match phase {
+        Phase::Rest => Phase::Rest,
+        Phase::Start(_) => Phase::Start(done),
+        Phase::Fetch(_) => Phase::Fetch(done),
+        Phase::Publish(_) => Phase::Publish(done),
+    }
+}
+
+/// How many steps of a phase come after its first one.
+#[tactic(auto, using(crate::proofs::StepLemmas::length_publish))]
+fn later_steps(course: &Course, phase: Phase) -> u32
+    ensures { result ≡ length (steps_of course.now phase) - 1 }
+{
+    match phase {
+        Phase::Rest | Phase::Start(_) | Phase::Fetch(_) => 0,
+        Phase::Publish(_) => 2 * u32::from(course.batch),
     }
 }
 
 /// The phase after its next step: at rest after the last one.
-pub fn after_step(batch: u16, phase: Phase) -> Phase
-    ensures { result ≡ after_step batch phase }
+pub fn after_step(course: &Course, phase: Phase) -> Phase
+    ensures { result ≡ after_step course.now phase }
 {
-    match phase {
-        Phase::Rest => Phase::Rest,
-        Phase::Start(_) => Phase::Rest,
-        Phase::Fetch(_) => Phase::Rest,
-        Phase::Publish(done) => after_publish_step(u32::from(batch), done),
+    let done = done_of(phase);
+    if done < later_steps(course, phase) {
+        at_step(phase, done + 1)
+    } else {
+        Phase::Rest
     }
 }

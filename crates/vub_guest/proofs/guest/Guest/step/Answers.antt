@@ -3,7 +3,7 @@ use Rattle.std.specs.Prelude.{option_map}
 use Rattle.std.specs.Prelude.{Ok, Err}
 use Rattle.vub_guest.specs.declared.guest.GuestStep.TheVariants.{Failed}
 use Rattle.vub_guest.specs.GuestState.{ring_in, waiting_in}
-use Rattle.vub_guest.proofs.ChainLemmas.{lawful_next}
+use Rattle.vub_guest.proofs.ChainLemmas.{own_next}
 use Rattle.vub_guest.proofs.GuestLemmas.{stores_made, trails_made}
 use Rattle.vub_guest.proofs.guest.Guest.step.Goals as goal
 
@@ -32,12 +32,12 @@ returns-in-Err-clause-driver g c =
     let old = c.args.self.now in
     (waiting_in (ring_in old) old.avail_idx c.in-Some.pending, ap (option_map (waiting_in (ring_in old) old.avail_idx)) c.in-Some.is, refl)
 
-pub returns-in-Ok-clause-lawful : goal.returns-in-Ok-clause-lawful
-returns-in-Ok-clause-lawful g c m told at_index =
+pub returns-in-Ok-clause-own : goal.returns-in-Ok-clause-own
+returns-in-Ok-clause-own g c =
     let old = c.args.self.now in
-    lawful_next (ring_in old) m old.avail_idx c.in-Some.pending old.waiting old.owners.items c.in-Some.is old.owned old.waits c.make_store.ensures.small at_index
+    own_next (ring_in old) old.avail_idx c.in-Some.pending old.waiting old.owners.items c.in-Some.is old.owned old.waits c.make_store.ensures.small
 
-pub returns-in-Err-clause-lawful : goal.returns-in-Err-clause-lawful
-returns-in-Err-clause-lawful g c m told at_index =
+pub returns-in-Err-clause-own : goal.returns-in-Err-clause-own
+returns-in-Err-clause-own g c =
     let old = c.args.self.now in
-    lawful_next (ring_in old) m old.avail_idx c.in-Some.pending old.waiting old.owners.items c.in-Some.is old.owned old.waits c.make_store.ensures.small at_index
+    own_next (ring_in old) old.avail_idx c.in-Some.pending old.waiting old.owners.items c.in-Some.is old.owned old.waits c.make_store.ensures.small

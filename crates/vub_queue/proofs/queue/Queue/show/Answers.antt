@@ -1,4 +1,4 @@
-use Rattle.std.proofs.Common.{◌≡◌, ◌≤◌, ◌+◌, ◌%◌, length, refl, ap, sym, ◌∙◌, arith}
+use Rattle.std.proofs.Common.{◌≡◌, ◌+◌, ◌%◌, refl, ap, sym, ◌∙◌}
 use Rattle.std.specs.Prelude.{Some}
 use Rattle.byteorder.specs.Endian.{little_bytes}
 use Rattle.vub_base.specs.declared.store.Tag.TheVariants.{SP5}
@@ -6,32 +6,26 @@ use Rattle.vub_steps.specs.declared.steps.Phase.TheVariants.{Rest}
 use Rattle.vub_steps.specs.declared.steps.Step.TheVariants.{Index}
 use Rattle.vub_ring.specs.Ring.{used_idx_place}
 use Rattle.vub_steps.specs.Rows.{Row, row}
-use Rattle.vub_steps.specs.Steps.{next_step, after_step}
+use Rattle.vub_steps.specs.Steps.{next_step}
 use Rattle.vub_queue.specs.declared.queue.Queue.{Queue}
 use Rattle.vub_queue.specs.declared.queue.Stepped.TheVariants as says
 use Rattle.vub_split.specs.Split.{used_side}
-use Rattle.vub_queue.specs.QueueState.{QueueState, state_of, next_row, moved, with_phase}
-use Rattle.vub_queue.proofs.QueueLemmas.{index_ends, length_batch, row_of_index, failed_row, failed_trail, made_row, made_trail, moves_if}
+use Rattle.vub_queue.specs.QueueState.{QueueState, state_of, course_in, next_row, moved, with_phase}
+use Rattle.vub_queue.proofs.QueueLemmas.{index_ends, count_is, row_of_index, failed_row, failed_trail, made_row, made_trail, moves_if}
 use Rattle.vub_queue.proofs.queue.Queue.show.Goals as goal
 
 -- the row of the step
 abbrev row_here : Queue → Row
 row_here q = row (used_side q.ring) SP5 (used_idx_place (used_side q.ring)) (little_bytes 2 ((q.next_used + q.batch) % 65536))
 
-count_is : (q : Queue) → length (state_of q).batch ≡ q.batch
-count_is q =
-    let few : q.batch ≤ length q.completed.items = omega (arith, q.batched) in
-    length_batch q.batch q.completed.items few
-
-row_is : (q : Queue) → next_step q.batch q.phase ≡ Some Index → next_row (state_of q) ≡ Some (row_here q)
+row_is : (q : Queue) → next_step (course_in (state_of q)) q.phase ≡ Some Index → next_row (state_of q) ≡ Some (row_here q)
 row_is q next =
-    row_of_index (state_of q) (ap (λ k. next_step k q.phase) (count_is q) ∙ next)
+    row_of_index (state_of q) next
     ∙ ap (λ n. Some (row (used_side q.ring) SP5 (used_idx_place (used_side q.ring)) (little_bytes 2 ((q.next_used + n) % 65536)))) (count_is q)
 
-moved_is : (q : Queue) → next_step q.batch q.phase ≡ Some Index → with_phase Rest (state_of q) ≡ moved (state_of q)
+moved_is : (q : Queue) → next_step (course_in (state_of q)) q.phase ≡ Some Index → with_phase Rest (state_of q) ≡ moved (state_of q)
 moved_is q next =
-    let ends : after_step (length (state_of q).batch) q.phase ≡ Rest = ap (λ k. after_step k q.phase) (count_is q) ∙ index_ends q.batch q.phase next in
-    ap (λ p. with_phase p (state_of q)) (sym ends)
+    ap (λ p. with_phase p (state_of q)) (sym (index_ends (course_in (state_of q)) q.phase next))
 
 pub returns-in-Err-clause-moves : goal.returns-in-Err-clause-moves
 returns-in-Err-clause-moves g c =
