@@ -1,9 +1,10 @@
 -- What the room and the answers of a step of a drain need to know of the batch under way.
-use Rattle.std.proofs.Common.{◌≡◌, ◌≤◌, ◌<◌, ℕ, true, List, [], ◌++◌, length, refl, ap, sym, ◌∙◌, arith}
+use Rattle.std.proofs.Common.{◌≡◌, ◌≤◌, ◌<◌, ℕ, true, List, ◌++◌, length, refl, ap, sym, ◌∙◌, arith}
 use Rattle.std.specs.Prelude.{Option, Some, None, map, slice_get, slice_index, option_map}
 use Rattle.std.proofs.lemmas.List.{length-map}
 use Rattle.std.proofs.lemmas.Option.{slice_get-map}
 use Rattle.vub_base.specs.declared.header.Header1.{Header1}
+use Rattle.vub_steps.specs.declared.steps.Course.{Course}
 use Rattle.vub_steps.specs.declared.steps.Phase.{Phase}
 use Rattle.vub_steps.specs.declared.steps.Phase.TheVariants as phases
 use Rattle.vub_steps.specs.Steps.{next_step}
@@ -18,7 +19,7 @@ use Rattle.vub_world.specs.MachineAt.{OutstandingAt, reads_of}
 use Rattle.vub_world.specs.MachineDevice.{BatchFits, ShowsSome, is_index}
 use Rattle.vub_run.specs.Moments.{Moment}
 use Rattle.vub_queue_in_run.specs.QueueAt.{QueueStands, spot_of}
-use Rattle.vub_queue.specs.QueueState.{QueueState}
+use Rattle.vub_queue.specs.QueueState.{course_in, QueueState}
 use Rattle.vub_world.proofs.MachineTurns.{among_right}
 use Rattle.vub_run_laws.proofs.RunFrames.{open_out}
 use Rattle.vub_run_laws.proofs.RunGood.{IsWide, PhaseIs, IsOut}
@@ -27,17 +28,17 @@ use Rattle.vub_run_laws.proofs.RunTurns.{Good}
 
 -- ---- a batch that is shown isn't empty
 
-phase_shows : (batch : List ℕ) (count : ℕ) (phase : Phase) → PhaseIs batch phase → is_index (next_step count phase) ≡ true → 0 < length batch
-phase_shows batch count phases.Rest is shows = absurd (cc shows)
-phase_shows batch count (phases.Start done) is shows = absurd is
-phase_shows batch count (phases.Fetch done) is shows = absurd is
-phase_shows batch count (phases.Publish done) is shows = is.0
+phase_shows : (batch : List ℕ) (course : Course) (phase : Phase) → PhaseIs batch phase → is_index (next_step course phase) ≡ true → 0 < length batch
+phase_shows batch course phases.Rest is shows = absurd (cc shows)
+phase_shows batch course (phases.Start done) is shows = absurd is
+phase_shows batch course (phases.Fetch done) is shows = absurd is
+phase_shows batch course (phases.Publish done) is shows = is.0
 
 pub queue_shows_some : (q : ℕ) (h : Header1) (r : SplitRing) (m : Moment) (state : QueueState) → Good q h m → QueueStands q h r m state → ShowsSome state
 queue_shows_some q h r m state good at shows =
     let lane = m.lanes q in
-    let here : is_index (next_step (length state.batch) lane.phase) ≡ true = ap (λ (p : Phase). is_index (next_step (length state.batch) p)) (sym at.phase) ∙ shows in
-    let some : 0 < length lane.batch = phase_shows lane.batch (length state.batch) lane.phase good.holds.worked.phase_is here in
+    let here : is_index (next_step (course_in state) lane.phase) ≡ true = ap (λ (p : Phase). is_index (next_step (course_in state) p)) (sym at.phase) ∙ shows in
+    let some : 0 < length lane.batch = phase_shows lane.batch (course_in state) lane.phase good.holds.worked.phase_is here in
     let long : length state.batch ≡ length lane.batch = ap length at.batch ∙ length-map lane.batch (spot_of q h m.scene.past (m.scene.heads q)) in
     omega (arith, some, long)
 
@@ -71,7 +72,7 @@ queue_batch_fits q h r m state outstanding small good at numbered i x found =
         let head : x.0 ≡ slice_index heads k = sym (ap (λ (y : ℕ × ℕ). y.0) same) in
         let among : is_among ((m.lanes q).completed ++ (m.lanes q).batch) k ≡ true = among_right (m.lanes q).completed (m.lanes q).batch k (among_get (m.lanes q).batch i k here) in
         let out : IsOut q past heads k = open_out q h.size h.capacity past heads k holds.known (holds.worked.opens k among) in
-        let below : slice_index heads k < h.size = holds.driven.below k out in
+        let below : slice_index heads k < h.size = holds.queue.driven.below k out in
         let slot : (slot_in outstanding x.0).reads ≡ reads_of (asked past q k) = ap (λ (d : ℕ). (slot_in outstanding d).reads) head ∙ ap (λ (o : OutstandingRequest). o.reads) (numbered.slots k out.below out.kept) in
         let few : reads_of (asked past q k) ≤ 8 = few_reads h.capacity (asked past q k) (holds.known.wide k out.below) in
         (omega (arith, below, head, small), omega (arith, below, head, numbered.places), omega (arith, slot, few))

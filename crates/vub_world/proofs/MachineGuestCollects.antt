@@ -128,7 +128,7 @@ one_is_left q w stood shown =
     let c : ℕ = collected m.scene.past q in
     let ps : List ℕ = published m.scene.past q in
     let u : ℕ = used_idx r m.scene.memory in
-    let index : u ≡ (h.base + length ps) % 65536 = good.holds.ringed.used_idx_is in
+    let index : u ≡ (h.base + length ps) % 65536 = good.holds.queue.ringed.used_idx_is in
     let apart : u ≢ (h.base + c) % 65536 = λ same. shown (ap (used_idx r) at.front.memory ∙ same ∙ sym at.position) in
     let more : c < length ps = elim (cases_lt c (length ps)) [
       | inl less ↦ less
@@ -158,7 +158,7 @@ is_first q w es rs m head low s at shown head_is =
     let p : ℕ = h.base + c in
     let l : Lane = m.lanes q in
     let u : ℕ = used_idx r m.scene.memory in
-    let index : u ≡ (h.base + length ps) % 65536 = good.holds.ringed.used_idx_is in
+    let index : u ≡ (h.base + length ps) % 65536 = good.holds.queue.ringed.used_idx_is in
     let apart : u ≢ p % 65536 = λ same. shown (ap (used_idx r) at.front.memory ∙ same ∙ sym at.position) in
     let far : 0 < ahead u p = omega (arith, index, apart) in
     let some = some_elements r m.scene.memory (ahead u p) p far in
@@ -168,7 +168,7 @@ is_first q w es rs m head low s at shown head_is =
     let k : ℕ = slice_index ps c in
     let there : k < length (m.scene.heads q) = omega (arith, known.below k (among_at ps c t.more), known.offered) in
     let kept : is_among (take c ps) k ≡ false = none_before ps c known.distinct t.more in
-    let low : slice_index (m.scene.heads q) k < h.size = good.holds.driven.below k (record { below = there; kept = kept }) in
+    let low : slice_index (m.scene.heads q) k < h.size = good.holds.queue.driven.below k (record { below = there; kept = kept }) in
     let first : x.0 ≡ slice_index (m.scene.heads q) k = t.head in
     let small : h.size ≤ 64 = plain.good.size.small in
     let read : (element_at r (bytes_in w.memory) (last_used_in w.front.guest)).0 ≡ x.0 =

@@ -128,7 +128,7 @@ front_fits q w standing = record {
     smalls None e = tt
     smalls (Some x) e =
         let v : Driver = (m.lanes q).driver in
-        let waits : IsWaiting q h.size h.capacity m.scene.past (m.scene.heads q) v x = subst (λ (o : Option Waiting). WaitsWell q h.size h.capacity m.scene.past (m.scene.heads q) v o) e good.holds.driven.waits in
+        let waits : IsWaiting q h.size h.capacity m.scene.past (m.scene.heads q) v x = subst (λ (o : Option Waiting). WaitsWell q h.size h.capacity m.scene.past (m.scene.heads q) v o) e good.holds.queue.driven.waits in
         let ready : IsPrepared q h.size m.scene.memory v x = subst (λ (o : Option Waiting). PreparedWell q h.size m.scene.memory v o) e chained.waits in
         all_last IsSmall ready.made x.left (subst (λ (sts : List Store). Small sts) (sym ready.stores) (stores_small q h.size h.capacity v.avail_idx x.head ready.body ready.status x.ask waits.wide))
 

@@ -187,7 +187,7 @@ shown_below q h es rs m x low s waits some few =
     let r : Asked = request_of x.ask in
     let own : (offered_scene q h r (put_all x.left m.scene.memory) m.scene).heads q ≡ heads ++ head ∷ [] = offered_heads q h r (put_all x.left m.scene.memory) m.scene in
     let out = subst (λ (hs : List ℕ). IsOut q (entries.Offer q r ∷ m.scene.past) hs (length heads)) (sym own) (new_out q h.size h.capacity m.scene.past heads r head known) in
-    let below : slice_index (heads ++ head ∷ []) (length heads) < h.size = subst (λ (hs : List ℕ). slice_index hs (length heads) < h.size) own (good.holds.driven.below (length heads) out) in
+    let below : slice_index (heads ++ head ∷ []) (length heads) < h.size = subst (λ (hs : List ℕ). slice_index hs (length heads) < h.size) own (good.holds.queue.driven.below (length heads) out) in
     omega (arith, below, new_head heads head)
 
 -- where these are all that were left
@@ -212,7 +212,7 @@ offered_at q w memory guest' asked' outstanding es rs m x is count position low 
     let lane : (moment_with q count x m (offered_scene q h r b m.scene)).lanes q ≡ stored_lane q count x m = at_own m.lanes q (stored_lane q count x m) in
     let driven : Driven q h.size h.capacity h.base (entries.Offer q r ∷ m.scene.past) (m.scene.heads q ++ last_head (the_ring q h.size) b ∷ []) (stored_lane q count x m).driver =
     subst (λ (l : Lane). Driven q h.size h.capacity h.base (entries.Offer q r ∷ m.scene.past) (m.scene.heads q ++ last_head (the_ring q h.size) b ∷ []) l.driver) lane
-    (subst (λ (hs : List ℕ). Driven q h.size h.capacity h.base (entries.Offer q r ∷ m.scene.past) hs ((moment_with q count x m (offered_scene q h r b m.scene)).lanes q).driver) own good_next.holds.driven) in
+    (subst (λ (hs : List ℕ). Driven q h.size h.capacity h.base (entries.Offer q r ∷ m.scene.past) hs ((moment_with q count x m (offered_scene q h r b m.scene)).lanes q).driver) own good_next.holds.queue.driven) in
     let stands : PartsAt q now (moment_with q count x m (offered_scene q h r b m.scene)) = record {
       front = front;
       position = position ∙ at.position;

@@ -1,16 +1,14 @@
 -- What stands at a moment where the lane of a queue is set.
-use Rattle.std.proofs.Common.{◌≡◌, ℕ, true, false, ap, sym, ◌∙◌, subst}
+use Rattle.std.proofs.Common.{◌≡◌, ℕ, ap, sym, ◌∙◌, subst}
 use Rattle.std.specs.Prelude.{Option, Some, None}
 use Rattle.vub_base.specs.declared.header.Header1.{Header1}
 use Rattle.vub_driver.specs.Drivers.{Waiting, after_stores}
-use Rattle.vub_guest.specs.GuestState.{driver_in}
 use Rattle.vub_queue.specs.declared.queue.Queue.{Queue}
 use Rattle.vub_queue.specs.QueueState.{state_of}
 use Rattle.vub_queue_in_run.specs.QueueAt.{QueueAt}
 use Rattle.vub_run.specs.Moments.{Lane, Moment}
 use Rattle.vub_run.specs.Run.{with_lane, with_driver, guest_stores}
 use Rattle.vub_run_laws.proofs.RunOwn.{at_own}
-use Rattle.vub_shared.specs.Watched.{bytes_in}
 use Rattle.vub_split.specs.declared.split.SplitRing.{SplitRing}
 use Rattle.vub_world.specs.Fronts.{Desk}
 use Rattle.vub_world.specs.MachineAt.{AskAt, FrontAt, LifeAt}

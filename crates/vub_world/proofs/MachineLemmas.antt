@@ -1,5 +1,5 @@
 -- Where the ring of a sound front lies.
-use Rattle.std.proofs.Common.{◌≡◌, ◌≤◌, ℕ, ◌+◌, ◌%◌, sym, subst, ◌∙◌, arith, true}
+use Rattle.std.proofs.Common.{◌≡◌, ◌≤◌, ℕ, ◌+◌, sym, subst, ◌∙◌, arith, true}
 use Rattle.std.specs.Int.{◌∣◌}
 use Rattle.std.specs.Prelude.{Option}
 use mathlib.Core.Path.{fun_ext}

@@ -1,16 +1,19 @@
 -- Where the machine stands in the middle of some turns, and at their end.
 use Rattle.std.proofs.Common.{◌≡◌, ◌≢◌, ◌≤◌, ◌<◌, ℕ, suc, ◌+◌, ◌-◌, ◌*◌, Bool, true, false, List, [], ◌++◌, length, refl, ap, sym, ◌∙◌, subst, inl, inr, arith}
-use Rattle.std.specs.Prelude.{Option, Some, None, nat_lt, min}
+use Rattle.std.specs.Prelude.{if◌then◌else◌, slice_get, Option, Some, None, nat_lt, min}
 use Rattle.std.proofs.lemmas.Bool.Decides.{nat_tests}
 use Rattle.std.proofs.lemmas.Bool.{cases_eq}
 use Rattle.std.proofs.lemmas.List.{append-nil, append_assoc, length-map}
 use Rattle.vub_base.specs.declared.header.Header1.{Header1}
+use Rattle.vub_steps.specs.Steps.{start_steps, fetch_steps, publish_steps}
+use Rattle.vub_steps.specs.declared.steps.Course.{Course}
+use Rattle.vub_run.specs.Turns.{course_of}
+use Rattle.vub_steps.specs.declared.steps.Phase.TheVariants as phases
 use Rattle.vub_steps.specs.declared.steps.Phase.{Phase}
 use Rattle.vub_steps.specs.declared.readiness.Turn.{Turn}
 use Rattle.vub_steps.specs.Readiness.{drain_turn}
 use Rattle.vub_device.specs.Past.{accepted, collected}
 use Rattle.vub_schedule.specs.declared.types.Event.{Event}
-use Rattle.vub_world.specs.declared.machine.Life.{Life}
 use Rattle.vub_world.specs.Fronts.{Parts}
 use Rattle.vub_queue.specs.declared.queue.Queue.{Queue}
 use Rattle.vub_report.specs.declared.items.Item.{Item}
@@ -18,14 +21,14 @@ use Rattle.vub_report.specs.declared.items.Record.{Record}
 use Rattle.vub_split.specs.declared.split.SplitRing.{SplitRing}
 use Rattle.vub_room.specs.Rooms.{RoomState, HasTurnRoom, HasRoom, SpendsStep}
 use Rattle.vub_world.specs.MachineAt.{PartsAt, LifeAt, AttachedAt, IsReached}
-use Rattle.vub_world.specs.MachineDevice.{batch_in, shown_in, queue_batch, queue_shows}
+use Rattle.vub_world.specs.MachineDevice.{is_index, batch_in, shown_in, queue_batch, queue_shows}
 use Rattle.vub_world.specs.declared.device.Sequence.{Sequence}
 use Rattle.vub_world.specs.declared.device.Sequence.TheVariants as sequences
 use Rattle.vub_world.specs.Sequences.{next_turn, choices_from}
-use Rattle.vub_world.specs.MachineSteps.{StepGoes, TurnsGo, TurnsMade}
+use Rattle.vub_world.specs.MachineSteps.{StepGoes, TurnsGo}
 use Rattle.vub_run.specs.Moments.{Moment, standing}
 use Rattle.vub_queue_in_run.specs.QueueAt.{QueueStands, spot_of}
-use Rattle.vub_queue.specs.QueueState.{state_of}
+use Rattle.vub_queue.specs.QueueState.{course_in, state_of}
 use Rattle.vub_run.specs.Run.{Stands, Played, turns, one_turn, is_due, then_played}
 use Rattle.vub_world.proofs.MachineRooms.{shown_by, chosen_shows, undone, effort_bound, batch_undone}
 use Rattle.vub_run_laws.proofs.RunChainsTurns.{turn_gentle}
@@ -36,8 +39,14 @@ use Rattle.vub_run_laws.proofs.RunsTo.{stands_good, stands_turns}
 
 -- ---- what a life shows, and what its lane shows
 
-shows_same : (m : Moment) (a b : ℕ) (p p' : Phase) → a ≡ b → p ≡ p' → shown_by a p ≡ shown_by b p'
-shows_same m a b p p' e f = ap (λ (n : ℕ). shown_by n p) e ∙ ap (λ (x : Phase). shown_by b x) f
+shows_same : (a b : Course) (p p' : Phase) → a.batch ≡ b.batch → p ≡ p' → shown_by a p ≡ shown_by b p'
+shows_same a b p p' e f = by_batch p ∙ ap (shown_by b) f
+  where
+    by_batch : (p : Phase) → shown_by a p ≡ shown_by b p
+    by_batch phases.Rest = refl
+    by_batch (phases.Start done) = ap (λ (n : ℕ). if is_index (slice_get start_steps done) then n else 0) e
+    by_batch (phases.Fetch done) = ap (λ (n : ℕ). if is_index (slice_get fetch_steps done) then n else 0) e
+    by_batch (phases.Publish done) = ap (λ (n : ℕ). if is_index (slice_get (publish_steps n) done) then n else 0) e
 
 batch_same : (q : ℕ) (h : Header1) (r : SplitRing) (m : Moment) (queue : Queue) → QueueStands q h r m (state_of queue) → length (state_of queue).batch ≡ length (m.lanes q).batch
 batch_same q h r m queue s = ap (λ (xs : List (ℕ × ℕ)). length xs) s.batch ∙ length-map (m.lanes q).batch (spot_of q h m.scene.past (m.scene.heads q))
@@ -50,13 +59,13 @@ batch_few q h r m (Some l) at = go l at.1
     go None at = omega arith
     go (Some queue) at = omega (arith, batch_same q h r m queue at.2)
 
-pub shown_is : (q : ℕ) (h : Header1) (r : SplitRing) (m : Moment) (life : Option (Option Queue)) → Good q h m → LifeAt q h r m life → (m.lanes q).attached ≡ true → shown_in life ≡ shown_by (length (m.lanes q).batch) (m.lanes q).phase
+pub shown_is : (q : ℕ) (h : Header1) (r : SplitRing) (m : Moment) (life : Option (Option Queue)) → Good q h m → LifeAt q h r m life → (m.lanes q).attached ≡ true → shown_in life ≡ shown_by (course_of h (m.lanes q)) (m.lanes q).phase
 shown_is q h r m None good at attached = absurd (let asleep : (m.lanes q).attached ≡ false = (good.asleep at).0 in let both : true ≡ false = sym attached ∙ asleep in cc)
 shown_is q h r m (Some l) good at attached = go l at.1
   where
-    go : (queue : Option Queue) → AttachedAt q h r m queue → queue_shows queue ≡ shown_by (length (m.lanes q).batch) (m.lanes q).phase
+    go : (queue : Option Queue) → AttachedAt q h r m queue → queue_shows queue ≡ shown_by (course_of h (m.lanes q)) (m.lanes q).phase
     go None at = absurd (let both : true ≡ false = sym attached ∙ at.1 in cc)
-    go (Some queue) at = shows_same m (length (state_of queue).batch) (length (m.lanes q).batch) (state_of queue).phase (m.lanes q).phase (batch_same q h r m queue at.2) at.2.phase
+    go (Some queue) at = shows_same (course_in (state_of queue)) (course_of h (m.lanes q)) (state_of queue).phase (m.lanes q).phase (batch_same q h r m queue at.2) at.2.phase
 
 -- ---- the loop
 
@@ -175,7 +184,7 @@ turns_go_on q h sequence es rs m most done now next before after after' taken ta
     let taken_are : taken' + accepted n.scene.past q ≡ taken + accepted (one_turn h q t n).next.scene.past q = subst (λ (k : Header1). taken' + accepted n.scene.past q ≡ taken + accepted (one_turn k q t n).next.scene.past q) same went.3 in
     let attached : (n.lanes q).attached ≡ true = grind (arith, nat_tests) in
     let life : LifeAt q h now.front.ring n now.life = subst (λ (k : Header1). LifeAt q k now.front.ring n now.life) same d.at.life in
-    let shown : shown_in now.life ≡ shown_by (length (n.lanes q).batch) (n.lanes q).phase = shown_is q h now.front.ring n now.life good life attached in
+    let shown : shown_in now.life ≡ shown_by (course_of h (n.lanes q)) (n.lanes q).phase = shown_is q h now.front.ring n now.life good life attached in
     let shows = chosen_shows q h n sequence taken good t (sym is) in
     let heads : (one_turn h q t n).next.scene.heads q ≡ n.scene.heads q = (turn_gentle q h t n plain good).heads in
     let many : length ((one_turn h q t n).next.scene.heads q) ≡ length (n.scene.heads q) = ap (λ (xs : List ℕ). length xs) heads in

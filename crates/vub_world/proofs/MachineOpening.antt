@@ -15,7 +15,7 @@ use Rattle.vub_queue_in_run.specs.QueueAt.{LiesAs}
 use Rattle.vub_shared.specs.declared.watched_shared.WatchedShared.{WatchedShared}
 use Rattle.vub_world.specs.declared.front.Front.{Front}
 use Rattle.vub_world.specs.declared.machine.Machine.{Machine}
-use Rattle.vub_world.specs.Fronts.{FrontSound, PartsSound, IsNewFront, AreNewFronts, IsNewQueue, AreNewQueues, offered_by}
+use Rattle.vub_world.specs.Fronts.{FrontSound, IsNewFront, AreNewFronts, IsNewQueue, AreNewQueues, offered_by}
 use Rattle.vub_world.specs.Lives.{RingOfLife, LiesInLife, life_of}
 use Rattle.vub_world.specs.declared.machine.Life.{Life}
 use Rattle.std.proofs.lemmas.List.{length_push}

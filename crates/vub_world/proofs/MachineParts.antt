@@ -1,6 +1,6 @@
 -- What a machine has of a queue, and that it stands where the parts of its queue do. The grammar has one queue: there the
 -- number of each is 0.
-use Rattle.std.proofs.Common.{◌≡◌, ◌≤◌, ◌<◌, ℕ, zero, suc, ◌+◌, Bool, true, false, List, [], ◌∷◌, length, set, refl, ap, sym, ◌∙◌, subst, arith}
+use Rattle.std.proofs.Common.{◌≡◌, ◌≤◌, ◌<◌, ℕ, zero, suc, true, false, List, [], ◌∷◌, length, set, refl, ap, sym, ◌∙◌, subst, arith}
 use Rattle.std.specs.Prelude.{Vec, not, slice_get, get_or, Option, Some, None, is_some}
 use Rattle.std.proofs.lemmas.List.{length-set, set-get_or}
 use Rattle.std.proofs.lemmas.Option.{slice_get-get_or, slice_get_within}
@@ -201,7 +201,7 @@ turned_at w memory q k queue disk f sound is has next at = record { many = sound
 abbrev pub with_life_of : Machine → Option Life → Machine
 with_life_of w l = record w { life = l }
 
--- the first queue, which is there
+-- a header has a queue
 pub first_front : (w : Machine) → IsSound w → (f : Front) × (slice_get w.fronts.items 0 ≡ Some f)
 first_front w sound = found_there w.fronts.items 0 (omega (arith, sound.many, sound.header.one))
 

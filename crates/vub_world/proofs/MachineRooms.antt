@@ -14,7 +14,8 @@ use Rattle.vub_steps.specs.declared.readiness.Turn.TheVariants as turns
 use Rattle.vub_steps.specs.Readiness.{is_publication, any_turn, draining_turn}
 use Rattle.vub_steps.specs.Rows.{Row, row_of}
 use Rattle.vub_ring.specs.Ring.{used_idx}
-use Rattle.vub_steps.specs.Steps.{next_step}
+use Rattle.vub_steps.specs.declared.steps.Course.{Course}
+use Rattle.vub_steps.specs.Steps.{publish_steps, next_step}
 use Rattle.vub_driver.specs.Layout.{ring_of}
 use Rattle.vub_device.specs.declared.entry.Asked.{Asked}
 use Rattle.vub_device.specs.declared.entry.Entry.{Entry}
@@ -32,7 +33,7 @@ use Rattle.vub_run.specs.Moments.{Lane, Moment, standing, unfinished}
 use Rattle.vub_run.specs.Run.{one_turn}
 use Rattle.vub_steps.specs.Tasks.{RequestStep, Look, Put, Act, Sync, Status, task_steps}
 use Rattle.vub_run.specs.TaskItems.{look_items, act_items}
-use Rattle.vub_run.specs.Turns.{turned, work_turn, request_turn, task_turn, phase_turn, phase_goes_on, under_way, begun, is_rest, row_items, step_stores, element_of, answer_at}
+use Rattle.vub_run.specs.Turns.{course_of, turned, work_turn, request_turn, task_turn, phase_turn, phase_goes_on, under_way, begun, is_rest, row_items, step_stores, element_of, answer_at}
 use Rattle.vub_run_laws.proofs.RunNumbers.{missing-among, distinct_join, few_below}
 use Rattle.vub_run_laws.proofs.RunGood.{Known, Worked}
 use Rattle.vub_run_laws.proofs.RunEfforts.{weight, sum_below, weight_small}
@@ -72,8 +73,8 @@ work_shows q h s l None = refl
 work_shows q h s l (Some k) = request_shows q h s l k (asked s.past q k)
 
 -- how many answers the next step of a phase shows
-abbrev pub shown_by : ℕ → Phase → ℕ
-shown_by batch p = if is_index (next_step batch p) then batch else 0
+abbrev pub shown_by : Course → Phase → ℕ
+shown_by course p = if is_index (next_step course p) then course.batch else 0
 
 abbrev step_shown : ℕ → Option Step → ℕ
 step_shown batch o = if is_index o then batch else 0
@@ -101,10 +102,10 @@ abbrev IsOfQueue : Turn → Type 0
 IsOfQueue (turns.Work place) = ⊥
 IsOfQueue t = ⊤
 
-begun_shows : (most : ℕ) (l : Lane) → l.batch ≡ [] → step_shown (length (take most l.completed)) (next_step (length (take most l.completed)) (phases.Publish 0)) ≡ 0
+begun_shows : (most : ℕ) (l : Lane) → l.batch ≡ [] → step_shown (length (take most l.completed)) (slice_get (publish_steps (length (take most l.completed))) 0) ≡ 0
 begun_shows most l none = go (length (take most l.completed))
   where
-    go : (n : ℕ) → step_shown n (next_step n (phases.Publish 0)) ≡ 0
+    go : (n : ℕ) → step_shown n (slice_get (publish_steps n) 0) ≡ 0
     go zero = refl
     go (suc n) = refl
 
@@ -115,13 +116,13 @@ rests q h s l t of_queue rest none = subst (λ (b : Bool). count_in q (after_ite
     go turns.Start is = refl
     go turns.Fetch is = refl
     go (turns.Publish most) is =
-        phase_shows q h s (begun (turns.Publish most) l) (next_step (length (take most l.completed)) (phases.Publish 0)) ∙ (let none' = begun_shows most l none in omega (arith, none'))
+        phase_shows q h s (begun (turns.Publish most) l) (slice_get (publish_steps (length (take most l.completed))) 0) ∙ (let none' = begun_shows most l none in omega (arith, none'))
     go (turns.Work place) is = absurd is
 
-goes_on : (q : ℕ) (h : Header1) (s : Scene) (l : Lane) (t : Turn) → is_rest l.phase ≡ false → count_in q (after_items h (phase_goes_on h q s (under_way t l)).items s) ≡ count_in q s + shown_by (length l.batch) l.phase
+goes_on : (q : ℕ) (h : Header1) (s : Scene) (l : Lane) (t : Turn) → is_rest l.phase ≡ false → count_in q (after_items h (phase_goes_on h q s (under_way t l)).items s) ≡ count_in q s + shown_by (course_of h l) l.phase
 goes_on q h s l t busy =
-    subst (λ (b : Bool). count_in q (after_items h (phase_goes_on h q s (if b then begun t l else l)).items s) ≡ count_in q s + shown_by (length l.batch) l.phase) (sym busy)
-    (phase_shows q h s l (next_step (length l.batch) l.phase))
+    subst (λ (b : Bool). count_in q (after_items h (phase_goes_on h q s (if b then begun t l else l)).items s) ≡ count_in q s + shown_by (course_of h l) l.phase) (sym busy)
+    (phase_shows q h s l (next_step (course_of h l) l.phase))
 
 -- while a batch is published no work on a request comes first
 any_publishes : (size waiting unfinished completed : ℕ) (started : Bool) (phase : Phase) → is_publication phase ≡ true
@@ -151,10 +152,10 @@ publishing_turn q h m sequences.Drain taken publishes =
 
 -- the turn that comes next publishes as many as its step shows
 pub chosen_shows : (q : ℕ) (h : Header1) (m : Moment) (sequence : Sequence) (taken : ℕ) → Good q h m → (t : Turn) → t ≡ next_turn q h sequence taken m
-    → length (published (one_turn h q t m).next.scene.past q) ≡ length (published m.scene.past q) + shown_by (length (m.lanes q).batch) (m.lanes q).phase
+    → length (published (one_turn h q t m).next.scene.past q) ≡ length (published m.scene.past q) + shown_by (course_of h (m.lanes q)) (m.lanes q).phase
 chosen_shows q h m sequence taken good t is = elim (phase_cases l.batch l.phase good.holds.worked.phase_is) [
   | inl rest ↦
-      let none : shown_by (length l.batch) l.phase ≡ 0 = ap (λ (p : Phase). shown_by (length l.batch) p) rest.0 in
+      let none : shown_by (course_of h l) l.phase ≡ 0 = ap (λ (p : Phase). shown_by (course_of h l) p) rest.0 in
       let same : count_in q (after_items h (turned h q t m).items s) ≡ count_in q s = resting t (ap is_rest rest.0) rest.1 in
       omega (arith, none, same)
   | inr shows ↦ publishes t (subst IsOfQueue (sym is) (publishing_turn q h m sequence taken (ap is_publication shows.1))) (ap is_rest shows.1)
@@ -172,7 +173,7 @@ chosen_shows q h m sequence taken good t is = elim (phase_cases l.batch l.phase 
     resting (turns.Publish most) rest none = rests q h s l (turns.Publish most) tt rest none
     resting (turns.Work place) rest none = work_shows q h s l (slice_get (unfinished q m) place)
 
-    publishes : (t : Turn) → IsOfQueue t → is_rest l.phase ≡ false → count_in q (after_items h (turned h q t m).items s) ≡ count_in q s + shown_by (length l.batch) l.phase
+    publishes : (t : Turn) → IsOfQueue t → is_rest l.phase ≡ false → count_in q (after_items h (turned h q t m).items s) ≡ count_in q s + shown_by (course_of h l) l.phase
     publishes turns.Start of_queue busy = goes_on q h s l turns.Start busy
     publishes turns.Fetch of_queue busy = goes_on q h s l turns.Fetch busy
     publishes (turns.Publish most) of_queue busy = goes_on q h s l (turns.Publish most) busy

@@ -16,13 +16,13 @@ use Rattle.vub_shared.specs.Watched.{sizes_in}
 use Rattle.vub_world.specs.declared.front.Front.{Front}
 use Rattle.vub_world.specs.declared.machine.Life.{Life}
 use Rattle.vub_world.specs.declared.machine.Machine.{Machine}
-use Rattle.vub_world.specs.Fronts.{PartsSound, AreNewQueues, parts_of}
+use Rattle.vub_world.specs.Fronts.{AreNewQueues, parts_of}
 use Rattle.vub_world.specs.Lives.{RingOfLife, LiesInLife, life_of, queue_of}
 use Rattle.vub_world.specs.Machine.{IsSound, AreAttached, AreInLife}
 use Rattle.vub_world.specs.MachineAt.{LifeAt, MachineAt, PartsAt, is_attached}
 use Rattle.vub_world.specs.MachineDevice.{is_joining}
 use Rattle.vub_world.proofs.MachineLemmas.{sound_ring}
-use Rattle.vub_world.proofs.MachineLives.{booted, booted_at, asleep_at, joined, joined_at, joining_at, with_life}
+use Rattle.vub_world.proofs.MachineLives.{booted, booted_at, asleep_at, joined, joined_at, joining_at}
 use Rattle.vub_split.specs.declared.split.SplitRing.{SplitRing}
 use Rattle.vub_world.proofs.MachineTurnsAt.{has_no_queue, none_attached}
 use Rattle.vub_world.proofs.MachineParts.{found_there, the_low, first_front, life_none, life_joining, with_life_of}
@@ -122,7 +122,7 @@ living_on w m sound some at = go w.life some (at.queues 0 front.0 front.1).life
 pub boot_idle : (m : Moment) → m.lives ≡ true → played (items.Idle ∷ []) m ≡ boot m
 boot_idle m lives = sym (ap (λ (b : Bool). if_ready (not b) (played [] (booted m)) m) lives)
 
--- the first queue of the vector
+-- every queue is attached where one is
 attached_first : {Z : Type 0} (h : Header1) (count : ℕ) (r : SplitRing) (m : Moment) (o : Option (Vec Queue Z)) → AreAttached count o → 0 < count → not (is_some o) ≡ false → LifeAt 0 h r m (Some (queue_of 0 o)) → m.joined ≡ true
 attached_first h count r m None many low is at = absurd (cc is)
 attached_first h count r m (Some qs) many low is at =

@@ -47,13 +47,13 @@ use Rattle.vub_run.specs.Moments.{Lane, Moment, standing}
 use Rattle.vub_queue_in_run.specs.QueueAt.{spot_of, QueueStands, LiesAs, DiskAt}
 use Rattle.vub_queue.specs.QueueState as states
 use Rattle.vub_split.specs.Split.{used_side}
-use Rattle.vub_queue.specs.QueueState.{QueueState, row_at, row_if, next_row, publishes, publish_row, StoresRow, TrailsRow, Turns, DoesStore, DoesTrail, DoesDisk, IsDue, IfStepped, WorksOut, outcome, is_idle, is_fault}
+use Rattle.vub_queue.specs.QueueState.{course_in, QueueState, row_at, row_if, next_row, publishes, publish_row, StoresRow, TrailsRow, Turns, DoesStore, DoesTrail, DoesDisk, IsDue, IfStepped, WorksOut, outcome, is_idle, is_fault}
 use Rattle.vub_run.specs.Run.{one_turn}
 use Rattle.vub_task.specs.TaskState.{Making}
 use Rattle.vub_run.specs.Turns.{turned, answer_len, answer_at}
 use Rattle.vub_run_laws.proofs.RunNumbers.{not_among-take}
 use Rattle.vub_run_laws.proofs.RunFrames.{open_out, length_little}
-use Rattle.vub_run_laws.proofs.RunGood.{IsWide, IsOut, PhaseIs}
+use Rattle.vub_run_laws.proofs.RunGood.{IsWide, IsOut, PhaseIs, Holds}
 use Rattle.vub_run_laws.proofs.RunOwn.{accepted_own}
 use Rattle.vub_run_laws.proofs.RunPhases.{some_waits}
 use Rattle.vub_run_laws.proofs.RunTurns.{IsPlain, Good}
@@ -162,7 +162,7 @@ fetch_made q h r m outstanding cap sizes d now x a ready does =
       items_are = s.made ∙ ap (λ (n : ℕ). items.Made (entries.Accept q n) ∷ []) (sym number) ∙ sym (ap (noted q outstanding now.values now.stores (shown_of q outstanding d.memory d.queue)) s.said);
       store = subst (λ (y : Stepped). StoreFits y now.stores) (sym s.said) tt;
       sector = subst (λ (y : Stepped). SectorFits h.capacity y) (sym s.said) tt;
-      head = subst (λ (y : Stepped). HeadFits h.size y) (sym s.said) (a.good.holds.driven.below k (record { below = offered; kept = new }));
+      head = subst (λ (y : Stepped). HeadFits h.size y) (sym s.said) (a.good.holds.queue.driven.below k (record { below = offered; kept = new }));
       taken = omega (arith, one, more);
     }
 
@@ -206,7 +206,7 @@ row_in false u y is = absurd (let fails : None ≡ Some y = is in cc)
 small_row : (most : ℕ) (state : QueueState) (y : Row) → publish_row most state ≡ Some y → y.store.space ≡ 0 → IsSmall y.store
 small_row most state y is space =
     let u : QueueState = states.under_way most state in
-    record { space = space; few = omega (arith, few_row u (next_step (length u.batch) u.phase) y (row_in (publishes most state) u y is)) }
+    record { space = space; few = omega (arith, few_row u (next_step (course_in u) u.phase) y (row_in (publishes most state) u y is)) }
 
 -- the items of a store
 store_made : (d now : Device) (tag : Tag) (y : Row) → StoredRow d now y → stored_items tag now.stores ≡ items.Store tag M y.store.place y.store.bytes ∷ []
@@ -267,7 +267,7 @@ among_right xs ys k held = let joined : is_among (xs ++ ys) k ≡ (is_among xs k
 -- the row of the store of used.idx
 index_place : (q : ℕ) (state : QueueState) (most : ℕ) (y : Row) → ShowsNext state → publish_row most state ≡ Some y → state.ring.used.1 ≡ area_place q + 8192 → y.store.place + length y.store.bytes ≤ area_place q + 65536
 index_place q state most y next is lies =
-    let goes : is_publication state.phase ≡ true = shows_goes state.phase (length state.batch) next in
+    let goes : is_publication state.phase ≡ true = shows_goes state.phase (course_in state) next in
     let same : states.under_way most state ≡ state = goes_under_way state most goes in
     let found : next_row state ≡ Some y = subst (λ (u : QueueState). next_row u ≡ Some y) same (row_in (publishes most state) (states.under_way most state) y is) in
     let last : ℕ = (state.next_used + length state.batch) % 65536 in
@@ -346,7 +346,7 @@ part_made q h r m outstanding most d now x y at part s small =
 
 -- whether the next step shows the batch
 shows_cases : (state : QueueState) → ShowsNext state ⊎ (ShowsNext state → ⊥)
-shows_cases state = go (next_step (length state.batch) state.phase)
+shows_cases state = go (next_step (course_in state) state.phase)
   where
     go : (o : Option Step) → (o ≡ Some steps.Index) ⊎ (o ≡ Some steps.Index → ⊥)
     go None = inr (λ e. let fails : None ≡ Some steps.Index = e in cc)
@@ -394,11 +394,11 @@ idle_values (turns.Work place) v w is does = absurd is
 idle_values (turns.Publish most) v w is does = some_is w v does
 
 -- whether a publication is ready doesn't depend on what waits
-unready_still : (q : ℕ) (h : Header1) (r : SplitRing) (m : Moment) (t : Turn) (state : QueueState) → LiesAs q r h.size → QueueStands q h r m state → IsPhaseTurn t → is_ready (standing h q m) t ≡ false → (is_ready (states.standing_at state 0) t ≡ false) ⊎ IsEarly t
-unready_still q h r m turns.Start state main z is unready = inr tt
-unready_still q h r m turns.Fetch state main z is unready = inr tt
-unready_still q h r m (turns.Work place) state main z is unready = absurd is
-unready_still q h r m (turns.Publish most) state main z is unready = inl (ready_same q h r m state (turns.Publish most) main z ∙ unready)
+unready_still : (q : ℕ) (h : Header1) (r : SplitRing) (m : Moment) (t : Turn) (state : QueueState) → LiesAs q r h.size → Holds q h m.scene (m.lanes q) → QueueStands q h r m state → IsPhaseTurn t → is_ready (standing h q m) t ≡ false → (is_ready (states.standing_at state 0) t ≡ false) ⊎ IsEarly t
+unready_still q h r m turns.Start state main holds z is unready = inr tt
+unready_still q h r m turns.Fetch state main holds z is unready = inr tt
+unready_still q h r m (turns.Work place) state main holds z is unready = absurd is
+unready_still q h r m (turns.Publish most) state main holds z is unready = inl (ready_same q h r m state (turns.Publish most) main holds z ∙ unready)
 
 idle_memory : (t : Turn) (d now : Device) (x : Stepped) → IsPhaseTurn t → (is_ready (states.standing_at d.queue 0) t ≡ false) ⊎ IsEarly t → DoesStore t (Some d.memory) (Some now.memory) x d.queue → now.memory ≡ d.memory
 idle_memory turns.Start d now x is unready stores = some_is now.memory d.memory stores
@@ -413,12 +413,12 @@ pub idle_made : (q : ℕ) (h : Header1) (r : SplitRing) (m : Moment) (outstandin
     → DeviceDoes t cap sizes d now x → (x ≡ says.Idle) × DeviceAt q h r m now
 idle_made q h r m outstanding cap sizes t d now x a is unready does =
     let told : Turns t (Some m.scene.memory) x d.queue now.queue = subst (λ (b : Bytes). Turns t (Some b) x d.queue now.queue) a.at.memory_is does.does in
-    let idle = idle_stands q h r m t x d.queue now.queue a.main a.at.stands is unready does.fine told in
+    let idle = idle_stands q h r m t x d.queue now.queue a.main a.good.holds a.at.stands is unready does.fine told in
     let values : now.values ≡ d.values = idle_values t d.values now.values is does.values_are in (
       idle.0,
       record {
         stands = subst (λ (state : QueueState). QueueStands q h r m state) (sym idle.1) a.at.stands;
-        memory_is = idle_memory t d now x is (unready_still q h r m t d.queue a.main a.at.stands is unready) does.stores_are ∙ a.at.memory_is;
+        memory_is = idle_memory t d now x is (unready_still q h r m t d.queue a.main a.good.holds a.at.stands is unready) does.stores_are ∙ a.at.memory_is;
         disk = disk_same h.capacity m.scene.past d.values now.values values a.at.disk;
       },
     )

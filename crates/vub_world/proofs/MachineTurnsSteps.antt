@@ -23,6 +23,11 @@ pub same_items : (shown : ℕ) (r now : RoomState) → SpendsUpTo shown r now �
 same_items zero r now spent = ap (λ (x : RoomState). x.items) spent
 same_items (suc shown) r now spent = spent.items
 
+-- and as many items fit as before
+pub same_room : (shown : ℕ) (r now : RoomState) → SpendsUpTo shown r now → now.item_room ≡ r.item_room
+same_room zero r now spent = ap (λ (x : RoomState). x.item_room) spent
+same_room (suc shown) r now spent = spent.item_room
+
 -- the room that a step spends
 pub spends_none : (shown : ℕ) (r now : RoomState) → SpendsUpTo shown r now → SpendsStep shown r now
 spends_none zero r now spent = subst (λ (x : RoomState). SpendsStep 0 r x) (sym spent) (record { item_room = omega arith; lists_left = omega arith; answer_lists = omega arith; answers = refl })

@@ -32,7 +32,7 @@ use Rattle.vub_world.specs.OutstandingRequests.{size_in, slot_in}
 use Rattle.vub_run.specs.Moments.{Moment, standing}
 use Rattle.vub_steps.specs.declared.readiness.Choice.{Choice}
 use Rattle.vub_steps.specs.Readiness.{chosen}
-use Rattle.vub_queue.specs.QueueState.{QueueState, state_of, is_idle}
+use Rattle.vub_queue.specs.QueueState.{course_in, QueueState, state_of, is_idle}
 use Rattle.vub_queue_in_run.specs.QueueAt.{QueueStands, DiskAt}
 use Rattle.vub_run.specs.Run.{one_turn}
 use Rattle.vub_world.specs.MachineFront.{store_item, OneSmall}
@@ -94,7 +94,7 @@ is_index (Some Index) = true
 is_index step = false
 
 abbrev pub is_showing : QueueState → Bool
-is_showing state = is_index (next_step (length state.batch) state.phase)
+is_showing state = is_index (next_step (course_in state) state.phase)
 
 -- the answers to the batch that the next step shows, if it shows one
 abbrev pub shown_of : ℕ → OutstandingRequests → Bytes → QueueState → List Answered

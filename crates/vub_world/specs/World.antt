@@ -1,5 +1,5 @@
 -- A world, between two events.
-use Rattle.std.specs.Prelude.{◌≡◌, ◌≤◌, ℕ, ◌+◌, Result, MatchResult, ⊤}
+use Rattle.std.specs.Prelude.{◌≡◌, ◌≤◌, ◌+◌, Result, MatchResult, ⊤}
 use Rattle.std.specs.Borrow.{follows_so, MutBor, Bor, Fml}
 use mathlib.Core.Option.{none}
 use Rattle.vub_base.specs.declared.header.Header1.{Header1}

@@ -48,8 +48,8 @@ returns-clause-turns c q h r m outstanding reached cap main room at numbered =
       values_are = c.turn.ensures.values runs b refl;
       made = λ place task n is due. c.turn.ensures.made place task n runs b refl is (subst (λ k. IsDue k (sizes_in c.args.memory.now) state b place task n) (sym cap) due);
     } in
-    let here : IsAsHere q h m state b = as_here q h r m state b main at.stands at.memory_is in
-    let same : t ≡ turn_here q h c.args.choice m = turn_same q h r m state b c.args.choice main at.stands at.memory_is in
+    let here : IsAsHere q h m state b = as_here q h r m state b main holds.0.holds at.stands at.memory_is in
+    let same : t ≡ turn_here q h c.args.choice m = turn_same q h r m state b c.args.choice main holds.0.holds at.stands at.memory_is in
     let rests : (place : ℕ) → turn_here q h c.args.choice m ≡ turns.Work place → is_ready (standing h q m) (turns.Work place) ≡ false → RestsAt d now x =
     λ place is unready. c.turn.ensures.rests (waiting state b) place runs (work_asked h.size (standing h q m) c.args.choice place is unready) (ap (λ (s : Standing). is_ready s (turns.Work place)) here.standing_is ∙ unready) in
     device_turns q h r m outstanding (sizes_in c.args.memory.now) (turn_here q h c.args.choice m) d now x

@@ -9,7 +9,7 @@ use Rattle.vub_world.specs.MachineSteps.{StepGoes, MachineTurns}
 use Rattle.vub_queue.specs.QueueState.{state_of, is_idle}
 use Rattle.vub_world.proofs.MachineBatches.{queue_batch_fits, queue_shows_some}
 use Rattle.vub_world.proofs.MachineTurnsNext.{reached_plain, reached_holds}
-use Rattle.vub_world.proofs.MachineTurnsSteps.{same_items, spends_none, spends_turn, step_ends, step_goes, step_made}
+use Rattle.vub_world.proofs.MachineTurnsSteps.{same_items, same_room, spends_none, spends_turn, step_ends, step_goes, step_made}
 use Rattle.vub_world.proofs.front.Front.play.Goals as goal
 
 pub answers-answers-requires-clause-fits : goal.answers-answers-requires-clause-fits
@@ -96,3 +96,6 @@ returns-then-is_idle-clause-spent c = spends_none (shows_in (state_of c.args.que
 
 pub returns-clause-spent : goal.returns-clause-spent
 returns-clause-spent c = spends_turn (shows_in (state_of c.args.queue.now)) c.args.room.now c.answers-answers.new.room c.note_turn.new.room c.answers-answers.ensures.room c.note_turn.ensures.spent
+
+pub returns-then-is_idle-clause-idle : goal.returns-then-is_idle-clause-idle
+returns-then-is_idle-clause-idle c idle = same_room (shows_in (state_of c.args.queue.now)) c.args.room.now c.answers-answers.new.room c.answers-answers.ensures.room

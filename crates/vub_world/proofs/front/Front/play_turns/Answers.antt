@@ -1,4 +1,4 @@
-use Rattle.std.proofs.Common.{◌≡◌, ◌∙◌, ap, sym, arith, refl, suc, ◌+◌, ◌-◌, ℕ, subst}
+use Rattle.std.proofs.Common.{◌≡◌, ◌∙◌, arith, refl, suc, ◌+◌, ◌-◌, ℕ, subst}
 use Rattle.std.proofs.lemmas.Bool.Decides.{nat_tests}
 use Rattle.vub_base.specs.declared.header.Header1.{Header1}
 use Rattle.vub_world.specs.Fronts.{Parts, parts}

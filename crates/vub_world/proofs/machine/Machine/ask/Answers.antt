@@ -1,15 +1,14 @@
-use Rattle.std.proofs.Common.{◌≡◌, [], List, sym, ap, subst, ◌∙◌}
-use Rattle.std.specs.Prelude.{Some, Result, Ok, Err, OnErr, IfOk, slice_get}
+use Rattle.std.proofs.Common.{List, sym, ap, subst, ◌∙◌}
+use Rattle.std.specs.Prelude.{Result, Ok, Err, OnErr}
 use Rattle.vub_report.specs.declared.items.Item.{Item}
 use Rattle.vub_run.specs.Run.{played}
 use Rattle.vub_schedule.specs.declared.types.Event.TheVariants as events
-use Rattle.vub_world.specs.declared.front.Front.{Front}
 use Rattle.vub_world.specs.declared.machine.Machine.{Machine}
 use Rattle.vub_world.specs.Machine.{IsSound}
 use Rattle.vub_world.specs.MachineAt.{MachineAt, Performs}
 use Rattle.vub_world.proofs.MachineDrivers.{ask_on, ask_idle}
 use Rattle.vub_world.proofs.MachineEvents.{ok_then}
-use Rattle.vub_world.proofs.MachineParts.{taken_front, with_front_at, front_kept, front_sound, asked_sound}
+use Rattle.vub_world.proofs.MachineParts.{taken_front, with_front_at, front_kept, asked_sound}
 use Rattle.vub_world.proofs.machine.Machine.ask.Goals as goal
 
 on_err : {A B : Type 0} (r : Result A B) (P : Type 0) → P → OnErr r P

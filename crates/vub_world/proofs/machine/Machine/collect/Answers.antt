@@ -1,5 +1,4 @@
 use Rattle.std.proofs.Common.{◌≡◌, ◌++◌, ◌∷◌, [], List, sym, ap, subst, ◌∙◌}
-use Rattle.std.specs.Prelude.{Some, Option, slice_get}
 use Rattle.vub_report.specs.declared.items.Item.{Item}
 use Rattle.vub_room.specs.Rooms.{RoomState}
 use Rattle.vub_run.specs.Run.{played}

@@ -1,5 +1,5 @@
 use Rattle.std.proofs.Common.{◌≡◌, ℕ, List, [], sym, ap, subst, ◌∙◌, arith, true}
-use Rattle.std.specs.Prelude.{Some, is_some, not, slice_get, get_or}
+use Rattle.std.specs.Prelude.{Some, is_some, not}
 use Rattle.vub_driver.specs.Drivers.{Waiting}
 use Rattle.vub_report.specs.declared.items.Item.{Item}
 use Rattle.vub_run.specs.Run.{played}

@@ -1,17 +1,13 @@
-use Rattle.std.proofs.Common.{◌≡◌, ◌<◌, ◌≤◌, ◌+◌, ◌*◌, ◌∷◌, ◌++◌, [], ℕ, List, Bool, true, false, not, min, length, set, ap, sym, ◌∙◌, subst, arith}
+use Rattle.std.proofs.Common.{◌≡◌, ◌<◌, ◌≤◌, [], ℕ, List, Bool, length, set, ap, sym, ◌∙◌, subst, arith}
 use Rattle.std.specs.Prelude.{Some, slice_get, get_or}
 use Rattle.std.specs.Vec.{with_item}
 use Rattle.std.proofs.lemmas.List.{length-set}
 use Rattle.vub_base.specs.declared.header.Header1.{Header1}
-use Rattle.vub_queue.specs.QueueState.{is_idle}
 use Rattle.vub_queue.specs.declared.queue.Queue.{Queue}
-use Rattle.vub_queue.specs.declared.queue.Stepped.{Stepped}
 use Rattle.vub_queue_in_run.proofs.WorkAtLists.{slice_get-set_same}
 use Rattle.vub_report.specs.declared.items.Item.{Item}
-use Rattle.vub_room.specs.Rooms.{RoomState, HasRoom}
-use Rattle.vub_run.specs.Moments.{Moment}
-use Rattle.vub_run.specs.Run.{Stands, played, single}
-use Rattle.vub_steps.specs.declared.readiness.Turn.{Turn}
+use Rattle.vub_room.specs.Rooms.{RoomState}
+use Rattle.vub_run.specs.Run.{Stands}
 use Rattle.vub_world.specs.declared.front.Front.{Front}
 use Rattle.vub_world.specs.declared.machine.Life.{Life}
 use Rattle.vub_world.specs.declared.machine.Machine.{Machine}
@@ -19,13 +15,12 @@ use Rattle.vub_world.specs.Fronts.{Parts, PartsSound, parts, parts_of}
 use Rattle.vub_world.specs.Lives.{queue_of}
 use Rattle.vub_world.specs.Machine.{IsSound, AreAttached, AreInLife}
 use Rattle.vub_world.specs.MachineAt.{MachineAt, PartsAt}
-use Rattle.vub_world.specs.MachineDevice.{accepts}
-use Rattle.vub_world.specs.MachineSteps.{StepGoes, TurnsGo, TurnsEvent, PlaysSingle, PlaysTurns}
+use Rattle.vub_world.specs.MachineSteps.{TurnsGo, TurnsEvent, PlaysTurns}
 use Rattle.vub_world.proofs.MachineEvents.{ok_then}
 use Rattle.vub_world.proofs.MachineGuestCollects.{collects_within}
 use Rattle.vub_world.proofs.MachineParts.{TurnsBegin, HasTurned, found, parts_stand, turns_begin_at, turned_sound, turned_at, with_turned}
 use Rattle.vub_world.proofs.MachineStarts.{unattached_on}
-use Rattle.vub_world.proofs.MachineTurnEvents.{standing_few, single_room, standing_reached, reached_now, single_idle, single_made, single_as, single_none, several_idle, several_made, several_none, turns_event_as, turns_event_of}
+use Rattle.vub_world.proofs.MachineTurnEvents.{standing_few, several_idle, several_made, several_none, turns_event_as, turns_event_of}
 use Rattle.vub_world.proofs.machine.Machine.several.Goals.{then-not-made, else-not-made}
 use Rattle.vub_world.proofs.machine.Machine.several.Goals as goal
 

@@ -1,4 +1,4 @@
-use Rattle.std.proofs.Common.{◌≡◌, ◌<◌, ◌≤◌, ◌+◌, ◌*◌, ◌∷◌, ◌++◌, [], ℕ, List, Bool, true, false, not, min, length, set, ap, sym, ◌∙◌, subst, arith}
+use Rattle.std.proofs.Common.{◌≡◌, ◌<◌, ◌≤◌, ◌+◌, ◌*◌, [], ℕ, List, Bool, not, min, length, set, ap, sym, ◌∙◌, subst, arith}
 use Rattle.std.specs.Prelude.{Some, slice_get, get_or}
 use Rattle.std.specs.Vec.{with_item}
 use Rattle.std.proofs.lemmas.List.{length-set}
@@ -20,12 +20,12 @@ use Rattle.vub_world.specs.Lives.{queue_of}
 use Rattle.vub_world.specs.Machine.{IsSound, AreAttached, AreInLife}
 use Rattle.vub_world.specs.MachineAt.{MachineAt, PartsAt}
 use Rattle.vub_world.specs.MachineDevice.{accepts}
-use Rattle.vub_world.specs.MachineSteps.{StepGoes, TurnsGo, TurnsEvent, PlaysSingle, PlaysTurns}
+use Rattle.vub_world.specs.MachineSteps.{StepGoes, PlaysSingle}
 use Rattle.vub_world.proofs.MachineEvents.{ok_then}
 use Rattle.vub_world.proofs.MachineGuestCollects.{collects_within}
 use Rattle.vub_world.proofs.MachineParts.{TurnsBegin, HasTurned, found, parts_stand, turns_begin_at, turned_sound, turned_at, with_turned}
 use Rattle.vub_world.proofs.MachineStarts.{unattached_on}
-use Rattle.vub_world.proofs.MachineTurnEvents.{standing_few, single_room, standing_reached, reached_now, single_idle, single_made, single_as, single_none, several_idle, several_made, several_none, turns_event_as, turns_event_of}
+use Rattle.vub_world.proofs.MachineTurnEvents.{standing_few, single_room, standing_reached, reached_now, single_idle, single_made, single_as, single_none}
 use Rattle.vub_world.proofs.machine.Machine.single.Goals.{then-is_idle, else-is_idle}
 use Rattle.vub_world.proofs.machine.Machine.single.Goals as goal
 
