@@ -1,4 +1,5 @@
 pub mod MachineBatches
+pub mod MachineDrivers
 pub mod MachineEvents
 pub mod MachineFaults
 pub mod MachineGuestAsks
@@ -6,12 +7,15 @@ pub mod MachineGuestCollects
 pub mod MachineGuestFits
 pub mod MachineGuestOffers
 pub mod MachineGuests
+pub mod MachineLanes
 pub mod MachineLemmas
 pub mod MachineLives
 pub mod MachineLoops
 pub mod MachineNotes
 pub mod MachineOpening
+pub mod MachineParts
 pub mod MachineRooms
+pub mod MachineStarts
 pub mod MachineTurnEvents
 pub mod MachineTurns
 pub mod MachineTurnsAt

@@ -1,11 +1,10 @@
 -- What the room and the answers of a step of a drain need to know of the batch under way.
-use Rattle.std.proofs.Common.{◌≡◌, ◌≤◌, ◌<◌, ℕ, true, List, [], ◌++◌, length, refl, ap, sym, ◌∙◌, arith}
+use Rattle.std.proofs.Common.{◌≡◌, ◌≤◌, ◌<◌, ℕ, true, List, ◌++◌, length, refl, ap, sym, ◌∙◌, arith}
 use Rattle.std.specs.Prelude.{Option, Some, None, map, slice_get, slice_index, option_map}
 use Rattle.std.proofs.lemmas.List.{length-map}
 use Rattle.std.proofs.lemmas.Option.{slice_get-map}
-use Rattle.vub_run_laws.proofs.RunFacts.{phase_at}
-use Rattle.vub_steps.specs.declared.steps.Course.{Course}
 use Rattle.vub_base.specs.declared.header.Header1.{Header1}
+use Rattle.vub_steps.specs.declared.steps.Course.{Course}
 use Rattle.vub_steps.specs.declared.steps.Phase.{Phase}
 use Rattle.vub_steps.specs.declared.steps.Phase.TheVariants as phases
 use Rattle.vub_steps.specs.Steps.{next_step}
@@ -14,17 +13,15 @@ use Rattle.vub_device.specs.declared.entry.Asked.TheVariants as asks
 use Rattle.vub_device.specs.Past.{asked, is_among}
 use Rattle.vub_world.specs.declared.outstanding.OutstandingRequests.{OutstandingRequests}
 use Rattle.vub_world.specs.declared.outstanding.OutstandingRequest.{OutstandingRequest}
-use Rattle.vub_world.specs.declared.machine.Life.{Life}
-use Rattle.vub_world.specs.declared.machine.Machine.{Machine}
-use Rattle.vub_queue.specs.declared.queue.Queue.{Queue}
 use Rattle.vub_split.specs.declared.split.SplitRing.{SplitRing}
 use Rattle.vub_world.specs.OutstandingRequests.{size_in, slot_in}
-use Rattle.vub_world.specs.MachineAt.{MachineAt, LifeAt, AttachedAt, OutstandingAt, reads_of}
-use Rattle.vub_world.specs.MachineDevice.{BatchFits, ShowsSome, QueueShowsSome, batch_in, queue_batch, is_index, is_showing}
+use Rattle.vub_world.specs.MachineAt.{OutstandingAt, reads_of}
+use Rattle.vub_world.specs.MachineDevice.{BatchFits, ShowsSome, is_index}
 use Rattle.vub_run.specs.Moments.{Moment}
 use Rattle.vub_queue_in_run.specs.QueueAt.{QueueStands, spot_of}
-use Rattle.vub_queue.specs.QueueState.{course_in, QueueState, state_of}
+use Rattle.vub_queue.specs.QueueState.{course_in, QueueState}
 use Rattle.vub_world.proofs.MachineTurns.{among_right}
+use Rattle.vub_run_laws.proofs.RunFacts.{phase_at}
 use Rattle.vub_run_laws.proofs.RunFrames.{open_out}
 use Rattle.vub_run_laws.proofs.RunGood.{IsWide, PhaseIs, IsOut}
 use Rattle.vub_facts.proofs.HeadLemmas.{among_get}
@@ -38,24 +35,13 @@ phase_shows batch course (phases.Start done) is shows = absurd is
 phase_shows batch course (phases.Fetch done) is shows = absurd is
 phase_shows batch course (phases.Publish done) is shows = is.0
 
-pub queue_shows_some : (h : Header1) (r : SplitRing) (m : Moment) (q : QueueState) → Good 0 h m → QueueStands 0 h r m q → is_showing q ≡ true → 1 ≤ length q.batch
-queue_shows_some h r m q good at shows =
-    let lane = m.lanes 0 in
-    let here : is_index (next_step (course_in q) lane.phase) ≡ true = ap (λ (p : Phase). is_index (next_step (course_in q) p)) (sym at.phase) ∙ shows in
-    let some : 0 < length lane.batch = phase_shows lane.batch (course_in q) lane.phase (phase_at 0 h m.scene (m.lanes 0) good.holds) here in
-    let long : length q.batch ≡ length lane.batch = ap length at.batch ∙ length-map lane.batch (spot_of 0 h m.scene.past (m.scene.heads 0)) in
+pub queue_shows_some : (q : ℕ) (h : Header1) (r : SplitRing) (m : Moment) (state : QueueState) → Good q h m → QueueStands q h r m state → ShowsSome state
+queue_shows_some q h r m state good at shows =
+    let lane = m.lanes q in
+    let here : is_index (next_step (course_in state) lane.phase) ≡ true = ap (λ (p : Phase). is_index (next_step (course_in state) p)) (sym at.phase) ∙ shows in
+    let some : 0 < length lane.batch = phase_shows lane.batch (course_in state) lane.phase (phase_at q h m.scene (m.lanes q) good.holds) here in
+    let long : length state.batch ≡ length lane.batch = ap length at.batch ∙ length-map lane.batch (spot_of q h m.scene.past (m.scene.heads q)) in
     omega (arith, some, long)
-
-pub shows_some : (w : Machine) (m : Moment) → Good 0 w.header m → MachineAt w m → ShowsSome w.life
-shows_some w m good at = go w.life at.life
-  where
-    of_queue : (queue : Option Queue) → AttachedAt w.header w.ring m queue → QueueShowsSome queue
-    of_queue None here = tt
-    of_queue (Some q) here = queue_shows_some w.header w.ring m (state_of q) good here.2
-
-    go : (life : Option Life) → LifeAt w.header w.ring m life → ShowsSome life
-    go None here = tt
-    go (Some l) here = of_queue l.queue here.1
 
 -- ---- its heads
 
@@ -68,40 +54,26 @@ few_reads cap (Some (asks.Discard parts)) is = absurd is
 few_reads cap (Some (asks.Zero parts)) is = absurd is
 few_reads cap None is = absurd is
 
-pub queue_batch_fits : (h : Header1) (r : SplitRing) (m : Moment) (q : QueueState) (outstanding : OutstandingRequests) → h.size ≤ 64 → Good 0 h m → QueueStands 0 h r m q → OutstandingAt h.size m.scene.past (m.scene.heads 0) outstanding → BatchFits outstanding q.batch
-queue_batch_fits h r m q outstanding small good at numbered i x found =
-    let lane = m.lanes 0 in
+pub queue_batch_fits : (q : ℕ) (h : Header1) (r : SplitRing) (m : Moment) (state : QueueState) (outstanding : OutstandingRequests) → h.size ≤ 64 → Good q h m → QueueStands q h r m state → OutstandingAt q h.size m.scene.past (m.scene.heads q) outstanding → BatchFits outstanding state.batch
+queue_batch_fits q h r m state outstanding small good at numbered i x found =
+    let lane = m.lanes q in
     let past = m.scene.past in
-    let heads = m.scene.heads 0 in
-    let spots : slice_get (map (spot_of 0 h past heads) lane.batch) i ≡ Some x = ap (λ (xs : List (ℕ × ℕ)). slice_get xs i) (sym at.batch) ∙ found in
-    let mapped : option_map (spot_of 0 h past heads) (slice_get lane.batch i) ≡ Some x = sym (slice_get-map (spot_of 0 h past heads) lane.batch i) ∙ spots in
+    let heads = m.scene.heads q in
+    let spots : slice_get (map (spot_of q h past heads) lane.batch) i ≡ Some x = ap (λ (xs : List (ℕ × ℕ)). slice_get xs i) (sym at.batch) ∙ found in
+    let mapped : option_map (spot_of q h past heads) (slice_get lane.batch i) ≡ Some x = sym (slice_get-map (spot_of q h past heads) lane.batch i) ∙ spots in
     pick (slice_get lane.batch i) refl mapped
   where
-    pick : (o : Option ℕ) → slice_get (m.lanes 0).batch i ≡ o → option_map (spot_of 0 h m.scene.past (m.scene.heads 0)) o ≡ Some x → (x.0 < 64) × (x.0 < size_in outstanding) × ((slot_in outstanding x.0).reads ≤ 8)
+    pick : (o : Option ℕ) → slice_get (m.lanes q).batch i ≡ o → option_map (spot_of q h m.scene.past (m.scene.heads q)) o ≡ Some x → (x.0 < 64) × (x.0 < size_in outstanding) × ((slot_in outstanding x.0).reads ≤ 8)
     pick None here is = absurd (cc is)
     pick (Some k) here is =
         let past = m.scene.past in
-        let heads = m.scene.heads 0 in
+        let heads = m.scene.heads q in
         let holds = good.holds in
-        let same : spot_of 0 h past heads k ≡ x = cc is in
+        let same : spot_of q h past heads k ≡ x = cc is in
         let head : x.0 ≡ slice_index heads k = sym (ap (λ (y : ℕ × ℕ). y.0) same) in
-        let among : is_among ((m.lanes 0).completed ++ (m.lanes 0).batch) k ≡ true = among_right (m.lanes 0).completed (m.lanes 0).batch k (among_get (m.lanes 0).batch i k here) in
-        let out : IsOut 0 past heads k = open_out 0 h.size h.capacity past heads k holds.known (holds.worked.opens k among) in
+        let among : is_among ((m.lanes q).completed ++ (m.lanes q).batch) k ≡ true = among_right (m.lanes q).completed (m.lanes q).batch k (among_get (m.lanes q).batch i k here) in
+        let out : IsOut q past heads k = open_out q h.size h.capacity past heads k holds.known (holds.worked.opens k among) in
         let below : slice_index heads k < h.size = holds.queue.driven.below k out in
-        let slot : (slot_in outstanding x.0).reads ≡ reads_of (asked past 0 k) = ap (λ (d : ℕ). (slot_in outstanding d).reads) head ∙ ap (λ (o : OutstandingRequest). o.reads) (numbered.slots k out.below out.kept) in
-        let few : reads_of (asked past 0 k) ≤ 8 = few_reads h.capacity (asked past 0 k) (holds.known.wide k out.below) in
+        let slot : (slot_in outstanding x.0).reads ≡ reads_of (asked past q k) = ap (λ (d : ℕ). (slot_in outstanding d).reads) head ∙ ap (λ (o : OutstandingRequest). o.reads) (numbered.slots k out.below out.kept) in
+        let few : reads_of (asked past q k) ≤ 8 = few_reads h.capacity (asked past q k) (holds.known.wide k out.below) in
         (omega (arith, below, head, small), omega (arith, below, head, numbered.places), omega (arith, slot, few))
-
-pub batch_fits : (w : Machine) (m : Moment) → w.header.size ≤ 64 → Good 0 w.header m → MachineAt w m → BatchFits w.outstanding (batch_in w.life)
-batch_fits w m small good at = go w.life at.life
-  where
-    none_fits : BatchFits w.outstanding []
-    none_fits i x found = absurd (cc found)
-
-    of_queue : (queue : Option Queue) → AttachedAt w.header w.ring m queue → BatchFits w.outstanding (queue_batch queue)
-    of_queue None here = none_fits
-    of_queue (Some q) here = queue_batch_fits w.header w.ring m (state_of q) w.outstanding small good here.2 at.outstanding
-
-    go : (life : Option Life) → LifeAt w.header w.ring m life → BatchFits w.outstanding (batch_in life)
-    go None here = none_fits
-    go (Some l) here = of_queue l.queue here.1

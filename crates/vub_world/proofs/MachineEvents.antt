@@ -1,24 +1,28 @@
 -- An event leads from where the machine stood to where it stands.
-use Rattle.std.proofs.Common.{◌≡◌, ◌≤◌, ℕ, ◌+◌, true, List, [], ◌∷◌, ◌++◌, length, sym, subst, arith}
-use Rattle.std.specs.Prelude.{Result, Ok, Err, IfOk, Option, Some, None, ⊤}
+use Rattle.std.proofs.Common.{◌≡◌, ◌≤◌, ◌<◌, ℕ, zero, suc, ◌+◌, true, List, [], ◌∷◌, ◌++◌, length, refl, sym, ◌∙◌, subst, arith}
+use Rattle.std.specs.Prelude.{Vec, Result, Ok, Err, IfOk, Option, Some, None, is_some, slice_get, ⊤}
 use Rattle.vub_base.specs.declared.header.Header1.{Header1}
 use Rattle.vub_schedule.specs.declared.types.Event.{Event}
 use Rattle.vub_schedule.specs.declared.types.Event.TheVariants as events
-use Rattle.vub_schedule.specs.Spelling.{IsEvent}
+use Rattle.vub_schedule.specs.Spelling.{IsHeader, IsEvent}
+use Rattle.vub_world.specs.declared.front.Front.{Front}
 use Rattle.vub_world.specs.declared.machine.Life.{Life}
 use Rattle.vub_world.specs.declared.machine.Machine.{Machine}
 use Rattle.vub_queue.specs.declared.queue.Queue.{Queue}
-use Rattle.vub_world.specs.OutstandingRequests.{offered_in}
 use Rattle.vub_report.specs.declared.items.Item.{Item}
 use Rattle.vub_report.specs.declared.items.Record.{Record}
-use Rattle.vub_run.specs.LegalRuns.{IsServed}
-use Rattle.vub_world.specs.MachineAt.{MachineAt, LifeAt, AttachedAt, StandsFor, IsStanding, Performs, StandsOn, ServesAll, is_attached, has_queue}
+use Rattle.vub_split.specs.declared.split.SplitRing.{SplitRing}
+use Rattle.vub_world.specs.Fronts.{offers_in}
+use Rattle.vub_world.specs.Lives.{life_of, queue_of}
+use Rattle.vub_world.specs.Machine.{IsSound, AreAttached, AreInLife}
+use Rattle.vub_world.specs.MachineAt.{MachineAt, LifeAt, StandsFor, IsStanding, Performs, StandsOn, ServesAll, is_attached}
 use Rattle.vub_run.specs.Moments.{Moment, opening}
 use Rattle.vub_run.specs.Run.{Stands, Plays}
 use Rattle.vub_run_laws.proofs.RunEntries.{event_offers, run_offers}
 use Rattle.vub_run_laws.proofs.RunServes.{drain_serves, stands_legal}
-use Rattle.vub_run_laws.proofs.RunsLegal.{some_queue, opening_held}
+use Rattle.vub_run_laws.proofs.RunsLegal.{opening_held}
 use Rattle.vub_run_laws.proofs.RunsTo.{stands_more, stands_held}
+use Rattle.vub_world.proofs.MachineParts.{found_there, offered_only}
 
 pub ok_then : {T E : Type 0} (P Q : T → Type 0) (r : Result T E) → ((x : T) → P x → Q x) → IfOk r P → IfOk r Q
 ok_then P Q (Ok x) f p = f x p
@@ -27,71 +31,81 @@ ok_then P Q (Err e) f p = p
 abbrev pub with_record : Record → ⊤ → Machine → Machine
 with_record r spare w = record w { last = r; spare = spare }
 
--- the record that is kept last, and what is spare, tell nothing of where the machine stands
-kept_at : (w : Machine) (r : Record) (spare : ⊤) (m : Moment) → MachineAt w m → MachineAt (with_record r spare w) m
-kept_at w r spare m at = record {
-  front = record { memory = at.front.memory; driver = at.front.driver; asks = at.front.asks };
-  position = at.position;
-  life = at.life;
-  disk = at.disk;
-  outstanding = at.outstanding;
-}
+-- the queue of an event is there
+pub event_front : (w : Machine) (q : ℕ) → IsSound w → q ≡ 0 → (f : Front) × (slice_get w.fronts.items q ≡ Some f)
+event_front w q sound is = found_there w.fronts.items q (omega (arith, is, sound.many, sound.header.one))
 
--- a machine with an attached queue
-attached_at : (w : Machine) (m : Moment) → MachineAt w m → is_attached w.life ≡ true → (m.lanes 0).attached ≡ true
-attached_at w m at is = go w.life at.life is
+none_past : (qs : List Queue) (q : ℕ) → slice_get qs q ≡ None → q < length qs → ⊥
+none_past [] q none less = omega (arith, less)
+none_past (x ∷ qs) zero none less = cc none
+none_past (x ∷ qs) (suc q) none less = none_past qs q none (omega (arith, less))
+
+attached_with : {Z : Type 0} (h : Header1) (q count : ℕ) (r : SplitRing) (m : Moment) (o : Option (Vec Queue Z)) → AreAttached count o → q < count → is_some o ≡ true → LifeAt q h r m (Some (queue_of q o)) → (m.lanes q).attached ≡ true
+attached_with h q count r m None many low is at = absurd (cc is)
+attached_with h q count r m (Some qs) many low is at = go (slice_get qs.items q) refl at
   where
-    go : (l : Option Life) → LifeAt w.header w.ring m l → is_attached l ≡ true → (m.lanes 0).attached ≡ true
-    go None at is = absurd (cc is)
-    go (Some l) at is = with_queue l.queue at.1 is
-      where
-        with_queue : (q : Option Queue) → AttachedAt w.header w.ring m q → has_queue q ≡ true → (m.lanes 0).attached ≡ true
-        with_queue None at is = absurd (cc is)
-        with_queue (Some q) at is = at.1
+    go : (o : Option Queue) → slice_get qs.items q ≡ o → LifeAt q h r m (Some o) → (m.lanes q).attached ≡ true
+    go None e at = absurd (none_past qs.items q e (omega (arith, many, low)))
+    go (Some queue) e at = at.1.1
 
-serves_all : (w : Machine) (e : Event) (es : List Event) (rs : List Record) (m k : Moment) (r : Record) → IsEvent w.header e → MachineAt w m → Stands w.header es rs m → Stands w.header (es ++ e ∷ []) (rs ++ r ∷ []) k → Plays w.header m e r.items k → ServesAll w e (rs ++ r ∷ [])
-serves_all w (events.Drain q) es rs m k r fits at stands next plays = λ is.
-    subst (λ (p : ℕ). IsServed p (rs ++ r ∷ [])) (sym fits)
-    (drain_serves 0 w.header es rs m k r (some_queue w.header stands.header) stands (subst (λ (p : ℕ). Stands w.header (es ++ events.Drain p ∷ []) (rs ++ r ∷ []) k) fits next) (attached_at w m at is) (subst (λ (p : ℕ). Plays w.header m (events.Drain p) r.items k) fits plays))
-serves_all w (events.Ask q shape a) es rs m k r fits at stands next plays = tt
-serves_all w (events.Guest q n) es rs m k r fits at stands next plays = tt
-serves_all w (events.Collect q) es rs m k r fits at stands next plays = tt
-serves_all w events.Boot es rs m k r fits at stands next plays = tt
-serves_all w events.Join es rs m k r fits at stands next plays = tt
-serves_all w (events.Start q) es rs m k r fits at stands next plays = tt
-serves_all w (events.Fetch q) es rs m k r fits at stands next plays = tt
-serves_all w (events.Work q place) es rs m k r fits at stands next plays = tt
-serves_all w (events.Publish q most) es rs m k r fits at stands next plays = tt
-serves_all w (events.Turn q n) es rs m k r fits at stands next plays = tt
+-- a machine with attached queues
+attached_at : (w : Machine) (q : ℕ) (m : Moment) → IsSound w → q ≡ 0 → MachineAt w m → is_attached w.life ≡ true → (m.lanes q).attached ≡ true
+attached_at w q m sound is_zero at is = go w.life sound.attached is (at.queues q front.0 front.1).life
+  where
+    front : (f : Front) × (slice_get w.fronts.items q ≡ Some f)
+    front = event_front w q sound is_zero
 
-pub stands_on : (w now : Machine) (e : Event) (r : Record) (spare : ⊤) → IsEvent w.header e → now.header ≡ w.header → r.event ≡ e → Performs w now e r.items → StandsOn w (with_record r spare now) e r
-stands_on w now e r spare fits same is goes es rs stood =
+    go : (l : Option Life) → AreInLife w.header.queues l → is_attached l ≡ true → LifeAt q front.0.header front.0.ring m (life_of q l) → (m.lanes q).attached ≡ true
+    go None many is here = absurd (cc is)
+    go (Some l) many is here = attached_with front.0.header q w.header.queues front.0.ring m l.queues many (omega (arith, is_zero, sound.header.one)) is here
+
+serves_all : (w : Machine) (e : Event) (es : List Event) (rs : List Record) (m k : Moment) (r : Record) → IsSound w → IsEvent w.header e → MachineAt w m → Stands w.header es rs m → Stands w.header (es ++ e ∷ []) (rs ++ r ∷ []) k → Plays w.header m e r.items k → ServesAll w e (rs ++ r ∷ [])
+serves_all w (events.Drain q) es rs m k r sound fits at stands next plays = λ is. drain_serves q w.header es rs m k r (omega (arith, fits, sound.header.one)) stands next (attached_at w q m sound fits at is) plays
+serves_all w (events.Ask q shape a) es rs m k r sound fits at stands next plays = tt
+serves_all w (events.Guest q n) es rs m k r sound fits at stands next plays = tt
+serves_all w (events.Collect q) es rs m k r sound fits at stands next plays = tt
+serves_all w events.Boot es rs m k r sound fits at stands next plays = tt
+serves_all w events.Join es rs m k r sound fits at stands next plays = tt
+serves_all w (events.Start q) es rs m k r sound fits at stands next plays = tt
+serves_all w (events.Fetch q) es rs m k r sound fits at stands next plays = tt
+serves_all w (events.Work q place) es rs m k r sound fits at stands next plays = tt
+serves_all w (events.Publish q most) es rs m k r sound fits at stands next plays = tt
+serves_all w (events.Turn q n) es rs m k r sound fits at stands next plays = tt
+
+pub stands_on : (w now : Machine) (e : Event) (r : Record) (spare : ⊤) → IsSound w → IsEvent w.header e → now.header ≡ w.header → r.event ≡ e → Performs w now e r.items → StandsOn w (with_record r spare now) e r
+stands_on w now e r spare sound fits same is goes es rs stood =
     let m : Moment = stood.0 in
     let went = goes es rs m stood.1 stood.2 in
     let stands : Stands w.header (es ++ e ∷ []) (rs ++ r ∷ []) went.0 = stands_more w.header es rs m went.0 e r stood.1 fits is went.1 in
     record {
-      stands = (went.0, subst (λ (h : Header1). Stands h (es ++ e ∷ []) (rs ++ r ∷ []) went.0) (sym same) stands, kept_at now r spare went.0 went.2);
+      stands = (went.0, subst (λ (h : Header1). Stands h (es ++ e ∷ []) (rs ++ r ∷ []) went.0) (sym same) stands, record { many = went.2.many; queues = went.2.queues });
       runs = stands_legal w.header (es ++ e ∷ []) (rs ++ r ∷ []) went.0 stands;
-      serves = serves_all w e es rs m went.0 r fits stood.2 stood.1 stands went.1;
+      serves = serves_all w e es rs m went.0 r sound fits stood.2 stood.1 stands went.1;
     }
 
+-- all offers of a machine are in the heads of its queue
+offers_are : (w : Machine) (m : Moment) → IsHeader w.header → MachineAt w m → offers_in w ≡ length (m.scene.heads 0)
+offers_are w m header at =
+    let front = found_there w.fronts.items 0 (omega (arith, at.many, header.one)) in
+    offered_only w.fronts.items front.0 (at.many ∙ header.one) front.1 ∙ (at.queues 0 front.0 front.1).outstanding.offers_are
+
 -- an event offers one request at most
-pub one_offer : (w now : Machine) (e : Event) (is : List Item) → IsEvent w.header e → IsStanding w → Performs w now e is → offered_in now.outstanding ≤ offered_in w.outstanding + 1
-one_offer w now e is fits stood goes =
+pub one_offer : (w now : Machine) (e : Event) (is : List Item) → IsSound now → IsEvent w.header e → IsStanding w → Performs w now e is → offers_in now ≤ offers_in w + 1
+one_offer w now e is after fits stood goes =
     let m : Moment = stood.2.0 in
     let stands : Stands w.header stood.0 stood.1 m = stood.2.1 in
     let at : MachineAt w m = stood.2.2 in
     let went = goes stood.0 stood.1 m stands at in
-    let few : length (went.0.scene.heads 0) ≤ length (m.scene.heads 0) + 1 = event_offers 0 w.header m e is went.0 stands.header (some_queue w.header stands.header) (stands_held w.header stood.0 stood.1 m stands) fits went.1 in
-    omega (arith, few, went.2.outstanding.offers_are, at.outstanding.offers_are)
+    let few : length (went.0.scene.heads 0) ≤ length (m.scene.heads 0) + 1 = event_offers 0 w.header m e is went.0 stands.header (omega (arith, stands.header.one)) (stands_held w.header stood.0 stood.1 m stands) fits went.1 in
+    omega (arith, few, offers_are now went.0 after.header went.2, offers_are w m stands.header at)
 
 -- no more requests were offered than events were played
-pub offers_few : (w : Machine) (es : List Event) (rs : List Record) → StandsFor w es rs → offered_in w.outstanding ≤ length es
+pub offers_few : (w : Machine) (es : List Event) (rs : List Record) → StandsFor w es rs → offers_in w ≤ length es
 offers_few w es rs stood =
     let m : Moment = stood.0 in
     let stands : Stands w.header es rs m = stood.1 in
-    let few : length (m.scene.heads 0) ≤ 0 + length es = run_offers 0 w.header (opening w.header) es rs m stands.header (some_queue w.header stands.header) (opening_held w.header stands.header) stands.events stands.run in
-    omega (arith, few, stood.2.outstanding.offers_are)
+    let few : length (m.scene.heads 0) ≤ 0 + length es = run_offers 0 w.header (opening w.header) es rs m stands.header (omega (arith, stands.header.one)) (opening_held w.header stands.header) stands.events stands.run in
+    omega (arith, few, offers_are w m stands.header stood.2)
 
 pub standing_on : (w now : Machine) (e : Event) (r : Record) → IsStanding w → StandsOn w now e r → IsStanding now
 standing_on w now e r s on = (s.0 ++ e ∷ [], s.1 ++ r ∷ [], (on s.0 s.1 s.2).stands)

@@ -30,16 +30,16 @@ few_row_trail : (now : List Store) (x : Stepped) (o : Option Row) → TrailsRow 
 few_row_trail now x None trails = no_store now trails
 few_row_trail now x (Some y) trails = few_trail now (outcome x) y.store trails
 
-few_turn : (t : Turn) (now : List Store) (x : Stepped) (q : QueueState) → DoesTrail t (Some []) (Some now) x q → length now ≤ 1
-few_turn turns.Start now x q trails = no_store now trails
-few_turn turns.Fetch now x q trails = no_store now trails
-few_turn (turns.Work place) now x q trails = few_gained now trails
-few_turn (turns.Publish most) now x q trails = few_row_trail now x (publish_row most q) trails
+few_turn : (t : Turn) (now : List Store) (x : Stepped) (state : QueueState) → DoesTrail t (Some []) (Some now) x state → length now ≤ 1
+few_turn turns.Start now x state trails = no_store now trails
+few_turn turns.Fetch now x state trails = no_store now trails
+few_turn (turns.Work place) now x state trails = few_gained now trails
+few_turn (turns.Publish most) now x state trails = few_row_trail now x (publish_row most state) trails
 
 -- a turn makes one store at most, before which the list was empty; a stopped queue makes none
-pub turn_stores : (before now : List Store) (t : Turn) (x : Stepped) (q : QueueState) (stopped : Bool) → before ≡ [] → (stopped ≡ true → Some now ≡ Some before) → (stopped ≡ false → DoesTrail t (Some before) (Some now) x q) → length now ≤ 1
-turn_stores before now t x q true empty none trails = no_store now (subst (λ (l : List Store). Some now ≡ Some l) empty (none refl))
-turn_stores before now t x q false empty none trails = few_turn t now x q (subst (λ (l : List Store). DoesTrail t (Some l) (Some now) x q) empty (trails refl))
+pub turn_stores : (before now : List Store) (t : Turn) (x : Stepped) (state : QueueState) (stopped : Bool) → before ≡ [] → (stopped ≡ true → Some now ≡ Some before) → (stopped ≡ false → DoesTrail t (Some before) (Some now) x state) → length now ≤ 1
+turn_stores before now t x state true empty none trails = no_store now (subst (λ (l : List Store). Some now ≡ Some l) empty (none refl))
+turn_stores before now t x state false empty none trails = few_turn t now x state (subst (λ (l : List Store). DoesTrail t (Some l) (Some now) x state) empty (trails refl))
 
 -- ---- where the count stays, nothing failed
 

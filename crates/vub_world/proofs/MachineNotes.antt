@@ -76,10 +76,10 @@ no_head batch i within none =
     let found : Some (get_or batch i (0, 0)).0 ≡ None = ap (option_map (λ (x : ℕ × ℕ). x.0)) (sym some) ∙ none in
     cc found
 
-pub answers_more : (outstanding : OutstandingRequests) (m : Bytes) (batch : List (ℕ × ℕ)) (i : ℕ) (x : ℕ × ℕ) → slice_get batch i ≡ Some x
-    → answers_for outstanding m (take (i + 1) batch) ≡ answers_for outstanding m (take i batch) ++ answer_for (slot_in outstanding x.0) m x.0 ∷ []
-answers_more outstanding m batch i x at =
-    let f : ℕ × ℕ → Answered = λ (y : ℕ × ℕ). answer_for (slot_in outstanding y.0) m y.0 in
+pub answers_more : (q : ℕ) (outstanding : OutstandingRequests) (m : Bytes) (batch : List (ℕ × ℕ)) (i : ℕ) (x : ℕ × ℕ) → slice_get batch i ≡ Some x
+    → answers_for q outstanding m (take (i + 1) batch) ≡ answers_for q outstanding m (take i batch) ++ answer_for q (slot_in outstanding x.0) m x.0 ∷ []
+answers_more q outstanding m batch i x at =
+    let f : ℕ × ℕ → Answered = λ (y : ℕ × ℕ). answer_for q (slot_in outstanding y.0) m y.0 in
     let within : i < length batch = slice_get_within batch i x at in
     let is : get_or batch i x ≡ x = get_or_from_slice_get batch i x x at in
     let more : take (i + 1) batch ≡ take i batch ++ x ∷ [] = take_more batch i x within ∙ ap (λ (y : ℕ × ℕ). take i batch ++ y ∷ []) is in
@@ -96,12 +96,12 @@ spends_more count r s t so one = record {
 }
 
 -- what the next step shows
-pub spends_up : (q : QueueState) (r now : RoomState) → next_step (course_in q) q.phase ≡ Some Index → (is_showing q ≡ true → 1 ≤ length q.batch) → SpendsAnswers (length q.batch) r now
-    → SpendsUpTo (if is_showing q then length q.batch else 0) r now
-spends_up q r now next some spends =
-    let shows : is_showing q ≡ true = ap is_index next in
-    let here : length q.batch ≡ (if is_showing q then length q.batch else 0) = ap (λ (b : Bool). if b then length q.batch else 0) (sym shows) in
-    subst (λ (k : ℕ). SpendsUpTo k r now) here (up (length q.batch) (some shows) spends)
+pub spends_up : (state : QueueState) (r now : RoomState) → next_step (course_in state) state.phase ≡ Some Index → (is_showing state ≡ true → 1 ≤ length state.batch) → SpendsAnswers (length state.batch) r now
+    → SpendsUpTo (if is_showing state then length state.batch else 0) r now
+spends_up state r now next some spends =
+    let shows : is_showing state ≡ true = ap is_index next in
+    let here : length state.batch ≡ (if is_showing state then length state.batch else 0) = ap (λ (b : Bool). if b then length state.batch else 0) (sym shows) in
+    subst (λ (k : ℕ). SpendsUpTo k r now) here (up (length state.batch) (some shows) spends)
   where
     up : (count : ℕ) → 1 ≤ count → SpendsAnswers count r now → SpendsUpTo count r now
     up zero one so = absurd (let e : ⊥ = omega (arith, one) in e)

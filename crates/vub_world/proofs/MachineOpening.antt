@@ -1,21 +1,28 @@
 -- The machine at the opening.
-use Rattle.std.proofs.Common.{◌≡◌, ◌<◌, ℕ, ◌+◌, ◌-◌, ◌%◌, length, Bool, true, false, sym, ap, ◌∙◌, subst, arith, refl}
-use Rattle.std.specs.Prelude.{zero, suc, if◌then◌else◌, ◌==◌, ◌&&◌, nat_lt, nat_le, slice_index, replicate, Option, None}
+use Rattle.std.proofs.Common.{◌≡◌, ◌<◌, ℕ, ◌+◌, ◌-◌, ◌*◌, ◌%◌, length, Bool, true, false, sym, ap, ◌∙◌, subst, inl, inr, arith, refl, List, [], ◌∷◌, ◌++◌, ◌⊎◌}
+use Rattle.std.specs.Prelude.{zero, suc, if◌then◌else◌, ◌==◌, ◌&&◌, nat_lt, nat_le, slice_index, slice_get, replicate, Option, Some, None}
 use Rattle.byteorder.specs.Endian.{little_bytes}
 use mathlib.Core.Path.{fun_ext}
 use Rattle.vub_base.specs.declared.header.Header1.{Header1}
 use Rattle.vub_shared.specs.Bytes.{Bytes, put}
-use Rattle.vub_shared.specs.Watched.{bytes_in}
+use Rattle.vub_shared.specs.Watched.{bytes_in, sizes_in, IsUnfailed}
 use Rattle.vub_device.specs.Requests.{zeros}
 use Rattle.vub_driver.specs.Layout.{ring_of}
-use Rattle.vub_driver.specs.Drivers.{new_driver}
-use Rattle.vub_memdisk.specs.MemDisks.{values_of}
+use Rattle.vub_memdisk.specs.MemDisks.{values_of, capacity_of}
 use Rattle.vub_ring.specs.Ring.{Ring}
 use Rattle.vub_schedule.specs.Spelling.{IsHeader}
+use Rattle.vub_queue_in_run.specs.QueueAt.{LiesAs}
+use Rattle.vub_shared.specs.declared.watched_shared.WatchedShared.{WatchedShared}
+use Rattle.vub_world.specs.declared.front.Front.{Front}
 use Rattle.vub_world.specs.declared.machine.Machine.{Machine}
-use Rattle.vub_guest.specs.GuestState.{driver_in, last_used_in}
-use Rattle.vub_world.specs.OutstandingRequests.{offered_in, collected_in, size_in}
+use Rattle.vub_world.specs.Fronts.{FrontSound, IsNewFront, AreNewFronts, IsNewQueue, AreNewQueues, offered_by}
+use Rattle.vub_world.specs.Lives.{RingOfLife, LiesInLife, life_of}
 use Rattle.vub_world.specs.declared.machine.Life.{Life}
+use Rattle.std.proofs.lemmas.List.{length_push}
+use Rattle.std.proofs.lemmas.Option.{slice_get_within}
+use Rattle.vub_queue.specs.declared.queue.Queue.{Queue}
+use Rattle.vub_world.specs.Machine.{IsSound, AreInLife}
+use Rattle.vub_world.specs.OutstandingRequests.{offered_in}
 use Rattle.vub_world.specs.MachineAt.{MachineAt, LifeAt}
 use Rattle.vub_run.specs.Memory.{opening_memory, opened, with_indexes}
 use Rattle.vub_run.specs.Moments.{opening}
@@ -42,26 +49,105 @@ indexes_zero r base m begins none s p =
     ap (λ (b : ℕ). with_indexes r b m s p) begins ∙ put_zero (put m r.space (r.avail + 2) (little_bytes 2 0)) r.space (r.used + 2) (put_zero m r.space (r.avail + 2) none) s p
 
 pub opening_zero : (h : Header1) → IsHeader h → (s p : ℕ) → opening_memory h s p ≡ 0
-opening_zero h is s p = ap (λ (q : ℕ). opened h q s p) is.one ∙ indexes_zero (ring_of 0 h.size) h.base (λ (t q : ℕ). 0) is.begins (λ (t q : ℕ). refl) s p
+opening_zero h is s p = ap (λ (k : ℕ). opened h k s p) is.one ∙ indexes_zero (ring_of 0 h.size) h.base (λ (t k : ℕ). 0) is.begins (λ (t k : ℕ). refl) s p
 
 -- ---- the world itself
 
-pub opens : (w : Machine) → IsHeader w.header → ((s p : ℕ) → bytes_in w.memory s p ≡ 0) → driver_in w.guest ≡ new_driver w.header.base → last_used_in w.guest ≡ w.header.base → w.asked ≡ None → w.life ≡ None
-    → ((s : ℕ) → s < w.header.capacity → values_of w.disk s ≡ replicate 512 0) → offered_in w.outstanding ≡ 0 → collected_in w.outstanding ≡ 0 → size_in w.outstanding ≡ w.header.size → MachineAt w (opening w.header)
-unfolding zeros
-opens w is none driver position asked life disk offered collected size = record {
-  front = record {
-    memory = fun_ext (λ s. fun_ext (λ p. none s p ∙ sym (opening_zero w.header is s p)));
-    driver = driver;
-    asks = asked;
-  };
-  position = position ∙ (let e : w.header.base ≡ (w.header.base + 0) % 65536 = omega (arith, is.begins) in e);
-  life = subst (λ (l : Option Life). LifeAt w.header w.ring (opening w.header) l) (sym life) refl;
-  disk = disk;
-  outstanding = record {
-    offers_are = offered;
-    collects_are = collected;
-    places = size;
-    slots = λ k below. absurd (let e : ⊥ = omega (arith, below) in e);
-  };
+pub new_sound : (h : Header1) (q : ℕ) (memory : WatchedShared) (f : Front) → IsHeader h → IsNewFront h q f → q < h.queues → sizes_in memory 0 ≡ 1048576 * h.queues → IsUnfailed memory → FrontSound memory f
+new_sound h q memory f is new low size unfailed = record {
+  header = subst (λ (k : Header1). IsHeader k) (sym new.header) is;
+  exists = omega (arith, new.index, low, ap (λ (k : Header1). k.queues) new.header);
+  guest = new.guest ∙ ap (λ (k : Header1). ring_of q k.size) (sym new.header) ∙ ap (λ (p : ℕ). ring_of p f.header.size) (sym new.index);
+  ring = subst (λ (p : ℕ). LiesAs p f.ring f.header.size) (sym new.index) (subst (λ (k : Header1). LiesAs q f.ring k.size) (sym new.header) new.ring);
+  room = omega (arith, new.index, low, size);
+  unfailed = unfailed;
 }
+
+pub opens : (w : Machine) → IsHeader w.header → ((s p : ℕ) → bytes_in w.memory s p ≡ 0) → AreNewFronts w.header w.header.queues w.fronts.items → w.life ≡ None → ((s : ℕ) → s < w.header.capacity → values_of w.disk s ≡ replicate 512 0) → MachineAt w (opening w.header)
+unfolding zeros
+opens w is none fronts life disk = record { many = fronts.many; queues = λ q f found.
+    let new = fronts.each q f found in
+    record {
+      front = record {
+        memory = fun_ext (λ s. fun_ext (λ p. none s p ∙ sym (opening_zero w.header is s p)));
+        driver = new.driver;
+        asks = new.asked;
+      };
+      position = new.position ∙ (let e : w.header.base ≡ (f.header.base + 0) % 65536 = omega (arith, is.begins, ap (λ (k : Header1). k.base) new.header) in e);
+      life = subst (λ (l : Option Life). LifeAt q f.header f.ring (opening w.header) (life_of q l)) (sym life) refl;
+      disk = subst (λ (k : Header1). (s : ℕ) → s < k.capacity → values_of w.disk s ≡ replicate 512 0) (sym new.header) disk;
+      outstanding = record {
+        offers_are = new.offered;
+        collects_are = new.collected;
+        places = new.places ∙ ap (λ (k : Header1). k.size) (sym new.header);
+        slots = λ k below. absurd (let e : ⊥ = omega (arith, below) in e);
+      };
+    } }
+
+-- ---- new fronts and queues
+
+pub no_fronts : (h : Header1) (fronts : List Front) → length fronts ≡ 0 → AreNewFronts h 0 fronts
+no_fronts h fronts none = record { many = none; each = λ q f is. absurd (omega (arith, none, slice_get_within fronts q f is)) }
+
+-- what the last of a list is
+last_of : {A : Type 0} (xs : List A) (x y : A) (q : ℕ) → slice_get (xs ++ x ∷ []) q ≡ Some y → (slice_get xs q ≡ Some y) ⊎ ((q ≡ length xs) × (x ≡ y))
+last_of [] x y zero is = inr (refl, cc is)
+last_of [] x y (suc q) is = absurd (cc is)
+last_of (z ∷ xs) x y zero is = inl is
+last_of (z ∷ xs) x y (suc q) is = elim (last_of xs x y q is) [
+  | inl before ↦ inl before
+  | inr last ↦ inr (ap (λ (k : ℕ). suc k) last.0, last.1)
+]
+
+pub one_front_more : (h : Header1) (count : ℕ) (fronts : List Front) (f : Front) (now : List Front) → AreNewFronts h count fronts → IsNewFront h count f → now ≡ fronts ++ f ∷ [] → AreNewFronts h (count + 1) now
+one_front_more h count fronts f now new made is = subst (λ (xs : List Front). AreNewFronts h (count + 1) xs) (sym is) (record {
+  many = omega (arith, new.many, length_push fronts f);
+  each = λ q x there. elim (last_of fronts f x q there) [
+    | inl before ↦ new.each q x before
+    | inr last ↦ subst (λ (k : ℕ). IsNewFront h k x) (sym (last.0 ∙ new.many)) (subst (λ (y : Front). IsNewFront h count y) last.1 made)
+  ];
+})
+
+pub no_queues : (fronts : List Front) (queues : List Queue) → length queues ≡ 0 → AreNewQueues 0 fronts queues
+no_queues fronts queues none = record { many = none; each = λ q f queue is there. absurd (omega (arith, none, slice_get_within queues q queue there)) }
+
+pub one_queue_more : (count : ℕ) (fronts : List Front) (queues : List Queue) (f : Front) (queue : Queue) (now : List Queue) → AreNewQueues count fronts queues → slice_get fronts count ≡ Some f → IsNewQueue f queue → now ≡ queues ++ queue ∷ [] → AreNewQueues (count + 1) fronts now
+one_queue_more count fronts queues f queue now new here made is = subst (λ (xs : List Queue). AreNewQueues (count + 1) fronts xs) (sym is) (record {
+  many = omega (arith, new.many, length_push queues queue);
+  each = λ q x y front there. elim (last_of queues queue y q there) [
+    | inl before ↦ new.each q x y front before
+    | inr last ↦
+        let same : Some f ≡ Some x = sym here ∙ ap (λ (k : ℕ). slice_get fronts k) (sym (last.0 ∙ new.many)) ∙ front in
+        let it : f ≡ x = cc same in
+        subst (λ (z : Front). IsNewQueue z y) it (subst (λ (z : Queue). IsNewQueue f z) last.1 made)
+  ];
+})
+
+-- ---- the world is sound
+
+pub opening_sound : (w : Machine) → IsHeader w.header → sizes_in w.memory 0 ≡ 1048576 * w.header.queues → IsUnfailed w.memory → AreNewFronts w.header w.header.queues w.fronts.items → w.life ≡ None → capacity_of w.disk ≡ w.header.capacity → IsSound w
+opening_sound w is size unfailed fronts life disk = record {
+  header = is;
+  many = fronts.many;
+  attached = subst (λ (l : Option Life). AreInLife w.header.queues l) (sym life) tt;
+  disk = disk;
+  headers = λ q f there. (fronts.each q f there).header;
+  parts = λ q f there.
+      let new = fronts.each q f there in
+      let low : q < w.header.queues = omega (arith, slice_get_within w.fronts.items q f there, fronts.many) in
+      record {
+        index = new.index;
+        front = new_sound w.header q w.memory f is new low size unfailed;
+        queue = subst (λ (l : Option Life). RingOfLife (λ r. r ≡ f.ring) (life_of q l)) (sym life) tt;
+        disk = disk ∙ ap (λ (h : Header1). h.capacity) (sym new.header);
+        lies = subst (λ (l : Option Life). LiesInLife (sizes_in w.memory) (capacity_of w.disk) (life_of q l)) (sym life) tt;
+      };
+}
+
+-- nothing was offered
+pub none_offered : (h : Header1) (fs : List Front) → ((q : ℕ) (f : Front) → slice_get fs q ≡ Some f → IsNewFront h q f) → offered_by fs ≡ 0
+none_offered h fs new = go fs (λ q f is. (new q f is).offered)
+  where
+    go : (fs : List Front) → ((q : ℕ) (f : Front) → slice_get fs q ≡ Some f → offered_in f.outstanding ≡ 0) → offered_by fs ≡ 0
+    go [] none = refl
+    go (f ∷ fs) none = let rest : offered_by fs ≡ 0 = go fs (λ q x is. none (suc q) x is) in omega (arith, rest, none 0 f refl)

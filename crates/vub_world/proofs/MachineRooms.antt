@@ -3,8 +3,6 @@ use Rattle.std.proofs.Common.{◌≡◌, ◌≤◌, ℕ, zero, suc, ◌+◌, ◌
 use Rattle.std.specs.Prelude.{◌||◌, if◌then◌else◌, Option, Some, None, take, slice_get, nat_lt, ⊤}
 use Rattle.std.proofs.lemmas.Bool.Decides.{nat_tests}
 use Rattle.std.proofs.lemmas.Bool.{cases_Bool}
-use Rattle.vub_run_laws.proofs.RunFacts.{phase_at}
-use Rattle.vub_steps.specs.declared.steps.Course.{Course}
 use Rattle.vub_base.specs.declared.header.Header1.{Header1}
 use Rattle.vub_steps.specs.declared.steps.Phase.{Phase}
 use Rattle.vub_steps.specs.declared.steps.Phase.TheVariants as phases
@@ -16,6 +14,7 @@ use Rattle.vub_steps.specs.declared.readiness.Turn.TheVariants as turns
 use Rattle.vub_steps.specs.Readiness.{is_publication, any_turn, draining_turn}
 use Rattle.vub_steps.specs.Rows.{Row, row_of}
 use Rattle.vub_ring.specs.Ring.{used_idx}
+use Rattle.vub_steps.specs.declared.steps.Course.{Course}
 use Rattle.vub_steps.specs.Steps.{publish_steps, next_step}
 use Rattle.vub_driver.specs.Layout.{ring_of}
 use Rattle.vub_device.specs.declared.entry.Asked.{Asked}
@@ -35,42 +34,45 @@ use Rattle.vub_run.specs.Run.{one_turn}
 use Rattle.vub_steps.specs.Tasks.{RequestStep, Look, Put, Act, Sync, Status, task_steps}
 use Rattle.vub_run.specs.TaskItems.{look_items, act_items}
 use Rattle.vub_run.specs.Turns.{course_of, turned, work_turn, request_turn, task_turn, phase_turn, phase_goes_on, under_way, begun, is_rest, row_items, step_stores, element_of, answer_at}
+use Rattle.vub_run_laws.proofs.RunFacts.{phase_at}
 use Rattle.vub_run_laws.proofs.RunNumbers.{missing-among, distinct_join}
 use Rattle.vub_facts.proofs.HeadLemmas.{few_below}
 use Rattle.vub_run_laws.proofs.RunGood.{Known, Worked}
 use Rattle.vub_run_laws.proofs.RunEfforts.{weight, sum_below, weight_small}
 use Rattle.vub_run_laws.proofs.RunEnds.{effort_at, missing_distinct, phase_few, start_few}
+use Rattle.vub_device.specs.declared.entry.Answered.{Answered}
+use Rattle.vub_run_laws.proofs.RunOwn.{published_own}
 use Rattle.vub_run_laws.proofs.RunPublications.{numbers_answers}
 use Rattle.vub_run_laws.proofs.RunTurns.{Good, phase_cases}
 
 -- ---- how many answers a turn shows
 
-abbrev count_in : Scene → ℕ
-count_in s = length (published s.past 0)
+abbrev count_in : ℕ → Scene → ℕ
+count_in q s = length (published s.past q)
 
-look_shows : (h : Header1) (k : ℕ) (s : Scene) (o : Option ℕ) → count_in (after_items h (look_items 0 k s.past o) s) ≡ count_in s
-look_shows h k s None = refl
-look_shows h k s (Some sector) = refl
+look_shows : (q : ℕ) (h : Header1) (k : ℕ) (s : Scene) (o : Option ℕ) → count_in q (after_items h (look_items q k s.past o) s) ≡ count_in q s
+look_shows q h k s None = refl
+look_shows q h k s (Some sector) = refl
 
-act_shows : (h : Header1) (k : ℕ) (s : Scene) (o : Option SectorValue) → count_in (after_items h (act_items 0 k o) s) ≡ count_in s
-act_shows h k s None = refl
-act_shows h k s (Some x) = refl
+act_shows : (q : ℕ) (h : Header1) (k : ℕ) (s : Scene) (o : Option SectorValue) → count_in q (after_items h (act_items q k o) s) ≡ count_in q s
+act_shows q h k s None = refl
+act_shows q h k s (Some x) = refl
 
-task_shows : (h : Header1) (s : Scene) (l : Lane) (k : ℕ) (r : Asked) (o : Option RequestStep) → count_in (after_items h (task_turn h 0 s l k r o).items s) ≡ count_in s
-task_shows h s l k r None = refl
-task_shows h s l k r (Some (Look place)) = look_shows h k s (look_at r place)
-task_shows h s l k r (Some (Put place)) = refl
-task_shows h s l k r (Some (Act place)) = act_shows h k s (effect_at r place)
-task_shows h s l k r (Some Sync) = refl
-task_shows h s l k r (Some Status) = refl
+task_shows : (q : ℕ) (h : Header1) (s : Scene) (l : Lane) (k : ℕ) (r : Asked) (o : Option RequestStep) → count_in q (after_items h (task_turn h q s l k r o).items s) ≡ count_in q s
+task_shows q h s l k r None = refl
+task_shows q h s l k r (Some (Look place)) = look_shows q h k s (look_at r place)
+task_shows q h s l k r (Some (Put place)) = refl
+task_shows q h s l k r (Some (Act place)) = act_shows q h k s (effect_at r place)
+task_shows q h s l k r (Some Sync) = refl
+task_shows q h s l k r (Some Status) = refl
 
-request_shows : (h : Header1) (s : Scene) (l : Lane) (k : ℕ) (o : Option Asked) → count_in (after_items h (request_turn h 0 s l k o).items s) ≡ count_in s
-request_shows h s l k None = refl
-request_shows h s l k (Some r) = task_shows h s l k r (slice_get (task_steps h r) (l.made k))
+request_shows : (q : ℕ) (h : Header1) (s : Scene) (l : Lane) (k : ℕ) (o : Option Asked) → count_in q (after_items h (request_turn h q s l k o).items s) ≡ count_in q s
+request_shows q h s l k None = refl
+request_shows q h s l k (Some r) = task_shows q h s l k r (slice_get (task_steps h r) (l.made k))
 
-work_shows : (h : Header1) (s : Scene) (l : Lane) (o : Option ℕ) → count_in (after_items h (work_turn h 0 s l o).items s) ≡ count_in s
-work_shows h s l None = refl
-work_shows h s l (Some k) = request_shows h s l k (asked s.past 0 k)
+work_shows : (q : ℕ) (h : Header1) (s : Scene) (l : Lane) (o : Option ℕ) → count_in q (after_items h (work_turn h q s l o).items s) ≡ count_in q s
+work_shows q h s l None = refl
+work_shows q h s l (Some k) = request_shows q h s l k (asked s.past q k)
 
 -- how many answers the next step of a phase shows
 abbrev pub shown_by : Course → Phase → ℕ
@@ -79,22 +81,23 @@ shown_by course p = if is_index (next_step course p) then course.batch else 0
 abbrev step_shown : ℕ → Option Step → ℕ
 step_shown batch o = if is_index o then batch else 0
 
-row_shows : (h : Header1) (s : Scene) (o : Option Row) → count_in (after_items h (row_items o ++ []) s) ≡ count_in s
-row_shows h s None = refl
-row_shows h s (Some x) = refl
+row_shows : (q : ℕ) (h : Header1) (s : Scene) (o : Option Row) → count_in q (after_items h (row_items o ++ []) s) ≡ count_in q s
+row_shows q h s None = refl
+row_shows q h s (Some x) = refl
 
-step_shows : (h : Header1) (s : Scene) (l : Lane) (step : Step) → count_in (after_items h (phase_turn h 0 s l (Some step)).items s) ≡ count_in s + step_shown (length l.batch) (Some step)
-step_shows h s l steps.Start = omega arith
-step_shows h s l steps.Accept = omega arith
-step_shows h s l (steps.Id e) = row_shows h s (row_of (ring_of 0 h.size) (used_idx (ring_of 0 h.size) s.memory) (map (element_of h 0 s) l.batch) (steps.Id e)) ∙ omega arith
-step_shows h s l (steps.Len e) = row_shows h s (row_of (ring_of 0 h.size) (used_idx (ring_of 0 h.size) s.memory) (map (element_of h 0 s) l.batch) (steps.Len e)) ∙ omega arith
-step_shows h s l steps.Index =
-    let s' : Scene = after_items h (step_stores h 0 l.batch steps.Index s) s in
-    length-append (published s.past 0) (numbers (map (answer_at 0 s') l.batch)) ∙ ap (λ (ks : List ℕ). length (published s.past 0) + length ks) (numbers_answers 0 s' l.batch)
+step_shows : (q : ℕ) (h : Header1) (s : Scene) (l : Lane) (step : Step) → count_in q (after_items h (phase_turn h q s l (Some step)).items s) ≡ count_in q s + step_shown (length l.batch) (Some step)
+step_shows q h s l steps.Start = omega arith
+step_shows q h s l steps.Accept = omega arith
+step_shows q h s l (steps.Id e) = row_shows q h s (row_of (ring_of q h.size) (used_idx (ring_of q h.size) s.memory) (map (element_of h q s) l.batch) (steps.Id e)) ∙ omega arith
+step_shows q h s l (steps.Len e) = row_shows q h s (row_of (ring_of q h.size) (used_idx (ring_of q h.size) s.memory) (map (element_of h q s) l.batch) (steps.Len e)) ∙ omega arith
+step_shows q h s l steps.Index =
+    let s' : Scene = after_items h (step_stores h q l.batch steps.Index s) s in
+    let list : List Answered = map (answer_at q s') l.batch in
+    ap (λ (ks : List ℕ). length ks) (published_own s.past q list) ∙ length-append (published s.past q) (numbers list) ∙ ap (λ (ks : List ℕ). length (published s.past q) + length ks) (numbers_answers q s' l.batch)
 
-phase_shows : (h : Header1) (s : Scene) (l : Lane) (o : Option Step) → count_in (after_items h (phase_turn h 0 s l o).items s) ≡ count_in s + step_shown (length l.batch) o
-phase_shows h s l None = omega arith
-phase_shows h s l (Some step) = step_shows h s l step
+phase_shows : (q : ℕ) (h : Header1) (s : Scene) (l : Lane) (o : Option Step) → count_in q (after_items h (phase_turn h q s l o).items s) ≡ count_in q s + step_shown (length l.batch) o
+phase_shows q h s l None = omega arith
+phase_shows q h s l (Some step) = step_shows q h s l step
 
 -- a turn that isn't work on a request
 abbrev IsOfQueue : Turn → Type 0
@@ -108,20 +111,20 @@ begun_shows most l none = go (length (take most l.completed))
     go zero = refl
     go (suc n) = refl
 
-rests : (h : Header1) (s : Scene) (l : Lane) (t : Turn) → IsOfQueue t → is_rest l.phase ≡ true → l.batch ≡ [] → count_in (after_items h (phase_goes_on h 0 s (under_way t l)).items s) ≡ count_in s
-rests h s l t of_queue rest none = subst (λ (b : Bool). count_in (after_items h (phase_goes_on h 0 s (if b then begun t l else l)).items s) ≡ count_in s) (sym rest) (go t of_queue)
+rests : (q : ℕ) (h : Header1) (s : Scene) (l : Lane) (t : Turn) → IsOfQueue t → is_rest l.phase ≡ true → l.batch ≡ [] → count_in q (after_items h (phase_goes_on h q s (under_way t l)).items s) ≡ count_in q s
+rests q h s l t of_queue rest none = subst (λ (b : Bool). count_in q (after_items h (phase_goes_on h q s (if b then begun t l else l)).items s) ≡ count_in q s) (sym rest) (go t of_queue)
   where
-    go : (t : Turn) → IsOfQueue t → count_in (after_items h (phase_goes_on h 0 s (begun t l)).items s) ≡ count_in s
+    go : (t : Turn) → IsOfQueue t → count_in q (after_items h (phase_goes_on h q s (begun t l)).items s) ≡ count_in q s
     go turns.Start is = refl
     go turns.Fetch is = refl
     go (turns.Publish most) is =
-        phase_shows h s (begun (turns.Publish most) l) (slice_get (publish_steps (length (take most l.completed))) 0) ∙ (let none' = begun_shows most l none in omega (arith, none'))
+        phase_shows q h s (begun (turns.Publish most) l) (slice_get (publish_steps (length (take most l.completed))) 0) ∙ (let none' = begun_shows most l none in omega (arith, none'))
     go (turns.Work place) is = absurd is
 
-goes_on : (h : Header1) (s : Scene) (l : Lane) (t : Turn) → is_rest l.phase ≡ false → count_in (after_items h (phase_goes_on h 0 s (under_way t l)).items s) ≡ count_in s + shown_by (course_of h l) l.phase
-goes_on h s l t busy =
-    subst (λ (b : Bool). count_in (after_items h (phase_goes_on h 0 s (if b then begun t l else l)).items s) ≡ count_in s + shown_by (course_of h l) l.phase) (sym busy)
-    (phase_shows h s l (next_step (course_of h l) l.phase))
+goes_on : (q : ℕ) (h : Header1) (s : Scene) (l : Lane) (t : Turn) → is_rest l.phase ≡ false → count_in q (after_items h (phase_goes_on h q s (under_way t l)).items s) ≡ count_in q s + shown_by (course_of h l) l.phase
+goes_on q h s l t busy =
+    subst (λ (b : Bool). count_in q (after_items h (phase_goes_on h q s (if b then begun t l else l)).items s) ≡ count_in q s + shown_by (course_of h l) l.phase) (sym busy)
+    (phase_shows q h s l (next_step (course_of h l) l.phase))
 
 -- while a batch is published no work on a request comes first
 any_publishes : (size waiting unfinished completed : ℕ) (started : Bool) (phase : Phase) → is_publication phase ≡ true
@@ -141,41 +144,41 @@ drain_publishes size waiting unfinished completed started phases.Rest false publ
 drain_publishes size waiting unfinished completed started (phases.Start done) false publishes = absurd (cc publishes)
 drain_publishes size waiting unfinished completed started (phases.Fetch done) false publishes = absurd (cc publishes)
 
-publishing_turn : (h : Header1) (m : Moment) (sequence : Sequence) (taken : ℕ) → is_publication (m.lanes 0).phase ≡ true → IsOfQueue (next_turn h sequence taken m)
-publishing_turn h m sequences.Any taken publishes =
-    let s : Standing = standing h 0 m in
-    any_publishes h.size s.waiting s.unfinished s.completed s.started (m.lanes 0).phase publishes
-publishing_turn h m sequences.Drain taken publishes =
-    let s : Standing = standing h 0 m in
-    drain_publishes h.size s.waiting s.unfinished s.completed s.started (m.lanes 0).phase (nat_lt taken h.size) publishes
+publishing_turn : (q : ℕ) (h : Header1) (m : Moment) (sequence : Sequence) (taken : ℕ) → is_publication (m.lanes q).phase ≡ true → IsOfQueue (next_turn q h sequence taken m)
+publishing_turn q h m sequences.Any taken publishes =
+    let s : Standing = standing h q m in
+    any_publishes h.size s.waiting s.unfinished s.completed s.started (m.lanes q).phase publishes
+publishing_turn q h m sequences.Drain taken publishes =
+    let s : Standing = standing h q m in
+    drain_publishes h.size s.waiting s.unfinished s.completed s.started (m.lanes q).phase (nat_lt taken h.size) publishes
 
 -- the turn that comes next publishes as many as its step shows
-pub chosen_shows : (h : Header1) (m : Moment) (sequence : Sequence) (taken : ℕ) → Good 0 h m → (t : Turn) → t ≡ next_turn h sequence taken m
-    → length (published (one_turn h 0 t m).next.scene.past 0) ≡ length (published m.scene.past 0) + shown_by (course_of h (m.lanes 0)) (m.lanes 0).phase
-chosen_shows h m sequence taken good t is = elim (phase_cases l.batch l.phase (phase_at 0 h m.scene (m.lanes 0) good.holds)) [
+pub chosen_shows : (q : ℕ) (h : Header1) (m : Moment) (sequence : Sequence) (taken : ℕ) → Good q h m → (t : Turn) → t ≡ next_turn q h sequence taken m
+    → length (published (one_turn h q t m).next.scene.past q) ≡ length (published m.scene.past q) + shown_by (course_of h (m.lanes q)) (m.lanes q).phase
+chosen_shows q h m sequence taken good t is = elim (phase_cases l.batch l.phase (phase_at q h m.scene (m.lanes q) good.holds)) [
   | inl rest ↦
       let none : shown_by (course_of h l) l.phase ≡ 0 = ap (λ (p : Phase). shown_by (course_of h l) p) rest.0 in
-      let same : count_in (after_items h (turned h 0 t m).items s) ≡ count_in s = resting t (ap is_rest rest.0) rest.1 in
+      let same : count_in q (after_items h (turned h q t m).items s) ≡ count_in q s = resting t (ap is_rest rest.0) rest.1 in
       omega (arith, none, same)
-  | inr shows ↦ publishes t (subst IsOfQueue (sym is) (publishing_turn h m sequence taken (ap is_publication shows.1))) (ap is_rest shows.1)
+  | inr shows ↦ publishes t (subst IsOfQueue (sym is) (publishing_turn q h m sequence taken (ap is_publication shows.1))) (ap is_rest shows.1)
 ]
   where
     s : Scene
     s = m.scene
 
     l : Lane
-    l = m.lanes 0
+    l = m.lanes q
 
-    resting : (t : Turn) → is_rest l.phase ≡ true → l.batch ≡ [] → count_in (after_items h (turned h 0 t m).items s) ≡ count_in s
-    resting turns.Start rest none = rests h s l turns.Start tt rest none
-    resting turns.Fetch rest none = rests h s l turns.Fetch tt rest none
-    resting (turns.Publish most) rest none = rests h s l (turns.Publish most) tt rest none
-    resting (turns.Work place) rest none = work_shows h s l (slice_get (unfinished 0 m) place)
+    resting : (t : Turn) → is_rest l.phase ≡ true → l.batch ≡ [] → count_in q (after_items h (turned h q t m).items s) ≡ count_in q s
+    resting turns.Start rest none = rests q h s l turns.Start tt rest none
+    resting turns.Fetch rest none = rests q h s l turns.Fetch tt rest none
+    resting (turns.Publish most) rest none = rests q h s l (turns.Publish most) tt rest none
+    resting (turns.Work place) rest none = work_shows q h s l (slice_get (unfinished q m) place)
 
-    publishes : (t : Turn) → IsOfQueue t → is_rest l.phase ≡ false → count_in (after_items h (turned h 0 t m).items s) ≡ count_in s + shown_by (course_of h l) l.phase
-    publishes turns.Start of_queue busy = goes_on h s l turns.Start busy
-    publishes turns.Fetch of_queue busy = goes_on h s l turns.Fetch busy
-    publishes (turns.Publish most) of_queue busy = goes_on h s l (turns.Publish most) busy
+    publishes : (t : Turn) → IsOfQueue t → is_rest l.phase ≡ false → count_in q (after_items h (turned h q t m).items s) ≡ count_in q s + shown_by (course_of h l) l.phase
+    publishes turns.Start of_queue busy = goes_on q h s l turns.Start busy
+    publishes turns.Fetch of_queue busy = goes_on q h s l turns.Fetch busy
+    publishes (turns.Publish most) of_queue busy = goes_on q h s l (turns.Publish most) busy
     publishes (turns.Work place) of_queue busy = absurd of_queue
 
 -- ---- how much is left to do, by how many requests are offered and not published
@@ -200,12 +203,12 @@ sum_left gone done made (suc a) =
     ]
 
 -- published, completed and left are no more than were accepted
-all_few : (n cap : ℕ) (past : List Entry) (heads : List ℕ) (phase : Phase) (batch completed : List ℕ) (made : ℕ → ℕ) → Known 0 n cap past heads → Worked 0 past phase batch completed made
-    → length (published past 0) + (length completed + length batch) + length (missing_below (published past 0 ++ (completed ++ batch)) (accepted past 0)) ≤ accepted past 0
-all_few n cap past heads phase batch completed made known w =
-    let ps : List ℕ = published past 0 in
+all_few : (q : ℕ) (n cap : ℕ) (past : List Entry) (heads : List ℕ) (phase : Phase) (batch completed : List ℕ) (made : ℕ → ℕ) → Known q n cap past heads → Worked q past phase batch completed made
+    → length (published past q) + (length completed + length batch) + length (missing_below (published past q ++ (completed ++ batch)) (accepted past q)) ≤ accepted past q
+all_few q n cap past heads phase batch completed made known w =
+    let ps : List ℕ = published past q in
     let ds : List ℕ = completed ++ batch in
-    let a : ℕ = accepted past 0 in
+    let a : ℕ = accepted past q in
     let ls : List ℕ = missing_below (ps ++ ds) a in
     let d : are_distinct (ps ++ ds) ≡ true = distinct_join ps ds known.distinct w.distinct (λ k held. (w.opens k held).unpublished) in
     let e : are_distinct ((ps ++ ds) ++ ls) ≡ true = distinct_join (ps ++ ds) ls d (missing_distinct (ps ++ ds) a) (λ k held. (missing-among (ps ++ ds) a k held).1) in
@@ -222,25 +225,25 @@ all_few n cap past heads phase batch completed made known w =
     omega (arith, few, length-append (ps ++ ds) ls, length-append ps ds, length-append completed batch)
 
 -- the requests that are offered and not published
-abbrev pub undone : Moment → ℕ
-undone m = length (m.scene.heads 0) - length (published m.scene.past 0)
+abbrev pub undone : ℕ → Moment → ℕ
+undone q m = length (m.scene.heads q) - length (published m.scene.past q)
 
-pub effort_bound : (h : Header1) (m : Moment) → Good 0 h m → effort_at 0 m ≤ 21 * undone m + 2
-effort_bound h m good =
+pub effort_bound : (q : ℕ) (h : Header1) (m : Moment) → Good q h m → effort_at q m ≤ 21 * undone q m + 2
+effort_bound q h m good =
     let s : Scene = m.scene in
-    let l : Lane = m.lanes 0 in
-    let known : Known 0 h.size h.capacity s.past (s.heads 0) = good.holds.known in
-    let offered : accepted s.past 0 ≤ length (s.heads 0) = known.offered in
-    let all = all_few h.size h.capacity s.past (s.heads 0) l.phase l.batch l.completed l.made known good.holds.worked in
-    let sum = sum_left (published s.past 0) (l.completed ++ l.batch) l.made (accepted s.past 0) in
+    let l : Lane = m.lanes q in
+    let known : Known q h.size h.capacity s.past (s.heads q) = good.holds.known in
+    let offered : accepted s.past q ≤ length (s.heads q) = known.offered in
+    let all = all_few q h.size h.capacity s.past (s.heads q) l.phase l.batch l.completed l.made known good.holds.worked in
+    let sum = sum_left (published s.past q) (l.completed ++ l.batch) l.made (accepted s.past q) in
     let stores = phase_few l.batch l.phase in
-    let begins = start_few (started s.past 0) in
+    let begins = start_few (started s.past q) in
     omega (arith, all, sum, stores, begins)
 
 -- what a batch shows is not published yet
-pub batch_undone : (h : Header1) (m : Moment) → Good 0 h m → length (m.lanes 0).batch ≤ undone m
-batch_undone h m good =
+pub batch_undone : (q : ℕ) (h : Header1) (m : Moment) → Good q h m → length (m.lanes q).batch ≤ undone q m
+batch_undone q h m good =
     let known = good.holds.known in
-    let offered : accepted m.scene.past 0 ≤ length (m.scene.heads 0) = known.offered in
-    let all = all_few h.size h.capacity m.scene.past (m.scene.heads 0) (m.lanes 0).phase (m.lanes 0).batch (m.lanes 0).completed (m.lanes 0).made known good.holds.worked in
+    let offered : accepted m.scene.past q ≤ length (m.scene.heads q) = known.offered in
+    let all = all_few q h.size h.capacity m.scene.past (m.scene.heads q) (m.lanes q).phase (m.lanes q).batch (m.lanes q).completed (m.lanes q).made known good.holds.worked in
     omega (arith, all, offered)

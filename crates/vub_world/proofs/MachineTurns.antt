@@ -55,6 +55,7 @@ use Rattle.vub_run.specs.Turns.{turned, answer_len, answer_at}
 use Rattle.vub_run_laws.proofs.RunNumbers.{not_among-take}
 use Rattle.vub_run_laws.proofs.RunFrames.{open_out, length_little}
 use Rattle.vub_run_laws.proofs.RunGood.{IsWide, IsOut, PhaseIs, Holds}
+use Rattle.vub_run_laws.proofs.RunOwn.{accepted_own}
 use Rattle.vub_run_laws.proofs.RunPhases.{some_waits}
 use Rattle.vub_run_laws.proofs.RunTurns.{IsPlain, Good}
 use Rattle.vub_run_laws.proofs.RunChainsEvents.{ChainedAt}
@@ -66,14 +67,14 @@ use Rattle.vub_queue_in_run.proofs.WorkAtItems.{turn_disk}
 -- ---- what a turn is given, and what it does
 
 -- the device stands at a moment of a run, and its memory keeps no store
-pub record TurnAt (h : Header1) (r : SplitRing) (m : Moment) (outstanding : OutstandingRequests) (d : Device) : Type 0 where
+pub record TurnAt (q : ℕ) (h : Header1) (r : SplitRing) (m : Moment) (outstanding : OutstandingRequests) (d : Device) : Type 0 where
   pub plain : IsPlain h
-  pub good : Good 0 h m
-  pub chained : ChainedAt 0 h m
-  pub main : LiesAs 0 r h.size
-  pub at : DeviceAt h r m d
+  pub good : Good q h m
+  pub chained : ChainedAt q h m
+  pub main : LiesAs q r h.size
+  pub at : DeviceAt q h r m d
   pub fresh : d.stores ≡ []
-  pub numbered : OutstandingAt h.size m.scene.past (m.scene.heads 0) outstanding
+  pub numbered : OutstandingAt q h.size m.scene.past (m.scene.heads q) outstanding
 
 -- the disk didn't fail
 abbrev pub NoDiskFault : Stepped → Type 0
@@ -100,21 +101,21 @@ disk_same cap past v w same disk = subst (λ (u : Values). DiskAt cap past u) (s
 
 -- ---- a start
 
-pub start_made : (h : Header1) (r : SplitRing) (m : Moment) (outstanding : OutstandingRequests) (cap : ℕ) (sizes : ℕ → ℕ) (d now : Device) (x : Stepped) → TurnAt h r m outstanding d → is_ready (standing h 0 m) turns.Start ≡ true → DeviceDoes turns.Start cap sizes d now x
-    → TurnMade h r m turns.Start outstanding d now x
-start_made h r m outstanding cap sizes d now x a ready does =
-    let s = start_stands 0 h r m (Some d.memory) x d.queue now.queue a.plain a.good a.main a.at.stands ready does.fine does.does in
+pub start_made : (q : ℕ) (h : Header1) (r : SplitRing) (m : Moment) (outstanding : OutstandingRequests) (cap : ℕ) (sizes : ℕ → ℕ) (d now : Device) (x : Stepped) → TurnAt q h r m outstanding d → is_ready (standing h q m) turns.Start ≡ true → DeviceDoes turns.Start cap sizes d now x
+    → TurnMade q h r m turns.Start outstanding d now x
+start_made q h r m outstanding cap sizes d now x a ready does =
+    let s = start_stands q h r m (Some d.memory) x d.queue now.queue a.plain a.good a.main a.at.stands ready does.fine does.does in
     let none : accepts x ≡ 0 = ap accepts s.said in
-    let same : accepted (one_turn h 0 turns.Start m).next.scene.past 0 ≡ accepted m.scene.past 0 = ap (λ (is : List Item). accepted (after_items h is m.scene).past 0) s.made in
+    let same : accepted (one_turn h q turns.Start m).next.scene.past q ≡ accepted m.scene.past q = ap (λ (is : List Item). accepted (after_items h is m.scene).past q) s.made in
     record {
       goes = ap is_idle s.said;
       made = subst (λ (y : Stepped). IsMade y) (sym s.said) tt;
       at = record {
         stands = s.stands;
         memory_is = some_is now.memory d.memory does.stores_are ∙ a.at.memory_is ∙ sym (ap (λ (is : List Item). (after_items h is m.scene).memory) s.made);
-        disk = disk_same h.capacity (one_turn h 0 turns.Start m).next.scene.past d.values now.values (some_is now.values d.values does.values_are) (turn_disk 0 h m turns.Start d.values tt a.at.disk);
+        disk = disk_same h.capacity (one_turn h q turns.Start m).next.scene.past d.values now.values (some_is now.values d.values does.values_are) (turn_disk q h m turns.Start d.values tt a.at.disk);
       };
-      items_are = s.made ∙ sym (ap (noted outstanding now.values now.stores (shown_of outstanding d.memory d.queue)) s.said);
+      items_are = s.made ∙ sym (ap (noted q outstanding now.values now.stores (shown_of q outstanding d.memory d.queue)) s.said);
       store = subst (λ (y : Stepped). StoreFits y now.stores) (sym s.said) tt;
       sector = subst (λ (y : Stepped). SectorFits h.capacity y) (sym s.said) tt;
       head = subst (λ (y : Stepped). HeadFits h.size y) (sym s.said) tt;
@@ -131,35 +132,35 @@ waits_there batch (phases.Start done) s w u c is ready = absurd is
 waits_there batch (phases.Fetch done) s w u c is ready = absurd is
 
 -- where it is ready, one more is offered
-more_offered : (h : Header1) (m : Moment) → IsPlain h → Good 0 h m → is_ready (standing h 0 m) turns.Fetch ≡ true → accepted m.scene.past 0 < length (m.scene.heads 0)
-more_offered h m plain good ready =
-    let st : Standing = standing h 0 m in
-    let some = some_waits 0 h m.scene (m.lanes 0) plain.good good.holds in
-    let waits = waits_there (m.lanes 0).batch (m.lanes 0).phase st.started st.waiting st.unfinished st.completed (phase_at 0 h m.scene (m.lanes 0) good.holds) ready in
+more_offered : (q : ℕ) (h : Header1) (m : Moment) → IsPlain h → Good q h m → is_ready (standing h q m) turns.Fetch ≡ true → accepted m.scene.past q < length (m.scene.heads q)
+more_offered q h m plain good ready =
+    let st : Standing = standing h q m in
+    let some = some_waits q h m.scene (m.lanes q) plain.good good.holds in
+    let waits = waits_there (m.lanes q).batch (m.lanes q).phase st.started st.waiting st.unfinished st.completed (phase_at q h m.scene (m.lanes q) good.holds) ready in
     omega (arith, some, waits)
 
-pub fetch_made : (h : Header1) (r : SplitRing) (m : Moment) (outstanding : OutstandingRequests) (cap : ℕ) (sizes : ℕ → ℕ) (d now : Device) (x : Stepped) → TurnAt h r m outstanding d → is_ready (standing h 0 m) turns.Fetch ≡ true → DeviceDoes turns.Fetch cap sizes d now x
-    → TurnMade h r m turns.Fetch outstanding d now x
-fetch_made h r m outstanding cap sizes d now x a ready does =
-    let k : ℕ = accepted m.scene.past 0 in
-    let head : ℕ = slice_index (m.scene.heads 0) k in
+pub fetch_made : (q : ℕ) (h : Header1) (r : SplitRing) (m : Moment) (outstanding : OutstandingRequests) (cap : ℕ) (sizes : ℕ → ℕ) (d now : Device) (x : Stepped) → TurnAt q h r m outstanding d → is_ready (standing h q m) turns.Fetch ≡ true → DeviceDoes turns.Fetch cap sizes d now x
+    → TurnMade q h r m turns.Fetch outstanding d now x
+fetch_made q h r m outstanding cap sizes d now x a ready does =
+    let k : ℕ = accepted m.scene.past q in
+    let head : ℕ = slice_index (m.scene.heads q) k in
     let told : Turns turns.Fetch (Some m.scene.memory) x d.queue now.queue = subst (λ (b : Bytes). Turns turns.Fetch (Some b) x d.queue now.queue) a.at.memory_is does.does in
-    let s = fetch_stands 0 h r m x d.queue now.queue a.plain a.good a.main a.at.stands ready does.fine told in
-    let new = not_among-take (published m.scene.past 0) (collected m.scene.past 0) k (new_unpublished 0 h.size h.capacity m.scene.past (m.scene.heads 0) a.good.holds.known) in
-    let offered : k < length (m.scene.heads 0) = more_offered h m a.plain a.good ready in
+    let s = fetch_stands q h r m x d.queue now.queue a.plain a.good a.main a.at.stands ready does.fine told in
+    let new = not_among-take (published m.scene.past q) (collected m.scene.past q) k (new_unpublished q h.size h.capacity m.scene.past (m.scene.heads q) a.good.holds.known) in
+    let offered : k < length (m.scene.heads q) = more_offered q h m a.plain a.good ready in
     let slot = a.numbered.slots k offered new in
     let number : number_at outstanding head ≡ k = ap (λ (o : OutstandingRequest). o.number) slot in
     let one : accepts x ≡ 1 = ap accepts s.said in
-    let more : accepted (one_turn h 0 turns.Fetch m).next.scene.past 0 ≡ k + 1 = ap (λ (is : List Item). accepted (after_items h is m.scene).past 0) s.made in
+    let more : accepted (one_turn h q turns.Fetch m).next.scene.past q ≡ k + 1 = ap (λ (is : List Item). accepted (after_items h is m.scene).past q) s.made ∙ accepted_own m.scene.past q k in
     record {
       goes = ap is_idle s.said;
       made = subst (λ (y : Stepped). IsMade y) (sym s.said) tt;
       at = record {
         stands = s.stands;
         memory_is = some_is now.memory d.memory does.stores_are ∙ a.at.memory_is ∙ sym (ap (λ (is : List Item). (after_items h is m.scene).memory) s.made);
-        disk = disk_same h.capacity (one_turn h 0 turns.Fetch m).next.scene.past d.values now.values (some_is now.values d.values does.values_are) (turn_disk 0 h m turns.Fetch d.values tt a.at.disk);
+        disk = disk_same h.capacity (one_turn h q turns.Fetch m).next.scene.past d.values now.values (some_is now.values d.values does.values_are) (turn_disk q h m turns.Fetch d.values tt a.at.disk);
       };
-      items_are = s.made ∙ ap (λ (n : ℕ). items.Made (entries.Accept 0 n) ∷ []) (sym number) ∙ sym (ap (noted outstanding now.values now.stores (shown_of outstanding d.memory d.queue)) s.said);
+      items_are = s.made ∙ ap (λ (n : ℕ). items.Made (entries.Accept q n) ∷ []) (sym number) ∙ sym (ap (noted q outstanding now.values now.stores (shown_of q outstanding d.memory d.queue)) s.said);
       store = subst (λ (y : Stepped). StoreFits y now.stores) (sym s.said) tt;
       sector = subst (λ (y : Stepped). SectorFits h.capacity y) (sym s.said) tt;
       head = subst (λ (y : Stepped). HeadFits h.size y) (sym s.said) (a.good.holds.queue.driven.below k (record { below = offered; kept = new }));
@@ -203,10 +204,10 @@ row_in : (b : Bool) (u : QueueState) (y : Row) → row_if b u ≡ Some y → nex
 row_in true u y is = is
 row_in false u y is = absurd (let fails : None ≡ Some y = is in cc)
 
-small_row : (most : ℕ) (q : QueueState) (y : Row) → publish_row most q ≡ Some y → y.store.space ≡ 0 → IsSmall y.store
-small_row most q y is space =
-    let u : QueueState = states.under_way most q in
-    record { space = space; few = omega (arith, few_row u (next_step (course_in u) u.phase) y (row_in (publishes most q) u y is)) }
+small_row : (most : ℕ) (state : QueueState) (y : Row) → publish_row most state ≡ Some y → y.store.space ≡ 0 → IsSmall y.store
+small_row most state y is space =
+    let u : QueueState = states.under_way most state in
+    record { space = space; few = omega (arith, few_row u (next_step (course_in u) u.phase) y (row_in (publishes most state) u y is)) }
 
 -- the items of a store
 store_made : (d now : Device) (tag : Tag) (y : Row) → StoredRow d now y → stored_items tag now.stores ≡ items.Store tag M y.store.place y.store.bytes ∷ []
@@ -236,16 +237,16 @@ len_same cap (Some (asks.Discard parts)) simple = absurd simple
 len_same cap (Some (asks.Zero parts)) simple = absurd simple
 
 -- the store of used.idx touches no buffer
-answer_same : (cap : ℕ) (o : Option Asked) (m : Bytes) (p : ℕ) (bs : List ℕ) (k head : ℕ) → IsWide cap o → p + length bs ≤ 65536 → m 0 (status_place (buffer_place (area_place 0) head)) ≡ 0
-    → answer_for (record { number = k; reads = reads_of o }) m head
+answer_same : (q : ℕ) (cap : ℕ) (o : Option Asked) (m : Bytes) (p : ℕ) (bs : List ℕ) (k head : ℕ) → IsWide cap o → p + length bs ≤ area_place q + 65536 → m 0 (status_place (buffer_place (area_place q) head)) ≡ 0
+    → answer_for q (record { number = k; reads = reads_of o }) m head
     ≡ record {
       number = k;
-      status = put m 0 p bs 0 (status_place (buffer_place (area_place 0) head));
-      bytes = bytes_from (answer_len (put m 0 p bs 0 (status_place (buffer_place (area_place 0) head))) o) (put m 0 p bs) 0 (sectors_place (buffer_place (area_place 0) head));
+      status = put m 0 p bs 0 (status_place (buffer_place (area_place q) head));
+      bytes = bytes_from (answer_len (put m 0 p bs 0 (status_place (buffer_place (area_place q) head))) o) (put m 0 p bs) 0 (sectors_place (buffer_place (area_place q) head));
     }
-answer_same cap o m p bs k head simple off good =
-    let place : ℕ = status_place (buffer_place (area_place 0) head) in
-    let sectors : ℕ = sectors_place (buffer_place (area_place 0) head) in
+answer_same q cap o m p bs k head simple off good =
+    let place : ℕ = status_place (buffer_place (area_place q) head) in
+    let sectors : ℕ = sectors_place (buffer_place (area_place q) head) in
     let kept : put m 0 p bs 0 place ≡ m 0 place = put_other m 0 p bs 0 place (inr (inr (omega arith))) in
     let zero_too : put m 0 p bs 0 place ≡ 0 = kept ∙ good in
     let long : cond {A = ℕ} (m 0 place == 0) (512 * reads_of o) 0 ≡ answer_len (put m 0 p bs 0 place) o =
@@ -265,62 +266,62 @@ pub among_right : (xs ys : List ℕ) (k : ℕ) → is_among ys k ≡ true → is
 among_right xs ys k held = let joined : is_among (xs ++ ys) k ≡ (is_among xs k || is_among ys k) = is_among_append xs ys k in grind (arith, nat_tests)
 
 -- the row of the store of used.idx
-index_place : (q : QueueState) (most : ℕ) (y : Row) → ShowsNext q → publish_row most q ≡ Some y → q.ring.used.1 ≡ 8192 → y.store.place + length y.store.bytes ≤ 65536
-index_place q most y next is lies =
-    let goes : is_publication q.phase ≡ true = shows_goes q.phase (course_in q) next in
-    let same : states.under_way most q ≡ q = goes_under_way q most goes in
-    let found : next_row q ≡ Some y = subst (λ (u : QueueState). next_row u ≡ Some y) same (row_in (publishes most q) (states.under_way most q) y is) in
-    let last : ℕ = (q.next_used + length q.batch) % 65536 in
-    let z : Row = row (used_side q.ring) SP5 (used_idx_place (used_side q.ring)) (little_bytes 2 last) in
-    let same_row : z ≡ y = some_is z y (sym (ap (row_at q) next) ∙ found) in
-    subst (λ (x : Row). x.store.place + length x.store.bytes ≤ 65536) same_row (omega (arith, lies, length_little 2 last))
+index_place : (q : ℕ) (state : QueueState) (most : ℕ) (y : Row) → ShowsNext state → publish_row most state ≡ Some y → state.ring.used.1 ≡ area_place q + 8192 → y.store.place + length y.store.bytes ≤ area_place q + 65536
+index_place q state most y next is lies =
+    let goes : is_publication state.phase ≡ true = shows_goes state.phase (course_in state) next in
+    let same : states.under_way most state ≡ state = goes_under_way state most goes in
+    let found : next_row state ≡ Some y = subst (λ (u : QueueState). next_row u ≡ Some y) same (row_in (publishes most state) (states.under_way most state) y is) in
+    let last : ℕ = (state.next_used + length state.batch) % 65536 in
+    let z : Row = row (used_side state.ring) SP5 (used_idx_place (used_side state.ring)) (little_bytes 2 last) in
+    let same_row : z ≡ y = some_is z y (sym (ap (row_at state) next) ∙ found) in
+    subst (λ (x : Row). x.store.place + length x.store.bytes ≤ area_place q + 65536) same_row (omega (arith, lies, length_little 2 last))
 
-answers_same : (h : Header1) (r : SplitRing) (m : Moment) (outstanding : OutstandingRequests) (d : Device) (y : Row) → TurnAt h r m outstanding d → y.store.place + length y.store.bytes ≤ 65536
-    → answers_for outstanding d.memory d.queue.batch ≡ map (answer_at 0 (after_row h y m.scene)) (m.lanes 0).batch
-answers_same h r m outstanding d y a off =
-    let l : Lane = m.lanes 0 in
+answers_same : (q : ℕ) (h : Header1) (r : SplitRing) (m : Moment) (outstanding : OutstandingRequests) (d : Device) (y : Row) → TurnAt q h r m outstanding d → y.store.place + length y.store.bytes ≤ area_place q + 65536
+    → answers_for q outstanding d.memory d.queue.batch ≡ map (answer_at q (after_row h y m.scene)) (m.lanes q).batch
+answers_same q h r m outstanding d y a off =
+    let l : Lane = m.lanes q in
     let past : List Entry = m.scene.past in
-    let heads : List ℕ = m.scene.heads 0 in
-    let f : ℕ × ℕ → Answered = λ x. answer_for (slot_in outstanding x.0) m.scene.memory x.0 in
-    ap (λ (b : Bytes). answers_for outstanding b d.queue.batch) a.at.memory_is
-    ∙ ap (λ (xs : List (ℕ × ℕ)). answers_for outstanding m.scene.memory xs) a.at.stands.batch
-    ∙ map_over f (answer_at 0 (after_row h y m.scene)) (spot_of 0 h past heads) l.batch (λ k held.
+    let heads : List ℕ = m.scene.heads q in
+    let f : ℕ × ℕ → Answered = λ x. answer_for q (slot_in outstanding x.0) m.scene.memory x.0 in
+    ap (λ (b : Bytes). answers_for q outstanding b d.queue.batch) a.at.memory_is
+    ∙ ap (λ (xs : List (ℕ × ℕ)). answers_for q outstanding m.scene.memory xs) a.at.stands.batch
+    ∙ map_over f (answer_at q (after_row h y m.scene)) (spot_of q h past heads) l.batch (λ k held.
     let done : is_among (l.completed ++ l.batch) k ≡ true = among_right l.completed l.batch k held in
-    let out : IsOut 0 past heads k = open_out 0 h.size h.capacity past heads k a.good.holds.known (a.good.holds.worked.opens k done) in
+    let out : IsOut q past heads k = open_out q h.size h.capacity past heads k a.good.holds.known (a.good.holds.worked.opens k done) in
     let head : ℕ = slice_index heads k in
-    ap (λ (o : OutstandingRequest). answer_for o m.scene.memory head) (a.numbered.slots k out.below out.kept)
-    ∙ answer_same h.capacity (asked past 0 k) m.scene.memory y.store.place y.store.bytes k head (a.good.holds.known.wide k out.below) off (a.good.holds.stored.status k done))
+    ap (λ (o : OutstandingRequest). answer_for q o m.scene.memory head) (a.numbered.slots k out.below out.kept)
+    ∙ answer_same q h.capacity (asked past q k) m.scene.memory y.store.place y.store.bytes k head (a.good.holds.known.wide k out.below) off (a.good.holds.stored.status k done))
 
 -- which answers a turn notes
-shown_is : (outstanding : OutstandingRequests) (m : Bytes) (q : QueueState) → ShowsNext q → shown_of outstanding m q ≡ answers_for outstanding m q.batch
-shown_is outstanding m q next = ap (λ (o : Option Step). cond {A = List Answered} (is_index o) (answers_for outstanding m q.batch) []) next
+shown_is : (q : ℕ) (outstanding : OutstandingRequests) (m : Bytes) (state : QueueState) → ShowsNext state → shown_of q outstanding m state ≡ answers_for q outstanding m state.batch
+shown_is q outstanding m state next = ap (λ (o : Option Step). cond {A = List Answered} (is_index o) (answers_for q outstanding m state.batch) []) next
 
 -- what a turn of a publication leaves, whichever step it makes
-left_at : (h : Header1) (r : SplitRing) (m : Moment) (outstanding : OutstandingRequests) (most : ℕ) (d now : Device) (tag : Tag) (y : Row) → TurnAt h r m outstanding d → QueueStands 0 h r (one_turn h 0 (turns.Publish most) m).next now.queue → now.values ≡ d.values
-    → y.store.space ≡ 0 → StoredRow d now y → (one_turn h 0 (turns.Publish most) m).next.scene.memory ≡ (after_items h (items.Store tag M y.store.place y.store.bytes ∷ []) m.scene).memory
-    → DeviceAt h r (one_turn h 0 (turns.Publish most) m).next now
-left_at h r m outstanding most d now tag y a stands values space s memory = record {
+left_at : (q : ℕ) (h : Header1) (r : SplitRing) (m : Moment) (outstanding : OutstandingRequests) (most : ℕ) (d now : Device) (tag : Tag) (y : Row) → TurnAt q h r m outstanding d → QueueStands q h r (one_turn h q (turns.Publish most) m).next now.queue → now.values ≡ d.values
+    → y.store.space ≡ 0 → StoredRow d now y → (one_turn h q (turns.Publish most) m).next.scene.memory ≡ (after_items h (items.Store tag M y.store.place y.store.bytes ∷ []) m.scene).memory
+    → DeviceAt q h r (one_turn h q (turns.Publish most) m).next now
+left_at q h r m outstanding most d now tag y a stands values space s memory = record {
   stands = stands;
   memory_is = row_memory h m d now tag y a.at.memory_is space s ∙ sym memory;
-  disk = disk_same h.capacity (one_turn h 0 (turns.Publish most) m).next.scene.past d.values now.values values (turn_disk 0 h m (turns.Publish most) d.values tt a.at.disk);
+  disk = disk_same h.capacity (one_turn h q (turns.Publish most) m).next.scene.past d.values now.values values (turn_disk q h m (turns.Publish most) d.values tt a.at.disk);
 }
 
 -- the store of used.idx
-show_made : (h : Header1) (r : SplitRing) (m : Moment) (outstanding : OutstandingRequests) (most : ℕ) (d now : Device) (x : Stepped) (y : Row) → TurnAt h r m outstanding d → DeviceAt h r (one_turn h 0 (turns.Publish most) m).next now → HasShown 0 h m most x y → ShowsNext d.queue
-    → StoredRow d now y → IsSmall y.store → y.store.place + length y.store.bytes ≤ 65536 → TurnMade h r m (turns.Publish most) outstanding d now x
-show_made h r m outstanding most d now x y a at has next s small off =
-    let list : List Answered = map (answer_at 0 (after_row h y m.scene)) (m.lanes 0).batch in
+show_made : (q : ℕ) (h : Header1) (r : SplitRing) (m : Moment) (outstanding : OutstandingRequests) (most : ℕ) (d now : Device) (x : Stepped) (y : Row) → TurnAt q h r m outstanding d → DeviceAt q h r (one_turn h q (turns.Publish most) m).next now → HasShown q h m most x y → ShowsNext d.queue
+    → StoredRow d now y → IsSmall y.store → y.store.place + length y.store.bytes ≤ area_place q + 65536 → TurnMade q h r m (turns.Publish most) outstanding d now x
+show_made q h r m outstanding most d now x y a at has next s small off =
+    let list : List Answered = map (answer_at q (after_row h y m.scene)) (m.lanes q).batch in
     let none : accepts x ≡ 0 = ap accepts has.said in
-    let same : accepted (one_turn h 0 (turns.Publish most) m).next.scene.past 0 ≡ accepted m.scene.past 0 = ap (λ (is : List Item). accepted (after_items h is m.scene).past 0) has.items in
-    let answers : shown_of outstanding d.memory d.queue ≡ list = shown_is outstanding d.memory d.queue next ∙ answers_same h r m outstanding d y a off in
+    let same : accepted (one_turn h q (turns.Publish most) m).next.scene.past q ≡ accepted m.scene.past q = ap (λ (is : List Item). accepted (after_items h is m.scene).past q) has.items in
+    let answers : shown_of q outstanding d.memory d.queue ≡ list = shown_is q outstanding d.memory d.queue next ∙ answers_same q h r m outstanding d y a off in
     record {
       goes = ap is_idle has.said;
       made = subst (λ (z : Stepped). IsMade z) (sym has.said) tt;
       at = at;
       items_are = has.items
-          ∙ ap (λ (is : List Item). is ++ items.Made (entries.Publish 0 list) ∷ []) (sym (store_made d now SP5 y s))
-          ∙ ap (λ (xs : List Answered). stored_items SP5 now.stores ++ items.Made (entries.Publish 0 xs) ∷ []) (sym answers)
-          ∙ sym (ap (noted outstanding now.values now.stores (shown_of outstanding d.memory d.queue)) has.said);
+          ∙ ap (λ (is : List Item). is ++ items.Made (entries.Publish q list) ∷ []) (sym (store_made d now SP5 y s))
+          ∙ ap (λ (xs : List Answered). stored_items SP5 now.stores ++ items.Made (entries.Publish q xs) ∷ []) (sym answers)
+          ∙ sym (ap (noted q outstanding now.values now.stores (shown_of q outstanding d.memory d.queue)) has.said);
       store = subst (λ (z : Stepped). StoreFits z now.stores) (sym has.said) (one_small d now y s small);
       sector = subst (λ (z : Stepped). SectorFits h.capacity z) (sym has.said) tt;
       head = subst (λ (z : Stepped). HeadFits h.size z) (sym has.said) tt;
@@ -328,16 +329,16 @@ show_made h r m outstanding most d now x y a at has next s small off =
     }
 
 -- any other store
-part_made : (h : Header1) (r : SplitRing) (m : Moment) (outstanding : OutstandingRequests) (most : ℕ) (d now : Device) (x : Stepped) (y : Row) → DeviceAt h r (one_turn h 0 (turns.Publish most) m).next now
-    → MadeElement (states.under_way most d.queue) x (turned h 0 (turns.Publish most) m).items y → StoredRow d now y → IsSmall y.store → TurnMade h r m (turns.Publish most) outstanding d now x
-part_made h r m outstanding most d now x y at part s small =
+part_made : (q : ℕ) (h : Header1) (r : SplitRing) (m : Moment) (outstanding : OutstandingRequests) (most : ℕ) (d now : Device) (x : Stepped) (y : Row) → DeviceAt q h r (one_turn h q (turns.Publish most) m).next now
+    → MadeElement (states.under_way most d.queue) x (turned h q (turns.Publish most) m).items y → StoredRow d now y → IsSmall y.store → TurnMade q h r m (turns.Publish most) outstanding d now x
+part_made q h r m outstanding most d now x y at part s small =
     let none : accepts x ≡ 0 = ap accepts part.said in
-    let same : accepted (one_turn h 0 (turns.Publish most) m).next.scene.past 0 ≡ accepted m.scene.past 0 = ap (λ (is : List Item). accepted (after_items h is m.scene).past 0) part.items in
+    let same : accepted (one_turn h q (turns.Publish most) m).next.scene.past q ≡ accepted m.scene.past q = ap (λ (is : List Item). accepted (after_items h is m.scene).past q) part.items in
     record {
       goes = ap is_idle part.said;
       made = subst (λ (z : Stepped). IsMade z) (sym part.said) tt;
       at = at;
-      items_are = part.items ∙ sym (store_made d now y.tag y s) ∙ sym (ap (noted outstanding now.values now.stores (shown_of outstanding d.memory d.queue)) part.said);
+      items_are = part.items ∙ sym (store_made d now y.tag y s) ∙ sym (ap (noted q outstanding now.values now.stores (shown_of q outstanding d.memory d.queue)) part.said);
       store = subst (λ (z : Stepped). StoreFits z now.stores) (sym part.said) (one_small d now y s small);
       sector = subst (λ (z : Stepped). SectorFits h.capacity z) (sym part.said) tt;
       head = subst (λ (z : Stepped). HeadFits h.size z) (sym part.said) tt;
@@ -345,8 +346,8 @@ part_made h r m outstanding most d now x y at part s small =
     }
 
 -- whether the next step shows the batch
-shows_cases : (q : QueueState) → ShowsNext q ⊎ (ShowsNext q → ⊥)
-shows_cases q = go (next_step (course_in q) q.phase)
+shows_cases : (state : QueueState) → ShowsNext state ⊎ (ShowsNext state → ⊥)
+shows_cases state = go (next_step (course_in state) state.phase)
   where
     go : (o : Option Step) → (o ≡ Some steps.Index) ⊎ (o ≡ Some steps.Index → ⊥)
     go None = inr (λ e. let fails : None ≡ Some steps.Index = e in cc)
@@ -356,27 +357,27 @@ shows_cases q = go (next_step (course_in q) q.phase)
     go (Some (steps.Len k)) = inr (λ e. let fails : Some (steps.Len k) ≡ Some steps.Index = e in cc)
     go (Some steps.Index) = inl refl
 
-pub publish_made : (h : Header1) (r : SplitRing) (m : Moment) (outstanding : OutstandingRequests) (cap : ℕ) (sizes : ℕ → ℕ) (most : ℕ) (d now : Device) (x : Stepped) → TurnAt h r m outstanding d → is_ready (standing h 0 m) (turns.Publish most) ≡ true
-    → DeviceDoes (turns.Publish most) cap sizes d now x → TurnMade h r m (turns.Publish most) outstanding d now x
-publish_made h r m outstanding cap sizes most d now x a ready does =
+pub publish_made : (q : ℕ) (h : Header1) (r : SplitRing) (m : Moment) (outstanding : OutstandingRequests) (cap : ℕ) (sizes : ℕ → ℕ) (most : ℕ) (d now : Device) (x : Stepped) → TurnAt q h r m outstanding d → is_ready (standing h q m) (turns.Publish most) ≡ true
+    → DeviceDoes (turns.Publish most) cap sizes d now x → TurnMade q h r m (turns.Publish most) outstanding d now x
+publish_made q h r m outstanding cap sizes most d now x a ready does =
     let t : Turn = turns.Publish most in
-    let found = row_stands 0 h r m most (Some d.memory) x d.queue now.queue a.plain a.good a.main a.at.stands ready does.fine does.does in
+    let found = row_stands q h r m most (Some d.memory) x d.queue now.queue a.plain a.good a.main a.at.stands ready does.fine does.does in
     let y : Row = found.0 in
-    let p : HasPublished 0 h r m most x d.queue now.queue y = found.1 in
+    let p : HasPublished q h r m most x d.queue now.queue y = found.1 in
     let small : IsSmall y.store = small_row most d.queue y p.row p.space in
     let values : now.values ≡ d.values = some_is now.values d.values does.values_are in
     elim (shows_cases d.queue) [
       | inl next ↦
-          let has : HasShown 0 h m most x y = shown_stands 0 h r m most x d.queue now.queue y a.at.stands p next in
+          let has : HasShown q h m most x y = shown_stands q h r m most x d.queue now.queue y a.at.stands p next in
           let s : StoredRow d now y = stored_row d now x (publish_row most d.queue) y (ap outcome has.said) p.row a.fresh does.stores_are does.trails in
-          let off = index_place d.queue most y next p.row (ap (λ (z : SplitRing). z.used.1) a.at.stands.ring ∙ a.main.used) in
-          let at = left_at h r m outstanding most d now SP5 y a p.stands values p.space s (ap (λ (is : List Item). (after_items h is m.scene).memory) has.items) in
-          show_made h r m outstanding most d now x y a at has next s small off
+          let off = index_place q d.queue most y next p.row (ap (λ (z : SplitRing). z.used.1) a.at.stands.ring ∙ a.main.used) in
+          let at = left_at q h r m outstanding most d now SP5 y a p.stands values p.space s (ap (λ (is : List Item). (after_items h is m.scene).memory) has.items) in
+          show_made q h r m outstanding most d now x y a at has next s small off
       | inr other ↦
-          let part = stored_stands 0 h r m most x d.queue now.queue y a.good a.at.stands ready p other in
+          let part = stored_stands q h r m most x d.queue now.queue y a.good a.at.stands ready p other in
           let s : StoredRow d now y = stored_row d now x (publish_row most d.queue) y (ap outcome part.said) p.row a.fresh does.stores_are does.trails in
-          let at = left_at h r m outstanding most d now y.tag y a p.stands values p.space s (ap (λ (is : List Item). (after_items h is m.scene).memory) part.items) in
-          part_made h r m outstanding most d now x y at part s small
+          let at = left_at q h r m outstanding most d now y.tag y a p.stands values p.space s (ap (λ (is : List Item). (after_items h is m.scene).memory) part.items) in
+          part_made q h r m outstanding most d now x y at part s small
     ]
 
 -- ---- a turn that isn't due
@@ -394,11 +395,11 @@ idle_values (turns.Work place) v w is does = absurd is
 idle_values (turns.Publish most) v w is does = some_is w v does
 
 -- whether a publication is ready doesn't depend on what waits
-unready_still : (h : Header1) (r : SplitRing) (m : Moment) (t : Turn) (q : QueueState) → LiesAs 0 r h.size → Holds 0 h m.scene (m.lanes 0) → QueueStands 0 h r m q → IsPhaseTurn t → is_ready (standing h 0 m) t ≡ false → (is_ready (states.standing_at q 0) t ≡ false) ⊎ IsEarly t
-unready_still h r m turns.Start q main holds z is unready = inr tt
-unready_still h r m turns.Fetch q main holds z is unready = inr tt
-unready_still h r m (turns.Work place) q main holds z is unready = absurd is
-unready_still h r m (turns.Publish most) q main holds z is unready = inl (ready_same 0 h r m q (turns.Publish most) main holds z ∙ unready)
+unready_still : (q : ℕ) (h : Header1) (r : SplitRing) (m : Moment) (t : Turn) (state : QueueState) → LiesAs q r h.size → Holds q h m.scene (m.lanes q) → QueueStands q h r m state → IsPhaseTurn t → is_ready (standing h q m) t ≡ false → (is_ready (states.standing_at state 0) t ≡ false) ⊎ IsEarly t
+unready_still q h r m turns.Start state main holds z is unready = inr tt
+unready_still q h r m turns.Fetch state main holds z is unready = inr tt
+unready_still q h r m (turns.Work place) state main holds z is unready = absurd is
+unready_still q h r m (turns.Publish most) state main holds z is unready = inl (ready_same q h r m state (turns.Publish most) main holds z ∙ unready)
 
 idle_memory : (t : Turn) (d now : Device) (x : Stepped) → IsPhaseTurn t → (is_ready (states.standing_at d.queue 0) t ≡ false) ⊎ IsEarly t → DoesStore t (Some d.memory) (Some now.memory) x d.queue → now.memory ≡ d.memory
 idle_memory turns.Start d now x is unready stores = some_is now.memory d.memory stores
@@ -409,16 +410,16 @@ idle_memory (turns.Publish most) d now x is (inl unready) stores =
     some_is now.memory d.memory (subst (λ (o : Option Row). StoresRow (Some d.memory) (Some now.memory) x o) none stores)
 idle_memory (turns.Publish most) d now x is (inr early) stores = absurd early
 
-pub idle_made : (h : Header1) (r : SplitRing) (m : Moment) (outstanding : OutstandingRequests) (cap : ℕ) (sizes : ℕ → ℕ) (t : Turn) (d now : Device) (x : Stepped) → TurnAt h r m outstanding d → IsPhaseTurn t → is_ready (standing h 0 m) t ≡ false
-    → DeviceDoes t cap sizes d now x → (x ≡ says.Idle) × DeviceAt h r m now
-idle_made h r m outstanding cap sizes t d now x a is unready does =
+pub idle_made : (q : ℕ) (h : Header1) (r : SplitRing) (m : Moment) (outstanding : OutstandingRequests) (cap : ℕ) (sizes : ℕ → ℕ) (t : Turn) (d now : Device) (x : Stepped) → TurnAt q h r m outstanding d → IsPhaseTurn t → is_ready (standing h q m) t ≡ false
+    → DeviceDoes t cap sizes d now x → (x ≡ says.Idle) × DeviceAt q h r m now
+idle_made q h r m outstanding cap sizes t d now x a is unready does =
     let told : Turns t (Some m.scene.memory) x d.queue now.queue = subst (λ (b : Bytes). Turns t (Some b) x d.queue now.queue) a.at.memory_is does.does in
-    let idle = idle_stands 0 h r m t x d.queue now.queue a.main a.good.holds a.at.stands is unready does.fine told in
+    let idle = idle_stands q h r m t x d.queue now.queue a.main a.good.holds a.at.stands is unready does.fine told in
     let values : now.values ≡ d.values = idle_values t d.values now.values is does.values_are in (
       idle.0,
       record {
-        stands = subst (λ (q : QueueState). QueueStands 0 h r m q) (sym idle.1) a.at.stands;
-        memory_is = idle_memory t d now x is (unready_still h r m t d.queue a.main a.good.holds a.at.stands is unready) does.stores_are ∙ a.at.memory_is;
+        stands = subst (λ (state : QueueState). QueueStands q h r m state) (sym idle.1) a.at.stands;
+        memory_is = idle_memory t d now x is (unready_still q h r m t d.queue a.main a.good.holds a.at.stands is unready) does.stores_are ∙ a.at.memory_is;
         disk = disk_same h.capacity m.scene.past d.values now.values values a.at.disk;
       },
     )

@@ -12,6 +12,7 @@ use Rattle.vub_steps.specs.declared.readiness.Turn.{Turn}
 use Rattle.vub_steps.specs.declared.readiness.Turn.TheVariants as turns
 use Rattle.vub_steps.specs.Readiness.{is_ready, chosen}
 use Rattle.vub_steps.proofs.ReadinessLemmas.{any_works, drain_works}
+use Rattle.vub_driver.specs.Layout.{area_place}
 use Rattle.vub_device.specs.declared.entry.Asked.{Asked}
 use Rattle.vub_device.specs.declared.entry.Entry.TheVariants as entries
 use Rattle.vub_device.specs.Past.{accepted}
@@ -82,20 +83,20 @@ says_well h head made request step (inr (inr (inr (inr x)))) =
     (record { looks = λ d t v e. refl; sector = tt })
 
 -- what a turn of work notes
-pub record NotesWork (h : Header1) (m : Moment) (t : Turn) (outstanding : OutstandingRequests) (d now : Device) (x : Stepped) : Type 0 where
+pub record NotesWork (q : ℕ) (h : Header1) (m : Moment) (t : Turn) (outstanding : OutstandingRequests) (d now : Device) (x : Stepped) : Type 0 where
   pub goes : is_idle x ≡ false
   pub made : IsMade x
-  pub items_are : (one_turn h 0 t m).items ≡ noted outstanding now.values now.stores (shown_of outstanding d.memory d.queue) x
+  pub items_are : (one_turn h q t m).items ≡ noted q outstanding now.values now.stores (shown_of q outstanding d.memory d.queue) x
   pub store : StoreFits x now.stores
   pub head : HeadFits h.size x
   pub none : accepts x ≡ 0
-  pub same : accepted (one_turn h 0 t m).next.scene.past 0 ≡ accepted m.scene.past 0
+  pub same : accepted (one_turn h q t m).next.scene.past q ≡ accepted m.scene.past q
 
 -- of one store
-stores_noted : (h : Header1) (m : Moment) (t : Turn) (outstanding : OutstandingRequests) (d now : Device) (tag : Tag) (x : Stepped) (task : Task) (n : Making) → d.stores ≡ [] → Some now.stores ≡ option_map (with_maybe (due_store d.queue task n)) (Some d.stores)
-    → ShowsStore tag d.queue task n (turned h 0 t m).items → is_idle x ≡ false → IsMade x → HeadFits h.size x → accepts x ≡ 0 → noted outstanding now.values now.stores (shown_of outstanding d.memory d.queue) x ≡ stored_items tag now.stores → StoreFits x now.stores ≡ OneSmall now.stores
-    → NotesWork h m t outstanding d now x
-stores_noted h m t outstanding d now tag x task n fresh trails shows goes made head none notes fits =
+stores_noted : (q : ℕ) (h : Header1) (m : Moment) (t : Turn) (outstanding : OutstandingRequests) (d now : Device) (tag : Tag) (x : Stepped) (task : Task) (n : Making) → d.stores ≡ [] → Some now.stores ≡ option_map (with_maybe (due_store d.queue task n)) (Some d.stores)
+    → ShowsStore tag d.queue task n (turned h q t m).items → is_idle x ≡ false → IsMade x → HeadFits h.size x → accepts x ≡ 0 → noted q outstanding now.values now.stores (shown_of q outstanding d.memory d.queue) x ≡ stored_items tag now.stores → StoreFits x now.stores ≡ OneSmall now.stores
+    → NotesWork q h m t outstanding d now x
+stores_noted q h m t outstanding d now tag x task n fresh trails shows goes made head none notes fits =
     let st : Store = one_store 0 shows.place shows.bytes in
     let kept : now.stores ≡ st ∷ [] = some_is now.stores (with_maybe (due_store d.queue task n) d.stores) trails ∙ ap (λ (o : Option Store). with_maybe o d.stores) shows.due ∙ ap (λ (l : List Store). with_maybe (Some st) l) fresh in
     let small : OneSmall now.stores = subst (λ (l : List Store). OneSmall l) (sym kept) (record { space = refl; few = omega (arith, shows.few) }) in
@@ -106,7 +107,7 @@ stores_noted h m t outstanding d now tag x task n fresh trails shows goes made h
       store = subst (λ (T : Type 0). T) (sym fits) small;
       head = head;
       none = none;
-      same = ap (λ (is : List Item). accepted (after_items h is m.scene).past 0) shows.items;
+      same = ap (λ (is : List Item). accepted (after_items h is m.scene).past q) shows.items;
     }
 
 -- what is known of the step that is made
@@ -118,81 +119,81 @@ pub record Makes (size : ℕ) (outstanding : OutstandingRequests) (d now : Devic
   pub trails : Some now.stores ≡ option_map (with_maybe (due_store d.queue task n)) (Some d.stores)
   pub looks : (head sector : ℕ) (v : Values) → x ≡ says.Looked head sector → values_after n.request n.step v ≡ v
 
-work_noted : (h : Header1) (m : Moment) (t : Turn) (outstanding : OutstandingRequests) (d now : Device) (k : ℕ) (task : Task) (n : Making) (x : Stepped) → Makes h.size outstanding d now k task n x → Shows 0 d.values d.queue k task n (turned h 0 t m).items x → NotesWork h m t outstanding d now x
-work_noted h m t outstanding d now k task n (says.Looked head sector) g shows =
+work_noted : (q : ℕ) (h : Header1) (m : Moment) (t : Turn) (outstanding : OutstandingRequests) (d now : Device) (k : ℕ) (task : Task) (n : Making) (x : Stepped) → Makes h.size outstanding d now k task n x → Shows q d.values d.queue k task n (turned h q t m).items x → NotesWork q h m t outstanding d now x
+work_noted q h m t outstanding d now k task n (says.Looked head sector) g shows =
     let values : now.values ≡ d.values = g.values_are ∙ g.looks head sector d.values refl in
     let number : number_at outstanding head ≡ k = ap (number_at outstanding) shows.0 ∙ g.number in
     record {
       goes = refl;
       made = tt;
-      items_are = shows.1 ∙ ap (λ (j : ℕ). items.Made (entries.Look 0 j sector (d.values sector)) ∷ []) (sym number) ∙ ap (λ (v : Values). items.Made (entries.Look 0 (number_at outstanding head) sector (v sector)) ∷ []) (sym values);
+      items_are = shows.1 ∙ ap (λ (j : ℕ). items.Made (entries.Look q j sector (d.values sector)) ∷ []) (sym number) ∙ ap (λ (v : Values). items.Made (entries.Look q (number_at outstanding head) sector (v sector)) ∷ []) (sym values);
       store = tt;
       head = omega (arith, shows.0, g.below);
       none = refl;
-      same = ap (λ (is : List Item). accepted (after_items h is m.scene).past 0) shows.1;
+      same = ap (λ (is : List Item). accepted (after_items h is m.scene).past q) shows.1;
     }
-work_noted h m t outstanding d now k task n (says.Acted head sector) g shows =
+work_noted q h m t outstanding d now k task n (says.Acted head sector) g shows =
     let number : number_at outstanding head ≡ k = ap (number_at outstanding) shows.0 ∙ g.number in
     record {
       goes = refl;
       made = tt;
       items_are = shows.1
-          ∙ ap (λ (j : ℕ). items.Made (entries.Act 0 j sector (values_after n.request n.step d.values sector)) ∷ []) (sym number)
-          ∙ ap (λ (v : Values). items.Made (entries.Act 0 (number_at outstanding head) sector (v sector)) ∷ []) (sym g.values_are);
+          ∙ ap (λ (j : ℕ). items.Made (entries.Act q j sector (values_after n.request n.step d.values sector)) ∷ []) (sym number)
+          ∙ ap (λ (v : Values). items.Made (entries.Act q (number_at outstanding head) sector (v sector)) ∷ []) (sym g.values_are);
       store = tt;
       head = omega (arith, shows.0, g.below);
       none = refl;
-      same = ap (λ (is : List Item). accepted (after_items h is m.scene).past 0) shows.1;
+      same = ap (λ (is : List Item). accepted (after_items h is m.scene).past q) shows.1;
     }
-work_noted h m t outstanding d now k task n (says.Stored tag) g shows =
-    stores_noted h m t outstanding d now T2 (says.Stored tag) task n g.fresh g.trails shows.1 refl tt tt refl (ap (λ (y : Tag). stored_items y now.stores) shows.0) refl
-work_noted h m t outstanding d now k task n (says.Completed head) g shows = stores_noted h m t outstanding d now T5 (says.Completed head) task n g.fresh g.trails shows.1 refl tt tt refl refl refl
-work_noted h m t outstanding d now k task n says.Idle g shows = absurd shows
-work_noted h m t outstanding d now k task n (says.Accepted head) g shows = absurd shows
-work_noted h m t outstanding d now k task n (says.Synced head) g shows =
+work_noted q h m t outstanding d now k task n (says.Stored tag) g shows =
+    stores_noted q h m t outstanding d now T2 (says.Stored tag) task n g.fresh g.trails shows.1 refl tt tt refl (ap (λ (y : Tag). stored_items y now.stores) shows.0) refl
+work_noted q h m t outstanding d now k task n (says.Completed head) g shows = stores_noted q h m t outstanding d now T5 (says.Completed head) task n g.fresh g.trails shows.1 refl tt tt refl refl refl
+work_noted q h m t outstanding d now k task n says.Idle g shows = absurd shows
+work_noted q h m t outstanding d now k task n (says.Accepted head) g shows = absurd shows
+work_noted q h m t outstanding d now k task n (says.Synced head) g shows =
     let number : number_at outstanding head ≡ k = ap (number_at outstanding) shows.0 ∙ g.number in
     record {
       goes = refl;
       made = tt;
-      items_are = shows.1 ∙ ap (λ (j : ℕ). items.Made (entries.Sync 0 j) ∷ []) (sym number);
+      items_are = shows.1 ∙ ap (λ (j : ℕ). items.Made (entries.Sync q j) ∷ []) (sym number);
       store = tt;
       head = omega (arith, shows.0, g.below);
       none = refl;
-      same = ap (λ (is : List Item). accepted (after_items h is m.scene).past 0) shows.1;
+      same = ap (λ (is : List Item). accepted (after_items h is m.scene).past q) shows.1;
     }
-work_noted h m t outstanding d now k task n (says.Faulted head) g shows = absurd shows
-work_noted h m t outstanding d now k task n says.Published g shows = absurd shows
-work_noted h m t outstanding d now k task n says.Started g shows = absurd shows
-work_noted h m t outstanding d now k task n says.SharedFault g shows = absurd shows
-work_noted h m t outstanding d now k task n (says.Broken fault) g shows = absurd shows
+work_noted q h m t outstanding d now k task n (says.Faulted head) g shows = absurd shows
+work_noted q h m t outstanding d now k task n says.Published g shows = absurd shows
+work_noted q h m t outstanding d now k task n says.Started g shows = absurd shows
+work_noted q h m t outstanding d now k task n says.SharedFault g shows = absurd shows
+work_noted q h m t outstanding d now k task n (says.Broken fault) g shows = absurd shows
 
-pub work_made : (h : Header1) (r : SplitRing) (m : Moment) (outstanding : OutstandingRequests) (sizes : ℕ → ℕ) (place : ℕ) (d now : Device) (x : Stepped) → TurnAt h r m outstanding d → 1048576 ≤ sizes 0 → is_ready (standing h 0 m) (turns.Work place) ≡ true
-    → DeviceDoes (turns.Work place) h.capacity sizes d now x → TurnMade h r m (turns.Work place) outstanding d now x
-work_made h r m outstanding sizes place d now x a room ready does =
-    let q : QueueState = d.queue in
-    let w : WorkReady 0 h sizes m q place = work_ready 0 h m r sizes q place a.plain a.good a.chained a.main room a.at.stands ready in
+pub work_made : (q : ℕ) (h : Header1) (r : SplitRing) (m : Moment) (outstanding : OutstandingRequests) (sizes : ℕ → ℕ) (place : ℕ) (d now : Device) (x : Stepped) → TurnAt q h r m outstanding d → area_place q + 1048576 ≤ sizes 0 → is_ready (standing h q m) (turns.Work place) ≡ true
+    → DeviceDoes (turns.Work place) h.capacity sizes d now x → TurnMade q h r m (turns.Work place) outstanding d now x
+work_made q h r m outstanding sizes place d now x a room ready does =
+    let state : QueueState = d.queue in
+    let w : WorkReady q h sizes m state place = work_ready q h m r sizes state place a.plain a.good a.chained a.main room a.at.stands ready in
     let n : Making = making w in
-    let due : IsDue h.capacity sizes q d.memory place w.task n = subst (λ (b : Bytes). IsDue h.capacity sizes q b place w.task n) (sym a.at.memory_is) w.due in
-    let out : WorksOut place w.task n d.memory (Some now.memory) (Some d.stores) (Some now.stores) (Some d.values) (Some now.values) x q now.queue = stepped_out x _ does.fine does.served (does.made place w.task n refl due) in
-    let kind = work_kind 0 h sizes m q place w a.plain a.good in
-    let well : SaysWell h.capacity w.request w.step (said (head_in w.task) (answer_in n)) = says_well h (head_in w.task) ((m.lanes 0).made w.k) w.request w.step kind in
+    let due : IsDue h.capacity sizes state d.memory place w.task n = subst (λ (b : Bytes). IsDue h.capacity sizes state b place w.task n) (sym a.at.memory_is) w.due in
+    let out : WorksOut place w.task n d.memory (Some now.memory) (Some d.stores) (Some now.stores) (Some d.values) (Some now.values) x state now.queue = stepped_out x _ does.fine does.served (does.made place w.task n refl due) in
+    let kind = work_kind q h sizes m state place w a.plain a.good in
+    let well : SaysWell h.capacity w.request w.step (said (head_in w.task) (answer_in n)) = says_well h (head_in w.task) ((m.lanes q).made w.k) w.request w.step kind in
     let well_too : SaysWell h.capacity w.request w.step x = subst (λ (y : Stepped). SaysWell h.capacity w.request w.step y) (sym out.says) well in
-    let shows : Shows 0 d.values q w.k w.task n (turned h 0 (turns.Work place) m).items x =
-    subst (λ (y : Stepped). Shows 0 d.values q w.k w.task n (turned h 0 (turns.Work place) m).items y) (sym out.says) (work_items 0 h sizes m r q place d.values w a.plain a.good a.main a.at.stands a.at.disk) in
-    let is_out : IsOut 0 m.scene.past (m.scene.heads 0) w.k = open_out 0 h.size h.capacity m.scene.past (m.scene.heads 0) w.k a.good.holds.known w.is_open in
+    let shows : Shows q d.values state w.k w.task n (turned h q (turns.Work place) m).items x =
+    subst (λ (y : Stepped). Shows q d.values state w.k w.task n (turned h q (turns.Work place) m).items y) (sym out.says) (work_items q h sizes m r state place d.values w a.plain a.good a.main a.at.stands a.at.disk) in
+    let is_out : IsOut q m.scene.past (m.scene.heads q) w.k = open_out q h.size h.capacity m.scene.past (m.scene.heads q) w.k a.good.holds.known w.is_open in
     let below : head_in w.task < h.size = omega (arith, w.head, a.good.holds.queue.driven.below w.k is_out) in
     let number : number_at outstanding (head_in w.task) ≡ w.k = ap (number_at outstanding) w.head ∙ ap (λ (o : OutstandingRequest). o.number) (a.numbered.slots w.k is_out.below is_out.kept) in
     let values : now.values ≡ values_after w.request w.step d.values = some_is now.values (values_after w.request w.step d.values) out.values in
-    let notes : NotesWork h m (turns.Work place) outstanding d now x = work_noted h m (turns.Work place) outstanding d now w.k w.task n x (record { fresh = a.fresh; below = below; number = number; values_are = values; trails = out.trails; looks = well_too.looks }) shows in
-    let memory : now.memory ≡ memory_after q.ring n (sector_at q (head_in w.task)) m.scene.memory =
-    some_is now.memory (memory_after q.ring n (sector_at q (head_in w.task)) d.memory) out.stores ∙ ap (memory_after q.ring n (sector_at q (head_in w.task))) a.at.memory_is in
+    let notes : NotesWork q h m (turns.Work place) outstanding d now x = work_noted q h m (turns.Work place) outstanding d now w.k w.task n x (record { fresh = a.fresh; below = below; number = number; values_are = values; trails = out.trails; looks = well_too.looks }) shows in
+    let memory : now.memory ≡ memory_after state.ring n (sector_at state (head_in w.task)) m.scene.memory =
+    some_is now.memory (memory_after state.ring n (sector_at state (head_in w.task)) d.memory) out.stores ∙ ap (memory_after state.ring n (sector_at state (head_in w.task))) a.at.memory_is in
     record {
       goes = notes.goes;
       made = notes.made;
       at = record {
-        stands = work_stands 0 h sizes m r q now.queue place d.values w a.plain a.good a.at.stands a.at.disk out.leaves;
-        memory_is = memory ∙ sym (work_memory 0 h sizes m r q place w a.plain a.good a.main a.at.stands);
-        disk = subst (λ (v : Values). DiskAt h.capacity (one_turn h 0 (turns.Work place) m).next.scene.past v) (sym values) (work_disk 0 h sizes m q place d.values w a.plain a.good a.at.disk);
+        stands = work_stands q h sizes m r state now.queue place d.values w a.plain a.good a.at.stands a.at.disk out.leaves;
+        memory_is = memory ∙ sym (work_memory q h sizes m r state place w a.plain a.good a.main a.at.stands);
+        disk = subst (λ (v : Values). DiskAt h.capacity (one_turn h q (turns.Work place) m).next.scene.past v) (sym values) (work_disk q h sizes m state place d.values w a.plain a.good a.at.disk);
       };
       items_are = notes.items_are;
       store = notes.store;
@@ -213,11 +214,11 @@ work_asked size s (choices.Drain accepted) place is unready = absurd (let fails 
 abbrev pub RestsAt : Device → Device → Stepped → Type 0
 RestsAt d now x = Rests (Some d.memory) (Some now.memory) (Some d.stores) (Some now.stores) (Some d.values) (Some now.values) x d.queue now.queue
 
-rests_at : (h : Header1) (r : SplitRing) (m : Moment) (outstanding : OutstandingRequests) (d now : Device) (x : Stepped) → TurnAt h r m outstanding d → RestsAt d now x → (x ≡ says.Idle) × DeviceAt h r m now
-rests_at h r m outstanding d now x a rests = (
+rests_at : (q : ℕ) (h : Header1) (r : SplitRing) (m : Moment) (outstanding : OutstandingRequests) (d now : Device) (x : Stepped) → TurnAt q h r m outstanding d → RestsAt d now x → (x ≡ says.Idle) × DeviceAt q h r m now
+rests_at q h r m outstanding d now x a rests = (
   rests.idle,
   record {
-    stands = subst (λ (q : QueueState). QueueStands 0 h r m q) (sym rests.state) a.at.stands;
+    stands = subst (λ (state : QueueState). QueueStands q h r m state) (sym rests.state) a.at.stands;
     memory_is = some_is now.memory d.memory rests.stores ∙ a.at.memory_is;
     disk = disk_same h.capacity m.scene.past d.values now.values (some_is now.values d.values rests.values) a.at.disk;
   },
@@ -226,11 +227,11 @@ rests_at h r m outstanding d now x a rests = (
 -- ---- any turn
 
 -- it is made where it is due, and else nothing is
-pub device_turns : (h : Header1) (r : SplitRing) (m : Moment) (outstanding : OutstandingRequests) (sizes : ℕ → ℕ) (t : Turn) (d now : Device) (x : Stepped) → TurnAt h r m outstanding d → 1048576 ≤ sizes 0
-    → ((place : ℕ) → t ≡ turns.Work place → is_ready (standing h 0 m) (turns.Work place) ≡ false → RestsAt d now x) → DeviceDoes t h.capacity sizes d now x → DeviceTurns h r m t outstanding d now x
-device_turns h r m outstanding sizes turns.Start d now x a room rests does = (λ ready. start_made h r m outstanding h.capacity sizes d now x a ready does, λ unready. idle_made h r m outstanding h.capacity sizes turns.Start d now x a tt unready does)
-device_turns h r m outstanding sizes turns.Fetch d now x a room rests does = (λ ready. fetch_made h r m outstanding h.capacity sizes d now x a ready does, λ unready. idle_made h r m outstanding h.capacity sizes turns.Fetch d now x a tt unready does)
-device_turns h r m outstanding sizes (turns.Publish most) d now x a room rests does =
-    (λ ready. publish_made h r m outstanding h.capacity sizes most d now x a ready does, λ unready. idle_made h r m outstanding h.capacity sizes (turns.Publish most) d now x a tt unready does)
-device_turns h r m outstanding sizes (turns.Work place) d now x a room rests does =
-    (λ ready. work_made h r m outstanding sizes place d now x a room ready does, λ unready. rests_at h r m outstanding d now x a (rests place refl unready))
+pub device_turns : (q : ℕ) (h : Header1) (r : SplitRing) (m : Moment) (outstanding : OutstandingRequests) (sizes : ℕ → ℕ) (t : Turn) (d now : Device) (x : Stepped) → TurnAt q h r m outstanding d → area_place q + 1048576 ≤ sizes 0
+    → ((place : ℕ) → t ≡ turns.Work place → is_ready (standing h q m) (turns.Work place) ≡ false → RestsAt d now x) → DeviceDoes t h.capacity sizes d now x → DeviceTurns q h r m t outstanding d now x
+device_turns q h r m outstanding sizes turns.Start d now x a room rests does = (λ ready. start_made q h r m outstanding h.capacity sizes d now x a ready does, λ unready. idle_made q h r m outstanding h.capacity sizes turns.Start d now x a tt unready does)
+device_turns q h r m outstanding sizes turns.Fetch d now x a room rests does = (λ ready. fetch_made q h r m outstanding h.capacity sizes d now x a ready does, λ unready. idle_made q h r m outstanding h.capacity sizes turns.Fetch d now x a tt unready does)
+device_turns q h r m outstanding sizes (turns.Publish most) d now x a room rests does =
+    (λ ready. publish_made q h r m outstanding h.capacity sizes most d now x a ready does, λ unready. idle_made q h r m outstanding h.capacity sizes (turns.Publish most) d now x a tt unready does)
+device_turns q h r m outstanding sizes (turns.Work place) d now x a room rests does =
+    (λ ready. work_made q h r m outstanding sizes place d now x a room ready does, λ unready. rests_at q h r m outstanding d now x a (rests place refl unready))

@@ -1,5 +1,5 @@
 -- The machine stands at a moment of a run.
-use Rattle.std.specs.Prelude.{◌≡◌, ◌<◌, ℕ, ◌+◌, ◌%◌, true, false, List, [], ◌∷◌, ◌++◌, length, take, slice_index, Bool, Option, Some, None, ⊤}
+use Rattle.std.specs.Prelude.{◌≡◌, ◌<◌, ℕ, ◌+◌, ◌%◌, true, false, List, [], ◌∷◌, ◌++◌, length, take, slice_index, slice_get, Bool, Option, Some, None, is_some, ⊤}
 use Rattle.vub_base.specs.declared.header.Header1.{Header1}
 use Rattle.vub_base.specs.declared.request.Ask.{Ask}
 use Rattle.vub_shared.specs.Watched.{bytes_in}
@@ -19,6 +19,8 @@ use Rattle.vub_world.specs.declared.outstanding.OutstandingRequests.{Outstanding
 use Rattle.vub_queue.specs.declared.queue.Queue.{Queue}
 use Rattle.vub_world.specs.declared.machine.Life.{Life}
 use Rattle.vub_world.specs.declared.machine.Machine.{Machine}
+use Rattle.vub_world.specs.declared.front.Front.{Front}
+use Rattle.vub_world.specs.Fronts.{Desk, Parts, desk_of, parts_of}
 use Rattle.vub_world.specs.OutstandingRequests.{offered_in, collected_in, size_in, slot_in}
 use Rattle.vub_guest.specs.GuestState.{driver_in, last_used_in}
 use Rattle.vub_queue.specs.QueueState.{state_of}
@@ -33,19 +35,19 @@ AskAt None asked = asked ≡ None
 AskAt (Some w) asked = asked ≡ Some w.ask
 
 -- memory and driver, at a moment
-pub record FrontAt (w : Machine) (m : Moment) : Type 0 where
-  pub memory : bytes_in w.memory ≡ m.scene.memory
-  pub driver : driver_in w.guest ≡ (m.lanes 0).driver
-  pub asks : AskAt (m.lanes 0).driver.waiting w.asked
+pub record FrontAt (q : ℕ) (d : Desk) (m : Moment) : Type 0 where
+  pub memory : bytes_in d.memory ≡ m.scene.memory
+  pub driver : driver_in d.front.guest ≡ (m.lanes q).driver
+  pub asks : AskAt (m.lanes q).driver.waiting d.front.asked
 
 -- a queue that isn't attached wasn't started
-abbrev pub AttachedAt : Header1 → SplitRing → Moment → Option Queue → Type 0
-AttachedAt h r m None = (m.joined ≡ false) × ((m.lanes 0).attached ≡ false) × (started m.scene.past 0 ≡ false)
-AttachedAt h r m (Some q) = (m.joined ≡ true) × ((m.lanes 0).attached ≡ true) × QueueStands 0 h r m (state_of q)
+abbrev pub AttachedAt : ℕ → Header1 → SplitRing → Moment → Option Queue → Type 0
+AttachedAt q h r m None = (m.joined ≡ false) × ((m.lanes q).attached ≡ false) × (started m.scene.past q ≡ false)
+AttachedAt q h r m (Some queue) = (m.joined ≡ true) × ((m.lanes q).attached ≡ true) × QueueStands q h r m (state_of queue)
 
-abbrev pub LifeAt : Header1 → SplitRing → Moment → Option Life → Type 0
-LifeAt h r m None = m.lives ≡ false
-LifeAt h r m (Some l) = (m.lives ≡ true) × AttachedAt h r m l.queue
+abbrev pub LifeAt : ℕ → Header1 → SplitRing → Moment → Option (Option Queue) → Type 0
+LifeAt q h r m None = m.lives ≡ false
+LifeAt q h r m (Some queue) = (m.lives ≡ true) × AttachedAt q h r m queue
 
 abbrev pub reads_of : Option Asked → ℕ
 reads_of (Some (requests.Read s n)) = n
@@ -53,18 +55,24 @@ reads_of r = 0
 
 -- the numbers of a queue's requests: under the head of each that is offered and not collected stand its number and how
 -- many sectors it reads
-pub record OutstandingAt (size : ℕ) (past : List Entry) (heads : List ℕ) (outstanding : OutstandingRequests) : Type 0 where
+pub record OutstandingAt (q size : ℕ) (past : List Entry) (heads : List ℕ) (outstanding : OutstandingRequests) : Type 0 where
   pub offers_are : offered_in outstanding ≡ length heads
-  pub collects_are : collected_in outstanding ≡ collected past 0
+  pub collects_are : collected_in outstanding ≡ collected past q
   pub places : size_in outstanding ≡ size
-  pub slots : (k : ℕ) → k < length heads → is_among (take (collected past 0) (published past 0)) k ≡ false → slot_in outstanding (slice_index heads k) ≡ record { number = k; reads = reads_of (asked past 0 k) }
+  pub slots : (k : ℕ) → k < length heads → is_among (take (collected past q) (published past q)) k ≡ false → slot_in outstanding (slice_index heads k) ≡ record { number = k; reads = reads_of (asked past q k) }
 
+-- the parts of queue q, with memory and disk, at a moment
+pub record PartsAt (q : ℕ) (p : Parts) (m : Moment) : Type 0 where
+  pub front : FrontAt q (desk_of p) m
+  pub position : last_used_in p.front.guest ≡ (p.front.header.base + collected m.scene.past q) % 65536
+  pub life : LifeAt q p.front.header p.front.ring m p.life
+  pub disk : DiskAt p.front.header.capacity m.scene.past (values_of p.disk)
+  pub outstanding : OutstandingAt q p.front.header.size m.scene.past (m.scene.heads q) p.front.outstanding
+
+-- the machine stands at a moment: each of the header's queues has its parts, and these do
 pub record MachineAt (w : Machine) (m : Moment) : Type 0 where
-  pub front : FrontAt w m
-  pub position : last_used_in w.guest ≡ (w.header.base + collected m.scene.past 0) % 65536
-  pub life : LifeAt w.header w.ring m w.life
-  pub disk : DiskAt w.header.capacity m.scene.past (values_of w.disk)
-  pub outstanding : OutstandingAt w.header.size m.scene.past (m.scene.heads 0) w.outstanding
+  pub many : length w.fronts.items ≡ w.header.queues
+  pub queues : (q : ℕ) (front : Front) → slice_get w.fronts.items q ≡ Some front → PartsAt q (parts_of q front w) m
 
 -- the machine stands for these events and their records
 abbrev pub StandsFor : Machine → List Event → List Record → Type 0
@@ -74,14 +82,17 @@ StandsFor w es rs = (m : Moment) × Stands w.header es rs m × MachineAt w m
 abbrev pub IsStanding : Machine → Type 0
 IsStanding w = (es : List Event) × (rs : List Record) × StandsFor w es rs
 
--- whether there is a life with its queue attached
-abbrev pub has_queue : Option Queue → Bool
-has_queue None = false
-has_queue (Some q) = true
+-- the parts of a queue, which is one of the header's, stand for some events
+abbrev pub PartsStandFor : ℕ → Parts → List Event → List Record → Type 0
+PartsStandFor q p es rs = (m : Moment) × Stands p.front.header es rs m × PartsAt q p m × (q < p.front.header.queues)
 
+abbrev pub PartsStand : ℕ → Parts → Type 0
+PartsStand q p = (es : List Event) × (rs : List Record) × PartsStandFor q p es rs
+
+-- whether there is a life with its queues attached
 abbrev pub is_attached : Option Life → Bool
 is_attached None = false
-is_attached (Some l) = has_queue l.queue
+is_attached (Some l) = is_some l.queues
 
 -- a drain of an attached queue serves all
 abbrev pub ServesAll : Machine → Event → List Record → Type 0
@@ -103,11 +114,12 @@ abbrev pub Performs : Machine → Machine → Event → List Item → Type 0
 Performs w now e is = (es : List Event) (rs : List Record) (m : Moment) → Stands w.header es rs m → MachineAt w m → (next : Moment) × Plays w.header m e is next × MachineAt now next
 
 -- a moment of a run, also amid turns of the device
-pub record IsReached (h : Header1) (m : Moment) : Type 0 where
+pub record IsReached (q : ℕ) (h : Header1) (m : Moment) : Type 0 where
   pub events : List Event
   pub records : List Record
   pub from : Moment
   pub stands : Stands h events records from
+  pub exists : q < h.queues
   pub count : ℕ
   pub choose : Moment → Turn
-  pub is : m ≡ (turns count choose h 0 from).next
+  pub is : m ≡ (turns count choose h q from).next

@@ -1,5 +1,5 @@
 -- What a turn of the device's side leaves, and which items it notes.
-use Rattle.std.specs.Prelude.{◌≡◌, ◌<◌, ◌≤◌, ℕ, ◌+◌, ◌*◌, Bool, true, false, not, ◌==◌, if◌then◌else◌, List, [], ◌∷◌, ◌++◌, length, map, slice_get, Option, Some, None, ⊤}
+use Rattle.std.specs.Prelude.{◌≡◌, ◌<◌, ◌≤◌, ℕ, ◌+◌, ◌*◌, Bool, true, false, not, ◌==◌, if◌then◌else◌, List, [], ◌∷◌, ◌++◌, length, map, slice_get, Option, Some, None, is_some, ⊤}
 use Rattle.vub_base.specs.declared.header.Header1.{Header1}
 use Rattle.vub_base.specs.declared.store.Tag.{Tag}
 use Rattle.vub_base.specs.declared.store.Tag.TheVariants.{SP5, T5}
@@ -35,22 +35,21 @@ use Rattle.vub_steps.specs.Readiness.{chosen}
 use Rattle.vub_queue.specs.QueueState.{course_in, QueueState, state_of, is_idle}
 use Rattle.vub_queue_in_run.specs.QueueAt.{QueueStands, DiskAt}
 use Rattle.vub_run.specs.Run.{one_turn}
-use Rattle.vub_world.specs.MachineAt.{has_queue}
 use Rattle.vub_world.specs.MachineFront.{store_item, OneSmall}
 
 -- ---- the device's turns
 
 -- the answer to the request under a head, which stands in its buffer
-abbrev pub answer_for : OutstandingRequest → Bytes → ℕ → Answered
-answer_for o m head = record {
+abbrev pub answer_for : ℕ → OutstandingRequest → Bytes → ℕ → Answered
+answer_for q o m head = record {
   number = o.number;
-  status = m guest_space (status_place (buffer_place (area_place 0) head));
-  bytes = bytes_from (if m guest_space (status_place (buffer_place (area_place 0) head)) == 0 then 512 * o.reads else 0) m guest_space (sectors_place (buffer_place (area_place 0) head));
+  status = m guest_space (status_place (buffer_place (area_place q) head));
+  bytes = bytes_from (if m guest_space (status_place (buffer_place (area_place q) head)) == 0 then 512 * o.reads else 0) m guest_space (sectors_place (buffer_place (area_place q) head));
 }
 
 -- the answers to the requests of a batch, by head and length
-abbrev pub answers_for : OutstandingRequests → Bytes → List (ℕ × ℕ) → List Answered
-answers_for outstanding m batch = map (λ (x : ℕ × ℕ). answer_for (slot_in outstanding x.0) m x.0) batch
+abbrev pub answers_for : ℕ → OutstandingRequests → Bytes → List (ℕ × ℕ) → List Answered
+answers_for q outstanding m batch = map (λ (x : ℕ × ℕ). answer_for q (slot_in outstanding x.0) m x.0) batch
 
 abbrev pub number_at : OutstandingRequests → ℕ → ℕ
 number_at outstanding head = (slot_in outstanding head).number
@@ -61,16 +60,16 @@ stored_items tag sts = []
 
 -- the items of a turn, where the outstanding requests, the values of the disk, the stores of the turn and the answers of the batch that
 -- it shows are these; none of one that wasn't made
-abbrev pub noted : OutstandingRequests → Values → List Store → List Answered → Stepped → List Item
-noted outstanding v stores answers (says.Stored tag) = stored_items tag stores
-noted outstanding v stores answers (says.Completed head) = stored_items T5 stores
-noted outstanding v stores answers says.Published = stored_items SP5 stores ++ items.Made (entries.Publish 0 answers) ∷ []
-noted outstanding v stores answers says.Started = items.Made (entries.Start 0 []) ∷ []
-noted outstanding v stores answers (says.Accepted head) = items.Made (entries.Accept 0 (number_at outstanding head)) ∷ []
-noted outstanding v stores answers (says.Looked head sector) = items.Made (entries.Look 0 (number_at outstanding head) sector (v sector)) ∷ []
-noted outstanding v stores answers (says.Acted head sector) = items.Made (entries.Act 0 (number_at outstanding head) sector (v sector)) ∷ []
-noted outstanding v stores answers (says.Synced head) = items.Made (entries.Sync 0 (number_at outstanding head)) ∷ []
-noted outstanding v stores answers x = []
+abbrev pub noted : ℕ → OutstandingRequests → Values → List Store → List Answered → Stepped → List Item
+noted q outstanding v stores answers (says.Stored tag) = stored_items tag stores
+noted q outstanding v stores answers (says.Completed head) = stored_items T5 stores
+noted q outstanding v stores answers says.Published = stored_items SP5 stores ++ items.Made (entries.Publish q answers) ∷ []
+noted q outstanding v stores answers says.Started = items.Made (entries.Start q []) ∷ []
+noted q outstanding v stores answers (says.Accepted head) = items.Made (entries.Accept q (number_at outstanding head)) ∷ []
+noted q outstanding v stores answers (says.Looked head sector) = items.Made (entries.Look q (number_at outstanding head) sector (v sector)) ∷ []
+noted q outstanding v stores answers (says.Acted head sector) = items.Made (entries.Act q (number_at outstanding head) sector (v sector)) ∷ []
+noted q outstanding v stores answers (says.Synced head) = items.Made (entries.Sync q (number_at outstanding head)) ∷ []
+noted q outstanding v stores answers x = []
 
 -- ---- the device
 
@@ -82,10 +81,10 @@ pub record Device : Type 0 where
   pub stores : List Store
 
 abbrev pub device : Queue → WatchedShared → MemDisk → Device
-device q w d = record { queue = state_of q; memory = bytes_in w; values = values_of d; stores = stores_in w }
+device queue w d = record { queue = state_of queue; memory = bytes_in w; values = values_of d; stores = stores_in w }
 
-pub record DeviceAt (h : Header1) (r : SplitRing) (m : Moment) (d : Device) : Type 0 where
-  pub stands : QueueStands 0 h r m d.queue
+pub record DeviceAt (q : ℕ) (h : Header1) (r : SplitRing) (m : Moment) (d : Device) : Type 0 where
+  pub stands : QueueStands q h r m d.queue
   pub memory_is : d.memory ≡ m.scene.memory
   pub disk : DiskAt h.capacity m.scene.past d.values
 
@@ -95,11 +94,11 @@ is_index (Some Index) = true
 is_index step = false
 
 abbrev pub is_showing : QueueState → Bool
-is_showing q = is_index (next_step (course_in q) q.phase)
+is_showing state = is_index (next_step (course_in state) state.phase)
 
 -- the answers to the batch that the next step shows, if it shows one
-abbrev pub shown_of : OutstandingRequests → Bytes → QueueState → List Answered
-shown_of outstanding m q = if is_showing q then answers_for outstanding m q.batch else []
+abbrev pub shown_of : ℕ → OutstandingRequests → Bytes → QueueState → List Answered
+shown_of q outstanding m state = if is_showing state then answers_for q outstanding m state.batch else []
 
 -- a turn was made: it failed nowhere, and broke no rule
 abbrev pub IsMade : Stepped → Type 0
@@ -131,8 +130,8 @@ HeadFits size (says.Synced head) = head < size
 HeadFits size x = ⊤
 
 -- the turn that a choice comes to at a moment
-abbrev pub turn_here : Header1 → Choice → Moment → Turn
-turn_here h choice m = chosen h.size choice (standing h 0 m)
+abbrev pub turn_here : ℕ → Header1 → Choice → Moment → Turn
+turn_here q h choice m = chosen h.size choice (standing h q m)
 
 -- whether a turn accepted a request
 abbrev pub accepts : Stepped → ℕ
@@ -140,64 +139,66 @@ accepts (says.Accepted head) = 1
 accepts x = 0
 
 -- a turn that is due was made
-pub record TurnMade (h : Header1) (r : SplitRing) (m : Moment) (t : Turn) (outstanding : OutstandingRequests) (d now : Device) (x : Stepped) : Type 0 where
+pub record TurnMade (q : ℕ) (h : Header1) (r : SplitRing) (m : Moment) (t : Turn) (outstanding : OutstandingRequests) (d now : Device) (x : Stepped) : Type 0 where
   pub goes : is_idle x ≡ false
   pub made : IsMade x
-  pub at : DeviceAt h r (one_turn h 0 t m).next now
-  pub items_are : (one_turn h 0 t m).items ≡ noted outstanding now.values now.stores (shown_of outstanding d.memory d.queue) x
+  pub at : DeviceAt q h r (one_turn h q t m).next now
+  pub items_are : (one_turn h q t m).items ≡ noted q outstanding now.values now.stores (shown_of q outstanding d.memory d.queue) x
   pub store : StoreFits x now.stores
   pub sector : SectorFits h.capacity x
   pub head : HeadFits h.size x
-  pub taken : accepts x + accepted m.scene.past 0 ≡ accepted (one_turn h 0 t m).next.scene.past 0
+  pub taken : accepts x + accepted m.scene.past q ≡ accepted (one_turn h q t m).next.scene.past q
 
 -- the turn is made where it is due, and else nothing is
-abbrev pub DeviceTurns : Header1 → SplitRing → Moment → Turn → OutstandingRequests → Device → Device → Stepped → Type 0
-DeviceTurns h r m t outstanding d now x =
-    (is_ready (standing h 0 m) t ≡ true → TurnMade h r m t outstanding d now x)
-    × (is_ready (standing h 0 m) t ≡ false → (x ≡ says.Idle) × DeviceAt h r m now)
+abbrev pub DeviceTurns : ℕ → Header1 → SplitRing → Moment → Turn → OutstandingRequests → Device → Device → Stepped → Type 0
+DeviceTurns q h r m t outstanding d now x =
+    (is_ready (standing h q m) t ≡ true → TurnMade q h r m t outstanding d now x)
+    × (is_ready (standing h q m) t ≡ false → (x ≡ says.Idle) × DeviceAt q h r m now)
+
+-- ---- the batch under way
+
+-- how many answers the next step of a queue shows
+abbrev pub shows_in : QueueState → ℕ
+shows_in state = if is_showing state then length state.batch else 0
+
+-- a batch that it shows isn't empty
+abbrev pub ShowsSome : QueueState → Type 0
+ShowsSome state = is_showing state ≡ true → 1 ≤ length state.batch
+
+-- each head of a batch has a buffer and a place in the table, and its request reads eight sectors at most
+abbrev pub BatchFits : OutstandingRequests → List (ℕ × ℕ) → Type 0
+BatchFits outstanding batch = (i : ℕ) (x : ℕ × ℕ) → slice_get batch i ≡ Some x → (x.0 < 64) × (x.0 < size_in outstanding) × ((slot_in outstanding x.0).reads ≤ 8)
 
 -- ---- a life
 
 abbrev pub queue_batch : Option Queue → List (ℕ × ℕ)
 queue_batch None = []
-queue_batch (Some q) = (state_of q).batch
+queue_batch (Some queue) = (state_of queue).batch
 
--- the batch under way
-abbrev pub batch_in : Option Life → List (ℕ × ℕ)
+-- the batch of its queue
+abbrev pub batch_in : Option (Option Queue) → List (ℕ × ℕ)
 batch_in None = []
-batch_in (Some l) = queue_batch l.queue
+batch_in (Some queue) = queue_batch queue
 
-abbrev pub queue_shown : OutstandingRequests → Bytes → Option Queue → List Answered
-queue_shown outstanding m None = []
-queue_shown outstanding m (Some q) = shown_of outstanding m (state_of q)
+abbrev pub queue_shown : ℕ → OutstandingRequests → Bytes → Option Queue → List Answered
+queue_shown q outstanding m None = []
+queue_shown q outstanding m (Some queue) = shown_of q outstanding m (state_of queue)
 
-abbrev pub answers_shown : OutstandingRequests → Bytes → Option Life → List Answered
-answers_shown outstanding m None = []
-answers_shown outstanding m (Some l) = queue_shown outstanding m l.queue
+-- the answers to the batch that the next step of its queue shows
+abbrev pub answers_shown : ℕ → OutstandingRequests → Bytes → Option (Option Queue) → List Answered
+answers_shown q outstanding m None = []
+answers_shown q outstanding m (Some queue) = queue_shown q outstanding m queue
 
 abbrev pub queue_shows : Option Queue → ℕ
 queue_shows None = 0
-queue_shows (Some q) = if is_showing (state_of q) then length (state_of q).batch else 0
+queue_shows (Some queue) = shows_in (state_of queue)
 
--- how many answers its next step shows
-abbrev pub shown_in : Option Life → ℕ
+-- how many they are
+abbrev pub shown_in : Option (Option Queue) → ℕ
 shown_in None = 0
-shown_in (Some l) = queue_shows l.queue
+shown_in (Some queue) = queue_shows queue
 
--- a batch that its next step shows isn't empty
-abbrev pub QueueShowsSome : Option Queue → Type 0
-QueueShowsSome None = ⊤
-QueueShowsSome (Some q) = is_showing (state_of q) ≡ true → 1 ≤ length (state_of q).batch
-
-abbrev pub ShowsSome : Option Life → Type 0
-ShowsSome None = ⊤
-ShowsSome (Some l) = QueueShowsSome l.queue
-
--- whether there is a life whose queue isn't attached yet
+-- whether there is a life whose queues aren't attached yet
 abbrev pub is_joining : Option Life → Bool
 is_joining None = false
-is_joining (Some l) = not (has_queue l.queue)
-
--- each head of a batch has a buffer and a place in the table, and its request reads eight sectors at most
-abbrev pub BatchFits : OutstandingRequests → List (ℕ × ℕ) → Type 0
-BatchFits outstanding batch = (i : ℕ) (x : ℕ × ℕ) → slice_get batch i ≡ Some x → (x.0 < 64) × (x.0 < size_in outstanding) × ((slot_in outstanding x.0).reads ≤ 8)
+is_joining (Some l) = not (is_some l.queues)

@@ -1,5 +1,5 @@
 -- What a step of the driver leaves in the machine, and which items it notes.
-use Rattle.std.specs.Prelude.{◌≡◌, ◌<◌, ◌≤◌, ℕ, Bool, false, nat_lt, List, [], ◌∷◌, ◌++◌, length, Option, Some, None, ⊤}
+use Rattle.std.specs.Prelude.{◌≡◌, ◌<◌, ◌≤◌, ℕ, ◌+◌, Bool, false, nat_lt, List, [], ◌∷◌, ◌++◌, length, Option, Some, None, ⊤}
 use Rattle.std.specs.List.{AllByRecursion}
 use Rattle.vub_base.specs.declared.store.Tag.{Tag}
 use Rattle.vub_base.specs.declared.store.Area.TheVariants.{M}
@@ -11,9 +11,12 @@ use Rattle.vub_driver.specs.Layout.{ring_of}
 use Rattle.vub_driver.specs.Drivers.{Waiting}
 use Rattle.vub_report.specs.declared.items.Item.{Item}
 use Rattle.vub_report.specs.declared.items.Item.TheVariants as items
-use Rattle.vub_world.specs.declared.machine.Machine.{Machine}
-use Rattle.vub_world.specs.OutstandingRequests.{size_in, Offers}
-use Rattle.vub_guest.specs.GuestState.{driver_in}
+use Rattle.vub_guest.specs.declared.guest.Collected.TheVariants as takes
+use Rattle.vub_world.specs.declared.front.Front.{Front}
+use Rattle.vub_world.specs.declared.outstanding.OutstandingRequests.{OutstandingRequests}
+use Rattle.vub_world.specs.Fronts.{Desk}
+use Rattle.vub_world.specs.OutstandingRequests.{offered_in, collected_in, size_in, slot_in, Offers}
+use Rattle.vub_guest.specs.GuestState.{ring_in, driver_in, last_used_in, Shows, Collects}
 use Rattle.vub_run.specs.Moments.{Moment}
 use Rattle.vub_run.specs.Run.{guest_stores}
 use Rattle.vub_world.specs.MachineAt.{AskAt, FrontAt}
@@ -33,15 +36,15 @@ after_all [] m = m
 after_all (st ∷ left) m = after_all left (after_store st m)
 
 -- the head that the last of the stores that are left shows has a place in the table of outstanding requests
-abbrev pub ShowsPlace : Machine → Option Waiting → Type 0
-ShowsPlace w None = ⊤
-ShowsPlace w (Some x) = last_head (ring_of 0 w.header.size) (after_all x.left (bytes_in w.memory)) < size_in w.outstanding
+abbrev pub ShowsPlace : ℕ → Desk → Option Waiting → Type 0
+ShowsPlace q w None = ⊤
+ShowsPlace q w (Some x) = last_head (ring_of q w.front.header.size) (after_all x.left (bytes_in w.memory)) < size_in w.front.outstanding
 
 -- the request that waits is kept, and all that is noted of it has room
-pub record FrontFits (w : Machine) : Type 0 where
-  pub stores : AreSmall (driver_in w.guest).waiting
-  pub kept : AskAt (driver_in w.guest).waiting w.asked
-  pub place : ShowsPlace w (driver_in w.guest).waiting
+pub record FrontFits (q : ℕ) (w : Desk) : Type 0 where
+  pub stores : AreSmall (driver_in w.front.guest).waiting
+  pub kept : AskAt (driver_in w.front.guest).waiting w.front.asked
+  pub place : ShowsPlace q w (driver_in w.front.guest).waiting
 
 abbrev pub store_item : Tag → Store → Item
 store_item tag st = items.Store tag M st.place st.bytes
@@ -52,22 +55,59 @@ OneSmall (st ∷ []) = IsSmall st
 OneSmall sts = ⊥
 
 -- the head that the last offer showed
-abbrev pub head_shown : Machine → ℕ
-head_shown w = last_head (ring_of 0 w.header.size) (bytes_in w.memory)
+abbrev pub head_shown : ℕ → Desk → ℕ
+head_shown q w = last_head (ring_of q w.front.header.size) (bytes_in w.memory)
 
 -- the outstanding requests after so many stores of a request: it is one of them with its last store
-pub record OutstandingGoes (count : ℕ) (x : Waiting) (w now : Machine) : Type 0 where
-  pub before : count < length x.left → now.outstanding ≡ w.outstanding
-  pub offers : length x.left ≤ count → Offers w.outstanding now.outstanding (head_shown now) x.ask
+pub record OutstandingGoes (q count : ℕ) (x : Waiting) (w now : Desk) : Type 0 where
+  pub before : count < length x.left → now.front.outstanding ≡ w.front.outstanding
+  pub offers : length x.left ≤ count → Offers w.front.outstanding now.front.outstanding (head_shown q now) x.ask
 
 -- from a moment on so many stores of the driver lead to where the machine stands, and have these items; more tells
 -- whether some are left
-pub record GuestGoes (count : ℕ) (x : Waiting) (w now : Machine) (m : Moment) (before after : List Item) : Type 0 where
-  pub front : FrontAt now (guest_stores w.header 0 count (Some x) m).next
-  pub items : after ≡ before ++ (guest_stores w.header 0 count (Some x) m).items
-  pub outstanding : OutstandingGoes count x w now
+pub record GuestGoes (q count : ℕ) (x : Waiting) (w now : Desk) (m : Moment) (before after : List Item) : Type 0 where
+  pub front : FrontAt q now (guest_stores w.front.header q count (Some x) m).next
+  pub items : after ≡ before ++ (guest_stores w.front.header q count (Some x) m).items
+  pub outstanding : OutstandingGoes q count x w now
 
 -- one store; none where no request waits
-abbrev pub GuestSteps : Option Waiting → Machine → Machine → Moment → List Item → List Item → Bool → Type 0
-GuestSteps None w now m before after more = (more ≡ false) × FrontAt now m × (after ≡ before) × (now.outstanding ≡ w.outstanding)
-GuestSteps (Some x) w now m before after more = (more ≡ nat_lt 1 (length x.left)) × GuestGoes 1 x w now m before after
+abbrev pub GuestSteps : ℕ → Option Waiting → Desk → Desk → Moment → List Item → List Item → Bool → Type 0
+GuestSteps q None w now m before after more = (more ≡ false) × FrontAt q now m × (after ≡ before) × (now.front.outstanding ≡ w.front.outstanding)
+GuestSteps q (Some x) w now m before after more = (more ≡ nat_lt 1 (length x.left)) × GuestGoes q 1 x w now m before after
+
+-- ---- what the driver takes
+
+-- a request that is shown has a place in the table, and one is left to be collected
+pub record HasPlace (front : Front) (head : ℕ) : Type 0 where
+  pub below : head < size_in front.outstanding
+  pub left : collected_in front.outstanding < offered_in front.outstanding
+
+-- the request whose element the driver sees has
+abbrev pub HasPlaces : Bytes → Front → Type 0
+HasPlaces m front = (head : ℕ) → Shows (takes.Head head) (ring_in front.guest) m (last_used_in front.guest) → HasPlace front head
+
+-- what the table of outstanding requests notes of a collection
+pub record TakesOne (before now : OutstandingRequests) : Type 0 where
+  pub collects : collected_in now ≡ collected_in before + 1
+  pub offers : offered_in now ≡ offered_in before
+  pub places : size_in now ≡ size_in before
+  pub slots : (d : ℕ) → slot_in now d ≡ slot_in before d
+
+-- a request was taken, from under the head that memory shows
+pub record TakesHead (m : Bytes) (front now : Front) (number : ℕ) : Type 0 where
+  pub head : ℕ
+  pub shown : Shows (takes.Head head) (ring_in front.guest) m (last_used_in front.guest)
+  pub driver : Collects (takes.Head head) (driver_in front.guest) (driver_in now.guest) (last_used_in front.guest) (last_used_in now.guest)
+  pub takes : TakesOne front.outstanding now.outstanding
+  pub is : number ≡ (slot_in front.outstanding head).number
+
+-- none is shown, and nothing changes
+pub record TakesNone (m : Bytes) (front now : Front) : Type 0 where
+  pub shown : Shows takes.Nothing (ring_in front.guest) m (last_used_in front.guest)
+  pub driver : Collects takes.Nothing (driver_in front.guest) (driver_in now.guest) (last_used_in front.guest) (last_used_in now.guest)
+  pub outstanding : now.outstanding ≡ front.outstanding
+
+-- the number of the request that was taken, if one is shown
+abbrev pub TakesFirst : Bytes → Front → Front → Option ℕ → Type 0
+TakesFirst m front now None = TakesNone m front now
+TakesFirst m front now (Some number) = TakesHead m front now number

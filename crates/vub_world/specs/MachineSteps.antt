@@ -11,66 +11,67 @@ use Rattle.vub_report.specs.declared.items.Item.{Item}
 use Rattle.vub_report.specs.declared.items.Item.TheVariants as items
 use Rattle.vub_report.specs.declared.items.Record.{Record}
 use Rattle.vub_world.specs.declared.machine.Machine.{Machine}
+use Rattle.vub_world.specs.Fronts.{Parts}
 use Rattle.vub_queue.specs.declared.queue.Stepped.{Stepped}
 use Rattle.vub_queue.specs.declared.queue.Stepped.TheVariants as says
 use Rattle.vub_world.specs.Sequences.{choices_from}
 use Rattle.vub_run.specs.Moments.{Moment}
 use Rattle.vub_queue.specs.QueueState.{is_idle}
 use Rattle.vub_run.specs.Run.{Stands, played, single, turns, one_turn, is_due}
-use Rattle.vub_world.specs.MachineAt.{MachineAt}
+use Rattle.vub_world.specs.MachineAt.{MachineAt, PartsAt}
 use Rattle.vub_world.specs.MachineDevice.{noted, IsMade, StoreFits, SectorFits, HeadFits, accepts, answers_shown}
 
 -- a turn that was due
-pub record MachineTurns (t : Turn) (w now : Machine) (m : Moment) (x : Stepped) : Type 0 where
+pub record MachineTurns (q : ℕ) (t : Turn) (w now : Parts) (m : Moment) (x : Stepped) : Type 0 where
   pub goes : is_idle x ≡ false
   pub made : IsMade x
-  pub at : MachineAt now (one_turn w.header 0 t m).next
-  pub items_are : (one_turn w.header 0 t m).items ≡ noted now.outstanding (values_of now.disk) (stores_in now.memory) (answers_shown w.outstanding (bytes_in w.memory) w.life) x
+  pub at : PartsAt q now (one_turn w.front.header q t m).next
+  pub items_are : (one_turn w.front.header q t m).items ≡ noted q now.front.outstanding (values_of now.disk) (stores_in now.memory) (answers_shown q w.front.outstanding (bytes_in w.memory) w.life) x
   pub store : StoreFits x (stores_in now.memory)
-  pub sector : SectorFits w.header.capacity x
-  pub head : HeadFits w.header.size x
-  pub taken : accepts x + accepted m.scene.past 0 ≡ accepted (one_turn w.header 0 t m).next.scene.past 0
+  pub sector : SectorFits w.front.header.capacity x
+  pub head : HeadFits w.front.header.size x
+  pub taken : accepts x + accepted m.scene.past q ≡ accepted (one_turn w.front.header q t m).next.scene.past q
 
 -- a turn of the machine
-abbrev pub TurnGoes : Turn → Machine → Machine → Moment → Stepped → Type 0
-TurnGoes t w now m x =
-    (is_due w.header 0 t m ≡ true → MachineTurns t w now m x)
-    × (is_due w.header 0 t m ≡ false → (x ≡ says.Idle) × MachineAt now m)
+abbrev pub TurnGoes : ℕ → Turn → Parts → Parts → Moment → Stepped → Type 0
+TurnGoes q t w now m x =
+    (is_due w.front.header q t m ≡ true → MachineTurns q t w now m x)
+    × (is_due w.front.header q t m ≡ false → (x ≡ says.Idle) × PartsAt q now m)
 
 -- a step: the turn was due and was made, and its items were noted, or it wasn't due; and how many requests were
 -- accepted before and after it
-abbrev pub StepGoes : Bool → Turn → Machine → Machine → Moment → List Item → List Item → ℕ → ℕ → Type 0
-StepGoes false t w now m before after taken taken_after = (is_due w.header 0 t m ≡ false) × MachineAt now m × (after ≡ before)
-StepGoes true t w now m before after taken taken_after =
-    (is_due w.header 0 t m ≡ true) × MachineAt now (one_turn w.header 0 t m).next × (after ≡ before ++ (one_turn w.header 0 t m).items)
-    × (taken_after + accepted m.scene.past 0 ≡ taken + accepted (one_turn w.header 0 t m).next.scene.past 0)
+abbrev pub StepGoes : ℕ → Bool → Turn → Parts → Parts → Moment → List Item → List Item → ℕ → ℕ → Type 0
+StepGoes q false t w now m before after taken taken_after = (is_due w.front.header q t m ≡ false) × PartsAt q now m × (after ≡ before)
+StepGoes q true t w now m before after taken taken_after =
+    (is_due w.front.header q t m ≡ true) × PartsAt q now (one_turn w.front.header q t m).next × (after ≡ before ++ (one_turn w.front.header q t m).items)
+    × (taken_after + accepted m.scene.past q ≡ taken + accepted (one_turn w.front.header q t m).next.scene.past q)
 
--- so many turns were made, and no more are due than are asked for
-pub record TurnsMade (h : Header1) (choose : Moment → Turn) (most : ℕ) (now : Machine) (m : Moment) (before after : List Item) : Type 0 where
+-- so many turns were made, and no more are due than are asked for; There tells what stands where they lead
+pub record TurnsMade (q : ℕ) (h : Header1) (choose : Moment → Turn) (most : ℕ) (There : Moment → Type 0) (m : Moment) (before after : List Item) : Type 0 where
   pub count : ℕ
   pub few : count ≤ most
   pub small : count ≤ 2000
-  pub at : MachineAt now (turns count choose h 0 m).next
-  pub items_are : after ≡ before ++ (turns count choose h 0 m).items
-  pub ends : (count ≡ most) ⊎ (is_due h 0 (choose (turns count choose h 0 m).next) (turns count choose h 0 m).next ≡ false)
+  pub at : There (turns count choose h q m).next
+  pub items_are : after ≡ before ++ (turns count choose h q m).items
+  pub ends : (count ≡ most) ⊎ (is_due h q (choose (turns count choose h q m).next) (turns count choose h q m).next ≡ false)
 
 -- turns were made, at most so many; made tells whether the first was due
-abbrev pub TurnsGo : Bool → Sequence → ℕ → Machine → Machine → Moment → List Item → List Item → Type 0
-TurnsGo false sequence most w now m before after = (is_due w.header 0 (choices_from w.header sequence m m) m ≡ false) × MachineAt now m × (after ≡ before)
-TurnsGo true sequence most w now m before after = (is_due w.header 0 (choices_from w.header sequence m m) m ≡ true) × TurnsMade w.header (choices_from w.header sequence m) most now m before after
+abbrev pub TurnsGo : ℕ → Header1 → Bool → Sequence → ℕ → (Moment → Type 0) → Moment → List Item → List Item → Type 0
+TurnsGo q h false sequence most There m before after = (is_due h q (choices_from q h sequence m m) m ≡ false) × There m × (after ≡ before)
+TurnsGo q h true sequence most There m before after = (is_due h q (choices_from q h sequence m m) m ≡ true) × TurnsMade q h (choices_from q h sequence m) most There m before after
 
 -- ---- events
 
 -- wherever the machine stood, the single turn has these items, and leads to where the machine stands now
-abbrev pub PlaysSingle : Machine → Machine → Turn → List Item → Type 0
-PlaysSingle w now turn is = (es : List Event) (rs : List Record) (m : Moment) → Stands w.header es rs m → MachineAt w m → (next : Moment) × (played is next ≡ single w.header 0 turn m) × MachineAt now next
+abbrev pub PlaysSingle : ℕ → Machine → Machine → Turn → List Item → Type 0
+PlaysSingle q w now turn is = (es : List Event) (rs : List Record) (m : Moment) → Stands w.header es rs m → MachineAt w m → (next : Moment) × (played is next ≡ single w.header q turn m) × MachineAt now next
 
 -- the event of at most so many turns, at a moment; it is idle where the first isn't due
-abbrev pub TurnsEvent : Machine → Machine → Sequence → ℕ → Moment → List Item → Type 0
-TurnsEvent w now sequence most m is =
-    ((is_due w.header 0 (choices_from w.header sequence m m) m ≡ false) × MachineAt now m × (is ≡ items.Idle ∷ []))
-    ⊎ ((is_due w.header 0 (choices_from w.header sequence m m) m ≡ true) × TurnsMade w.header (choices_from w.header sequence m) most now m [] is)
+abbrev pub TurnsEvent : ℕ → Header1 → Sequence → ℕ → (Moment → Type 0) → Moment → List Item → Type 0
+TurnsEvent q h sequence most There m is =
+    ((is_due h q (choices_from q h sequence m m) m ≡ false) × There m × (is ≡ items.Idle ∷ []))
+    ⊎ ((is_due h q (choices_from q h sequence m m) m ≡ true) × TurnsMade q h (choices_from q h sequence m) most There m [] is)
 
 -- wherever the machine stood, the event of turns has these items, and leads to where the machine stands now
-abbrev pub PlaysTurns : Machine → Machine → Sequence → ℕ → List Item → Type 0
-PlaysTurns w now sequence most is = (es : List Event) (rs : List Record) (m : Moment) → Stands w.header es rs m → MachineAt w m → TurnsEvent w now sequence most m is
+abbrev pub PlaysTurns : ℕ → Machine → Machine → Sequence → ℕ → List Item → Type 0
+PlaysTurns q w now sequence most is = (es : List Event) (rs : List Record) (m : Moment) → Stands w.header es rs m → MachineAt w m → TurnsEvent q w.header sequence most (MachineAt now) m is

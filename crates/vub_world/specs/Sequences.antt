@@ -17,10 +17,10 @@ choice_after sequences.Any taken = choices.Any
 choice_after sequences.Drain taken = choices.Drain taken
 
 -- the turn that comes next at a moment
-abbrev pub next_turn : Header1 → Sequence → ℕ → Moment → Turn
-next_turn h sequence taken m = chosen h.size (choice_after sequence taken) (standing h 0 m)
+abbrev pub next_turn : ℕ → Header1 → Sequence → ℕ → Moment → Turn
+next_turn q h sequence taken m = chosen h.size (choice_after sequence taken) (standing h q m)
 
 -- the choices of turns that begin at a moment
-abbrev pub choices_from : Header1 → Sequence → Moment → Moment → Turn
-choices_from h sequences.Any m = any_choice h 0
-choices_from h sequences.Drain m = drain_choice h 0 (accepted m.scene.past 0)
+abbrev pub choices_from : ℕ → Header1 → Sequence → Moment → Moment → Turn
+choices_from q h sequences.Any m = any_choice h q
+choices_from q h sequences.Drain m = drain_choice h q (accepted m.scene.past q)

@@ -1,5 +1,5 @@
 -- A world, between two events.
-use Rattle.std.specs.Prelude.{◌≡◌, ◌≤◌, ℕ, ◌+◌, Result, MatchResult, ⊤}
+use Rattle.std.specs.Prelude.{◌≡◌, ◌≤◌, ◌+◌, Result, MatchResult, ⊤}
 use Rattle.std.specs.Borrow.{follows_so, MutBor, Bor, Fml}
 use mathlib.Core.Option.{none}
 use Rattle.vub_base.specs.declared.header.Header1.{Header1}
@@ -10,7 +10,7 @@ use Rattle.vub_world.specs.declared.machine.Machine.{Machine}
 use Rattle.vub_report.specs.declared.items.Record.{Record}
 use Rattle.vub_world.specs.declared.world.World.{World}
 use Rattle.vub_world.specs.contracts.world.World.{the_row}
-use Rattle.vub_world.specs.OutstandingRequests.{offered_in}
+pub use Rattle.vub_world.specs.Fronts.{offers_in}
 use Rattle.vub_world.specs.MachineAt.{StandsOn}
 
 -- the first line of its schedule
@@ -19,10 +19,6 @@ header_in w = w.header
 
 abbrev pub disk_in : Machine → MemDisk
 disk_in w = w.disk
-
--- how many requests were offered so far
-abbrev pub offers_in : Machine → ℕ
-offers_in w = offered_in w.outstanding
 
 -- An event lends its record. The world goes on under its header, and stands for the events that it stood for and this
 -- one, with their records; for want of memory all is as it was. It offers one request at most.

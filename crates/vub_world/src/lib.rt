@@ -3,10 +3,13 @@
 #![tactic(auto)]
 
 mod device;
+mod front;
 mod machine;
+mod notes;
 mod outstanding;
 #[cfg(test)]
 mod tests;
+mod turns;
 mod world;
 
 pub use world::World;

@@ -19,25 +19,25 @@ use Rattle.vub_world.proofs.device.turn_queue.Goals as goal
 
 unfailed_after : (c : goal.After-turn) → IsUnfailed c.turn.new.mem
 unfailed_after c =
-    let q : QueueState = state_of c.args.queue.now in
+    let state : QueueState = state_of c.args.queue.now in
     let b : Bytes = bytes_in c.args.memory.now in
-    let t : Turn = chosen q.ring.size c.args.choice (standing_at q (waiting q b)) in
-    let few = turn_stores (stores_in c.args.memory.now) (stores_in c.turn.new.mem) t c.turn.result q (is_some q.stopped) c.requires.fresh (λ s. (c.turn.ensures.stopped s).3) (λ r. c.turn.ensures.trails r b refl) in
+    let t : Turn = chosen state.ring.size c.args.choice (standing_at state (waiting state b)) in
+    let few = turn_stores (stores_in c.args.memory.now) (stores_in c.turn.new.mem) t c.turn.result state (is_some state.stopped) c.requires.fresh (λ s. (c.turn.ensures.stopped s).3) (λ r. c.turn.ensures.trails r b refl) in
     still_unfailed c.args.memory.now c.turn.new.mem c.requires.unfailed few c.turn.ensures.keeps_spaces.same_handed
 
 pub returns-clause-unfailed : goal.returns-clause-unfailed
 returns-clause-unfailed c = unfailed_after c
 
 pub returns-clause-turns : goal.returns-clause-turns
-returns-clause-turns c h r m outstanding reached cap main room at numbered =
-    let q : QueueState = state_of c.args.queue.now in
+returns-clause-turns c q h r m outstanding reached cap main room at numbered =
+    let state : QueueState = state_of c.args.queue.now in
     let b : Bytes = bytes_in c.args.memory.now in
     let d : Device = device c.args.queue.now c.args.memory.now c.args.disk.now in
     let now : Device = device c.turn.new.self c.turn.new.mem c.turn.new.disk in
     let x : Stepped = c.turn.result in
-    let t : Turn = chosen q.ring.size c.args.choice (standing_at q (waiting q b)) in
-    let runs : is_some q.stopped ≡ false = ap is_some at.stands.runs in
-    let holds = reached_holds h m reached in
+    let t : Turn = chosen state.ring.size c.args.choice (standing_at state (waiting state b)) in
+    let runs : is_some state.stopped ≡ false = ap is_some at.stands.runs in
+    let holds = reached_holds q h m reached in
     let trails = c.turn.ensures.trails runs b refl in
     let does : DeviceDoes t h.capacity (sizes_in c.args.memory.now) d now x = record {
       fine = turn_made (faults_in c.args.memory.now) (faults_in c.turn.new.mem) x c.requires.unfailed.faults (unfailed_after c).faults c.turn.ensures.cause;
@@ -46,13 +46,13 @@ returns-clause-turns c h r m outstanding reached cap main room at numbered =
       stores_are = c.turn.ensures.stores runs b refl;
       trails = trails;
       values_are = c.turn.ensures.values runs b refl;
-      made = λ place task n is due. c.turn.ensures.made place task n runs b refl is (subst (λ k. IsDue k (sizes_in c.args.memory.now) q b place task n) (sym cap) due);
+      made = λ place task n is due. c.turn.ensures.made place task n runs b refl is (subst (λ k. IsDue k (sizes_in c.args.memory.now) state b place task n) (sym cap) due);
     } in
-    let here : IsAsHere h m q b = as_here h r m q b main holds.0.holds at.stands at.memory_is in
-    let same : t ≡ turn_here h c.args.choice m = turn_same h r m q b c.args.choice main holds.0.holds at.stands at.memory_is in
-    let rests : (place : ℕ) → turn_here h c.args.choice m ≡ turns.Work place → is_ready (standing h 0 m) (turns.Work place) ≡ false → RestsAt d now x =
-    λ place is unready. c.turn.ensures.rests (waiting q b) place runs (work_asked h.size (standing h 0 m) c.args.choice place is unready) (ap (λ (s : Standing). is_ready s (turns.Work place)) here.standing_is ∙ unready) in
-    device_turns h r m outstanding (sizes_in c.args.memory.now) (turn_here h c.args.choice m) d now x
-    (record { plain = reached_plain h m reached; good = holds.0; chained = holds.1; main = main; at = at; fresh = c.requires.fresh; numbered = numbered })
+    let here : IsAsHere q h m state b = as_here q h r m state b main holds.0.holds at.stands at.memory_is in
+    let same : t ≡ turn_here q h c.args.choice m = turn_same q h r m state b c.args.choice main holds.0.holds at.stands at.memory_is in
+    let rests : (place : ℕ) → turn_here q h c.args.choice m ≡ turns.Work place → is_ready (standing h q m) (turns.Work place) ≡ false → RestsAt d now x =
+    λ place is unready. c.turn.ensures.rests (waiting state b) place runs (work_asked h.size (standing h q m) c.args.choice place is unready) (ap (λ (s : Standing). is_ready s (turns.Work place)) here.standing_is ∙ unready) in
+    device_turns q h r m outstanding (sizes_in c.args.memory.now) (turn_here q h c.args.choice m) d now x
+    (record { plain = reached_plain q h m reached; good = holds.0; chained = holds.1; main = main; at = at; fresh = c.requires.fresh; numbered = numbered })
     room rests
     (subst (λ (u : Turn). DeviceDoes u h.capacity (sizes_in c.args.memory.now) d now x) same does)

@@ -1,26 +1,45 @@
 use Rattle.std.proofs.Common.{List, sym, ap, subst, ◌∙◌}
-use Rattle.std.specs.Prelude.{Some, Result, Ok, Err, OnErr}
-use Rattle.vub_base.specs.declared.request.Ask.{Ask}
-use Rattle.vub_guest.specs.declared.guest.Guest.{Guest}
-use Rattle.vub_world.specs.declared.machine.Machine.{Machine}
+use Rattle.std.specs.Prelude.{Result, Ok, Err, OnErr}
 use Rattle.vub_report.specs.declared.items.Item.{Item}
-use Rattle.vub_world.specs.MachineAt.{MachineAt}
 use Rattle.vub_run.specs.Run.{played}
-use Rattle.vub_world.proofs.MachineGuestAsks.{ask_performs}
+use Rattle.vub_schedule.specs.declared.types.Event.TheVariants as events
+use Rattle.vub_world.specs.declared.machine.Machine.{Machine}
+use Rattle.vub_world.specs.Machine.{IsSound}
+use Rattle.vub_world.specs.MachineAt.{MachineAt, Performs}
+use Rattle.vub_world.proofs.MachineDrivers.{ask_on, ask_idle}
+use Rattle.vub_world.proofs.MachineEvents.{ok_then}
+use Rattle.vub_world.proofs.MachineParts.{taken_front, with_front_at, front_kept, asked_sound}
 use Rattle.vub_world.proofs.machine.Machine.ask.Goals as goal
 
 on_err : {A B : Type 0} (r : Result A B) (P : Type 0) → P → OnErr r P
 on_err (Ok x) P p = tt
 on_err (Err e) P p = p
 
-pub returns-then-not-queue_request-clause-kept : goal.returns-then-not-queue_request-clause-kept
-returns-then-not-queue_request-clause-kept c =
+pub returns-then-not-ask-clause-kept : goal.returns-then-not-ask-clause-kept
+returns-then-not-ask-clause-kept c = on_err c.idle.result _ (front_kept c.args.self.now c.from.result c.index_mut.result.now c.ask.new.self c.index_mut.ensures.value (c.ask.ensures.kept c.if-not-ask.true))
+
+pub returns-then-not-ask-clause-sound : goal.returns-then-not-ask-clause-sound
+returns-then-not-ask-clause-sound c = subst (λ (x : Machine). IsSound x) (sym (front_kept c.args.self.now c.from.result c.index_mut.result.now c.ask.new.self c.index_mut.ensures.value (c.ask.ensures.kept c.if-not-ask.true))) c.requires.sound
+
+pub returns-then-not-ask-clause-performs : goal.returns-then-not-ask-clause-performs
+returns-then-not-ask-clause-performs c =
     let w : Machine = c.args.self.now in
-    on_err c.idle.result _ (ap (λ (g : Guest). record w { guest = g }) (c.queue_request.ensures.kept c.if-not-queue_request.true))
+    let same = front_kept w c.from.result c.index_mut.result.now c.ask.new.self c.index_mut.ensures.value (c.ask.ensures.kept c.if-not-ask.true) in
+    ok_then _ (λ is. Performs w (with_front_at w w.memory c.from.result c.ask.new.self) (events.Ask c.args.queue c.args.shape c.args.ask.now) is) c.idle.result (λ is noted es rs m s at. (
+      m,
+      ap (λ (js : List Item). played js m) noted ∙ ask_idle w c.args.queue c.index_mut.result.now m c.args.shape c.args.ask.now c.ask.result c.requires.sound (taken_front c.args.self.now c.from.result c.args.queue c.index_mut.result.now c.requires.sound c.from.ensures c.requires.event.0 c.index_mut.ensures.value) at c.ask.ensures.answer c.if-not-ask.true,
+      subst (λ (x : Machine). MachineAt x m) (sym same) at,
+    )) c.idle.ensures
+
+pub returns-clause-sound : goal.returns-clause-sound
+returns-clause-sound c =
+    let w : Machine = c.args.self.now in
+    subst (λ k. IsSound (with_front_at w w.memory k c.ask.new.self)) (sym c.from.ensures)
+    (asked_sound w c.args.queue c.index_mut.result.now c.ask.new.self c.requires.sound (taken_front c.args.self.now c.from.result c.args.queue c.index_mut.result.now c.requires.sound c.from.ensures c.requires.event.0 c.index_mut.ensures.value) c.ask.ensures.frame c.ask.ensures.ring)
 
 pub returns-clause-performs : goal.returns-clause-performs
-returns-clause-performs c fits es rs m s at =
+returns-clause-performs c es rs m s at =
     let w : Machine = c.args.self.now in
-    let q = c.queue_request.ensures in
-    let done = ask_performs w c.queue_request.new.self m c.args.shape c.args.ask.now c.queue_request.result c.requires.sound at q.answer c.if-not-queue_request.false q.driver q.position in
-    (done.0, ap (λ (is : List Item). played is done.0) c.nothing.ensures ∙ done.1, subst (λ (a : Ask). MachineAt (record w { guest = c.queue_request.new.self; asked = Some a }) done.0) (sym c.copied.ensures) done.2)
+    let a = c.ask.ensures in
+    let done = ask_on w c.args.queue c.index_mut.result.now c.ask.new.self m c.args.shape c.args.ask.now c.ask.result c.requires.sound (taken_front c.args.self.now c.from.result c.args.queue c.index_mut.result.now c.requires.sound c.from.ensures c.requires.event.0 c.index_mut.ensures.value) at a.answer c.if-not-ask.false a.frame (a.asked c.if-not-ask.false) a.driver a.position in
+    (done.0, ap (λ (is : List Item). played is done.0) c.nothing.ensures ∙ done.1, subst (λ k. MachineAt (with_front_at w w.memory k c.ask.new.self) done.0) (sym c.from.ensures) done.2)

@@ -1,68 +1,42 @@
-use Rattle.std.proofs.Common.{◌≡◌, ◌<◌, ◌++◌, ◌∷◌, List, [], sym, ap, subst, ◌∙◌}
-use Rattle.vub_device.specs.declared.entry.Entry.TheVariants as entries
-use Rattle.vub_driver.specs.Layout.{ring_of}
-use Rattle.vub_shared.specs.Watched.{bytes_in}
-use Rattle.vub_guest.specs.declared.guest.Collected.{Collected}
-use Rattle.vub_guest.specs.declared.guest.Collected.TheVariants as takes
-use Rattle.vub_world.specs.declared.outstanding.OutstandingRequests.{OutstandingRequests}
-use Rattle.vub_world.specs.declared.outstanding.OutstandingRequest.{OutstandingRequest}
-use Rattle.vub_world.specs.declared.machine.Machine.{Machine}
+use Rattle.std.proofs.Common.{◌≡◌, ◌++◌, ◌∷◌, [], List, sym, ap, subst, ◌∙◌}
 use Rattle.vub_report.specs.declared.items.Item.{Item}
-use Rattle.vub_report.specs.declared.items.Item.TheVariants as items
-use Rattle.vub_guest.specs.GuestState.{driver_in, last_used_in, Shows, Collects}
-use Rattle.vub_world.specs.OutstandingRequests.{offered_in, collected_in, size_in, slot_in}
-use Rattle.vub_world.specs.MachineAt.{MachineAt}
 use Rattle.vub_room.specs.Rooms.{RoomState}
 use Rattle.vub_run.specs.Run.{played}
-use Rattle.vub_world.proofs.MachineGuestCollects.{TakesOne, one_is_left, head_placed, none_performs, head_performs}
-use Rattle.vub_world.proofs.machine.Machine.collect.Goals.{in-Nothing, in-Head}
+use Rattle.vub_world.specs.declared.machine.Machine.{Machine}
+use Rattle.vub_world.specs.Fronts.{parts_of}
+use Rattle.vub_world.specs.Machine.{IsSound}
+use Rattle.vub_world.specs.MachineAt.{MachineAt}
+use Rattle.vub_world.proofs.MachineDrivers.{collect_on}
+use Rattle.vub_world.proofs.MachineGuestCollects.{taken_item, shown_placed}
+use Rattle.vub_world.proofs.MachineParts.{KeepsFront, taken_front, guest_ring_is, parts_stand, with_front_at, front_sound}
+use Rattle.vub_world.proofs.machine.Machine.collect.Goals.{in-None, in-Some}
 use Rattle.vub_world.proofs.machine.Machine.collect.Goals as goal
 
-pub at-number-requires : goal.at-number-requires
-at-number-requires c =
-    let w : Machine = c.args.self.now in
-    let t = c.take_element.ensures in
-    let same : c.take_element.new.self.outstanding ≡ w.outstanding = ap (λ (u : Machine). u.outstanding) t.frame in
-    let shown = subst (λ (x : Collected). Shows x (ring_of 0 w.header.size) (bytes_in w.memory) (last_used_in w.guest)) c.in-Head.is t.shown in
-    subst (λ (l : OutstandingRequests). c.in-Head.head < size_in l) (sym same) (head_placed w c.in-Head.head c.requires.stands shown.0 shown.1)
+pub collect-requires-clause-sound : goal.collect-requires-clause-sound
+collect-requires-clause-sound c = (c.requires.sound.parts c.args.queue c.index_mut-front.result.now (taken_front c.args.self.now c.from.result c.args.queue c.index_mut-front.result.now c.requires.sound c.from.ensures c.requires.event c.index_mut-front.ensures.value)).front
 
-pub collect-requires : goal.collect-requires
-collect-requires c =
+pub collect-requires-clause-placed : goal.collect-requires-clause-placed
+collect-requires-clause-placed c =
     let w : Machine = c.args.self.now in
-    let t = c.take_element.ensures in
-    let same : c.take_element.new.self.outstanding ≡ w.outstanding = ap (λ (u : Machine). u.outstanding) t.frame in
-    let shown = subst (λ (x : Collected). Shows x (ring_of 0 w.header.size) (bytes_in w.memory) (last_used_in w.guest)) c.in-Head.is t.shown in
-    record { some = subst (λ (l : OutstandingRequests). collected_in l < offered_in l) (sym same) (one_is_left w c.requires.stands shown.0) }
+    let f = c.index_mut-front.result.now in
+    shown_placed c.args.queue (parts_of c.args.queue f w) (guest_ring_is c.args.queue (parts_of c.args.queue f w) (c.requires.sound.parts c.args.queue f (taken_front c.args.self.now c.from.result c.args.queue c.index_mut-front.result.now c.requires.sound c.from.ensures c.requires.event c.index_mut-front.ensures.value))) (parts_stand w c.args.queue f c.requires.sound (taken_front c.args.self.now c.from.result c.args.queue c.index_mut-front.result.now c.requires.sound c.from.ensures c.requires.event c.index_mut-front.ensures.value) c.requires.stands)
+
+pub returns-clause-sound : goal.returns-clause-sound
+returns-clause-sound c =
+    let w : Machine = c.args.self.now in
+    let t = c.collect.ensures in
+    let keeps : KeepsFront c.index_mut-front.result.now c.collect.new.self = record { header = ap (λ f. f.header) t.frame; index = ap (λ f. f.index) t.frame; ring = ap (λ f. f.ring) t.frame } in
+    subst (λ k. IsSound (with_front_at w c.collect.new.memory k c.collect.new.self)) (sym c.from.ensures) (front_sound w c.collect.new.memory c.args.queue c.index_mut-front.result.now c.collect.new.self c.requires.sound (taken_front c.args.self.now c.from.result c.args.queue c.index_mut-front.result.now c.requires.sound c.from.ensures c.requires.event c.index_mut-front.ensures.value) keeps t.sound t.sizes)
 
 pub returns-clause-performs : goal.returns-clause-performs
-returns-clause-performs c es rs m s at = elim c.match-take_element.branch [
-  | in-Nothing b ↦
-      let w : Machine = c.args.self.now in
-      let t = c.take_element.ensures in
-      let taken : Machine = c.take_element.new.self in
-      let is : c.take_element.result ≡ takes.Nothing = b.in-Nothing.is in
-      let shown = subst (λ (x : Collected). Shows x (ring_of 0 w.header.size) (bytes_in w.memory) (last_used_in w.guest)) is t.shown in
-      let driver = subst (λ (x : Collected). Collects x (driver_in w.guest) (driver_in taken.guest) (last_used_in w.guest) (last_used_in taken.guest)) is t.driver in
-      let done = none_performs w taken.memory taken.guest m at t.memory shown driver.0 driver.1 in
-      let noted : c.into_items.result ≡ items.Idle ∷ [] =
-      c.into_items.ensures ∙ ap (λ (r : RoomState). r.items) (b.room-is ∙ b.note.ensures) ∙ ap (λ (r : RoomState). r.items ++ items.Idle ∷ []) c.in_ok-room.ensures in
-      (done.0, ap (λ (js : List Item). played js done.0) noted ∙ done.1, subst (λ (u : Machine). MachineAt u done.0) (sym (b.self-is ∙ t.frame)) done.2)
-  | in-Head b ↦
-      let w : Machine = c.args.self.now in
-      let t = c.take_element.ensures in
-      let taken : Machine = c.take_element.new.self in
-      let outstanding : OutstandingRequests = b.collect.new.self in
-      let head = b.in-Head.head in
-      let same : taken.outstanding ≡ w.outstanding = ap (λ (u : Machine). u.outstanding) t.frame in
-      let shown = subst (λ (x : Collected). Shows x (ring_of 0 w.header.size) (bytes_in w.memory) (last_used_in w.guest)) b.in-Head.is t.shown in
-      let driver = subst (λ (x : Collected). Collects x (driver_in w.guest) (driver_in taken.guest) (last_used_in w.guest) (last_used_in taken.guest)) b.in-Head.is t.driver in
-      let one : TakesOne taken.outstanding outstanding = record { collects = b.collect.ensures.collected; offers = b.collect.ensures.offered; places = b.collect.ensures.size; slots = b.collect.ensures.slots } in
-      let done = head_performs w taken.memory taken.guest outstanding es rs m head s at t.memory shown.0 shown.1 driver.0 driver.1 (subst (λ (l : OutstandingRequests). TakesOne l outstanding) same one) in
-      let found : b.at-number.result ≡ slot_in w.outstanding head = b.at-number.ensures ∙ ap (λ (l : OutstandingRequests). slot_in l head) same in
-      let noted : c.into_items.result ≡ items.Made (entries.Collect 0 (slot_in w.outstanding head).number) ∷ [] =
-      c.into_items.ensures ∙ ap (λ (r : RoomState). r.items) (b.room-is ∙ b.note-in-Head.ensures)
-      ∙ ap (λ (r : RoomState). r.items ++ items.Made (entries.Collect 0 b.at-number.result.number) ∷ []) c.in_ok-room.ensures
-      ∙ ap (λ (o : OutstandingRequest). items.Made (entries.Collect 0 o.number) ∷ []) found in
-      let self : c.match-take_element.self ≡ record w { memory = taken.memory; guest = taken.guest; outstanding = outstanding } = b.self-is ∙ ap (λ (u : Machine). record u { outstanding = outstanding }) t.frame in
-      (done.0, ap (λ (js : List Item). played js done.0) noted ∙ done.1, subst (λ (u : Machine). MachineAt u done.0) (sym self) done.2)
-]
+returns-clause-performs c es rs m s at =
+    let w : Machine = c.args.self.now in
+    let t = c.collect.ensures in
+    let done = collect_on w c.collect.new.memory c.args.queue c.index_mut-front.result.now c.collect.new.self es rs m c.collect.result c.requires.sound (taken_front c.args.self.now c.from.result c.args.queue c.index_mut-front.result.now c.requires.sound c.from.ensures c.requires.event c.index_mut-front.ensures.value) s at t.memory t.frame t.takes in
+    let item : c.match-collect.item ≡ taken_item c.args.queue c.collect.result = elim c.match-collect.branch [
+      | in-Some b ↦ b.item-is ∙ sym (ap (taken_item c.args.queue) b.in-Some.is)
+      | in-None b ↦ b.item-is ∙ sym (ap (taken_item c.args.queue) b.in-None.is)
+    ] in
+    let noted : c.into_items.result ≡ taken_item c.args.queue c.collect.result ∷ [] =
+    c.into_items.ensures ∙ ap (λ (r : RoomState). r.items) c.note.ensures ∙ ap (λ (r : RoomState). r.items ++ c.match-collect.item ∷ []) c.in_ok-room.ensures ∙ ap (λ (i : Item). i ∷ []) item in
+    (done.0, ap (λ (js : List Item). played js done.0) noted ∙ done.1, subst (λ k. MachineAt (with_front_at w c.collect.new.memory k c.collect.new.self) done.0) (sym c.from.ensures) done.2)

@@ -11,4 +11,5 @@ pub returns-clause-performs : goal.returns-clause-performs
 returns-clause-performs c =
     let w = c.args.self.now in
     let now = c.several.new.self in
-    ok_then (λ is. PlaysTurns w now sequences.Drain (2 ^ 64 - 1) is) (λ is. Performs w now (events.Drain 0) is) c.several.result (λ is plays. drain_performs w now (2 ^ 64 - 1) is (omega arith) plays) c.several.ensures.plays
+    let q = c.args.queue in
+    ok_then (λ is. PlaysTurns q w now sequences.Drain (2 ^ 64 - 1) is) (λ is. Performs w now (events.Drain q) is) c.several.result (λ is plays. drain_performs q w now (2 ^ 64 - 1) is (omega arith) plays) c.several.ensures.plays

@@ -1,51 +1,58 @@
-use Rattle.std.proofs.Common.{◌≡◌, ◌≤◌, ℕ, List, [], length, refl, sym, ap, subst, ◌∙◌, true, false, inl, inr, arith}
-use Rattle.std.proofs.lemmas.Bool.{cases_lt}
-use Rattle.std.specs.Prelude.{Option, Some, None, is_some, not}
-use Rattle.vub_base.specs.declared.request.Ask.{Ask}
-use Rattle.vub_driver.specs.Drivers.{Driver, Waiting}
+use Rattle.std.proofs.Common.{◌≡◌, ℕ, List, [], sym, ap, subst, ◌∙◌, arith, true}
+use Rattle.std.specs.Prelude.{Some, is_some, not}
+use Rattle.vub_driver.specs.Drivers.{Waiting}
 use Rattle.vub_report.specs.declared.items.Item.{Item}
+use Rattle.vub_run.specs.Run.{played}
+use Rattle.vub_schedule.specs.declared.types.Event.TheVariants as events
+use Rattle.vub_world.specs.declared.front.Front.{Front}
 use Rattle.vub_world.specs.declared.machine.Machine.{Machine}
-use Rattle.vub_guest.specs.GuestState.{driver_in}
-use Rattle.vub_world.specs.MachineAt.{AskAt, MachineAt}
-use Rattle.vub_world.specs.MachineFront.{GuestGoes}
-use Rattle.vub_run.specs.Moments.{Moment}
-use Rattle.vub_run.specs.Run.{played, guest}
+use Rattle.vub_world.specs.Fronts.{parts_of, desk}
+use Rattle.vub_world.specs.Machine.{IsSound}
+use Rattle.vub_world.specs.MachineAt.{FrontAt, MachineAt, Performs}
+use Rattle.vub_world.specs.MachineFront.{FrontFits, GuestGoes}
+use Rattle.vub_world.proofs.MachineEvents.{ok_then}
+use Rattle.vub_world.proofs.MachineDrivers.{guest_on, guest_idle}
 use Rattle.vub_world.proofs.MachineGuestFits.{front_fits}
-use Rattle.vub_world.proofs.MachineGuestOffers.{guest_performs}
-use Rattle.vub_guest.proofs.GuestLemmas.{left_few, left_some}
-use Rattle.vub_world.proofs.MachineGuests.{all_gone}
+use Rattle.vub_world.proofs.MachineParts.{KeepsFront, taken_front, parts_stand, with_front_at, front_sound}
 use Rattle.vub_world.proofs.machine.Machine.guest.Goals as goal
 
-pub guest_stores-requires-clause-fits : goal.guest_stores-requires-clause-fits
-guest_stores-requires-clause-fits c = front_fits c.args.self.now c.requires.stands
+pub stores-requires-clause-sound : goal.stores-requires-clause-sound
+stores-requires-clause-sound c = (c.requires.sound.parts c.args.queue c.index_mut.result.now (taken_front c.args.self.now c.from-place.result c.args.queue c.index_mut.result.now c.requires.sound c.from-place.ensures c.requires.event.0 c.index_mut.ensures.value)).front
+
+pub stores-requires-clause-fits : goal.stores-requires-clause-fits
+stores-requires-clause-fits c =
+    let w : Machine = c.args.self.now in
+    let q : ℕ = c.args.queue in
+    let f : Front = c.index_mut.result.now in
+    subst (λ (k : ℕ). FrontFits k (desk w.memory f)) (sym (c.requires.sound.parts q f (taken_front c.args.self.now c.from-place.result c.args.queue c.index_mut.result.now c.requires.sound c.from-place.ensures c.requires.event.0 c.index_mut.ensures.value)).index) (front_fits q (parts_of q f w) (parts_stand w q f c.requires.sound (taken_front c.args.self.now c.from-place.result c.args.queue c.index_mut.result.now c.requires.sound c.from-place.ensures c.requires.event.0 c.index_mut.ensures.value) c.requires.stands))
+
+pub returns-clause-sound : goal.returns-clause-sound
+returns-clause-sound c =
+    let w : Machine = c.args.self.now in
+    let t = c.stores.ensures in
+    let keeps : KeepsFront c.index_mut.result.now c.stores.new.self = record { header = ap (λ f. f.header) t.frame; index = ap (λ f. f.index) t.frame; ring = ap (λ f. f.ring) t.frame } in
+    subst (λ k. IsSound (with_front_at w c.stores.new.memory k c.stores.new.self)) (sym c.from-place.ensures) (front_sound w c.stores.new.memory c.args.queue c.index_mut.result.now c.stores.new.self c.requires.sound (taken_front c.args.self.now c.from-place.result c.args.queue c.index_mut.result.now c.requires.sound c.from-place.ensures c.requires.event.0 c.index_mut.ensures.value) keeps t.sound t.sizes)
 
 pub returns-clause-performs : goal.returns-clause-performs
-returns-clause-performs c es rs m s at = go (m.lanes 0).driver.waiting refl
-  where
-    w : Machine
-    w = c.args.self.now
+returns-clause-performs c es rs m s at =
+    let w : Machine = c.args.self.now in
+    let q : ℕ = c.args.queue in
+    let f : Front = c.index_mut.result.now in
+    let g : Front = c.stores.new.self in
+    let most : ℕ = c.min-most.result in
+    let is : List Item = c.finish.result in
+    let begins : c.in_ok-room.room.items ≡ [] = ap (λ r. r.items) c.in_ok-room.ensures in
+    let goes : (x : Waiting) → FrontAt f.index (desk w.memory f) m → (m.lanes f.index).driver.waiting ≡ Some x → GuestGoes f.index most x (desk w.memory f) (desk c.stores.new.memory g) m [] is = λ x front waits. subst (λ (js : List Item). GuestGoes f.index most x (desk w.memory f) (desk c.stores.new.memory g) m [] js) (sym c.finish.ensures)
+    (subst (λ (js : List Item). GuestGoes f.index most x (desk w.memory f) (desk c.stores.new.memory g) m js c.stores.new.room.items) begins (c.stores.ensures.goes m x front waits)) in
+    let both : Some f ≡ Some c.index.result.now = sym (taken_front c.args.self.now c.from-place.result c.args.queue c.index_mut.result.now c.requires.sound c.from-place.ensures c.requires.event.0 c.index_mut.ensures.value) ∙ taken_front c.args.self.now c.from-place.result c.args.queue c.index.result.now c.requires.sound c.from-place.ensures c.requires.event.0 c.index.ensures in
+    let same : f ≡ c.index.result.now = cc both in
+    let asked : is_some f.asked ≡ true = ap (λ (y : Front). is_some y.asked) same ∙ c.is_none.ensures ∙ ap not c.if-is_none.false in
+    let done = guest_on w c.stores.new.memory q f g es rs m is c.args.stores most c.requires.sound (taken_front c.args.self.now c.from-place.result c.args.queue c.index_mut.result.now c.requires.sound c.from-place.ensures c.requires.event.0 c.index_mut.ensures.value) s at asked c.min-most.ensures (omega (arith, c.ranges.stores.fits)) c.stores.ensures.frame c.stores.ensures.position goes in
+    (done.0, done.1, subst (λ k. MachineAt (with_front_at w c.stores.new.memory k g) done.0) (sym c.from-place.ensures) done.2)
 
-    now : Machine
-    now = c.guest_stores.new.self
-
-    is : List Item
-    is = c.finish.result
-
-    go : (o : Option Waiting) → (m.lanes 0).driver.waiting ≡ o → (next : Moment) × (played is next ≡ guest w.header 0 c.args.stores m) × MachineAt now next
-    go None e =
-        let none : w.asked ≡ None = subst (λ (o : Option Waiting). AskAt o w.asked) e at.front.asks in
-        let fails : false ≡ true = ap (λ (a : Option Ask). is_some a) (sym none) ∙ c.is_none.ensures ∙ ap not c.if-is_none.false in
-        absurd (cc)
-    go (Some x) e =
-        let goes = c.guest_stores.ensures.goes m x at.front e in
-        let begins : c.in_ok-room.room.items ≡ [] = ap (λ r. r.items) c.in_ok-room.ensures in
-        let most : ℕ = c.min-most.result in
-        let made : GuestGoes most x w now m [] is = subst (λ (js : List Item). GuestGoes most x w now m [] js) (sym c.finish.ensures)
-        (subst (λ (js : List Item). GuestGoes most x w now m js c.guest_stores.new.room.items) begins goes) in
-        let waits : (driver_in w.guest).waiting ≡ Some x = ap (λ (v : Driver). v.waiting) at.front.driver ∙ e in
-        let few : length x.left ≤ 8 = left_few w.guest x waits in
-        let here : GuestGoes c.args.stores x w now m [] is = elim (cases_lt 8 c.args.stores) [
-          | inl more ↦ all_gone most c.args.stores x w now m [] is (omega (arith, few, more, c.min-most.ensures)) (omega (arith, more, c.min-most.ensures)) made
-          | inr less ↦ subst (λ (k : ℕ). GuestGoes k x w now m [] is) (omega (arith, less, c.min-most.ensures)) made
-        ] in
-        guest_performs w now es rs m x is c.args.stores c.guest_stores.ensures.frame c.guest_stores.ensures.position s at (omega (arith, c.ranges.stores.fits)) (left_some w.guest x waits) e here
+pub returns-then-is_none-clause-performs : goal.returns-then-is_none-clause-performs
+returns-then-is_none-clause-performs c =
+    let w : Machine = c.args.self.now in
+    ok_then _ (λ is. Performs w w (events.Guest c.args.queue c.args.stores) is) c.idle.result
+    (λ is noted es rs m s at. (m, ap (λ (js : List Item). played js m) noted ∙ guest_idle w c.args.queue c.index.result.now m c.args.stores (taken_front c.args.self.now c.from-place.result c.args.queue c.index.result.now c.requires.sound c.from-place.ensures c.requires.event.0 c.index.ensures) at (c.is_none.ensures ∙ ap not c.if-is_none.true), at))
+    c.idle.ensures

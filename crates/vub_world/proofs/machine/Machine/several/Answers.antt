@@ -1,31 +1,138 @@
-use Rattle.std.proofs.Common.{[], List, ap, ◌∙◌, sym, subst, Bool, ℕ, ◌≤◌}
-use Rattle.vub_world.specs.declared.machine.Machine.{Machine}
+use Rattle.std.proofs.Common.{◌≡◌, ◌<◌, ◌≤◌, [], ℕ, List, Bool, length, set, ap, sym, ◌∙◌, subst, arith}
+use Rattle.std.specs.Prelude.{Some, slice_get, get_or}
+use Rattle.std.specs.Vec.{with_item}
+use Rattle.std.proofs.lemmas.List.{length-set}
+use Rattle.vub_base.specs.declared.header.Header1.{Header1}
+use Rattle.vub_queue.specs.declared.queue.Queue.{Queue}
+use Rattle.vub_queue_in_run.proofs.WorkAtLists.{slice_get-set_same}
 use Rattle.vub_report.specs.declared.items.Item.{Item}
-use Rattle.vub_world.specs.MachineSteps.{TurnsGo}
 use Rattle.vub_room.specs.Rooms.{RoomState}
-use Rattle.vub_world.proofs.MachineTurnEvents.{standing_few, several_idle, several_made}
-use Rattle.vub_world.proofs.machine.Machine.several.Goals.{then-not-turns, else-not-turns}
-use Rattle.vub_world.proofs.machine.Machine.several.Goals as goal
+use Rattle.vub_run.specs.Run.{Stands}
+use Rattle.vub_world.specs.declared.front.Front.{Front}
+use Rattle.vub_world.specs.declared.machine.Life.{Life}
+use Rattle.vub_world.specs.declared.machine.Machine.{Machine}
+use Rattle.vub_world.specs.Fronts.{Parts, PartsSound, parts, parts_of}
+use Rattle.vub_world.specs.Lives.{queue_of}
+use Rattle.vub_world.specs.Machine.{IsSound, AreAttached, AreInLife}
+use Rattle.vub_world.specs.MachineAt.{MachineAt, PartsAt}
+use Rattle.vub_world.specs.MachineSteps.{TurnsGo, TurnsEvent, PlaysTurns}
+use Rattle.vub_world.proofs.MachineEvents.{ok_then}
 use Rattle.vub_world.proofs.MachineGuestCollects.{collects_within}
+use Rattle.vub_world.proofs.MachineParts.{TurnsBegin, HasTurned, found, parts_stand, turns_begin_at, turned_sound, turned_at, with_turned}
+use Rattle.vub_world.proofs.MachineStarts.{unattached_on}
+use Rattle.vub_world.proofs.MachineTurnEvents.{standing_few, several_idle, several_made, several_none, turns_event_as, turns_event_of}
+use Rattle.vub_world.proofs.machine.Machine.several.Goals.{then-not-made, else-not-made}
+use Rattle.vub_world.proofs.machine.Machine.several.Goals as goal
 
 pub count-undone-requires : goal.count-undone-requires
-count-undone-requires c = collects_within c.args.self.now c.requires.stands
+count-undone-requires c =
+    let w : Machine = c.args.self.now in
+    let q : ℕ = c.args.queue in
+    let f : Front = c.index-front.result.now in
+    let sound : IsSound w = c.requires.sound in
+    let is : slice_get w.fronts.items q ≡ Some f = found w.fronts.items q f (omega (arith, c.requires.exists, sound.many)) (c.index-front.ensures ∙ ap (λ (k : ℕ). get_or w.fronts.items k f) c.from-place.ensures) in
+    collects_within q (parts_of q f w) (parts_stand w q f sound is c.requires.stands)
 
 pub for_turns-requires : goal.for_turns-requires
-for_turns-requires c = record { few = subst (λ (n : ℕ). n ≤ 64) (sym c.count-undone.ensures) (standing_few c.args.self.now c.requires.stands) }
+for_turns-requires c =
+    let w : Machine = c.args.self.now in
+    let q : ℕ = c.args.queue in
+    let f : Front = c.index-front.result.now in
+    let sound : IsSound w = c.requires.sound in
+    let is : slice_get w.fronts.items q ≡ Some f = found w.fronts.items q f (omega (arith, c.requires.exists, sound.many)) (c.index-front.ensures ∙ ap (λ (k : ℕ). get_or w.fronts.items k f) c.from-place.ensures) in
+    record { few = subst (λ (n : ℕ). n ≤ 64) (sym c.count-undone.ensures) (standing_few q (parts_of q f w) (parts_stand w q f sound is c.requires.stands)) }
+
+pub returns-then-not-is_attached-clause-plays : goal.returns-then-not-is_attached-clause-plays
+returns-then-not-is_attached-clause-plays c =
+    let w : Machine = c.args.self.now in
+    ok_then _ (λ is. PlaysTurns c.args.queue w w c.args.sequence c.args.count is) c.idle.result
+    (λ is noted es rs m s at. several_none c.args.queue w.header (MachineAt w) c.args.sequence c.args.count m is (unattached_on w c.args.queue es rs m c.requires.sound c.requires.exists (sym c.is_attached.ensures ∙ c.if-not-is_attached.true) s at) at noted)
+    c.idle.ensures
+
+pub play_turns-made-requires-clause-sound : goal.play_turns-made-requires-clause-sound
+play_turns-made-requires-clause-sound c =
+    let w : Machine = c.args.self.now in
+    let q : ℕ = c.args.queue in
+    let f : Front = c.index-front.result.now in
+    let sound : IsSound w = c.requires.sound in
+    let is : slice_get w.fronts.items q ≡ Some f = found w.fronts.items q f (omega (arith, c.requires.exists, sound.many)) (c.index-front.ensures ∙ ap (λ (k : ℕ). get_or w.fronts.items k f) c.from-place.ensures) in
+    let u : Queue = c.index_mut.result.now in
+    let k : Life = c.in-Some-Some.field-0 in
+    let joined : k.queues ≡ Some c.in-Some-Some.queues = search in
+    let many : length c.in-Some-Some.queues.items ≡ w.header.queues = subst (λ o. AreAttached w.header.queues o) joined (subst (λ o. AreInLife w.header.queues o) c.in-Some-Some.is sound.attached) in
+    let there : slice_get c.in-Some-Some.queues.items q ≡ Some u = found c.in-Some-Some.queues.items q u (omega (arith, c.requires.exists, many)) (c.index_mut.ensures.value ∙ ap (λ (j : ℕ). get_or c.in-Some-Some.queues.items j u) c.from-place.ensures) in
+    let b : TurnsBegin w q f u = turns_begin_at w q f k c.in-Some-Some.queues.items u sound c.requires.stands is c.in-Some-Some.is (ap (queue_of q) joined) there in
+    b.sound
+
+pub play_turns-made-requires-clause-stands : goal.play_turns-made-requires-clause-stands
+play_turns-made-requires-clause-stands c =
+    let w : Machine = c.args.self.now in
+    let q : ℕ = c.args.queue in
+    let f : Front = c.index-front.result.now in
+    let sound : IsSound w = c.requires.sound in
+    let is : slice_get w.fronts.items q ≡ Some f = found w.fronts.items q f (omega (arith, c.requires.exists, sound.many)) (c.index-front.ensures ∙ ap (λ (k : ℕ). get_or w.fronts.items k f) c.from-place.ensures) in
+    let u : Queue = c.index_mut.result.now in
+    let k : Life = c.in-Some-Some.field-0 in
+    let joined : k.queues ≡ Some c.in-Some-Some.queues = search in
+    let many : length c.in-Some-Some.queues.items ≡ w.header.queues = subst (λ o. AreAttached w.header.queues o) joined (subst (λ o. AreInLife w.header.queues o) c.in-Some-Some.is sound.attached) in
+    let there : slice_get c.in-Some-Some.queues.items q ≡ Some u = found c.in-Some-Some.queues.items q u (omega (arith, c.requires.exists, many)) (c.index_mut.ensures.value ∙ ap (λ (j : ℕ). get_or c.in-Some-Some.queues.items j u) c.from-place.ensures) in
+    let b : TurnsBegin w q f u = turns_begin_at w q f k c.in-Some-Some.queues.items u sound c.requires.stands is c.in-Some-Some.is (ap (queue_of q) joined) there in
+    b.stands
+
+pub returns-clause-sound : goal.returns-clause-sound
+returns-clause-sound c =
+    let w : Machine = c.args.self.now in
+    let q : ℕ = c.args.queue in
+    let f : Front = c.index-front.result.now in
+    let sound : IsSound w = c.requires.sound in
+    let is : slice_get w.fronts.items q ≡ Some f = found w.fronts.items q f (omega (arith, c.requires.exists, sound.many)) (c.index-front.ensures ∙ ap (λ (k : ℕ). get_or w.fronts.items k f) c.from-place.ensures) in
+    let u : Queue = c.index_mut.result.now in
+    let k : Life = c.in-Some-Some.field-0 in
+    let joined : k.queues ≡ Some c.in-Some-Some.queues = search in
+    let many : length c.in-Some-Some.queues.items ≡ w.header.queues = subst (λ o. AreAttached w.header.queues o) joined (subst (λ o. AreInLife w.header.queues o) c.in-Some-Some.is sound.attached) in
+    let there : slice_get c.in-Some-Some.queues.items q ≡ Some u = found c.in-Some-Some.queues.items q u (omega (arith, c.requires.exists, many)) (c.index_mut.ensures.value ∙ ap (λ (j : ℕ). get_or c.in-Some-Some.queues.items j u) c.from-place.ensures) in
+    let b : TurnsBegin w q f u = turns_begin_at w q f k c.in-Some-Some.queues.items u sound c.requires.stands is c.in-Some-Some.is (ap (queue_of q) joined) there in
+    let u' : Queue = c.play_turns-made.new.queue in
+    let within : q < length c.in-Some-Some.queues.items = omega (arith, c.requires.exists, many) in
+    let has : HasTurned w q (record { queues = Some (with_item c.in-Some-Some.queues c.from-place.result u') }) u' = record {
+      many = length-set c.in-Some-Some.queues.items c.from-place.result u' ∙ many;
+      there = ap (λ (j : ℕ). slice_get (set c.in-Some-Some.queues.items j u') q) c.from-place.ensures ∙ slice_get-set_same c.in-Some-Some.queues.items q u' within;
+    } in
+    turned_sound w c.play_turns-made.new.memory q (record { queues = Some (with_item c.in-Some-Some.queues c.from-place.result u') }) u' c.play_turns-made.new.disk f sound is has (subst (λ (j : ℕ). PartsSound j (parts c.play_turns-made.new.memory f u' c.play_turns-made.new.disk)) b.index c.play_turns-made.ensures.sound)
 
 pub returns-clause-plays : goal.returns-clause-plays
 returns-clause-plays c es rs m stands at =
     let w : Machine = c.args.self.now in
-    let now : Machine = c.turns.new.self in
-    let after : List Item = c.turns.new.room.items in
-    let goes : TurnsGo c.turns.result c.args.sequence c.args.count w now m [] after =
-    subst (λ (xs : List Item). TurnsGo c.turns.result c.args.sequence c.args.count w now m xs after) c.in_ok-room.ensures.empty (c.turns.ensures.turns es rs m stands at) in
-    elim c.if-not-turns.branch [
-      | then-not-turns b ↦
-          several_idle w now c.args.sequence c.args.count m after c.finish.result (subst (λ (made : Bool). TurnsGo made c.args.sequence c.args.count w now m [] after) b.if-not-turns.true goes)
-          (c.finish.ensures ∙ ap (λ (r : RoomState). r.items) (b.room-is ∙ b.note.ensures))
-      | else-not-turns b ↦
-          several_made w now c.args.sequence c.args.count m after c.finish.result (subst (λ (made : Bool). TurnsGo made c.args.sequence c.args.count w now m [] after) b.if-not-turns.false goes)
-          (c.finish.ensures ∙ ap (λ (r : RoomState). r.items) b.room-is)
-    ]
+    let q : ℕ = c.args.queue in
+    let f : Front = c.index-front.result.now in
+    let sound : IsSound w = c.requires.sound in
+    let is : slice_get w.fronts.items q ≡ Some f = found w.fronts.items q f (omega (arith, c.requires.exists, sound.many)) (c.index-front.ensures ∙ ap (λ (k : ℕ). get_or w.fronts.items k f) c.from-place.ensures) in
+    let u : Queue = c.index_mut.result.now in
+    let k : Life = c.in-Some-Some.field-0 in
+    let joined : k.queues ≡ Some c.in-Some-Some.queues = search in
+    let many : length c.in-Some-Some.queues.items ≡ w.header.queues = subst (λ o. AreAttached w.header.queues o) joined (subst (λ o. AreInLife w.header.queues o) c.in-Some-Some.is sound.attached) in
+    let there : slice_get c.in-Some-Some.queues.items q ≡ Some u = found c.in-Some-Some.queues.items q u (omega (arith, c.requires.exists, many)) (c.index_mut.ensures.value ∙ ap (λ (j : ℕ). get_or c.in-Some-Some.queues.items j u) c.from-place.ensures) in
+    let b : TurnsBegin w q f u = turns_begin_at w q f k c.in-Some-Some.queues.items u sound c.requires.stands is c.in-Some-Some.is (ap (queue_of q) joined) there in
+    let u' : Queue = c.play_turns-made.new.queue in
+    let within : q < length c.in-Some-Some.queues.items = omega (arith, c.requires.exists, many) in
+    let has : HasTurned w q (record { queues = Some (with_item c.in-Some-Some.queues c.from-place.result u') }) u' = record {
+      many = length-set c.in-Some-Some.queues.items c.from-place.result u' ∙ many;
+      there = ap (λ (j : ℕ). slice_get (set c.in-Some-Some.queues.items j u') q) c.from-place.ensures ∙ slice_get-set_same c.in-Some-Some.queues.items q u' within;
+    } in
+    let i : ℕ = f.index in
+    let n : Parts = parts c.play_turns-made.new.memory f u' c.play_turns-made.new.disk in
+    let after : List Item = c.play_turns-made.new.room.items in
+    let s : Stands f.header es rs m = subst (λ (h : Header1). Stands h es rs m) (sym b.header) stands in
+    let goes : TurnsGo i f.header c.play_turns-made.result c.args.sequence c.args.count (PartsAt i n) m [] after =
+    subst (λ (xs : List Item). TurnsGo i f.header c.play_turns-made.result c.args.sequence c.args.count (PartsAt i n) m xs after) c.in_ok-room.ensures.empty (c.play_turns-made.ensures.turns es rs m s (b.at m at)) in
+    let made : TurnsEvent i f.header c.args.sequence c.args.count (PartsAt i n) m c.finish.result = elim c.if-not-made.branch [
+      | then-not-made e ↦
+          several_idle i f.header (PartsAt i n) c.args.sequence c.args.count m after c.finish.result (subst (λ (some : Bool). TurnsGo i f.header some c.args.sequence c.args.count (PartsAt i n) m [] after) e.if-not-made.true goes)
+          (c.finish.ensures ∙ ap (λ (r : RoomState). r.items) (e.room-is ∙ e.note.ensures))
+      | else-not-made e ↦
+          several_made i f.header (PartsAt i n) c.args.sequence c.args.count m after c.finish.result (subst (λ (some : Bool). TurnsGo i f.header some c.args.sequence c.args.count (PartsAt i n) m [] after) e.if-not-made.false goes)
+          (c.finish.ensures ∙ ap (λ (r : RoomState). r.items) e.room-is)
+    ] in
+    turns_event_as q w.header c.args.sequence c.args.count (PartsAt i n) (MachineAt (with_turned w c.play_turns-made.new.memory (record { queues = Some (with_item c.in-Some-Some.queues c.from-place.result u') }) c.play_turns-made.new.disk)) m c.finish.result
+    (λ next there_at. turned_at w c.play_turns-made.new.memory q (record { queues = Some (with_item c.in-Some-Some.queues c.from-place.result u') }) u' c.play_turns-made.new.disk f sound is has next (subst (λ (j : ℕ). PartsAt j n next) b.index there_at))
+    (turns_event_of i q f.header w.header c.args.sequence c.args.count (PartsAt i n) m c.finish.result b.index b.header made)

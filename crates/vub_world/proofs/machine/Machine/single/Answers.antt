@@ -1,44 +1,160 @@
-use Rattle.std.proofs.Common.{[], List, ap, ◌∙◌, sym, subst, Bool, not, ℕ, ◌≤◌, ◌+◌, ◌*◌, min}
-use Rattle.vub_steps.specs.declared.readiness.Turn.{Turn}
-use Rattle.vub_world.specs.declared.machine.Machine.{Machine}
-use Rattle.vub_queue.specs.declared.queue.Stepped.{Stepped}
-use Rattle.vub_report.specs.declared.items.Item.{Item}
-use Rattle.vub_world.specs.MachineDevice.{accepts}
-use Rattle.vub_world.specs.MachineSteps.{StepGoes}
+use Rattle.std.proofs.Common.{◌≡◌, ◌<◌, ◌≤◌, ◌+◌, ◌*◌, [], ℕ, List, Bool, not, min, length, set, ap, sym, ◌∙◌, subst, arith}
+use Rattle.std.specs.Prelude.{Some, slice_get, get_or}
+use Rattle.std.specs.Vec.{with_item}
+use Rattle.std.proofs.lemmas.List.{length-set}
+use Rattle.vub_base.specs.declared.header.Header1.{Header1}
 use Rattle.vub_queue.specs.QueueState.{is_idle}
+use Rattle.vub_queue.specs.declared.queue.Queue.{Queue}
+use Rattle.vub_queue.specs.declared.queue.Stepped.{Stepped}
+use Rattle.vub_queue_in_run.proofs.WorkAtLists.{slice_get-set_same}
+use Rattle.vub_report.specs.declared.items.Item.{Item}
 use Rattle.vub_room.specs.Rooms.{RoomState, HasRoom}
-use Rattle.vub_world.proofs.MachineTurnEvents.{standing_few, single_room, standing_reached, reached_now, single_idle, single_made}
+use Rattle.vub_run.specs.Moments.{Moment}
+use Rattle.vub_run.specs.Run.{Stands, played, single}
+use Rattle.vub_steps.specs.declared.readiness.Turn.{Turn}
+use Rattle.vub_world.specs.declared.front.Front.{Front}
+use Rattle.vub_world.specs.declared.machine.Life.{Life}
+use Rattle.vub_world.specs.declared.machine.Machine.{Machine}
+use Rattle.vub_world.specs.Fronts.{Parts, PartsSound, parts, parts_of}
+use Rattle.vub_world.specs.Lives.{queue_of}
+use Rattle.vub_world.specs.Machine.{IsSound, AreAttached, AreInLife}
+use Rattle.vub_world.specs.MachineAt.{MachineAt, PartsAt}
+use Rattle.vub_world.specs.MachineDevice.{accepts}
+use Rattle.vub_world.specs.MachineSteps.{StepGoes, PlaysSingle}
+use Rattle.vub_world.proofs.MachineEvents.{ok_then}
+use Rattle.vub_world.proofs.MachineGuestCollects.{collects_within}
+use Rattle.vub_world.proofs.MachineParts.{TurnsBegin, HasTurned, found, parts_stand, turns_begin_at, turned_sound, turned_at, with_turned}
+use Rattle.vub_world.proofs.MachineStarts.{unattached_on}
+use Rattle.vub_world.proofs.MachineTurnEvents.{standing_few, single_room, standing_reached, reached_now, single_idle, single_made, single_as, single_none}
 use Rattle.vub_world.proofs.machine.Machine.single.Goals.{then-is_idle, else-is_idle}
 use Rattle.vub_world.proofs.machine.Machine.single.Goals as goal
-use Rattle.vub_world.proofs.MachineGuestCollects.{collects_within}
 
 pub count-undone-requires : goal.count-undone-requires
-count-undone-requires c = collects_within c.args.self.now c.requires.stands
+count-undone-requires c =
+    let w : Machine = c.args.self.now in
+    let q : ℕ = c.args.queue in
+    let f : Front = c.index-front.result.now in
+    let sound : IsSound w = c.requires.sound in
+    let is : slice_get w.fronts.items q ≡ Some f = found w.fronts.items q f (omega (arith, c.requires.exists, sound.many)) (c.index-front.ensures ∙ ap (λ (k : ℕ). get_or w.fronts.items k f) c.from-place.ensures) in
+    collects_within q (parts_of q f w) (parts_stand w q f sound is c.requires.stands)
 
 pub for_turns-requires : goal.for_turns-requires
-for_turns-requires c = record { few = subst (λ (n : ℕ). n ≤ 64) (sym c.count-undone.ensures) (standing_few c.args.self.now c.requires.stands) }
+for_turns-requires c =
+    let w : Machine = c.args.self.now in
+    let q : ℕ = c.args.queue in
+    let f : Front = c.index-front.result.now in
+    let sound : IsSound w = c.requires.sound in
+    let is : slice_get w.fronts.items q ≡ Some f = found w.fronts.items q f (omega (arith, c.requires.exists, sound.many)) (c.index-front.ensures ∙ ap (λ (k : ℕ). get_or w.fronts.items k f) c.from-place.ensures) in
+    record { few = subst (λ (n : ℕ). n ≤ 64) (sym c.count-undone.ensures) (standing_few q (parts_of q f w) (parts_stand w q f sound is c.requires.stands)) }
 
-pub step-requires-clause-stands : goal.step-requires-clause-stands
-step-requires-clause-stands c = standing_reached c.args.self.now c.requires.stands
+pub returns-then-not-is_attached-clause-plays : goal.returns-then-not-is_attached-clause-plays
+returns-then-not-is_attached-clause-plays c =
+    let w : Machine = c.args.self.now in
+    ok_then _ (λ is. PlaysSingle c.args.queue w w c.args.turn is) c.idle.result
+    (λ is noted es rs m s at. single_none c.args.queue w.header (MachineAt w) c.args.turn m is (unattached_on w c.args.queue es rs m c.requires.sound c.requires.exists (sym c.is_attached.ensures ∙ c.if-not-is_attached.true) s at) at noted)
+    c.idle.ensures
 
-pub step-requires-clause-room : goal.step-requires-clause-room
-step-requires-clause-room c =
-    single_room c.args.self.now c.in_ok-room.room c.requires.stands (subst (λ (n : ℕ). HasRoom (min 1 (21 * n + 3)) n c.in_ok-room.room) c.count-undone.ensures c.in_ok-room.ensures.room)
+pub play-stepped-requires-clause-sound : goal.play-stepped-requires-clause-sound
+play-stepped-requires-clause-sound c =
+    let w : Machine = c.args.self.now in
+    let q : ℕ = c.args.queue in
+    let f : Front = c.index-front.result.now in
+    let sound : IsSound w = c.requires.sound in
+    let is : slice_get w.fronts.items q ≡ Some f = found w.fronts.items q f (omega (arith, c.requires.exists, sound.many)) (c.index-front.ensures ∙ ap (λ (k : ℕ). get_or w.fronts.items k f) c.from-place.ensures) in
+    let u : Queue = c.index_mut.result.now in
+    let k : Life = c.in-Some-Some.field-0 in
+    let joined : k.queues ≡ Some c.in-Some-Some.queues = search in
+    let many : length c.in-Some-Some.queues.items ≡ w.header.queues = subst (λ o. AreAttached w.header.queues o) joined (subst (λ o. AreInLife w.header.queues o) c.in-Some-Some.is sound.attached) in
+    let there : slice_get c.in-Some-Some.queues.items q ≡ Some u = found c.in-Some-Some.queues.items q u (omega (arith, c.requires.exists, many)) (c.index_mut.ensures.value ∙ ap (λ (j : ℕ). get_or c.in-Some-Some.queues.items j u) c.from-place.ensures) in
+    let b : TurnsBegin w q f u = turns_begin_at w q f k c.in-Some-Some.queues.items u sound c.requires.stands is c.in-Some-Some.is (ap (queue_of q) joined) there in
+    b.sound
+
+pub play-stepped-requires-clause-stands : goal.play-stepped-requires-clause-stands
+play-stepped-requires-clause-stands c =
+    let w : Machine = c.args.self.now in
+    let q : ℕ = c.args.queue in
+    let f : Front = c.index-front.result.now in
+    let sound : IsSound w = c.requires.sound in
+    let is : slice_get w.fronts.items q ≡ Some f = found w.fronts.items q f (omega (arith, c.requires.exists, sound.many)) (c.index-front.ensures ∙ ap (λ (k : ℕ). get_or w.fronts.items k f) c.from-place.ensures) in
+    let u : Queue = c.index_mut.result.now in
+    let k : Life = c.in-Some-Some.field-0 in
+    let joined : k.queues ≡ Some c.in-Some-Some.queues = search in
+    let many : length c.in-Some-Some.queues.items ≡ w.header.queues = subst (λ o. AreAttached w.header.queues o) joined (subst (λ o. AreInLife w.header.queues o) c.in-Some-Some.is sound.attached) in
+    let there : slice_get c.in-Some-Some.queues.items q ≡ Some u = found c.in-Some-Some.queues.items q u (omega (arith, c.requires.exists, many)) (c.index_mut.ensures.value ∙ ap (λ (j : ℕ). get_or c.in-Some-Some.queues.items j u) c.from-place.ensures) in
+    let b : TurnsBegin w q f u = turns_begin_at w q f k c.in-Some-Some.queues.items u sound c.requires.stands is c.in-Some-Some.is (ap (queue_of q) joined) there in
+    standing_reached f.index (parts w.memory f u w.disk) b.stands
+
+pub play-stepped-requires-clause-room : goal.play-stepped-requires-clause-room
+play-stepped-requires-clause-room c =
+    let w : Machine = c.args.self.now in
+    let q : ℕ = c.args.queue in
+    let f : Front = c.index-front.result.now in
+    let sound : IsSound w = c.requires.sound in
+    let is : slice_get w.fronts.items q ≡ Some f = found w.fronts.items q f (omega (arith, c.requires.exists, sound.many)) (c.index-front.ensures ∙ ap (λ (k : ℕ). get_or w.fronts.items k f) c.from-place.ensures) in
+    let u : Queue = c.index_mut.result.now in
+    let k : Life = c.in-Some-Some.field-0 in
+    let joined : k.queues ≡ Some c.in-Some-Some.queues = search in
+    let many : length c.in-Some-Some.queues.items ≡ w.header.queues = subst (λ o. AreAttached w.header.queues o) joined (subst (λ o. AreInLife w.header.queues o) c.in-Some-Some.is sound.attached) in
+    let there : slice_get c.in-Some-Some.queues.items q ≡ Some u = found c.in-Some-Some.queues.items q u (omega (arith, c.requires.exists, many)) (c.index_mut.ensures.value ∙ ap (λ (j : ℕ). get_or c.in-Some-Some.queues.items j u) c.from-place.ensures) in
+    let b : TurnsBegin w q f u = turns_begin_at w q f k c.in-Some-Some.queues.items u sound c.requires.stands is c.in-Some-Some.is (ap (queue_of q) joined) there in
+    single_room f.index (parts w.memory f u w.disk) c.in_ok-room.room b.stands (subst (λ (n : ℕ). HasRoom (min 1 (21 * n + 3)) n c.in_ok-room.room) c.count-undone.ensures c.in_ok-room.ensures.room)
+
+pub returns-clause-sound : goal.returns-clause-sound
+returns-clause-sound c =
+    let w : Machine = c.args.self.now in
+    let q : ℕ = c.args.queue in
+    let f : Front = c.index-front.result.now in
+    let sound : IsSound w = c.requires.sound in
+    let is : slice_get w.fronts.items q ≡ Some f = found w.fronts.items q f (omega (arith, c.requires.exists, sound.many)) (c.index-front.ensures ∙ ap (λ (k : ℕ). get_or w.fronts.items k f) c.from-place.ensures) in
+    let u : Queue = c.index_mut.result.now in
+    let k : Life = c.in-Some-Some.field-0 in
+    let joined : k.queues ≡ Some c.in-Some-Some.queues = search in
+    let many : length c.in-Some-Some.queues.items ≡ w.header.queues = subst (λ o. AreAttached w.header.queues o) joined (subst (λ o. AreInLife w.header.queues o) c.in-Some-Some.is sound.attached) in
+    let there : slice_get c.in-Some-Some.queues.items q ≡ Some u = found c.in-Some-Some.queues.items q u (omega (arith, c.requires.exists, many)) (c.index_mut.ensures.value ∙ ap (λ (j : ℕ). get_or c.in-Some-Some.queues.items j u) c.from-place.ensures) in
+    let b : TurnsBegin w q f u = turns_begin_at w q f k c.in-Some-Some.queues.items u sound c.requires.stands is c.in-Some-Some.is (ap (queue_of q) joined) there in
+    let u' : Queue = c.play-stepped.new.queue in
+    let within : q < length c.in-Some-Some.queues.items = omega (arith, c.requires.exists, many) in
+    let has : HasTurned w q (record { queues = Some (with_item c.in-Some-Some.queues c.from-place.result u') }) u' = record {
+      many = length-set c.in-Some-Some.queues.items c.from-place.result u' ∙ many;
+      there = ap (λ (j : ℕ). slice_get (set c.in-Some-Some.queues.items j u') q) c.from-place.ensures ∙ slice_get-set_same c.in-Some-Some.queues.items q u' within;
+    } in
+    turned_sound w c.play-stepped.new.memory q (record { queues = Some (with_item c.in-Some-Some.queues c.from-place.result u') }) u' c.play-stepped.new.disk f sound is has (subst (λ (j : ℕ). PartsSound j (parts c.play-stepped.new.memory f u' c.play-stepped.new.disk)) b.index c.play-stepped.ensures.sound)
 
 pub returns-clause-plays : goal.returns-clause-plays
 returns-clause-plays c es rs m stands at =
     let w : Machine = c.args.self.now in
-    let now : Machine = c.step.new.self in
-    let x : Stepped = c.step.result in
+    let q : ℕ = c.args.queue in
+    let f : Front = c.index-front.result.now in
+    let sound : IsSound w = c.requires.sound in
+    let is : slice_get w.fronts.items q ≡ Some f = found w.fronts.items q f (omega (arith, c.requires.exists, sound.many)) (c.index-front.ensures ∙ ap (λ (k : ℕ). get_or w.fronts.items k f) c.from-place.ensures) in
+    let u : Queue = c.index_mut.result.now in
+    let k : Life = c.in-Some-Some.field-0 in
+    let joined : k.queues ≡ Some c.in-Some-Some.queues = search in
+    let many : length c.in-Some-Some.queues.items ≡ w.header.queues = subst (λ o. AreAttached w.header.queues o) joined (subst (λ o. AreInLife w.header.queues o) c.in-Some-Some.is sound.attached) in
+    let there : slice_get c.in-Some-Some.queues.items q ≡ Some u = found c.in-Some-Some.queues.items q u (omega (arith, c.requires.exists, many)) (c.index_mut.ensures.value ∙ ap (λ (j : ℕ). get_or c.in-Some-Some.queues.items j u) c.from-place.ensures) in
+    let b : TurnsBegin w q f u = turns_begin_at w q f k c.in-Some-Some.queues.items u sound c.requires.stands is c.in-Some-Some.is (ap (queue_of q) joined) there in
+    let u' : Queue = c.play-stepped.new.queue in
+    let within : q < length c.in-Some-Some.queues.items = omega (arith, c.requires.exists, many) in
+    let has : HasTurned w q (record { queues = Some (with_item c.in-Some-Some.queues c.from-place.result u') }) u' = record {
+      many = length-set c.in-Some-Some.queues.items c.from-place.result u' ∙ many;
+      there = ap (λ (j : ℕ). slice_get (set c.in-Some-Some.queues.items j u') q) c.from-place.ensures ∙ slice_get-set_same c.in-Some-Some.queues.items q u' within;
+    } in
+    let i : ℕ = f.index in
+    let p : Parts = parts w.memory f u w.disk in
+    let n : Parts = parts c.play-stepped.new.memory f u' c.play-stepped.new.disk in
+    let x : Stepped = c.play-stepped.result in
     let t : Turn = c.args.turn in
-    let after : List Item = c.step.new.room.items in
-    let goes : StepGoes (not (is_idle x)) t w now m [] after 0 (accepts x) =
-    subst (λ (xs : List Item). StepGoes (not (is_idle x)) t w now m xs after 0 (accepts x)) c.in_ok-room.ensures.empty (c.step.ensures.goes m (reached_now w.header es rs m stands) at) in
-    elim c.if-is_idle.branch [
-      | then-is_idle b ↦
-          single_idle t w now m after c.finish.result (accepts x) (subst (λ (i : Bool). StepGoes (not i) t w now m [] after 0 (accepts x)) (sym c.is_idle.ensures ∙ b.if-is_idle.true) goes)
-          (c.finish.ensures ∙ ap (λ (r : RoomState). r.items) (b.room-is ∙ b.note.ensures))
-      | else-is_idle b ↦
-          single_made t w now m after c.finish.result (accepts x) (subst (λ (i : Bool). StepGoes (not i) t w now m [] after 0 (accepts x)) (sym c.is_idle.ensures ∙ b.if-is_idle.false) goes)
-          (c.finish.ensures ∙ ap (λ (r : RoomState). r.items) b.room-is)
-    ]
+    let after : List Item = c.play-stepped.new.room.items in
+    let s : Stands f.header es rs m = subst (λ (h : Header1). Stands h es rs m) (sym b.header) stands in
+    let goes : StepGoes i (not (is_idle x)) t p n m [] after 0 (accepts x) =
+    subst (λ (xs : List Item). StepGoes i (not (is_idle x)) t p n m xs after 0 (accepts x)) c.in_ok-room.ensures.empty (c.play-stepped.ensures.goes m (reached_now i f.header es rs m b.sound.front.exists s) (b.at m at)) in
+    let made : (next : Moment) × (played c.finish.result next ≡ single f.header i t m) × PartsAt i n next = elim c.if-is_idle.branch [
+      | then-is_idle e ↦
+          single_idle i t p n m after c.finish.result (accepts x) (subst (λ (idle : Bool). StepGoes i (not idle) t p n m [] after 0 (accepts x)) (sym c.is_idle.ensures ∙ e.if-is_idle.true) goes)
+          (c.finish.ensures ∙ ap (λ (r : RoomState). r.items) (e.room-is ∙ e.note.ensures))
+      | else-is_idle e ↦
+          single_made i t p n m after c.finish.result (accepts x) (subst (λ (idle : Bool). StepGoes i (not idle) t p n m [] after 0 (accepts x)) (sym c.is_idle.ensures ∙ e.if-is_idle.false) goes)
+          (c.finish.ensures ∙ ap (λ (r : RoomState). r.items) e.room-is)
+    ] in
+    single_as i q f.header w.header t (PartsAt i n) (MachineAt (with_turned w c.play-stepped.new.memory (record { queues = Some (with_item c.in-Some-Some.queues c.from-place.result u') }) c.play-stepped.new.disk)) m c.finish.result b.index b.header
+    (λ next there_at. turned_at w c.play-stepped.new.memory q (record { queues = Some (with_item c.in-Some-Some.queues c.from-place.result u') }) u' c.play-stepped.new.disk f sound is has next (subst (λ (j : ℕ). PartsAt j n next) b.index there_at)) made

@@ -12,5 +12,6 @@ pub returns-clause-performs : goal.returns-clause-performs
 returns-clause-performs c =
     let w = c.args.self.now in
     let now = c.several.new.self in
-    ok_then (λ is. PlaysTurns w now sequences.Any c.args.count is) (λ is. Performs w now (events.Turn 0 c.args.count) is) c.several.result (λ is plays. up_to_performs w now c.args.count is plays)
-    (subst (λ (n : ℕ). IfOk c.several.result (λ is. PlaysTurns w now sequences.Any n is)) c.from.ensures c.several.ensures.plays)
+    let q = c.args.queue in
+    ok_then (λ is. PlaysTurns q w now sequences.Any c.args.count is) (λ is. Performs w now (events.Turn q c.args.count) is) c.several.result (λ is plays. up_to_performs q w now c.args.count is plays)
+    (subst (λ (n : ℕ). IfOk c.several.result (λ is. PlaysTurns q w now sequences.Any n is)) c.from.ensures c.several.ensures.plays)

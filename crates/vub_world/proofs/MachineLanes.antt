@@ -1,0 +1,41 @@
+-- What stands at a moment where the lane of a queue is set.
+use Rattle.std.proofs.Common.{◌≡◌, ℕ, ap, sym, ◌∙◌, subst}
+use Rattle.std.specs.Prelude.{Option, Some, None}
+use Rattle.vub_base.specs.declared.header.Header1.{Header1}
+use Rattle.vub_driver.specs.Drivers.{Waiting, after_stores}
+use Rattle.vub_queue.specs.declared.queue.Queue.{Queue}
+use Rattle.vub_queue.specs.QueueState.{state_of}
+use Rattle.vub_queue_in_run.specs.QueueAt.{QueueAt}
+use Rattle.vub_run.specs.Moments.{Lane, Moment}
+use Rattle.vub_run.specs.Run.{with_lane, with_driver, guest_stores}
+use Rattle.vub_run_laws.proofs.RunOwn.{at_own}
+use Rattle.vub_split.specs.declared.split.SplitRing.{SplitRing}
+use Rattle.vub_world.specs.Fronts.{Desk}
+use Rattle.vub_world.specs.MachineAt.{AskAt, FrontAt, LifeAt}
+
+-- the moment where each queue has this lane
+abbrev pub all_lanes : Lane → Moment → Moment
+all_lanes l m = record m { lanes = λ p. l }
+
+pub life_with : (q : ℕ) (h : Header1) (r : SplitRing) (m : Moment) (l : Lane) (life : Option (Option Queue)) → LifeAt q h r (all_lanes l m) life → LifeAt q h r (with_lane q l m) life
+life_with q h r m l None at = at
+life_with q h r m l (Some None) at = (at.0, (at.1.0, ap (λ (k : Lane). k.attached) (at_own m.lanes q l) ∙ at.1.1, at.1.2))
+life_with q h r m l (Some (Some queue)) at = (
+  at.0,
+  (
+    at.1.0,
+    ap (λ (k : Lane). k.attached) (at_own m.lanes q l) ∙ at.1.1,
+    subst (λ (k : Lane). QueueAt q h r m.scene.past (m.scene.heads q) k.phase k.batch k.completed k.made (state_of queue)) (sym (at_own m.lanes q l)) at.1.2,
+  ),
+)
+
+pub front_with : (q : ℕ) (d : Desk) (m : Moment) (l : Lane) → FrontAt q d (all_lanes l m) → FrontAt q d (with_lane q l m)
+front_with q d m l at = record {
+  memory = at.memory;
+  driver = at.driver ∙ sym (ap (λ (k : Lane). k.driver) (at_own m.lanes q l));
+  asks = subst (λ (k : Lane). AskAt k.driver.waiting d.front.asked) (sym (at_own m.lanes q l)) at.asks;
+}
+
+-- the driver after so many stores of a request
+pub stored_driver : (q : ℕ) (h : Header1) (count : ℕ) (x : Waiting) (m : Moment) → ((guest_stores h q count (Some x) m).next.lanes q).driver ≡ after_stores count x (m.lanes q).driver
+stored_driver q h count x m = ap (λ (k : Lane). k.driver) (at_own m.lanes q (with_driver (after_stores count x (m.lanes q).driver) (m.lanes q)))

@@ -1,0 +1,241 @@
+-- What a machine has of a queue, and that it stands where the parts of its queue do. The grammar has one queue: there the
+-- number of each is 0.
+use Rattle.std.proofs.Common.{◌≡◌, ◌≤◌, ◌<◌, ℕ, zero, suc, true, false, List, [], ◌∷◌, length, set, refl, ap, sym, ◌∙◌, subst, arith}
+use Rattle.std.specs.Prelude.{Vec, not, slice_get, get_or, Option, Some, None, is_some}
+use Rattle.std.proofs.lemmas.List.{length-set, set-get_or}
+use Rattle.std.proofs.lemmas.Option.{slice_get-get_or, slice_get_within}
+use Rattle.std.specs.Vec.{with_item}
+use Rattle.std.proofs.Math.Nat.{ℕ_set}
+use Rattle.vub_base.specs.declared.header.Header1.{Header1}
+use Rattle.vub_driver.specs.Layout.{ring_of}
+use Rattle.vub_guest.specs.GuestState.{ring_in}
+use Rattle.vub_memdisk.specs.MemDisks.{capacity_of}
+use Rattle.vub_memdisk.specs.declared.mem_disk.MemDisk.{MemDisk}
+use Rattle.vub_queue.specs.declared.queue.Queue.{Queue}
+use Rattle.vub_queue_in_run.proofs.WorkAtLists.{slice_get-set_same}
+use Rattle.vub_run_laws.proofs.Sizes.{size_laps}
+use Rattle.vub_run.specs.Moments.{Moment}
+use Rattle.vub_run.specs.Run.{Stands}
+use Rattle.vub_shared.specs.Watched.{sizes_in}
+use Rattle.vub_shared.specs.declared.watched_shared.WatchedShared.{WatchedShared}
+use Rattle.vub_split.specs.declared.split.SplitRing.{SplitRing}
+use Rattle.vub_world.specs.declared.front.Front.{Front}
+use Rattle.vub_world.specs.declared.machine.Life.{Life}
+use Rattle.vub_world.specs.declared.machine.Machine.{Machine}
+use Rattle.vub_world.specs.Fronts.{Parts, FrontSound, PartsSound, parts, parts_of, offered_by}
+use Rattle.vub_world.specs.Lives.{RingOfLife, life_of, queue_of}
+use Rattle.vub_world.specs.Machine.{IsSound, AreAttached}
+use Rattle.vub_world.specs.MachineAt.{MachineAt, PartsAt, IsStanding, PartsStand}
+use Rattle.vub_world.specs.MachineDevice.{is_joining}
+use Rattle.vub_world.specs.OutstandingRequests.{offered_in}
+use Rattle.vub_world.proofs.MachineGuestOffers.{with_desk}
+use Rattle.vub_world.proofs.MachineLemmas.{life_lies}
+
+-- ---- the front of a queue
+
+-- what a place within has
+pub found : {A : Type 0} (xs : List A) (q : ℕ) (x : A) → q < length xs → x ≡ get_or xs q x → slice_get xs q ≡ Some x
+found xs q x within is = slice_get-get_or xs q x within ∙ ap Some (sym is)
+
+-- a place within has something
+pub found_there : {A : Type 0} (xs : List A) (q : ℕ) → q < length xs → (x : A) × (slice_get xs q ≡ Some x)
+found_there [] q less = absurd (omega (arith, less))
+found_there (x ∷ xs) zero less = (x, refl)
+found_there (x ∷ xs) (suc q) less = found_there xs q (omega (arith, less))
+
+-- the front that an event takes, whose queue is the only one
+pub taken_front : (w : Machine) (place q : ℕ) (f : Front) → IsSound w → place ≡ q → q ≡ 0 → f ≡ get_or w.fronts.items place f → slice_get w.fronts.items q ≡ Some f
+taken_front w place q f sound same is taken = found w.fronts.items q f (omega (arith, is, sound.many, sound.header.one)) (taken ∙ ap (λ (k : ℕ). get_or w.fronts.items k f) same)
+
+-- the number of a queue that is there
+pub the_only : (w : Machine) (q : ℕ) (f : Front) → IsSound w → slice_get w.fronts.items q ≡ Some f → q ≡ 0
+the_only w q f sound is = let within : q < length w.fronts.items = slice_get_within w.fronts.items q f is in omega (arith, within, sound.many, sound.header.one)
+
+pub guest_ring_is : (q : ℕ) (p : Parts) → PartsSound q p → ring_in p.front.guest ≡ ring_of q p.front.header.size
+guest_ring_is q p sound = sound.front.guest ∙ ap (λ (k : ℕ). ring_of k p.front.header.size) sound.index
+
+-- it is below the number of queues
+pub the_low : (w : Machine) (q : ℕ) (f : Front) → IsSound w → slice_get w.fronts.items q ≡ Some f → q < f.header.queues
+the_low w q f sound is = let within : q < length w.fronts.items = slice_get_within w.fronts.items q f is in omega (arith, within, sound.many, ap (λ (h : Header1). h.queues) (sound.headers q f is))
+
+-- the parts of a queue stand where the machine does
+pub parts_stand : (w : Machine) (q : ℕ) (f : Front) → IsSound w → slice_get w.fronts.items q ≡ Some f → IsStanding w → PartsStand q (parts_of q f w)
+parts_stand w q f sound is stood = (stood.0, stood.1, (stood.2.0, subst (λ (h : Header1). Stands h stood.0 stood.1 stood.2.0) (sym (sound.headers q f is)) stood.2.1, stood.2.2.queues q f is, the_low w q f sound is))
+
+-- ---- the machine with another front
+
+-- what holds of the new front of the queue of an event holds of that of each queue
+pub each_front : (w : Machine) (q : ℕ) (f g : Front) (P : ℕ → Front → Type 0) → IsSound w → slice_get w.fronts.items q ≡ Some f → P q g → (p : ℕ) (x : Front) → slice_get (set w.fronts.items q g) p ≡ Some x → P p x
+each_front w q f g P sound is holds p x found_x =
+    let zero_q : q ≡ 0 = the_only w q f sound is in
+    let within : q < length w.fronts.items = slice_get_within w.fronts.items q f is in
+    let low : p < length (set w.fronts.items q g) = slice_get_within (set w.fronts.items q g) p x found_x in
+    let same : p ≡ q = omega (arith, low, zero_q, sound.many, sound.header.one, length-set w.fronts.items q g) in
+    let here : Some g ≡ Some x = sym (slice_get-set_same w.fronts.items q g within) ∙ ap (λ (k : ℕ). slice_get (set w.fronts.items q g) k) (sym same) ∙ found_x in
+    let it : g ≡ x = cc here in
+    subst (λ (k : ℕ). P k x) (sym same) (subst (λ (y : Front). P q y) it holds)
+
+-- what holds of the front of the queue of an event holds of that of each queue
+pub each_same : (w : Machine) (q : ℕ) (f : Front) (P : ℕ → Front → Type 0) → IsSound w → slice_get w.fronts.items q ≡ Some f → P q f → (p : ℕ) (x : Front) → slice_get w.fronts.items p ≡ Some x → P p x
+each_same w q f P sound is holds p x there =
+    let same : p ≡ q = the_only w p x sound there ∙ sym (the_only w q f sound is) in
+    let it : f ≡ x = let both : Some f ≡ Some x = sym is ∙ ap (λ (k : ℕ). slice_get w.fronts.items k) (sym same) ∙ there in cc both in
+    subst (λ (k : ℕ). P k x) (sym same) (subst (λ (y : Front). P q y) it holds)
+
+-- ---- how many requests were offered
+
+-- each queue's are among them
+pub offered_among : (fs : List Front) (q : ℕ) (f : Front) → slice_get fs q ≡ Some f → offered_in f.outstanding ≤ offered_by fs
+offered_among [] q f is = absurd (cc is)
+offered_among (x ∷ fs) zero f is = let it : x ≡ f = cc is in omega (arith, ap (λ (y : Front). offered_in y.outstanding) it)
+offered_among (x ∷ fs) (suc q) f is = omega (arith, offered_among fs q f is)
+
+-- those of one queue are all
+pub offered_only : (fs : List Front) (f : Front) → length fs ≡ 1 → slice_get fs 0 ≡ Some f → offered_by fs ≡ offered_in f.outstanding
+offered_only [] f one is = absurd (cc is)
+offered_only (x ∷ []) f one is = let it : x ≡ f = cc is in omega (arith, ap (λ (y : Front). offered_in y.outstanding) it)
+offered_only (x ∷ y ∷ fs) f one is = absurd (omega (arith, one))
+
+-- ---- the life of a queue
+
+-- the queues that are attached
+pub life_has : (l : Option Life) (k : Life) (qs : List Queue) (q : ℕ) (queue : Queue) → l ≡ Some k → queue_of q k.queues ≡ slice_get qs q → slice_get qs q ≡ Some queue → life_of q l ≡ Some (Some queue)
+life_has l k qs q queue is queues there = ap (life_of q) is ∙ ap (λ (o : Option Queue). Some o) (queues ∙ there)
+
+none_joining : {Z : Type 0} (o : Option (Vec Queue Z)) (q : ℕ) → not (is_some o) ≡ true → queue_of q o ≡ None
+none_joining None q is = refl
+none_joining (Some qs) q is = absurd (cc is)
+
+pub life_joining : (l : Option Life) (q : ℕ) → is_joining l ≡ true → life_of q l ≡ Some None
+life_joining None q is = absurd (cc is)
+life_joining (Some l) q is = ap (λ (o : Option Queue). Some o) (none_joining l.queues q is)
+
+pub life_none : (l : Option Life) (q : ℕ) → is_some l ≡ false → life_of q l ≡ None
+life_none None q is = refl
+life_none (Some l) q is = absurd (cc is)
+
+-- ---- the machine after a step of a driver
+
+abbrev pub with_front_at : Machine → WatchedShared → ℕ → Front → Machine
+with_front_at w memory q g = record w { memory = memory; fronts = with_item w.fronts q g }
+
+-- what a front keeps in each step
+pub record KeepsFront (f g : Front) : Type 0 where
+  pub header : g.header ≡ f.header
+  pub index : g.index ≡ f.index
+  pub ring : g.ring ≡ f.ring
+
+pub front_sound : (w : Machine) (memory : WatchedShared) (q : ℕ) (f g : Front) → IsSound w → slice_get w.fronts.items q ≡ Some f → KeepsFront f g → FrontSound memory g → ((s : ℕ) → sizes_in memory s ≡ sizes_in w.memory s) → IsSound (with_front_at w memory q g)
+front_sound w memory q f g sound is keeps front sizes = record {
+  header = sound.header;
+  many = length-set w.fronts.items q g ∙ sound.many;
+  attached = sound.attached;
+  disk = sound.disk;
+  headers = each_front w q f g (λ p x. x.header ≡ w.header) sound is (keeps.header ∙ sound.headers q f is);
+  parts = each_front w q f g (λ p x. PartsSound p (parts_of p x now)) sound is (record {
+    index = keeps.index ∙ old.index;
+    front = front;
+    queue = subst (λ (r : SplitRing). RingOfLife (λ x. x ≡ r) (life_of q w.life)) (sym keeps.ring) old.queue;
+    disk = old.disk ∙ ap (λ (h : Header1). h.capacity) (sym keeps.header);
+    lies = life_lies (sizes_in w.memory) (sizes_in memory) (capacity_of w.disk) (life_of q w.life) sizes old.lies;
+  });
+}
+  where
+    now : Machine
+    now = with_front_at w memory q g
+
+    old : PartsSound q (parts_of q f w)
+    old = sound.parts q f is
+
+-- no memory changes where a driver takes a request
+pub asked_sound : (w : Machine) (q : ℕ) (f g : Front) → IsSound w → slice_get w.fronts.items q ≡ Some f → g ≡ record f { guest = g.guest; asked = g.asked } → ring_in g.guest ≡ ring_in f.guest → IsSound (with_front_at w w.memory q g)
+asked_sound w q f g sound is frame ring =
+    let old = (sound.parts q f is).front in
+    let asked : FrontSound w.memory (record f { guest = g.guest; asked = g.asked }) = record { header = old.header; exists = old.exists; guest = ring ∙ old.guest; ring = old.ring; room = old.room; unfailed = old.unfailed } in
+    front_sound w w.memory q f g sound is (record { header = ap (λ (x : Front). x.header) frame; index = ap (λ (x : Front). x.index) frame; ring = ap (λ (x : Front). x.ring) frame }) (subst (λ (x : Front). FrontSound w.memory x) (sym frame) asked) (λ s. refl)
+
+pub front_at : (w : Machine) (memory : WatchedShared) (q : ℕ) (f g : Front) (next : Moment) → IsSound w → slice_get w.fronts.items q ≡ Some f → PartsAt q (with_desk (parts_of q f w) memory g) next → MachineAt (with_front_at w memory q g) next
+front_at w memory q f g next sound is at = record { many = length-set w.fronts.items q g ∙ sound.many; queues = each_front w q f g (λ p x. PartsAt p (parts_of p x (with_front_at w memory q g)) next) sound is at }
+
+-- a Vec stays where its item is stored again
+same_item : {X Z : Type 0} (v : Vec X Z) (i : ℕ) (x : X) → v.items ≡ set v.items i x → with_item v i x ≡ v
+same_item v i x e =
+    subst (λ xs. (o : v.len ≡ length xs) → record { ptr = v.ptr; len = v.len; cap = v.cap; alloc = v.alloc; items = xs; ok = (o, v.ok.1); small = v.small } ≡ v) e
+    (λ o. ap (λ (p : v.len ≡ length v.items). record { ptr = v.ptr; len = v.len; cap = v.cap; alloc = v.alloc; items = v.items; ok = (p, v.ok.1); small = v.small }) (ℕ_set v.len (length v.items) o v.ok.0))
+    (v.ok.0 ∙ sym (length-set v.items i x))
+
+-- nothing changes where the front is as before
+pub front_kept : (w : Machine) (q : ℕ) (f g : Front) → f ≡ get_or w.fronts.items q f → g ≡ f → with_front_at w w.memory q g ≡ w
+front_kept w q f g is same =
+    let stored : w.fronts.items ≡ set w.fronts.items q g = sym (ap (λ (x : Front). set w.fronts.items q x) (same ∙ is) ∙ set-get_or w.fronts.items q f) in
+    ap (λ fs. record w { fronts = fs }) (same_item w.fronts q g stored)
+
+-- ---- the machine after turns of a queue
+
+abbrev pub with_turned : Machine → WatchedShared → Life → MemDisk → Machine
+with_turned w memory k disk = record w { memory = memory; life = Some k; disk = disk }
+
+-- a life with this queue
+pub record HasTurned (w : Machine) (q : ℕ) (k : Life) (queue : Queue) : Type 0 where
+  pub many : AreAttached w.header.queues k.queues
+  pub there : queue_of q k.queues ≡ Some queue
+
+pub turned_parts : (w : Machine) (memory : WatchedShared) (q : ℕ) (k : Life) (queue : Queue) (disk : MemDisk) (f : Front) → HasTurned w q k queue → parts memory f queue disk ≡ parts_of q f (with_turned w memory k disk)
+turned_parts w memory q k queue disk f has = ap (λ (o : Option Queue). record { memory = memory; front = f; life = Some o; disk = disk }) (sym has.there)
+
+pub turned_sound : (w : Machine) (memory : WatchedShared) (q : ℕ) (k : Life) (queue : Queue) (disk : MemDisk) (f : Front) → IsSound w → slice_get w.fronts.items q ≡ Some f → HasTurned w q k queue → PartsSound q (parts memory f queue disk) → IsSound (with_turned w memory k disk)
+turned_sound w memory q k queue disk f sound is has parts_sound = record {
+  header = sound.header;
+  many = sound.many;
+  attached = has.many;
+  disk = parts_sound.disk ∙ ap (λ (h : Header1). h.capacity) (sound.headers q f is);
+  headers = sound.headers;
+  parts = each_same w q f (λ p x. PartsSound p (parts_of p x (with_turned w memory k disk))) sound is (subst (λ (p : Parts). PartsSound q p) (turned_parts w memory q k queue disk f has) parts_sound);
+}
+
+pub turned_at : (w : Machine) (memory : WatchedShared) (q : ℕ) (k : Life) (queue : Queue) (disk : MemDisk) (f : Front) → IsSound w → slice_get w.fronts.items q ≡ Some f → HasTurned w q k queue → (next : Moment) → PartsAt q (parts memory f queue disk) next → MachineAt (with_turned w memory k disk) next
+turned_at w memory q k queue disk f sound is has next at = record { many = sound.many; queues = each_same w q f (λ p x. PartsAt p (parts_of p x (with_turned w memory k disk)) next) sound is (subst (λ (p : Parts). PartsAt q p next) (turned_parts w memory q k queue disk f has) at) }
+
+-- ---- the machine with another life
+
+abbrev pub with_life_of : Machine → Option Life → Machine
+with_life_of w l = record w { life = l }
+
+-- a header has a queue
+pub first_front : (w : Machine) → IsSound w → (f : Front) × (slice_get w.fronts.items 0 ≡ Some f)
+first_front w sound = found_there w.fronts.items 0 (omega (arith, sound.many, sound.header.one))
+
+-- ---- turns of an attached queue
+
+-- what its turns need to know before the first
+pub record TurnsBegin (w : Machine) (q : ℕ) (f : Front) (queue : Queue) : Type 0 where
+  pub index : f.index ≡ q
+  pub header : f.header ≡ w.header
+  pub sound : PartsSound f.index (parts w.memory f queue w.disk)
+  pub stands : PartsStand f.index (parts w.memory f queue w.disk)
+  pub at : (m : Moment) → MachineAt w m → PartsAt f.index (parts w.memory f queue w.disk) m
+
+pub turns_begin_at : (w : Machine) (q : ℕ) (f : Front) (k : Life) (qs : List Queue) (queue : Queue) → IsSound w → IsStanding w → slice_get w.fronts.items q ≡ Some f → w.life ≡ Some k → queue_of q k.queues ≡ slice_get qs q → slice_get qs q ≡ Some queue → TurnsBegin w q f queue
+turns_begin_at w q f k qs queue sound stood is life queues there = record {
+  index = index;
+  header = sound.headers q f is;
+  sound = subst (λ (i : ℕ). PartsSound i p) (sym index) (subst (λ (x : Parts). PartsSound q x) same (sound.parts q f is));
+  stands = subst (λ (i : ℕ). PartsStand i p) (sym index) (subst (λ (x : Parts). PartsStand q x) same (parts_stand w q f sound is stood));
+  at = λ m at. subst (λ (i : ℕ). PartsAt i p m) (sym index) (subst (λ (x : Parts). PartsAt q x m) same (at.queues q f is));
+}
+  where
+    p : Parts
+    p = parts w.memory f queue w.disk
+
+    index : f.index ≡ q
+    index = (sound.parts q f is).index
+
+    same : parts_of q f w ≡ p
+    same = ap (λ (o : Option (Option Queue)). record { memory = w.memory; front = f; life = o; disk = w.disk }) (life_has w.life k qs q queue life queues there)
+
+-- the ring of a front is small
+pub ring_few : (w : Machine) (q : ℕ) (f : Front) → IsSound w → slice_get w.fronts.items q ≡ Some f → f.ring.size ≤ 1024
+ring_few w q f sound is =
+    let front = (sound.parts q f is).front in
+    let laps = size_laps f.header.size front.header.sized in
+    omega (arith, front.ring.size, laps.1)

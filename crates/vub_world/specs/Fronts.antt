@@ -1,0 +1,112 @@
+-- The parts of a world that belong to one queue.
+use Rattle.std.specs.Prelude.{◌≡◌, ◌<◌, ◌≤◌, ℕ, ◌+◌, List, [], ◌∷◌, length, slice_get, Option, Some, None}
+use Rattle.vub_base.specs.declared.header.Header1.{Header1}
+use Rattle.vub_driver.specs.Drivers.{new_driver}
+use Rattle.vub_driver.specs.Layout.{ring_of, area_place}
+use Rattle.vub_guest.specs.GuestState.{driver_in, last_used_in}
+use Rattle.vub_guest.specs.GuestState.{ring_in as guest_ring}
+use Rattle.vub_memdisk.specs.MemDisks.{capacity_of}
+use Rattle.vub_memdisk.specs.declared.mem_disk.MemDisk.{MemDisk}
+use Rattle.vub_queue.specs.Queue.{ring_in}
+use Rattle.vub_queue.specs.QueueState.{IsNew, QueueLies, state_of}
+use Rattle.vub_queue.specs.declared.queue.Queue.{Queue}
+use Rattle.vub_queue_in_run.specs.QueueAt.{LiesAs}
+use Rattle.vub_schedule.specs.Spelling.{IsHeader}
+use Rattle.vub_shared.specs.Watched.{IsUnfailed, sizes_in}
+use Rattle.vub_shared.specs.declared.watched_shared.WatchedShared.{WatchedShared}
+use Rattle.vub_split.specs.Split.{RingLies}
+use Rattle.vub_world.specs.declared.front.Front.{Front}
+use Rattle.vub_world.specs.declared.machine.Machine.{Machine}
+use Rattle.vub_world.specs.Lives.{RingOfLife, LiesInLife, life_of}
+use Rattle.vub_world.specs.OutstandingRequests.{offered_in, collected_in, size_in}
+
+-- ---- what a queue has, and what it shares with the others
+
+-- what the driver of a queue works on
+pub record Desk : Type 0 where
+  pub memory : WatchedShared
+  pub front : Front
+
+abbrev pub desk : WatchedShared → Front → Desk
+desk memory front = record { memory = memory; front = front }
+
+-- what a queue has in all: memory and disk are those of every queue, and of a life it has one queue
+pub record Parts : Type 0 where
+  pub memory : WatchedShared
+  pub front : Front
+  pub life : Option (Option Queue)
+  pub disk : MemDisk
+
+-- the parts of a queue that is attached
+abbrev pub parts : WatchedShared → Front → Queue → MemDisk → Parts
+parts memory front queue disk = record { memory = memory; front = front; life = Some (Some queue); disk = disk }
+
+-- what its driver works on
+abbrev pub desk_of : Parts → Desk
+desk_of p = desk p.memory p.front
+
+-- the parts of queue q in a machine
+abbrev pub parts_of : ℕ → Front → Machine → Parts
+parts_of q front w = record { memory = w.memory; front = front; life = life_of q w.life; disk = w.disk }
+
+-- ---- how many requests were offered
+
+abbrev pub offered_by : List Front → ℕ
+offered_by [] = 0
+offered_by (front ∷ fronts) = offered_in front.outstanding + offered_by fronts
+
+-- by all drivers of a machine
+abbrev pub offers_in : Machine → ℕ
+offers_in w = offered_by w.fronts.items
+
+-- ---- between two steps
+
+-- the queue is one of the header's, driver and ring are those of its area, which memory has, and no call of memory has
+-- failed
+pub record FrontSound (memory : WatchedShared) (front : Front) : Type 0 where
+  pub header : IsHeader front.header
+  pub exists : front.index < front.header.queues
+  pub guest : guest_ring front.guest ≡ ring_of front.index front.header.size
+  pub ring : LiesAs front.index front.ring front.header.size
+  pub room : area_place front.index + 1048576 ≤ sizes_in memory 0
+  pub unfailed : IsUnfailed memory
+
+-- the front is the one of queue q, an attached queue is on its ring and lies where it should, and the disk has the
+-- header's capacity
+pub record PartsSound (q : ℕ) (p : Parts) : Type 0 where
+  pub index : p.front.index ≡ q
+  pub front : FrontSound p.memory p.front
+  pub queue : RingOfLife (λ r. r ≡ p.front.ring) p.life
+  pub disk : capacity_of p.disk ≡ p.front.header.capacity
+  pub lies : LiesInLife (sizes_in p.memory) (capacity_of p.disk) p.life
+
+-- ---- new parts
+
+-- the front of queue q before its driver's first step
+pub record IsNewFront (h : Header1) (q : ℕ) (front : Front) : Type 0 where
+  pub header : front.header ≡ h
+  pub index : front.index ≡ q
+  pub guest : guest_ring front.guest ≡ ring_of q h.size
+  pub ring : LiesAs q front.ring h.size
+  pub driver : driver_in front.guest ≡ new_driver h.base
+  pub position : last_used_in front.guest ≡ h.base
+  pub asked : front.asked ≡ None
+  pub offered : offered_in front.outstanding ≡ 0
+  pub collected : collected_in front.outstanding ≡ 0
+  pub places : size_in front.outstanding ≡ h.size
+
+-- these are the new fronts of the first so many queues
+pub record AreNewFronts (h : Header1) (count : ℕ) (fronts : List Front) : Type 0 where
+  pub many : length fronts ≡ count
+  pub each : (q : ℕ) (front : Front) → slice_get fronts q ≡ Some front → IsNewFront h q front
+
+-- a queue of the device that isn't started, on the ring of a front
+pub record IsNewQueue (front : Front) (queue : Queue) : Type 0 where
+  pub ring : ring_in queue ≡ front.ring
+  pub state : IsNew front.ring front.header.base (state_of queue)
+  pub lies : (sizes : ℕ → ℕ) (capacity : ℕ) → RingLies sizes front.ring → QueueLies sizes capacity (state_of queue)
+
+-- these are new queues of the first so many fronts
+pub record AreNewQueues (count : ℕ) (fronts : List Front) (queues : List Queue) : Type 0 where
+  pub many : length queues ≡ count
+  pub each : (q : ℕ) (front : Front) (queue : Queue) → slice_get fronts q ≡ Some front → slice_get queues q ≡ Some queue → IsNewQueue front queue

@@ -1,0 +1,220 @@
+//! The driver's side of one queue of a world, and its requests that are outstanding.
+ghost use Rattle.std.specs.Prelude.{◌≡◌, ◌<◌, ◌≤◌, ◌+◌, ◌-◌, ◌^◌, ◌++◌, ◌∷◌, [], ℕ, if◌then◌else◌, IfOk, IsSome, true, false, Some, None};
+ghost use Rattle.vub_schedule.specs.Spelling.{IsHeader};
+ghost use Rattle.vub_shared.specs.Watched.{bytes_in, stores_in, sizes_in};
+
+use crate::notes::{asked_of, note_store};
+use crate::outstanding::OutstandingRequests;
+use std::alloc::Global;
+use vub_base::{Ask, Header1, Memory, Shape, Space, Tag};
+use vub_device::Entry;
+use vub_guest::layout::ring_of;
+use vub_guest::{Collected, Guest, GuestStep};
+use vub_report::Item;
+use vub_room::Room;
+use vub_shared::WatchedShared;
+use vub_split::SplitRing;
+use vub_split::layout::{AVAIL_ENTRY_SIZE, AVAIL_IDX, AVAIL_RING};
+
+/// The driver's side of one queue.
+#[derive(Drop)]
+pub struct Front {
+    pub alloc: Global,
+    pub header: Header1,
+    /// The number of the queue.
+    pub index: u16,
+    pub ring: SplitRing,
+    pub guest: Guest,
+    /// The request that waits to be offered.
+    pub asked: Option<Ask>,
+    pub outstanding: OutstandingRequests,
+}
+
+impl Front {
+    ghost use Rattle.vub_device.specs.Requests.{request_of};
+    ghost use Rattle.vub_device.specs.declared.entry.Entry.TheVariants as entries;
+    ghost use Rattle.vub_driver.specs.Drivers.{Waiting, can_take, after_ask};
+    ghost use Rattle.vub_guest.specs.declared.guest.GuestStep.TheVariants as answers;
+    ghost use Rattle.vub_guest.specs.declared.guest.Collected.TheVariants as takes;
+    ghost use Rattle.vub_guest.specs.GuestState.{ring_in, driver_in, last_used_in, next_store, Steps, Shows, Collects};
+    ghost use Rattle.vub_report.specs.declared.items.Item.TheVariants as items;
+    ghost use Rattle.vub_room.specs.Rooms.{Spends};
+    ghost use Rattle.vub_run.specs.Moments.{Moment};
+    ghost use Rattle.vub_task.specs.TaskState.{after_maybe, with_maybe};
+    ghost use Rattle.vub_world.specs.Fronts.{FrontSound, IsNewFront, desk};
+    ghost use Rattle.vub_world.specs.MachineAt.{FrontAt};
+    ghost use Rattle.vub_world.specs.MachineFront.{FrontFits, GuestSteps, GuestGoes, HasPlaces, TakesFirst, head_shown};
+    ghost use Rattle.vub_world.specs.OutstandingRequests.{offered_in, size_in, Offers};
+
+    /// That of a queue of the header, whose area lies in this space.
+    pub fn new(alloc: Global, header: &Header1, index: u16, space: Space) -> Result<Front, Memory>
+        requires header { IsHeader header.now }
+        requires exists { index < header.now.queues }
+        requires space { space.number ≡ 0 }
+        ensures { IfOk result (IsNewFront header.now index) }
+    {
+        Ok(Front {
+            alloc,
+            header: *header,
+            index,
+            ring: ring_of(space, index, header.size),
+            guest: Guest::new(alloc, header, index, space)?,
+            asked: None,
+            outstanding: OutstandingRequests::new(alloc, header.size)?,
+        })
+    }
+
+    /// The head in the avail ring just before avail.idx.
+    fn last_head(&self, memory: &WatchedShared) -> u16
+        requires { FrontSound memory.now self.now }
+        ensures { result ≡ head_shown self.now.index (desk memory.now self.now) }
+    {
+        let (space, place) = self.ring.avail;
+        let index = memory.word16(space, place + AVAIL_IDX).wrapping_sub(1);
+        let entry = u64::from(index % self.header.size);
+        memory.word16(space, place + (AVAIL_RING + AVAIL_ENTRY_SIZE * entry))
+    }
+
+    /// Notes that the waiting request is offered.
+    fn note_offer(&mut self, memory: &WatchedShared, room: &mut Room)
+        requires sound { FrontSound memory.now self.old }
+        requires more { offered_in self.old.outstanding < 2 ^ 64 - 1 }
+        requires asked { IsSome self.old.asked }
+        requires place { head_shown self.old.index (desk memory.now self.old) < size_in self.old.outstanding }
+        requires items { 1 ≤ room.old.item_room }
+        requires lists { 1 ≤ room.old.lists }
+        ensures frame { self.new ≡ record self.old { asked = None; outstanding = self.new.outstanding } }
+        ensures outstanding { (ask : Ask) → self.old.asked ≡ Some ask → Offers self.old.outstanding self.new.outstanding (head_shown self.old.index (desk memory.now self.old)) ask }
+        ensures items { (ask : Ask) → self.old.asked ≡ Some ask → room.new.items ≡ room.old.items ++ items.Made (entries.Offer self.old.index (request_of ask)) ∷ [] }
+    {
+        let Some(ask) = self.asked.take() else {
+            unreachable!();
+        };
+        let head = self.last_head(memory);
+        self.outstanding.offer(head, &ask);
+        let asked = asked_of(ask, room);
+        room.note(Item::Made(Entry::Offer(self.index, asked)));
+    }
+
+    /// One step of the driver.
+    fn step(&mut self, memory: &mut WatchedShared) -> GuestStep
+        requires sound { FrontSound memory.old self.old }
+        ensures frame { self.new ≡ record self.old { guest = self.new.guest } }
+        ensures sound { FrontSound memory.new self.new }
+        ensures sizes { (s : ℕ) → sizes_in memory.new s ≡ sizes_in memory.old s }
+        ensures never { result ≡ answers.Failed → ⊥ }
+        ensures position { last_used_in self.new.guest ≡ last_used_in self.old.guest }
+        ensures driver { Steps result (driver_in self.old.guest) (driver_in self.new.guest) }
+        ensures memory { bytes_in memory.new ≡ after_maybe (next_store (driver_in self.old.guest).waiting) (bytes_in memory.old) }
+        ensures stores { stores_in memory.new ≡ with_maybe (next_store (driver_in self.old.guest).waiting) [] }
+    {
+        memory.restart();
+        self.guest.step(memory)
+    }
+
+    /// One store of the driver with its items; false where the driver has none to make after it.
+    fn store(&mut self, memory: &mut WatchedShared, room: &mut Room) -> bool
+        requires sound { FrontSound memory.old self.old }
+        requires more { offered_in self.old.outstanding < 2 ^ 64 - 1 }
+        requires fits { FrontFits self.old.index (desk memory.old self.old) }
+        requires items { 2 ≤ room.old.item_room }
+        requires lists { 2 ≤ room.old.lists }
+        ensures frame { self.new ≡ record self.old { guest = self.new.guest; asked = self.new.asked; outstanding = self.new.outstanding } }
+        ensures sound { FrontSound memory.new self.new }
+        ensures sizes { (s : ℕ) → sizes_in memory.new s ≡ sizes_in memory.old s }
+        ensures fits { FrontFits self.old.index (desk memory.new self.new) }
+        ensures position { last_used_in self.new.guest ≡ last_used_in self.old.guest }
+        ensures spent { result ≡ true → Spends 1 1 room.old room.new }
+        ensures outstanding { result ≡ true → self.new.outstanding ≡ self.old.outstanding }
+        ensures goes { (m : Moment) → FrontAt self.old.index (desk memory.old self.old) m → GuestSteps self.old.index (m.lanes self.old.index).driver.waiting (desk memory.old self.old) (desk memory.new self.new) m room.old.items room.new.items result }
+    {
+        match self.step(memory) {
+            GuestStep::Idle => false,
+            GuestStep::Failed => unreachable!(),
+            GuestStep::Stored => {
+                note_store(memory, Tag::G, room);
+                true
+            }
+            GuestStep::Offered => {
+                note_store(memory, Tag::G, room);
+                self.note_offer(memory, room);
+                false
+            }
+        }
+    }
+
+    /// At most so many stores of the driver.
+    pub fn stores(&mut self, count: u16, memory: &mut WatchedShared, room: &mut Room)
+        requires sound { FrontSound memory.old self.old }
+        requires more { offered_in self.old.outstanding < 2 ^ 64 - 1 }
+        requires fits { FrontFits self.old.index (desk memory.old self.old) }
+        requires items { count + 1 ≤ room.old.item_room }
+        requires lists { count + 1 ≤ room.old.lists }
+        ensures frame { self.new ≡ record self.old { guest = self.new.guest; asked = self.new.asked; outstanding = self.new.outstanding } }
+        ensures sound { FrontSound memory.new self.new }
+        ensures sizes { (s : ℕ) → sizes_in memory.new s ≡ sizes_in memory.old s }
+        ensures position { last_used_in self.new.guest ≡ last_used_in self.old.guest }
+        ensures goes { (m : Moment) (x : Waiting) → FrontAt self.old.index (desk memory.old self.old) m → (m.lanes self.old.index).driver.waiting ≡ Some x → GuestGoes self.old.index count x (desk memory.old self.old) (desk memory.new self.new) m room.old.items room.new.items }
+    {
+        for done in 0..count {
+            if !self.store(memory, room) {
+                return;
+            }
+        }
+    }
+
+    /// What the driver takes from the used ring.
+    fn take_element(&mut self, memory: &mut WatchedShared) -> Collected
+        requires sound { FrontSound memory.old self.old }
+        ensures frame { self.new ≡ record self.old { guest = self.new.guest } }
+        ensures sound { FrontSound memory.new self.new }
+        ensures sizes { (s : ℕ) → sizes_in memory.new s ≡ sizes_in memory.old s }
+        ensures never { result ≡ takes.Failed → ⊥ }
+        ensures memory { bytes_in memory.new ≡ bytes_in memory.old }
+        ensures shown { Shows result (ring_in self.old.guest) (bytes_in memory.old) (last_used_in self.old.guest) }
+        ensures driver { Collects result (driver_in self.old.guest) (driver_in self.new.guest) (last_used_in self.old.guest) (last_used_in self.new.guest) }
+    {
+        memory.restart();
+        self.guest.collect(memory)
+    }
+
+    /// Gives the driver a request, which waits from then on; false, and nothing changes, where the
+    /// driver can't take it.
+    pub fn ask(&mut self, shape: Shape, ask: &Ask) -> bool
+        ensures answer { result ≡ can_take (ring_in self.old.guest).size shape ask.now (driver_in self.old.guest) }
+        ensures kept { result ≡ false → self.new ≡ self.old }
+        ensures frame { self.new ≡ record self.old { guest = self.new.guest; asked = self.new.asked } }
+        ensures asked { result ≡ true → self.new.asked ≡ Some ask.now }
+        ensures driver { driver_in self.new.guest ≡ (if result then after_ask (ring_in self.old.guest) ask.now (driver_in self.old.guest) else driver_in self.old.guest) }
+        ensures ring { ring_in self.new.guest ≡ ring_in self.old.guest }
+        ensures position { last_used_in self.new.guest ≡ last_used_in self.old.guest }
+    {
+        if !self.guest.queue_request(shape, ask) {
+            return false;
+        }
+        self.asked = Some(ask.copied());
+        true
+    }
+
+    /// Takes an element from the used ring: the number of the request that is collected, if one is
+    /// shown.
+    pub fn collect(&mut self, memory: &mut WatchedShared) -> Option<u64>
+        requires sound { FrontSound memory.old self.old }
+        requires placed { HasPlaces (bytes_in memory.old) self.old }
+        ensures frame { self.new ≡ record self.old { guest = self.new.guest; outstanding = self.new.outstanding } }
+        ensures sound { FrontSound memory.new self.new }
+        ensures sizes { (s : ℕ) → sizes_in memory.new s ≡ sizes_in memory.old s }
+        ensures memory { bytes_in memory.new ≡ bytes_in memory.old }
+        ensures takes { TakesFirst (bytes_in memory.old) self.old self.new result }
+    {
+        match self.take_element(memory) {
+            Collected::Nothing => None,
+            Collected::Failed => unreachable!(),
+            Collected::Head(head) => {
+                let number = self.outstanding.at(head).number;
+                self.outstanding.collect();
+                Some(number)
+            }
+        }
+    }
+}
