@@ -2,17 +2,21 @@
 use Rattle.std.proofs.Common.{◌≡◌, ◌<◌, ℕ, ◌+◌, ◌%◌, List, length, get_or, refl, ap, sym, ◌∙◌, subst, arith}
 use Rattle.std.specs.Prelude.{Option, Some, option_map}
 use Rattle.std.proofs.lemmas.Option.{slice_get-get_or}
+use mathlib.Core.Path.{fun_ext}
 use Rattle.byteorder.specs.Endian.{little_bytes}
 use Rattle.vub_base.specs.declared.store.Tag.TheVariants.{SP1, SP2}
 use Rattle.vub_shared.specs.Bytes.{Bytes}
 use Rattle.vub_shared.specs.Stores.{Store, after_store}
-use Rattle.vub_ring.specs.Ring.{Ring, used_idx, used_id_place, used_len_place}
-use Rattle.vub_split.specs.Words.{RingWords}
-use Rattle.vub_split.proofs.Words.{words_elsewhere, words_used_id, words_used_len, words_used_idx}
+use Rattle.vub_ring.specs.Ring.{Ring, ahead, avail_idx, head_at, used_idx, element_at, used_id_place, used_len_place}
+use Rattle.vub_split.specs.Words.{RingWords, OffUsed, words_of}
+use Rattle.vub_split.specs.Stores.{used_id_store, used_len_store}
+use Rattle.vub_split.proofs.Words.{words_elsewhere, used_idx_off, element_off, words_used_id, words_used_len, words_used_idx}
+use Rattle.vub_steps.specs.declared.steps.Phase.TheVariants as phases
 use Rattle.vub_steps.specs.declared.steps.Step.{Step}
 use Rattle.vub_steps.specs.declared.steps.Step.TheVariants as steps
 use Rattle.vub_steps.specs.Rows.{Row, row, row_of}
-use Rattle.vub_facts.specs.Facts.{Side, Lies, Elsewhere, Words, words_at, Facts, IsDue, words_after, after_row, ElementsFit}
+use Rattle.vub_facts.specs.Facts.{Side, Lies, Elsewhere, Words, words_at, Facts, IsDue, with_element, words_after, after_row, ElementsFit}
+use Rattle.vub_facts.proofs.FactSteps.{avail_changes}
 
 -- ---- a store of another queue, or of a request at work
 
@@ -25,6 +29,18 @@ words_off r m st lies off = words_are _ _ (words_elsewhere r m st lies.size.some
 pub facts_off : (r : Ring) (heads : List ℕ) (base : ℕ) (x : Side) (m : Bytes) (st : Store) → Lies r → Elsewhere r st → Facts r.size heads base x (words_at r m) → Facts r.size heads base x (words_at r (after_store st m))
 facts_off r heads base x m st lies off f = subst (λ (w : Words). Facts r.size heads base x w) (sym (words_off r m st lies off)) f
 
+-- ---- a store of the driver
+
+-- off the used ring: what the avail ring holds matters to a fetch alone
+pub facts_beside : (r : Ring) (heads : List ℕ) (base : ℕ) (x : Side) (m : Bytes) (st : Store) → Lies r → OffUsed r st
+    → ((done : ℕ) → x.phase ≡ phases.Fetch done → 0 < ahead (avail_idx r (after_store st m)) (used_idx r m + length heads)) → Facts r.size heads base x (words_at r m) → Facts r.size heads base x (words_at r (after_store st m))
+facts_beside r heads base x m st lies off waits f =
+    let n : Bytes = after_store st m in
+    let same : element_at r n ≡ element_at r m = fun_ext (λ i. element_off r m st i lies.size.some off) in
+    let now : words_at r n ≡ record { ring = record (words_of r m) { avail = avail_idx r n; heads = head_at r n } } =
+    words_are _ _ (ap (λ (u : ℕ). record (words_of r n) { used = u }) (used_idx_off r m st off) ∙ ap (λ (es : ℕ → ℕ × ℕ). record (words_of r n) { used = used_idx r m; elements = es }) same) in
+    subst (λ (w : Words). Facts r.size heads base x w) (sym now) (avail_changes r.size heads base (avail_idx r n) (head_at r n) x (words_at r m) waits f)
+
 -- ---- the store of a step
 
 id_row : (r : Ring) (used : ℕ) (batch : List (ℕ × ℕ)) (e : ℕ) → e < length batch → row_of r used batch (steps.Id e) ≡ Some (row r SP1 (used_id_place r (used + e)) (little_bytes 4 (get_or batch e (0, 0)).0))
@@ -33,14 +49,19 @@ id_row r used batch e inside = ap (option_map (λ (x : ℕ × ℕ). row r SP1 (u
 len_row : (r : Ring) (used : ℕ) (batch : List (ℕ × ℕ)) (e : ℕ) → e < length batch → row_of r used batch (steps.Len e) ≡ Some (row r SP2 (used_len_place r (used + e)) (little_bytes 4 (get_or batch e (0, 0)).1))
 len_row r used batch e inside = ap (option_map (λ (x : ℕ × ℕ). row r SP2 (used_len_place r (used + e)) (little_bytes 4 x.1))) (slice_get-get_or batch e (0, 0) inside)
 
+-- id and length of an element
+pub id_words : (r : Ring) (batch : List (ℕ × ℕ)) (e id : ℕ) (m : Bytes) → Lies r → id ≡ (get_or batch e (0, 0)).0 → id < 4294967296 → words_at r (after_store (used_id_store r (used_idx r m + e) id) m) ≡ words_after r batch (steps.Id e) (words_at r m)
+id_words r batch e id m lies is fits =
+    words_are _ _ (words_used_id r m (used_idx r m + e) id lies.fits fits) ∙ ap (λ (x : ℕ). with_element r e (x, ((words_at r m).ring.elements (used_idx r m + e)).1) (words_at r m)) is
+
+pub len_words : (r : Ring) (batch : List (ℕ × ℕ)) (e len : ℕ) (m : Bytes) → Lies r → len ≡ (get_or batch e (0, 0)).1 → len < 4294967296 → words_at r (after_store (used_len_store r (used_idx r m + e) len) m) ≡ words_after r batch (steps.Len e) (words_at r m)
+len_words r batch e len m lies is fits =
+    words_are _ _ (words_used_len r m (used_idx r m + e) len lies.fits fits) ∙ ap (λ (x : ℕ). with_element r e (((words_at r m).ring.elements (used_idx r m + e)).0, x) (words_at r m)) is
+
 -- the row that the step table has for a step leaves the words after it
 pub row_words : (r : Ring) (x : Side) (step : Step) (m : Bytes) → Lies r → ElementsFit x.batch → IsDue step x → words_at r (after_row (row_of r (used_idx r m) x.batch step) m) ≡ words_after r x.batch step (words_at r m)
 row_words r x steps.Start m lies fit due = refl
 row_words r x steps.Accept m lies fit due = refl
-row_words r x (steps.Id e) m lies fit due =
-    ap (λ (o : Option Row). words_at r (after_row o m)) (id_row r (used_idx r m) x.batch e due.1.1)
-    ∙ words_are _ _ (words_used_id r m (used_idx r m + e) (get_or x.batch e (0, 0)).0 lies.fits (fit.ids e due.1.1))
-row_words r x (steps.Len e) m lies fit due =
-    ap (λ (o : Option Row). words_at r (after_row o m)) (len_row r (used_idx r m) x.batch e due.1.1)
-    ∙ words_are _ _ (words_used_len r m (used_idx r m + e) (get_or x.batch e (0, 0)).1 lies.fits (fit.lens e due.1.1))
+row_words r x (steps.Id e) m lies fit due = ap (λ (o : Option Row). words_at r (after_row o m)) (id_row r (used_idx r m) x.batch e due.1.1) ∙ id_words r x.batch e (get_or x.batch e (0, 0)).0 m lies refl (fit.ids e due.1.1)
+row_words r x (steps.Len e) m lies fit due = ap (λ (o : Option Row). words_at r (after_row o m)) (len_row r (used_idx r m) x.batch e due.1.1) ∙ len_words r x.batch e (get_or x.batch e (0, 0)).1 m lies refl (fit.lens e due.1.1)
 row_words r x steps.Index m lies fit due = words_are _ _ (words_used_idx r m ((used_idx r m + length x.batch) % 65536) lies.fits (omega arith))

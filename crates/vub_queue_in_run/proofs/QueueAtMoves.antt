@@ -4,6 +4,7 @@ use Rattle.std.specs.Prelude.{Option, Some, None, slice_get, slice_index, filter
 use Rattle.std.proofs.lemmas.Bool.Decides.{nat_tests}
 use Rattle.std.proofs.lemmas.Bool.{cases_Bool, or_left, or_right}
 use Rattle.std.proofs.lemmas.List.{length-append, length-map, length-set, length-replicate, take-map, map-append, append-nil}
+use Rattle.std.proofs.lemmas.Simd.{map-map}
 use Rattle.std.proofs.lemmas.List.Elements.{filter-append}
 use Rattle.std.proofs.lemmas.Option.{slice_get_within}
 use Rattle.vub_base.specs.declared.header.Header1.{Header1}
@@ -30,14 +31,15 @@ use Rattle.vub_queue.specs.QueueState.{QueueState}
 use Rattle.vub_queue_in_run.specs.QueueAt.{LiesAs, spot_of, left_of, TaskAt, QueueAt, KeepsHeads}
 use Rattle.vub_queue_in_run.proofs.QueueHeld.{words_kept, keeps_new, keeps_started, keeps_accepted, keeps_begun, keeps_phase, keeps_shown}
 use Rattle.vub_facts.specs.Facts.{heads_in, without}
-use Rattle.vub_facts.proofs.HeadLemmas.{without_map, number_of}
+use Rattle.vub_facts.proofs.HeadLemmas.{without_map, number_of, among_get}
 use Rattle.vub_run.specs.Moments.{open_heads}
 use Rattle.vub_device.specs.Places.{are_distinct}
 use Rattle.vub_split.specs.Split.{used_side}
 use Rattle.vub_split.specs.declared.split.SplitRing.{SplitRing}
 use Rattle.vub_task.specs.declared.task.Task.{Task}
 use Rattle.vub_run_laws.proofs.RunOwn.{accepted_own, published_own, started_own}
-use Rattle.vub_run_laws.proofs.RunNumbers.{among_get, among_filter, missing-among, among-missing}
+use Rattle.vub_run_laws.proofs.RunNumbers.{among_filter, missing-among, among-missing}
+use Rattle.vub_run_laws.proofs.RunFacts.{map_alike}
 use Rattle.vub_run_laws.proofs.RunHeads.{heads_accept, heads_publish, missing_exact}
 use Rattle.vub_run_laws.proofs.RunGood.{Known, Worked}
 use Rattle.vub_run_laws.proofs.RunOffers.{same_head, same_asked}
@@ -52,13 +54,6 @@ filter_same f g (x ∷ xs) same =
     let rest : filter f xs ≡ filter g xs = filter_same f g xs same in
     let here : f x ≡ g x = same x in
     grind (arith, nat_tests)
-
-pub map_same : {A : Type 0} (f g : ℕ → A) (xs : List ℕ) → ((k : ℕ) → is_among xs k ≡ true → f k ≡ g k) → map f xs ≡ map g xs
-map_same f g [] same = refl
-map_same f g (x ∷ xs) same =
-    let rest : map f xs ≡ map g xs = map_same f g xs (λ k held. same k (grind (arith, nat_tests))) in
-    let here : f x ≡ g x = same x (grind (arith, nat_tests)) in
-    cc
 
 pub drop_map : (f : ℕ → ℕ × ℕ) (n : ℕ) (xs : List ℕ) → drop n (map f xs) ≡ map f (drop n xs)
 drop_map f zero xs = refl
@@ -97,8 +92,7 @@ left_is q past completed batch k held =
 
 -- the heads of a batch
 heads_of_spots : (q : ℕ) (h : Header1) (past : List Entry) (heads ks : List ℕ) → heads_in (map (spot_of q h past heads) ks) ≡ map (slice_index heads) ks
-heads_of_spots q h past heads [] = refl
-heads_of_spots q h past heads (k ∷ ks) = ap (λ (hs : List ℕ). slice_index heads k ∷ hs) (heads_of_spots q h past heads ks)
+heads_of_spots q h past heads ks = map-map (λ (x : ℕ × ℕ). x.0) (spot_of q h past heads) ks
 
 pub heads_distinct : (q : ℕ) (h : Header1) (r : SplitRing) (past : List Entry) (heads : List ℕ) (phase : Phase) (batch completed : List ℕ) (made : ℕ → ℕ) (state : QueueState) → QueueAt q h r past heads phase batch completed made state
     → are_distinct (open_heads q past heads) ≡ true
@@ -441,15 +435,15 @@ at_offer q h r past heads phase batch completed made state request x known w z =
     let asks_is : (k : ℕ) → k < accepted past q → asked past' q k ≡ asked past q k = λ k low. same_asked q past request k (omega (arith, low, known.offered, known.offers_are)) in
     let joined : (k : ℕ) → is_among (completed ++ batch) k ≡ (is_among completed k || is_among batch k) = is_among_append completed batch in
     let same_open : open_heads q past' heads' ≡ open_heads q past heads =
-    map_same (slice_index heads') (slice_index heads) (open_numbers past q) (λ k held. head_is k (missing-among (published past q) (accepted past q) k held).0) in
+    map_alike (slice_index heads') (slice_index heads) (open_numbers past q) (λ k held. head_is k (missing-among (published past q) (accepted past q) k held).0) in
     record {
       ring = z.ring;
       runs = z.runs;
       started = z.started;
       used = z.used;
       phase = z.phase;
-      batch = z.batch ∙ map_same (spot_of q h past heads) (spot_of q h past' heads') batch (λ k held. sym (offered_spot q h past heads request x k known (low_of k (joined k ∙ or_right (is_among completed k) (is_among batch k) held))));
-      completed = z.completed ∙ map_same (spot_of q h past heads) (spot_of q h past' heads') completed (λ k held. sym (offered_spot q h past heads request x k known (low_of k (joined k ∙ or_left (is_among completed k) (is_among batch k) held))));
+      batch = z.batch ∙ map_alike (spot_of q h past heads) (spot_of q h past' heads') batch (λ k held. sym (offered_spot q h past heads request x k known (low_of k (joined k ∙ or_right (is_among completed k) (is_among batch k) held))));
+      completed = z.completed ∙ map_alike (spot_of q h past heads) (spot_of q h past' heads') completed (λ k held. sym (offered_spot q h past heads request x k known (low_of k (joined k ∙ or_left (is_among completed k) (is_among batch k) held))));
       keeps = subst (λ (hs : List ℕ). KeepsHeads r.size hs state) (sym same_open) z.keeps;
       tasks = λ i k task there is.
           let low : k < accepted past q = (left_is q past completed batch k (among_get (left_of q past completed batch) i k there)).is_open.taken in

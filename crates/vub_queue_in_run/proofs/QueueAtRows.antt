@@ -35,7 +35,8 @@ use Rattle.vub_split.specs.Split.{used_side}
 use Rattle.vub_queue.specs.QueueState.{QueueState, course_in, row_at, next_row, moved, Moves, publishes, publish_row, Publishes, Turns, is_fault}
 use Rattle.vub_queue_in_run.specs.QueueAt.{spot_of, QueueAt, LiesAs, QueueStands}
 use Rattle.vub_driver.specs.Layout.{area_place}
-use Rattle.vub_run_laws.proofs.RunGood.{the_ring, Worked, Holds}
+use Rattle.vub_run_laws.proofs.RunFacts.{phase_at}
+use Rattle.vub_run_laws.proofs.RunGood.{the_ring, Holds}
 use Rattle.vub_run_laws.proofs.RunPhases.{resting, rest_is, taking, taking_holds}
 use Rattle.vub_run_laws.proofs.RunElements.{StepAt, AtId, AtLen, AtIndex, step_at, get_map}
 use Rattle.vub_run_laws.proofs.RunPublications.{publishing, IsUnderWay, more_left, none_left, numbers_answers, batch_open}
@@ -234,8 +235,7 @@ index_step q h r s l done x u u' g whole next does =
 pub step_stands : (q : ℕ) (h : Header1) (r : SplitRing) (s : Scene) (l : Lane) (done : ℕ) (x : Stepped) (u u' : QueueState) → GoesOn q h r s l done u → DoesStep x u u'
     → (y : Row) × MadeRow q h r s l.batch x u u' (phase_goes_on h q s (publishing done l)) y
 step_stands q h r s l done x u u' g does =
-    let w : Worked q s.past (phases.Publish done) l.batch l.completed l.made = g.under.holds.worked in
-    let some : (0 < length l.batch) × (done < 2 * length l.batch + 1) = w.phase_is in
+    let some : (0 < length l.batch) × (done < 2 * length l.batch + 1) = phase_at q h s (publishing done l) g.under.holds in
     go (slice_get (publish_steps (length l.batch)) done) (step_at 0 (length l.batch) done some.1) (next_same q h r s l done u g)
   where
     P : Option Step → Type 0
@@ -339,7 +339,7 @@ row_stands q h r m most told x state state' plain good main z ready fine made =
     let moves : Moves x (next_row u) u made.0 = subst (λ (b : Bool). Publishes b x state u made.0) now does in
     let after : made.0 ≡ state' = sym (made.1 ∙ runs_on x u made.0 (next_row u) fine moves) in
     let step : DoesStep x u state' = record { fine = fine; moves = subst (λ (t : QueueState). Moves x (next_row u) u t) after moves } in
-    let is : WhatIsMade q h r m.scene most x u state' l = elim (phase_cases l.batch l.phase good.holds.worked.phase_is) [
+    let is : WhatIsMade q h r m.scene most x u state' l = elim (phase_cases l.batch l.phase (phase_at q h m.scene (m.lanes q) good.holds)) [
       | inl rest ↦ begin_stands q h r m most x state state' plain good main z ready rest.0 rest.1 step
       | inr shows ↦ on_stands q h r m most shows.0 x state state' plain good main z ready shows.1 step
     ] in (
@@ -423,7 +423,7 @@ stored_stands q h r m most x state state' y good z ready has other =
     let l : Lane = m.lanes q in
     elim has.which [
       | inl part ↦ part
-      | inr last ↦ absurd (elim (phase_cases l.batch l.phase good.holds.worked.phase_is) [
+      | inr last ↦ absurd (elim (phase_cases l.batch l.phase (phase_at q h m.scene (m.lanes q) good.holds)) [
         | inl rest ↦
             let quiet : is_publication l.phase ≡ false = ap is_publication rest.0 in
             let some : 0 < most = grind (arith, nat_tests) in

@@ -33,6 +33,7 @@ use Rattle.vub_queue_in_run.specs.QueueAt.{spot_of, QueueAt, LiesAs, QueueStands
 use Rattle.vub_driver.specs.Layout.{area_place}
 use Rattle.vub_run_laws.proofs.RunOwn.{at_own}
 use Rattle.vub_run_laws.proofs.RunNumbers.{not_among-take}
+use Rattle.vub_run_laws.proofs.RunFacts.{phase_at}
 use Rattle.vub_run_laws.proofs.RunGood.{the_ring, IsOut, PhaseIs, Holds}
 use Rattle.vub_run_laws.proofs.RunFrames.{open_out}
 use Rattle.vub_run_laws.proofs.RunPhases.{resting, rest_is, some_waits}
@@ -115,7 +116,7 @@ start_stands q h r m told x state state' plain good main z ready fine made =
     let heads : List ℕ = m.scene.heads q in
     let stopped : started past q ≡ false = grind (arith, nat_tests) in
     let quiet = good.holds.worked.quiet stopped in
-    let batch : l.batch ≡ [] = subst (λ (p : Phase). PhaseIs l.batch p) quiet.0 good.holds.worked.phase_is in
+    let batch : l.batch ≡ [] = subst (λ (p : Phase). PhaseIs l.batch p) quiet.0 (phase_at q h m.scene (m.lanes q) good.holds) in
     let same : asleep l ≡ l = asleep_is l quiet.0 batch quiet.1.0 in
     let none : accepted past q ≡ 0 = good.idle stopped in
     let does = does_of turns.Start told x state state' made fine in
@@ -242,7 +243,7 @@ fetch_accepts q h r m x state u plain good main z ready fine fetches = go x fine
 fetch_rests : (q : ℕ) (h : Header1) (m : Moment) → Good q h m → is_ready (standing h q m) turns.Fetch ≡ true → resting (m.lanes q) ≡ m.lanes q
 fetch_rests q h m good ready =
     let l : Lane = m.lanes q in
-    elim (phase_cases l.batch l.phase good.holds.worked.phase_is) [
+    elim (phase_cases l.batch l.phase (phase_at q h m.scene (m.lanes q) good.holds)) [
       | inl rest ↦ rest_is l rest.0 rest.1
       | inr shows ↦
           let publishes_now : is_publication l.phase ≡ true = ap is_publication shows.1 in

@@ -21,7 +21,8 @@ use Rattle.vub_queue_in_run.specs.QueueAt.{QueueStands, LiesAs, TaskAt}
 use Rattle.vub_queue.specs.QueueState.{QueueState, IsDue}
 use Rattle.vub_task.specs.TaskState.{fresh_task, Making, IsBasic, IsNext, IsReady, head_in}
 use Rattle.vub_steps.specs.Tasks.{RequestStep, Look, Put, Act, Sync, Status, task_steps, disk_steps, look_steps, act_steps}
-use Rattle.vub_run_laws.proofs.RunNumbers.{among_get, among_filter, missing-among}
+use Rattle.vub_run_laws.proofs.RunNumbers.{among_filter, missing-among}
+use Rattle.vub_facts.proofs.HeadLemmas.{among_get}
 use Rattle.vub_run_laws.proofs.RunGood.{IsWideRead, IsWideWrite, IsWide, IsOut, IsPending}
 use Rattle.vub_run_laws.proofs.RunFrames.{open_out}
 use Rattle.vub_run_laws.proofs.RunSteps.{WideCases, AtRead, AtWrite, AtFlush, wide_cases, wide_served, wide_steps, ReadAt, ToLook, ToPut, ToReply, read_at, WriteAt, ToAct, ToEnd, write_at}

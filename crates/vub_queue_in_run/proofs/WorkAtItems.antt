@@ -41,7 +41,7 @@ use Rattle.vub_task.specs.TaskState.{Making, answer_in, memory_after, values_aft
 use Rattle.vub_steps.specs.Tasks.{RequestStep, Look, Put, Act, Status, status_of}
 use Rattle.vub_run.specs.TaskItems.{task_items, look_items, act_items}
 use Rattle.vub_run.specs.Turns.{course_of, Turned, turned, work_turn, request_turn, task_turn, phase_turn, under_way, step_stores, row_items, entry_items}
-use Rattle.vub_run_laws.proofs.RunNumbers.{among_get}
+use Rattle.vub_facts.proofs.HeadLemmas.{among_get}
 use Rattle.vub_run_laws.proofs.RunGood.{IsWide, IsOut, IsPending}
 use Rattle.vub_run_laws.proofs.RunFrames.{open_out}
 use Rattle.vub_run_laws.proofs.RunSteps.{look_is, effect_is}

@@ -17,6 +17,7 @@ pub mod RunEnds
 pub mod RunEntries
 pub mod RunEvents
 pub mod RunExists
+pub mod RunFacts
 pub mod RunFrames
 pub mod RunGood
 pub mod RunGuests

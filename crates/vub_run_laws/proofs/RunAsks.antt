@@ -38,7 +38,7 @@ pub is_none_means : (o : Option ℕ) → is_none o ≡ true → o ≡ None
 is_none_means None e = refl
 is_none_means (Some x) e = absurd (let fails : false ≡ true = e in cc)
 
-pub free_are : (owner : ℕ → Option ℕ) (count d n : ℕ) → d + count ≤ n → AllByRecursion (IsFree n owner) (free_from owner count d)
+free_are : (owner : ℕ → Option ℕ) (count d n : ℕ) → d + count ≤ n → AllByRecursion (IsFree n owner) (free_from owner count d)
 free_are owner zero d n l = tt
 free_are owner (suc count) d n l = go (is_none (owner d)) refl (free_are owner count (d + 1) n (omega arith))
   where
@@ -46,13 +46,13 @@ free_are owner (suc count) d n l = go (is_none (owner d)) refl (free_are owner c
     go true e rest = ((omega arith, is_none_means (owner d) e), rest)
     go false e rest = rest
 
-pub free_taken : (n : ℕ) (owner : ℕ → Option ℕ) (k : ℕ) (xs : List ℕ) → AllByRecursion (IsFree n owner) xs → AllByRecursion (IsFree n owner) (take k xs)
+free_taken : (n : ℕ) (owner : ℕ → Option ℕ) (k : ℕ) (xs : List ℕ) → AllByRecursion (IsFree n owner) xs → AllByRecursion (IsFree n owner) (take k xs)
 free_taken n owner zero xs all = tt
 free_taken n owner (suc k) [] all = tt
 free_taken n owner (suc k) (x ∷ xs) all = (all.0, free_taken n owner k xs all.1)
 
 -- who owns something owns it still
-pub owned_other : (n head : ℕ) (ds : List ℕ) (owner : ℕ → Option ℕ) (d e : ℕ) → AllByRecursion (IsFree n owner) ds → owner d ≡ Some e → owned_by head ds owner d ≡ Some e
+owned_other : (n head : ℕ) (ds : List ℕ) (owner : ℕ → Option ℕ) (d e : ℕ) → AllByRecursion (IsFree n owner) ds → owner d ≡ Some e → owned_by head ds owner d ≡ Some e
 owned_other n head [] owner d e all is = is
 owned_other n head (x ∷ xs) owner d e all is = elim (cases_eq x d) [
   | inl same ↦ absurd (let none : owner d ≡ None = ap owner (sym same) ∙ all.0.1 in let fails : None ≡ Some e = sym none ∙ is in cc)

@@ -14,7 +14,8 @@ use Rattle.vub_split.specs.declared.split.SplitRing.{SplitRing}
 use Rattle.vub_direct_chain.specs.declared.chain.Desc.{Desc}
 use Rattle.vub_direct_chain.specs.ChainState.{IsRingOf, Meant, desc_in, desc_place, desc_of, data_of, data_start, data_len, body_desc, handed_bytes, type_of, sector_of}
 use Rattle.vub_run.specs.Moments.{Moment, unfinished}
-use Rattle.vub_run_laws.proofs.RunNumbers.{not_among-take, among_get, among_filter, missing-among}
+use Rattle.vub_run_laws.proofs.RunNumbers.{not_among-take, among_filter, missing-among}
+use Rattle.vub_facts.proofs.HeadLemmas.{among_get}
 use Rattle.vub_run_laws.proofs.RunFrames.{open_out}
 use Rattle.vub_run_laws.proofs.RunGood.{IsSize, IsWide, IsOut}
 use Rattle.vub_run_laws.proofs.Runs.{plain_header}

@@ -34,7 +34,8 @@ use Rattle.vub_steps.specs.Tasks.{RequestStep, Look, Put, Act, Sync, Status, tas
 use Rattle.vub_run.specs.TaskItems.{look_items, act_items}
 use Rattle.vub_run.specs.Turns.{course_of, turned, work_turn, request_turn, task_turn, phase_turn, phase_goes_on, under_way, begun, is_rest, step_items, row_items, element_of, answer_at}
 use Rattle.vub_run_laws.proofs.RunOwn.{published_own}
-use Rattle.vub_run_laws.proofs.RunNumbers.{among_get, among_filter, missing-among}
+use Rattle.vub_run_laws.proofs.RunNumbers.{among_filter, missing-among}
+use Rattle.vub_facts.proofs.HeadLemmas.{among_get}
 use Rattle.vub_run_laws.proofs.RunGood.{the_ring, IsSize, IsWide, IsOut, IsWaiting, WaitsWell, Holds, buffer}
 use Rattle.vub_run_laws.proofs.RunFrames.{entry_small, open_out, length_little}
 use Rattle.vub_run_laws.proofs.RunGuests.{IsGood, stored_at}

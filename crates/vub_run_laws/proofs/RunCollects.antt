@@ -126,7 +126,7 @@ taken_worked q h s l k w = record {
   full = w.full;
   pending = λ j is_open out. w.pending j (record { taken = is_open.taken; unpublished = is_open.unpublished }) out;
   quiet = w.quiet;
-  phase_is = w.phase_is;
+  between = w.between;
 }
 
 pub taken_holds : (q : ℕ) (h : Header1) (s : Scene) (l : Lane) (x k : ℕ) → IsTaken q h s l x → Holds q h (record s { past = entries.Collect q k ∷ s.past }) (with_driver (record l.driver { owner = without_owner x l.driver.owner }) l)
@@ -149,7 +149,7 @@ taken_holds q h s l x k t =
       worked = taken_worked q h s l k t.holds.worked;
       stored = record { sectors = λ j i is_open kept read. t.holds.stored.sectors j i (record { taken = is_open.taken; unpublished = is_open.unpublished }) kept read; status = t.holds.stored.status };
       queue = queue_collect q h s (entries.Collect q k ∷ s.past) l.driver (record l.driver { owner = without_owner x l.driver.owner }) l.batch l.phase
-          (record { accepts = omega arith; shows = refl; collects = omega (arith, collected_own s.past q k); asks = λ j. refl }) (taken_driven q h s l x k t) t.holds.queue;
+          (record { accepts = omega arith; shows = refl; collects = omega (arith, collected_own s.past q k); asks = λ j. refl }) refl refl (taken_driven q h s l x k t) t.holds.queue;
     }
 
 pub taken_legal : (q : ℕ) (h : Header1) (s : Scene) (l : Lane) (x : ℕ) → IsTaken q h s l x → MayCollect s.past q (next_number q s)

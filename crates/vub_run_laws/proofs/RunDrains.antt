@@ -23,6 +23,7 @@ use Rattle.vub_steps.specs.Tasks.{RequestStep, Look, Put, Act, Sync, Status, tas
 use Rattle.vub_run.specs.Turns.{course_of, is_rest, turned, phase_turn, phase_goes_on, under_way, begun, work_turn, request_turn, task_turn}
 use Rattle.vub_run_laws.proofs.RunNumbers.{filter_none}
 use Rattle.vub_run_laws.proofs.RunOwn.{at_own}
+use Rattle.vub_run_laws.proofs.RunFacts.{phase_at}
 use Rattle.vub_run_laws.proofs.RunGood.{Known}
 use Rattle.vub_run_laws.proofs.RunWork.{Fine}
 use Rattle.vub_run_laws.proofs.RunPhases.{some_waits}
@@ -117,7 +118,7 @@ none_left q h n plain good run rest batch works unready =
 at_rest : (q : ℕ) (h : Header1) (n : Moment) → Good q h n → started n.scene.past q ≡ true → is_ready (standing h q n) (turns.Publish h.size) ≡ false → ((n.lanes q).phase ≡ phases.Rest) × ((n.lanes q).batch ≡ [])
 at_rest q h n good run unready =
     let l : Lane = n.lanes q in
-    elim (phase_cases l.batch l.phase good.holds.worked.phase_is) [
+    elim (phase_cases l.batch l.phase (phase_at q h n.scene (n.lanes q) good.holds)) [
       | inr shows ↦
           let publishes : is_publication l.phase ≡ true = ap is_publication shows.1 in
           let fetches : is_fetch l.phase ≡ false = ap is_fetch shows.1 in

@@ -9,7 +9,6 @@ use Rattle.vub_driver.specs.Layout.{area_place}
 use Rattle.vub_base.specs.declared.header.CacheMode.TheVariants.{Back}
 use Rattle.vub_base.specs.declared.header.Header1.{Header1}
 use Rattle.vub_shared.specs.Bytes.{Bytes, put, word}
-use Rattle.vub_shared.proofs.BytesLemmas.{word-put_same}
 use Rattle.vub_steps.specs.declared.steps.Phase.{Phase}
 use Rattle.vub_steps.specs.declared.steps.Phase.TheVariants as phases
 use Rattle.vub_steps.specs.declared.steps.Step.{Step}
@@ -19,15 +18,17 @@ use Rattle.vub_steps.specs.Steps.{element_steps}
 use Rattle.vub_device.specs.declared.entry.Asked.{Asked}
 use Rattle.vub_device.specs.declared.entry.Asked.TheVariants as asks
 use Rattle.vub_device.specs.declared.entry.Entry.{Entry}
-use Rattle.vub_device.specs.Past.{asked, accepted, published, collected, is_among, IsOpen}
+use Rattle.vub_device.specs.Past.{started, accepted, published, collected, is_among, IsOpen}
 use Rattle.vub_device.proofs.Numbers.{is_among_append}
 use Rattle.vub_run.specs.Memory.{Scene}
 use Rattle.vub_run.specs.Moments.{Lane}
 use Rattle.vub_run.specs.Tracking.{answered_len}
-use Rattle.vub_run.specs.Turns.{len_of}
-use Rattle.vub_run_laws.proofs.RunNumbers.{few_below, distinct_parts, distinct_join}
+use Rattle.vub_run.specs.Turns.{len_of, element_of}
+use Rattle.vub_run_laws.proofs.RunNumbers.{distinct_join}
+use Rattle.vub_facts.proofs.HeadLemmas.{few_below, distinct_parts}
+use Rattle.vub_run_laws.proofs.RunFacts.{words_id, words_len}
 use Rattle.vub_split.proofs.Rings.{entries_apart}
-use Rattle.vub_run_laws.proofs.RunGood.{the_ring, IsSize, IsWide, Known, Ringed, Worked, PhaseIs, IsBuilt, Built, Holds}
+use Rattle.vub_run_laws.proofs.RunGood.{the_ring, IsSize, IsWide, Known, Ringed, Worked, WordsAt, Holds}
 use Rattle.vub_run_laws.proofs.RunFrames.{keeps, entry_small, length_little, stored_elsewhere, below_buffers}
 use Rattle.vub_run_laws.proofs.RunGuests.{IsGood, stored_at}
 use Rattle.vub_run_laws.proofs.RunSteps.{wide_served}
@@ -81,7 +82,7 @@ pub batch_room : (q : ℕ) (past : List Entry) (phase : Phase) (batch completed 
 batch_room q past phase batch completed made n cap heads known w =
     let parts = distinct_parts completed batch w.distinct in
     let in_batch : (k : ℕ) → is_among batch k ≡ true → IsOpen past q k = λ k held. w.opens k (is_among_append completed batch k ∙ or_right (is_among completed k) (is_among batch k) held) in
-    let d = distinct_join (published past q) batch known.distinct parts.1.0 (λ k held. (in_batch k held).unpublished) in
+    let d = distinct_join (published past q) batch known.distinct parts.second (λ k held. (in_batch k held).unpublished) in
     let few : length (published past q ++ batch) ≤ accepted past q = few_below (published past q ++ batch) (accepted past q) d (λ k held. elim (cases_Bool (is_among batch k)) [
       | inl there ↦ (in_batch k there).taken
       | inr out ↦ known.below k (let joined : is_among (published past q ++ batch) k ≡ (is_among (published past q) k || is_among batch k) = is_among_append (published past q) batch k in grind (arith, nat_tests))
@@ -145,16 +146,6 @@ unseen_entry q h s l done e i x from upto same =
     let few = x.holds.known.room in
     entries_apart h.size (h.base + i) (h.base + length (published s.past q) + e) x.good.size.some x.good.size.laps (omega arith) (omega arith) (sym same)
 
--- nor another one of the batch
-pub other_element : (q : ℕ) (h : Header1) (s : Scene) (l : Lane) (done e j : ℕ) → IsNextElement q h s l done e → j < e → (h.base + length (published s.past q) + e) % 65536 % h.size ≢ (h.base + length (published s.past q) + j) % 65536 % h.size
-other_element q h s l done e j x less same =
-    let room = batch_room q s.past l.phase l.batch l.completed l.made h.size h.capacity (s.heads q) x.holds.known x.holds.worked in
-    let inside : e < length l.batch = x.inside in
-    let offered = x.holds.known.offered in
-    let few = x.holds.known.room in
-    let shown = x.holds.known.shown in
-    entries_apart h.size (h.base + length (published s.past q) + j) (h.base + length (published s.past q) + e) x.good.size.some x.good.size.laps (omega arith) (omega arith) (sym same)
-
 -- a store into the used ring, past used.idx, leaves the words of the avail ring and used.idx
 ring_words : (q n base : ℕ) (past : List Entry) (heads : List ℕ) (m : Bytes) (p : ℕ) (bs : List ℕ) → IsSize n → area_place q + 8192 + 4 ≤ p
     → ((i : ℕ) → collected past q ≤ i → i < length (published past q) → word 4 (put m 0 p bs) 0 (used_id_place (the_ring q n) (base + i)) ≡ word 4 m 0 (used_id_place (the_ring q n) (base + i)))
@@ -172,12 +163,9 @@ ring_words q n base past heads m p bs size high ids lens r = record {
 abbrev pub one_on : ℕ → Lane → Lane
 one_on done l = record l { phase = phases.Publish (done + 1) }
 
-built_of : (q n base : ℕ) (past : List Entry) (heads : List ℕ) (m : Bytes) (batch : List ℕ) (phase : Phase) (done : ℕ) → phase ≡ phases.Publish done → Built q n base past heads m batch phase → IsBuilt q n base past heads m batch done
-built_of q n base past heads m batch phase done is b = subst (λ (p : Phase). Built q n base past heads m batch p) is b
-
-worked_on : (q : ℕ) (past : List Entry) (batch completed : List ℕ) (made : ℕ → ℕ) (phase : Phase) (done : ℕ) → phase ≡ phases.Publish done → done + 1 < 2 * length batch + 1 → Worked q past phase batch completed made → Worked q past (phases.Publish (done + 1)) batch completed made
-worked_on q past batch completed made phase done is more w =
-    let some : (0 < length batch) × (done < 2 * length batch + 1) = subst (λ (p : Phase). PhaseIs batch p) is w.phase_is in record {
+worked_on : (q : ℕ) (past : List Entry) (batch completed : List ℕ) (made : ℕ → ℕ) (phase : Phase) (done : ℕ) → phase ≡ phases.Publish done → Worked q past phase batch completed made → Worked q past (phases.Publish (done + 1)) batch completed made
+worked_on q past batch completed made phase done is w =
+    record {
       distinct = w.distinct;
       opens = w.opens;
       untouched = w.untouched;
@@ -185,7 +173,7 @@ worked_on q past batch completed made phase done is more w =
       full = w.full;
       pending = w.pending;
       quiet = λ stopped. absurd (let fails : phases.Publish done ≡ phases.Rest = sym is ∙ (w.quiet stopped).0 in cc);
-      phase_is = (some.0, more);
+      between = tt;
     }
 
 pub id_holds : (q : ℕ) (h : Header1) (s : Scene) (l : Lane) (done e x : ℕ) → IsNextElement q h s l done e → done ≡ 2 * e → x ≡ slice_index (s.heads q) (slice_index l.batch e) → x < 256 ^ 4
@@ -197,28 +185,24 @@ id_holds q h s l done e x n at is fits =
     let four : length bs ≡ 4 = length_little 4 x in
     let small = entry_small h.size (P + e) n.good.size in
     let inside : e < length l.batch = n.inside in
-    let old : IsBuilt q h.size h.base s.past (s.heads q) s.memory l.batch done = built_of q h.size h.base s.past (s.heads q) s.memory l.batch l.phase done n.phase n.holds.queue.built in record {
+    let words : WordsAt q h s l.batch (phases.Publish done) = subst (λ (p : Phase). WordsAt q h s l.batch p) n.phase n.holds.queue.words in
+    let run : started s.past q ≡ true = elim (cases_Bool (started s.past q)) [
+      | inl runs ↦ runs
+      | inr stopped ↦ absurd (let fails : phases.Publish done ≡ phases.Rest = sym n.phase ∙ (n.holds.worked.quiet stopped).0 in cc)
+    ] in record {
       known = n.holds.known;
-      worked = worked_on q s.past l.batch l.completed l.made l.phase done n.phase (omega arith) n.holds.worked;
+      worked = worked_on q s.past l.batch l.completed l.made l.phase done n.phase n.holds.worked;
       stored = stored_elsewhere q s.past (s.heads q) s.memory p bs l.batch l.completed l.made n.holds.worked.opens (λ k is_open. below_buffers q (s.heads q) k p bs (omega arith)) n.holds.stored;
       queue = record {
         ringed = ring_words q h.size h.base s.past (s.heads q) s.memory p bs n.good.size (omega arith)
             (λ i from upto. id_and_id q ((P + e) % 65536 % h.size) ((h.base + i) % 65536 % h.size) x s.memory (unseen_entry q h s l done e i n from upto))
             (λ i from upto. id_and_len q ((P + e) % 65536 % h.size) ((h.base + i) % 65536 % h.size) x s.memory) n.holds.queue.ringed;
         driven = n.holds.queue.driven;
-        built = record {
-          ids = λ j l_j d. elim (cases_lt j e) [
-            | inl less ↦ id_and_id q ((P + e) % 65536 % h.size) ((P + j) % 65536 % h.size) x s.memory (other_element q h s l done e j n less) ∙ old.ids j l_j (omega arith)
-            | inr more ↦
-                let same : j ≡ e = omega arith in
-                ap (λ (i : ℕ). word 4 (put s.memory 0 p bs) 0 (used_id_place (the_ring q h.size) (P + i))) same ∙ word-put_same 4 s.memory 0 p x fits ∙ is ∙ sym (ap (λ (i : ℕ). slice_index (s.heads q) (slice_index l.batch i)) same)
-          ];
-          lens = λ j l_j d. id_and_len q ((P + e) % 65536 % h.size) ((P + j) % 65536 % h.size) x s.memory ∙ old.lens j l_j (omega arith);
-        };
+        words = words_id q h s l.batch done e (P + e) x n.good.size run inside at (element_place q h.size h.base s.past (s.heads q) s.memory e n.holds.queue.ringed) is fits words;
       };
     }
 
-pub len_holds : (q : ℕ) (h : Header1) (s : Scene) (l : Lane) (done e x : ℕ) → IsNextElement q h s l done e → done ≡ 2 * e + 1 → x ≡ answered_len 0 (asked s.past q (slice_index l.batch e)) → x < 256 ^ 4
+pub len_holds : (q : ℕ) (h : Header1) (s : Scene) (l : Lane) (done e x : ℕ) → IsNextElement q h s l done e → done ≡ 2 * e + 1 → x ≡ (element_of h q s (slice_index l.batch e)).1 → x < 256 ^ 4
     → Holds q h (stored_at (used_len_place (the_ring q h.size) (h.base + length (published s.past q) + e)) (little_bytes 4 x) s) (one_on done l)
 len_holds q h s l done e x n at is fits =
     let P : ℕ = h.base + length (published s.past q) in
@@ -227,23 +211,19 @@ len_holds q h s l done e x n at is fits =
     let four : length bs ≡ 4 = length_little 4 x in
     let small = entry_small h.size (P + e) n.good.size in
     let inside : e < length l.batch = n.inside in
-    let old : IsBuilt q h.size h.base s.past (s.heads q) s.memory l.batch done = built_of q h.size h.base s.past (s.heads q) s.memory l.batch l.phase done n.phase n.holds.queue.built in record {
+    let words : WordsAt q h s l.batch (phases.Publish done) = subst (λ (p : Phase). WordsAt q h s l.batch p) n.phase n.holds.queue.words in
+    let run : started s.past q ≡ true = elim (cases_Bool (started s.past q)) [
+      | inl runs ↦ runs
+      | inr stopped ↦ absurd (let fails : phases.Publish done ≡ phases.Rest = sym n.phase ∙ (n.holds.worked.quiet stopped).0 in cc)
+    ] in record {
       known = n.holds.known;
-      worked = worked_on q s.past l.batch l.completed l.made l.phase done n.phase (omega arith) n.holds.worked;
+      worked = worked_on q s.past l.batch l.completed l.made l.phase done n.phase n.holds.worked;
       stored = stored_elsewhere q s.past (s.heads q) s.memory p bs l.batch l.completed l.made n.holds.worked.opens (λ k is_open. below_buffers q (s.heads q) k p bs (omega arith)) n.holds.stored;
       queue = record {
         ringed = ring_words q h.size h.base s.past (s.heads q) s.memory p bs n.good.size (omega arith)
             (λ i from upto. len_and_id q ((P + e) % 65536 % h.size) ((h.base + i) % 65536 % h.size) x s.memory)
             (λ i from upto. len_and_len q ((P + e) % 65536 % h.size) ((h.base + i) % 65536 % h.size) x s.memory (unseen_entry q h s l done e i n from upto)) n.holds.queue.ringed;
         driven = n.holds.queue.driven;
-        built = record {
-          ids = λ j l_j d. len_and_id q ((P + e) % 65536 % h.size) ((P + j) % 65536 % h.size) x s.memory ∙ old.ids j l_j (omega arith);
-          lens = λ j l_j d. elim (cases_lt j e) [
-            | inl less ↦ len_and_len q ((P + e) % 65536 % h.size) ((P + j) % 65536 % h.size) x s.memory (other_element q h s l done e j n less) ∙ old.lens j l_j (omega arith)
-            | inr more ↦
-                let same : j ≡ e = omega arith in
-                ap (λ (i : ℕ). word 4 (put s.memory 0 p bs) 0 (used_len_place (the_ring q h.size) (P + i))) same ∙ word-put_same 4 s.memory 0 p x fits ∙ is ∙ sym (ap (λ (i : ℕ). answered_len 0 (asked s.past q (slice_index l.batch i))) same)
-          ];
-        };
+        words = words_len q h s l.batch done e (P + e) x n.good.size run inside at (element_place q h.size h.base s.past (s.heads q) s.memory e n.holds.queue.ringed) is fits words;
       };
     }

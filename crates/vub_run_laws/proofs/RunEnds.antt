@@ -18,7 +18,8 @@ use Rattle.vub_run.specs.Memory.{Scene}
 use Rattle.vub_run.specs.Moments.{Lane, Moment, standing}
 use Rattle.vub_run.specs.Turns.{turned}
 use Rattle.vub_run.specs.Run.{Played, played, one_turn, is_due, then_played, turns}
-use Rattle.vub_run_laws.proofs.RunNumbers.{missing-among, distinct_push, distinct_join, few_below}
+use Rattle.vub_run_laws.proofs.RunNumbers.{missing-among, distinct_join}
+use Rattle.vub_facts.proofs.HeadLemmas.{distinct_push, few_below}
 use Rattle.vub_run_laws.proofs.RunOwn.{at_own}
 use Rattle.vub_run_laws.proofs.RunGood.{Known, Worked}
 use Rattle.vub_run_laws.proofs.RunEfforts.{weight, sum_below, phase_left, effort, weight_small}

@@ -38,6 +38,7 @@ use Rattle.vub_run.specs.Tracking.{Tracks, AfterEach}
 use Rattle.vub_report.specs.Histories.{entries_of}
 use Rattle.vub_run.specs.Turns.{turned}
 use Rattle.vub_run_laws.proofs.RunQueue.{queue_rests}
+use Rattle.vub_run_laws.proofs.RunFacts.{phase_at}
 use Rattle.vub_run_laws.proofs.RunGood.{the_ring, index_store, IsHarmless, IsLeft, IsWaiting, EntryWell, EntryStands, IsPending, PhaseIs, Worked, Holds}
 use Rattle.vub_run_laws.proofs.RunGuests.{holds_track, offered, Offered, guest_holds, last_holds, Unoffered, part_holds, left_after, left_some, left_waits, rest_waits, waits_well}
 use Rattle.vub_run_laws.proofs.RunWork.{Fine}
@@ -195,17 +196,17 @@ collect_right q h m plain good = go (seen (the_ring q h.size) m.scene.memory (h.
 
 -- ---- lives
 
-fresh_worked : (q : ℕ) (past : List Entry) (l : Lane) → started past q ≡ false → Worked q past l.phase l.batch l.completed l.made → Worked q past phases.Rest [] [] (λ k. 0)
-fresh_worked q past l stopped w =
+fresh_worked : (q : ℕ) (past : List Entry) (l : Lane) → started past q ≡ false → PhaseIs l.batch l.phase → Worked q past l.phase l.batch l.completed l.made → Worked q past phases.Rest [] [] (λ k. 0)
+fresh_worked q past l stopped at w =
     let none : (k : ℕ) → l.made k ≡ 0 = (w.quiet stopped).1.1 in record {
       distinct = refl;
       opens = λ k held. absurd (let fails : false ≡ true = held in cc);
       untouched = λ k high. refl;
       progress = λ k. record { fresh = λ e. (w.progress k).fresh (none k); begun = λ some. absurd (omega arith) };
       full = λ k held. absurd (let fails : false ≡ true = held in cc);
-      pending = λ k is_open out. subst (λ (c : ℕ). IsPending c (asked past q k)) (none k) (w.pending k is_open (ap (λ (xs : List ℕ). is_among (xs ++ l.batch) k) (w.quiet stopped).1.0 ∙ ap (λ (xs : List ℕ). is_among xs k) (subst (λ (p : Phase). PhaseIs l.batch p) (w.quiet stopped).0 w.phase_is)));
+      pending = λ k is_open out. subst (λ (c : ℕ). IsPending c (asked past q k)) (none k) (w.pending k is_open (ap (λ (xs : List ℕ). is_among (xs ++ l.batch) k) (w.quiet stopped).1.0 ∙ ap (λ (xs : List ℕ). is_among xs k) (subst (λ (p : Phase). PhaseIs l.batch p) (w.quiet stopped).0 at)));
       quiet = λ e. (refl, (refl, λ k. refl));
-      phase_is = refl;
+      between = tt;
     }
 
 boot_right : (q : ℕ) (h : Header1) (m : Moment) → IsPlain h → Good q h m → Leads q h m (boot m)
@@ -215,7 +216,7 @@ boot_right q h m plain good = tested q h m (not m.lives) (played [] (record m { 
       good = record {
         holds = record {
           known = good.holds.known;
-          worked = fresh_worked q m.scene.past (m.lanes q) stopped good.holds.worked;
+          worked = fresh_worked q m.scene.past (m.lanes q) stopped (phase_at q h m.scene (m.lanes q) good.holds) good.holds.worked;
           stored = record { sectors = λ k i is_open kept read. absurd (omega (arith, kept.put)); status = λ k held. absurd (let fails : false ≡ true = held in cc) };
           queue = queue_rests q h m.scene (m.lanes q).driver (m.lanes q).batch (m.lanes q).phase good.holds.queue;
         };

@@ -6,15 +6,13 @@ use Rattle.byteorder.specs.Numbers.{length-bytes_low_first}
 use Rattle.std.proofs.lemmas.Bool.{cases_lt}
 use Rattle.vub_shared.specs.Bytes.{Bytes, put, word}
 use Rattle.vub_shared.proofs.BytesLemmas.{put_other, word-put_other, word-put_same}
-use Rattle.vub_steps.specs.declared.steps.Phase.{Phase}
-use Rattle.vub_steps.specs.declared.steps.Phase.TheVariants as phases
 use Rattle.vub_ring.specs.Ring.{entry_of, avail_entry_place, avail_idx_place, used_id_place, used_len_place, head_at}
 use Rattle.vub_driver.specs.Layout.{area_place, status_place, sectors_place}
 use Rattle.vub_device.specs.declared.entry.Entry.{Entry}
 use Rattle.vub_device.specs.Past.{accepted, published, collected, is_among, IsOpen}
 use Rattle.vub_run_laws.proofs.RunNumbers.{not_among-take}
 use Rattle.vub_split.proofs.Rings.{entries_apart}
-use Rattle.vub_run_laws.proofs.RunGood.{the_ring, IsSize, Known, Ringed, IsOut, Stored, Built, buffer}
+use Rattle.vub_run_laws.proofs.RunGood.{the_ring, IsSize, Known, Ringed, IsOut, Stored, buffer}
 
 -- an open number is offered and not collected
 pub open_out : (q n cap : ℕ) (past : List Entry) (heads : List ℕ) (k : ℕ) → Known q n cap past heads → IsOpen past q k → IsOut q past heads k
@@ -47,17 +45,6 @@ ringed_elsewhere q n base past heads m p bs size off r = record {
       let id : word 4 (put m 0 p bs) 0 (used_id_place (the_ring q n) (base + i)) ≡ word 4 m 0 (used_id_place (the_ring q n) (base + i)) = off_rings q 4 m p bs (used_id_place (the_ring q n) (base + i)) off (omega arith) (omega arith) in
       let len : word 4 (put m 0 p bs) 0 (used_len_place (the_ring q n) (base + i)) ≡ word 4 m 0 (used_len_place (the_ring q n) (base + i)) = off_rings q 4 m p bs (used_len_place (the_ring q n) (base + i)) off (omega arith) (omega arith) in
       ap (λ (x : ℕ). (x, word 4 (put m 0 p bs) 0 (used_len_place (the_ring q n) (base + i)))) id ∙ ap (λ (x : ℕ). (word 4 m 0 (used_id_place (the_ring q n) (base + i)), x)) len ∙ r.used_at i from upto;
-}
-
-pub built_elsewhere : (q n base : ℕ) (past : List Entry) (heads : List ℕ) (m : Bytes) (p : ℕ) (bs batch : List ℕ) (phase : Phase) → IsSize n → OffRings q p bs → Built q n base past heads m batch phase → Built q n base past heads (put m 0 p bs) batch phase
-built_elsewhere q n base past heads m p bs batch phases.Rest size off b = tt
-built_elsewhere q n base past heads m p bs batch (phases.Start done) size off b = tt
-built_elsewhere q n base past heads m p bs batch (phases.Fetch done) size off b = tt
-built_elsewhere q n base past heads m p bs batch (phases.Publish done) size off b = record {
-  ids = λ e l d. let small = entry_small n (base + length (published past q) + e) size in
-      off_rings q 4 m p bs (used_id_place (the_ring q n) (base + length (published past q) + e)) off (omega arith) (omega arith) ∙ b.ids e l d;
-  lens = λ e l d. let small = entry_small n (base + length (published past q) + e) size in
-      off_rings q 4 m p bs (used_len_place (the_ring q n) (base + length (published past q) + e)) off (omega arith) (omega arith) ∙ b.lens e l d;
 }
 
 -- outside the buffer of a number
@@ -123,13 +110,3 @@ ringed_entry q n cap base past heads m p head size known room at fits r =
       },
       ap (λ (e : ℕ). word 2 (put m 0 p bs) 0 e) (sym at) ∙ word-put_same 2 m 0 p head (omega arith),
     )
-
--- any store below the used ring leaves what is built in it
-pub built_below : (q n base : ℕ) (past : List Entry) (heads : List ℕ) (m : Bytes) (p : ℕ) (bs batch : List ℕ) (phase : Phase) → p + length bs ≤ area_place q + 8192 → Built q n base past heads m batch phase → Built q n base past heads (put m 0 p bs) batch phase
-built_below q n base past heads m p bs batch phases.Rest low b = tt
-built_below q n base past heads m p bs batch (phases.Start done) low b = tt
-built_below q n base past heads m p bs batch (phases.Fetch done) low b = tt
-built_below q n base past heads m p bs batch (phases.Publish done) low b = record {
-  ids = λ e l d. keeps 4 m p bs (used_id_place (the_ring q n) (base + length (published past q) + e)) (inr (omega arith)) ∙ b.ids e l d;
-  lens = λ e l d. keeps 4 m p bs (used_len_place (the_ring q n) (base + length (published past q) + e)) (inr (omega arith)) ∙ b.lens e l d;
-}

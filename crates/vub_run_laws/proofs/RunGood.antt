@@ -1,15 +1,15 @@
--- What holds of queue 0 at every moment of a run, part by part.
-use Rattle.std.proofs.Common.{◌≡◌, ◌≢◌, ◌≤◌, ◌<◌, ◌⊎◌, ℕ, ◌+◌, ◌*◌, ◌/◌, ◌%◌, Bool, true, false, List, [], ◌∷◌, ◌++◌, length, take}
+-- What holds of a queue at every moment of a run, part by part.
+use Rattle.std.proofs.Common.{◌≡◌, ◌≢◌, ◌≤◌, ◌<◌, ◌⊎◌, ℕ, ◌+◌, ◌*◌, ◌/◌, ◌%◌, Bool, true, false, List, [], ◌∷◌, ◌++◌, length, map, take}
 use Rattle.std.specs.Prelude.{Option, Some, None, slice_index, ⊤}
 use Rattle.std.specs.Int.{◌∣◌}
 use Rattle.std.specs.List.{AllByRecursion}
 use Rattle.vub_base.specs.declared.header.Header1.{Header1}
-use Rattle.vub_shared.specs.Bytes.{Bytes, word}
+use Rattle.vub_shared.specs.Bytes.{Bytes}
 use Rattle.byteorder.specs.Endian.{little_bytes}
 use Rattle.vub_shared.specs.Stores.{Store, one_store}
 use Rattle.vub_steps.specs.declared.steps.Phase.{Phase}
 use Rattle.vub_steps.specs.declared.steps.Phase.TheVariants as phases
-use Rattle.vub_ring.specs.Ring.{Ring, avail_idx, avail_idx_place, used_idx, head_at, element_at, used_id_place, used_len_place}
+use Rattle.vub_ring.specs.Ring.{Ring, avail_idx, avail_idx_place, used_idx, head_at, element_at}
 use Rattle.vub_driver.specs.Layout.{ring_of, area_place, buffer_place, status_place, sectors_place}
 use Rattle.vub_driver.specs.Drivers.{Driver, Waiting}
 use Rattle.vub_driver.specs.Stores.{offer_stores}
@@ -21,7 +21,9 @@ use Rattle.vub_device.specs.Crash.{value}
 use Rattle.vub_device.specs.Past.{offers, asked, accepted, published, collected, is_among, IsOpen, started, looks, bytes_read, acts, synced, faulted}
 use Rattle.vub_device.specs.Places.{are_distinct}
 use Rattle.vub_run.specs.Memory.{Scene}
-use Rattle.vub_run.specs.Moments.{Lane, Moment}
+use Rattle.vub_run.specs.Moments.{Lane, Moment, open_heads}
+use Rattle.vub_run.specs.Turns.{element_of}
+use Rattle.vub_facts.specs.Facts.{Side, Facts, words_at}
 use Rattle.vub_device.specs.Requests.{request_of}
 use Rattle.vub_run.specs.Tracking.{answers, answered_len}
 
@@ -173,6 +175,13 @@ IsPending made (Some (asks.Write s bytes)) = made ≤ length bytes / 512
 IsPending made (Some asks.Flush) = made ≤ 1
 IsPending made r = ⊤
 
+-- between turns a queue is at rest or publishes
+abbrev pub RestsOrPublishes : Phase → Type 0
+RestsOrPublishes phases.Rest = ⊤
+RestsOrPublishes (phases.Publish done) = ⊤
+RestsOrPublishes phase = ⊥
+
+-- and its batch goes with that
 abbrev pub PhaseIs : List ℕ → Phase → Type 0
 PhaseIs batch phases.Rest = batch ≡ []
 PhaseIs batch (phases.Publish done) = (0 < length batch) × (done < 2 * length batch + 1)
@@ -186,7 +195,7 @@ pub record Worked (q : ℕ) (past : List Entry) (phase : Phase) (batch completed
   pub full : (k : ℕ) → is_among (completed ++ batch) k ≡ true → IsFull (made k) (asked past q k)
   pub pending : (k : ℕ) → IsOpen past q k → is_among (completed ++ batch) k ≡ false → IsPending (made k) (asked past q k)
   pub quiet : started past q ≡ false → (phase ≡ phases.Rest) × ((completed ≡ []) × ((k : ℕ) → made k ≡ 0))
-  pub phase_is : PhaseIs batch phase
+  pub between : RestsOrPublishes phase
 
 -- ---- what stands in buffers
 
@@ -207,23 +216,23 @@ pub record Stored (q : ℕ) (past : List Entry) (heads : List ℕ) (m : Bytes) (
   pub sectors : (k i : ℕ) → IsOpen past q k → IsKept (made k) (length (bytes_read past q k)) i → IsRead (asked past q k) → m 0 (sectors_place (buffer q heads k) + i) ≡ slice_index (bytes_read past q k) i
   pub status : (k : ℕ) → is_among (completed ++ batch) k ≡ true → m 0 (status_place (buffer q heads k)) ≡ 0
 
--- ---- what stands in the used ring of a publication under way
+-- ---- what stands of a queue in each phase
 
-pub record IsBuilt (q n base : ℕ) (past : List Entry) (heads : List ℕ) (m : Bytes) (batch : List ℕ) (done : ℕ) : Type 0 where
-  pub ids : (e : ℕ) → e < length batch → 2 * e < done → word 4 m 0 (used_id_place (the_ring q n) (base + length (published past q) + e)) ≡ slice_index heads (slice_index batch e)
-  pub lens : (e : ℕ) → e < length batch → 2 * e + 1 < done → word 4 m 0 (used_len_place (the_ring q n) (base + length (published past q) + e)) ≡ answered_len 0 (asked past q (slice_index batch e))
+-- what a queue has under way
+abbrev pub side_of : ℕ → Header1 → Scene → List ℕ → Phase → Side
+side_of q h s batch phase = record { started = started s.past q; phase = phase; batch = map (element_of h q s) batch }
 
-abbrev pub Built : ℕ → ℕ → ℕ → List Entry → List ℕ → Bytes → List ℕ → Phase → Type 0
-Built q n base past heads m batch (phases.Publish done) = IsBuilt q n base past heads m batch done
-Built q n base past heads m batch phase = ⊤
+-- the facts of its words, for the heads of its open requests
+abbrev pub WordsAt : ℕ → Header1 → Scene → List ℕ → Phase → Type 0
+WordsAt q h s batch phase = Facts h.size (open_heads q s.past (s.heads q)) h.base (side_of q h s batch phase) (words_at (the_ring q h.size) s.memory)
 
 -- ---- all of it
 
--- the ring and the slots of the driver
+-- the ring, the slots of the driver, and the words of what is under way
 pub record QueueFacts (q : ℕ) (h : Header1) (s : Scene) (v : Driver) (batch : List ℕ) (phase : Phase) : Type 0 where
   pub ringed : Ringed q h.size h.base s.past (s.heads q) s.memory
   pub driven : Driven q h.size h.capacity h.base s.past (s.heads q) v
-  pub built : Built q h.size h.base s.past (s.heads q) s.memory batch phase
+  pub words : WordsAt q h s batch phase
 
 -- counts, numbers and answers; work; what stands in buffers; and the queue
 pub record Holds (q : ℕ) (h : Header1) (s : Scene) (l : Lane) : Type 0 where

@@ -1,6 +1,6 @@
 -- The driver's stores keep what holds, up to the offer.
-use Rattle.std.proofs.Common.{◌≡◌, ◌≤◌, ◌<◌, ℕ, zero, suc, ◌+◌, ◌*◌, ◌%◌, List, [], ◌∷◌, ◌++◌, length, drop, refl, ap, sym, ◌∙◌, subst, inl, inr, arith}
-use Rattle.std.specs.Prelude.{Option, Some, None}
+use Rattle.std.proofs.Common.{◌≡◌, ◌≤◌, ◌<◌, ℕ, zero, suc, ◌+◌, ◌*◌, ◌%◌, List, [], ◌∷◌, ◌++◌, length, map, drop, refl, ap, sym, ◌∙◌, subst, inl, inr, arith}
+use Rattle.std.specs.Prelude.{Option, Some, None, slice_index}
 use Rattle.std.specs.List.{AllByRecursion}
 use Rattle.std.proofs.lemmas.List.{length-append}
 use Rattle.byteorder.specs.Endian.{little_bytes}
@@ -19,21 +19,25 @@ use Rattle.vub_driver.specs.TableChain.{chain_in}
 use Rattle.vub_device.specs.declared.entry.Asked.{Asked}
 use Rattle.vub_device.specs.declared.entry.Entry.TheVariants as entries
 use Rattle.vub_device.specs.Legal.{LegalFrom}
-use Rattle.vub_device.specs.Past.{IsOpen}
+use Rattle.vub_device.specs.Past.{IsOpen, started, asked}
 use Rattle.vub_report.specs.declared.items.Item.{Item}
 use Rattle.vub_report.specs.declared.items.Item.TheVariants as items
 use Rattle.vub_run.specs.Memory.{Scene, with_at, with_last, after_item, after_items}
-use Rattle.vub_run.specs.Moments.{Lane}
+use Rattle.vub_run.specs.Moments.{Lane, open_heads}
+use Rattle.vub_run.specs.Turns.{len_of}
+use Rattle.vub_steps.specs.declared.steps.Phase.{Phase}
+use Rattle.vub_facts.specs.Facts.{Facts, words_at}
+use Rattle.vub_run_laws.proofs.RunFacts.{words_below, words_offer}
 use Rattle.vub_run.specs.Run.{guest_items, with_driver}
 use Rattle.vub_device.specs.Requests.{request_of}
 use Rattle.vub_run.specs.Tracking.{Tracks, AfterEach}
 use Rattle.vub_report.specs.Histories.{entries_of}
 use Rattle.vub_run_laws.proofs.RunOwn.{at_own}
-use Rattle.vub_run_laws.proofs.RunGood.{the_ring, IsSize, index_store, IsHarmless, IsLeft, IsWaiting, WaitsWell, Holds, Known, Ringed, Driven, Stored, Built}
+use Rattle.vub_run_laws.proofs.RunGood.{the_ring, IsSize, index_store, IsHarmless, IsLeft, IsWaiting, WaitsWell, Holds, Known, Ringed, Driven, Stored}
 use Rattle.vub_run_laws.proofs.RunTracks.{tracks}
 use Rattle.vub_run_laws.proofs.RunQueue.{queue_elsewhere}
-use Rattle.vub_run_laws.proofs.RunFrames.{entry_small, open_out, OffRings, OffBuffer, built_below, stored_elsewhere, below_buffers, other_buffer, length_little, ringed_entry, same_entry}
-use Rattle.vub_run_laws.proofs.RunOffers.{offer_room, offer_known, offer_ringed, shown_head, offer_driven, offer_worked, offer_stored, offer_built, batch_taken}
+use Rattle.vub_run_laws.proofs.RunFrames.{entry_small, open_out, OffRings, OffBuffer, stored_elsewhere, below_buffers, other_buffer, length_little, ringed_entry, same_entry}
+use Rattle.vub_run_laws.proofs.RunOffers.{offer_room, offer_known, offer_ringed, shown_head, offer_driven, offer_worked, offer_stored, batch_taken}
 
 -- the scene after a store into guest memory
 abbrev pub stored_at : ℕ → List ℕ → Scene → Scene
@@ -96,11 +100,16 @@ entry_holds q h s l w good waits holds =
         queue = record {
           ringed = ring.0;
           driven = holds.queue.driven;
-          built = built_below q h.size h.base s.past (s.heads q) s.memory p bs l.batch l.phase below holds.queue.built;
+          words = words_below q h s p bs l.batch l.phase good.size holds.worked.between below holds.queue.words;
         };
       },
       ring.1,
     )
+
+-- the facts of the words, where the requests of the queue were offered under these heads
+abbrev OfferedWords : ℕ → Header1 → Scene → Asked → Bytes → List ℕ → Phase → List ℕ → Type 0
+OfferedWords q h s r m batch phase hs =
+    Facts h.size (open_heads q (entries.Offer q r ∷ s.past) hs) h.base (record { started = started s.past q; phase = phase; batch = map (λ k. (slice_index hs k, len_of h (asked (entries.Offer q r ∷ s.past) q k))) batch }) (words_at (the_ring q h.size) m)
 
 index_holds : (q : ℕ) (h : Header1) (s : Scene) (l : Lane) (w : Waiting) → IsGood h → IsWaiting q h.size h.capacity s.past (s.heads q) l.driver w → Holds q h s l → head_at (the_ring q h.size) s.memory (h.base + length (s.heads q)) ≡ w.head
     → Holds q h (after_item h (items.Made (entries.Offer q (request_of w.ask))) (stored_at (avail_idx_place (the_ring q h.size)) (little_bytes 2 ((l.driver.avail_idx + 1) % 65536)) s)) (offered l)
@@ -115,7 +124,7 @@ index_holds q h s l w good waits holds stands =
     let ringed = offer_ringed q h.size h.capacity h.base s.past (s.heads q) s.memory r w.head l.driver.avail_idx good.size holds.known holds.queue.driven.index stands holds.queue.ringed in
     let last : last_head (the_ring q h.size) m ≡ w.head = shown_head q h.size h.base s.past (s.heads q) m r w.head holds.known.offered ringed in
     let stored = stored_elsewhere q s.past (s.heads q) s.memory p bs l.batch l.completed l.made holds.worked.opens (λ k is_open. below_buffers q (s.heads q) k p bs (omega arith)) holds.stored in
-    let built = built_below q h.size h.base s.past (s.heads q) s.memory p bs l.batch l.phase (omega arith) holds.queue.built in
+    let words = words_below q h s p bs l.batch l.phase good.size holds.worked.between (omega arith) holds.queue.words in
     let past' : List Entry = entries.Offer q r ∷ s.past in
     let heads' : List ℕ = s.heads q ++ w.head ∷ [] in
     let own : heads' ≡ with_at s.heads q heads' q = sym (at_own s.heads q heads') in
@@ -126,7 +135,7 @@ index_holds q h s l w good waits holds stands =
       queue = record {
         ringed = subst (λ (hs : List ℕ). Ringed q h.size h.base past' hs m) own ringed;
         driven = subst (λ (hs : List ℕ). Driven q h.size h.capacity h.base past' hs (offered l).driver) own (offer_driven q h.size h.capacity h.base s.past (s.heads q) l.driver w r holds.queue.driven waits);
-        built = subst (λ (hs : List ℕ). Built q h.size h.base past' hs m l.batch l.phase) own (offer_built q h.size h.capacity h.base s.past (s.heads q) r w.head m l.phase l.batch l.completed l.made holds.known (batch_taken q s.past l.phase l.batch l.completed l.made holds.worked) built);
+        words = subst (λ (hs : List ℕ). OfferedWords q h s r m l.batch l.phase hs) own (words_offer q h s r w.head m l.batch l.phase holds.known (batch_taken q s.past l.phase l.batch l.completed l.made holds.worked) words);
       };
     } in
     subst (λ (y : ℕ). Holds q h (record { memory = m; past = entries.Offer q r ∷ s.past; heads = with_last s.heads q y; descriptors = with_last s.descriptors q (chain_in (the_ring q h.size) m y) }) (offered l)) (sym last) whole
@@ -240,7 +249,7 @@ rest_waits q h s l w left waits rest holds = record {
       apart = holds.queue.driven.apart;
       waits = record { wide = waits.wide; below = waits.below; mine = waits.mine; apart = waits.apart; plan = rest };
     };
-    built = holds.queue.built;
+    words = holds.queue.words;
   };
 }
 

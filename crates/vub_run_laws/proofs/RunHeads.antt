@@ -1,5 +1,5 @@
 -- The heads of the open requests of a queue, and how they go on.
-use Rattle.std.proofs.Common.{◌≡◌, ◌≤◌, ◌<◌, ℕ, zero, suc, ◌+◌, Bool, true, false, cond, not, List, [], ◌∷◌, ◌++◌, length, map, refl, ap, sym, ◌∙◌, inl, inr, arith}
+use Rattle.std.proofs.Common.{◌≡◌, ◌<◌, ℕ, zero, suc, ◌+◌, Bool, true, false, cond, not, List, [], ◌∷◌, ◌++◌, length, map, refl, ap, sym, ◌∙◌, inl, inr, arith}
 use Rattle.std.specs.Prelude.{◌||◌, slice_index}
 use Rattle.std.proofs.lemmas.Bool.{cases_Bool, cases_eq}
 use Rattle.std.proofs.lemmas.Bool.Decides.{nat_tests}
@@ -12,6 +12,7 @@ use Rattle.vub_device.specs.Past.{accepted, published, numbers, open_numbers, mi
 use Rattle.vub_device.specs.Places.{are_distinct}
 use Rattle.vub_device.proofs.Numbers.{is_among_append}
 use Rattle.vub_run.specs.Moments.{open_heads}
+use Rattle.vub_run_laws.proofs.RunNumbers.{missing_past, missing_all}
 use Rattle.vub_run_laws.proofs.RunOwn.{accepted_own, published_own}
 use Rattle.vub_facts.specs.Facts.{without}
 use Rattle.vub_facts.proofs.HeadLemmas.{without_map}
@@ -61,10 +62,6 @@ heads_publish q past heads list ks those distinct opens =
 
 -- ---- how many are open
 
-missing_past : (x : ℕ) (xs : List ℕ) (a : ℕ) → a ≤ x → missing_below (x ∷ xs) a ≡ missing_below xs a
-missing_past x xs zero l = refl
-missing_past x xs (suc a) l = let rest : missing_below (x ∷ xs) a ≡ missing_below xs a = missing_past x xs a (omega arith) in grind (arith, nat_tests)
-
 one_fewer : (x : ℕ) (xs : List ℕ) (a : ℕ) → x < a → is_among xs x ≡ false → length (missing_below (x ∷ xs) a) + 1 ≡ length (missing_below xs a)
 one_fewer x xs zero l out = absurd (omega arith)
 one_fewer x xs (suc a) l out =
@@ -79,10 +76,6 @@ one_fewer x xs (suc a) l out =
           let rest : length (missing_below (x ∷ xs) a) + 1 ≡ length (missing_below xs a) = one_fewer x xs a (omega arith) out in
           grind (arith, nat_tests)
     ]
-
-missing_all : (a : ℕ) → length (missing_below [] a) ≡ a
-missing_all zero = refl
-missing_all (suc a) = omega (arith, missing_all a, length-append (missing_below [] a) (a ∷ []))
 
 -- what is missing and what isn't are all of it
 pub missing_exact : (xs : List ℕ) (a : ℕ) → are_distinct xs ≡ true → ((k : ℕ) → is_among xs k ≡ true → k < a) → length (missing_below xs a) + length xs ≡ a

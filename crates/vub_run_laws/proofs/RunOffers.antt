@@ -9,7 +9,6 @@ use Rattle.vub_driver.specs.Layout.{area_place}
 use Rattle.vub_shared.specs.Bytes.{Bytes, put, word}
 use Rattle.vub_shared.proofs.BytesLemmas.{word-put_same}
 use Rattle.vub_steps.specs.declared.steps.Phase.{Phase}
-use Rattle.vub_steps.specs.declared.steps.Phase.TheVariants as phases
 use Rattle.vub_ring.specs.Ring.{avail_entry_place, avail_idx_place, avail_idx, used_id_place, used_len_place, head_at, last_head}
 use Rattle.vub_driver.specs.Drivers.{Driver, Waiting}
 use Rattle.vub_device.specs.declared.entry.Asked.{Asked}
@@ -20,7 +19,7 @@ use Rattle.vub_device.proofs.Numbers.{is_among_append}
 use Rattle.vub_run.specs.Tracking.{answered_len}
 use Rattle.vub_run_laws.proofs.RunOwn.{offers_own}
 use Rattle.vub_run_laws.proofs.RunNumbers.{among_at, few_places}
-use Rattle.vub_run_laws.proofs.RunGood.{the_ring, IsSize, IsWide, Known, Ringed, spot, IsOut, IsWaiting, Driven, IsBegun, IsFull, IsPending, Worked, Stored, IsRead, Built}
+use Rattle.vub_run_laws.proofs.RunGood.{the_ring, IsSize, IsWide, Known, Ringed, spot, IsOut, IsWaiting, Driven, IsBegun, IsFull, IsPending, Worked, Stored, IsRead}
 use Rattle.vub_run_laws.proofs.RunFrames.{keeps, length_little}
 
 pub same_head : (heads : List ℕ) (h k : ℕ) → k < length heads → slice_index (heads ++ h ∷ []) k ≡ slice_index heads k
@@ -174,7 +173,7 @@ offer_worked q n cap past heads r phase batch completed made known worked = reco
       let low : k < offers past q = omega (arith, is_open.taken, known.offers_are, known.offered) in
       subst (λ (o : Option Asked). IsPending (made k) o) (sym (same_asked q past r k low)) (worked.pending k (record { taken = is_open.taken; unpublished = is_open.unpublished }) out);
   quiet = worked.quiet;
-  phase_is = worked.phase_is;
+  between = worked.between;
 }
 
 pub offer_stored : (q n cap : ℕ) (past : List Entry) (heads : List ℕ) (r : Asked) (h : ℕ) (m : Bytes) (phase : Phase) (batch completed : List ℕ) (made : ℕ → ℕ) → Known q n cap past heads → Worked q past phase batch completed made
@@ -188,16 +187,6 @@ offer_stored q n cap past heads r h m phase batch completed made known worked st
   status = λ k held.
       let low : k < length heads = omega (arith, (worked.opens k held).taken, known.offered) in
       ap (λ (x : ℕ). m 0 (area_place q + (65536 + 8192 * x) + 16)) (same_head heads h k low) ∙ stored.status k held;
-}
-
-pub offer_built : (q n cap base : ℕ) (past : List Entry) (heads : List ℕ) (r : Asked) (h : ℕ) (m : Bytes) (phase : Phase) (batch completed : List ℕ) (made : ℕ → ℕ) → Known q n cap past heads
-    → ((k : ℕ) → is_among batch k ≡ true → k < accepted past q) → Built q n base past heads m batch phase → Built q n base (entries.Offer q r ∷ past) (heads ++ h ∷ []) m batch phase
-offer_built q n cap base past heads r h m phases.Rest batch completed made known low b = tt
-offer_built q n cap base past heads r h m (phases.Start done) batch completed made known low b = tt
-offer_built q n cap base past heads r h m (phases.Fetch done) batch completed made known low b = tt
-offer_built q n cap base past heads r h m (phases.Publish done) batch completed made known low b = record {
-  ids = λ e l d. b.ids e l d ∙ sym (same_head heads h (slice_index batch e) (omega (arith, low (slice_index batch e) (among_at batch e l), known.offered)));
-  lens = λ e l d. b.lens e l d ∙ sym (ap (answered_len 0) (same_asked q past r (slice_index batch e) (omega (arith, low (slice_index batch e) (among_at batch e l), known.offers_are, known.offered))));
 }
 
 -- what is in the batch was accepted

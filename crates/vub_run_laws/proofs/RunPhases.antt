@@ -2,7 +2,7 @@
 use Rattle.std.proofs.Common.{◌≡◌, ◌≤◌, ◌<◌, ℕ, ◌+◌, true, false, List, [], ◌∷◌, ◌++◌, length, take, drop, refl, ap, sym, ◌∙◌, subst, inl, inr, arith, Bool}
 use Rattle.std.specs.Prelude.{Option, Some, None, ◌||◌, if◌then◌else◌}
 use Rattle.std.proofs.lemmas.Bool.Decides.{nat_tests}
-use Rattle.std.proofs.lemmas.Bool.{cases_lt, cases_Bool}
+use Rattle.std.proofs.lemmas.Bool.{cases_lt, cases_Bool, or_right}
 use Rattle.std.proofs.lemmas.List.{length-drop, append-nil, length-take, take-append-drop}
 use Rattle.vub_base.specs.declared.header.Header1.{Header1}
 use Rattle.vub_steps.specs.declared.steps.Phase.{Phase}
@@ -21,13 +21,15 @@ use Rattle.vub_run.specs.Memory.{Scene}
 use Rattle.vub_run.specs.Moments.{Lane}
 use Rattle.vub_run.specs.Turns.{under_way, phase_goes_on}
 use Rattle.vub_run_laws.proofs.RunOwn.{accepted_own, started_own, looks_start, acts_start, bytes_start, synced_start, faulted_start}
-use Rattle.vub_run_laws.proofs.RunNumbers.{distinct_parts, distinct_join}
-use Rattle.vub_run_laws.proofs.RunGood.{the_ring, IsPending, Worked, Holds}
+use Rattle.vub_run_laws.proofs.RunNumbers.{distinct_join}
+use Rattle.vub_facts.proofs.HeadLemmas.{distinct_parts}
+use Rattle.vub_run_laws.proofs.RunGood.{the_ring, IsPending, Worked, Holds, PhaseIs}
 use Rattle.vub_run_laws.proofs.RunTracks.{ahead_by}
 use Rattle.vub_run_laws.proofs.RunEfforts.{weight, effort, sum_below, sum_more, weight_small, sum_moved}
 use Rattle.vub_run_laws.proofs.RunGuests.{IsGood, holds_track}
 use Rattle.vub_run_laws.proofs.RunWork.{Fine}
-use Rattle.vub_run_laws.proofs.RunQueue.{queue_same, queue_entry, queue_begins}
+use Rattle.vub_run_laws.proofs.RunQueue.{queue_entry, queue_begins}
+use Rattle.vub_run_laws.proofs.RunFacts.{phase_at, words_rest, words_rest_at, batch_begins_at}
 
 -- the lane at rest
 abbrev pub resting : Lane → Lane
@@ -48,11 +50,11 @@ start_worked q past list batch completed made phase stopped w =
       full = w.full;
       pending = λ j is_open out. w.pending j (record { taken = is_open.taken; unpublished = is_open.unpublished }) out;
       quiet = λ stops. absurd (let fails : true ≡ false = sym (started_own past q list) ∙ stops in cc);
-      phase_is = w.phase_is;
+      between = w.between;
     }
 
 start_holds : (q : ℕ) (h : Header1) (s : Scene) (l : Lane) (list : List ℕ) → started s.past q ≡ false → Holds q h s l → Holds q h (record s { past = entries.Start q list ∷ s.past }) l
-start_holds q h s l list stopped x = record {
+start_holds q h s l list stopped x = let rest : l.phase ≡ phases.Rest = (x.worked.quiet stopped).0 in record {
   known = record {
     offers_are = x.known.offers_are;
     offered = x.known.offered;
@@ -71,7 +73,8 @@ start_holds q h s l list stopped x = record {
     sectors = λ k i is_open kept read. absurd (let zero_made : l.made k ≡ 0 = (x.worked.quiet stopped).1.1 k in omega (arith, kept.put));
     status = x.stored.status;
   };
-  queue = queue_same q h s (entries.Start q list ∷ s.past) l.driver l.batch l.phase refl refl refl (λ j. refl) x.queue;
+  queue = queue_entry q h s (entries.Start q list ∷ s.past) l.driver l.batch l.phase (record { accepts = omega arith; shows = refl; collects = omega arith; asks = λ j. refl }) refl
+      (words_rest_at q h (record s { past = entries.Start q list ∷ s.past }) l.batch l.phase rest (subst (λ (p : Phase). PhaseIs l.batch p) rest (phase_at q h s l x)) (words_rest q h (record s { past = entries.Start q list ∷ s.past }) (started_own s.past q list) x.queue.words.used_fits)) x.queue;
 }
 
 pub start_fine : (q : ℕ) (h : Header1) (s : Scene) (l : Lane) → IsGood h → started s.past q ≡ false → Holds q h s (resting l) → Fine q h s (resting l) (phase_goes_on h q s (under_way turns.Start (resting l)))
@@ -106,7 +109,7 @@ accept_worked q past k batch completed made phase w = record {
     | inr high ↦ subst (λ (c : ℕ). IsPending c (asked past q j)) (sym (w.untouched j high)) (pending_none (asked past q j))
   ];
   quiet = w.quiet;
-  phase_is = w.phase_is;
+  between = w.between;
 }
   where
     pending_none : (o : Option Asked) → IsPending 0 o
@@ -118,8 +121,8 @@ accept_worked q past k batch completed made phase w = record {
     pending_none (Some (asks.Zero parts)) = tt
     pending_none None = tt
 
-accept_holds : (q : ℕ) (h : Header1) (s : Scene) (l : Lane) (k : ℕ) → accepted s.past q < length (s.heads q) → Holds q h s l → Holds q h (record s { past = entries.Accept q k ∷ s.past }) l
-accept_holds q h s l k more x = record {
+accept_holds : (q : ℕ) (h : Header1) (s : Scene) (l : Lane) (k : ℕ) → started s.past q ≡ true → l.phase ≡ phases.Rest → accepted s.past q < length (s.heads q) → Holds q h s l → Holds q h (record s { past = entries.Accept q k ∷ s.past }) l
+accept_holds q h s l k run rest more x = record {
   known = record {
     offers_are = x.known.offers_are;
     offered = omega (arith, more, accepted_own s.past q k);
@@ -144,7 +147,8 @@ accept_holds q h s l k more x = record {
     }) kept read;
     status = x.stored.status;
   };
-  queue = queue_entry q h s (entries.Accept q k ∷ s.past) l.driver l.batch l.phase (record { accepts = omega (arith, accepted_own s.past q k); shows = refl; collects = omega arith; asks = λ j. refl }) refl x.queue;
+  queue = queue_entry q h s (entries.Accept q k ∷ s.past) l.driver l.batch l.phase (record { accepts = omega (arith, accepted_own s.past q k); shows = refl; collects = omega arith; asks = λ j. refl }) refl
+      (words_rest_at q h (record s { past = entries.Accept q k ∷ s.past }) l.batch l.phase rest (subst (λ (p : Phase). PhaseIs l.batch p) rest (phase_at q h s l x)) (words_rest q h (record s { past = entries.Accept q k ∷ s.past }) run x.queue.words.used_fits)) x.queue;
 }
 
 -- where something waits, an offer isn't accepted
@@ -159,7 +163,7 @@ some_waits q h s l good x =
 pub fetch_fine : (q : ℕ) (h : Header1) (s : Scene) (l : Lane) → IsGood h → started s.past q ≡ true → accepted s.past q < length (s.heads q) → Holds q h s (resting l) → Fine q h s (resting l) (phase_goes_on h q s (under_way turns.Fetch (resting l)))
 fetch_fine q h s l good run more x =
     let k : ℕ = accepted s.past q in
-    let holds : Holds q h (record s { past = entries.Accept q k ∷ s.past }) (resting l) = accept_holds q h s (resting l) k more x in
+    let holds : Holds q h (record s { past = entries.Accept q k ∷ s.past }) (resting l) = accept_holds q h s (resting l) k run refl more x in
     let may : MayAccept s.past q k = record { started = run; next = refl; offered = omega (arith, x.known.offers_are) } in
     record {
       each = (inr (holds_track q h (record s { past = entries.Accept q k ∷ s.past }) (resting l) good holds), tt);
@@ -189,8 +193,8 @@ swap_distinct : (most : ℕ) (xs : List ℕ) → are_distinct (xs ++ []) ≡ tru
 swap_distinct most xs d =
     let whole : are_distinct (take most xs ++ drop most xs) ≡ true = ap are_distinct (take-append-drop most xs ∙ sym (append-nil xs)) ∙ d in
     let parts = distinct_parts (take most xs) (drop most xs) whole in
-    distinct_join (drop most xs) (take most xs) parts.1.0 parts.0 (λ k held. elim (cases_Bool (is_among (drop most xs) k)) [
-      | inl there ↦ let out : is_among (take most xs) k ≡ false = parts.1.1 k there in absurd (let fails : true ≡ false = sym held ∙ out in cc)
+    distinct_join (drop most xs) (take most xs) parts.second parts.first (λ k held. elim (cases_Bool (is_among (drop most xs) k)) [
+      | inl there ↦ let out : is_among (take most xs) k ≡ false = parts.apart k there in absurd (let fails : true ≡ false = sym held ∙ out in cc)
       | inr out ↦ out
     ])
 
@@ -207,13 +211,15 @@ taking_holds q h s l most some any run x =
         full = λ k held. x.worked.full k (same k held);
         pending = λ k is_open out. x.worked.pending k is_open (sym (swap_among most l.completed k) ∙ out);
         quiet = λ stopped. absurd (let fails : true ≡ false = sym run ∙ stopped in cc);
-        phase_is = (omega (arith, length-take most l.completed), omega arith);
+        between = tt;
       };
       stored = record {
         sectors = x.stored.sectors;
         status = λ k held. x.stored.status k (same k held);
       };
-      queue = queue_begins q h s l.driver (take most l.completed) [] phases.Rest x.queue;
+      queue = queue_begins q h s l.driver (take most l.completed) [] phases.Rest
+          (batch_begins_at q h s l.driver (take most l.completed) x.known x.queue.driven (omega (arith, some, any, length-take most l.completed)) (distinct_parts (drop most l.completed) (take most l.completed) (swap_distinct most l.completed x.worked.distinct)).second (λ k held.
+          x.worked.opens k (same k (is_among_append (drop most l.completed) (take most l.completed) k ∙ or_right (is_among (drop most l.completed) k) (is_among (take most l.completed) k) held)))) x.queue;
     }
 
 -- and what is left to do grows by no more than the store that follows

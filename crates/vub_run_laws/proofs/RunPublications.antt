@@ -60,7 +60,7 @@ in_batch q h s l done k x held = is_among_append l.completed l.batch k ∙ or_ri
 pub batch_open : (q : ℕ) (h : Header1) (s : Scene) (l : Lane) (done k : ℕ) → IsUnderWay q h s l done → is_among l.batch k ≡ true → IsOpen s.past q k
 batch_open q h s l done k x held = x.holds.worked.opens k (in_batch q h s l done k x held)
 
-batch_wide : (q : ℕ) (h : Header1) (s : Scene) (l : Lane) (done k : ℕ) → IsUnderWay q h s l done → is_among l.batch k ≡ true → IsWide h.capacity (asked s.past q k)
+pub batch_wide : (q : ℕ) (h : Header1) (s : Scene) (l : Lane) (done k : ℕ) → IsUnderWay q h s l done → is_among l.batch k ≡ true → IsWide h.capacity (asked s.past q k)
 batch_wide q h s l done k x held = (x.holds.known.wide k (omega (arith, (batch_open q h s l done k x held).taken, x.holds.known.offered)))
 
 -- ---- the stores of elements
@@ -110,7 +110,7 @@ len_fine q h s l done e x inside at =
     let fits : len < 256 ^ 4 = subst (λ (y : ℕ). y < 256 ^ 4) (sym is_len.0) is_len.1 in
     let P : ℕ = h.base + length (published s.past q) in
     let next : IsNextElement q h s (publishing done l) done e = record { good = x.good; back = x.back; holds = x.holds; phase = refl; inside = inside } in
-    let holds = len_holds q h s (publishing done l) done e len next at is_len.0 fits in
+    let holds = len_holds q h s (publishing done l) done e len next at refl fits in
     let whole : Fine q h s (publishing done l) (len_turn q h l done (Some (element_of h q s k)) (entry_of (the_ring q h.size) (P + e)) true) = record {
       each = (inr (holds_track q h (stored_at (used_len_place (the_ring q h.size) (P + e)) (little_bytes 4 len) s) (one_on done l) x.good holds), tt);
       holds = holds;

@@ -1,19 +1,23 @@
 -- What is known of a queue, and what each step of the driver and of the device leaves of it.
-use Rattle.std.proofs.Common.{◌≡◌, ◌≤◌, ◌<◌, ℕ, ◌+◌, List, [], length, take, refl, ap, sym, ◌∙◌, subst, arith, ◌%◌}
+use Rattle.std.proofs.Common.{◌≡◌, ◌≤◌, ◌<◌, ℕ, ◌+◌, List, [], length, map, take, ap, sym, ◌∙◌, subst, arith, ◌%◌}
 use Rattle.std.specs.Prelude.{Option, Some, None, slice_index}
 use Rattle.vub_base.specs.declared.header.Header1.{Header1}
-use Rattle.vub_shared.specs.Bytes.{Bytes, put, word}
+use Rattle.vub_shared.specs.Bytes.{Bytes, put}
 use Rattle.vub_steps.specs.declared.steps.Phase.{Phase}
 use Rattle.vub_steps.specs.declared.steps.Phase.TheVariants as phases
-use Rattle.vub_ring.specs.Ring.{used_idx, used_id_place, used_len_place}
+use Rattle.vub_ring.specs.Ring.{used_idx}
 use Rattle.vub_driver.specs.Drivers.{Driver, Waiting}
 use Rattle.vub_device.specs.declared.entry.Asked.{Asked}
 use Rattle.vub_device.specs.declared.entry.Entry.{Entry}
-use Rattle.vub_device.specs.Past.{accepted, asked, published, collected, is_among}
+use Rattle.vub_device.specs.Past.{started, accepted, asked, published, collected, is_among}
 use Rattle.vub_run.specs.Memory.{Scene}
 use Rattle.vub_run.specs.Tracking.{answered_len}
-use Rattle.vub_run_laws.proofs.RunGood.{the_ring, spot, IsSize, Ringed, IsOut, WaitsWell, Driven, Built, QueueFacts}
-use Rattle.vub_run_laws.proofs.RunFrames.{OffRings, ringed_elsewhere, built_elsewhere}
+use Rattle.vub_run_laws.proofs.RunGood.{the_ring, spot, IsSize, Ringed, IsOut, WaitsWell, Driven, WordsAt, QueueFacts}
+use Rattle.vub_run_laws.proofs.RunFrames.{OffRings, ringed_elsewhere}
+use Rattle.vub_run_laws.proofs.RunFacts.{words_same, words_rests, words_begin, words_elsewhere_at}
+use Rattle.vub_facts.specs.Facts.{InBatch}
+use Rattle.vub_run.specs.Moments.{open_heads}
+use Rattle.vub_run.specs.Turns.{element_of}
 
 -- ---- parts of it
 
@@ -34,16 +38,6 @@ driven_same q n cap base past past' heads v out d = record {
   owned = λ k o. d.owned k (out k o);
   apart = λ j k oj ok same. d.apart j k (out j oj) (out k ok) same;
   waits = waits_same q n cap past past' heads v v.waiting out d.waits;
-}
-
-pub built_same : (q n base : ℕ) (past past' : List Entry) (heads : List ℕ) (m : Bytes) (batch : List ℕ) (phase : Phase) → published past' q ≡ published past q → ((k : ℕ) → asked past' q k ≡ asked past q k)
-    → Built q n base past heads m batch phase → Built q n base past' heads m batch phase
-built_same q n base past past' heads m batch phases.Rest ps ks b = tt
-built_same q n base past past' heads m batch (phases.Start done) ps ks b = tt
-built_same q n base past past' heads m batch (phases.Fetch done) ps ks b = tt
-built_same q n base past past' heads m batch (phases.Publish done) ps ks b = record {
-  ids = λ e l d. ap (λ (qs : List ℕ). word 4 m 0 (used_id_place (the_ring q n) (base + length qs + e))) ps ∙ b.ids e l d;
-  lens = λ e l d. ap (λ (qs : List ℕ). word 4 m 0 (used_len_place (the_ring q n) (base + length qs + e))) ps ∙ b.lens e l d ∙ sym (ap (answered_len 0) (ks (slice_index batch e)));
 }
 
 -- ---- an entry
@@ -67,51 +61,51 @@ ringed_entries q n base past past' heads m leaves r = record {
 }
 
 -- an entry that offers, shows and collects nothing
-pub queue_entry : (q : ℕ) (h : Header1) (s : Scene) (past' : List Entry) (v : Driver) (batch : List ℕ) (phase : Phase) → LeavesQueue q s.past past' → collected past' q ≡ collected s.past q
+pub queue_entry : (q : ℕ) (h : Header1) (s : Scene) (past' : List Entry) (v : Driver) (batch : List ℕ) (phase : Phase) → LeavesQueue q s.past past' → collected past' q ≡ collected s.past q → WordsAt q h (record s { past = past' }) batch phase
     → QueueFacts q h s v batch phase → QueueFacts q h (record s { past = past' }) v batch phase
-queue_entry q h s past' v batch phase leaves same x = record {
+queue_entry q h s past' v batch phase leaves same words x = record {
   ringed = ringed_entries q h.size h.base s.past past' (s.heads q) s.memory leaves x.ringed;
   driven = driven_same q h.size h.capacity h.base s.past past' (s.heads q) v (λ j o. record {
     below = o.below;
     kept = ap (λ (ks : List ℕ). is_among (take (collected s.past q) ks) j) (sym leaves.shows) ∙ ap (λ (many : ℕ). is_among (take many (published past' q)) j) (sym same) ∙ o.kept;
   }) x.driven;
-  built = built_same q h.size h.base s.past past' (s.heads q) s.memory batch phase leaves.shows leaves.asks x.built;
+  words = words;
 }
 
--- one that accepts nothing either
-pub queue_same : (q : ℕ) (h : Header1) (s : Scene) (past' : List Entry) (v : Driver) (batch : List ℕ) (phase : Phase) → accepted past' q ≡ accepted s.past q → published past' q ≡ published s.past q → collected past' q ≡ collected s.past q
+-- one that accepts nothing and starts nothing either
+pub queue_same : (q : ℕ) (h : Header1) (s : Scene) (past' : List Entry) (v : Driver) (batch : List ℕ) (phase : Phase) → started past' q ≡ started s.past q → accepted past' q ≡ accepted s.past q → published past' q ≡ published s.past q → collected past' q ≡ collected s.past q
     → ((k : ℕ) → asked past' q k ≡ asked s.past q k) → QueueFacts q h s v batch phase → QueueFacts q h (record s { past = past' }) v batch phase
-queue_same q h s past' v batch phase accepts shows collects asks x =
-    queue_entry q h s past' v batch phase (record { accepts = omega (arith, accepts); shows = shows; collects = omega (arith, collects); asks = asks }) collects x
+queue_same q h s past' v batch phase runs accepts shows collects asks x =
+    queue_entry q h s past' v batch phase (record { accepts = omega (arith, accepts); shows = shows; collects = omega (arith, collects); asks = asks }) collects (words_same q h s past' batch phase runs accepts shows asks x.words) x
 
 -- a collection, where the driver takes the next number
-pub queue_collect : (q : ℕ) (h : Header1) (s : Scene) (past' : List Entry) (v v' : Driver) (batch : List ℕ) (phase : Phase) → LeavesQueue q s.past past' → Driven q h.size h.capacity h.base past' (s.heads q) v'
+pub queue_collect : (q : ℕ) (h : Header1) (s : Scene) (past' : List Entry) (v v' : Driver) (batch : List ℕ) (phase : Phase) → LeavesQueue q s.past past' → started past' q ≡ started s.past q → accepted past' q ≡ accepted s.past q → Driven q h.size h.capacity h.base past' (s.heads q) v'
     → QueueFacts q h s v batch phase → QueueFacts q h (record s { past = past' }) v' batch phase
-queue_collect q h s past' v v' batch phase leaves driven x = record {
+queue_collect q h s past' v v' batch phase leaves runs accepts driven x = record {
   ringed = ringed_entries q h.size h.base s.past past' (s.heads q) s.memory leaves x.ringed;
   driven = driven;
-  built = built_same q h.size h.base s.past past' (s.heads q) s.memory batch phase leaves.shows leaves.asks x.built;
+  words = words_same q h s past' batch phase runs accepts leaves.shows leaves.asks x.words;
 }
 
 -- ---- phases
 
--- no batch is under way: what stands of elements doesn't matter
+-- nothing is under way any more
 pub queue_rests : (q : ℕ) (h : Header1) (s : Scene) (v : Driver) (batch : List ℕ) (phase : Phase) → QueueFacts q h s v batch phase → QueueFacts q h s v [] phases.Rest
-queue_rests q h s v batch phase x = record { ringed = x.ringed; driven = x.driven; built = tt }
+queue_rests q h s v batch phase x = record { ringed = x.ringed; driven = x.driven; words = words_rests q h s batch phase x.words }
 
 -- a batch begins: none of its elements stands yet
-pub queue_begins : (q : ℕ) (h : Header1) (s : Scene) (v : Driver) (batch : List ℕ) (before : List ℕ) (phase : Phase) → QueueFacts q h s v before phase → QueueFacts q h s v batch (phases.Publish 0)
-queue_begins q h s v batch before phase x = record {
+pub queue_begins : (q : ℕ) (h : Header1) (s : Scene) (v : Driver) (batch : List ℕ) (before : List ℕ) (phase : Phase) → InBatch h.size (open_heads q s.past (s.heads q)) (map (element_of h q s) batch) 0 → QueueFacts q h s v before phase → QueueFacts q h s v batch (phases.Publish 0)
+queue_begins q h s v batch before phase begins x = record {
   ringed = x.ringed;
   driven = x.driven;
-  built = record { ids = λ e l d. absurd (omega arith); lens = λ e l d. absurd (omega arith) };
+  words = words_begin q h s batch before phase begins x.words;
 }
 
 -- ---- the driver
 
 -- another driver whose slots are well
 pub queue_driver : (q : ℕ) (h : Header1) (s : Scene) (v v' : Driver) (batch : List ℕ) (phase : Phase) → Driven q h.size h.capacity h.base s.past (s.heads q) v' → QueueFacts q h s v batch phase → QueueFacts q h s v' batch phase
-queue_driver q h s v v' batch phase driven x = record { ringed = x.ringed; driven = driven; built = x.built }
+queue_driver q h s v v' batch phase driven x = record { ringed = x.ringed; driven = driven; words = x.words }
 
 -- ---- a store
 
@@ -120,7 +114,7 @@ pub queue_elsewhere : (q : ℕ) (h : Header1) (s : Scene) (p : ℕ) (bs : List �
 queue_elsewhere q h s p bs v batch phase size off x = record {
   ringed = ringed_elsewhere q h.size h.base s.past (s.heads q) s.memory p bs size off x.ringed;
   driven = x.driven;
-  built = built_elsewhere q h.size h.base s.past (s.heads q) s.memory p bs batch phase size off x.built;
+  words = words_elsewhere_at q h s p bs batch phase size off x.words;
 }
 
 -- ---- what it tells

@@ -20,7 +20,7 @@ use Rattle.vub_device.specs.declared.entry.Answered.{Answered}
 use Rattle.vub_device.specs.declared.entry.Entry.{Entry}
 use Rattle.vub_device.specs.declared.entry.Entry.TheVariants as entries
 use Rattle.vub_device.specs.Legal.{IsAnswer, MayPublish}
-use Rattle.vub_device.specs.Past.{accepted, published, collected, numbers, is_among, IsOpen}
+use Rattle.vub_device.specs.Past.{asked, accepted, published, collected, numbers, is_among, IsOpen}
 use Rattle.vub_device.specs.Places.{are_distinct}
 use Rattle.vub_device.proofs.Distinct.{distinct_from_test}
 use Rattle.vub_device.proofs.Numbers.{is_among_append}
@@ -30,16 +30,18 @@ use Rattle.vub_run.specs.Moments.{Lane}
 use Rattle.vub_run.specs.Tracking.{answers}
 use Rattle.vub_run.specs.Turns.{Turned, element_of, phase_turn, phase_goes_on, answer_at, with_phase}
 use Rattle.vub_run_laws.proofs.RunOwn.{published_own, answers_own}
-use Rattle.vub_run_laws.proofs.RunNumbers.{distinct_parts, distinct_join}
-use Rattle.vub_run_laws.proofs.RunGood.{the_ring, Known, Ringed, spot, Worked, Stored, IsBuilt, Holds}
+use Rattle.vub_run_laws.proofs.RunNumbers.{distinct_join, among_at}
+use Rattle.vub_facts.proofs.HeadLemmas.{distinct_parts}
+use Rattle.vub_run_laws.proofs.RunGood.{the_ring, Known, Ringed, spot, Worked, Stored, Holds}
 use Rattle.vub_run_laws.proofs.RunEfforts.{shown_falls}
 use Rattle.vub_run_laws.proofs.RunFrames.{keeps, entry_small, length_little, stored_elsewhere, below_buffers}
 use Rattle.vub_run_laws.proofs.RunGuests.{stored_at, holds_track}
 use Rattle.vub_run_laws.proofs.RunPhases.{resting}
 use Rattle.vub_run_laws.proofs.RunWork.{Fine}
 use Rattle.vub_run_laws.proofs.RunQueue.{driven_same}
-use Rattle.vub_run_laws.proofs.RunElements.{StepAt, AtId, AtLen, AtIndex, step_at, batch_room}
-use Rattle.vub_run_laws.proofs.RunPublications.{publishing, IsUnderWay, none_left, in_batch, batch_open, id_fine, len_fine, numbers_answers, all_map, good_map, good_append, answer_right}
+use Rattle.vub_run_laws.proofs.RunFacts.{phase_at, words_rest, words_element}
+use Rattle.vub_run_laws.proofs.RunElements.{StepAt, AtId, AtLen, AtIndex, step_at, batch_room, element_place, len_is}
+use Rattle.vub_run_laws.proofs.RunPublications.{publishing, IsUnderWay, none_left, in_batch, batch_open, id_fine, len_fine, numbers_answers, batch_wide, all_map, good_map, good_append, answer_right}
 
 -- the scene after the store, and the past with the publication
 abbrev shown_scene : ℕ → Header1 → ℕ → Scene → Scene
@@ -70,7 +72,7 @@ shown_known q h x s l done u =
     let st = shown_stored q h x s l done u in record {
       offers_are = known.offers_are;
       offered = known.offered;
-      distinct = ap are_distinct ps ∙ distinct_join (published s.past q) l.batch known.distinct parts.1.0 (λ k held. (batch_open q h s l done k u held).unpublished);
+      distinct = ap are_distinct ps ∙ distinct_join (published s.past q) l.batch known.distinct parts.second (λ k held. (batch_open q h s l done k u held).unpublished);
       below = λ k held. elim (cases_Bool (is_among l.batch k)) [
         | inl there ↦ (batch_open q h s l done k u there).taken
         | inr out ↦
@@ -101,11 +103,11 @@ element_stays q h x s i =
 new_element : (q : ℕ) (h : Header1) (s : Scene) (l : Lane) (done e : ℕ) → IsUnderWay q h s l done → done ≡ 2 * length l.batch → e < length l.batch
     → element_at (the_ring q h.size) s.memory (h.base + length (published s.past q) + e) ≡ spot q (s.heads q) s.past (slice_index l.batch e)
 new_element q h s l done e u whole inside =
-    let b : IsBuilt q h.size h.base s.past (s.heads q) s.memory l.batch done = u.holds.queue.built in
-    pairs (b.ids e inside (omega arith)) (b.lens e inside (omega arith))
-  where
-    pairs : {a b c d : ℕ} → a ≡ b → c ≡ d → ◌≡◌ {A = ℕ × ℕ} (a, c) (b, d)
-    pairs p p' = cc
+    let P : ℕ = h.base + length (published s.past q) in
+    let k : ℕ = slice_index l.batch e in
+    let held : is_among l.batch k ≡ true = among_at l.batch e inside in
+    words_element q h s l.batch done e (P + e) whole inside (element_place q h.size h.base s.past (s.heads q) s.memory e u.holds.queue.ringed) u.holds.queue.words
+    ∙ ap (λ (len : ℕ). (slice_index (s.heads q) k, len)) (len_is h (asked s.past q k) u.back (batch_wide q h s l done k u held)).0
 
 -- so each element stands that will be seen: an old one, or one of the batch
 shown_element : (q : ℕ) (h : Header1) (s : Scene) (l : Lane) (done i : ℕ) → IsUnderWay q h s l done → done ≡ 2 * length l.batch → collected s.past q ≤ i → i < length (published s.past q) + length l.batch
@@ -126,7 +128,6 @@ shown_ringed : (q : ℕ) (h : Header1) (x : ℕ) (s : Scene) (l : Lane) (done : 
     → Ringed q h.size h.base (shown_past q h x s l) (s.heads q) (shown_scene q h x s).memory
 shown_ringed q h x s l done u whole is =
     let r : Ringed q h.size h.base s.past (s.heads q) s.memory = u.holds.queue.ringed in
-    let b : IsBuilt q h.size h.base s.past (s.heads q) s.memory l.batch done = u.holds.queue.built in
     let bs : List ℕ = little_bytes 2 x in
     let two : length bs ≡ 2 = length_little 2 x in
     let p : ℕ = used_idx_place (the_ring q h.size) in
@@ -148,13 +149,13 @@ shown_worked q h x s l done u =
     let bare : (k : ℕ) → is_among (l.completed ++ []) k ≡ true → is_among l.completed k ≡ true = λ k held. ap (λ (ks : List ℕ). is_among ks k) (sym (append-nil l.completed)) ∙ held in
     let same : (k : ℕ) → is_among (l.completed ++ []) k ≡ true → is_among (l.completed ++ l.batch) k ≡ true = λ k held. is_among_append l.completed l.batch k ∙ or_left (is_among l.completed k) (is_among l.batch k) (bare k held) in
     record {
-      distinct = ap are_distinct (append-nil l.completed) ∙ parts.0;
+      distinct = ap are_distinct (append-nil l.completed) ∙ parts.first;
       opens = λ k held. record {
         taken = (w.opens k (same k held)).taken;
         unpublished =
             let old : is_among (published s.past q) k ≡ false = (w.opens k (same k held)).unpublished in
             let new : is_among l.batch k ≡ false = elim (cases_Bool (is_among l.batch k)) [
-              | inl there ↦ absurd (let out : is_among l.completed k ≡ false = parts.1.1 k there in let fails : true ≡ false = sym (bare k held) ∙ out in cc)
+              | inl there ↦ absurd (let out : is_among l.completed k ≡ false = parts.apart k there in let fails : true ≡ false = sym (bare k held) ∙ out in cc)
               | inr out ↦ out
             ] in
             ap (λ (ks : List ℕ). is_among ks k) ps ∙ is_among_append (published s.past q) l.batch k ∙ grind (arith, nat_tests);
@@ -168,7 +169,7 @@ shown_worked q h x s l done u =
           let left : is_among l.completed k ≡ false = ap (λ (ks : List ℕ). is_among ks k) (sym (append-nil l.completed)) ∙ out in
           w.pending k (record { taken = is_open.taken; unpublished = grind (arith, nat_tests) }) (is_among_append l.completed l.batch k ∙ grind (arith, nat_tests));
       quiet = λ stopped. absurd (let fails : true ≡ false = sym u.started ∙ stopped in cc);
-      phase_is = refl;
+      between = tt;
     }
 
 -- an open number after the publication was open before it
@@ -198,20 +199,20 @@ shown_holds q h x s l done u whole is =
       queue = record {
         ringed = shown_ringed q h x s l done u whole is;
         driven = driven_same q h.size h.capacity h.base s.past (shown_past q h x s l) (s.heads q) l.driver (λ k out. record { below = out.below; kept = ap (λ (ks : List ℕ). is_among ks k) (sym front) ∙ out.kept }) u.holds.queue.driven;
-        built = tt;
+        words = words_rest q h (record (shown_scene q h x s) { past = shown_past q h x s l }) u.started (omega (arith, (shown_ringed q h x s l done u whole is).used_idx_is));
       };
     }
 
 shown_legal : (q : ℕ) (h : Header1) (x : ℕ) (s : Scene) (l : Lane) (done : ℕ) → IsUnderWay q h s l done → MayPublish h.capacity h.mode s.past q (shown_list q h x s l)
 shown_legal q h x s l done u =
     let w : Worked q s.past (phases.Publish done) l.batch l.completed l.made = u.holds.worked in
-    let some : (0 < length l.batch) × (done < 2 * length l.batch + 1) = w.phase_is in
+    let some : (0 < length l.batch) × (done < 2 * length l.batch + 1) = phase_at q h s (publishing done l) u.holds in
     let f : ℕ → Answered = answer_at q (shown_scene q h x s) in
     let st = shown_stored q h x s l done u in
     let parts = distinct_parts l.completed l.batch w.distinct in record {
       started = u.started;
       some = omega (arith, some.0, length-map l.batch f);
-      distinct = distinct_from_test (numbers (shown_list q h x s l)) (ap are_distinct (numbers_answers q (shown_scene q h x s) l.batch) ∙ parts.1.0);
+      distinct = distinct_from_test (numbers (shown_list q h x s l)) (ap are_distinct (numbers_answers q (shown_scene q h x s) l.batch) ∙ parts.second);
       opens = all_map (λ a. IsOpen s.past q a.number) f l.batch (λ k held. batch_open q h s l done k u held);
       answered = all_map (λ a. IsAnswer h.capacity h.mode s.past q a) f l.batch (λ k held. answer_right q h s l done (shown_scene q h x s).memory k u st held);
     }
@@ -241,8 +242,7 @@ index_fine q h s l done u whole =
 -- the next store of a publication, and at its end the publication
 pub publication_fine : (q : ℕ) (h : Header1) (s : Scene) (l : Lane) (done : ℕ) → IsUnderWay q h s l done → Fine q h s (publishing done l) (phase_goes_on h q s (publishing done l))
 publication_fine q h s l done u =
-    let w : Worked q s.past (phases.Publish done) l.batch l.completed l.made = u.holds.worked in
-    let some : (0 < length l.batch) × (done < 2 * length l.batch + 1) = w.phase_is in
+    let some : (0 < length l.batch) × (done < 2 * length l.batch + 1) = phase_at q h s (publishing done l) u.holds in
     go (slice_get (publish_steps (length l.batch)) done) (step_at 0 (length l.batch) done some.1)
   where
     go : (o : Option Step) → StepAt 0 (length l.batch) done o → Fine q h s (publishing done l) (phase_turn h q s (publishing done l) o)

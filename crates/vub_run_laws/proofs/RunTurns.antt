@@ -13,7 +13,9 @@ use Rattle.vub_steps.specs.Readiness.{is_ready, is_fetch, is_publication}
 use Rattle.vub_device.specs.Past.{accepted, published, is_among, open_numbers, started}
 use Rattle.vub_run.specs.Moments.{Lane, Moment, standing, unfinished}
 use Rattle.vub_run.specs.Turns.{turned, work_turn, phase_goes_on, under_way}
-use Rattle.vub_run_laws.proofs.RunNumbers.{among_get, among_filter, missing-among}
+use Rattle.vub_run_laws.proofs.RunNumbers.{among_filter, missing-among}
+use Rattle.vub_facts.proofs.HeadLemmas.{among_get}
+use Rattle.vub_run_laws.proofs.RunFacts.{phase_at}
 use Rattle.vub_run_laws.proofs.RunGood.{PhaseIs, Holds}
 use Rattle.vub_run_laws.proofs.RunGuests.{IsGood}
 use Rattle.vub_run_laws.proofs.RunWork.{Fine, request_fine}
@@ -47,7 +49,7 @@ start_due q h m plain good ready =
     let l : Lane = m.lanes q in
     let stopped : started m.scene.past q ≡ false = grind (arith, nat_tests) in
     let quiet = good.holds.worked.quiet stopped in
-    let batch : l.batch ≡ [] = subst (λ (p : Phase). PhaseIs l.batch p) quiet.0 good.holds.worked.phase_is in
+    let batch : l.batch ≡ [] = subst (λ (p : Phase). PhaseIs l.batch p) quiet.0 (phase_at q h m.scene (m.lanes q) good.holds) in
     let same : resting l ≡ l = rest_is l quiet.0 batch in
     let at_rest : Holds q h m.scene (resting l) = subst (λ (x : Lane). Holds q h m.scene x) (sym same) good.holds in
     subst (λ (x : Lane). Fine q h m.scene x (phase_goes_on h q m.scene (under_way turns.Start x))) same (start_fine q h m.scene l plain.good stopped at_rest)
@@ -55,7 +57,7 @@ start_due q h m plain good ready =
 fetch_due : (q : ℕ) (h : Header1) (m : Moment) → IsPlain h → Good q h m → is_ready (standing h q m) turns.Fetch ≡ true → Fine q h m.scene (m.lanes q) (turned h q turns.Fetch m)
 fetch_due q h m plain good ready =
     let l : Lane = m.lanes q in
-    elim (phase_cases l.batch l.phase good.holds.worked.phase_is) [
+    elim (phase_cases l.batch l.phase (phase_at q h m.scene (m.lanes q) good.holds)) [
       | inl rest ↦
           let same : resting l ≡ l = rest_is l rest.0 rest.1 in
           let at_rest : Holds q h m.scene (resting l) = subst (λ (x : Lane). Holds q h m.scene x) (sym same) good.holds in
@@ -73,7 +75,7 @@ publish_due : (q : ℕ) (h : Header1) (m : Moment) (most : ℕ) → IsPlain h �
 publish_due q h m most plain good ready =
     let l : Lane = m.lanes q in
     let run : started m.scene.past q ≡ true = grind (arith, nat_tests) in
-    elim (phase_cases l.batch l.phase good.holds.worked.phase_is) [
+    elim (phase_cases l.batch l.phase (phase_at q h m.scene (m.lanes q) good.holds)) [
       | inl rest ↦
           let same : resting l ≡ l = rest_is l rest.0 rest.1 in
           let at_rest : Holds q h m.scene (resting l) = subst (λ (x : Lane). Holds q h m.scene x) (sym same) good.holds in

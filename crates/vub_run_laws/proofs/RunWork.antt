@@ -6,13 +6,10 @@ use Rattle.std.proofs.lemmas.Bool.{cases_eq, cases_lt}
 use Rattle.std.proofs.lemmas.List.{length-take, length-take-le, length-drop, get_or-take, get_or-drop, get_or_append_left}
 use Rattle.vub_base.specs.declared.header.CacheMode.TheVariants.{Back}
 use Rattle.vub_base.specs.declared.header.Header1.{Header1}
-use Rattle.vub_shared.specs.Bytes.{Bytes, put, word}
+use Rattle.vub_shared.specs.Bytes.{Bytes, put}
 use Rattle.vub_shared.proofs.BytesLemmas.{put_other, put_inside}
 use Rattle.vub_steps.specs.declared.steps.Phase.{Phase}
-use Rattle.vub_steps.specs.declared.steps.Phase.TheVariants as phases
-use Rattle.vub_ring.specs.Ring.{used_id_place, used_len_place}
 use Rattle.vub_driver.specs.Layout.{status_place, sectors_place}
-use Rattle.vub_driver.specs.Drivers.{Driver, Waiting}
 use Rattle.vub_device.specs.declared.entry.Asked.{Asked}
 use Rattle.vub_device.specs.declared.entry.Asked.TheVariants as asks
 use Rattle.vub_device.specs.declared.entry.Entry.{Entry}
@@ -31,11 +28,12 @@ use Rattle.vub_run.specs.Memory.{Scene, with_at, after_items}
 use Rattle.vub_run.specs.Moments.{Lane}
 use Rattle.vub_steps.specs.Tasks.{RequestStep, Look, Put, Act, Sync, Status, status_of, disk_steps, look_steps, act_steps}
 use Rattle.vub_run.specs.TaskItems.{look_items, act_items}
-use Rattle.vub_run.specs.Tracking.{Tracks, AfterEach, answered_len}
+use Rattle.vub_run.specs.Tracking.{Tracks, AfterEach}
 use Rattle.vub_report.specs.Histories.{entries_of}
 use Rattle.vub_run.specs.Turns.{Turned, request_turn, task_turn}
-use Rattle.vub_run_laws.proofs.RunNumbers.{distinct_parts, distinct_join, distinct_push}
-use Rattle.vub_run_laws.proofs.RunGood.{the_ring, IsWideRead, IsWideWrite, IsWide, Known, IsOut, WaitsWell, Driven, IsReadTo, IsWrittenTo, Progress, IsBegun, IsFull, IsPending, Worked, IsKept, Stored, IsRead, Built, buffer, Holds}
+use Rattle.vub_run_laws.proofs.RunNumbers.{distinct_join}
+use Rattle.vub_facts.proofs.HeadLemmas.{distinct_parts, distinct_push}
+use Rattle.vub_run_laws.proofs.RunGood.{IsWideRead, IsWideWrite, IsWide, Known, IsReadTo, IsWrittenTo, Progress, IsBegun, IsFull, IsPending, Worked, IsKept, Stored, IsRead, buffer, Holds}
 use Rattle.vub_run_laws.proofs.RunSteps.{WideCases, AtRead, AtWrite, AtFlush, wide_cases, wide_served, wide_steps, ReadAt, ToLook, ToPut, ToReply, read_at, WriteAt, ToAct, ToEnd, write_at, look_is, written, effect_is, read_to, written_to}
 use Rattle.vub_run_laws.proofs.RunEfforts.{effort, step_falls, status_falls}
 use Rattle.vub_run_laws.proofs.RunFrames.{open_out, OffBuffer, sector_elsewhere, status_elsewhere, other_buffer}
@@ -152,7 +150,7 @@ step_worked q past later phase batch completed made k f is_open left begun next 
     | inr apart ↦ subst (λ (c : ℕ). IsPending c (asked past q j)) (sym (at_other made k (made k + 1) j apart)) (w.pending j (open_before q past later k j f is_open_j) out)
   ]);
   quiet = λ stopped. absurd (let fails : true ≡ false = sym f.runs_on ∙ stopped in cc);
-  phase_is = w.phase_is;
+  between = w.between;
 }
 
 -- what was stored of the sectors that were read was seen before too
@@ -248,7 +246,7 @@ look_holds q h s l k sector c p place v x low at long = record {
   known = look_known q h.size h.capacity s.past (s.heads q) k place v x.left.holds.known;
   worked = look_worked q h s l k sector c p place v x low at long;
   stored = step_stored q s.past (entries.Look q k place v ∷ s.past) (s.heads q) s.memory l.batch l.completed l.made k (look_follows q s.past k place v x.left.started) (look_seen q h s l k sector c p place v x low at) x.left.holds.stored;
-  queue = queue_same q h s (entries.Look q k place v ∷ s.past) l.driver l.batch l.phase refl refl refl (λ j. refl) x.left.holds.queue;
+  queue = queue_same q h s (entries.Look q k place v ∷ s.past) l.driver l.batch l.phase refl refl refl refl (λ j. refl) x.left.holds.queue;
 }
 
 look_fine : (q : ℕ) (h : Header1) (s : Scene) (l : Lane) (k sector c p : ℕ) → IsReading q h s l k sector c → p < c → l.made k ≡ 2 * p → Fine q h s l (task_turn h q s l k (asks.Read sector c) (Some (Look p)))
@@ -338,7 +336,7 @@ act_holds q h s l k sector place bytes v x low long = record {
   known = act_known q h.size h.capacity s.past (s.heads q) k place v long x.left.holds.known;
   worked = act_worked q h s l k sector place bytes v x low;
   stored = step_stored q s.past (entries.Act q k place v ∷ s.past) (s.heads q) s.memory l.batch l.completed l.made k (act_follows q s.past k place v x.left.started) (seen_never q s.past (entries.Act q k place v ∷ s.past) l.made k (write_never sector bytes (asked s.past q k) x.is)) x.left.holds.stored;
-  queue = queue_same q h s (entries.Act q k place v ∷ s.past) l.driver l.batch l.phase refl refl refl (λ j. refl) x.left.holds.queue;
+  queue = queue_same q h s (entries.Act q k place v ∷ s.past) l.driver l.batch l.phase refl refl refl refl (λ j. refl) x.left.holds.queue;
 }
 
 -- a sector of some bytes
@@ -423,7 +421,7 @@ sync_holds q h s l k x is none = record {
   known = sync_known q h.size h.capacity s.past (s.heads q) k x.holds.known;
   worked = sync_worked q h s l k x is none;
   stored = step_stored q s.past (entries.Sync q k ∷ s.past) (s.heads q) s.memory l.batch l.completed l.made k (sync_follows q s.past k x.started) (seen_never q s.past (entries.Sync q k ∷ s.past) l.made k (flush_never (asked s.past q k) is)) x.holds.stored;
-  queue = queue_same q h s (entries.Sync q k ∷ s.past) l.driver l.batch l.phase refl refl refl (λ j. refl) x.holds.queue;
+  queue = queue_same q h s (entries.Sync q k ∷ s.past) l.driver l.batch l.phase refl refl refl refl (λ j. refl) x.holds.queue;
 }
 
 sync_fine : (q : ℕ) (h : Header1) (s : Scene) (l : Lane) (k : ℕ) → IsLeft q h s l k → asked s.past q k ≡ Some asks.Flush → l.made k ≡ 0 → Fine q h s l (task_turn h q s l k asks.Flush (Some Sync))
@@ -555,8 +553,8 @@ distinct_more xs ys k d out =
     let right : is_among (xs ++ ys) k ≡ (is_among xs k || is_among ys k) = is_among_append xs ys k in
     let out_xs : is_among xs k ≡ false = grind (arith, nat_tests) in
     let out_ys : is_among ys k ≡ false = grind (arith, nat_tests) in
-    distinct_join (xs ++ k ∷ []) ys (distinct_push xs k parts.0 out_xs) parts.1.0 (λ j held.
-    let other : is_among xs j ≡ false = parts.1.1 j held in
+    distinct_join (xs ++ k ∷ []) ys (distinct_push xs k parts.first out_xs) parts.second (λ j held.
+    let other : is_among xs j ≡ false = parts.apart j held in
     let differs : j ≢ k = among_apart ys j k held out_ys in
     let turned : k ≢ j = λ e. differs (sym e) in
     let inner : is_among (xs ++ k ∷ []) j ≡ (is_among xs j || is_among (k ∷ []) j) = is_among_append xs (k ∷ []) j in
@@ -608,7 +606,7 @@ status_worked q past phase batch completed made k run is_open left whole w = rec
       let parts = not_more completed batch k j out in
       subst (λ (c : ℕ). IsPending c (asked past q j)) (sym (at_other made k (made k + 1) j parts.0)) (w.pending j is_open_j parts.1);
   quiet = λ stopped. absurd (let fails : true ≡ false = sym run ∙ stopped in cc);
-  phase_is = w.phase_is;
+  between = w.between;
 }
 
 status_holds : (q : ℕ) (h : Header1) (s : Scene) (l : Lane) (k p : ℕ) → IsLeft q h s l k → IsFull (l.made k) (asked s.past q k) → (IsRead (asked s.past q k) → (l.made k + 1) / 2 ≡ l.made k / 2) → p ≡ status_place (buffer q (s.heads q) k)

@@ -83,7 +83,7 @@ opening_holds q h plain low = record {
     full = λ k held. absurd (let fails : false ≡ true = held in cc);
     pending = λ k is_open out. tt;
     quiet = λ e. (refl, (refl, λ k. refl));
-    phase_is = refl;
+    between = tt;
   };
   stored = record { sectors = λ k i is_open kept read. absurd (omega (arith, kept.put)); status = λ k held. absurd (let fails : false ≡ true = held in cc) };
   queue = record {
@@ -95,7 +95,7 @@ opening_holds q h plain low = record {
       apart = λ j k out_j out_k same. absurd (none_out q j out_j);
       waits = tt;
     };
-    built = tt;
+    words = record { used_fits = omega (arith, (open_words h q h.queues plain.good.base low).1, plain.good.base); untouched = λ stopped. record { none = refl; at = (open_words h q h.queues plain.good.base low).1 }; batch = refl };
   };
 }
 

@@ -23,7 +23,8 @@ use Rattle.vub_queue.specs.QueueState.{course_in, QueueState}
 use Rattle.vub_world.proofs.MachineTurns.{among_right}
 use Rattle.vub_run_laws.proofs.RunFrames.{open_out}
 use Rattle.vub_run_laws.proofs.RunGood.{IsWide, PhaseIs, IsOut}
-use Rattle.vub_run_laws.proofs.RunNumbers.{among_get}
+use Rattle.vub_run_laws.proofs.RunFacts.{phase_at}
+use Rattle.vub_facts.proofs.HeadLemmas.{among_get}
 use Rattle.vub_run_laws.proofs.RunTurns.{Good}
 
 -- ---- a batch that is shown isn't empty
@@ -38,7 +39,7 @@ pub queue_shows_some : (q : ℕ) (h : Header1) (r : SplitRing) (m : Moment) (sta
 queue_shows_some q h r m state good at shows =
     let lane = m.lanes q in
     let here : is_index (next_step (course_in state) lane.phase) ≡ true = ap (λ (p : Phase). is_index (next_step (course_in state) p)) (sym at.phase) ∙ shows in
-    let some : 0 < length lane.batch = phase_shows lane.batch (course_in state) lane.phase good.holds.worked.phase_is here in
+    let some : 0 < length lane.batch = phase_shows lane.batch (course_in state) lane.phase (phase_at q h m.scene (m.lanes q) good.holds) here in
     let long : length state.batch ≡ length lane.batch = ap length at.batch ∙ length-map lane.batch (spot_of q h m.scene.past (m.scene.heads q)) in
     omega (arith, some, long)
 

@@ -12,6 +12,7 @@ use Rattle.vub_queue_in_run.specs.QueueAt.{QueueStands, QueueAt}
 use Rattle.vub_queue.specs.QueueState.{IsNew, state_of}
 use Rattle.vub_run.specs.Run.{played, if_ready, boot, join}
 use Rattle.vub_queue_in_run.proofs.QueueAtMoves.{at_new}
+use Rattle.vub_run_laws.proofs.RunFacts.{phase_at}
 use Rattle.vub_run_laws.proofs.RunGood.{PhaseIs}
 use Rattle.vub_run_laws.proofs.RunTurns.{IsPlain, Good}
 
@@ -63,7 +64,7 @@ joined_at q w m queue plain good base new lives made at =
     let l : Lane = m.lanes q in
     let quiet = good.holds.worked.quiet new.2 in
     let none : accepted m.scene.past q ≡ 0 = good.idle new.2 in
-    let batch : l.batch ≡ [] = subst (λ (p : Phase). PhaseIs l.batch p) quiet.0 good.holds.worked.phase_is in
+    let batch : l.batch ≡ [] = subst (λ (p : Phase). PhaseIs l.batch p) quiet.0 (phase_at q w.front.header m.scene (m.lanes q) good.holds) in
     let begins : QueueAt q w.front.header w.front.ring m.scene.past (m.scene.heads q) phases.Rest [] [] l.made (state_of queue) =
     at_new q w.front.header w.front.ring m.scene.past (m.scene.heads q) l.made (state_of queue) (omega (arith, base)) good.holds.known.fewer none new.2 made in
     let stands : QueueStands q w.front.header w.front.ring (joined m) (state_of queue) =

@@ -34,7 +34,9 @@ use Rattle.vub_run.specs.Run.{one_turn}
 use Rattle.vub_steps.specs.Tasks.{RequestStep, Look, Put, Act, Sync, Status, task_steps}
 use Rattle.vub_run.specs.TaskItems.{look_items, act_items}
 use Rattle.vub_run.specs.Turns.{course_of, turned, work_turn, request_turn, task_turn, phase_turn, phase_goes_on, under_way, begun, is_rest, row_items, step_stores, element_of, answer_at}
-use Rattle.vub_run_laws.proofs.RunNumbers.{missing-among, distinct_join, few_below}
+use Rattle.vub_run_laws.proofs.RunFacts.{phase_at}
+use Rattle.vub_run_laws.proofs.RunNumbers.{missing-among, distinct_join}
+use Rattle.vub_facts.proofs.HeadLemmas.{few_below}
 use Rattle.vub_run_laws.proofs.RunGood.{Known, Worked}
 use Rattle.vub_run_laws.proofs.RunEfforts.{weight, sum_below, weight_small}
 use Rattle.vub_run_laws.proofs.RunEnds.{effort_at, missing_distinct, phase_few, start_few}
@@ -153,7 +155,7 @@ publishing_turn q h m sequences.Drain taken publishes =
 -- the turn that comes next publishes as many as its step shows
 pub chosen_shows : (q : ℕ) (h : Header1) (m : Moment) (sequence : Sequence) (taken : ℕ) → Good q h m → (t : Turn) → t ≡ next_turn q h sequence taken m
     → length (published (one_turn h q t m).next.scene.past q) ≡ length (published m.scene.past q) + shown_by (course_of h (m.lanes q)) (m.lanes q).phase
-chosen_shows q h m sequence taken good t is = elim (phase_cases l.batch l.phase good.holds.worked.phase_is) [
+chosen_shows q h m sequence taken good t is = elim (phase_cases l.batch l.phase (phase_at q h m.scene (m.lanes q) good.holds)) [
   | inl rest ↦
       let none : shown_by (course_of h l) l.phase ≡ 0 = ap (λ (p : Phase). shown_by (course_of h l) p) rest.0 in
       let same : count_in q (after_items h (turned h q t m).items s) ≡ count_in q s = resting t (ap is_rest rest.0) rest.1 in

@@ -53,6 +53,7 @@ use Rattle.vub_task.specs.TaskState.{Making}
 use Rattle.vub_run.specs.Turns.{turned, answer_len, answer_at}
 use Rattle.vub_run_laws.proofs.RunNumbers.{not_among-take}
 use Rattle.vub_run_laws.proofs.RunFrames.{open_out, length_little}
+use Rattle.vub_run_laws.proofs.RunFacts.{phase_at}
 use Rattle.vub_run_laws.proofs.RunGood.{IsWide, IsOut, PhaseIs, Holds}
 use Rattle.vub_run_laws.proofs.RunOwn.{accepted_own}
 use Rattle.vub_run_laws.proofs.RunPhases.{some_waits}
@@ -135,7 +136,7 @@ more_offered : (q : ℕ) (h : Header1) (m : Moment) → IsPlain h → Good q h m
 more_offered q h m plain good ready =
     let st : Standing = standing h q m in
     let some = some_waits q h m.scene (m.lanes q) plain.good good.holds in
-    let waits = waits_there (m.lanes q).batch (m.lanes q).phase st.started st.waiting st.unfinished st.completed good.holds.worked.phase_is ready in
+    let waits = waits_there (m.lanes q).batch (m.lanes q).phase st.started st.waiting st.unfinished st.completed (phase_at q h m.scene (m.lanes q) good.holds) ready in
     omega (arith, some, waits)
 
 pub fetch_made : (q : ℕ) (h : Header1) (r : SplitRing) (m : Moment) (outstanding : OutstandingRequests) (cap : ℕ) (sizes : ℕ → ℕ) (d now : Device) (x : Stepped) → TurnAt q h r m outstanding d → is_ready (standing h q m) turns.Fetch ≡ true → DeviceDoes turns.Fetch cap sizes d now x

@@ -1,0 +1,237 @@
+-- The facts of a queue's words at the moments of a run.
+use Rattle.std.proofs.Common.{◌≡◌, ◌≤◌, ◌<◌, ℕ, zero, suc, ◌+◌, ◌*◌, Bool, true, false, List, [], ◌∷◌, ◌++◌, length, map, get_or, refl, ap, sym, ◌∙◌, subst, inl, inr, arith}
+use Rattle.std.specs.Prelude.{Option, slice_index}
+use Rattle.byteorder.specs.Endian.{little_bytes}
+use Rattle.std.proofs.lemmas.Bool.{cases_Bool}
+use Rattle.std.proofs.lemmas.Bool.Decides.{nat_tests}
+use Rattle.std.proofs.lemmas.List.{length-map}
+use Rattle.std.proofs.lemmas.Simd.{map-map}
+use Rattle.vub_base.specs.declared.header.Header1.{Header1}
+use Rattle.vub_shared.specs.Bytes.{Bytes, put, word}
+use Rattle.vub_shared.specs.Stores.{one_store}
+use Rattle.vub_steps.specs.declared.steps.Phase.{Phase}
+use Rattle.vub_steps.specs.declared.steps.Phase.TheVariants as phases
+use Rattle.vub_steps.specs.declared.steps.Step.TheVariants as steps
+use Rattle.vub_ring.specs.Ring.{Ring, entry_of, used_idx, element_at, used_id_place, used_len_place}
+use Rattle.vub_driver.specs.Layout.{area_place}
+use Rattle.vub_device.specs.declared.entry.Asked.{Asked}
+use Rattle.vub_device.specs.declared.entry.Entry.{Entry}
+use Rattle.vub_device.specs.declared.entry.Entry.TheVariants as entries
+use Rattle.vub_device.specs.Past.{started, asked, accepted, published, missing_below, open_numbers, is_among, IsOpen}
+use Rattle.vub_device.specs.Places.{are_distinct}
+use Rattle.vub_run.specs.Memory.{Scene}
+use Rattle.vub_run.specs.Moments.{Lane, open_heads}
+use Rattle.vub_run.specs.Turns.{element_of, len_of}
+use Rattle.vub_facts.specs.Facts.{Side, heads_in, Lies, Elsewhere, Words, words_at, InBatch, Facts, words_after}
+use Rattle.vub_facts.proofs.FactWords.{facts_off, facts_beside, id_words, len_words}
+use Rattle.vub_facts.proofs.FactSteps.{publication_begins, step_keeps}
+use Rattle.vub_facts.proofs.HeadLemmas.{number_of, among_map, few_below}
+use Rattle.vub_run_laws.proofs.RunNumbers.{missing-among, among-missing}
+use Rattle.vub_run_laws.proofs.RunGood.{the_ring, side_of, WordsAt, IsSize, Known, Driven, IsOut, PhaseIs, RestsOrPublishes, Holds}
+use Rattle.vub_run_laws.proofs.RunFrames.{OffRings, open_out}
+use Rattle.vub_run_laws.proofs.RunOffers.{same_head, same_asked}
+
+-- where the rings of the layout lie
+pub lies_ring : (q n : ℕ) → IsSize n → Lies (the_ring q n)
+lies_ring q n size = record {
+  size = record { some = size.some; few = omega (arith, size.small); laps = size.laps };
+  fits = record { some = size.some; apart = inr (inr (omega (arith, size.small))) };
+}
+
+-- what is under way between two turns
+pub phase_at : (q : ℕ) (h : Header1) (s : Scene) (l : Lane) → Holds q h s l → PhaseIs l.batch l.phase
+phase_at q h s l x = go l.phase x.worked.between x.queue.words
+  where
+    long : length (map (element_of h q s) l.batch) ≡ length l.batch
+    long = length-map l.batch (element_of h q s)
+
+    none : (ks : List ℕ) → map (element_of h q s) ks ≡ [] → ks ≡ []
+    none [] e = refl
+    none (k ∷ ks) e = absurd (cc)
+
+    go : (p : Phase) → RestsOrPublishes p → WordsAt q h s l.batch p → PhaseIs l.batch p
+    go phases.Rest between f = none l.batch f.batch
+    go (phases.Publish done) between f = (omega (arith, f.batch.0.some, long), omega (arith, f.batch.0.left, long))
+    go (phases.Start done) between f = absurd between
+    go (phases.Fetch done) between f = absurd between
+
+-- ---- another history
+
+facts_are : (n base : ℕ) (hs hs' : List ℕ) (x x' : Side) (w : Words) → hs ≡ hs' → x ≡ x' → Facts n hs base x w → Facts n hs' base x' w
+facts_are n base hs hs' x x' w e g f = subst (λ (y : Side). Facts n hs' base y w) g (subst (λ (ks : List ℕ). Facts n ks base x w) e f)
+
+pub map_alike : {A : Type 0} (f g : ℕ → A) (xs : List ℕ) → ((k : ℕ) → is_among xs k ≡ true → f k ≡ g k) → map f xs ≡ map g xs
+map_alike f g [] same = refl
+map_alike f g (x ∷ xs) same =
+    let rest : map f xs ≡ map g xs = map_alike f g xs (λ k held. same k (grind (arith, nat_tests))) in
+    let here : f x ≡ g x = same x (grind (arith, nat_tests)) in
+    cc
+
+side_are : (b b' : Bool) (p : Phase) (xs xs' : List (ℕ × ℕ)) → b ≡ b' → xs ≡ xs' → ◌≡◌ {A = Side} (record { started = b; phase = p; batch = xs }) (record { started = b'; phase = p; batch = xs' })
+side_are b b' p xs xs' e f = cc
+
+-- an entry that accepts and shows nothing, and starts nothing
+pub words_same : (q : ℕ) (h : Header1) (s : Scene) (past' : List Entry) (batch : List ℕ) (phase : Phase) → started past' q ≡ started s.past q → accepted past' q ≡ accepted s.past q → published past' q ≡ published s.past q
+    → ((k : ℕ) → asked past' q k ≡ asked s.past q k) → WordsAt q h s batch phase → WordsAt q h (record s { past = past' }) batch phase
+words_same q h s past' batch phase runs accepts shows asks f =
+    let heads : List ℕ = s.heads q in
+    let same : open_heads q s.past heads ≡ open_heads q past' heads =
+    ap (λ (ps : List ℕ). map (slice_index heads) (missing_below ps (accepted s.past q))) (sym shows) ∙ ap (λ (n : ℕ). map (slice_index heads) (missing_below (published past' q) n)) (sym accepts) in
+    let elements : map (element_of h q s) batch ≡ map (element_of h q (record s { past = past' })) batch =
+    map_alike (element_of h q s) (element_of h q (record s { past = past' })) batch (λ k held. ap (λ (o : Option Asked). (slice_index heads k, len_of h o)) (sym (asks k))) in
+    facts_are h.size h.base (open_heads q s.past heads) (open_heads q past' heads) (side_of q h s batch phase) (side_of q h (record s { past = past' }) batch phase) (words_at (the_ring q h.size) s.memory) same
+    (side_are (started s.past q) (started past' q) phase (map (element_of h q s) batch) (map (element_of h q (record s { past = past' })) batch) (sym runs) elements) f
+
+-- an offer: what was accepted before keeps its head and its request
+pub words_offer : (q : ℕ) (h : Header1) (s : Scene) (r : Asked) (x : ℕ) (m : Bytes) (batch : List ℕ) (phase : Phase) → Known q h.size h.capacity s.past (s.heads q) → ((k : ℕ) → is_among batch k ≡ true → k < accepted s.past q)
+    → WordsAt q h (record s { memory = m }) batch phase
+    → Facts h.size (open_heads q (entries.Offer q r ∷ s.past) (s.heads q ++ x ∷ [])) h.base (record { started = started s.past q; phase = phase; batch = map (λ k. (slice_index (s.heads q ++ x ∷ []) k, len_of h (asked (entries.Offer q r ∷ s.past) q k))) batch }) (words_at (the_ring q h.size) m)
+words_offer q h s r x m batch phase known low f =
+    let heads : List ℕ = s.heads q in
+    let heads' : List ℕ = heads ++ x ∷ [] in
+    let past' : List Entry = entries.Offer q r ∷ s.past in
+    let head_is : (k : ℕ) → k < accepted s.past q → slice_index heads k ≡ slice_index heads' k = λ k l. sym (same_head heads x k (omega (arith, l, known.offered))) in
+    let asks_is : (k : ℕ) → k < accepted s.past q → asked s.past q k ≡ asked past' q k = λ k l. sym (same_asked q s.past r k (omega (arith, l, known.offers_are, known.offered))) in
+    let same : open_heads q s.past heads ≡ open_heads q past' heads' =
+    map_alike (slice_index heads) (slice_index heads') (open_numbers s.past q) (λ k held. head_is k (missing-among (published s.past q) (accepted s.past q) k held).0) in
+    let element' : ℕ → ℕ × ℕ = λ k. (slice_index heads' k, len_of h (asked past' q k)) in
+    let elements : map (element_of h q s) batch ≡ map element' batch =
+    map_alike (element_of h q s) element' batch (λ k held.
+    ap (λ (d : ℕ). (d, len_of h (asked s.past q k))) (head_is k (low k held)) ∙ ap (λ (o : Option Asked). (slice_index heads' k, len_of h o)) (asks_is k (low k held))) in
+    facts_are h.size h.base (open_heads q s.past heads) (open_heads q past' heads') _ _ (words_at (the_ring q h.size) m) same
+    (side_are (started s.past q) (started s.past q) phase (map (element_of h q s) batch) (map element' batch) refl elements) f
+
+-- ---- at rest
+
+-- a queue that runs and has nothing under way
+pub words_rest : (q : ℕ) (h : Header1) (s : Scene) → started s.past q ≡ true → used_idx (the_ring q h.size) s.memory < 65536 → WordsAt q h s [] phases.Rest
+words_rest q h s run fits = record { used_fits = fits; untouched = λ stopped. absurd (let fails : true ≡ false = sym run ∙ stopped in cc); batch = refl }
+
+pub words_rest_at : (q : ℕ) (h : Header1) (s : Scene) (batch : List ℕ) (phase : Phase) → phase ≡ phases.Rest → batch ≡ [] → WordsAt q h s [] phases.Rest → WordsAt q h s batch phase
+words_rest_at q h s batch phase rest none f = subst (λ (p : Phase). WordsAt q h s batch p) (sym rest) (subst (λ (ks : List ℕ). WordsAt q h s ks phases.Rest) (sym none) f)
+
+-- whatever was under way
+pub words_rests : (q : ℕ) (h : Header1) (s : Scene) (batch : List ℕ) (phase : Phase) → WordsAt q h s batch phase → WordsAt q h s [] phases.Rest
+words_rests q h s batch phase f = record { used_fits = f.used_fits; untouched = f.untouched; batch = refl }
+
+-- ---- a batch begins
+
+heads_of_elements : (q : ℕ) (h : Header1) (s : Scene) (ks : List ℕ) → heads_in (map (element_of h q s) ks) ≡ map (slice_index (s.heads q)) ks
+heads_of_elements q h s ks = map-map (λ (x : ℕ × ℕ). x.0) (element_of h q s) ks
+
+distinct_map : (f : ℕ → ℕ) (ks : List ℕ) → are_distinct ks ≡ true → ((j k : ℕ) → is_among ks j ≡ true → is_among ks k ≡ true → f j ≡ f k → j ≡ k) → are_distinct (map f ks) ≡ true
+distinct_map f [] d apart = refl
+distinct_map f (x ∷ ks) d apart =
+    let tail : are_distinct ks ≡ true = grind (arith, nat_tests) in
+    let out : is_among ks x ≡ false = grind (arith, nat_tests) in
+    let rest : are_distinct (map f ks) ≡ true = distinct_map f ks tail (λ j k held_j held_k same. apart j k (grind (arith, nat_tests)) (grind (arith, nat_tests)) same) in
+    let new : is_among (map f ks) (f x) ≡ false = elim (cases_Bool (is_among (map f ks) (f x))) [
+      | inl held ↦
+          let there = number_of f ks (f x) held in
+          let among : is_among ks there.0 ≡ true = there.1 in
+          let same : there.0 ≡ x = apart there.0 x (grind (arith, nat_tests)) (grind (arith, nat_tests)) there.2 in
+          let fails : is_among ks x ≡ true = ap (is_among ks) (sym same) ∙ among in
+          absurd (cc)
+      | inr none ↦ none
+    ] in
+    grind (arith, nat_tests)
+
+-- open numbers have heads of their own, and these are open
+pub batch_begins_at : (q : ℕ) (h : Header1) (s : Scene) (v : _) (batch : List ℕ) → Known q h.size h.capacity s.past (s.heads q) → Driven q h.size h.capacity h.base s.past (s.heads q) v → 0 < length batch → are_distinct batch ≡ true
+    → ((k : ℕ) → is_among batch k ≡ true → IsOpen s.past q k) → InBatch h.size (open_heads q s.past (s.heads q)) (map (element_of h q s) batch) 0
+batch_begins_at q h s v batch known driven some distinct opens =
+    let f : ℕ → ℕ = slice_index (s.heads q) in
+    let out : (k : ℕ) → is_among batch k ≡ true → IsOut q s.past (s.heads q) k = λ k held. open_out q h.size h.capacity s.past (s.heads q) k known (opens k held) in
+    let same : heads_in (map (element_of h q s) batch) ≡ map f batch = heads_of_elements q h s batch in
+    let apart : are_distinct (map f batch) ≡ true = distinct_map f batch distinct (λ j k held_j held_k e. driven.apart j k (out j held_j) (out k held_k) e) in
+    let below : (d : ℕ) → is_among (map f batch) d ≡ true → d < h.size = λ d held.
+    let there = number_of f batch d held in omega (arith, driven.below there.0 (out there.0 there.1), there.2) in
+    let open_too : (d : ℕ) → is_among (map f batch) d ≡ true → is_among (open_heads q s.past (s.heads q)) d ≡ true = λ d held.
+    let there = number_of f batch d held in
+    let o : IsOpen s.past q there.0 = opens there.0 there.1 in
+    subst (λ (y : ℕ). is_among (open_heads q s.past (s.heads q)) y ≡ true) there.2 (among_map f (open_numbers s.past q) there.0 (among-missing (published s.past q) (accepted s.past q) there.0 o.taken o.unpublished)) in
+    let long : length (map (element_of h q s) batch) ≡ length batch = length-map batch (element_of h q s) in
+    record {
+      some = omega (arith, some, long);
+      few = omega (arith, long, length-map batch f, few_below (map f batch) h.size apart below);
+      distinct = ap are_distinct same ∙ apart;
+      below = λ d held. below d (ap (λ (hs : List ℕ). is_among hs d) (sym same) ∙ held);
+      left = omega arith;
+      opens = λ le d held. open_too d (ap (λ (hs : List ℕ). is_among hs d) (sym same) ∙ held);
+    }
+
+pub words_begin : (q : ℕ) (h : Header1) (s : Scene) (batch before : List ℕ) (phase : Phase) → InBatch h.size (open_heads q s.past (s.heads q)) (map (element_of h q s) batch) 0 → WordsAt q h s before phase → WordsAt q h s batch (phases.Publish 0)
+words_begin q h s batch before phase b f = publication_begins h.size (open_heads q s.past (s.heads q)) h.base (side_of q h s before phase) (map (element_of h q s) batch) (words_at (the_ring q h.size) s.memory) b f
+
+-- ---- a store
+
+-- off the rings
+pub words_elsewhere_at : (q : ℕ) (h : Header1) (s : Scene) (p : ℕ) (bs batch : List ℕ) (phase : Phase) → IsSize h.size → OffRings q p bs → WordsAt q h s batch phase → WordsAt q h (record s { memory = put s.memory 0 p bs }) batch phase
+words_elsewhere_at q h s p bs batch phase size off f =
+    facts_off (the_ring q h.size) (open_heads q s.past (s.heads q)) h.base (side_of q h s batch phase) s.memory (one_store 0 p bs) (lies_ring q h.size size) (go off) f
+  where
+    go : OffRings q p bs → Elsewhere (the_ring q h.size) (one_store 0 p bs)
+    go (inl below) = record { avail = inr (inr (omega (arith, below))); used = inr (inr (omega (arith, below))) }
+    go (inr above) = record { avail = inr (inl (omega (arith, above, size.small))); used = inr (inl (omega (arith, above, size.small))) }
+
+-- below the used ring, where no fetch is under way
+pub words_below : (q : ℕ) (h : Header1) (s : Scene) (p : ℕ) (bs batch : List ℕ) (phase : Phase) → IsSize h.size → RestsOrPublishes phase → p + length bs ≤ area_place q + 8192 → WordsAt q h s batch phase → WordsAt q h (record s { memory = put s.memory 0 p bs }) batch phase
+words_below q h s p bs batch phase size at low f =
+    facts_beside (the_ring q h.size) (open_heads q s.past (s.heads q)) h.base (side_of q h s batch phase) s.memory (one_store 0 p bs) (lies_ring q h.size size) (inr (inr (omega (arith, low))))
+    (λ done fetching. absurd (subst RestsOrPublishes fetching at)) f
+
+-- ---- the elements of a batch
+
+element_map : (f : ℕ → ℕ × ℕ) (xs : List ℕ) (e : ℕ) → e < length xs → get_or (map f xs) e (0, 0) ≡ f (slice_index xs e)
+element_map f [] e l = absurd (omega arith)
+element_map f (x ∷ xs) zero l = refl
+element_map f (x ∷ xs) (suc e) l = element_map f xs e (omega arith)
+
+-- id and length of the next element
+pub words_id : (q : ℕ) (h : Header1) (s : Scene) (batch : List ℕ) (done e i x : ℕ) → IsSize h.size → started s.past q ≡ true → e < length batch → done ≡ 2 * e → entry_of (the_ring q h.size) (used_idx (the_ring q h.size) s.memory + e) ≡ entry_of (the_ring q h.size) i
+    → x ≡ (element_of h q s (slice_index batch e)).0 → x < 4294967296 → WordsAt q h s batch (phases.Publish done) → WordsAt q h (record s { memory = put s.memory 0 (used_id_place (the_ring q h.size) i) (little_bytes 4 x) }) batch (phases.Publish (done + 1))
+words_id q h s batch done e i x size run inside at place is fits f =
+    let r : Ring = the_ring q h.size in
+    let heads : List ℕ = open_heads q s.past (s.heads q) in
+    let elements : List (ℕ × ℕ) = map (element_of h q s) batch in
+    let named : x ≡ (get_or elements e (0, 0)).0 = is ∙ sym (ap (λ (y : ℕ × ℕ). y.0) (element_map (element_of h q s) batch e inside)) in
+    let there : used_id_place r (used_idx r s.memory + e) ≡ used_id_place r i = ap (λ (y : ℕ). area_place q + 8192 + (4 + 8 * y)) place in
+    let now : words_at r (put s.memory 0 (used_id_place r i) (little_bytes 4 x)) ≡ words_after r elements (steps.Id e) (words_at r s.memory) =
+    ap (λ (p : ℕ). words_at r (put s.memory 0 p (little_bytes 4 x))) (sym there) ∙ id_words r elements e x s.memory (lies_ring q h.size size) named fits in
+    let before : Facts h.size heads h.base (side_of q h s batch (phases.Publish (2 * e))) (words_at r s.memory) = subst (λ (d : ℕ). Facts h.size heads h.base (side_of q h s batch (phases.Publish d)) (words_at r s.memory)) at f in
+    let after : Facts h.size heads h.base (side_of q h s batch (phases.Publish (2 * e + 1))) (words_after r elements (steps.Id e) (words_at r s.memory)) =
+    step_keeps r heads h.base (steps.Id e) (side_of q h s batch (phases.Publish (2 * e))) (words_at r s.memory) (lies_ring q h.size size) (run, (refl, omega (arith, inside, length-map batch (element_of h q s)))) before in
+    subst (λ (d : ℕ). Facts h.size heads h.base (side_of q h s batch (phases.Publish d)) (words_at r (put s.memory 0 (used_id_place r i) (little_bytes 4 x)))) (let next : 2 * e + 1 ≡ done + 1 = omega (arith, at) in next)
+    (subst (λ (w : Words). Facts h.size heads h.base (side_of q h s batch (phases.Publish (2 * e + 1))) w) (sym now) after)
+
+pub words_len : (q : ℕ) (h : Header1) (s : Scene) (batch : List ℕ) (done e i x : ℕ) → IsSize h.size → started s.past q ≡ true → e < length batch → done ≡ 2 * e + 1 → entry_of (the_ring q h.size) (used_idx (the_ring q h.size) s.memory + e) ≡ entry_of (the_ring q h.size) i
+    → x ≡ (element_of h q s (slice_index batch e)).1 → x < 4294967296 → WordsAt q h s batch (phases.Publish done) → WordsAt q h (record s { memory = put s.memory 0 (used_len_place (the_ring q h.size) i) (little_bytes 4 x) }) batch (phases.Publish (done + 1))
+words_len q h s batch done e i x size run inside at place is fits f =
+    let r : Ring = the_ring q h.size in
+    let heads : List ℕ = open_heads q s.past (s.heads q) in
+    let elements : List (ℕ × ℕ) = map (element_of h q s) batch in
+    let named : x ≡ (get_or elements e (0, 0)).1 = is ∙ sym (ap (λ (y : ℕ × ℕ). y.1) (element_map (element_of h q s) batch e inside)) in
+    let there : used_len_place r (used_idx r s.memory + e) ≡ used_len_place r i = ap (λ (y : ℕ). area_place q + 8192 + (8 + 8 * y)) place in
+    let now : words_at r (put s.memory 0 (used_len_place r i) (little_bytes 4 x)) ≡ words_after r elements (steps.Len e) (words_at r s.memory) =
+    ap (λ (p : ℕ). words_at r (put s.memory 0 p (little_bytes 4 x))) (sym there) ∙ len_words r elements e x s.memory (lies_ring q h.size size) named fits in
+    let before : Facts h.size heads h.base (side_of q h s batch (phases.Publish (2 * e + 1))) (words_at r s.memory) = subst (λ (d : ℕ). Facts h.size heads h.base (side_of q h s batch (phases.Publish d)) (words_at r s.memory)) at f in
+    let after : Facts h.size heads h.base (side_of q h s batch (phases.Publish (2 * e + 2))) (words_after r elements (steps.Len e) (words_at r s.memory)) =
+    step_keeps r heads h.base (steps.Len e) (side_of q h s batch (phases.Publish (2 * e + 1))) (words_at r s.memory) (lies_ring q h.size size) (run, (refl, omega (arith, inside, length-map batch (element_of h q s)))) before in
+    subst (λ (d : ℕ). Facts h.size heads h.base (side_of q h s batch (phases.Publish d)) (words_at r (put s.memory 0 (used_len_place r i) (little_bytes 4 x)))) (let next : 2 * e + 2 ≡ done + 1 = omega (arith, at) in next)
+    (subst (λ (w : Words). Facts h.size heads h.base (side_of q h s batch (phases.Publish (2 * e + 2))) w) (sym now) after)
+
+-- where all steps but that of used.idx were made each element of the batch stands
+pub words_element : (q : ℕ) (h : Header1) (s : Scene) (batch : List ℕ) (done e i : ℕ) → done ≡ 2 * length batch → e < length batch → entry_of (the_ring q h.size) (used_idx (the_ring q h.size) s.memory + e) ≡ entry_of (the_ring q h.size) i
+    → WordsAt q h s batch (phases.Publish done) → element_at (the_ring q h.size) s.memory i ≡ element_of h q s (slice_index batch e)
+words_element q h s batch done e i whole inside place f =
+    let r : Ring = the_ring q h.size in
+    let long : length (map (element_of h q s) batch) ≡ length batch = length-map batch (element_of h q s) in
+    let low : e < length (map (element_of h q s) batch) = omega (arith, inside, long) in
+    let there : element_at r s.memory (used_idx r s.memory + e) ≡ element_at r s.memory i =
+    ap (λ (y : ℕ). (word 4 s.memory 0 (area_place q + 8192 + (4 + 8 * y)), word 4 s.memory 0 (area_place q + 8192 + (8 + 8 * y)))) place in
+    let stands : element_at r s.memory (used_idx r s.memory + e) ≡ get_or (map (element_of h q s) batch) e (0, 0) =
+    pairs (f.batch.1.ids e low (omega (arith, whole, inside)) (omega (arith, whole, long))) (f.batch.1.lens e low (omega (arith, whole, inside)) (omega (arith, whole, long))) in
+    sym there ∙ stands ∙ element_map (element_of h q s) batch e inside
+  where
+    pairs : {a b c d : ℕ} → a ≡ b → c ≡ d → ◌≡◌ {A = ℕ × ℕ} (a, c) (b, d)
+    pairs p p' = cc
