@@ -244,14 +244,14 @@ pub turns_stop : (q : ℕ) (h : Header1) (sequence : Sequence) (es : List Event)
     → done < count → made ≡ nat_lt 0 done → StepGoes q false (next_turn q now.front.header sequence taken (so_far q h sequence m done).next) now next (so_far q h sequence m done).next after after' taken taken' → TurnsGo q h made sequence count (PartsAt q next) m before after'
 turns_stop q h sequence es rs m most done count now next before after after' taken taken' r made e few is step = subst (λ (b : Bool). TurnsGo q h b sequence count (PartsAt q next) m before after') (sym is) (elim (cases_eq done 0) [
   | inl none ↦ subst (λ (b : Bool). TurnsGo q h b sequence count (PartsAt q next) m before after') (sym (none_before done none)) (
-      subst (λ (x : ℕ). is_due h q (choices_from q h sequence m (so_far q h sequence m x).next) (so_far q h sequence m x).next ≡ false) none ends,
-      subst (λ (x : ℕ). PartsAt q next (so_far q h sequence m x).next) none step.1,
-      items_are ∙ subst (λ (x : ℕ). before ++ (so_far q h sequence m x).items ≡ before ++ []) (sym none) refl ∙ append-nil before,
-    )
+    subst (λ (x : ℕ). is_due h q (choices_from q h sequence m (so_far q h sequence m x).next) (so_far q h sequence m x).next ≡ false) none ends,
+    subst (λ (x : ℕ). PartsAt q next (so_far q h sequence m x).next) none step.1,
+    items_are ∙ subst (λ (x : ℕ). before ++ (so_far q h sequence m x).items ≡ before ++ []) (sym none) refl ∙ append-nil before,
+  )
   | inr some ↦ subst (λ (b : Bool). TurnsGo q h b sequence count (PartsAt q next) m before after') (sym (some_before done some)) (
-      e.here.begun (omega (arith, some)),
-      record { count = done; few = omega (arith, few); small = turns_few q h sequence es rs m most done now before after taken r e.low e.stands e.here; at = step.1; items_are = items_are; ends = inr ends },
-    )
+    e.here.begun (omega (arith, some)),
+    record { count = done; few = omega (arith, few); small = turns_few q h sequence es rs m most done now before after taken r e.low e.stands e.here; at = step.1; items_are = items_are; ends = inr ends },
+  )
 ])
   where
     n : Moment

@@ -65,24 +65,27 @@ new_sound h q memory f is new low size unfailed = record {
 
 pub opens : (w : Machine) → IsHeader w.header → ((s p : ℕ) → bytes_in w.memory s p ≡ 0) → AreNewFronts w.header w.header.queues w.fronts.items → w.life ≡ None → ((s : ℕ) → s < w.header.capacity → values_of w.disk s ≡ replicate 512 0) → MachineAt w (opening w.header)
 unfolding zeros
-opens w is none fronts life disk = record { many = fronts.many; queues = λ q f found.
-    let new = fronts.each q f found in
-    record {
-      front = record {
-        memory = fun_ext (λ s. fun_ext (λ p. none s p ∙ sym (opening_zero w.header is s p)));
-        driver = new.driver;
-        asks = new.asked;
+opens w is none fronts life disk = record {
+  many = fronts.many;
+  queues = λ q f found.
+      let new = fronts.each q f found in
+      record {
+        front = record {
+          memory = fun_ext (λ s. fun_ext (λ p. none s p ∙ sym (opening_zero w.header is s p)));
+          driver = new.driver;
+          asks = new.asked;
+        };
+        position = new.position ∙ (let e : w.header.base ≡ (f.header.base + 0) % 65536 = omega (arith, is.begins, ap (λ (k : Header1). k.base) new.header) in e);
+        life = subst (λ (l : Option Life). LifeAt q f.header f.ring (opening w.header) (life_of q l)) (sym life) refl;
+        disk = subst (λ (k : Header1). (s : ℕ) → s < k.capacity → values_of w.disk s ≡ replicate 512 0) (sym new.header) disk;
+        outstanding = record {
+          offers_are = new.offered;
+          collects_are = new.collected;
+          places = new.places ∙ ap (λ (k : Header1). k.size) (sym new.header);
+          slots = λ k below. absurd (let e : ⊥ = omega (arith, below) in e);
+        };
       };
-      position = new.position ∙ (let e : w.header.base ≡ (f.header.base + 0) % 65536 = omega (arith, is.begins, ap (λ (k : Header1). k.base) new.header) in e);
-      life = subst (λ (l : Option Life). LifeAt q f.header f.ring (opening w.header) (life_of q l)) (sym life) refl;
-      disk = subst (λ (k : Header1). (s : ℕ) → s < k.capacity → values_of w.disk s ≡ replicate 512 0) (sym new.header) disk;
-      outstanding = record {
-        offers_are = new.offered;
-        collects_are = new.collected;
-        places = new.places ∙ ap (λ (k : Header1). k.size) (sym new.header);
-        slots = λ k below. absurd (let e : ⊥ = omega (arith, below) in e);
-      };
-    } }
+}
 
 -- ---- new fronts and queues
 

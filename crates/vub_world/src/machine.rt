@@ -78,8 +78,7 @@ fn new_fronts(alloc: Global, header: &Header1, space: Space) -> Result<Vec<Front
     requires space { space.number ≡ 0 }
     ensures { IfOk result (λ fronts. AreNewFronts header.now header.now.queues fronts.items) }
 {
-    let mut fronts =
-        Vec::with_capacity(alloc, usize::from(header.queues)).map_err(|_| Memory)?;
+    let mut fronts = Vec::with_capacity(alloc, usize::from(header.queues)).map_err(|_| Memory)?;
     for queue in 0..header.queues {
         let front = Front::new(alloc, header, queue, space)?;
         add_front(&mut fronts, front)?;
@@ -245,8 +244,7 @@ impl Machine {
         requires { IsSound self.now }
         ensures { IfOk result (λ queues. AreNewQueues self.now.header.queues self.now.fronts.items queues.items) }
     {
-        let mut queues =
-            Vec::with_capacity(self.alloc, self.fronts.len()).map_err(|_| Memory)?;
+        let mut queues = Vec::with_capacity(self.alloc, self.fronts.len()).map_err(|_| Memory)?;
         for index in 0..self.header.queues {
             let front = &self.fronts[usize::from(index)];
             let setup = QueueSetup {
@@ -295,9 +293,11 @@ impl Machine {
         let front = &self.fronts[place];
         let undone = front.outstanding.count();
         let mut room = Room::for_turns(self.alloc, &mut self.spare, 1, undone)?;
-        let Some(Life {
-            queues: Some(queues),
-        }) = &mut self.life
+        let Some(
+            Life {
+                queues: Some(queues),
+            },
+        ) = &mut self.life
         else {
             unreachable!();
         };
@@ -332,9 +332,11 @@ impl Machine {
         let front = &self.fronts[place];
         let undone = front.outstanding.count();
         let mut room = Room::for_turns(self.alloc, &mut self.spare, count, undone)?;
-        let Some(Life {
-            queues: Some(queues),
-        }) = &mut self.life
+        let Some(
+            Life {
+                queues: Some(queues),
+            },
+        ) = &mut self.life
         else {
             unreachable!();
         };
