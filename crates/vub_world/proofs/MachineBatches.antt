@@ -24,7 +24,6 @@ use Rattle.vub_world.proofs.MachineTurns.{among_right}
 use Rattle.vub_run_laws.proofs.RunFacts.{phase_at}
 use Rattle.vub_run_laws.proofs.RunFrames.{open_out}
 use Rattle.vub_run_laws.proofs.RunGood.{IsWide, PhaseIs, IsOut}
-use Rattle.vub_run_laws.proofs.RunFacts.{phase_at}
 use Rattle.vub_facts.proofs.HeadLemmas.{among_get}
 use Rattle.vub_run_laws.proofs.RunTurns.{Good}
 
