@@ -35,7 +35,9 @@ use Rattle.vub_split.specs.Split.{used_side}
 use Rattle.vub_queue.specs.QueueState.{QueueState, course_in, row_at, next_row, moved, Moves, publishes, publish_row, Publishes, Turns, is_fault}
 use Rattle.vub_queue_in_run.specs.QueueAt.{spot_of, QueueAt, LiesAs, QueueStands}
 use Rattle.vub_driver.specs.Layout.{area_place}
-use Rattle.vub_run_laws.proofs.RunGood.{the_ring, Worked, Holds}
+use Rattle.vub_run_laws.proofs.RingGood.{the_ring}
+use Rattle.vub_run_laws.proofs.RunGood.{Worked}
+use Rattle.vub_run_laws.proofs.RunHolds.{Holds}
 use Rattle.vub_run_laws.proofs.RunPhases.{resting, rest_is, taking, taking_holds}
 use Rattle.vub_run_laws.proofs.RunElements.{StepAt, AtId, AtLen, AtIndex, step_at, get_map}
 use Rattle.vub_run_laws.proofs.RunPublications.{publishing, IsUnderWay, more_left, none_left, numbers_answers}

@@ -1,3 +1,12 @@
+pub mod RingAsks
+pub mod RingCollects
+pub mod RingElements
+pub mod RingEntries
+pub mod RingFrames
+pub mod RingGood
+pub mod RingOffers
+pub mod RingOpening
+pub mod RingTracks
 pub mod RunAsks
 pub mod RunChains
 pub mod RunChainsEvents
@@ -20,6 +29,7 @@ pub mod RunExists
 pub mod RunFrames
 pub mod RunGood
 pub mod RunGuests
+pub mod RunHolds
 pub mod RunItems
 pub mod RunLawful
 pub mod RunNumbers
@@ -34,6 +44,7 @@ pub mod RunQuiet
 pub mod RunServes
 pub mod RunShown
 pub mod RunSteps
+pub mod RunTaken
 pub mod RunTracks
 pub mod RunTurns
 pub mod RunWork

@@ -30,12 +30,13 @@ use Rattle.vub_run.specs.Memory.{Scene, after_items}
 use Rattle.vub_run.specs.Moments.{Lane, Moment, opening}
 use Rattle.vub_run.specs.Run.{Played, played, if_ready, with_lane, with_driver, guest_items, guest, guest_stores, ask, collect, take_first, boot, join, one_turn, is_due, then_played, turns, single, up_to, any_choice, drain_choice, Drains, Plays}
 use Rattle.vub_run.specs.Turns.{turned}
-use Rattle.vub_run_laws.proofs.RunGood.{the_ring, index_store, IsWaiting, WaitsWell, EntryWell, EntryStands}
-use Rattle.vub_run_laws.proofs.RunFrames.{same_entry}
-use Rattle.vub_run_laws.proofs.RunCollects.{IsTaken, next_number, after_taken, first_seen}
+use Rattle.vub_run_laws.proofs.RingGood.{the_ring, index_store, IsWaiting, WaitsWell, EntryWell, EntryStands}
+use Rattle.vub_run_laws.proofs.RingFrames.{same_entry}
+use Rattle.vub_run_laws.proofs.RunTaken.{IsTaken, next_number}
+use Rattle.vub_run_laws.proofs.RingCollects.{after_taken, first_seen}
 use Rattle.vub_run_laws.proofs.RunTurns.{IsPlain, Good}
 use Rattle.vub_run_laws.proofs.RunEvents.{turn_right}
-use Rattle.vub_run_laws.proofs.Runs.{none_out}
+use Rattle.vub_run_laws.proofs.RunFrames.{none_out}
 use Rattle.vub_run_laws.proofs.RunChainsStores.{put_all}
 use Rattle.vub_run_laws.proofs.RunChainsMade.{put_append}
 use Rattle.vub_run_laws.proofs.RunChainsTurns.{IsPrepared, PreparedWell, Chained, gentle_chained, turn_gentle, turn_driver}

@@ -10,9 +10,9 @@ use Rattle.vub_device.specs.declared.entry.Asked.{Asked}
 use Rattle.vub_device.specs.Past.{asked}
 use Rattle.vub_run.specs.Memory.{Scene}
 use Rattle.vub_run.specs.Moments.{Lane}
-use Rattle.vub_run_laws.proofs.RunGood.{IsWide, IsOut, Holds}
+use Rattle.vub_run_laws.proofs.RunGood.{IsWide, IsOut, IsGood, stored_at}
+use Rattle.vub_run_laws.proofs.RunHolds.{Holds}
 use Rattle.vub_run_laws.proofs.RunFrames.{other_buffer}
-use Rattle.vub_run_laws.proofs.RunGuests.{IsGood, stored_at}
 use Rattle.vub_run_laws.proofs.RunChains.{buffer_at, HasChain, Spares, chain_kept}
 use Rattle.vub_run_laws.proofs.RunChainsStores.{handed_fits}
 use Rattle.vub_run_laws.proofs.RunChainsMade.{Stand, stand_kept, Serves, serving_off}

@@ -18,8 +18,10 @@ use Rattle.vub_device.specs.declared.entry.Asked.TheVariants as asks
 use Rattle.vub_direct_chain.specs.declared.chain.Desc.{Desc}
 use Rattle.vub_device.specs.Requests.{request_of}
 use Rattle.vub_direct_chain.specs.ChainState.{handed_bytes, data_start, data_len, data_of, desc_of}
-use Rattle.vub_run_laws.proofs.RunGood.{the_ring, IsSize, IsWide}
-use Rattle.vub_run_laws.proofs.RunFrames.{keeps, length_little, entry_small}
+use Rattle.vub_run_laws.proofs.RingGood.{the_ring}
+use Rattle.vub_run_laws.proofs.RunGood.{IsSize, IsWide}
+use Rattle.vub_run_laws.proofs.RunFrames.{keeps, length_little}
+use Rattle.vub_run_laws.proofs.RingFrames.{entry_small}
 use Rattle.vub_run_laws.proofs.RunChains.{table_place, buffer_at, has_body, chain_of, HasDesc, HasFront, HasChain, IsOff, desc_kept, front_kept, word_made, desc_long, desc_made}
 
 -- memory after stores into guest memory

@@ -35,9 +35,11 @@ use Rattle.vub_run.specs.TaskItems.{look_items, act_items}
 use Rattle.vub_run.specs.Turns.{course_of, turned, work_turn, request_turn, task_turn, phase_turn, phase_goes_on, under_way, begun, is_rest, step_items, row_items, element_of, answer_at}
 use Rattle.vub_run_laws.proofs.RunOwn.{published_own}
 use Rattle.vub_run_laws.proofs.RunNumbers.{among_get, among_filter, missing-among}
-use Rattle.vub_run_laws.proofs.RunGood.{the_ring, IsSize, IsWide, IsOut, IsWaiting, WaitsWell, Holds, buffer}
-use Rattle.vub_run_laws.proofs.RunFrames.{entry_small, open_out, length_little}
-use Rattle.vub_run_laws.proofs.RunGuests.{IsGood, stored_at}
+use Rattle.vub_run_laws.proofs.RingGood.{the_ring, IsWaiting, WaitsWell}
+use Rattle.vub_run_laws.proofs.RunGood.{IsSize, IsWide, IsOut, buffer, IsGood, stored_at}
+use Rattle.vub_run_laws.proofs.RunHolds.{Holds}
+use Rattle.vub_run_laws.proofs.RingFrames.{entry_small}
+use Rattle.vub_run_laws.proofs.RunFrames.{open_out, length_little}
 use Rattle.vub_run_laws.proofs.RunSteps.{WideCases, AtRead, AtWrite, AtFlush, wide_cases, wide_steps, ReadAt, ToLook, ToPut, ToReply, read_at, read_over, WriteAt, ToAct, ToEnd, write_at, write_over}
 use Rattle.vub_run_laws.proofs.RunWork.{sector_few}
 use Rattle.vub_run_laws.proofs.RunTurns.{IsPlain, Good}

@@ -32,13 +32,15 @@ use Rattle.vub_run.specs.Memory.{Scene, shown_head, after_item, after_items}
 use Rattle.vub_run.specs.Moments.{Lane, Moment, opening}
 use Rattle.vub_run.specs.Run.{with_lane, with_driver, Played, played, if_ready, guest, guest_stores, ask, collect, take_first, boot, join, one_turn, is_due, then_played, turns, single, up_to, any_choice, drain_choice, Drains, Plays, guest_items}
 use Rattle.vub_run.specs.Turns.{turned}
-use Rattle.vub_run_laws.proofs.RunGood.{the_ring, IsOut, Driven}
+use Rattle.vub_run_laws.proofs.RingGood.{the_ring, Driven}
+use Rattle.vub_run_laws.proofs.RunGood.{IsOut}
 use Rattle.vub_run_laws.proofs.RunOffers.{same_head, new_head}
-use Rattle.vub_run_laws.proofs.RunCollects.{IsTaken, next_number, next_out, later_out, after_taken, first_seen}
+use Rattle.vub_run_laws.proofs.RunTaken.{IsTaken, next_number, next_out, later_out}
+use Rattle.vub_run_laws.proofs.RingCollects.{after_taken, first_seen}
 use Rattle.vub_run_laws.proofs.RunTurns.{IsPlain, Good}
 use Rattle.vub_run_laws.proofs.RunEvents.{turn_right}
-use Rattle.vub_run_laws.proofs.Runs.{none_out}
-use Rattle.vub_run_laws.proofs.RunAsks.{IsFree, free_are, free_taken, owned_other}
+use Rattle.vub_run_laws.proofs.RunFrames.{none_out}
+use Rattle.vub_run_laws.proofs.RingAsks.{IsFree, free_are, free_taken, owned_other}
 use Rattle.vub_run_laws.proofs.RunChains.{buffer_at, has_body, HasDesc, HasChain}
 use Rattle.vub_run_laws.proofs.RunChainsStores.{put_all}
 use Rattle.vub_run_laws.proofs.RunChainsGentle.{IsGentle}

@@ -27,10 +27,13 @@ use Rattle.vub_run.specs.Tracking.{answered_len}
 use Rattle.vub_run.specs.Turns.{len_of}
 use Rattle.vub_run_laws.proofs.RunNumbers.{few_below, distinct_parts, distinct_join}
 use Rattle.vub_split.proofs.Rings.{entries_apart}
-use Rattle.vub_run_laws.proofs.RunGood.{the_ring, IsSize, IsWide, Known, Ringed, Worked, PhaseIs, IsBuilt, Built, Holds}
-use Rattle.vub_run_laws.proofs.RunFrames.{keeps, entry_small, length_little, stored_elsewhere, below_buffers}
-use Rattle.vub_run_laws.proofs.RunGuests.{IsGood, stored_at}
+use Rattle.vub_run_laws.proofs.RingGood.{the_ring, Ringed, IsBuilt, Built}
+use Rattle.vub_run_laws.proofs.RunGood.{IsSize, IsWide, Known, Worked, PhaseIs, IsGood, stored_at}
+use Rattle.vub_run_laws.proofs.RunHolds.{Holds}
+use Rattle.vub_run_laws.proofs.RunFrames.{keeps, length_little, stored_elsewhere, below_buffers}
+use Rattle.vub_run_laws.proofs.RingFrames.{entry_small}
 use Rattle.vub_run_laws.proofs.RunSteps.{wide_served}
+use Rattle.vub_run_laws.proofs.RingElements.{len_and_id, id_and_len, ring_words, id_and_id, len_and_len, built_of}
 
 -- ---- which step is next
 
@@ -88,46 +91,6 @@ batch_room q past phase batch completed made n cap heads known w =
     ]) in
     omega (arith, few, length-append (published past q) batch)
 
--- the place of the e-th element of a publication, from used.idx as it stands
-pub element_place : (q n base : ℕ) (past : List Entry) (heads : List ℕ) (m : Bytes) (e : ℕ) → Ringed q n base past heads m → entry_of (the_ring q n) (used_idx (the_ring q n) m + e) ≡ entry_of (the_ring q n) (base + length (published past q) + e)
-element_place q n base past heads m e r =
-    let u : used_idx (the_ring q n) m ≡ (base + length (published past q)) % 65536 = r.used_idx_is in
-    let same : (used_idx (the_ring q n) m + e) % 65536 ≡ (base + length (published past q) + e) % 65536 = omega arith in
-    ap (λ (y : ℕ). y % n) same
-
--- id words of two entries, and an id word and a len word
-id_and_id : (q a b x : ℕ) (m : Bytes) → a ≢ b → word 4 (put m 0 (area_place q + 8192 + (4 + 8 * a)) (little_bytes 4 x)) 0 (area_place q + 8192 + (4 + 8 * b)) ≡ word 4 m 0 (area_place q + 8192 + (4 + 8 * b))
-id_and_id q a b x m apart =
-    let four : length (little_bytes 4 x) ≡ 4 = length_little 4 x in
-    keeps 4 m (area_place q + 8192 + (4 + 8 * a)) (little_bytes 4 x) (area_place q + 8192 + (4 + 8 * b)) (elim (cases_lt a b) [
-      | inl less ↦ inr (omega arith)
-      | inr more ↦ inl (let above : b < a = omega arith in omega arith)
-    ])
-
-len_and_len : (q a b x : ℕ) (m : Bytes) → a ≢ b → word 4 (put m 0 (area_place q + 8192 + (8 + 8 * a)) (little_bytes 4 x)) 0 (area_place q + 8192 + (8 + 8 * b)) ≡ word 4 m 0 (area_place q + 8192 + (8 + 8 * b))
-len_and_len q a b x m apart =
-    let four : length (little_bytes 4 x) ≡ 4 = length_little 4 x in
-    keeps 4 m (area_place q + 8192 + (8 + 8 * a)) (little_bytes 4 x) (area_place q + 8192 + (8 + 8 * b)) (elim (cases_lt a b) [
-      | inl less ↦ inr (omega arith)
-      | inr more ↦ inl (let above : b < a = omega arith in omega arith)
-    ])
-
-id_and_len : (q a b x : ℕ) (m : Bytes) → word 4 (put m 0 (area_place q + 8192 + (4 + 8 * a)) (little_bytes 4 x)) 0 (area_place q + 8192 + (8 + 8 * b)) ≡ word 4 m 0 (area_place q + 8192 + (8 + 8 * b))
-id_and_len q a b x m =
-    let four : length (little_bytes 4 x) ≡ 4 = length_little 4 x in
-    keeps 4 m (area_place q + 8192 + (4 + 8 * a)) (little_bytes 4 x) (area_place q + 8192 + (8 + 8 * b)) (elim (cases_lt b a) [
-      | inl less ↦ inl (omega arith)
-      | inr more ↦ inr (omega arith)
-    ])
-
-len_and_id : (q a b x : ℕ) (m : Bytes) → word 4 (put m 0 (area_place q + 8192 + (8 + 8 * a)) (little_bytes 4 x)) 0 (area_place q + 8192 + (4 + 8 * b)) ≡ word 4 m 0 (area_place q + 8192 + (4 + 8 * b))
-len_and_id q a b x m =
-    let four : length (little_bytes 4 x) ≡ 4 = length_little 4 x in
-    keeps 4 m (area_place q + 8192 + (8 + 8 * a)) (little_bytes 4 x) (area_place q + 8192 + (4 + 8 * b)) (elim (cases_lt a b) [
-      | inl less ↦ inr (omega arith)
-      | inr more ↦ inl (omega arith)
-    ])
-
 -- the facts of one more element
 pub record IsNextElement (q : ℕ) (h : Header1) (s : Scene) (l : Lane) (done e : ℕ) : Type 0 where
   pub good : IsGood h
@@ -155,25 +118,9 @@ other_element q h s l done e j x less same =
     let shown = x.holds.known.shown in
     entries_apart h.size (h.base + length (published s.past q) + j) (h.base + length (published s.past q) + e) x.good.size.some x.good.size.laps (omega arith) (omega arith) (sym same)
 
--- a store into the used ring, past used.idx, leaves the words of the avail ring and used.idx
-ring_words : (q n base : ℕ) (past : List Entry) (heads : List ℕ) (m : Bytes) (p : ℕ) (bs : List ℕ) → IsSize n → area_place q + 8192 + 4 ≤ p
-    → ((i : ℕ) → collected past q ≤ i → i < length (published past q) → word 4 (put m 0 p bs) 0 (used_id_place (the_ring q n) (base + i)) ≡ word 4 m 0 (used_id_place (the_ring q n) (base + i)))
-    → ((i : ℕ) → collected past q ≤ i → i < length (published past q) → word 4 (put m 0 p bs) 0 (used_len_place (the_ring q n) (base + i)) ≡ word 4 m 0 (used_len_place (the_ring q n) (base + i)))
-    → Ringed q n base past heads m → Ringed q n base past heads (put m 0 p bs)
-ring_words q n base past heads m p bs size high ids lens r = record {
-  avail_idx_is = keeps 2 m p bs (avail_idx_place (the_ring q n)) (inl (omega arith)) ∙ r.avail_idx_is;
-  used_idx_is = keeps 2 m p bs (used_idx_place (the_ring q n)) (inl (omega arith)) ∙ r.used_idx_is;
-  avail_at = λ i from upto. let small = entry_small n (base + i) size in keeps 2 m p bs (avail_entry_place (the_ring q n) (base + i)) (inl (omega arith)) ∙ r.avail_at i from upto;
-  used_at = λ i from upto.
-      ap (λ (y : ℕ). (y, word 4 (put m 0 p bs) 0 (used_len_place (the_ring q n) (base + i)))) (ids i from upto) ∙ ap (λ (y : ℕ). (word 4 m 0 (used_id_place (the_ring q n) (base + i)), y)) (lens i from upto) ∙ r.used_at i from upto;
-}
-
 -- the lane with one more store made
 abbrev pub one_on : ℕ → Lane → Lane
 one_on done l = record l { phase = phases.Publish (done + 1) }
-
-built_of : (q n base : ℕ) (past : List Entry) (heads : List ℕ) (m : Bytes) (batch : List ℕ) (phase : Phase) (done : ℕ) → phase ≡ phases.Publish done → Built q n base past heads m batch phase → IsBuilt q n base past heads m batch done
-built_of q n base past heads m batch phase done is b = subst (λ (p : Phase). Built q n base past heads m batch p) is b
 
 worked_on : (q : ℕ) (past : List Entry) (batch completed : List ℕ) (made : ℕ → ℕ) (phase : Phase) (done : ℕ) → phase ≡ phases.Publish done → done + 1 < 2 * length batch + 1 → Worked q past phase batch completed made → Worked q past (phases.Publish (done + 1)) batch completed made
 worked_on q past batch completed made phase done is more w =

@@ -38,14 +38,18 @@ use Rattle.vub_run.specs.Tracking.{Tracks, AfterEach}
 use Rattle.vub_report.specs.Histories.{entries_of}
 use Rattle.vub_run.specs.Turns.{turned}
 use Rattle.vub_run_laws.proofs.RunQueue.{queue_rests}
-use Rattle.vub_run_laws.proofs.RunGood.{the_ring, index_store, IsHarmless, IsLeft, IsWaiting, EntryWell, EntryStands, IsPending, PhaseIs, Worked, Holds}
+use Rattle.vub_run_laws.proofs.RingGood.{the_ring, index_store, IsHarmless, IsLeft, IsWaiting, EntryWell, EntryStands}
+use Rattle.vub_run_laws.proofs.RunGood.{IsPending, PhaseIs, Worked}
+use Rattle.vub_run_laws.proofs.RunHolds.{Holds}
 use Rattle.vub_run_laws.proofs.RunGuests.{holds_track, offered, Offered, guest_holds, last_holds, Unoffered, part_holds, left_after, left_some, left_waits, rest_waits, waits_well}
 use Rattle.vub_run_laws.proofs.RunWork.{Fine}
 use Rattle.vub_run_laws.proofs.RunItems.{after-append, each-append, legal-append, past_after}
 use Rattle.vub_report.proofs.HistoryLemmas.{entries-append}
 use Rattle.vub_run_laws.proofs.RunTurns.{IsPlain, Good, turn_fine}
 use Rattle.vub_run_laws.proofs.RunAsks.{plain_ask, ask_holds}
-use Rattle.vub_run_laws.proofs.RunCollects.{IsTaken, next_number, after_taken, taken_holds, taken_legal, first_seen}
+use Rattle.vub_run_laws.proofs.RunTaken.{IsTaken, next_number}
+use Rattle.vub_run_laws.proofs.RingCollects.{after_taken, first_seen}
+use Rattle.vub_run_laws.proofs.RunCollects.{taken_holds, taken_legal}
 
 -- items from one moment to another
 pub record Right (q : ℕ) (h : Header1) (m : Moment) (is : List Item) (next : Moment) : Type 0 where

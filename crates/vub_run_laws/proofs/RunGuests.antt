@@ -29,21 +29,15 @@ use Rattle.vub_device.specs.Requests.{request_of}
 use Rattle.vub_run.specs.Tracking.{Tracks, AfterEach}
 use Rattle.vub_report.specs.Histories.{entries_of}
 use Rattle.vub_run_laws.proofs.RunOwn.{at_own}
-use Rattle.vub_run_laws.proofs.RunGood.{the_ring, IsSize, index_store, IsHarmless, IsLeft, IsWaiting, WaitsWell, Holds, Known, Ringed, Driven, Stored, Built}
-use Rattle.vub_run_laws.proofs.RunTracks.{tracks}
+use Rattle.vub_run_laws.proofs.RingGood.{the_ring, index_store, IsHarmless, IsLeft, IsWaiting, WaitsWell, Ringed, Driven, Built}
+use Rattle.vub_run_laws.proofs.RunGood.{IsSize, Known, Stored, stored_at, IsGood}
+use Rattle.vub_run_laws.proofs.RunHolds.{Holds}
+use Rattle.vub_run_laws.proofs.RingTracks.{tracks}
 use Rattle.vub_run_laws.proofs.RunQueue.{queue_elsewhere}
-use Rattle.vub_run_laws.proofs.RunFrames.{entry_small, open_out, OffRings, OffBuffer, built_below, stored_elsewhere, below_buffers, other_buffer, length_little, ringed_entry, same_entry}
-use Rattle.vub_run_laws.proofs.RunOffers.{offer_room, offer_known, offer_ringed, shown_head, offer_driven, offer_worked, offer_stored, offer_built, batch_taken}
-
--- the scene after a store into guest memory
-abbrev pub stored_at : ℕ → List ℕ → Scene → Scene
-stored_at p bs s = record s { memory = put s.memory 0 p bs }
-
--- what a header of this grammar gives
-pub record IsGood (h : Header1) : Type 0 where
-  pub size : IsSize h.size
-  pub queues : h.queues ≡ 1
-  pub base : h.base < 65536
+use Rattle.vub_run_laws.proofs.RingFrames.{entry_small, OffRings, built_below, ringed_entry, same_entry}
+use Rattle.vub_run_laws.proofs.RunFrames.{open_out, OffBuffer, stored_elsewhere, below_buffers, other_buffer, length_little}
+use Rattle.vub_run_laws.proofs.RingOffers.{offer_room, offer_ringed, shown_head, offer_driven, offer_built}
+use Rattle.vub_run_laws.proofs.RunOffers.{offer_known, offer_worked, offer_stored, batch_taken}
 
 pub holds_track : (q : ℕ) (h : Header1) (s : Scene) (l : Lane) → IsGood h → Holds q h s l → Tracks h q s
 holds_track q h s l good holds = tracks q h s good.size holds.known holds.queue.ringed

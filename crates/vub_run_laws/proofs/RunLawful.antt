@@ -22,10 +22,12 @@ use Rattle.vub_run.specs.Lawful.{IsOutstanding, HasRoom, next_index, IsLawful, I
 use Rattle.vub_run.specs.Memory.{Scene}
 use Rattle.vub_run.specs.Moments.{Moment, opening}
 use Rattle.vub_run.specs.Run.{Played, if_ready, guest_items, guest, guest_stores, Plays, RunFrom, Run}
-use Rattle.vub_run_laws.proofs.RunGood.{the_ring, IsSize, IsOut, index_store, IsHarmless, IsLeft, IsWaiting}
-use Rattle.vub_run_laws.proofs.RunFrames.{keeps, entry_small, length_little}
+use Rattle.vub_run_laws.proofs.RingGood.{the_ring, index_store, IsHarmless, IsLeft, IsWaiting}
+use Rattle.vub_run_laws.proofs.RunGood.{IsSize, IsOut}
+use Rattle.vub_run_laws.proofs.RunFrames.{keeps, length_little}
+use Rattle.vub_run_laws.proofs.RingFrames.{entry_small}
 use Rattle.vub_run_laws.proofs.RunGuests.{waits_well}
-use Rattle.vub_run_laws.proofs.RunOffers.{offer_room}
+use Rattle.vub_run_laws.proofs.RingOffers.{offer_room}
 use Rattle.vub_run_laws.proofs.RunTurns.{IsPlain, Good}
 use Rattle.vub_run_laws.proofs.RunEvents.{Right}
 use Rattle.vub_run_laws.proofs.Runs.{plain_header}

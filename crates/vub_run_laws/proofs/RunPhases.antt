@@ -22,10 +22,12 @@ use Rattle.vub_run.specs.Moments.{Lane}
 use Rattle.vub_run.specs.Turns.{under_way, phase_goes_on}
 use Rattle.vub_run_laws.proofs.RunOwn.{accepted_own, started_own, looks_start, acts_start, bytes_start, synced_start, faulted_start}
 use Rattle.vub_run_laws.proofs.RunNumbers.{distinct_parts, distinct_join}
-use Rattle.vub_run_laws.proofs.RunGood.{the_ring, IsPending, Worked, Holds}
-use Rattle.vub_run_laws.proofs.RunTracks.{ahead_by}
+use Rattle.vub_run_laws.proofs.RingGood.{the_ring}
+use Rattle.vub_run_laws.proofs.RunGood.{IsPending, Worked, IsGood}
+use Rattle.vub_run_laws.proofs.RunHolds.{Holds}
+use Rattle.vub_run_laws.proofs.RingTracks.{ahead_by}
 use Rattle.vub_run_laws.proofs.RunEfforts.{weight, effort, sum_below, sum_more, weight_small, sum_moved}
-use Rattle.vub_run_laws.proofs.RunGuests.{IsGood, holds_track}
+use Rattle.vub_run_laws.proofs.RunGuests.{holds_track}
 use Rattle.vub_run_laws.proofs.RunWork.{Fine}
 use Rattle.vub_run_laws.proofs.RunQueue.{queue_same, queue_entry, queue_begins}
 

@@ -30,12 +30,15 @@ use Rattle.vub_run.specs.Memory.{Scene}
 use Rattle.vub_run.specs.Moments.{Lane}
 use Rattle.vub_run.specs.Turns.{Turned, element_of, len_of, phase_turn, answer_at, answer_len, row_items, with_phase}
 use Rattle.vub_run_laws.proofs.RunNumbers.{among_at}
-use Rattle.vub_run_laws.proofs.RunGood.{the_ring, IsWide, IsReadTo, IsWrittenTo, IsFull, Worked, Stored, IsRead, buffer, Holds}
+use Rattle.vub_run_laws.proofs.RingGood.{the_ring}
+use Rattle.vub_run_laws.proofs.RunGood.{IsWide, IsReadTo, IsWrittenTo, IsFull, Worked, Stored, IsRead, buffer, IsGood, stored_at}
+use Rattle.vub_run_laws.proofs.RunHolds.{Holds}
 use Rattle.vub_run_laws.proofs.RunFrames.{open_out}
-use Rattle.vub_run_laws.proofs.RunGuests.{IsGood, stored_at, holds_track}
+use Rattle.vub_run_laws.proofs.RunGuests.{holds_track}
 use Rattle.vub_run_laws.proofs.RunSteps.{wide_some, wide_served, looks_end, effects_end, read_to, written_to, flushed_to}
 use Rattle.vub_run_laws.proofs.RunWork.{Fine}
-use Rattle.vub_run_laws.proofs.RunElements.{steps_many, get_map, len_is, element_place, IsNextElement, one_on, id_holds, len_holds}
+use Rattle.vub_run_laws.proofs.RunElements.{steps_many, get_map, len_is, IsNextElement, one_on, id_holds, len_holds}
+use Rattle.vub_run_laws.proofs.RingElements.{element_place}
 
 -- the lane with so many stores of its publication made
 abbrev pub publishing : ℕ → Lane → Lane

@@ -12,59 +12,12 @@ use Rattle.vub_device.specs.declared.entry.Entry.{Entry}
 use Rattle.vub_device.specs.Past.{accepted, asked, published, collected, is_among}
 use Rattle.vub_run.specs.Memory.{Scene}
 use Rattle.vub_run.specs.Tracking.{answered_len}
-use Rattle.vub_run_laws.proofs.RunGood.{the_ring, spot, IsSize, Ringed, IsOut, WaitsWell, Driven, Built, QueueFacts}
-use Rattle.vub_run_laws.proofs.RunFrames.{OffRings, ringed_elsewhere, built_elsewhere}
-
--- ---- parts of it
-
-waits_same : (q n cap : ℕ) (past past' : List Entry) (heads : List ℕ) (v : Driver) (o : Option Waiting) → ((k : ℕ) → IsOut q past' heads k → IsOut q past heads k) → WaitsWell q n cap past heads v o → WaitsWell q n cap past' heads v o
-waits_same q n cap past past' heads v None out w = tt
-waits_same q n cap past past' heads v (Some x) out w = record {
-  wide = w.wide;
-  below = w.below;
-  mine = w.mine;
-  apart = λ k o. w.apart k (out k o);
-  plan = w.plan;
-}
-
-pub driven_same : (q n cap base : ℕ) (past past' : List Entry) (heads : List ℕ) (v : Driver) → ((k : ℕ) → IsOut q past' heads k → IsOut q past heads k) → Driven q n cap base past heads v → Driven q n cap base past' heads v
-driven_same q n cap base past past' heads v out d = record {
-  index = d.index;
-  below = λ k o. d.below k (out k o);
-  owned = λ k o. d.owned k (out k o);
-  apart = λ j k oj ok same. d.apart j k (out j oj) (out k ok) same;
-  waits = waits_same q n cap past past' heads v v.waiting out d.waits;
-}
-
-pub built_same : (q n base : ℕ) (past past' : List Entry) (heads : List ℕ) (m : Bytes) (batch : List ℕ) (phase : Phase) → published past' q ≡ published past q → ((k : ℕ) → asked past' q k ≡ asked past q k)
-    → Built q n base past heads m batch phase → Built q n base past' heads m batch phase
-built_same q n base past past' heads m batch phases.Rest ps ks b = tt
-built_same q n base past past' heads m batch (phases.Start done) ps ks b = tt
-built_same q n base past past' heads m batch (phases.Fetch done) ps ks b = tt
-built_same q n base past past' heads m batch (phases.Publish done) ps ks b = record {
-  ids = λ e l d. ap (λ (qs : List ℕ). word 4 m 0 (used_id_place (the_ring q n) (base + length qs + e))) ps ∙ b.ids e l d;
-  lens = λ e l d. ap (λ (qs : List ℕ). word 4 m 0 (used_len_place (the_ring q n) (base + length qs + e))) ps ∙ b.lens e l d ∙ sym (ap (answered_len 0) (ks (slice_index batch e)));
-}
+use Rattle.vub_run_laws.proofs.RingGood.{the_ring, Ringed, WaitsWell, Driven, Built, QueueFacts}
+use Rattle.vub_run_laws.proofs.RunGood.{spot, IsSize, IsOut, LeavesQueue}
+use Rattle.vub_run_laws.proofs.RingFrames.{OffRings, ringed_elsewhere, built_elsewhere}
+use Rattle.vub_run_laws.proofs.RingEntries.{built_same, ringed_entries, driven_same}
 
 -- ---- an entry
-
--- what an entry leaves that offers and shows nothing: it may accept, and it may collect
-pub record LeavesQueue (q : ℕ) (past past' : List Entry) : Type 0 where
-  pub accepts : accepted past q ≤ accepted past' q
-  pub shows : published past' q ≡ published past q
-  pub collects : collected past q ≤ collected past' q
-  pub asks : (k : ℕ) → asked past' q k ≡ asked past q k
-
-ringed_entries : (q n base : ℕ) (past past' : List Entry) (heads : List ℕ) (m : Bytes) → LeavesQueue q past past' → Ringed q n base past heads m → Ringed q n base past' heads m
-ringed_entries q n base past past' heads m leaves r = record {
-  avail_idx_is = r.avail_idx_is;
-  used_idx_is = r.used_idx_is ∙ ap (λ (ks : List ℕ). (base + length ks) % 65536) (sym leaves.shows);
-  avail_at = λ i from upto. r.avail_at i (omega (arith, from, leaves.accepts)) upto;
-  used_at = λ i from upto.
-      let k : ℕ = slice_index (published past' q) i in
-      r.used_at i (omega (arith, from, leaves.collects)) (subst (λ (ks : List ℕ). i < length ks) leaves.shows upto)
-      ∙ ap (λ (ks : List ℕ). spot q heads past (slice_index ks i)) (sym leaves.shows) ∙ ap (λ (o : Option Asked). (slice_index heads k, answered_len 0 o)) (sym (leaves.asks k));
-}
 
 -- an entry that offers, shows and collects nothing
 pub queue_entry : (q : ℕ) (h : Header1) (s : Scene) (past' : List Entry) (v : Driver) (batch : List ℕ) (phase : Phase) → LeavesQueue q s.past past' → collected past' q ≡ collected s.past q

@@ -29,7 +29,7 @@ use Rattle.vub_run.specs.Moments.{Lane, Moment, fresh, unfinished}
 use Rattle.vub_run.specs.Run.{Played, played, if_ready, ask, take_first, collect, boot, join, one_turn, is_due, then_played, turns as many_turns, single, up_to, any_choice, drain_choice, Drains, Plays}
 use Rattle.vub_run.specs.TaskItems.{look_items, act_items}
 use Rattle.vub_run.specs.Turns.{course_of, turned, row_items, step_items, element_of, phase_turn, phase_goes_on, under_way, work_turn, request_turn, task_turn}
-use Rattle.vub_run_laws.proofs.RunGood.{the_ring}
+use Rattle.vub_run_laws.proofs.RingGood.{the_ring}
 use Rattle.vub_run_laws.proofs.RunChainsMade.{all_append}
 
 -- neither a store of a driver nor an offer

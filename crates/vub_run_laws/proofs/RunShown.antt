@@ -31,13 +31,16 @@ use Rattle.vub_run.specs.Tracking.{answers}
 use Rattle.vub_run.specs.Turns.{Turned, element_of, phase_turn, phase_goes_on, answer_at, with_phase}
 use Rattle.vub_run_laws.proofs.RunOwn.{published_own, answers_own}
 use Rattle.vub_run_laws.proofs.RunNumbers.{distinct_parts, distinct_join}
-use Rattle.vub_run_laws.proofs.RunGood.{the_ring, Known, Ringed, spot, Worked, Stored, IsBuilt, Holds}
+use Rattle.vub_run_laws.proofs.RingGood.{the_ring, Ringed, IsBuilt}
+use Rattle.vub_run_laws.proofs.RunGood.{Known, spot, Worked, Stored, stored_at}
+use Rattle.vub_run_laws.proofs.RunHolds.{Holds}
 use Rattle.vub_run_laws.proofs.RunEfforts.{shown_falls}
-use Rattle.vub_run_laws.proofs.RunFrames.{keeps, entry_small, length_little, stored_elsewhere, below_buffers}
-use Rattle.vub_run_laws.proofs.RunGuests.{stored_at, holds_track}
+use Rattle.vub_run_laws.proofs.RunFrames.{keeps, length_little, stored_elsewhere, below_buffers}
+use Rattle.vub_run_laws.proofs.RingFrames.{entry_small}
+use Rattle.vub_run_laws.proofs.RunGuests.{holds_track}
 use Rattle.vub_run_laws.proofs.RunPhases.{resting}
 use Rattle.vub_run_laws.proofs.RunWork.{Fine}
-use Rattle.vub_run_laws.proofs.RunQueue.{driven_same}
+use Rattle.vub_run_laws.proofs.RingEntries.{driven_same}
 use Rattle.vub_run_laws.proofs.RunElements.{StepAt, AtId, AtLen, AtIndex, step_at, batch_room}
 use Rattle.vub_run_laws.proofs.RunPublications.{publishing, IsUnderWay, none_left, in_batch, batch_open, id_fine, len_fine, numbers_answers, all_map, good_map, good_append, answer_right}
 

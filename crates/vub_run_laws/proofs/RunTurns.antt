@@ -14,8 +14,8 @@ use Rattle.vub_device.specs.Past.{accepted, published, is_among, open_numbers, s
 use Rattle.vub_run.specs.Moments.{Lane, Moment, standing, unfinished}
 use Rattle.vub_run.specs.Turns.{turned, work_turn, phase_goes_on, under_way}
 use Rattle.vub_run_laws.proofs.RunNumbers.{among_get, among_filter, missing-among}
-use Rattle.vub_run_laws.proofs.RunGood.{PhaseIs, Holds}
-use Rattle.vub_run_laws.proofs.RunGuests.{IsGood}
+use Rattle.vub_run_laws.proofs.RunGood.{PhaseIs, IsGood}
+use Rattle.vub_run_laws.proofs.RunHolds.{Holds}
 use Rattle.vub_run_laws.proofs.RunWork.{Fine, request_fine}
 use Rattle.vub_run_laws.proofs.RunPhases.{resting, rest_is, start_fine, some_waits, fetch_fine, taking, taking_holds, taking_effort}
 use Rattle.vub_run_laws.proofs.RunPublications.{publishing}

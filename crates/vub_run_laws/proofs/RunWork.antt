@@ -35,12 +35,14 @@ use Rattle.vub_run.specs.Tracking.{Tracks, AfterEach, answered_len}
 use Rattle.vub_report.specs.Histories.{entries_of}
 use Rattle.vub_run.specs.Turns.{Turned, request_turn, task_turn}
 use Rattle.vub_run_laws.proofs.RunNumbers.{distinct_parts, distinct_join, distinct_push}
-use Rattle.vub_run_laws.proofs.RunGood.{the_ring, IsWideRead, IsWideWrite, IsWide, Known, IsOut, WaitsWell, Driven, IsReadTo, IsWrittenTo, Progress, IsBegun, IsFull, IsPending, Worked, IsKept, Stored, IsRead, Built, buffer, Holds}
+use Rattle.vub_run_laws.proofs.RingGood.{the_ring, WaitsWell, Driven, Built}
+use Rattle.vub_run_laws.proofs.RunGood.{IsWideRead, IsWideWrite, IsWide, Known, IsOut, IsReadTo, IsWrittenTo, Progress, IsBegun, IsFull, IsPending, Worked, IsKept, Stored, IsRead, buffer, IsGood, stored_at}
+use Rattle.vub_run_laws.proofs.RunHolds.{Holds}
 use Rattle.vub_run_laws.proofs.RunSteps.{WideCases, AtRead, AtWrite, AtFlush, wide_cases, wide_served, wide_steps, ReadAt, ToLook, ToPut, ToReply, read_at, WriteAt, ToAct, ToEnd, write_at, look_is, written, effect_is, read_to, written_to}
 use Rattle.vub_run_laws.proofs.RunEfforts.{effort, step_falls, status_falls}
 use Rattle.vub_run_laws.proofs.RunFrames.{open_out, OffBuffer, sector_elsewhere, status_elsewhere, other_buffer}
 use Rattle.vub_run_laws.proofs.RunQueue.{queue_same, queue_elsewhere}
-use Rattle.vub_run_laws.proofs.RunGuests.{IsGood, stored_at, holds_track}
+use Rattle.vub_run_laws.proofs.RunGuests.{holds_track}
 
 -- ---- requests
 
