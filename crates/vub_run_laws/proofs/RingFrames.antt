@@ -2,18 +2,21 @@
 use Rattle.std.proofs.Common.{◌≡◌, ◌≢◌, ◌≤◌, ◌<◌, ℕ, ◌⊎◌, ◌+◌, ◌%◌, List, length, ap, sym, ◌∙◌, inl, arith, inr}
 use Rattle.std.proofs.lemmas.Bool.{cases_lt}
 use Rattle.byteorder.specs.Endian.{little_bytes}
+use Rattle.vub_base.specs.declared.header.Header1.{Header1}
 use Rattle.vub_shared.specs.Bytes.{Bytes, put, word}
 use Rattle.vub_shared.proofs.BytesLemmas.{word-put_same}
 use Rattle.vub_steps.specs.declared.steps.Phase.{Phase}
 use Rattle.vub_steps.specs.declared.steps.Phase.TheVariants as phases
 use Rattle.vub_ring.specs.Ring.{entry_of, avail_entry_place, avail_idx_place, used_id_place, head_at, used_len_place}
 use Rattle.vub_driver.specs.Layout.{area_place}
+use Rattle.vub_driver.specs.Drivers.{Driver}
 use Rattle.vub_device.specs.Past.{accepted, published, collected}
 use Rattle.vub_device.specs.declared.entry.Entry.{Entry}
+use Rattle.vub_run.specs.Memory.{Scene}
 use Rattle.vub_split.proofs.Rings.{entries_apart}
-use Rattle.vub_run_laws.proofs.RingGood.{Built, Ringed, the_ring}
+use Rattle.vub_run_laws.proofs.RingGood.{Built, Ringed, the_ring, QueueFacts}
 use Rattle.vub_run_laws.proofs.RunFrames.{keeps, length_little}
-use Rattle.vub_run_laws.proofs.RunGood.{IsSize, Known}
+use Rattle.vub_run_laws.proofs.RunGood.{IsSize, Known, stored_at}
 
 -- outside the rings
 abbrev pub OffRings : ℕ → ℕ → List ℕ → Type 0
@@ -76,6 +79,13 @@ ringed_entry q n cap base past heads m p head size known room at fits r =
       },
       ap (λ (e : ℕ). word 2 (put m 0 p bs) 0 e) (sym at) ∙ word-put_same 2 m 0 p head (omega arith),
     )
+
+pub facts_elsewhere : (q : ℕ) (h : Header1) (s : Scene) (p : ℕ) (bs : List ℕ) (v : Driver) (batch : List ℕ) (phase : Phase) → IsSize h.size → OffRings q p bs → QueueFacts q h s v batch phase → QueueFacts q h (stored_at p bs s) v batch phase
+facts_elsewhere q h s p bs v batch phase size off x = record {
+  ringed = ringed_elsewhere q h.size h.base s.past (s.heads q) s.memory p bs size off x.ringed;
+  driven = x.driven;
+  built = built_elsewhere q h.size h.base s.past (s.heads q) s.memory p bs batch phase size off x.built;
+}
 
 -- any store below the used ring leaves what is built in it
 pub built_below : (q n base : ℕ) (past : List Entry) (heads : List ℕ) (m : Bytes) (p : ℕ) (bs batch : List ℕ) (phase : Phase) → p + length bs ≤ area_place q + 8192 → Built q n base past heads m batch phase → Built q n base past heads (put m 0 p bs) batch phase

@@ -90,6 +90,10 @@ pub record QueueFacts (q : ℕ) (h : Header1) (s : Scene) (v : Driver) (batch : 
   pub driven : Driven q h.size h.capacity h.base s.past (s.heads q) v
   pub built : Built q h.size h.base s.past (s.heads q) s.memory batch phase
 
+-- where the last store alone is left of a request, those before it stand
+abbrev pub LastStands : ℕ → Header1 → Scene → Waiting → Type 0
+LastStands q h s w = EntryWell q h.size (h.base + length (s.heads q)) s.memory (Some w)
+
 -- the entry of the next offer, at a moment
 abbrev pub EntryStands : ℕ → Header1 → Moment → Type 0
 EntryStands q h m = EntryWell q h.size (h.base + length (m.scene.heads q)) m.scene.memory (m.lanes q).driver.waiting

@@ -1,32 +1,22 @@
 -- A request that the driver takes keeps what holds.
-use Rattle.std.proofs.Common.{◌≡◌, ◌≤◌, ◌<◌, ℕ, zero, suc, ◌+◌, ◌*◌, Bool, true, false, List, [], ◌∷◌, ◌++◌, length, take, cond, refl, ap, sym, ◌∙◌, inl, inr, arith}
-use Rattle.std.specs.Prelude.{Option, Some, None, slice_index, is_none}
+use Rattle.std.proofs.Common.{◌≡◌, ◌≤◌, ℕ, ◌*◌, true, List, length, arith}
 use Rattle.std.specs.List.{AllByRecursion}
-use Rattle.byteorder.specs.Endian.{little_bytes}
 use Rattle.std.proofs.lemmas.Bool.Decides.{nat_tests}
-use Rattle.std.proofs.lemmas.Bool.{cases_eq}
-use Rattle.std.proofs.lemmas.List.{length-append, append_assoc, length-take-le}
+use Rattle.std.proofs.lemmas.List.{length-take-le}
 use Rattle.vub_base.specs.declared.header.Header1.{Header1}
 use Rattle.vub_base.specs.declared.request.Ask.{Ask}
 use Rattle.vub_base.specs.declared.request.Ask.TheVariants as asks
 use Rattle.vub_base.specs.declared.request.Shape.TheVariants.{Direct}
-use Rattle.vub_shared.specs.Stores.{Store, one_store}
-use Rattle.vub_driver.specs.Layout.{buffer_place, status_place, area_place}
-use Rattle.vub_driver.specs.Drivers.{Driver, free_from, free_descriptors, can_take, chosen, first_or_zero, owned_by, waits_on, after_ask}
-use Rattle.vub_driver.specs.Requests.{Piece, pieces, descriptors_needed, header_bytes, written_bytes, data_place, request_type, first_sector}
-use Rattle.vub_driver.specs.Stores.{store_of_some, buffer_stores, chain_stores, offer_stores, request_stores}
-use Rattle.vub_device.specs.declared.entry.Entry.{Entry}
+use Rattle.vub_driver.specs.Drivers.{Driver, free_descriptors, can_take, chosen, after_ask}
+use Rattle.vub_driver.specs.Requests.{descriptors_needed, written_bytes}
 use Rattle.vub_schedule.specs.Spelling.{IsAsk}
 use Rattle.vub_run.specs.Memory.{Scene}
 use Rattle.vub_run.specs.Moments.{Lane}
 use Rattle.vub_run.specs.Run.{with_driver}
-use Rattle.vub_device.specs.Requests.{request_of}
 use Rattle.vub_run_laws.proofs.RunQueue.{queue_driver}
-use Rattle.vub_run_laws.proofs.RingGood.{the_ring, IsHarmless, IsPlan, Driven}
-use Rattle.vub_run_laws.proofs.RunGood.{IsWide, IsGood}
+use Rattle.vub_run_laws.proofs.RingGood.{the_ring}
+use Rattle.vub_run_laws.proofs.RunGood.{IsGood}
 use Rattle.vub_run_laws.proofs.RunHolds.{Holds}
-use Rattle.vub_run_laws.proofs.RunFrames.{length_little}
-use Rattle.vub_run_laws.proofs.RunChains.{desc_long}
 use Rattle.vub_driver.proofs.FillLemmas.{length-fills}
 use Rattle.vub_run_laws.proofs.RingAsks.{ask_driven, free_taken, few_needed, free_are, IsFree, IsPlainAsk}
 

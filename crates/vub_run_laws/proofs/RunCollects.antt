@@ -1,28 +1,18 @@
 -- A used element that the driver takes keeps what holds.
-use Rattle.std.proofs.Common.{◌≡◌, ◌≢◌, ◌≤◌, ◌<◌, ℕ, zero, suc, ◌+◌, ◌%◌, Bool, true, false, cond, List, [], ◌∷◌, ◌++◌, length, take, refl, ap, sym, ◌∙◌, inl, inr, arith}
-use Rattle.std.specs.Prelude.{Option, Some, None, slice_index, ◌||◌, ◌==◌}
-use Rattle.std.proofs.lemmas.Bool.Decides.{nat_tests}
-use Rattle.std.proofs.lemmas.Bool.{cases_eq}
-use Rattle.std.proofs.lemmas.List.{take_more}
+use Rattle.std.proofs.Common.{ℕ, ◌∷◌, refl, arith}
 use Rattle.std.proofs.lemmas.Option.{slice_get-get_or}
 use Rattle.vub_base.specs.declared.header.Header1.{Header1}
-use Rattle.vub_shared.specs.Bytes.{Bytes}
-use Rattle.vub_ring.specs.Ring.{Ring, ahead, used_idx, element_at, elements_from, seen}
-use Rattle.vub_driver.specs.Drivers.{Driver, Waiting, is_that, without_owner, is_head, after_collect}
+use Rattle.vub_driver.specs.Drivers.{without_owner}
 use Rattle.vub_device.specs.declared.entry.Entry.TheVariants as entries
 use Rattle.vub_device.specs.Legal.{MayCollect}
-use Rattle.vub_device.specs.Past.{published, collected, is_among}
-use Rattle.vub_device.specs.Places.{are_distinct}
-use Rattle.vub_device.proofs.Numbers.{is_among_append}
+use Rattle.vub_device.specs.Past.{published, collected}
 use Rattle.vub_run.specs.Memory.{Scene}
 use Rattle.vub_run.specs.Moments.{Lane}
 use Rattle.vub_run.specs.Run.{with_driver}
 use Rattle.vub_run_laws.proofs.RunOwn.{collected_own}
-use Rattle.vub_run_laws.proofs.RunNumbers.{among_at}
-use Rattle.vub_run_laws.proofs.RingGood.{the_ring, Ringed, WaitsWell, Driven}
-use Rattle.vub_run_laws.proofs.RunGood.{Known, spot, IsOut, Worked, IsGood}
+use Rattle.vub_run_laws.proofs.RingGood.{Ringed}
+use Rattle.vub_run_laws.proofs.RunGood.{Known, Worked}
 use Rattle.vub_run_laws.proofs.RunHolds.{Holds}
-use Rattle.vub_run_laws.proofs.RingTracks.{ahead_by}
 use Rattle.vub_run_laws.proofs.RunQueue.{queue_collect}
 use Rattle.vub_run_laws.proofs.RunTaken.{next_number, IsTaken}
 use Rattle.vub_run_laws.proofs.RingCollects.{taken_driven}

@@ -5,16 +5,15 @@ use Rattle.byteorder.specs.Endian.{little_bytes}
 use Rattle.std.proofs.lemmas.Bool.Decides.{nat_tests}
 use Rattle.std.proofs.lemmas.Bool.{cases_lt, cases_Bool, or_right}
 use Rattle.std.proofs.lemmas.List.{length-append}
-use Rattle.vub_driver.specs.Layout.{area_place}
 use Rattle.vub_base.specs.declared.header.CacheMode.TheVariants.{Back}
 use Rattle.vub_base.specs.declared.header.Header1.{Header1}
-use Rattle.vub_shared.specs.Bytes.{Bytes, put, word}
+use Rattle.vub_shared.specs.Bytes.{put, word}
 use Rattle.vub_shared.proofs.BytesLemmas.{word-put_same}
 use Rattle.vub_steps.specs.declared.steps.Phase.{Phase}
 use Rattle.vub_steps.specs.declared.steps.Phase.TheVariants as phases
 use Rattle.vub_steps.specs.declared.steps.Step.{Step}
 use Rattle.vub_steps.specs.declared.steps.Step.TheVariants as steps
-use Rattle.vub_ring.specs.Ring.{entry_of, avail_idx_place, avail_entry_place, used_idx_place, used_id_place, used_len_place, used_idx}
+use Rattle.vub_ring.specs.Ring.{used_id_place, used_len_place}
 use Rattle.vub_steps.specs.Steps.{element_steps}
 use Rattle.vub_device.specs.declared.entry.Asked.{Asked}
 use Rattle.vub_device.specs.declared.entry.Asked.TheVariants as asks
@@ -27,10 +26,10 @@ use Rattle.vub_run.specs.Tracking.{answered_len}
 use Rattle.vub_run.specs.Turns.{len_of}
 use Rattle.vub_run_laws.proofs.RunNumbers.{few_below, distinct_parts, distinct_join}
 use Rattle.vub_split.proofs.Rings.{entries_apart}
-use Rattle.vub_run_laws.proofs.RingGood.{the_ring, Ringed, IsBuilt, Built}
-use Rattle.vub_run_laws.proofs.RunGood.{IsSize, IsWide, Known, Worked, PhaseIs, IsGood, stored_at}
+use Rattle.vub_run_laws.proofs.RingGood.{the_ring, IsBuilt}
+use Rattle.vub_run_laws.proofs.RunGood.{IsWide, Known, Worked, PhaseIs, IsGood, stored_at}
 use Rattle.vub_run_laws.proofs.RunHolds.{Holds}
-use Rattle.vub_run_laws.proofs.RunFrames.{keeps, length_little, stored_elsewhere, below_buffers}
+use Rattle.vub_run_laws.proofs.RunFrames.{length_little, stored_elsewhere, below_buffers}
 use Rattle.vub_run_laws.proofs.RingFrames.{entry_small}
 use Rattle.vub_run_laws.proofs.RunSteps.{wide_served}
 use Rattle.vub_run_laws.proofs.RingElements.{len_and_id, id_and_len, ring_words, id_and_id, len_and_len, built_of}

@@ -1,21 +1,16 @@
 -- What stores elsewhere leave.
-use Rattle.std.proofs.Common.{◌≡◌, ◌≢◌, ◌≤◌, ◌<◌, ◌⊎◌, ℕ, ◌+◌, ◌*◌, ◌%◌, true, List, ◌++◌, length, ap, sym, ◌∙◌, inl, inr, arith, []}
+use Rattle.std.proofs.Common.{◌≡◌, ◌≢◌, ◌≤◌, ◌<◌, ◌⊎◌, ℕ, ◌+◌, ◌*◌, true, List, ◌++◌, length, ◌∙◌, inl, inr, arith, []}
 use Rattle.std.specs.Prelude.{slice_index}
 use Rattle.byteorder.specs.Endian.{little_bytes}
 use Rattle.byteorder.specs.Numbers.{length-bytes_low_first}
 use Rattle.std.proofs.lemmas.Bool.{cases_lt}
 use Rattle.vub_shared.specs.Bytes.{Bytes, put, word}
-use Rattle.vub_shared.proofs.BytesLemmas.{put_other, word-put_other, word-put_same}
-use Rattle.vub_steps.specs.declared.steps.Phase.{Phase}
-use Rattle.vub_steps.specs.declared.steps.Phase.TheVariants as phases
-use Rattle.vub_ring.specs.Ring.{entry_of, avail_entry_place, avail_idx_place, used_id_place, used_len_place, head_at}
+use Rattle.vub_shared.proofs.BytesLemmas.{put_other, word-put_other}
 use Rattle.vub_driver.specs.Layout.{area_place, status_place, sectors_place}
 use Rattle.vub_device.specs.declared.entry.Entry.{Entry}
-use Rattle.vub_device.specs.Past.{accepted, published, collected, is_among, IsOpen}
+use Rattle.vub_device.specs.Past.{published, collected, is_among, IsOpen}
 use Rattle.vub_run_laws.proofs.RunNumbers.{not_among-take}
-use Rattle.vub_split.proofs.Rings.{entries_apart}
-use Rattle.vub_run_laws.proofs.RingGood.{the_ring, Ringed, Built}
-use Rattle.vub_run_laws.proofs.RunGood.{IsSize, Known, IsOut, Stored, buffer}
+use Rattle.vub_run_laws.proofs.RunGood.{Known, IsOut, Stored, buffer}
 
 -- an open number is offered and not collected
 pub open_out : (q n cap : ℕ) (past : List Entry) (heads : List ℕ) (k : ℕ) → Known q n cap past heads → IsOpen past q k → IsOut q past heads k

@@ -30,7 +30,7 @@ use Rattle.vub_run.specs.Tracking.{Tracks, AfterEach}
 use Rattle.vub_report.specs.Histories.{entries_of}
 use Rattle.vub_run_laws.proofs.RunOwn.{at_own}
 use Rattle.vub_run_laws.proofs.RingGood.{the_ring, index_store, IsHarmless, IsLeft, IsWaiting, WaitsWell, Ringed, Driven, Built}
-use Rattle.vub_run_laws.proofs.RunGood.{IsSize, Known, Stored, stored_at, IsGood}
+use Rattle.vub_run_laws.proofs.RunGood.{Known, Stored, stored_at, IsGood}
 use Rattle.vub_run_laws.proofs.RunHolds.{Holds}
 use Rattle.vub_run_laws.proofs.RingTracks.{tracks}
 use Rattle.vub_run_laws.proofs.RunQueue.{queue_elsewhere}

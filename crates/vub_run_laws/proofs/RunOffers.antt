@@ -1,28 +1,19 @@
 -- An offer keeps what holds.
-use Rattle.std.proofs.Common.{◌≡◌, ◌≤◌, ◌<◌, ℕ, ◌+◌, ◌*◌, ◌%◌, true, List, [], ◌∷◌, ◌++◌, length, take, refl, ap, sym, ◌∙◌, subst, inl, inr, arith}
-use Rattle.std.specs.Prelude.{Option, Some, None, slice_index}
-use Rattle.byteorder.specs.Endian.{little_bytes}
+use Rattle.std.proofs.Common.{◌≡◌, ◌<◌, ℕ, ◌+◌, ◌*◌, true, List, [], ◌∷◌, ◌++◌, length, refl, ap, sym, ◌∙◌, subst, inl, inr, arith}
+use Rattle.std.specs.Prelude.{Option, Some, slice_index}
 use Rattle.std.proofs.lemmas.Bool.Decides.{nat_tests}
 use Rattle.std.proofs.lemmas.Bool.{cases_lt, or_right}
-use Rattle.std.proofs.lemmas.List.{length_push, get_or_append_left, get_or_push, length-take-le}
+use Rattle.std.proofs.lemmas.List.{length_push, get_or_append_left, get_or_push}
 use Rattle.vub_driver.specs.Layout.{area_place}
-use Rattle.vub_shared.specs.Bytes.{Bytes, put, word}
-use Rattle.vub_shared.proofs.BytesLemmas.{word-put_same}
+use Rattle.vub_shared.specs.Bytes.{Bytes}
 use Rattle.vub_steps.specs.declared.steps.Phase.{Phase}
-use Rattle.vub_steps.specs.declared.steps.Phase.TheVariants as phases
-use Rattle.vub_ring.specs.Ring.{avail_entry_place, avail_idx_place, avail_idx, used_id_place, used_len_place, head_at, last_head}
-use Rattle.vub_driver.specs.Drivers.{Driver, Waiting}
 use Rattle.vub_device.specs.declared.entry.Asked.{Asked}
 use Rattle.vub_device.specs.declared.entry.Entry.{Entry}
 use Rattle.vub_device.specs.declared.entry.Entry.TheVariants as entries
-use Rattle.vub_device.specs.Past.{offers, asked, accepted, published, collected, is_among, looks, bytes_read, acts, synced}
+use Rattle.vub_device.specs.Past.{offers, asked, accepted, collected, is_among, looks, bytes_read, acts, synced}
 use Rattle.vub_device.proofs.Numbers.{is_among_append}
-use Rattle.vub_run.specs.Tracking.{answered_len}
 use Rattle.vub_run_laws.proofs.RunOwn.{offers_own}
-use Rattle.vub_run_laws.proofs.RunNumbers.{among_at, few_places}
-use Rattle.vub_run_laws.proofs.RingGood.{the_ring, Ringed, IsWaiting, Driven, Built}
-use Rattle.vub_run_laws.proofs.RunGood.{IsSize, IsWide, Known, spot, IsOut, IsBegun, IsFull, IsPending, Worked, Stored, IsRead}
-use Rattle.vub_run_laws.proofs.RunFrames.{keeps, length_little}
+use Rattle.vub_run_laws.proofs.RunGood.{IsWide, Known, IsBegun, IsFull, IsPending, Worked, Stored, IsRead}
 
 pub same_head : (heads : List ℕ) (h k : ℕ) → k < length heads → slice_index (heads ++ h ∷ []) k ≡ slice_index heads k
 same_head heads h k l = get_or_append_left heads (h ∷ []) 0 k l

@@ -1,19 +1,17 @@
 -- What is known of a queue, and what each step of the driver and of the device leaves of it.
-use Rattle.std.proofs.Common.{◌≡◌, ◌≤◌, ◌<◌, ℕ, ◌+◌, List, [], length, take, refl, ap, sym, ◌∙◌, subst, arith, ◌%◌}
-use Rattle.std.specs.Prelude.{Option, Some, None, slice_index}
+use Rattle.std.proofs.Common.{◌≡◌, ◌<◌, ℕ, ◌+◌, List, [], length, take, ap, sym, ◌∙◌, arith, ◌%◌}
+use Rattle.std.specs.Prelude.{slice_index}
 use Rattle.vub_base.specs.declared.header.Header1.{Header1}
-use Rattle.vub_shared.specs.Bytes.{Bytes, put, word}
+use Rattle.vub_shared.specs.Bytes.{put}
 use Rattle.vub_steps.specs.declared.steps.Phase.{Phase}
 use Rattle.vub_steps.specs.declared.steps.Phase.TheVariants as phases
-use Rattle.vub_ring.specs.Ring.{used_idx, used_id_place, used_len_place}
-use Rattle.vub_driver.specs.Drivers.{Driver, Waiting}
-use Rattle.vub_device.specs.declared.entry.Asked.{Asked}
+use Rattle.vub_ring.specs.Ring.{used_idx}
+use Rattle.vub_driver.specs.Drivers.{Driver}
 use Rattle.vub_device.specs.declared.entry.Entry.{Entry}
 use Rattle.vub_device.specs.Past.{accepted, asked, published, collected, is_among}
 use Rattle.vub_run.specs.Memory.{Scene}
-use Rattle.vub_run.specs.Tracking.{answered_len}
-use Rattle.vub_run_laws.proofs.RingGood.{the_ring, Ringed, WaitsWell, Driven, Built, QueueFacts}
-use Rattle.vub_run_laws.proofs.RunGood.{spot, IsSize, IsOut, LeavesQueue}
+use Rattle.vub_run_laws.proofs.RingGood.{the_ring, Driven, QueueFacts}
+use Rattle.vub_run_laws.proofs.RunGood.{IsSize, IsOut, LeavesQueue}
 use Rattle.vub_run_laws.proofs.RingFrames.{OffRings, ringed_elsewhere, built_elsewhere}
 use Rattle.vub_run_laws.proofs.RingEntries.{built_same, ringed_entries, driven_same}
 

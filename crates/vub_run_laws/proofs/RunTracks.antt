@@ -1,22 +1,18 @@
 -- What the answers of a history are; what holds of each queue after each item holds of every queue.
-use Rattle.std.proofs.Common.{◌≡◌, ◌≤◌, ◌<◌, ◌⊎◌, ℕ, zero, suc, ◌+◌, ◌%◌, List, [], ◌∷◌, ◌++◌, length, drop, map, get_or, refl, ap, sym, ◌∙◌, subst, inl, inr, arith}
+use Rattle.std.proofs.Common.{◌≡◌, ◌<◌, ◌⊎◌, ℕ, zero, suc, List, [], ◌∷◌, ◌++◌, drop, map, refl, ap, inl, inr, arith}
 use Rattle.std.specs.Prelude.{slice_index}
 use Rattle.std.specs.List.{AllByRecursion}
-use Rattle.std.proofs.lemmas.List.{length-drop, get_or-drop, length-map}
 use Rattle.std.proofs.lemmas.Bool.Decides.{nat_tests}
 use Rattle.vub_report.specs.declared.items.Item.TheVariants as items
 use Rattle.vub_report.specs.declared.items.Item.{Item}
 use Rattle.vub_base.specs.declared.header.Header1.{Header1}
-use Rattle.vub_ring.specs.Ring.{head_at, element_at, ahead, avail_idx, used_idx, seen as seen_elements}
 use Rattle.vub_device.specs.declared.entry.Answered.{Answered}
 use Rattle.vub_device.specs.declared.entry.Entry.{Entry}
 use Rattle.vub_device.specs.declared.entry.Entry.TheVariants as entries
-use Rattle.vub_device.specs.Past.{asked, accepted, published, collected, numbers}
+use Rattle.vub_device.specs.Past.{asked, published, numbers}
 use Rattle.vub_run.specs.Memory.{after_item, Scene}
 use Rattle.vub_run.specs.Tracking.{GoesWithNext, AfterEach, answers, answered_len, element, Tracks, EveryTracks}
-use Rattle.vub_split.proofs.Rings.{heads_are, elements_are}
-use Rattle.vub_run_laws.proofs.RingGood.{the_ring, Ringed}
-use Rattle.vub_run_laws.proofs.RunGood.{IsSize, Known, spot}
+use Rattle.vub_run_laws.proofs.RunGood.{spot}
 
 numbers-append : (xs ys : List Answered) → numbers (xs ++ ys) ≡ numbers xs ++ numbers ys
 numbers-append [] ys = refl

@@ -1,21 +1,15 @@
 -- Where every run begins.
-use Rattle.std.proofs.Common.{◌≡◌, ◌<◌, ℕ, zero, suc, true, false, List, [], length, refl, sym, ◌∙◌, subst, inl, inr, arith}
-use Rattle.byteorder.specs.Endian.{little_bytes}
-use Rattle.std.proofs.lemmas.Bool.{cases_lt}
+use Rattle.std.proofs.Common.{◌≡◌, ◌<◌, ℕ, true, false, [], length, refl, arith}
 use Rattle.std.proofs.lemmas.List.{length-replicate}
 use Rattle.vub_base.specs.declared.header.Header1.{Header1}
-use Rattle.vub_shared.specs.Bytes.{Bytes, put}
-use Rattle.vub_shared.proofs.BytesLemmas.{word-put_same}
-use Rattle.vub_ring.specs.Ring.{avail_idx, avail_idx_place, used_idx, used_idx_place}
 use Rattle.vub_device.specs.Requests.{zeros}
 use Rattle.vub_schedule.specs.Spelling.{IsHeader}
-use Rattle.vub_run.specs.Memory.{opening_scene, opening_memory, opened}
+use Rattle.vub_run.specs.Memory.{opening_scene}
 use Rattle.vub_run.specs.Moments.{opening, opening_lane}
 use Rattle.vub_run_laws.proofs.Sizes.{size_laps}
-use Rattle.vub_run_laws.proofs.RingGood.{the_ring, Ringed}
-use Rattle.vub_run_laws.proofs.RunGood.{Known, IsOut}
+use Rattle.vub_run_laws.proofs.RunGood.{Known}
 use Rattle.vub_run_laws.proofs.RunHolds.{Holds}
-use Rattle.vub_run_laws.proofs.RunFrames.{keeps, length_little, none_out}
+use Rattle.vub_run_laws.proofs.RunFrames.{none_out}
 use Rattle.vub_run_laws.proofs.RunTurns.{IsPlain, Good}
 use Rattle.vub_run_laws.proofs.RingOpening.{open_ringed}
 
