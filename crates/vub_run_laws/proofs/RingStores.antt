@@ -25,15 +25,9 @@ use Rattle.vub_run_laws.proofs.RingGood.{the_ring, index_store, IsHarmless, IsPl
 use Rattle.vub_run_laws.proofs.RunFrames.{OffBuffer, below_buffers, other_buffer, length_little}
 use Rattle.vub_run_laws.proofs.RingFrames.{OffRings, entry_small, same_entry, ringed_entry, built_below, facts_elsewhere}
 use Rattle.vub_run_laws.proofs.RingOffers.{offer_room, offer_ringed, shown_head, offer_driven, offer_built}
+use Rattle.vub_run_laws.proofs.RunHolds.{StoresLast, StoresBefore, offered_by}
 
 -- ---- a store before the last one
-
--- what a store of a request leaves, where these are left: the buffers of what is offered, the queue, and the request
-pub record StoresBefore (q : ℕ) (h : Header1) (s : Scene) (v : Driver) (w : Waiting) (batch : List ℕ) (phase : Phase) (st : Store) (left : List Store) : Type 0 where
-  pub off : (k : ℕ) → IsOut q s.past (s.heads q) k → OffBuffer q (s.heads q) k st.place st.bytes
-  pub queue : QueueFacts q h (stored_at st.place st.bytes s) v batch phase
-  pub waits : IsWaiting q h.size h.capacity s.past (s.heads q) v (record w { left = left })
-  pub last : LastStands q h (stored_at st.place st.bytes s) (record w { left = left })
 
 harmless_before : (q : ℕ) (h : Header1) (s : Scene) (v : Driver) (w : Waiting) (batch : List ℕ) (phase : Phase) (st : Store) (all left : List Store) → IsSize h.size → IsWaiting q h.size h.capacity s.past (s.heads q) v (record w { left = all })
     → IsHarmless q w.head st → IsPlan q h.size v.avail_idx w.head left → QueueFacts q h s v batch phase → StoresBefore q h s v w batch phase st left
@@ -89,20 +83,6 @@ stores_before q h s v w batch phase st st' left size known waits x = elim waits.
         harmless_before q h s v w batch phase st (st ∷ st' ∷ left) (st' ∷ left) size waits mild (record { first = first; few = omega arith; harmless = harmless.1; whole = rest }) x
 
 -- ---- the last store, with its offer
-
-abbrev pub offered_by : Driver → Driver
-offered_by v = record v { avail_idx = (v.avail_idx + 1) % 65536; waiting = None }
-
--- the scene after the last store of a request and its offer
-abbrev pub offered_scene : ℕ → Header1 → Waiting → Store → Scene → Scene
-offered_scene q h w st s = after_item h (items.Made (entries.Offer q (request_of w.ask))) (stored_at st.place st.bytes s)
-
--- what the last store of a request leaves, with its offer
-pub record StoresLast (q : ℕ) (h : Header1) (s : Scene) (v : Driver) (w : Waiting) (batch : List ℕ) (phase : Phase) (st : Store) : Type 0 where
-  pub off : (k : ℕ) → OffBuffer q (s.heads q) k st.place st.bytes
-  pub room : length (s.heads q) < h.size + collected s.past q
-  pub heads : (offered_scene q h w st s).heads q ≡ s.heads q ++ w.head ∷ []
-  pub queue : QueueFacts q h (offered_scene q h w st s) (offered_by v) batch phase
 
 index_last : (q : ℕ) (h : Header1) (s : Scene) (v : Driver) (w : Waiting) (batch : List ℕ) (phase : Phase) (left : List Store) → IsSize h.size → Known q h.size h.capacity s.past (s.heads q) → ((k : ℕ) → is_among batch k ≡ true → k < accepted s.past q)
     → IsWaiting q h.size h.capacity s.past (s.heads q) v (record w { left = left }) → LastStands q h s (record w { left = left }) → length left ≡ 1 → QueueFacts q h s v batch phase → StoresLast q h s v w batch phase (index_store (the_ring q h.size) v.avail_idx)

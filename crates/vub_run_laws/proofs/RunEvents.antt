@@ -4,7 +4,7 @@ use Rattle.std.specs.Prelude.{Option, Some, None, is_some, ◌&&◌}
 use Rattle.std.specs.List.{AllByRecursion}
 use Rattle.std.proofs.lemmas.Bool.Decides.{nat_tests}
 use Rattle.std.proofs.lemmas.Bool.{cases_lt}
-use Rattle.std.proofs.lemmas.List.{length-append, drop_all}
+use Rattle.std.proofs.lemmas.List.{length-append, length-drop, drop_all}
 use Rattle.vub_run_laws.proofs.RunOwn.{at_own}
 use Rattle.vub_run_laws.proofs.RunQueues.{IsOn}
 use Rattle.vub_base.specs.declared.header.Header1.{Header1}
@@ -37,11 +37,11 @@ use Rattle.vub_device.specs.Requests.{request_of}
 use Rattle.vub_run.specs.Tracking.{Tracks, AfterEach}
 use Rattle.vub_report.specs.Histories.{entries_of}
 use Rattle.vub_run.specs.Turns.{turned}
-use Rattle.vub_run_laws.proofs.RunQueue.{queue_rests}
+use Rattle.vub_run_laws.proofs.RunQueue.{queue_rests, queue_left, queue_stands}
 use Rattle.vub_run_laws.proofs.RingGood.{the_ring, index_store, IsHarmless, IsLeft, IsWaiting, EntryWell, EntryStands}
 use Rattle.vub_run_laws.proofs.RunGood.{IsPending, PhaseIs, Worked}
 use Rattle.vub_run_laws.proofs.RunHolds.{Holds}
-use Rattle.vub_run_laws.proofs.RunGuests.{holds_track, offered, Offered, guest_holds, last_holds, Unoffered, part_holds, left_after, left_some, left_waits, rest_waits, waits_well}
+use Rattle.vub_run_laws.proofs.RunGuests.{holds_track, offered, Offered, guest_holds, Unoffered, part_holds, left_waits, rest_waits, waits_well}
 use Rattle.vub_run_laws.proofs.RunWork.{Fine}
 use Rattle.vub_run_laws.proofs.RunItems.{after-append, each-append, legal-append, past_after}
 use Rattle.vub_report.proofs.HistoryLemmas.{entries-append}
@@ -128,47 +128,34 @@ StoresRight q h m w count left = Leads q h m (comes_about h q (guest_items count
 nothing_left : (q : ℕ) (h : Header1) (m : Moment) (w : Waiting) (count : ℕ) (left : List Store) → length left ≤ count → Leads q h m (comes_about h q (guest_items count q w.ask left) (offered (m.lanes q)) m) → StoresRight q h m w count left
 nothing_left q h m w count left enough all = subst (λ (rest : List Store). Leads q h m (comes_about h q (guest_items count q w.ask left) (with_driver (with_left w rest (m.lanes q).driver) (m.lanes q)) m)) (sym (drop_all count left enough)) all
 
--- fewer stores of a plan than are left: nothing is offered
-guest_part : (q : ℕ) (h : Header1) (m : Moment) (w : Waiting) (count : ℕ) (first : List Store) → IsPlain h → Good q h m → (m.lanes q).driver.waiting ≡ Some w → AllByRecursion (IsHarmless q w.head) first → length first ≤ 14 → count < length first + 2
-    → StoresRight q h m w count (first ++ offer_stores (the_ring q h.size) (m.lanes q).driver.avail_idx w.head)
-guest_part q h m w count first plain good waiting harmless few less =
+-- fewer stores than are left: nothing is offered
+guest_part : (q : ℕ) (h : Header1) (m : Moment) (w : Waiting) (count : ℕ) → IsPlain h → Good q h m → (m.lanes q).driver.waiting ≡ Some w → count < length w.left → StoresRight q h m w count w.left
+guest_part q h m w count plain good waiting less =
     let l : Lane = m.lanes q in
-    let stores : List Store = first ++ offer_stores (the_ring q h.size) l.driver.avail_idx w.head in
-    let is : List Item = guest_items count q w.ask stores in
-    let part : Unoffered q h m.scene l is = part_holds q h m.scene l w count first plain.good (waits_well q h m.scene l w waiting good.holds) harmless less good.holds in
+    let is : List Item = guest_items count q w.ask w.left in
+    let part : Unoffered q h m.scene l w is (drop count w.left) = part_holds q h m.scene l w count w.left plain.good (waits_well q h m.scene l w waiting good.holds) less good.holds in
     let s' : Scene = after_items h is m.scene in
-    let rest : IsLeft q h.size l.driver.avail_idx w.head (drop count stores) = left_after q h.size l.driver.avail_idx w.head count first harmless few less in
-    let v' : Driver = record (l.driver) { waiting = Some (record w { left = drop count stores }) } in
+    let v' : Driver = record (l.driver) { waiting = Some (record w { left = drop count w.left }) } in
     let next : Leads q h m (comes_about h q is (with_driver v' l) m) = record {
-      good = lane_good q h (record m { scene = s' }) (with_driver v' l) (rest_waits q h s' l w (drop count stores) (waits_well q h s' l w waiting part.holds) rest part.holds)
+      good = lane_good q h (record m { scene = s' }) (with_driver v' l) (rest_waits q h s' l w (drop count w.left) part.waits part.holds)
           (λ dead. ((good.asleep dead).0, ap (λ (p : List Entry). started p q) part.past ∙ (good.asleep dead).1))
           (λ stopped. ap (λ (p : List Entry). accepted p q) part.past ∙ good.idle (sym (ap (λ (p : List Entry). started p q) part.past) ∙ stopped));
       each = part.each;
       scene = refl;
       legal = subst (λ (es : List Entry). LegalFrom h.capacity h.mode m.scene.past es) (sym part.none) tt;
     } in
-    subst (λ (v : Driver). Leads q h m (comes_about h q is (with_driver v l) m)) (sym (left_waits w (drop count stores) l.driver (left_some q h.size l.driver.avail_idx w.head (drop count stores) rest))) next
+    subst (λ (v : Driver). Leads q h m (comes_about h q is (with_driver v l) m)) (sym (left_waits w (drop count w.left) l.driver (omega (arith, length-drop count w.left)))) next
 
 -- the next stores of the request that waits
 guest_some : (q : ℕ) (h : Header1) (m : Moment) (w : Waiting) (count : ℕ) → IsPlain h → Good q h m → EntryStands q h m → 1 ≤ count → (m.lanes q).driver.waiting ≡ Some w → StoresRight q h m w count w.left
 guest_some q h m w count plain good entry some waiting =
     let l : Lane = m.lanes q in
-    let waits : IsWaiting q h.size h.capacity m.scene.past (m.scene.heads q) l.driver w = waits_well q h m.scene l w waiting good.holds in
-    elim waits.plan [
-      | inl plan ↦
-          let stores : List Store = plan.first ++ offer_stores (the_ring q h.size) l.driver.avail_idx w.head in
-          let long : length stores ≡ length plan.first + 2 = length-append plan.first (offer_stores (the_ring q h.size) l.driver.avail_idx w.head) in
-          let here : StoresRight q h m w count stores = elim (cases_lt count (length plan.first + 2)) [
-            | inl less ↦ guest_part q h m w count plan.first plain good waiting plan.harmless plan.few less
-            | inr enough ↦
-                nothing_left q h m w count stores (omega (arith, long)) (offers_right q h m (request_of w.ask) (guest_items count q w.ask stores) good (guest_holds q h h.mode m.scene l w count plan.first plain.good waits plan.harmless enough good.holds))
-          ] in
-          subst (λ (left : List Store). StoresRight q h m w count left) (sym plan.whole) here
-      | inr last ↦
-          let stores : List Store = index_store (the_ring q h.size) l.driver.avail_idx ∷ [] in
-          let well : EntryWell q h.size (h.base + length (m.scene.heads q)) m.scene.memory (Some w) = subst (λ (o : Option Waiting). EntryWell q h.size (h.base + length (m.scene.heads q)) m.scene.memory o) waiting entry in
-          let here : StoresRight q h m w count stores = nothing_left q h m w count stores (omega (arith, some)) (offers_right q h m (request_of w.ask) (guest_items count q w.ask stores) good (last_holds q h h.mode m.scene l w count plain.good waits (omega (arith, some)) good.holds (well (ap length last)))) in
-          subst (λ (left : List Store). StoresRight q h m w count left) (sym last) here
+    let waits = waits_well q h m.scene l w waiting good.holds in
+    elim (cases_lt count (length w.left)) [
+      | inl less ↦ guest_part q h m w count plain good waiting less
+      | inr enough ↦
+          let left : 0 < length w.left = queue_left q h.size h.capacity m.scene.past (m.scene.heads q) l.driver (record w { left = w.left }) waits in
+          nothing_left q h m w count w.left enough (offers_right q h m (request_of w.ask) (guest_items count q w.ask w.left) good (guest_holds q h h.mode m.scene l w count w.left plain.good waits (queue_stands q h m w waiting entry) left enough good.holds))
     ]
 
 guest_right : (q : ℕ) (h : Header1) (m : Moment) (count : ℕ) → IsPlain h → Good q h m → EntryStands q h m → 1 ≤ count → Leads q h m (guest h q count m)

@@ -1,18 +1,24 @@
 -- What is known of a queue, and what each step of the driver and of the device leaves of it.
-use Rattle.std.proofs.Common.{◌≡◌, ◌<◌, ℕ, ◌+◌, List, [], length, take, ap, sym, ◌∙◌, arith, ◌%◌}
-use Rattle.std.specs.Prelude.{slice_index}
+use Rattle.std.proofs.Common.{◌≡◌, ◌<◌, ℕ, ◌+◌, true, List, [], ◌∷◌, length, take, ap, sym, ◌∙◌, subst, arith, ◌%◌}
+use Rattle.std.specs.Prelude.{Option, Some, slice_index}
 use Rattle.vub_base.specs.declared.header.Header1.{Header1}
 use Rattle.vub_shared.specs.Bytes.{put}
+use Rattle.vub_shared.specs.Stores.{Store}
 use Rattle.vub_steps.specs.declared.steps.Phase.{Phase}
 use Rattle.vub_steps.specs.declared.steps.Phase.TheVariants as phases
 use Rattle.vub_ring.specs.Ring.{used_idx}
-use Rattle.vub_driver.specs.Drivers.{Driver}
+use Rattle.vub_driver.specs.Drivers.{Driver, Waiting}
 use Rattle.vub_device.specs.declared.entry.Entry.{Entry}
 use Rattle.vub_device.specs.Past.{accepted, asked, published, collected, is_among}
 use Rattle.vub_run.specs.Memory.{Scene}
-use Rattle.vub_run_laws.proofs.RingGood.{the_ring, Driven, QueueFacts}
-use Rattle.vub_run_laws.proofs.RunGood.{IsSize, IsOut, LeavesQueue}
-use Rattle.vub_run_laws.proofs.RingFrames.{OffRings, ringed_elsewhere, built_elsewhere}
+use Rattle.vub_run.specs.Moments.{Moment}
+use Rattle.vub_run.specs.Tracking.{Tracks}
+use Rattle.vub_run_laws.proofs.RingGood.{the_ring, Driven, QueueFacts, IsWaiting, WaitsWell, EntryWell, EntryStands, LastStands}
+use Rattle.vub_run_laws.proofs.RunGood.{IsSize, Known, IsOut, LeavesQueue}
+use Rattle.vub_run_laws.proofs.RingFrames.{OffRings, facts_elsewhere}
+use Rattle.vub_run_laws.proofs.RunHolds.{StoresBefore, StoresLast}
+use Rattle.vub_run_laws.proofs.RingTracks.{tracks}
+use Rattle.vub_run_laws.proofs.RingStores.{stores_before, stores_last, some_left}
 use Rattle.vub_run_laws.proofs.RingEntries.{built_same, ringed_entries, driven_same}
 
 -- ---- an entry
@@ -64,17 +70,58 @@ queue_begins q h s v batch before phase x = record {
 pub queue_driver : (q : ℕ) (h : Header1) (s : Scene) (v v' : Driver) (batch : List ℕ) (phase : Phase) → Driven q h.size h.capacity h.base s.past (s.heads q) v' → QueueFacts q h s v batch phase → QueueFacts q h s v' batch phase
 queue_driver q h s v v' batch phase driven x = record { ringed = x.ringed; driven = driven; built = x.built }
 
+-- what is known of the request that waits
+pub queue_waiting : (q : ℕ) (h : Header1) (s : Scene) (v : Driver) (batch : List ℕ) (phase : Phase) (w : Waiting) → v.waiting ≡ Some w → QueueFacts q h s v batch phase → IsWaiting q h.size h.capacity s.past (s.heads q) v (record w { left = w.left })
+queue_waiting q h s v batch phase w waiting x =
+    let waits : IsWaiting q h.size h.capacity s.past (s.heads q) v w = subst (λ (o : Option Waiting). WaitsWell q h.size h.capacity s.past (s.heads q) v o) waiting x.driven.waits in
+    record { wide = waits.wide; below = waits.below; mine = waits.mine; apart = waits.apart; plan = waits.plan }
+
+-- something is left of it
+pub queue_left : (q n cap : ℕ) (past : List Entry) (heads : List ℕ) (v : Driver) (w : Waiting) → IsWaiting q n cap past heads v w → 0 < length w.left
+queue_left q n cap past heads v w waits = some_left q n cap past heads v w waits
+
+-- where the last store alone is left, those before it stand
+pub queue_stands : (q : ℕ) (h : Header1) (m : Moment) (w : Waiting) → (m.lanes q).driver.waiting ≡ Some w → EntryStands q h m → LastStands q h m.scene (record w { left = w.left })
+queue_stands q h m w waiting entry one =
+    let well : EntryWell q h.size (h.base + length (m.scene.heads q)) m.scene.memory (Some w) = subst (λ (o : Option Waiting). EntryWell q h.size (h.base + length (m.scene.heads q)) m.scene.memory o) waiting entry in
+    well one
+
+-- the request waits on, with these stores left
+pub queue_waits : (q : ℕ) (h : Header1) (s : Scene) (v : Driver) (batch : List ℕ) (phase : Phase) (w : Waiting) (left : List Store) → IsWaiting q h.size h.capacity s.past (s.heads q) v (record w { left = left }) → QueueFacts q h s v batch phase
+    → QueueFacts q h s (record v { waiting = Some (record w { left = left }) }) batch phase
+queue_waits q h s v batch phase w left waits x = record {
+  ringed = x.ringed;
+  driven = record {
+    index = x.driven.index;
+    below = x.driven.below;
+    owned = x.driven.owned;
+    apart = x.driven.apart;
+    waits = record { wide = waits.wide; below = waits.below; mine = waits.mine; apart = waits.apart; plan = waits.plan };
+  };
+  built = x.built;
+}
+
+-- a store of a request before its last one
+pub queue_before : (q : ℕ) (h : Header1) (s : Scene) (v : Driver) (w : Waiting) (batch : List ℕ) (phase : Phase) (st st' : Store) (left : List Store) → IsSize h.size → Known q h.size h.capacity s.past (s.heads q)
+    → IsWaiting q h.size h.capacity s.past (s.heads q) v (record w { left = st ∷ st' ∷ left }) → QueueFacts q h s v batch phase → StoresBefore q h s v w batch phase st (st' ∷ left)
+queue_before q h s v w batch phase st st' left size known waits x = stores_before q h s v w batch phase st st' left size known waits x
+
+-- the last one, with its offer
+pub queue_last : (q : ℕ) (h : Header1) (s : Scene) (v : Driver) (w : Waiting) (batch : List ℕ) (phase : Phase) (st : Store) → IsSize h.size → Known q h.size h.capacity s.past (s.heads q) → ((k : ℕ) → is_among batch k ≡ true → k < accepted s.past q)
+    → IsWaiting q h.size h.capacity s.past (s.heads q) v (record w { left = st ∷ [] }) → LastStands q h s (record w { left = st ∷ [] }) → QueueFacts q h s v batch phase → StoresLast q h s v w batch phase st
+queue_last q h s v w batch phase st size known taken waits stands x = stores_last q h s v w batch phase st size known taken waits stands x
+
 -- ---- a store
 
 -- off the words of the ring
 pub queue_elsewhere : (q : ℕ) (h : Header1) (s : Scene) (p : ℕ) (bs : List ℕ) (v : Driver) (batch : List ℕ) (phase : Phase) → IsSize h.size → OffRings q p bs → QueueFacts q h s v batch phase → QueueFacts q h (record s { memory = put s.memory 0 p bs }) v batch phase
-queue_elsewhere q h s p bs v batch phase size off x = record {
-  ringed = ringed_elsewhere q h.size h.base s.past (s.heads q) s.memory p bs size off x.ringed;
-  driven = x.driven;
-  built = built_elsewhere q h.size h.base s.past (s.heads q) s.memory p bs batch phase size off x.built;
-}
+queue_elsewhere q h s p bs v batch phase size off x = facts_elsewhere q h s p bs v batch phase size off x
 
 -- ---- what it tells
+
+-- memory and history agree
+pub queue_tracks : (q : ℕ) (h : Header1) (s : Scene) (v : Driver) (batch : List ℕ) (phase : Phase) → IsSize h.size → Known q h.size h.capacity s.past (s.heads q) → QueueFacts q h s v batch phase → Tracks h q s
+queue_tracks q h s v batch phase size known x = tracks q h s size known x.ringed
 
 -- the heads of outstanding offers are places of the queue, and no two are the same
 pub head_below : (q : ℕ) (h : Header1) (s : Scene) (v : Driver) (batch : List ℕ) (phase : Phase) (k : ℕ) → QueueFacts q h s v batch phase → IsOut q s.past (s.heads q) k → slice_index (s.heads q) k < h.size
