@@ -1,6 +1,5 @@
 -- The driver's stores of a request, each one, on a split ring.
 use Rattle.std.proofs.Common.{◌≡◌, ◌≤◌, ◌<◌, ℕ, ◌+◌, ◌*◌, ◌%◌, true, List, [], ◌∷◌, ◌++◌, length, ap, sym, ◌∙◌, subst, inl, inr, arith}
-use Rattle.std.specs.Prelude.{Some, None}
 use Rattle.std.specs.List.{AllByRecursion}
 use Rattle.std.proofs.lemmas.List.{length-append}
 use Rattle.byteorder.specs.Endian.{little_bytes}
@@ -15,14 +14,13 @@ use Rattle.vub_driver.specs.Stores.{offer_stores}
 use Rattle.vub_driver.specs.TableChain.{chain_in}
 use Rattle.vub_device.specs.declared.entry.Entry.{Entry}
 use Rattle.vub_device.specs.declared.entry.Entry.TheVariants as entries
-use Rattle.vub_device.specs.Past.{accepted, collected, is_among}
+use Rattle.vub_device.specs.Past.{accepted, is_among}
 use Rattle.vub_device.specs.Requests.{request_of}
-use Rattle.vub_report.specs.declared.items.Item.TheVariants as items
-use Rattle.vub_run.specs.Memory.{Scene, with_at, with_last, after_item}
+use Rattle.vub_run.specs.Memory.{Scene, with_at, with_last}
 use Rattle.vub_run_laws.proofs.RunOwn.{at_own}
-use Rattle.vub_run_laws.proofs.RunGood.{IsSize, Known, IsOut, stored_at}
+use Rattle.vub_run_laws.proofs.RunGood.{IsSize, Known}
 use Rattle.vub_run_laws.proofs.RingGood.{the_ring, index_store, IsHarmless, IsPlan, IsWaiting, Ringed, Driven, Built, QueueFacts, LastStands}
-use Rattle.vub_run_laws.proofs.RunFrames.{OffBuffer, below_buffers, other_buffer, length_little}
+use Rattle.vub_run_laws.proofs.RunFrames.{below_buffers, other_buffer, length_little}
 use Rattle.vub_run_laws.proofs.RingFrames.{OffRings, entry_small, same_entry, ringed_entry, built_below, facts_elsewhere}
 use Rattle.vub_run_laws.proofs.RingOffers.{offer_room, offer_ringed, shown_head, offer_driven, offer_built}
 use Rattle.vub_run_laws.proofs.RunHolds.{StoresLast, StoresBefore, offered_by}

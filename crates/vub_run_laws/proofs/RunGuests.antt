@@ -1,10 +1,8 @@
 -- The driver's stores keep what holds, up to the offer.
-use Rattle.std.proofs.Common.{◌≡◌, ◌≤◌, ◌<◌, ℕ, zero, suc, ◌+◌, ◌*◌, ◌%◌, true, List, [], ◌∷◌, ◌++◌, length, drop, refl, ap, sym, ◌∙◌, subst, inl, inr, arith}
-use Rattle.std.specs.Prelude.{Option, Some, None}
+use Rattle.std.proofs.Common.{◌≡◌, ◌≤◌, ◌<◌, ℕ, zero, suc, List, [], ◌∷◌, length, drop, refl, sym, subst, inl, inr, arith}
+use Rattle.std.specs.Prelude.{Some}
 use Rattle.vub_base.specs.declared.header.CacheMode.{CacheMode}
 use Rattle.vub_base.specs.declared.header.Header1.{Header1}
-use Rattle.vub_base.specs.declared.store.Tag.TheVariants.{G}
-use Rattle.vub_base.specs.declared.store.Area.TheVariants.{M}
 use Rattle.vub_shared.specs.Bytes.{Bytes}
 use Rattle.vub_shared.specs.Stores.{Store}
 use Rattle.vub_driver.specs.Drivers.{Driver, Waiting, with_left}
@@ -12,10 +10,8 @@ use Rattle.vub_device.specs.declared.entry.Asked.{Asked}
 use Rattle.vub_device.specs.declared.entry.Entry.{Entry}
 use Rattle.vub_device.specs.declared.entry.Entry.TheVariants as entries
 use Rattle.vub_device.specs.Legal.{LegalFrom}
-use Rattle.vub_device.specs.Past.{IsOpen}
 use Rattle.vub_device.specs.Requests.{request_of}
 use Rattle.vub_report.specs.declared.items.Item.{Item}
-use Rattle.vub_report.specs.declared.items.Item.TheVariants as items
 use Rattle.vub_report.specs.Histories.{entries_of}
 use Rattle.vub_run.specs.Memory.{Scene, after_items}
 use Rattle.vub_run.specs.Moments.{Lane}
