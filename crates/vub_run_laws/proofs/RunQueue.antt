@@ -1,11 +1,12 @@
 -- What is known of a queue, and what each step of the driver and of the device leaves of it.
-use Rattle.std.proofs.Common.{◌≡◌, ◌<◌, ℕ, ◌+◌, true, List, [], ◌∷◌, length, take, ap, sym, ◌∙◌, subst, arith, ◌%◌}
-use Rattle.std.specs.Prelude.{Option, Some, slice_index}
+use Rattle.std.proofs.Common.{◌≡◌, ◌<◌, ℕ, ◌+◌, ◌*◌, true, List, [], ◌∷◌, length, take, ap, sym, ◌∙◌, subst, arith, ◌%◌}
+use Rattle.std.specs.Prelude.{Option, Some, slice_index, slice_get}
 use Rattle.vub_base.specs.declared.header.Header1.{Header1}
 use Rattle.vub_shared.specs.Bytes.{put}
 use Rattle.vub_shared.specs.Stores.{Store}
 use Rattle.vub_steps.specs.declared.steps.Phase.{Phase}
 use Rattle.vub_steps.specs.declared.steps.Phase.TheVariants as phases
+use Rattle.vub_steps.specs.Steps.{publish_steps}
 use Rattle.vub_ring.specs.Ring.{used_idx}
 use Rattle.vub_driver.specs.Drivers.{Driver, Waiting}
 use Rattle.vub_device.specs.declared.entry.Entry.{Entry}
@@ -16,7 +17,8 @@ use Rattle.vub_run.specs.Tracking.{Tracks}
 use Rattle.vub_run_laws.proofs.RingGood.{the_ring, Driven, QueueFacts, IsWaiting, WaitsWell, EntryWell, EntryStands, LastStands}
 use Rattle.vub_run_laws.proofs.RunGood.{IsSize, Known, IsOut, LeavesQueue}
 use Rattle.vub_run_laws.proofs.RingFrames.{OffRings, facts_elsewhere}
-use Rattle.vub_run_laws.proofs.RunHolds.{StoresBefore, StoresLast}
+use Rattle.vub_run_laws.proofs.RunHolds.{StoresBefore, StoresLast, IsPublishing, NextRow}
+use Rattle.vub_run_laws.proofs.RingRows.{next_row}
 use Rattle.vub_run_laws.proofs.RingTracks.{tracks}
 use Rattle.vub_run_laws.proofs.RingStores.{stores_before, stores_last, some_left}
 use Rattle.vub_run_laws.proofs.RingEntries.{built_same, ringed_entries, driven_same}
@@ -63,6 +65,10 @@ queue_begins q h s v batch before phase x = record {
   driven = x.driven;
   built = record { ids = λ e l d. absurd (omega arith); lens = λ e l d. absurd (omega arith) };
 }
+
+-- the next row of a publication: it leaves the elements hidden, or it shows them, with the publication
+pub queue_row : (q : ℕ) (h : Header1) (s : Scene) (v : Driver) (batch : List ℕ) (done : ℕ) → IsPublishing q h s v batch done → done < 2 * length batch + 1 → NextRow q h s v batch done (slice_get (publish_steps (length batch)) done)
+queue_row q h s v batch done x low = next_row q h s v batch done x low
 
 -- ---- the driver
 

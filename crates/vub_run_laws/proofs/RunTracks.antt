@@ -13,6 +13,7 @@ use Rattle.vub_device.specs.Past.{asked, published, numbers}
 use Rattle.vub_run.specs.Memory.{after_item, Scene}
 use Rattle.vub_run.specs.Tracking.{GoesWithNext, AfterEach, answers, answered_len, element, Tracks, EveryTracks}
 use Rattle.vub_run_laws.proofs.RunGood.{spot}
+use Rattle.vub_run.specs.Turns.{answer_at}
 
 numbers-append : (xs ys : List Answered) → numbers (xs ++ ys) ≡ numbers xs ++ numbers ys
 numbers-append [] ys = refl
@@ -92,3 +93,7 @@ each_every h s (i ∷ is) each = (
   ],
   each_every h (after_item h i s) is (λ q low. (each q low).1),
 )
+
+pub numbers_answers : (q : ℕ) (s : Scene) (xs : List ℕ) → numbers (map (answer_at q s) xs) ≡ xs
+numbers_answers q s [] = refl
+numbers_answers q s (x ∷ xs) = ap (λ ks. x ∷ ks) (numbers_answers q s xs)
