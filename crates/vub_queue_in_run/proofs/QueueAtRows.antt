@@ -39,8 +39,10 @@ use Rattle.vub_run_laws.proofs.RingGood.{the_ring}
 use Rattle.vub_run_laws.proofs.RunGood.{Worked}
 use Rattle.vub_run_laws.proofs.RunHolds.{Holds}
 use Rattle.vub_run_laws.proofs.RunPhases.{resting, rest_is, taking, taking_holds}
-use Rattle.vub_run_laws.proofs.RunElements.{StepAt, AtId, AtLen, AtIndex, step_at, get_map}
-use Rattle.vub_run_laws.proofs.RunPublications.{publishing, IsUnderWay, more_left, none_left, numbers_answers}
+use Rattle.vub_run_laws.proofs.RingRows.{StepAt, step_at, more_left, none_left}
+use Rattle.vub_run_laws.proofs.RunElements.{AtId, AtLen, AtIndex, get_map}
+use Rattle.vub_run_laws.proofs.RunPublications.{publishing, IsUnderWay}
+use Rattle.vub_run_laws.proofs.RunTracks.{numbers_answers}
 use Rattle.vub_run_laws.proofs.RunTurns.{IsPlain, Good, phase_cases}
 use Rattle.vub_queue_in_run.proofs.QueueAtMoves.{course_same, moved_is, at_begin, at_row, at_show}
 use Rattle.vub_queue_in_run.proofs.QueueAtTurns.{ready_same, does_of, StandsAfter, stands_after}

@@ -36,9 +36,10 @@ use Rattle.vub_run_laws.proofs.RingGood.{the_ring}
 use Rattle.vub_run_laws.proofs.RunGood.{IsOut, PhaseIs}
 use Rattle.vub_run_laws.proofs.RunHolds.{Holds}
 use Rattle.vub_run_laws.proofs.RunFrames.{open_out}
-use Rattle.vub_run_laws.proofs.RunPhases.{resting, rest_is, some_waits}
+use Rattle.vub_run_laws.proofs.RunPhases.{resting, rest_is}
 use Rattle.vub_run_laws.proofs.RunTurns.{IsPlain, Good, phase_cases}
 use Rattle.vub_queue_in_run.proofs.QueueAtMoves.{new_unpublished, at_start, at_fetch}
+use Rattle.vub_run_laws.proofs.RunQueue.{queue_ahead}
 
 -- ---- how many wait
 
@@ -164,7 +165,7 @@ keeps_rules q h r m state fault plain good main z breaks = go fault breaks.1
     holds = good.holds
 
     far : states.waiting state m.scene.memory + a ≡ length heads
-    far = omega (arith, waiting_is q h r m state main z, some_waits q h m.scene (m.lanes q) plain.good holds)
+    far = omega (arith, waiting_is q h r m state main z, queue_ahead q h m.scene (m.lanes q) plain.good holds)
 
     more : a < length heads
     more = omega (arith, far, breaks.0)
@@ -209,7 +210,7 @@ fetch_accepts q h r m x state u plain good main z ready fine fetches = go x fine
         cc)
     go (says.Accepted head) f does =
         let finds = does.2 m.scene.memory refl in
-        let more : a < length (m.scene.heads q) = omega (arith, finds.0.some, waiting_is q h r m state main z, some_waits q h m.scene (m.lanes q) plain.good good.holds) in
+        let more : a < length (m.scene.heads q) = omega (arith, finds.0.some, waiting_is q h r m state main z, queue_ahead q h m.scene (m.lanes q) plain.good good.holds) in
         let is : head ≡ slice_index (m.scene.heads q) a = finds.1 ∙ head_is q h r m state main z good.holds more in
         (ap says.Accepted is, does.0 ∙ ap (λ (d : ℕ). states.accepted d state) is)
     go (says.Broken fault) f does = absurd (keeps_rules q h r m state fault plain good main z (does.2 m.scene.memory refl))

@@ -4,21 +4,25 @@ use Rattle.std.specs.Prelude.{Option, Some, None, slice_index, is_none}
 use Rattle.std.specs.List.{AllByRecursion}
 use Rattle.std.proofs.lemmas.Bool.{cases_eq}
 use Rattle.std.proofs.lemmas.Bool.Decides.{nat_tests}
-use Rattle.std.proofs.lemmas.List.{length-append, append_assoc}
+use Rattle.std.proofs.lemmas.List.{length-append, append_assoc, length-take-le}
 use Rattle.byteorder.specs.Endian.{little_bytes}
 use Rattle.vub_base.specs.declared.request.Ask.{Ask}
 use Rattle.vub_base.specs.declared.request.Ask.TheVariants as asks
 use Rattle.vub_shared.specs.Stores.{Store, one_store}
-use Rattle.vub_driver.specs.Drivers.{Driver, free_from, first_or_zero, owned_by, waits_on}
+use Rattle.vub_driver.specs.Drivers.{Driver, free_from, first_or_zero, owned_by, waits_on, free_descriptors, can_take, chosen, after_ask}
 use Rattle.vub_driver.specs.Layout.{area_place, status_place, buffer_place}
 use Rattle.vub_driver.specs.Requests.{Piece, pieces, descriptors_needed, header_bytes, written_bytes, data_place, request_type, first_sector}
 use Rattle.vub_driver.specs.Stores.{store_of_some, buffer_stores, offer_stores, chain_stores, request_stores}
 use Rattle.vub_device.specs.Requests.{request_of}
 use Rattle.vub_device.specs.declared.entry.Entry.{Entry}
-use Rattle.vub_run_laws.proofs.RingGood.{Driven, IsHarmless, IsPlan, the_ring}
+use Rattle.vub_run_laws.proofs.RingGood.{Driven, IsHarmless, IsPlan, the_ring, QueueFacts}
 use Rattle.vub_run_laws.proofs.RunChains.{desc_long}
 use Rattle.vub_run_laws.proofs.RunFrames.{length_little}
-use Rattle.vub_run_laws.proofs.RunGood.{IsWide}
+use Rattle.vub_run_laws.proofs.RunGood.{IsWide, IsPlainAsk, IsSize}
+use Rattle.vub_base.specs.declared.header.Header1.{Header1}
+use Rattle.vub_base.specs.declared.request.Shape.TheVariants.{Direct}
+use Rattle.vub_steps.specs.declared.steps.Phase.{Phase}
+use Rattle.vub_run.specs.Memory.{Scene}
 
 -- below n, and nobody's
 abbrev pub IsFree : ℕ → (ℕ → Option ℕ) → ℕ → Type 0
@@ -51,10 +55,6 @@ owned_other n head (x ∷ xs) owner d e all is = elim (cases_eq x d) [
 
 pub owned_first : (head : ℕ) (ds : List ℕ) (owner : ℕ → Option ℕ) → owned_by head (head ∷ ds) owner head ≡ Some head
 owned_first head ds owner = grind (arith, nat_tests)
-
--- a request of the grammar
-abbrev pub IsPlainAsk : ℕ → Ask → Type 0
-IsPlainAsk cap a = IsWide cap (Some (request_of a))
 
 pub header_long : (a : Ask) → length (header_bytes a) ≡ 16
 header_long a =
@@ -144,3 +144,15 @@ ask_driven q n cap base past heads a v (head ∷ ds) small plain some few all d 
     plan = inl (plan_of q n cap v.avail_idx head v.owner a ds small plain (omega arith) all);
   };
 }
+
+pub ask_facts : (q : ℕ) (h : Header1) (s : Scene) (v : Driver) (batch : List ℕ) (phase : Phase) (a : Ask) → IsSize h.size → IsPlainAsk h.capacity a → can_take h.size Direct a v ≡ true → QueueFacts q h s v batch phase → QueueFacts q h s (after_ask (the_ring q h.size) a v) batch phase
+ask_facts q h s v batch phase a size plain ready x =
+    let free : List ℕ = free_descriptors h.size v in
+    let enough : descriptors_needed a ≤ length free = grind (arith, nat_tests) in
+    let many : length (chosen h.size a v) ≡ descriptors_needed a = length-take-le (descriptors_needed a) free enough in
+    let needed = few_needed a in
+    let all : AllByRecursion (IsFree h.size v.owner) (chosen h.size a v) = free_taken h.size v.owner (descriptors_needed a) free (free_are v.owner h.size 0 h.size (omega arith)) in record {
+      ringed = x.ringed;
+      driven = ask_driven q h.size h.capacity h.base s.past (s.heads q) a v (chosen h.size a v) size.small plain (omega (arith, many, needed.0)) (omega (arith, many, needed.1)) all x.driven;
+      built = x.built;
+    }

@@ -10,11 +10,14 @@ use Rattle.vub_device.specs.Past.{published, collected}
 use Rattle.vub_device.specs.declared.entry.Entry.TheVariants as entries
 use Rattle.vub_run.specs.Memory.{Scene}
 use Rattle.vub_run.specs.Moments.{Lane}
-use Rattle.vub_run_laws.proofs.RingGood.{Driven, WaitsWell, the_ring}
+use Rattle.vub_run_laws.proofs.RingGood.{Driven, WaitsWell, the_ring, QueueFacts}
 use Rattle.vub_run_laws.proofs.RingTracks.{ahead_by}
-use Rattle.vub_run_laws.proofs.RunGood.{Known, spot, IsGood}
+use Rattle.vub_run_laws.proofs.RunGood.{Known, spot, IsGood, LeavesQueue}
 use Rattle.vub_run_laws.proofs.RunHolds.{Holds}
 use Rattle.vub_run_laws.proofs.RunTaken.{IsTaken, later_out, next_number, next_out}
+use Rattle.vub_device.specs.declared.entry.Entry.{Entry}
+use Rattle.vub_run_laws.proofs.RunOwn.{collected_own}
+use Rattle.vub_run_laws.proofs.RingEntries.{built_same, ringed_entries}
 
 -- where something is seen, the first element stands at the position
 pub first_element : (r : Ring) (m : Bytes) (k d : ℕ) (x : ℕ × ℕ) (xs : List (ℕ × ℕ)) → elements_from r m k d ≡ x ∷ xs → (0 < k) × (element_at r m d ≡ x)
@@ -82,3 +85,12 @@ first_seen q h s l x xs good holds e =
     let more : c < length (published s.past q) = omega arith in
     let is : x ≡ spot q (s.heads q) s.past (slice_index (published s.past q) c) = sym first.1 ∙ holds.queue.ringed.used_at c (omega arith) more in
     record { good = good; holds = holds; more = more; head = ap (λ (p : ℕ × ℕ). p.0) is }
+
+pub taken_facts : (q : ℕ) (h : Header1) (s : Scene) (l : Lane) (x k : ℕ) → IsTaken q h s l x → QueueFacts q h (record s { past = entries.Collect q k ∷ s.past }) (record l.driver { owner = without_owner x l.driver.owner }) l.batch l.phase
+taken_facts q h s l x k t =
+    let past' : List Entry = entries.Collect q k ∷ s.past in
+    let leaves : LeavesQueue q s.past past' = record { accepts = omega arith; shows = refl; collects = omega (arith, collected_own s.past q k); asks = λ j. refl } in record {
+      ringed = ringed_entries q h.size h.base s.past past' (s.heads q) s.memory leaves t.holds.queue.ringed;
+      driven = taken_driven q h s l x k t;
+      built = built_same q h.size h.base s.past past' (s.heads q) s.memory l.batch l.phase leaves.shows leaves.asks t.holds.queue.built;
+    }

@@ -6,9 +6,11 @@ use Rattle.vub_base.specs.declared.header.Header1.{Header1}
 use Rattle.vub_shared.specs.Bytes.{Bytes, put}
 use Rattle.vub_shared.proofs.BytesLemmas.{word-put_same}
 use Rattle.vub_ring.specs.Ring.{avail_idx, avail_idx_place, used_idx_place, used_idx}
-use Rattle.vub_run.specs.Memory.{opening_memory, opened}
-use Rattle.vub_run_laws.proofs.RingGood.{Ringed, the_ring}
-use Rattle.vub_run_laws.proofs.RunFrames.{keeps, length_little}
+use Rattle.vub_run.specs.Memory.{opening_memory, opened, opening_scene}
+use Rattle.vub_run_laws.proofs.RingGood.{Ringed, the_ring, QueueFacts}
+use Rattle.vub_run_laws.proofs.RunFrames.{keeps, length_little, none_out}
+use Rattle.vub_run.specs.Moments.{opening_lane}
+use Rattle.vub_steps.specs.declared.steps.Phase.TheVariants as phases
 
 -- both indexes of each of so many queues stand at the base
 pub open_words : (h : Header1) (q count : ℕ) → h.base < 65536 → q < count → (avail_idx (the_ring q h.size) (opened h count) ≡ h.base) × (used_idx (the_ring q h.size) (opened h count) ≡ h.base)
@@ -43,3 +45,16 @@ open_ringed q h fits low =
       avail_at = λ i from upto. absurd (omega arith);
       used_at = λ i from upto. absurd (omega arith);
     }
+
+pub open_facts : (q : ℕ) (h : Header1) → h.base < 65536 → q < h.queues → QueueFacts q h (opening_scene h) (opening_lane h).driver [] phases.Rest
+open_facts q h fits low = record {
+  ringed = open_ringed q h fits low;
+  driven = record {
+    index = omega (arith, fits);
+    below = λ k out. absurd (none_out q k out);
+    owned = λ k out. absurd (none_out q k out);
+    apart = λ j k out_j out_k same. absurd (none_out q j out_j);
+    waits = tt;
+  };
+  built = tt;
+}

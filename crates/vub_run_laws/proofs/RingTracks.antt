@@ -9,8 +9,10 @@ use Rattle.vub_split.proofs.Rings.{heads_are, elements_are}
 use Rattle.vub_run.specs.Memory.{Scene}
 use Rattle.vub_run.specs.Tracking.{answers, Tracks, element}
 use Rattle.vub_run_laws.proofs.RingGood.{Ringed, the_ring}
-use Rattle.vub_run_laws.proofs.RunGood.{IsSize, Known, spot}
+use Rattle.vub_run_laws.proofs.RunGood.{IsSize, Known, spot, IsGood}
 use Rattle.vub_run_laws.proofs.RunTracks.{elements_of_good, good-drop, numbers-drop, numbers_published}
+use Rattle.vub_run.specs.Moments.{Lane}
+use Rattle.vub_run_laws.proofs.RunHolds.{Holds}
 
 pub get_map : (f : ℕ → ℕ × ℕ) (xs : List ℕ) (i : ℕ) (d : ℕ × ℕ) → i < length xs → get_or (map f xs) i d ≡ f (slice_index xs i)
 get_map f [] i d l = absurd (omega arith)
@@ -51,3 +53,12 @@ tracks q h s size known ringed =
           let within : a + i < length (s.heads q) = omega arith in
           ap (head_at (the_ring q h.size) s.memory) place ∙ ringed.avail_at (a + i) (omega arith) within ∙ sym (get_or-drop a (s.heads q) i 0));
     }
+
+-- where something waits, an offer isn't accepted
+pub some_waits : (q : ℕ) (h : Header1) (s : Scene) (l : Lane) → IsGood h → Holds q h s l → ahead (avail_idx (the_ring q h.size) s.memory) (h.base + accepted s.past q) + accepted s.past q ≡ length (s.heads q)
+some_waits q h s l good x =
+    let small : h.size ≤ 64 = good.size.small in
+    let room = x.known.room in
+    let shown = x.known.shown in
+    let fewer = x.known.fewer in
+    ap (λ (u : ℕ). ahead u (h.base + accepted s.past q) + accepted s.past q) x.queue.ringed.avail_idx_is ∙ ahead_by h.base (length (s.heads q)) (accepted s.past q) x.known.offered (omega arith)

@@ -13,12 +13,12 @@ use Rattle.vub_schedule.specs.Spelling.{IsAsk}
 use Rattle.vub_run.specs.Memory.{Scene}
 use Rattle.vub_run.specs.Moments.{Lane}
 use Rattle.vub_run.specs.Run.{with_driver}
-use Rattle.vub_run_laws.proofs.RunQueue.{queue_driver}
+use Rattle.vub_run_laws.proofs.RunQueue.{queue_ask}
 use Rattle.vub_run_laws.proofs.RingGood.{the_ring}
-use Rattle.vub_run_laws.proofs.RunGood.{IsGood}
+use Rattle.vub_run_laws.proofs.RunGood.{IsGood, IsPlainAsk}
 use Rattle.vub_run_laws.proofs.RunHolds.{Holds}
 use Rattle.vub_driver.proofs.FillLemmas.{length-fills}
-use Rattle.vub_run_laws.proofs.RingAsks.{ask_driven, free_taken, few_needed, free_are, IsFree, IsPlainAsk}
+use Rattle.vub_run_laws.proofs.RingAsks.{ask_driven, free_taken, few_needed, free_are, IsFree}
 
 -- ---- the stores
 
@@ -35,15 +35,9 @@ plain_ask h (asks.Zero parts) is = absurd is
 -- ---- the driver
 
 pub ask_holds : (q : ℕ) (h : Header1) (s : Scene) (l : Lane) (a : Ask) → IsGood h → IsPlainAsk h.capacity a → can_take h.size Direct a l.driver ≡ true → Holds q h s l → Holds q h s (with_driver (after_ask (the_ring q h.size) a l.driver) l)
-ask_holds q h s l a good plain ready x =
-    let v : Driver = l.driver in
-    let free : List ℕ = free_descriptors h.size v in
-    let enough : descriptors_needed a ≤ length free = grind (arith, nat_tests) in
-    let many : length (chosen h.size a v) ≡ descriptors_needed a = length-take-le (descriptors_needed a) free enough in
-    let needed = few_needed a in
-    let all : AllByRecursion (IsFree h.size v.owner) (chosen h.size a v) = free_taken h.size v.owner (descriptors_needed a) free (free_are v.owner h.size 0 h.size (omega arith)) in record {
-      known = x.known;
-      worked = x.worked;
-      stored = x.stored;
-      queue = queue_driver q h s v (after_ask (the_ring q h.size) a v) l.batch l.phase (ask_driven q h.size h.capacity h.base s.past (s.heads q) a v (chosen h.size a v) good.size.small plain (omega (arith, many, needed.0)) (omega (arith, many, needed.1)) all x.queue.driven) x.queue;
-    }
+ask_holds q h s l a good plain ready x = record {
+  known = x.known;
+  worked = x.worked;
+  stored = x.stored;
+  queue = queue_ask q h s l.driver l.batch l.phase a good.size plain ready x.queue;
+}

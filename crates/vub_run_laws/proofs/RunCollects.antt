@@ -15,7 +15,6 @@ use Rattle.vub_run_laws.proofs.RunGood.{Known, Worked}
 use Rattle.vub_run_laws.proofs.RunHolds.{Holds}
 use Rattle.vub_run_laws.proofs.RunQueue.{queue_collect}
 use Rattle.vub_run_laws.proofs.RunTaken.{next_number, IsTaken}
-use Rattle.vub_run_laws.proofs.RingCollects.{taken_driven}
 
 taken_worked : (q : ℕ) (h : Header1) (s : Scene) (l : Lane) (k : ℕ) → Worked q s.past l.phase l.batch l.completed l.made → Worked q (entries.Collect q k ∷ s.past) l.phase l.batch l.completed l.made
 taken_worked q h s l k w = record {
@@ -31,8 +30,7 @@ taken_worked q h s l k w = record {
 
 pub taken_holds : (q : ℕ) (h : Header1) (s : Scene) (l : Lane) (x k : ℕ) → IsTaken q h s l x → Holds q h (record s { past = entries.Collect q k ∷ s.past }) (with_driver (record l.driver { owner = without_owner x l.driver.owner }) l)
 taken_holds q h s l x k t =
-    let a : Known q h.size h.capacity s.past (s.heads q) = t.holds.known in
-    let r : Ringed q h.size h.base s.past (s.heads q) s.memory = t.holds.queue.ringed in record {
+    let a : Known q h.size h.capacity s.past (s.heads q) = t.holds.known in record {
       known = record {
         offers_are = a.offers_are;
         offered = a.offered;
@@ -48,8 +46,7 @@ taken_holds q h s l x k t =
       };
       worked = taken_worked q h s l k t.holds.worked;
       stored = record { sectors = λ j i is_open kept read. t.holds.stored.sectors j i (record { taken = is_open.taken; unpublished = is_open.unpublished }) kept read; status = t.holds.stored.status };
-      queue = queue_collect q h s (entries.Collect q k ∷ s.past) l.driver (record l.driver { owner = without_owner x l.driver.owner }) l.batch l.phase
-          (record { accepts = omega arith; shows = refl; collects = omega (arith, collected_own s.past q k); asks = λ j. refl }) (taken_driven q h s l x k t) t.holds.queue;
+      queue = queue_collect q h s l x k t;
     }
 
 pub taken_legal : (q : ℕ) (h : Header1) (s : Scene) (l : Lane) (x : ℕ) → IsTaken q h s l x → MayCollect s.past q (next_number q s)

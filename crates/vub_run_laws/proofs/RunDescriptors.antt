@@ -36,7 +36,6 @@ use Rattle.vub_run_laws.proofs.RingGood.{the_ring, Driven}
 use Rattle.vub_run_laws.proofs.RunGood.{IsOut}
 use Rattle.vub_run_laws.proofs.RunOffers.{same_head, new_head}
 use Rattle.vub_run_laws.proofs.RunTaken.{IsTaken, next_number, next_out, later_out}
-use Rattle.vub_run_laws.proofs.RingCollects.{after_taken, first_seen}
 use Rattle.vub_run_laws.proofs.RunTurns.{IsPlain, Good}
 use Rattle.vub_run_laws.proofs.RunEvents.{turn_right}
 use Rattle.vub_run_laws.proofs.RunFrames.{none_out}
@@ -52,6 +51,7 @@ use Rattle.vub_run_laws.proofs.RunsLegal.{HoldsOf}
 use Rattle.vub_run_laws.proofs.RunOwn.{at_own}
 use Rattle.vub_run_laws.proofs.RunQueues.{IsOn}
 use Rattle.vub_run_laws.proofs.RunQuiet.{turned_quiet, quiet_kept}
+use Rattle.vub_run_laws.proofs.RunQueue.{queue_first, queue_free, heads_apart}
 
 -- ---- what holds
 
@@ -209,7 +209,7 @@ collect_described q h s l x k t c = record {
   many = c.many;
   owned = λ j d out held.
       let was = later_out q h s l x j k t out in
-      let differs : slice_index (s.heads q) j ≢ x = λ same. was.1 (t.holds.queue.driven.apart j (next_number q s) was.0 (next_out q h s l x t) (same ∙ t.head)) in
+      let differs : slice_index (s.heads q) j ≢ x = λ same. was.1 (heads_apart q h s l.driver l.batch l.phase j (next_number q s) t.holds.queue was.0 (next_out q h s l x t) (same ∙ t.head)) in
       kept_owner l.driver.owner x (slice_index (s.heads q) j) d differs (c.owned j d was.0 held);
 }
 
@@ -274,10 +274,10 @@ collect_all q h m plain good c = go (seen (the_ring q h.size) m.scene.memory (h.
     go [] e = c
     go (x ∷ xs) e =
         let l : Lane = m.lanes q in
-        let t : IsTaken q h m.scene l x.0 = first_seen q h m.scene l x xs plain.good good.holds e in
+        let t : IsTaken q h m.scene l x.0 = queue_first q h m.scene l x xs plain.good good.holds e in
         let k : ℕ = next_number q m.scene in
         lane_described q (record m { scene = record m.scene { past = entries.Collect q k ∷ m.scene.past } }) (with_driver (after_collect x.0 l.driver) l)
-        (subst (λ (d : Driver). Described q (record m.scene { past = entries.Collect q k ∷ m.scene.past }) d) (sym (after_taken q h m.scene l x.0 t)) (collect_described q h m.scene l x.0 k t c))
+        (subst (λ (d : Driver). Described q (record m.scene { past = entries.Collect q k ∷ m.scene.past }) d) (sym (queue_free q h m.scene l x.0 t)) (collect_described q h m.scene l x.0 k t c))
 
 -- after an event of the queue, that leads from a moment where all holds to one where it does
 pub event_described : (q : ℕ) (h : Header1) (m : Moment) (e : Event) (is : List Item) (next : Moment) → IsPlain h → HoldsOf q h m → HoldsOf q h next → DescribedAt q m → IsOn q e → IsEvent h e → Plays h m e is next → DescribedAt q next

@@ -35,7 +35,7 @@ use Rattle.vub_device.specs.Requests.{request_of}
 use Rattle.vub_run.specs.Tracking.{Tracks, AfterEach}
 use Rattle.vub_report.specs.Histories.{entries_of}
 use Rattle.vub_run.specs.Turns.{turned}
-use Rattle.vub_run_laws.proofs.RunQueue.{queue_rests, queue_left, queue_stands}
+use Rattle.vub_run_laws.proofs.RunQueue.{queue_rests, queue_left, queue_stands, queue_first, queue_free}
 use Rattle.vub_run_laws.proofs.RingGood.{the_ring, EntryStands}
 use Rattle.vub_run_laws.proofs.RunGood.{IsPending, PhaseIs, Worked}
 use Rattle.vub_run_laws.proofs.RunHolds.{Holds}
@@ -46,7 +46,6 @@ use Rattle.vub_report.proofs.HistoryLemmas.{entries-append}
 use Rattle.vub_run_laws.proofs.RunTurns.{IsPlain, Good, turn_fine}
 use Rattle.vub_run_laws.proofs.RunAsks.{plain_ask, ask_holds}
 use Rattle.vub_run_laws.proofs.RunTaken.{IsTaken, next_number}
-use Rattle.vub_run_laws.proofs.RingCollects.{after_taken, first_seen}
 use Rattle.vub_run_laws.proofs.RunCollects.{taken_holds, taken_legal}
 
 -- items from one moment to another
@@ -170,7 +169,7 @@ collect_right q h m plain good = go (seen (the_ring q h.size) m.scene.memory (h.
     go [] e = idle_right q h m plain good
     go (x ∷ xs) e =
         let l : Lane = m.lanes q in
-        let t : IsTaken q h m.scene l x.0 = first_seen q h m.scene l x xs plain.good good.holds e in
+        let t : IsTaken q h m.scene l x.0 = queue_first q h m.scene l x xs plain.good good.holds e in
         let k : ℕ = next_number q m.scene in
         let v : Driver = record l.driver { owner = without_owner x.0 l.driver.owner } in
         let next = taken_holds q h m.scene l x.0 k t in
@@ -180,7 +179,7 @@ collect_right q h m plain good = go (seen (the_ring q h.size) m.scene.memory (h.
           scene = refl;
           legal = (taken_legal q h m.scene l x.0 t, tt);
         } in
-        subst (λ (d : Driver). Leads q h m (comes_about h q (items.Made (entries.Collect q k) ∷ []) (with_driver d l) m)) (sym (after_taken q h m.scene l x.0 t)) whole
+        subst (λ (d : Driver). Leads q h m (comes_about h q (items.Made (entries.Collect q k) ∷ []) (with_driver d l) m)) (sym (queue_free q h m.scene l x.0 t)) whole
 
 -- ---- lives
 

@@ -17,6 +17,8 @@ use Rattle.vub_device.specs.Past.{offers, asked, accepted, published, collected,
 use Rattle.vub_device.specs.Places.{are_distinct}
 use Rattle.vub_run.specs.Memory.{Scene}
 use Rattle.vub_run.specs.Tracking.{answers, answered_len}
+use Rattle.vub_base.specs.declared.request.Ask.{Ask}
+use Rattle.vub_device.specs.Requests.{request_of}
 
 -- a size of a ring
 pub record IsSize (n : ℕ) : Type 0 where
@@ -162,3 +164,7 @@ pub record IsGood (h : Header1) : Type 0 where
 -- the scene after a store into guest memory
 abbrev pub stored_at : ℕ → List ℕ → Scene → Scene
 stored_at p bs s = record s { memory = put s.memory 0 p bs }
+
+-- a request of the grammar
+abbrev pub IsPlainAsk : ℕ → Ask → Type 0
+IsPlainAsk cap a = IsWide cap (Some (request_of a))

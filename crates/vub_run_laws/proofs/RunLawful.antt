@@ -37,6 +37,7 @@ use Rattle.vub_run_laws.proofs.RunQueues.{IsOn, on_one}
 use Rattle.vub_run_laws.proofs.RunQuiet.{quiet_lawful, event_quiet}
 use Rattle.vub_run_laws.proofs.RunDescriptors.{DescribedAt, event_described, opening_described}
 use Rattle.vub_run_laws.proofs.RunParts.{IsPart, AreParts, left_parts}
+use Rattle.vub_run_laws.proofs.RunQueue.{kept_index, queue_room, offered_index}
 
 -- what the driver of a queue may store at a scene for the request of that head, whatever memory holds
 record MayStore (q : ℕ) (h : Header1) (s : Scene) (index head : ℕ) (owner : ℕ → Option ℕ) : Type 0 where
@@ -152,8 +153,8 @@ may_store q h m w plain good x waits =
     let v : Driver = (m.lanes q).driver in
     let out_of : (k : ℕ) → IsOutstanding q s k → IsOut q s.past (s.heads q) k = λ k out. record { below = omega (arith, out.offered, good.holds.known.offers_are); kept = out.kept } in record {
       size = plain.good.size;
-      index_is = good.holds.queue.driven.index ∙ ap (λ (c : ℕ). (h.base + c) % 65536) good.holds.known.offers_are;
-      room = let room = offer_room q h.size h.capacity h.base s.past (s.heads q) v w good.holds.known good.holds.queue.driven waits in omega (arith, room, good.holds.known.offers_are);
+      index_is = kept_index q h s v (m.lanes q).batch (m.lanes q).phase good.holds.queue ∙ ap (λ (c : ℕ). (h.base + c) % 65536) good.holds.known.offers_are;
+      room = let room = queue_room q h s v (m.lanes q).batch (m.lanes q).phase w good.holds.known waits good.holds.queue in omega (arith, room, good.holds.known.offers_are);
       low = waits.below;
       unused = λ k out. waits.apart k (out_of k out);
       unlinked = λ d mine k out. elim (cases_Bool (is_among (get_or (s.descriptors q) k []) d)) [
@@ -174,7 +175,7 @@ guest_lawful q h many m plain held x = go (m.lanes q).driver.waiting refl
         let waits : IsWaiting q h.size h.capacity m.scene.past (m.scene.heads q) v w = waits_well q h m.scene (m.lanes q) w e held.good.holds in
         let ready : IsPrepared q h.size m.scene.memory v w = subst (λ (o : Option Waiting). PreparedWell q h.size m.scene.memory v o) e held.chained.waits in
         left_lawful q h many m.scene v.avail_idx w.head v.owner w.ask many w.left (may_store q h m w plain held.good x waits) waits.plan
-        (left_parts q h.size h.capacity m.scene.past (m.scene.heads q) m.scene.memory v w waits ready) (held.good.holds.queue.ringed.avail_idx_is ∙ sym held.good.holds.queue.driven.index)
+        (left_parts q h.size h.capacity m.scene.past (m.scene.heads q) m.scene.memory v w waits ready) (offered_index q h m.scene v (m.lanes q).batch (m.lanes q).phase held.good.holds.queue)
 
 event_lawful : (q : ℕ) (h : Header1) (m : Moment) (e : Event) (is : List Item) (next : Moment) → IsPlain h → HoldsOf q h m → DescribedAt q m → IsOn q e → Plays h m e is next → BeforeEach h (IsLawfulItem h e) m.scene is
 event_lawful q h m (events.Guest p k) is next plain held x on plays =

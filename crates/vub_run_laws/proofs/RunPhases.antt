@@ -149,15 +149,6 @@ accept_holds q h s l k more x = record {
   queue = queue_entry q h s (entries.Accept q k ∷ s.past) l.driver l.batch l.phase (record { accepts = omega (arith, accepted_own s.past q k); shows = refl; collects = omega arith; asks = λ j. refl }) refl x.queue;
 }
 
--- where something waits, an offer isn't accepted
-pub some_waits : (q : ℕ) (h : Header1) (s : Scene) (l : Lane) → IsGood h → Holds q h s l → ahead (avail_idx (the_ring q h.size) s.memory) (h.base + accepted s.past q) + accepted s.past q ≡ length (s.heads q)
-some_waits q h s l good x =
-    let small : h.size ≤ 64 = good.size.small in
-    let room = x.known.room in
-    let shown = x.known.shown in
-    let fewer = x.known.fewer in
-    ap (λ (u : ℕ). ahead u (h.base + accepted s.past q) + accepted s.past q) x.queue.ringed.avail_idx_is ∙ ahead_by h.base (length (s.heads q)) (accepted s.past q) x.known.offered (omega arith)
-
 pub fetch_fine : (q : ℕ) (h : Header1) (s : Scene) (l : Lane) → IsGood h → started s.past q ≡ true → accepted s.past q < length (s.heads q) → Holds q h s (resting l) → Fine q h s (resting l) (phase_goes_on h q s (under_way turns.Fetch (resting l)))
 fetch_fine q h s l good run more x =
     let k : ℕ = accepted s.past q in

@@ -1,5 +1,5 @@
 -- What is known of a queue, and what each step of the driver and of the device leaves of it.
-use Rattle.std.proofs.Common.{◌≡◌, ◌<◌, ℕ, ◌+◌, ◌*◌, true, List, [], ◌∷◌, length, take, ap, sym, ◌∙◌, subst, arith, ◌%◌}
+use Rattle.std.proofs.Common.{◌≡◌, ◌<◌, ℕ, ◌+◌, ◌*◌, true, List, [], ◌∷◌, length, take, ap, sym, ◌∙◌, subst, arith, ◌%◌, ◌≤◌}
 use Rattle.std.specs.Prelude.{Option, Some, slice_index, slice_get}
 use Rattle.vub_base.specs.declared.header.Header1.{Header1}
 use Rattle.vub_shared.specs.Bytes.{put}
@@ -7,21 +7,34 @@ use Rattle.vub_shared.specs.Stores.{Store}
 use Rattle.vub_steps.specs.declared.steps.Phase.{Phase}
 use Rattle.vub_steps.specs.declared.steps.Phase.TheVariants as phases
 use Rattle.vub_steps.specs.Steps.{publish_steps}
-use Rattle.vub_ring.specs.Ring.{used_idx}
-use Rattle.vub_driver.specs.Drivers.{Driver, Waiting}
+use Rattle.vub_ring.specs.Ring.{used_idx, ahead, avail_idx, head_at, seen}
+use Rattle.vub_driver.specs.Drivers.{Driver, Waiting, without_owner, after_collect, can_take, after_ask}
 use Rattle.vub_device.specs.declared.entry.Entry.{Entry}
 use Rattle.vub_device.specs.Past.{accepted, asked, published, collected, is_among}
-use Rattle.vub_run.specs.Memory.{Scene}
-use Rattle.vub_run.specs.Moments.{Moment}
+use Rattle.vub_run.specs.Memory.{Scene, opening_scene}
+use Rattle.vub_run.specs.Moments.{Moment, Lane, opening_lane}
 use Rattle.vub_run.specs.Tracking.{Tracks}
 use Rattle.vub_run_laws.proofs.RingGood.{the_ring, Driven, QueueFacts, IsWaiting, WaitsWell, EntryWell, EntryStands, LastStands}
-use Rattle.vub_run_laws.proofs.RunGood.{IsSize, Known, IsOut, LeavesQueue}
+use Rattle.vub_run_laws.proofs.RunGood.{IsSize, Known, IsOut, LeavesQueue, IsGood, IsPlainAsk}
 use Rattle.vub_run_laws.proofs.RingFrames.{OffRings, facts_elsewhere}
-use Rattle.vub_run_laws.proofs.RunHolds.{StoresBefore, StoresLast, IsPublishing, NextRow}
+use Rattle.vub_run_laws.proofs.RunHolds.{StoresBefore, StoresLast, IsPublishing, NextRow, Holds}
 use Rattle.vub_run_laws.proofs.RingRows.{next_row}
-use Rattle.vub_run_laws.proofs.RingTracks.{tracks}
+use Rattle.vub_run_laws.proofs.RingTracks.{tracks, some_waits}
 use Rattle.vub_run_laws.proofs.RingStores.{stores_before, stores_last, some_left}
 use Rattle.vub_run_laws.proofs.RingEntries.{built_same, ringed_entries, driven_same}
+use Rattle.vub_base.specs.declared.request.Ask.{Ask}
+use Rattle.vub_base.specs.declared.request.Shape.TheVariants.{Direct}
+use Rattle.vub_run_laws.proofs.RunTaken.{IsTaken}
+use Rattle.vub_run_laws.proofs.RingOpening.{open_facts}
+use Rattle.vub_run_laws.proofs.RingAsks.{ask_facts}
+use Rattle.vub_run_laws.proofs.RingCollects.{first_seen, after_taken, taken_facts}
+use Rattle.vub_run_laws.proofs.RingOffers.{offer_room}
+use Rattle.vub_device.specs.declared.entry.Entry.TheVariants as entries
+
+-- ---- the opening
+
+pub queue_opens : (q : ℕ) (h : Header1) → h.base < 65536 → q < h.queues → QueueFacts q h (opening_scene h) (opening_lane h).driver [] phases.Rest
+queue_opens q h fits low = open_facts q h fits low
 
 -- ---- an entry
 
@@ -43,14 +56,17 @@ pub queue_same : (q : ℕ) (h : Header1) (s : Scene) (past' : List Entry) (v : D
 queue_same q h s past' v batch phase accepts shows collects asks x =
     queue_entry q h s past' v batch phase (record { accepts = omega (arith, accepts); shows = shows; collects = omega (arith, collects); asks = asks }) collects x
 
--- a collection, where the driver takes the next number
-pub queue_collect : (q : ℕ) (h : Header1) (s : Scene) (past' : List Entry) (v v' : Driver) (batch : List ℕ) (phase : Phase) → LeavesQueue q s.past past' → Driven q h.size h.capacity h.base past' (s.heads q) v'
-    → QueueFacts q h s v batch phase → QueueFacts q h (record s { past = past' }) v' batch phase
-queue_collect q h s past' v v' batch phase leaves driven x = record {
-  ringed = ringed_entries q h.size h.base s.past past' (s.heads q) s.memory leaves x.ringed;
-  driven = driven;
-  built = built_same q h.size h.base s.past past' (s.heads q) s.memory batch phase leaves.shows leaves.asks x.built;
-}
+-- where an element is seen, the first one is that of the number that is collected next
+pub queue_first : (q : ℕ) (h : Header1) (s : Scene) (l : Lane) (x : ℕ × ℕ) (xs : List (ℕ × ℕ)) → IsGood h → Holds q h s l → seen (the_ring q h.size) s.memory (h.base + collected s.past q) ≡ x ∷ xs → IsTaken q h s l x.0
+queue_first q h s l x xs good holds e = first_seen q h s l x xs good holds e
+
+-- what is taken is free again
+pub queue_free : (q : ℕ) (h : Header1) (s : Scene) (l : Lane) (x : ℕ) → IsTaken q h s l x → after_collect x l.driver ≡ record l.driver { owner = without_owner x l.driver.owner }
+queue_free q h s l x t = after_taken q h s l x t
+
+-- a collection
+pub queue_collect : (q : ℕ) (h : Header1) (s : Scene) (l : Lane) (x k : ℕ) → IsTaken q h s l x → QueueFacts q h (record s { past = entries.Collect q k ∷ s.past }) (record l.driver { owner = without_owner x l.driver.owner }) l.batch l.phase
+queue_collect q h s l x k t = taken_facts q h s l x k t
 
 -- ---- phases
 
@@ -72,9 +88,9 @@ queue_row q h s v batch done x low = next_row q h s v batch done x low
 
 -- ---- the driver
 
--- another driver whose slots are well
-pub queue_driver : (q : ℕ) (h : Header1) (s : Scene) (v v' : Driver) (batch : List ℕ) (phase : Phase) → Driven q h.size h.capacity h.base s.past (s.heads q) v' → QueueFacts q h s v batch phase → QueueFacts q h s v' batch phase
-queue_driver q h s v v' batch phase driven x = record { ringed = x.ringed; driven = driven; built = x.built }
+-- a request that it takes
+pub queue_ask : (q : ℕ) (h : Header1) (s : Scene) (v : Driver) (batch : List ℕ) (phase : Phase) (a : Ask) → IsSize h.size → IsPlainAsk h.capacity a → can_take h.size Direct a v ≡ true → QueueFacts q h s v batch phase → QueueFacts q h s (after_ask (the_ring q h.size) a v) batch phase
+queue_ask q h s v batch phase a size plain ready x = ask_facts q h s v batch phase a size plain ready x
 
 -- what is known of the request that waits
 pub queue_waiting : (q : ℕ) (h : Header1) (s : Scene) (v : Driver) (batch : List ℕ) (phase : Phase) (w : Waiting) → v.waiting ≡ Some w → QueueFacts q h s v batch phase → IsWaiting q h.size h.capacity s.past (s.heads q) v (record w { left = w.left })
@@ -139,3 +155,22 @@ heads_apart q h s v batch phase j k x out_j out_k same = x.driven.apart j k out_
 -- used.idx is the base, advanced by what is published
 pub shown_index : (q : ℕ) (h : Header1) (s : Scene) (v : Driver) (batch : List ℕ) (phase : Phase) → QueueFacts q h s v batch phase → used_idx (the_ring q h.size) s.memory ≡ (h.base + length (published s.past q)) % 65536
 shown_index q h s v batch phase x = x.ringed.used_idx_is
+
+-- what the driver keeps of avail.idx is the base, advanced by what is offered; and so stands the word
+pub kept_index : (q : ℕ) (h : Header1) (s : Scene) (v : Driver) (batch : List ℕ) (phase : Phase) → QueueFacts q h s v batch phase → v.avail_idx ≡ (h.base + length (s.heads q)) % 65536
+kept_index q h s v batch phase x = x.driven.index
+
+pub offered_index : (q : ℕ) (h : Header1) (s : Scene) (v : Driver) (batch : List ℕ) (phase : Phase) → QueueFacts q h s v batch phase → avail_idx (the_ring q h.size) s.memory ≡ v.avail_idx
+offered_index q h s v batch phase x = x.ringed.avail_idx_is ∙ sym x.driven.index
+
+-- the entry of each offer that isn't accepted names its head
+pub offered_head : (q : ℕ) (h : Header1) (s : Scene) (v : Driver) (batch : List ℕ) (phase : Phase) (i : ℕ) → QueueFacts q h s v batch phase → accepted s.past q ≤ i → i < length (s.heads q) → head_at (the_ring q h.size) s.memory (h.base + i) ≡ slice_index (s.heads q) i
+offered_head q h s v batch phase i x from upto = x.ringed.avail_at i from upto
+
+-- the queue has room for the request that waits
+pub queue_room : (q : ℕ) (h : Header1) (s : Scene) (v : Driver) (batch : List ℕ) (phase : Phase) (w : Waiting) → Known q h.size h.capacity s.past (s.heads q) → IsWaiting q h.size h.capacity s.past (s.heads q) v w → QueueFacts q h s v batch phase → length (s.heads q) < h.size + collected s.past q
+queue_room q h s v batch phase w known waits x = offer_room q h.size h.capacity h.base s.past (s.heads q) v w known x.driven waits
+
+-- something waits exactly where an offer isn't accepted
+pub queue_ahead : (q : ℕ) (h : Header1) (s : Scene) (l : Lane) → IsGood h → Holds q h s l → ahead (avail_idx (the_ring q h.size) s.memory) (h.base + accepted s.past q) + accepted s.past q ≡ length (s.heads q)
+queue_ahead q h s l good x = some_waits q h s l good x

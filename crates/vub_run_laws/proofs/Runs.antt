@@ -11,7 +11,7 @@ use Rattle.vub_run_laws.proofs.RunGood.{Known}
 use Rattle.vub_run_laws.proofs.RunHolds.{Holds}
 use Rattle.vub_run_laws.proofs.RunFrames.{none_out}
 use Rattle.vub_run_laws.proofs.RunTurns.{IsPlain, Good}
-use Rattle.vub_run_laws.proofs.RingOpening.{open_ringed}
+use Rattle.vub_run_laws.proofs.RunQueue.{queue_opens}
 
 length_zeros : length zeros ≡ 512
 unfolding zeros
@@ -46,17 +46,7 @@ opening_holds q h plain low = record {
     phase_is = refl;
   };
   stored = record { sectors = λ k i is_open kept read. absurd (omega (arith, kept.put)); status = λ k held. absurd (let fails : false ≡ true = held in cc) };
-  queue = record {
-    ringed = open_ringed q h plain.good.base low;
-    driven = record {
-      index = let fits : h.base < 65536 = plain.good.base in omega arith;
-      below = λ k out. absurd (none_out q k out);
-      owned = λ k out. absurd (none_out q k out);
-      apart = λ j k out_j out_k same. absurd (none_out q j out_j);
-      waits = tt;
-    };
-    built = tt;
-  };
+  queue = queue_opens q h plain.good.base low;
 }
 
 -- a run begins well

@@ -37,7 +37,7 @@ use Rattle.vub_run_laws.proofs.RunNumbers.{missing-among, distinct_join, few_bel
 use Rattle.vub_run_laws.proofs.RunGood.{Known, Worked}
 use Rattle.vub_run_laws.proofs.RunEfforts.{weight, sum_below, weight_small}
 use Rattle.vub_run_laws.proofs.RunEnds.{effort_at, missing_distinct, phase_few, start_few}
-use Rattle.vub_run_laws.proofs.RunPublications.{numbers_answers}
+use Rattle.vub_run_laws.proofs.RunTracks.{numbers_answers}
 use Rattle.vub_run_laws.proofs.RunTurns.{Good, phase_cases}
 
 -- ---- how many answers a turn shows

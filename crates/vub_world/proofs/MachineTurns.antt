@@ -54,7 +54,7 @@ use Rattle.vub_run.specs.Turns.{turned, answer_len, answer_at}
 use Rattle.vub_run_laws.proofs.RunNumbers.{not_among-take}
 use Rattle.vub_run_laws.proofs.RunFrames.{open_out, length_little}
 use Rattle.vub_run_laws.proofs.RunGood.{IsWide, IsOut, PhaseIs}
-use Rattle.vub_run_laws.proofs.RunPhases.{some_waits}
+use Rattle.vub_run_laws.proofs.RingTracks.{some_waits}
 use Rattle.vub_run_laws.proofs.RunTurns.{IsPlain, Good}
 use Rattle.vub_run_laws.proofs.RunChainsEvents.{ChainedAt}
 use Rattle.vub_queue_in_run.proofs.QueueAtMoves.{new_unpublished}
