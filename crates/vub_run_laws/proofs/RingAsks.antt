@@ -13,12 +13,11 @@ use Rattle.vub_driver.specs.Drivers.{Driver, free_from, first_or_zero, owned_by,
 use Rattle.vub_driver.specs.Layout.{area_place, status_place, buffer_place}
 use Rattle.vub_driver.specs.Requests.{Piece, pieces, descriptors_needed, header_bytes, written_bytes, data_place, request_type, first_sector}
 use Rattle.vub_driver.specs.Stores.{store_of_some, buffer_stores, offer_stores, chain_stores, request_stores}
-use Rattle.vub_device.specs.Requests.{request_of}
 use Rattle.vub_device.specs.declared.entry.Entry.{Entry}
 use Rattle.vub_run_laws.proofs.RingGood.{Driven, IsHarmless, IsPlan, the_ring, QueueFacts}
 use Rattle.vub_run_laws.proofs.RunChains.{desc_long}
 use Rattle.vub_run_laws.proofs.RunFrames.{length_little}
-use Rattle.vub_run_laws.proofs.RunGood.{IsWide, IsPlainAsk, IsSize}
+use Rattle.vub_run_laws.proofs.RunGood.{IsPlainAsk, IsSize}
 use Rattle.vub_base.specs.declared.header.Header1.{Header1}
 use Rattle.vub_base.specs.declared.request.Shape.TheVariants.{Direct}
 use Rattle.vub_steps.specs.declared.steps.Phase.{Phase}

@@ -1,14 +1,11 @@
 -- A request that the driver takes keeps what holds.
-use Rattle.std.proofs.Common.{◌≡◌, ◌≤◌, ℕ, ◌*◌, true, List, length, arith}
-use Rattle.std.specs.List.{AllByRecursion}
-use Rattle.std.proofs.lemmas.Bool.Decides.{nat_tests}
-use Rattle.std.proofs.lemmas.List.{length-take-le}
+use Rattle.std.proofs.Common.{◌≡◌, ℕ, ◌*◌, true, length, arith}
 use Rattle.vub_base.specs.declared.header.Header1.{Header1}
 use Rattle.vub_base.specs.declared.request.Ask.{Ask}
 use Rattle.vub_base.specs.declared.request.Ask.TheVariants as asks
 use Rattle.vub_base.specs.declared.request.Shape.TheVariants.{Direct}
-use Rattle.vub_driver.specs.Drivers.{Driver, free_descriptors, can_take, chosen, after_ask}
-use Rattle.vub_driver.specs.Requests.{descriptors_needed, written_bytes}
+use Rattle.vub_driver.specs.Drivers.{can_take, after_ask}
+use Rattle.vub_driver.specs.Requests.{written_bytes}
 use Rattle.vub_schedule.specs.Spelling.{IsAsk}
 use Rattle.vub_run.specs.Memory.{Scene}
 use Rattle.vub_run.specs.Moments.{Lane}
@@ -18,7 +15,6 @@ use Rattle.vub_run_laws.proofs.RingGood.{the_ring}
 use Rattle.vub_run_laws.proofs.RunGood.{IsGood, IsPlainAsk}
 use Rattle.vub_run_laws.proofs.RunHolds.{Holds}
 use Rattle.vub_driver.proofs.FillLemmas.{length-fills}
-use Rattle.vub_run_laws.proofs.RingAsks.{ask_driven, free_taken, few_needed, free_are, IsFree}
 
 -- ---- the stores
 

@@ -1,5 +1,5 @@
 -- A used element that the driver takes keeps what holds.
-use Rattle.std.proofs.Common.{ℕ, ◌∷◌, refl, arith}
+use Rattle.std.proofs.Common.{ℕ, ◌∷◌, arith}
 use Rattle.std.proofs.lemmas.Option.{slice_get-get_or}
 use Rattle.vub_base.specs.declared.header.Header1.{Header1}
 use Rattle.vub_driver.specs.Drivers.{without_owner}
@@ -10,7 +10,6 @@ use Rattle.vub_run.specs.Memory.{Scene}
 use Rattle.vub_run.specs.Moments.{Lane}
 use Rattle.vub_run.specs.Run.{with_driver}
 use Rattle.vub_run_laws.proofs.RunOwn.{collected_own}
-use Rattle.vub_run_laws.proofs.RingGood.{Ringed}
 use Rattle.vub_run_laws.proofs.RunGood.{Known, Worked}
 use Rattle.vub_run_laws.proofs.RunHolds.{Holds}
 use Rattle.vub_run_laws.proofs.RunQueue.{queue_collect}

@@ -27,7 +27,6 @@ use Rattle.vub_run_laws.proofs.RunGood.{IsSize, IsOut}
 use Rattle.vub_run_laws.proofs.RunFrames.{keeps, length_little}
 use Rattle.vub_run_laws.proofs.RingFrames.{entry_small}
 use Rattle.vub_run_laws.proofs.RunGuests.{waits_well}
-use Rattle.vub_run_laws.proofs.RingOffers.{offer_room}
 use Rattle.vub_run_laws.proofs.RunTurns.{IsPlain, Good}
 use Rattle.vub_run_laws.proofs.RunEvents.{Right}
 use Rattle.vub_run_laws.proofs.Runs.{plain_header}

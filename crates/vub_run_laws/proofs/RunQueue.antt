@@ -14,7 +14,7 @@ use Rattle.vub_device.specs.Past.{accepted, asked, published, collected, is_amon
 use Rattle.vub_run.specs.Memory.{Scene, opening_scene}
 use Rattle.vub_run.specs.Moments.{Moment, Lane, opening_lane}
 use Rattle.vub_run.specs.Tracking.{Tracks}
-use Rattle.vub_run_laws.proofs.RingGood.{the_ring, Driven, QueueFacts, IsWaiting, WaitsWell, EntryWell, EntryStands, LastStands}
+use Rattle.vub_run_laws.proofs.RingGood.{the_ring, QueueFacts, IsWaiting, WaitsWell, EntryWell, EntryStands, LastStands}
 use Rattle.vub_run_laws.proofs.RunGood.{IsSize, Known, IsOut, LeavesQueue, IsGood, IsPlainAsk}
 use Rattle.vub_run_laws.proofs.RingFrames.{OffRings, facts_elsewhere}
 use Rattle.vub_run_laws.proofs.RunHolds.{StoresBefore, StoresLast, IsPublishing, NextRow, Holds}

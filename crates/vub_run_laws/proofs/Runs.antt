@@ -9,7 +9,6 @@ use Rattle.vub_run.specs.Moments.{opening, opening_lane}
 use Rattle.vub_run_laws.proofs.Sizes.{size_laps}
 use Rattle.vub_run_laws.proofs.RunGood.{Known}
 use Rattle.vub_run_laws.proofs.RunHolds.{Holds}
-use Rattle.vub_run_laws.proofs.RunFrames.{none_out}
 use Rattle.vub_run_laws.proofs.RunTurns.{IsPlain, Good}
 use Rattle.vub_run_laws.proofs.RunQueue.{queue_opens}
 
