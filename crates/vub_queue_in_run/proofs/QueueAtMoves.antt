@@ -1,9 +1,9 @@
 -- What the moves of a run leave of where the queue stands.
-use Rattle.std.proofs.Common.{◌≡◌, ◌≢◌, ◌≤◌, ◌<◌, ◌⊎◌, ℕ, zero, suc, ◌+◌, ◌/◌, Bool, true, false, not, List, [], ◌∷◌, ◌++◌, length, take, drop, map, set, get_or, refl, ap, sym, ◌∙◌, subst, inl, inr, arith}
+use Rattle.std.proofs.Common.{◌≡◌, ◌≤◌, ◌<◌, ◌⊎◌, ℕ, zero, suc, ◌+◌, ◌/◌, ◌%◌, Bool, true, false, not, List, [], ◌∷◌, ◌++◌, length, take, drop, map, get_or, refl, ap, sym, ◌∙◌, subst, inl, inr, arith}
 use Rattle.std.specs.Prelude.{Option, Some, None, slice_get, slice_index, filter, ◌||◌}
 use Rattle.std.proofs.lemmas.Bool.Decides.{nat_tests}
-use Rattle.std.proofs.lemmas.Bool.{cases_Bool, cases_eq, or_left, or_right}
-use Rattle.std.proofs.lemmas.List.{length_push, length-append, length-map, length-set, length-replicate, get_or-replicate, take-map, append-nil, get_or-set_same, get_or-set_other}
+use Rattle.std.proofs.lemmas.Bool.{cases_Bool, or_left, or_right}
+use Rattle.std.proofs.lemmas.List.{length-append, length-map, length-set, length-replicate, take-map, map-append, append-nil}
 use Rattle.std.proofs.lemmas.List.Elements.{filter-append}
 use Rattle.std.proofs.lemmas.Option.{slice_get_within}
 use Rattle.vub_base.specs.declared.header.Header1.{Header1}
@@ -22,16 +22,23 @@ use Rattle.vub_device.specs.Past.{asked, accepted, published, numbers, missing_b
 use Rattle.vub_device.specs.Requests.{refusal}
 use Rattle.vub_device.proofs.Numbers.{is_among_append}
 use Rattle.vub_steps.specs.Tasks.{Look, Put, Act, Sync, Status, look_steps, act_steps, disk_steps, unless_refused, task_steps}
-use Rattle.vub_task.specs.TaskState.{fresh_task, IsTaskAt}
+use Rattle.vub_task.specs.TaskState.{fresh_task, IsTaskAt, head_in}
 use Rattle.vub_run.specs.Turns.{len_of}
-use Rattle.vub_queue.specs.QueueParts.{is_taken, without_heads}
+use Rattle.vub_queue.specs.QueueParts.{is_taken}
 use Rattle.vub_queue.specs.QueueState as states
 use Rattle.vub_queue.specs.QueueState.{QueueState}
-use Rattle.vub_queue_in_run.specs.QueueAt.{LiesAs, spot_of, left_of, TaskAt, QueueAt}
+use Rattle.vub_queue_in_run.specs.QueueAt.{LiesAs, spot_of, left_of, TaskAt, QueueAt, KeepsHeads}
+use Rattle.vub_queue_in_run.proofs.QueueHeld.{words_kept, keeps_new, keeps_started, keeps_accepted, keeps_begun, keeps_phase, keeps_shown}
+use Rattle.vub_facts.specs.Facts.{heads_in, without}
+use Rattle.vub_facts.proofs.HeadLemmas.{without_map, number_of}
+use Rattle.vub_run.specs.Moments.{open_heads}
+use Rattle.vub_device.specs.Places.{are_distinct}
+use Rattle.vub_split.specs.Split.{used_side}
 use Rattle.vub_split.specs.declared.split.SplitRing.{SplitRing}
 use Rattle.vub_task.specs.declared.task.Task.{Task}
 use Rattle.vub_run_laws.proofs.RunOwn.{accepted_own, published_own, started_own}
-use Rattle.vub_run_laws.proofs.RunNumbers.{among_get, among_filter, missing-among}
+use Rattle.vub_run_laws.proofs.RunNumbers.{among_get, among_filter, missing-among, among-missing}
+use Rattle.vub_run_laws.proofs.RunHeads.{heads_accept, heads_publish, missing_exact}
 use Rattle.vub_run_laws.proofs.RunGood.{Known, Worked}
 use Rattle.vub_run_laws.proofs.RunOffers.{same_head, same_asked}
 use Rattle.vub_run_laws.proofs.RunPhases.{swap_among}
@@ -46,7 +53,7 @@ filter_same f g (x ∷ xs) same =
     let here : f x ≡ g x = same x in
     grind (arith, nat_tests)
 
-pub map_same : (f g : ℕ → ℕ × ℕ) (xs : List ℕ) → ((k : ℕ) → is_among xs k ≡ true → f k ≡ g k) → map f xs ≡ map g xs
+pub map_same : {A : Type 0} (f g : ℕ → A) (xs : List ℕ) → ((k : ℕ) → is_among xs k ≡ true → f k ≡ g k) → map f xs ≡ map g xs
 map_same f g [] same = refl
 map_same f g (x ∷ xs) same =
     let rest : map f xs ≡ map g xs = map_same f g xs (λ k held. same k (grind (arith, nat_tests))) in
@@ -86,6 +93,54 @@ left_is q past completed batch k held =
     let test : not (is_among (completed ++ batch) k) ≡ true = kept.1 in
     record { is_open = record { taken = opened.0; unpublished = opened.1 }; out = grind (arith, nat_tests) }
 
+-- ---- the heads that the queue keeps
+
+-- the heads of a batch
+heads_of_spots : (q : ℕ) (h : Header1) (past : List Entry) (heads ks : List ℕ) → heads_in (map (spot_of q h past heads) ks) ≡ map (slice_index heads) ks
+heads_of_spots q h past heads [] = refl
+heads_of_spots q h past heads (k ∷ ks) = ap (λ (hs : List ℕ). slice_index heads k ∷ hs) (heads_of_spots q h past heads ks)
+
+pub heads_distinct : (q : ℕ) (h : Header1) (r : SplitRing) (past : List Entry) (heads : List ℕ) (phase : Phase) (batch completed : List ℕ) (made : ℕ → ℕ) (state : QueueState) → QueueAt q h r past heads phase batch completed made state
+    → are_distinct (open_heads q past heads) ≡ true
+heads_distinct q h r past heads phase batch completed made state x = (x.keeps (words_kept state) refl).distinct
+
+-- a task for each request that is left
+pub count_is : (q : ℕ) (h : Header1) (r : SplitRing) (past : List Entry) (heads : List ℕ) (phase : Phase) (batch completed : List ℕ) (made : ℕ → ℕ) (state : QueueState) → Worked q past phase batch completed made
+    → QueueAt q h r past heads phase batch completed made state → length state.unfinished ≡ length (left_of q past completed batch)
+count_is q h r past heads phase batch completed made state w x =
+    let f : ℕ → ℕ = slice_index heads in
+    let kept = x.keeps (words_kept state) refl in
+    let joined : (k : ℕ) → is_among (batch ++ completed) k ≡ is_among (completed ++ batch) k = λ k.
+    let one : is_among (batch ++ completed) k ≡ (is_among batch k || is_among completed k) = is_among_append batch completed k in
+    let other : is_among (completed ++ batch) k ≡ (is_among completed k || is_among batch k) = is_among_append completed batch k in
+    grind (arith, nat_tests) in
+    let opens : (k : ℕ) → is_among (batch ++ completed) k ≡ true → is_among (open_numbers past q) k ≡ true = λ k held.
+    let o : IsOpen past q k = w.opens k (sym (joined k) ∙ held) in among-missing (published past q) (accepted past q) k o.taken o.unpublished in
+    let spots : state.batch ++ state.completed ≡ map (spot_of q h past heads) (batch ++ completed) =
+    ap (λ (xs : List (ℕ × ℕ)). xs ++ state.completed) x.batch ∙ ap (λ (xs : List (ℕ × ℕ)). map (spot_of q h past heads) batch ++ xs) x.completed ∙ sym (map-append (spot_of q h past heads) batch completed) in
+    let busy_is : heads_in (state.batch ++ state.completed) ≡ map f (batch ++ completed) = ap heads_in spots ∙ heads_of_spots q h past heads (batch ++ completed) in
+    let left : map head_in state.unfinished ≡ map f (without (batch ++ completed) (open_numbers past q)) =
+    kept.splits.left ∙ ap (λ (hs : List ℕ). without hs (open_heads q past heads)) busy_is ∙ without_map f (batch ++ completed) (open_numbers past q) kept.distinct opens in
+    let same : without (batch ++ completed) (open_numbers past q) ≡ left_of q past completed batch =
+    filter_same (λ k. not (is_among (batch ++ completed) k)) (λ k. not (is_among (completed ++ batch) k)) (open_numbers past q) (λ k. ap not (joined k)) in
+    sym (length-map state.unfinished head_in) ∙ ap (λ (hs : List ℕ). length hs) left ∙ length-map (without (batch ++ completed) (open_numbers past q)) f ∙ ap (λ (ks : List ℕ). length ks) same
+
+-- the avail position is the base advanced by what was accepted
+pub avail_is : (q : ℕ) (h : Header1) (r : SplitRing) (past : List Entry) (heads : List ℕ) (phase : Phase) (batch completed : List ℕ) (made : ℕ → ℕ) (state : QueueState) → Known q h.size h.capacity past heads
+    → QueueAt q h r past heads phase batch completed made state → state.next_avail ≡ (h.base + accepted past q) % 65536
+avail_is q h r past heads phase batch completed made state known x =
+    let all : length (open_numbers past q) + length (published past q) ≡ accepted past q = missing_exact (published past q) (accepted past q) known.distinct known.below in
+    omega (arith, (x.keeps (words_kept state) refl).avail, x.used, all, length-map (open_numbers past q) (slice_index heads))
+
+-- a head that is taken is that of an open request
+pub taken_open : (q : ℕ) (h : Header1) (r : SplitRing) (past : List Entry) (heads : List ℕ) (phase : Phase) (batch completed : List ℕ) (made : ℕ → ℕ) (state : QueueState) (d : ℕ) → d < r.size → is_taken state.taken d ≡ true
+    → QueueAt q h r past heads phase batch completed made state → (k : ℕ) × IsOpen past q k × (slice_index heads k ≡ d)
+taken_open q h r past heads phase batch completed made state d low held x =
+    let among : is_among (open_heads q past heads) d ≡ true = sym ((x.keeps (words_kept state) refl).taken d low) ∙ held in
+    let there = number_of (slice_index heads) (open_numbers past q) d among in
+    let opened = missing-among (published past q) (accepted past q) there.0 there.1 in
+    (there.0, record { taken = opened.0; unpublished = opened.1 }, there.2)
+
 -- ---- a queue that isn't started
 
 none_left : (q : ℕ) (past : List Entry) (completed batch : List ℕ) → accepted past q ≡ 0 → left_of q past completed batch ≡ []
@@ -104,17 +159,15 @@ at_new q h r past heads made state small fewer none stopped new = subst (λ (t :
   ring = refl;
   runs = refl;
   started = sym stopped;
-  avail = omega (arith, small, none);
   used = omega (arith, small, none, fewer);
   phase = refl;
   batch = refl;
   completed = refl;
-  count = ap (λ (ks : List ℕ). length ks) (sym (none_left q past [] [] none));
+  keeps = subst (λ (hs : List ℕ). KeepsHeads r.size hs (states.new_state r h.base new.sectors)) (sym (ap (λ (n : ℕ). map (slice_index heads) (missing_below (published past q) n)) none)) (keeps_new r h.base new.sectors small);
   tasks = λ i k task there is. absurd (none_among q past [] [] k none (among_get (left_of q past [] []) i k there));
   buffers = new.buffers;
   places = length-replicate r.size false;
   sectors = λ k place request held asks_it next. absurd (none_among q past [] [] k none held);
-  taken = λ d low held. absurd (let fails : true ≡ false = sym held ∙ get_or-replicate r.size d false true low in cc);
 })
 
 -- ---- a start
@@ -125,19 +178,15 @@ at_start q h r past heads made state none x = record {
   ring = x.ring;
   runs = x.runs;
   started = sym (started_own past q (open_numbers past q));
-  avail = x.avail;
   used = x.used;
   phase = x.phase;
   batch = x.batch;
   completed = x.completed;
-  count = x.count;
+  keeps = keeps_started r.size (open_heads q past heads) state x.keeps;
   tasks = λ i k task there is. record { head = (x.tasks i k task there is).head; stands = λ request asks_it. (x.tasks i k task there is).stands request asks_it };
   buffers = x.buffers;
   places = x.places;
   sectors = λ k place request held asks_it next. absurd (none_among q past [] [] k none held);
-  taken = λ d low held.
-      let t = x.taken d low held in
-      (t.0, record { taken = t.1.taken; unpublished = t.1.unpublished }, t.2);
 }
 
 -- ---- a fetch
@@ -188,33 +237,34 @@ left_more q past completed batch k unpublished out =
     ap (λ (n : ℕ). filter test (missing_below ps n)) (accepted_own past q a) ∙ ap (λ (n : ℕ). filter test (missing_below ps n)) next ∙ ap (filter test) longer ∙ filter-append test (missing_below ps a) (a ∷ []) ∙ ap (λ (ks : List ℕ). filter test (missing_below ps a) ++ ks) kept
 
 pub at_fetch : (q : ℕ) (h : Header1) (r : SplitRing) (past : List Entry) (heads : List ℕ) (completed : List ℕ) (made : ℕ → ℕ) (state : QueueState) (head : ℕ) → Known q h.size h.capacity past heads → Worked q past phases.Rest [] completed made
-    → head ≡ slice_index heads (accepted past q) → QueueAt q h r past heads phases.Rest [] completed made state
+    → head ≡ slice_index heads (accepted past q) → head < r.size → is_taken state.taken head ≡ false → QueueAt q h r past heads phases.Rest [] completed made state
     → QueueAt q h r (entries.Accept q (accepted past q) ∷ past) heads phases.Rest [] completed made (states.accepted head state)
-at_fetch q h r past heads completed made state head known w is x =
+at_fetch q h r past heads completed made state head known w is small free x =
     let a : ℕ = accepted past q in
     let past' : List Entry = entries.Accept q a ∷ past in
     let none : made a ≡ 0 = w.untouched a (omega arith) in
     let unpublished : is_among (published past q) a ≡ false = new_unpublished q h.size h.capacity past heads known in
     let more : left_of q past' completed [] ≡ left_of q past completed [] ++ a ∷ [] = left_more q past completed [] a unpublished (new_out q past phases.Rest [] completed made w) in
+    let count : length state.unfinished ≡ length (left_of q past completed []) = count_is q h r past heads phases.Rest [] completed made state w x in
+    let joins : open_heads q past' heads ≡ open_heads q past heads ++ head ∷ [] = heads_accept q past heads a unpublished ∙ ap (λ (y : ℕ). open_heads q past heads ++ y ∷ []) (sym is) in
     record {
       ring = x.ring;
       runs = x.runs;
       started = x.started;
-      avail = omega (arith, x.avail, accepted_own past q a);
       used = x.used;
       phase = x.phase;
       batch = x.batch;
       completed = x.completed;
-      count = length_push state.unfinished (fresh_task head) ∙ ap (λ (n : ℕ). n + 1) x.count ∙ sym (ap (λ (ks : List ℕ). length ks) more ∙ length_push (left_of q past completed []) a);
+      keeps = subst (λ (hs : List ℕ). KeepsHeads r.size hs (states.accepted head state)) (sym joins) (keeps_accepted (used_side r) (open_heads q past heads) state head small x.places free x.keeps);
       tasks = λ i k task there is_task.
           let there_too : slice_get (left_of q past completed [] ++ a ∷ []) i ≡ Some k = subst (λ (ks : List ℕ). slice_get ks i ≡ Some k) more there in
           elim (pushed_place (left_of q past completed []) a k i there_too) [
             | inl old ↦ elim (pushed_place state.unfinished (fresh_task head) task i is_task) [
               | inl old_task ↦ let t = x.tasks i k task old old_task in record { head = t.head; stands = t.stands }
-              | inr last ↦ absurd (let low : i < length (left_of q past completed []) = slice_get_within (left_of q past completed []) i k old in omega (arith, last.0, x.count, low))
+              | inr last ↦ absurd (let low : i < length (left_of q past completed []) = slice_get_within (left_of q past completed []) i k old in omega (arith, last.0, count, low))
             ]
             | inr last ↦ elim (pushed_place state.unfinished (fresh_task head) task i is_task) [
-              | inl old_task ↦ absurd (let low : i < length state.unfinished = slice_get_within state.unfinished i task old_task in omega (arith, last.0, x.count, low))
+              | inl old_task ↦ absurd (let low : i < length state.unfinished = slice_get_within state.unfinished i task old_task in omega (arith, last.0, count, low))
               | inr new ↦ subst (λ (t : Task). TaskAt q h r past' heads k (made k) t) new.1 (subst (λ (j : ℕ). TaskAt q h r past' heads j (made j) (fresh_task head)) last.1 (record {
                 head = is;
                 stands = λ request asks_it. record { begins = λ e. refl; goes_on = λ some. absurd (omega arith) };
@@ -232,13 +282,6 @@ at_fetch q h r past heads completed made state head known w is x =
             let begun : made k ≡ 0 = ap made (sym same) ∙ none in
             absurd (first_step (refused h request) request place (subst (λ (n : ℕ). slice_get (task_steps h request) n ≡ Some (Put place)) begun next))
       ];
-      taken = λ d low held. elim (cases_eq d head) [
-        | inl same ↦ (a, record { taken = omega (arith, accepted_own past q a); unpublished = unpublished }, sym is ∙ sym same)
-        | inr apart ↦
-            let before : is_taken state.taken d ≡ true = sym (get_or-set_other state.taken head d true true apart) ∙ held in
-            let t = x.taken d low before in
-            (t.0, record { taken = omega (arith, t.1.taken, accepted_own past q a); unpublished = t.1.unpublished }, t.2)
-      ];
     }
   where
     refused : Header1 → Asked → Option ℕ
@@ -254,17 +297,15 @@ at_begin q h r past heads completed made state most x =
       ring = x.ring;
       runs = x.runs;
       started = x.started;
-      avail = x.avail;
       used = x.used;
       phase = refl;
       batch = ap (take most) x.completed ∙ take-map (spot_of q h past heads) most completed;
       completed = ap (drop most) x.completed ∙ drop_map (spot_of q h past heads) most completed;
-      count = x.count ∙ ap (λ (ks : List ℕ). length ks) (sym same);
+      keeps = keeps_begun r.size (open_heads q past heads) most state x.batch x.keeps;
       tasks = λ i k task there is. x.tasks i k task (subst (λ (ks : List ℕ). slice_get ks i ≡ Some k) same there) is;
       buffers = x.buffers;
       places = x.places;
       sectors = λ k place request held asks_it next. x.sectors k place request (subst (λ (ks : List ℕ). is_among ks k ≡ true) same held) asks_it next;
-      taken = x.taken;
     }
 
 -- ---- a step of a publication
@@ -302,40 +343,18 @@ at_row q h r past heads phase batch completed made state main x goes =
       ring = x.ring;
       runs = x.runs;
       started = x.started;
-      avail = x.avail;
       used = x.used;
       phase = refl;
       batch = x.batch;
       completed = x.completed;
-      count = x.count;
+      keeps = keeps_phase r.size (open_heads q past heads) p state x.keeps;
       tasks = x.tasks;
       buffers = x.buffers;
       places = x.places;
       sectors = x.sectors;
-      taken = x.taken;
     })
 
 -- ---- a publication
-
--- a head that is still taken was taken before, and is none of theirs
-pub still_taken : (f : ℕ → ℕ × ℕ) (xs : List ℕ) (taken : List Bool) (d : ℕ) → d < length taken → is_taken (without_heads (map f xs) taken) d ≡ true
-    → (is_taken taken d ≡ true) × ((k : ℕ) → is_among xs k ≡ true → (f k).0 ≢ d)
-still_taken f [] taken d low held = (held, λ k there. absurd (let fails : false ≡ true = there in cc))
-still_taken f (x ∷ xs) taken d low held =
-    let rest = still_taken f xs (set taken (f x).0 false) d (omega (arith, length-set taken (f x).0 false)) held in
-    elim (cases_eq d (f x).0) [
-      | inl same ↦ absurd (
-          let freed : get_or (set taken (f x).0 false) (f x).0 true ≡ false = get_or-set_same taken (f x).0 false true (omega arith) in
-          let at : get_or (set taken (f x).0 false) d true ≡ false = ap (λ (i : ℕ). get_or (set taken (f x).0 false) i true) same ∙ freed in
-          let fails : true ≡ false = sym rest.0 ∙ at in cc)
-      | inr apart ↦ (
-        sym (get_or-set_other taken (f x).0 d false true apart) ∙ rest.0,
-        λ k there. elim (cases_eq x k) [
-          | inl here ↦ λ heads. apart (sym heads ∙ ap (λ (j : ℕ). (f j).0) (sym here))
-          | inr other ↦ rest.1 k (grind (arith, nat_tests))
-        ],
-      )
-    ]
 
 -- those that are left after it were left before
 show_filter : (ps completed batch : List ℕ) (n : ℕ)
@@ -374,42 +393,33 @@ left_shown q past completed batch list is =
     ∙ show_filter (published past q) completed batch (accepted past q)
 
 pub at_show : (q : ℕ) (h : Header1) (r : SplitRing) (past : List Entry) (heads : List ℕ) (phase : Phase) (batch completed : List ℕ) (made : ℕ → ℕ) (state : QueueState) (list : List Answered)
-    → after_step (course_with h.size (length batch)) phase ≡ phases.Rest → numbers list ≡ batch → LiesAs q r h.size → QueueAt q h r past heads phase batch completed made state
+    → after_step (course_with h.size (length batch)) phase ≡ phases.Rest → numbers list ≡ batch → ((k : ℕ) → is_among batch k ≡ true → IsOpen past q k) → LiesAs q r h.size → QueueAt q h r past heads phase batch completed made state
     → QueueAt q h r (entries.Publish q list ∷ past) heads phases.Rest [] completed made (states.moved state)
-at_show q h r past heads phase batch completed made state list ends is main x =
+at_show q h r past heads phase batch completed made state list ends is opens main x =
     let past' : List Entry = entries.Publish q list ∷ past in
     let many : length state.batch ≡ length batch = ap (λ (ks : List (ℕ × ℕ)). length ks) x.batch ∙ length-map batch (spot_of q h past heads) in
     let moved : states.moved state ≡ states.with_phase phases.Rest state = moved_is q h r past heads phase batch completed made state main x ∙ ap (λ (p : Phase). states.with_phase p state) ends in
     let same : left_of q past' completed [] ≡ left_of q past completed batch = left_shown q past completed batch list is in
     let shown : length (published past' q) ≡ length (published past q) + length batch = ap (λ (ks : List ℕ). length ks) (published_own past q list) ∙ length-append (published past q) (numbers list) ∙ ap (λ (ks : List ℕ). length (published past q) + length ks) is in
+    let batch_heads : map (slice_index heads) batch ≡ heads_in state.batch = sym (ap heads_in x.batch ∙ heads_of_spots q h past heads batch) in
+    let leave : open_heads q past' heads ≡ without (heads_in state.batch) (open_heads q past heads) =
+    heads_publish q past heads list batch is (heads_distinct q h r past heads phase batch completed made state x) (λ k held. let o : IsOpen past q k = opens k held in among-missing (published past q) (accepted past q) k o.taken o.unpublished)
+    ∙ ap (λ (hs : List ℕ). without hs (open_heads q past heads)) batch_heads in
     subst (λ (t : QueueState). QueueAt q h r past' heads phases.Rest [] completed made t) (sym moved) (record {
       ring = x.ring;
       runs = x.runs;
       started = x.started;
-      avail = x.avail;
       used = omega (arith, x.used, many, shown);
       phase = refl;
       batch = refl;
       completed = x.completed;
-      count = x.count ∙ ap (λ (ks : List ℕ). length ks) (sym same);
+      keeps = subst (λ (hs : List ℕ). KeepsHeads r.size hs (states.with_phase phases.Rest state)) (sym leave) (keeps_shown (used_side r) (open_heads q past heads) state (omega (arith, x.used)) x.places x.keeps);
       tasks = λ i k task there is_task.
           let t = x.tasks i k task (subst (λ (ks : List ℕ). slice_get ks i ≡ Some k) same there) is_task in
           record { head = t.head; stands = t.stands };
       buffers = x.buffers;
       places = length_without state.batch state.taken ∙ x.places;
       sectors = λ k place request held asks_it next. x.sectors k place request (subst (λ (ks : List ℕ). is_among ks k ≡ true) same held) asks_it next;
-      taken = λ d low held.
-          let held_too : is_taken (without_heads (map (spot_of q h past heads) batch) state.taken) d ≡ true = subst (λ (xs : List (ℕ × ℕ)). is_taken (without_heads xs state.taken) d ≡ true) x.batch held in
-          let still = still_taken (spot_of q h past heads) batch state.taken d (omega (arith, low, x.places)) held_too in
-          let t = x.taken d low still.0 in
-          let unpublished : is_among (published past q) t.0 ≡ false = t.1.unpublished in
-          let out : is_among batch t.0 ≡ false = elim (cases_Bool (is_among batch t.0)) [
-            | inl there ↦ absurd (still.1 t.0 there t.2)
-            | inr out ↦ out
-          ] in
-          let both : is_among (published past q ++ batch) t.0 ≡ (is_among (published past q) t.0 || is_among batch t.0) = is_among_append (published past q) batch t.0 in
-          let neither : is_among (published past q ++ batch) t.0 ≡ false = grind (arith, nat_tests) in
-          (t.0, record { taken = t.1.taken; unpublished = ap (λ (ks : List ℕ). is_among ks t.0) (published_own past q list) ∙ ap (λ (ks : List ℕ). is_among (published past q ++ ks) t.0) is ∙ neither }, t.2);
     })
 
 -- ---- an offer
@@ -430,16 +440,17 @@ at_offer q h r past heads phase batch completed made state request x known w z =
     let head_is : (k : ℕ) → k < accepted past q → slice_index heads' k ≡ slice_index heads k = λ k low. same_head heads x k (omega (arith, low, known.offered)) in
     let asks_is : (k : ℕ) → k < accepted past q → asked past' q k ≡ asked past q k = λ k low. same_asked q past request k (omega (arith, low, known.offered, known.offers_are)) in
     let joined : (k : ℕ) → is_among (completed ++ batch) k ≡ (is_among completed k || is_among batch k) = is_among_append completed batch in
+    let same_open : open_heads q past' heads' ≡ open_heads q past heads =
+    map_same (slice_index heads') (slice_index heads) (open_numbers past q) (λ k held. head_is k (missing-among (published past q) (accepted past q) k held).0) in
     record {
       ring = z.ring;
       runs = z.runs;
       started = z.started;
-      avail = z.avail;
       used = z.used;
       phase = z.phase;
       batch = z.batch ∙ map_same (spot_of q h past heads) (spot_of q h past' heads') batch (λ k held. sym (offered_spot q h past heads request x k known (low_of k (joined k ∙ or_right (is_among completed k) (is_among batch k) held))));
       completed = z.completed ∙ map_same (spot_of q h past heads) (spot_of q h past' heads') completed (λ k held. sym (offered_spot q h past heads request x k known (low_of k (joined k ∙ or_left (is_among completed k) (is_among batch k) held))));
-      count = z.count;
+      keeps = subst (λ (hs : List ℕ). KeepsHeads r.size hs state) (sym same_open) z.keeps;
       tasks = λ i k task there is.
           let low : k < accepted past q = (left_is q past completed batch k (among_get (left_of q past completed batch) i k there)).is_open.taken in
           let t = z.tasks i k task there is in
@@ -452,9 +463,6 @@ at_offer q h r past heads phase batch completed made state request x known w z =
       sectors = λ k place asks_this held at_k next.
           let low : k < accepted past q = (left_is q past completed batch k held).is_open.taken in
           ap (λ (d : ℕ). get_or state.sectors d []) (head_is k low) ∙ z.sectors k place asks_this held (sym (asks_is k low) ∙ at_k) next;
-      taken = λ d low held.
-          let t = z.taken d low held in
-          (t.0, record { taken = t.1.taken; unpublished = t.1.unpublished }, head_is t.0 t.1.taken ∙ t.2);
     }
 
 -- ---- a collection
@@ -465,17 +473,13 @@ at_collect q h r past heads phase batch completed made state k x = record {
   ring = x.ring;
   runs = x.runs;
   started = x.started;
-  avail = x.avail;
   used = x.used;
   phase = x.phase;
   batch = x.batch;
   completed = x.completed;
-  count = x.count;
+  keeps = x.keeps;
   tasks = λ i j task there is. record { head = (x.tasks i j task there is).head; stands = (x.tasks i j task there is).stands };
   buffers = x.buffers;
   places = x.places;
   sectors = x.sectors;
-  taken = λ d low held.
-      let t = x.taken d low held in
-      (t.0, record { taken = t.1.taken; unpublished = t.1.unpublished }, t.2);
 }

@@ -39,13 +39,14 @@ use Rattle.vub_run_laws.proofs.RingGood.{the_ring}
 use Rattle.vub_run_laws.proofs.RunGood.{Worked}
 use Rattle.vub_run_laws.proofs.RunHolds.{Holds}
 use Rattle.vub_run_laws.proofs.RunPhases.{resting, rest_is, taking, taking_holds}
-use Rattle.vub_run_laws.proofs.RingRows.{StepAt, step_at, more_left, none_left}
-use Rattle.vub_run_laws.proofs.RunElements.{AtId, AtLen, AtIndex, get_map}
-use Rattle.vub_run_laws.proofs.RunPublications.{publishing, IsUnderWay}
+use Rattle.vub_run_laws.proofs.RingRows.{StepAt, AtId, AtLen, AtIndex, step_at, more_left, none_left}
+use Rattle.vub_run_laws.proofs.RunElements.{get_map}
+use Rattle.vub_run_laws.proofs.RunPublications.{publishing, IsUnderWay, batch_open}
 use Rattle.vub_run_laws.proofs.RunTracks.{numbers_answers}
 use Rattle.vub_run_laws.proofs.RunTurns.{IsPlain, Good, phase_cases}
 use Rattle.vub_queue_in_run.proofs.QueueAtMoves.{course_same, moved_is, at_begin, at_row, at_show}
 use Rattle.vub_queue_in_run.proofs.QueueAtTurns.{ready_same, does_of, StandsAfter, stands_after}
+use Rattle.vub_run_laws.proofs.RunQueue.{shown_index}
 
 -- ---- the row of a step
 
@@ -71,7 +72,7 @@ rows_same : (q : ℕ) (h : Header1) (r : SplitRing) (s : Scene) (l : Lane) (done
 rows_same q h r s l done u None g = refl
 rows_same q h r s l done u (Some step) g =
     let side : used_side u.ring ≡ the_ring q h.size = ap used_side g.stands.ring ∙ side_is q r h.size g.main in
-    let used : u.next_used ≡ used_idx (the_ring q h.size) s.memory = g.stands.used ∙ sym g.under.holds.queue.ringed.used_idx_is in
+    let used : u.next_used ≡ used_idx (the_ring q h.size) s.memory = g.stands.used ∙ sym (shown_index q h s l.driver l.batch (phases.Publish done) g.under.holds.queue) in
     ap (λ (x : Ring). row_of x u.next_used u.batch step) side
     ∙ ap (λ (n : ℕ). row_of (the_ring q h.size) n u.batch step) used
     ∙ ap (λ (xs : List (ℕ × ℕ)). row_of (the_ring q h.size) (used_idx (the_ring q h.size) s.memory) xs step) g.stands.batch
@@ -229,7 +230,7 @@ index_step q h r s l done x u u' g whole next does =
     ap (λ (t : QueueState). t.phase) (moved_is q h r s.past (s.heads q) (phases.Publish done) l.batch l.completed l.made u g.main g.stands) ∙ ap (λ (z : Phase). (states.with_phase z u).phase) ends in
     let said = says_published x y u u' rests does.fine (subst (λ (o : Option Row). Moves x o u u') row_is does.moves) in
     let shown : QueueAt q h r (entries.Publish q list ∷ s.past) (s.heads q) phases.Rest [] l.completed l.made (moved u) =
-    at_show q h r s.past (s.heads q) (phases.Publish done) l.batch l.completed l.made u list ends (numbers_answers q (after_row h y s) l.batch) g.main g.stands in
+    at_show q h r s.past (s.heads q) (phases.Publish done) l.batch l.completed l.made u list ends (numbers_answers q (after_row h y s) l.batch) (λ k held. batch_open q h s l done k g.under held) g.main g.stands in
     let rest : StandsAfter q h r s (index_turn q h s l done y phases.Rest) u' = subst (λ (t : QueueState). QueueAt q h r (entries.Publish q list ∷ s.past) (s.heads q) phases.Rest [] l.completed l.made t) (sym said.1) shown in
     let stands : StandsAfter q h r s (index_turn q h s l done y p) u' = subst (λ (z : Phase). StandsAfter q h r s (index_turn q h s l done y z) u') (sym ends) rest in
     (y, record { row = row_is; space = refl; which = inr (record { next = next; tag = refl; said = said.0; items = refl }); stands = stands })
@@ -338,7 +339,7 @@ pub row_stands : (q : ℕ) (h : Header1) (r : SplitRing) (m : Moment) (most : �
 row_stands q h r m most told x state state' plain good main z ready fine made =
     let l : Lane = m.lanes q in
     let u : QueueState = states.under_way most state in
-    let now : publishes most state ≡ true = ready_same q h r m state (turns.Publish most) main z ∙ ready in
+    let now : publishes most state ≡ true = ready_same q h r m state (turns.Publish most) main good.holds z ∙ ready in
     let does = does_of (turns.Publish most) told x state state' made fine in
     let moves : Moves x (next_row u) u made.0 = subst (λ (b : Bool). Publishes b x state u made.0) now does in
     let after : made.0 ≡ state' = sym (made.1 ∙ runs_on x u made.0 (next_row u) fine moves) in

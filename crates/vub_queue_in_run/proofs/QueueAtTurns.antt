@@ -26,6 +26,7 @@ use Rattle.vub_run.specs.Moments.{Lane, Moment, standing}
 use Rattle.vub_run.specs.Run.{one_turn}
 use Rattle.vub_run.specs.Turns.{Turned, turned, under_way, phase_goes_on}
 use Rattle.vub_split.specs.Split.{avail_idx_word, head_word}
+use Rattle.vub_queue.specs.QueueParts.{is_taken}
 use Rattle.vub_queue.specs.QueueState as states
 use Rattle.vub_queue.specs.QueueState.{QueueState, standing_at, Fetches, Breaks, BreaksBy, Publishes, publishes, DoesOf, Unless, Turns, is_fault}
 use Rattle.vub_queue_in_run.specs.QueueAt.{spot_of, QueueAt, LiesAs, QueueStands}
@@ -38,8 +39,8 @@ use Rattle.vub_run_laws.proofs.RunHolds.{Holds}
 use Rattle.vub_run_laws.proofs.RunFrames.{open_out}
 use Rattle.vub_run_laws.proofs.RunPhases.{resting, rest_is}
 use Rattle.vub_run_laws.proofs.RunTurns.{IsPlain, Good, phase_cases}
-use Rattle.vub_queue_in_run.proofs.QueueAtMoves.{new_unpublished, at_start, at_fetch}
-use Rattle.vub_run_laws.proofs.RunQueue.{queue_ahead}
+use Rattle.vub_queue_in_run.proofs.QueueAtMoves.{new_unpublished, count_is, avail_is, taken_open, at_start, at_fetch}
+use Rattle.vub_run_laws.proofs.RunQueue.{queue_ahead, offered_head, head_below, heads_apart}
 
 -- ---- how many wait
 
@@ -50,27 +51,31 @@ standing_same a a' p p' w w' u u' c c' ea ep ew eu ec = cc
 avail_word : (q : ℕ) (r : SplitRing) (n : ℕ) (m : Bytes) → LiesAs q r n → avail_idx_word r m ≡ avail_idx (the_ring q n) m
 avail_word q r n m main = ap (λ (s : ℕ). word 2 m s (r.avail.1 + 2)) main.avail_space ∙ ap (λ (p : ℕ). word 2 m 0 (p + 2)) main.avail
 
--- the queue's own count of what waits is the moment's
-waiting_is : (q : ℕ) (h : Header1) (r : SplitRing) (m : Moment) (state : QueueState) → LiesAs q r h.size → QueueStands q h r m state
+-- the queue's avail position is the moment's
+stands_avail : (q : ℕ) (h : Header1) (r : SplitRing) (m : Moment) (state : QueueState) → Holds q h m.scene (m.lanes q) → QueueStands q h r m state → state.next_avail ≡ (h.base + accepted m.scene.past q) % 65536
+stands_avail q h r m state holds z = avail_is q h r m.scene.past (m.scene.heads q) (m.lanes q).phase (m.lanes q).batch (m.lanes q).completed (m.lanes q).made state holds.known z
+
+-- its own count of what waits is the moment's
+waiting_is : (q : ℕ) (h : Header1) (r : SplitRing) (m : Moment) (state : QueueState) → LiesAs q r h.size → Holds q h m.scene (m.lanes q) → QueueStands q h r m state
     → states.waiting state m.scene.memory ≡ ahead (avail_idx (the_ring q h.size) m.scene.memory) (h.base + accepted m.scene.past q)
-waiting_is q h r m state main z =
+waiting_is q h r m state main holds z =
     let position : ℕ = h.base + accepted m.scene.past q in
     let word_is : avail_idx_word state.ring m.scene.memory ≡ avail_idx (the_ring q h.size) m.scene.memory = ap (λ (x : SplitRing). avail_idx_word x m.scene.memory) z.ring ∙ avail_word q r h.size m.scene.memory main in
     let wraps : position % 65536 % 65536 ≡ position % 65536 = omega arith in
-    let from : state.next_avail % 65536 ≡ position % 65536 = ap (λ (a : ℕ). a % 65536) z.avail ∙ wraps in
+    let from : state.next_avail % 65536 ≡ position % 65536 = ap (λ (a : ℕ). a % 65536) (stands_avail q h r m state holds z) ∙ wraps in
     omega (arith, word_is, from)
 
-pub standings : (q : ℕ) (h : Header1) (r : SplitRing) (m : Moment) (state : QueueState) → LiesAs q r h.size → QueueStands q h r m state
+pub standings : (q : ℕ) (h : Header1) (r : SplitRing) (m : Moment) (state : QueueState) → LiesAs q r h.size → Holds q h m.scene (m.lanes q) → QueueStands q h r m state
     → standing_at state (states.waiting state m.scene.memory) ≡ standing h q m
-standings q h r m state main z =
+standings q h r m state main holds z =
     let l : Lane = m.lanes q in
     let many : length state.completed ≡ length l.completed = ap (λ (ks : List (ℕ × ℕ)). length ks) z.completed ∙ length-map l.completed (spot_of q h m.scene.past (m.scene.heads q)) in
     let st : Standing = standing h q m in
-    standing_same state.started st.started state.phase st.phase (states.waiting state m.scene.memory) st.waiting (length state.unfinished) st.unfinished (length state.completed) st.completed z.started z.phase (waiting_is q h r m state main z) z.count many
+    standing_same state.started st.started state.phase st.phase (states.waiting state m.scene.memory) st.waiting (length state.unfinished) st.unfinished (length state.completed) st.completed z.started z.phase (waiting_is q h r m state main holds z) (count_is q h r m.scene.past (m.scene.heads q) l.phase l.batch l.completed l.made state holds.worked z) many
 
 -- so the queue and the moment agree on what is ready
-pub ready_same : (q : ℕ) (h : Header1) (r : SplitRing) (m : Moment) (state : QueueState) (t : Turn) → LiesAs q r h.size → QueueStands q h r m state → is_ready (standing_at state (states.waiting state m.scene.memory)) t ≡ is_ready (standing h q m) t
-ready_same q h r m state t main z = ap (λ (s : Standing). is_ready s t) (standings q h r m state main z)
+pub ready_same : (q : ℕ) (h : Header1) (r : SplitRing) (m : Moment) (state : QueueState) (t : Turn) → LiesAs q r h.size → Holds q h m.scene (m.lanes q) → QueueStands q h r m state → is_ready (standing_at state (states.waiting state m.scene.memory)) t ≡ is_ready (standing h q m) t
+ready_same q h r m state t main holds z = ap (λ (s : Standing). is_ready s t) (standings q h r m state main holds z)
 
 -- ---- what a turn that didn't fail does
 
@@ -137,12 +142,12 @@ head_is q h r m state main z holds more =
     let mem : Bytes = m.scene.memory in
     let a : ℕ = accepted m.scene.past q in
     let index : ℕ = (h.base + a) % 65536 in
-    let place : state.next_avail % r.size ≡ index % h.size = ap (λ (i : ℕ). i % r.size) z.avail ∙ ap (λ (n : ℕ). index % n) main.size in
+    let place : state.next_avail % r.size ≡ index % h.size = ap (λ (i : ℕ). i % r.size) (stands_avail q h r m state holds z) ∙ ap (λ (n : ℕ). index % n) main.size in
     ap (λ (x : SplitRing). head_word x mem state.next_avail) z.ring
     ∙ ap (λ (s : ℕ). word 2 mem s (r.avail.1 + (4 + 2 * (state.next_avail % r.size)))) main.avail_space
     ∙ ap (λ (p : ℕ). word 2 mem 0 (p + (4 + 2 * (state.next_avail % r.size)))) main.avail
     ∙ ap (λ (e : ℕ). word 2 mem 0 (area_place q + 4096 + (4 + 2 * e))) place
-    ∙ holds.queue.ringed.avail_at a (omega arith) more
+    ∙ offered_head q h m.scene (m.lanes q).driver (m.lanes q).batch (m.lanes q).phase a holds.queue (omega arith) more
 
 -- the next request isn't open, and is offered
 next_out : (q : ℕ) (h : Header1) (s : Scene) (l : Lane) → Holds q h s l → accepted s.past q < length (s.heads q) → IsOut q s.past (s.heads q) (accepted s.past q)
@@ -165,7 +170,7 @@ keeps_rules q h r m state fault plain good main z breaks = go fault breaks.1
     holds = good.holds
 
     far : states.waiting state m.scene.memory + a ≡ length heads
-    far = omega (arith, waiting_is q h r m state main z, queue_ahead q h m.scene (m.lanes q) plain.good holds)
+    far = omega (arith, waiting_is q h r m state main holds z, queue_ahead q h m.scene (m.lanes q) plain.good holds)
 
     more : a < length heads
     more = omega (arith, far, breaks.0)
@@ -178,12 +183,12 @@ keeps_rules q h r m state fault plain good main z breaks = go fault breaks.1
 
     go : (f : RingFault) → BreaksBy state m.scene.memory f → ⊥
     go (faults.Jump ahead) b = omega (arith, b.0, b.1, far, sized, holds.known.room, holds.known.shown, holds.known.fewer)
-    go (faults.BadHead head) b = omega (arith, b.1, b.2, sized, head_is q h r m state main z holds more, holds.queue.driven.below a out)
+    go (faults.BadHead head) b = omega (arith, b.1, b.2, sized, head_is q h r m state main z holds more, head_below q h m.scene (m.lanes q).driver (m.lanes q).batch (m.lanes q).phase a holds.queue out)
     go (faults.Twice head) b =
         let small : head < r.size = omega (arith, b.2, ap (λ (x : SplitRing). x.size) z.ring) in
-        let t = z.taken head small b.3 in
+        let t = taken_open q h r m.scene.past heads (m.lanes q).phase (m.lanes q).batch (m.lanes q).completed (m.lanes q).made state head small b.3 z in
         let other : IsOut q m.scene.past heads t.0 = open_out q h.size h.capacity m.scene.past heads t.0 holds.known t.1 in
-        let same : t.0 ≡ a = holds.queue.driven.apart t.0 a other out (t.2 ∙ b.1 ∙ head_is q h r m state main z holds more) in
+        let same : t.0 ≡ a = heads_apart q h m.scene (m.lanes q).driver (m.lanes q).batch (m.lanes q).phase t.0 a holds.queue other out (t.2 ∙ b.1 ∙ head_is q h r m state main z holds more) in
         omega (arith, same, t.1.taken)
     go (faults.NoRoom slot) b = b
     go (faults.Chain fault) b = b
@@ -195,24 +200,36 @@ pub record HasFetched (q : ℕ) (h : Header1) (r : SplitRing) (m : Moment) (x : 
   pub made : (turned h q turns.Fetch m).items ≡ items.Made (entries.Accept q (accepted m.scene.past q)) ∷ []
   pub stands : QueueStands q h r (one_turn h q turns.Fetch m).next state'
 
+-- the head of the next request is accepted: it is below the size and free
+record Accepts (q : ℕ) (r : SplitRing) (m : Moment) (x : Stepped) (state u : QueueState) : Type 0 where
+  pub says : x ≡ says.Accepted (slice_index (m.scene.heads q) (accepted m.scene.past q))
+  pub leaves : u ≡ states.accepted (slice_index (m.scene.heads q) (accepted m.scene.past q)) state
+  pub small : slice_index (m.scene.heads q) (accepted m.scene.past q) < r.size
+  pub free : is_taken state.taken (slice_index (m.scene.heads q) (accepted m.scene.past q)) ≡ false
+
 -- a fetch that is ready and doesn't fail accepts a head
 fetch_accepts : (q : ℕ) (h : Header1) (r : SplitRing) (m : Moment) (x : Stepped) (state u : QueueState) → IsPlain h → Good q h m → LiesAs q r h.size → QueueStands q h r m state → is_ready (standing h q m) turns.Fetch ≡ true → is_fault x ≡ false
-    → Fetches (Some m.scene.memory) x state u → (x ≡ says.Accepted (slice_index (m.scene.heads q) (accepted m.scene.past q))) × (u ≡ states.accepted (slice_index (m.scene.heads q) (accepted m.scene.past q)) state)
+    → Fetches (Some m.scene.memory) x state u → Accepts q r m x state u
 fetch_accepts q h r m x state u plain good main z ready fine fetches = go x fine fetches
   where
     a : ℕ
     a = accepted m.scene.past q
 
-    go : (y : Stepped) → is_fault y ≡ false → Fetches (Some m.scene.memory) y state u → (y ≡ says.Accepted (slice_index (m.scene.heads q) a)) × (u ≡ states.accepted (slice_index (m.scene.heads q) a) state)
+    go : (y : Stepped) → is_fault y ≡ false → Fetches (Some m.scene.memory) y state u → Accepts q r m y state u
     go says.Idle f does = absurd (
         let unready : is_ready (standing_at state (states.waiting state m.scene.memory)) turns.Fetch ≡ false = does.1 m.scene.memory refl in
-        let fails : true ≡ false = sym ready ∙ sym (ready_same q h r m state turns.Fetch main z) ∙ unready in
+        let fails : true ≡ false = sym ready ∙ sym (ready_same q h r m state turns.Fetch main good.holds z) ∙ unready in
         cc)
     go (says.Accepted head) f does =
         let finds = does.2 m.scene.memory refl in
-        let more : a < length (m.scene.heads q) = omega (arith, finds.0.some, waiting_is q h r m state main z, queue_ahead q h m.scene (m.lanes q) plain.good good.holds) in
+        let more : a < length (m.scene.heads q) = omega (arith, finds.0.some, waiting_is q h r m state main good.holds z, queue_ahead q h m.scene (m.lanes q) plain.good good.holds) in
         let is : head ≡ slice_index (m.scene.heads q) a = finds.1 ∙ head_is q h r m state main z good.holds more in
-        (ap says.Accepted is, does.0 ∙ ap (λ (d : ℕ). states.accepted d state) is)
+        record {
+          says = ap says.Accepted is;
+          leaves = does.0 ∙ ap (λ (d : ℕ). states.accepted d state) is;
+          small = omega (arith, is, finds.2, ap (λ (y : SplitRing). y.size) z.ring);
+          free = ap (is_taken state.taken) (sym is) ∙ finds.3;
+        }
     go (says.Broken fault) f does = absurd (keeps_rules q h r m state fault plain good main z (does.2 m.scene.memory refl))
     go says.SharedFault f does = absurd (let fails : true ≡ false = f in cc)
     go (says.Stored tag) f does = absurd does
@@ -244,13 +261,13 @@ fetch_stands q h r m x state state' plain good main z ready fine made =
     let head : ℕ = slice_index heads (accepted past q) in
     let same : resting l ≡ l = fetch_rests q h m good ready in
     let accepts = fetch_accepts q h r m x state made.0 plain good main z ready fine (does_of turns.Fetch (Some m.scene.memory) x state state' made fine) in
-    let after : state' ≡ states.accepted head state = made.1 ∙ ap (λ (y : Stepped). states.halted y made.0) accepts.0 ∙ accepts.1 in
+    let after : state' ≡ states.accepted head state = made.1 ∙ ap (λ (y : Stepped). states.halted y made.0) accepts.says ∙ accepts.leaves in
     let at_rest : QueueAt q h r past heads phases.Rest [] l.completed l.made state = subst (λ (y : Lane). QueueAt q h r past heads y.phase y.batch y.completed y.made state) (sym same) z in
     let held : Holds q h m.scene (resting l) = subst (λ (y : Lane). Holds q h m.scene y) (sym same) good.holds in
-    let begins : StandsAfter q h r m.scene (phase_goes_on h q m.scene (under_way turns.Fetch (resting l))) (states.accepted head state) = at_fetch q h r past heads l.completed l.made state head held.known held.worked refl at_rest in
+    let begins : StandsAfter q h r m.scene (phase_goes_on h q m.scene (under_way turns.Fetch (resting l))) (states.accepted head state) = at_fetch q h r past heads l.completed l.made state head held.known held.worked refl accepts.small accepts.free at_rest in
     let stands : StandsAfter q h r m.scene (turned h q turns.Fetch m) (states.accepted head state) = subst (λ (y : Lane). StandsAfter q h r m.scene (phase_goes_on h q m.scene (under_way turns.Fetch y)) (states.accepted head state)) same begins in
     record {
-      said = accepts.0;
+      said = accepts.says;
       made = sym (ap (λ (y : Lane). (phase_goes_on h q m.scene (under_way turns.Fetch y)).items) same);
       stands = stands_after q h r m turns.Fetch state' (subst (λ (y : QueueState). StandsAfter q h r m.scene (turned h q turns.Fetch m) y) (sym after) stands);
     }
@@ -301,8 +318,8 @@ idle_does turns.Fetch state u x m is unready f does = idle_fetch state u x m unr
 idle_does (turns.Work place) state u x m is unready f does = absurd is
 idle_does (turns.Publish most) state u x m is unready f does = idle_publish state u x most unready does
 
-pub idle_stands : (q : ℕ) (h : Header1) (r : SplitRing) (m : Moment) (t : Turn) (x : Stepped) (state state' : QueueState) → LiesAs q r h.size → QueueStands q h r m state → IsPhaseTurn t
+pub idle_stands : (q : ℕ) (h : Header1) (r : SplitRing) (m : Moment) (t : Turn) (x : Stepped) (state state' : QueueState) → LiesAs q r h.size → Holds q h m.scene (m.lanes q) → QueueStands q h r m state → IsPhaseTurn t
     → is_ready (standing h q m) t ≡ false → is_fault x ≡ false → Turns t (Some m.scene.memory) x state state' → (x ≡ says.Idle) × (state' ≡ state)
-idle_stands q h r m t x state state' main z is unready fine made =
-    let idle = idle_does t state made.0 x m.scene.memory is (ready_same q h r m state t main z ∙ unready) fine (does_of t (Some m.scene.memory) x state state' made fine) in
+idle_stands q h r m t x state state' main holds z is unready fine made =
+    let idle = idle_does t state made.0 x m.scene.memory is (ready_same q h r m state t main holds z ∙ unready) fine (does_of t (Some m.scene.memory) x state state' made fine) in
     (idle.0, made.1 ∙ ap (λ (y : Stepped). states.halted y made.0) idle.0 ∙ idle.1)

@@ -27,7 +27,9 @@ use Rattle.vub_run_laws.proofs.RunFrames.{open_out}
 use Rattle.vub_run_laws.proofs.RunSteps.{WideCases, AtRead, AtWrite, AtFlush, wide_cases, wide_served, wide_steps, ReadAt, ToLook, ToPut, ToReply, read_at, WriteAt, ToAct, ToEnd, write_at}
 use Rattle.vub_run_laws.proofs.RunTurns.{IsPlain, Good}
 use Rattle.vub_run_laws.proofs.RunChainsEvents.{ChainedAt}
+use Rattle.vub_queue_in_run.proofs.QueueAtMoves.{count_is}
 use Rattle.vub_run_laws.proofs.RunChainsMeaning.{work_means}
+use Rattle.vub_run_laws.proofs.RunQueue.{head_below}
 
 -- ---- kinds of step
 
@@ -212,7 +214,7 @@ due_at q h m r sizes state place k task plain good chained main room a run is at
     let next = some_step h request (l.made k) plain.back wide pending in
     let stands : TaskAt q h r m.scene.past (m.scene.heads q) k (l.made k) task = a.tasks place k task is at in
     let n : Making = making_of q h m k meant.links request next.0 in
-    let low : head < h.size = good.holds.queue.driven.below k is_out in
+    let low : head < h.size = head_below q h m.scene (m.lanes q).driver (m.lanes q).batch (m.lanes q).phase k good.holds.queue is_out in
     let is_next : IsNext h.capacity sizes r m.scene.memory n = record {
       means = meant.means;
       served = record { basic = wide_basic h.capacity request wide; capacity = refl; cached = plain.back };
@@ -245,5 +247,5 @@ work_ready q h m r sizes state place plain good chained main room a ready =
     let run : started m.scene.past q ≡ true = grind (arith, nat_tests) in
     let inside : place < length (unfinished q m) = grind (arith, nat_tests) in
     let is : slice_get (unfinished q m) place ≡ Some (slice_index (unfinished q m) place) = slice_get-get_or (unfinished q m) place 0 inside in
-    let at : slice_get state.unfinished place ≡ Some (get_or state.unfinished place (fresh_task 0)) = slice_get-get_or state.unfinished place (fresh_task 0) (omega (arith, inside, a.count)) in
+    let at : slice_get state.unfinished place ≡ Some (get_or state.unfinished place (fresh_task 0)) = slice_get-get_or state.unfinished place (fresh_task 0) (omega (arith, inside, count_is q h r m.scene.past (m.scene.heads q) (m.lanes q).phase (m.lanes q).batch (m.lanes q).completed (m.lanes q).made state good.holds.worked a)) in
     due_at q h m r sizes state place (slice_index (unfinished q m) place) (get_or state.unfinished place (fresh_task 0)) plain good chained main room a run is at

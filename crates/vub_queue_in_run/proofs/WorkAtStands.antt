@@ -4,7 +4,6 @@ use Rattle.std.specs.Prelude.{Option, Some, None, slice_index, slice_get, slice_
 use Rattle.std.proofs.lemmas.Bool.Decides.{nat_tests}
 use Rattle.std.proofs.lemmas.Bool.{cases_eq, cases_lt}
 use Rattle.std.proofs.lemmas.List.{get_or-set_same, get_or-set_other, map-append, length-append, ext_get_or, get_or-append-add}
-use Rattle.std.proofs.lemmas.List.Edits.{length-remove}
 use Rattle.std.proofs.lemmas.Option.{slice_get_within}
 use Rattle.vub_base.specs.declared.header.Header1.{Header1}
 use Rattle.vub_disk.specs.Values.{Values}
@@ -22,8 +21,8 @@ use Rattle.vub_device.specs.Requests.{look_at, effect_at}
 use Rattle.vub_split.specs.declared.split.SplitRing.{SplitRing}
 use Rattle.vub_task.specs.declared.task.Task.{Task}
 use Rattle.vub_run.specs.Memory.{with_at, after_items}
-use Rattle.vub_run.specs.Moments.{Lane, Moment, buffer_of}
-use Rattle.vub_queue_in_run.specs.QueueAt.{QueueAt, QueueStands, DiskAt, TaskAt, spot_of, left_of}
+use Rattle.vub_run.specs.Moments.{Lane, Moment, buffer_of, open_heads}
+use Rattle.vub_queue_in_run.specs.QueueAt.{QueueAt, KeepsHeads, QueueStands, DiskAt, TaskAt, spot_of, left_of}
 use Rattle.vub_queue.specs.QueueState.{QueueState, HasWorked, Advances, worked, done_at}
 use Rattle.vub_run.specs.Run.{one_turn}
 use Rattle.vub_direct_chain.specs.ChainState.{sector_of}
@@ -42,7 +41,9 @@ use Rattle.vub_run_laws.proofs.RunTurns.{IsPlain, Good}
 use Rattle.vub_queue_in_run.proofs.QueueAtTurns.{stands_after}
 use Rattle.vub_queue_in_run.proofs.WorkAt.{WorkReady, making, Kind, IsLook, IsPut, IsAct, IsSync}
 use Rattle.vub_queue_in_run.proofs.WorkAtItems.{work_turned, work_kind}
+use Rattle.vub_queue_in_run.proofs.QueueHeld.{keeps_worked, keeps_done}
 use Rattle.vub_queue_in_run.proofs.WorkAtLists.{slice_get-set_same, slice_get-set_other, slice_get-remove_below, slice_get-remove_above, filter_distinct, one_place, one_less, among_kept}
+use Rattle.vub_run_laws.proofs.RunQueue.{heads_apart}
 
 -- ---- the requests that are left
 
@@ -79,9 +80,9 @@ open_same q past past' k j x o = record {
 }
 
 -- requests that are left have heads of their own
-heads_apart : (q : ℕ) (h : Header1) (m : Moment) (j k : ℕ) → Good q h m → IsOpen m.scene.past q j → IsOpen m.scene.past q k → j ≢ k → slice_index (m.scene.heads q) j ≢ slice_index (m.scene.heads q) k
-heads_apart q h m j k good open_j open_k apart same =
-    apart (good.holds.queue.driven.apart j k (open_out q h.size h.capacity m.scene.past (m.scene.heads q) j good.holds.known open_j) (open_out q h.size h.capacity m.scene.past (m.scene.heads q) k good.holds.known open_k) same)
+heads_differ : (q : ℕ) (h : Header1) (m : Moment) (j k : ℕ) → Good q h m → IsOpen m.scene.past q j → IsOpen m.scene.past q k → j ≢ k → slice_index (m.scene.heads q) j ≢ slice_index (m.scene.heads q) k
+heads_differ q h m j k good open_j open_k apart same =
+    apart (heads_apart q h m.scene (m.lanes q).driver (m.lanes q).batch (m.lanes q).phase j k good.holds.queue (open_out q h.size h.capacity m.scene.past (m.scene.heads q) j good.holds.known open_j) (open_out q h.size h.capacity m.scene.past (m.scene.heads q) k good.holds.known open_k) same)
 
 -- ---- one task
 
@@ -114,12 +115,11 @@ goes_on q h sizes m r state place w past' next sector good a x head made put = r
   ring = a.ring;
   runs = a.runs;
   started = a.started ∙ sym x.runs;
-  avail = a.avail ∙ ap (λ (n : ℕ). (h.base + n) % 65536) (sym x.accepts);
   used = a.used ∙ ap (λ (ps : List ℕ). (h.base + length ps) % 65536) (sym x.publishes);
   phase = a.phase;
   batch = a.batch ∙ spots_same q h past past' heads w.k l.batch x;
   completed = a.completed ∙ spots_same q h past past' heads w.k l.completed x;
-  count = length-set state.unfinished place next ∙ a.count ∙ ap length (sym same);
+  keeps = subst (λ (hs : List ℕ). KeepsHeads r.size hs (worked place next sector state)) (sym same_heads) (keeps_worked r.size (open_heads q past heads) state place next w.task sector w.due.at head a.keeps);
   tasks = λ i j t at_left at_task.
       let at_i : slice_get left i ≡ Some j = ap (λ (xs : List ℕ). slice_get xs i) (sym same) ∙ at_left in
       elim (cases_eq i place) [
@@ -153,12 +153,11 @@ goes_on q h sizes m r state place w past' next sector good a x head made put = r
             ap (λ (d : ℕ). get_or (set state.sectors (head_in next) sector) d []) at_head ∙ get_or-set_same state.sectors (head_in next) sector [] fits ∙ put p step_then
             ∙ ap (λ (n : ℕ). slice_range (bytes_read past' q n) (512 * p) (512 * p + 512)) (sym here)
         | inr apart ↦
-            let other : slice_index heads j ≢ (head_in next) = λ e. heads_apart q h m j w.k good (left_open q past l.completed l.batch j left_j) w.is_open apart (e ∙ head ∙ w.head) in
+            let other : slice_index heads j ≢ (head_in next) = λ e. heads_differ q h m j w.k good (left_open q past l.completed l.batch j left_j) w.is_open apart (e ∙ head ∙ w.head) in
             let was : slice_get (task_steps h request) (l.made j) ≡ Some (Put p) = ap (slice_get (task_steps h request)) (sym (at_other l.made w.k (l.made w.k + 1) j apart)) ∙ at_step in
             get_or-set_other state.sectors (head_in next) (slice_index heads j) sector [] other ∙ a.sectors j p request left_j is_old was
             ∙ ap (λ (xs : List ℕ). slice_range xs (512 * p) (512 * p + 512)) (sym (x.sees j apart))
       ];
-  taken = λ d low held. let y = a.taken d low held in (y.0, open_same q past past' w.k y.0 x y.1, y.2);
 }
   where
     l : Lane
@@ -176,6 +175,9 @@ goes_on q h sizes m r state place w past' next sector good a x head made put = r
     same : left_of q past' l.completed l.batch ≡ left
     same = left_same q past past' w.k l.completed l.batch x
 
+    same_heads : open_heads q past' heads ≡ open_heads q past heads
+    same_heads = ap (λ (ps : List ℕ). map (slice_index heads) (missing_below ps (accepted past' q))) x.publishes ∙ ap (λ (n : ℕ). map (slice_index heads) (missing_below (published past q) n)) x.accepts
+
 -- ---- the last step
 
 finished : (q : ℕ) (h : Header1) (sizes : ℕ → ℕ) (m : Moment) (r : SplitRing) (state : QueueState) (place : ℕ) (w : WorkReady q h sizes m state place) (sector : List ℕ) → Good q h m → QueueStands q h r m state
@@ -184,14 +186,13 @@ finished q h sizes m r state place w sector good a = record {
   ring = a.ring;
   runs = a.runs;
   started = a.started;
-  avail = a.avail;
   used = a.used;
   phase = a.phase;
   batch = a.batch;
   completed = ap (λ (xs : List (ℕ × ℕ)). xs ++ (head_in w.task, used_len (status_of h w.request) w.request) ∷ []) a.completed
       ∙ ap (λ (e : ℕ × ℕ). map (spot_of q h past heads) l.completed ++ e ∷ []) element
       ∙ sym (map-append (spot_of q h past heads) l.completed (w.k ∷ []));
-  count = let fewer : length (remove left place) + 1 ≡ length left = length-remove left place inside_left in omega (arith, length-remove state.unfinished place inside, fewer, a.count, ap length less);
+  keeps = keeps_done r.size (open_heads q past heads) state place (used_len (status_of h w.request) w.request) w.task sector w.due.at a.keeps;
   tasks = λ i j t at_left at_task.
       let at_i : slice_get (remove left place) i ≡ Some j = ap (λ (xs : List ℕ). slice_get xs i) (sym less) ∙ at_left in
       elim (cases_lt i place) [
@@ -212,10 +213,9 @@ finished q h sizes m r state place w sector good a = record {
       let parts = not_more l.completed l.batch w.k j out in
       let passes : not (is_among (l.completed ++ l.batch) j) ≡ true = ap not parts.1 in
       let left_j : is_among left j ≡ true = among_kept (λ n. not (is_among (l.completed ++ l.batch) n)) (open_numbers past q) j kept.0 passes in
-      let other : slice_index heads j ≢ (head_in w.task) = λ e. heads_apart q h m j w.k good (left_open q past l.completed l.batch j left_j) w.is_open parts.0 (e ∙ w.head) in
+      let other : slice_index heads j ≢ (head_in w.task) = λ e. heads_differ q h m j w.k good (left_open q past l.completed l.batch j left_j) w.is_open parts.0 (e ∙ w.head) in
       let was_step : slice_get (task_steps h request) (l.made j) ≡ Some (Put p) = ap (slice_get (task_steps h request)) (sym (at_other l.made w.k (l.made w.k + 1) j parts.0)) ∙ at_step in
       get_or-set_other state.sectors (head_in w.task) (slice_index heads j) sector [] other ∙ a.sectors j p request left_j is was_step;
-  taken = a.taken;
 }
   where
     l : Lane

@@ -7,15 +7,35 @@ use Rattle.vub_device.specs.declared.entry.Asked.{Asked}
 use Rattle.vub_device.specs.declared.entry.Entry.{Entry}
 use Rattle.vub_disk.specs.Values.{Values}
 use Rattle.vub_device.specs.Crash.{value}
-use Rattle.vub_device.specs.Past.{asked, accepted, published, open_numbers, is_among, IsOpen, started, bytes_read}
+use Rattle.vub_device.specs.Past.{asked, published, open_numbers, is_among, started, bytes_read}
 use Rattle.vub_steps.specs.Tasks.{Put, task_steps}
-use Rattle.vub_run.specs.Moments.{Moment}
+use Rattle.vub_run.specs.Moments.{Moment, open_heads}
 use Rattle.vub_run.specs.Turns.{len_of}
 use Rattle.vub_queue.specs.QueueParts.{is_taken}
 use Rattle.vub_queue.specs.QueueState.{QueueState}
 use Rattle.vub_task.specs.TaskState.{IsTaskAt, head_in}
 use Rattle.vub_split.specs.declared.split.SplitRing.{SplitRing}
 use Rattle.vub_task.specs.declared.task.Task.{Task}
+use Rattle.vub_facts.specs.Facts.{Words}
+use Rattle.vub_facts.specs.Held.{State, Held}
+
+-- ---- what a queue keeps, by heads
+
+-- its state, as far as the open heads are concerned
+abbrev pub held_in : QueueState → State
+held_in s = record {
+  side = record { started = s.started; phase = s.phase; batch = s.batch };
+  avail = s.next_avail;
+  taken = is_taken s.taken;
+  unfinished = map head_in s.unfinished;
+  completed = s.completed;
+}
+
+-- what it keeps agrees with these open heads, whatever stands beside the used.idx that it keeps
+abbrev pub KeepsHeads : ℕ → List ℕ → QueueState → Type 0
+KeepsHeads n heads s = (w : Words) → w.ring.used ≡ s.next_used → Held n heads w (held_in s)
+
+-- ---- what it keeps, by the numbers of a run
 
 -- head and used length of the k-th request
 abbrev pub spot_of : ℕ → Header1 → List Entry → List ℕ → ℕ → ℕ × ℕ
@@ -34,21 +54,18 @@ pub record QueueAt (q : ℕ) (h : Header1) (r : SplitRing) (past : List Entry) (
   pub ring : state.ring ≡ r
   pub runs : state.stopped ≡ None
   pub started : state.started ≡ started past q
-  pub avail : state.next_avail ≡ (h.base + accepted past q) % 65536
   pub used : state.next_used ≡ (h.base + length (published past q)) % 65536
   pub phase : state.phase ≡ at_phase
   pub batch : state.batch ≡ map (spot_of q h past heads) in_batch
   pub completed : state.completed ≡ map (spot_of q h past heads) ready
-  -- a task for each request that is left, in order
-  pub count : length state.unfinished ≡ length (left_of q past ready in_batch)
+  pub keeps : KeepsHeads r.size (open_heads q past heads) state
+  -- the tasks of the requests that are left, in order
   pub tasks : (i k : ℕ) (task : Task) → slice_get (left_of q past ready in_batch) i ≡ Some k → slice_get state.unfinished i ≡ Some task → TaskAt q h r past heads k (made k) task
   -- between a look and its store, what was read stands at the head
   pub buffers : length state.sectors ≡ r.size
   pub places : length state.taken ≡ r.size
   pub sectors : (k place : ℕ) (request : Asked) → is_among (left_of q past ready in_batch) k ≡ true → asked past q k ≡ Some request → slice_get (task_steps h request) (made k) ≡ Some (Put place)
       → get_or state.sectors (slice_index heads k) [] ≡ slice_range (bytes_read past q k) (512 * place) (512 * place + 512)
-  -- a head that is taken is that of an open request
-  pub taken : (d : ℕ) → d < r.size → is_taken state.taken d ≡ true → (k : ℕ) × IsOpen past q k × (slice_index heads k ≡ d)
 
 -- ---- at a moment
 

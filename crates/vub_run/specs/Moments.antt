@@ -1,5 +1,5 @@
 -- Where a run stands: memory and history, the drivers, and what the device has under way.
-use Rattle.std.specs.Prelude.{ℕ, ◌+◌, Bool, false, not, List, [], ◌++◌, length, filter, slice_index}
+use Rattle.std.specs.Prelude.{ℕ, ◌+◌, Bool, false, not, List, [], ◌++◌, length, map, filter, slice_index}
 use Rattle.vub_base.specs.declared.header.Header1.{Header1}
 use Rattle.vub_steps.specs.declared.steps.Phase.{Phase}
 use Rattle.vub_steps.specs.declared.steps.Phase.TheVariants.{Rest}
@@ -7,6 +7,7 @@ use Rattle.vub_steps.specs.declared.readiness.Standing.{Standing}
 use Rattle.vub_ring.specs.Ring.{ahead, avail_idx}
 use Rattle.vub_driver.specs.Layout.{ring_of, area_place, buffer_place}
 use Rattle.vub_driver.specs.Drivers.{Driver, new_driver}
+use Rattle.vub_device.specs.declared.entry.Entry.{Entry}
 use Rattle.vub_device.specs.Past.{accepted, open_numbers, is_among, started}
 use Rattle.vub_run.specs.Memory.{Scene, opening_scene}
 
@@ -63,3 +64,7 @@ standing h q m = record {
 -- the buffer of a request, by the head under which it was offered
 abbrev pub buffer_of : ℕ → ℕ → Scene → ℕ
 buffer_of q k s = buffer_place (area_place q) (slice_index (s.heads q) k)
+
+-- the heads of a queue's open requests, in order, where its requests were offered under these heads
+abbrev pub open_heads : ℕ → List Entry → List ℕ → List ℕ
+open_heads q past heads = map (slice_index heads) (open_numbers past q)

@@ -31,6 +31,7 @@ pub mod RunExists
 pub mod RunFrames
 pub mod RunGood
 pub mod RunGuests
+pub mod RunHeads
 pub mod RunHolds
 pub mod RunItems
 pub mod RunLawful

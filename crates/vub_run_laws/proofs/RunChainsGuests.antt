@@ -66,7 +66,7 @@ other_spared q cap owner other head body status r p bs simple fh fb fs apart mh 
       handed = inr (omega (arith, there.0));
     }
 
-chain_stays : (q cap : ℕ) (owner : ℕ → Option ℕ) (other head body status : ℕ) (r : Asked) (sts : List Store) (m : Bytes) → IsWide cap (Some r) → head < 64 → body < 64 → status < 64 → head ≢ other → owner head ≡ Some head → owner body ≡ Some head → owner status ≡ Some head
+pub chain_stays : (q cap : ℕ) (owner : ℕ → Option ℕ) (other head body status : ℕ) (r : Asked) (sts : List Store) (m : Bytes) → IsWide cap (Some r) → head < 64 → body < 64 → status < 64 → head ≢ other → owner head ≡ Some head → owner body ≡ Some head → owner status ≡ Some head
     → AreMine q owner other sts → HasChain q m head body status r → HasChain q (put_all sts m) head body status r
 chain_stays q cap owner other head body status r [] m simple fh fb fs apart mh mb ms mine h = h
 chain_stays q cap owner other head body status r (st ∷ sts) m simple fh fb fs apart mh mb ms mine h =

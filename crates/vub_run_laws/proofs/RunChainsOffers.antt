@@ -140,7 +140,7 @@ ask_chained q h s v a ready c =
 
 -- ---- a collection
 
-pub kept_owner : (owner : ℕ → Option ℕ) (x e d : ℕ) → e ≢ x → owner d ≡ Some e → without_owner x owner d ≡ Some e
+kept_owner : (owner : ℕ → Option ℕ) (x e d : ℕ) → e ≢ x → owner d ≡ Some e → without_owner x owner d ≡ Some e
 kept_owner owner x e d apart is =
     let other : (e == x) ≡ false = grind (arith, nat_tests) in
     ap (λ (o : Option ℕ). cond (is_that x o) None o) is ∙ ap (λ (b : Bool). cond {A = Option ℕ} b None (Some e)) other

@@ -1,5 +1,5 @@
 -- Every store of the driver in a run is lawful where it is made.
-use Rattle.std.proofs.Common.{◌≡◌, ◌≢◌, ◌≤◌, ◌<◌, ℕ, zero, suc, ◌+◌, ◌%◌, false, List, [], ◌∷◌, ◌++◌, length, refl, ap, sym, ◌∙◌, subst, inl, inr, arith}
+use Rattle.std.proofs.Common.{true, ◌≡◌, ◌≢◌, ◌≤◌, ◌<◌, ℕ, zero, suc, ◌+◌, ◌%◌, false, List, [], ◌∷◌, ◌++◌, length, refl, ap, sym, ◌∙◌, subst, inl, inr, arith}
 use Rattle.std.specs.Prelude.{Option, Some, None, get_or, slice_index, is_some}
 use Rattle.std.specs.List.{AllByRecursion}
 use Rattle.std.proofs.lemmas.Bool.{cases_Bool}
@@ -11,7 +11,8 @@ use Rattle.vub_shared.specs.Stores.{Store, one_store}
 use Rattle.vub_ring.specs.Ring.{avail_entry_place, avail_idx_place, avail_idx}
 use Rattle.vub_driver.specs.Drivers.{Driver, Waiting}
 use Rattle.vub_driver.specs.Stores.{offer_stores}
-use Rattle.vub_device.specs.Past.{is_among}
+use Rattle.vub_driver.specs.TableChain.{chain_in}
+use Rattle.vub_device.specs.Past.{asked, is_among}
 use Rattle.vub_schedule.specs.declared.types.Event.{Event}
 use Rattle.vub_schedule.specs.declared.types.Event.TheVariants as events
 use Rattle.vub_schedule.specs.declared.types.Schedule.{Schedule}
@@ -21,22 +22,23 @@ use Rattle.vub_report.specs.declared.items.Record.{Record}
 use Rattle.vub_run.specs.Lawful.{IsOutstanding, HasRoom, next_index, IsLawful, IsLawfulItem, BeforeEach, LawfulFrom, EveryStoreIsLawful}
 use Rattle.vub_run.specs.Memory.{Scene}
 use Rattle.vub_run.specs.Moments.{Moment, opening}
-use Rattle.vub_run.specs.Run.{Played, if_ready, guest_items, guest, guest_stores, Plays, RunFrom, Run}
-use Rattle.vub_run_laws.proofs.RingGood.{the_ring, index_store, IsHarmless, IsLeft, IsWaiting}
-use Rattle.vub_run_laws.proofs.RunGood.{IsSize, IsOut}
+use Rattle.vub_run.specs.Run.{RunTo, Stands, Played, if_ready, guest_items, guest, guest_stores, Plays, RunFrom, Run}
+use Rattle.vub_run_laws.proofs.RingGood.{the_ring, index_store, IsHarmless, IsWaiting, IsLeft}
+use Rattle.vub_run_laws.proofs.RunGood.{IsSize, IsOut, Known}
 use Rattle.vub_run_laws.proofs.RunFrames.{keeps, length_little}
 use Rattle.vub_run_laws.proofs.RingFrames.{entry_small}
 use Rattle.vub_run_laws.proofs.RunGuests.{waits_well}
-use Rattle.vub_run_laws.proofs.RunTurns.{IsPlain, Good}
+use Rattle.vub_run_laws.proofs.RunTurns.{IsPlain}
 use Rattle.vub_run_laws.proofs.RunEvents.{Right}
 use Rattle.vub_run_laws.proofs.Runs.{plain_header}
 use Rattle.vub_run_laws.proofs.RunChainsTurns.{IsPrepared, PreparedWell}
 use Rattle.vub_run_laws.proofs.RunsLegal.{HoldsOf, IsHeld, some_queue, opening_held, held_right, held_next}
+use Rattle.vub_run_laws.proofs.RunsTo.{stands_held}
 use Rattle.vub_run_laws.proofs.RunQueues.{IsOn, on_one}
 use Rattle.vub_run_laws.proofs.RunQuiet.{quiet_lawful, event_quiet}
-use Rattle.vub_run_laws.proofs.RunDescriptors.{DescribedAt, event_described, opening_described}
+use Rattle.vub_run_laws.proofs.RunDescriptors.{DescribedAt, chain_owned, event_described, opening_described}
 use Rattle.vub_run_laws.proofs.RunParts.{IsPart, AreParts, left_parts}
-use Rattle.vub_run_laws.proofs.RunQueue.{kept_index, queue_room, offered_index}
+use Rattle.vub_run_laws.proofs.RunQueue.{kept_index, queue_room, offered_index, head_owned}
 
 -- what the driver of a queue may store at a scene for the request of that head, whatever memory holds
 record MayStore (q : ℕ) (h : Header1) (s : Scene) (index head : ℕ) (owner : ℕ → Option ℕ) : Type 0 where
@@ -146,25 +148,30 @@ left_lawful q h many s index head owner a count left may (inr last) parts at =
 -- ---- an event
 
 -- of a request that waits
-may_store : (q : ℕ) (h : Header1) (m : Moment) (w : Waiting) → IsPlain h → Good q h m → DescribedAt q m → IsWaiting q h.size h.capacity m.scene.past (m.scene.heads q) (m.lanes q).driver w → MayStore q h m.scene (m.lanes q).driver.avail_idx w.head (m.lanes q).driver.owner
-may_store q h m w plain good x waits =
+may_store : (q : ℕ) (h : Header1) (m : Moment) (w : Waiting) → IsPlain h → HoldsOf q h m → DescribedAt q h m → IsWaiting q h.size h.capacity m.scene.past (m.scene.heads q) (m.lanes q).driver w → MayStore q h m.scene (m.lanes q).driver.avail_idx w.head (m.lanes q).driver.owner
+may_store q h m w plain held x waits =
     let s : Scene = m.scene in
     let v : Driver = (m.lanes q).driver in
-    let out_of : (k : ℕ) → IsOutstanding q s k → IsOut q s.past (s.heads q) k = λ k out. record { below = omega (arith, out.offered, good.holds.known.offers_are); kept = out.kept } in record {
+    let known : Known q h.size h.capacity s.past (s.heads q) = held.good.holds.known in
+    let out_of : (k : ℕ) → IsOutstanding q s k → IsOut q s.past (s.heads q) k = λ k out. record { below = omega (arith, out.offered, known.offers_are); kept = out.kept } in record {
       size = plain.good.size;
-      index_is = kept_index q h s v (m.lanes q).batch (m.lanes q).phase good.holds.queue ∙ ap (λ (c : ℕ). (h.base + c) % 65536) good.holds.known.offers_are;
-      room = let room = queue_room q h s v (m.lanes q).batch (m.lanes q).phase w good.holds.known waits good.holds.queue in omega (arith, room, good.holds.known.offers_are);
+      index_is = kept_index q h m.scene (m.lanes q).driver (m.lanes q).batch (m.lanes q).phase held.good.holds.queue ∙ ap (λ (c : ℕ). (h.base + c) % 65536) known.offers_are;
+      room = let room = queue_room q h m.scene (m.lanes q).driver (m.lanes q).batch (m.lanes q).phase w known waits held.good.holds.queue in omega (arith, room, known.offers_are);
       low = waits.below;
       unused = λ k out. waits.apart k (out_of k out);
       unlinked = λ d mine k out. elim (cases_Bool (is_among (get_or (s.descriptors q) k []) d)) [
-        | inl held ↦
-            let both : Some (slice_index (s.heads q) k) ≡ Some w.head = sym (x.owned k d (out_of k out) held) ∙ mine in
-            absurd (waits.apart k (out_of k out) (let same : slice_index (s.heads q) k ≡ w.head = cc in same))
+        | inl among ↦
+            let o : IsOut q s.past (s.heads q) k = out_of k out in
+            let head : ℕ = slice_index (s.heads q) k in
+            let there : is_among (chain_in (the_ring q h.size) s.memory head) d ≡ true = ap (λ (xs : List ℕ). is_among xs d) (sym (x.stands k o)) ∙ among in
+            let theirs : v.owner d ≡ Some head = chain_owned q h.size v.owner s.memory head d (asked s.past q k) (head_owned q h m.scene (m.lanes q).driver (m.lanes q).batch (m.lanes q).phase k held.good.holds.queue o) (held.chained.linked k o) there in
+            let both : Some head ≡ Some w.head = sym theirs ∙ mine in
+            absurd (waits.apart k o (let same : head ≡ w.head = cc in same))
         | inr free ↦ free
       ];
     }
 
-guest_lawful : (q : ℕ) (h : Header1) (many : ℕ) (m : Moment) → IsPlain h → HoldsOf q h m → DescribedAt q m → BeforeEach h (IsLawfulItem h (events.Guest q many)) m.scene (guest h q many m).items
+guest_lawful : (q : ℕ) (h : Header1) (many : ℕ) (m : Moment) → IsPlain h → HoldsOf q h m → DescribedAt q h m → BeforeEach h (IsLawfulItem h (events.Guest q many)) m.scene (guest h q many m).items
 guest_lawful q h many m plain held x = go (m.lanes q).driver.waiting refl
   where
     go : (o : Option Waiting) → (m.lanes q).driver.waiting ≡ o → BeforeEach h (IsLawfulItem h (events.Guest q many)) m.scene (if_ready (is_some o) (guest_stores h q many o m) m).items
@@ -173,10 +180,10 @@ guest_lawful q h many m plain held x = go (m.lanes q).driver.waiting refl
         let v : Driver = (m.lanes q).driver in
         let waits : IsWaiting q h.size h.capacity m.scene.past (m.scene.heads q) v w = waits_well q h m.scene (m.lanes q) w e held.good.holds in
         let ready : IsPrepared q h.size m.scene.memory v w = subst (λ (o : Option Waiting). PreparedWell q h.size m.scene.memory v o) e held.chained.waits in
-        left_lawful q h many m.scene v.avail_idx w.head v.owner w.ask many w.left (may_store q h m w plain held.good x waits) waits.plan
-        (left_parts q h.size h.capacity m.scene.past (m.scene.heads q) m.scene.memory v w waits ready) (offered_index q h m.scene v (m.lanes q).batch (m.lanes q).phase held.good.holds.queue)
+        left_lawful q h many m.scene v.avail_idx w.head v.owner w.ask many w.left (may_store q h m w plain held x waits) waits.plan
+        (left_parts q h.size h.capacity m.scene.past (m.scene.heads q) m.scene.memory v w waits ready) (offered_index q h m.scene (m.lanes q).driver (m.lanes q).batch (m.lanes q).phase held.good.holds.queue)
 
-event_lawful : (q : ℕ) (h : Header1) (m : Moment) (e : Event) (is : List Item) (next : Moment) → IsPlain h → HoldsOf q h m → DescribedAt q m → IsOn q e → Plays h m e is next → BeforeEach h (IsLawfulItem h e) m.scene is
+event_lawful : (q : ℕ) (h : Header1) (m : Moment) (e : Event) (is : List Item) (next : Moment) → IsPlain h → HoldsOf q h m → DescribedAt q h m → IsOn q e → Plays h m e is next → BeforeEach h (IsLawfulItem h e) m.scene is
 event_lawful q h m (events.Guest p k) is next plain held x on plays =
     let here : Plays h m (events.Guest q k) is next = subst (λ (p : ℕ). Plays h m (events.Guest p k) is next) on plays in
     let lawful : BeforeEach h (IsLawfulItem h (events.Guest q k)) m.scene is = subst (λ (y : Played). BeforeEach h (IsLawfulItem h (events.Guest q k)) m.scene y.items) (sym here) (guest_lawful q h k m plain held x) in
@@ -196,7 +203,10 @@ event_lawful q h m (events.Drain p) is next plain held x on plays = quiet_lawful
 
 -- what holds of every queue at every moment of a run
 abbrev EveryDescribed : Header1 → Moment → Type 0
-EveryDescribed h m = (q : ℕ) → q < h.queues → DescribedAt q m
+EveryDescribed h m = (q : ℕ) → q < h.queues → DescribedAt q h m
+
+described_next : (h : Header1) (m : Moment) (e : Event) (is : List Item) (next : Moment) → IsHeader h → IsHeld h m → EveryDescribed h m → IsEvent h e → Plays h m e is next → EveryDescribed h next
+described_next h m e is next header held x fits plays q low = event_described q h m e is next (plain_header h header) (held q low) (x q low) (on_one h q e header low fits) fits plays
 
 lawful_from : (h : Header1) (m : Moment) (es : List Event) (rs : List Record) → IsHeader h → IsHeld h m → EveryDescribed h m → AllByRecursion (IsEvent h) es → RunFrom h m es rs → LawfulFrom h m.scene rs
 lawful_from h m [] [] header held x fits run = tt
@@ -204,16 +214,27 @@ lawful_from h m [] (r ∷ rs) header held x fits run = absurd run
 lawful_from h m (e ∷ es) [] header held x fits run = absurd run
 lawful_from h m (e ∷ es) (r ∷ rs) header held x fits run =
     let next : Moment = run.1.0 in
-    let plain : IsPlain h = plain_header h header in
     let some : 0 < h.queues = some_queue h header in
     let right : Right 0 h m r.items next = held_right 0 h m e r.items next header some held fits.0 run.1.1 in
-    let held' : IsHeld h next = held_next h m e r.items next header held fits.0 run.1.1 in
-    let x' : EveryDescribed h next = λ q low. event_described q h m e r.items next plain (held q low) (held' q low) (x q low) (on_one h q e header low fits.0) fits.0 run.1.1 in
-    let lawful : BeforeEach h (IsLawfulItem h e) m.scene r.items = event_lawful 0 h m e r.items next plain (held 0 some) (x 0 some) (on_one h 0 e header some fits.0) run.1.1 in
-    let rest : LawfulFrom h next.scene rs = lawful_from h next es rs header held' x' fits.1 run.1.2 in (
+    let lawful : BeforeEach h (IsLawfulItem h e) m.scene r.items = event_lawful 0 h m e r.items next (plain_header h header) (held 0 some) (x 0 some) (on_one h 0 e header some fits.0) run.1.1 in
+    let rest : LawfulFrom h next.scene rs = lawful_from h next es rs header (held_next h m e r.items next header held fits.0 run.1.1) (described_next h m e r.items next header held x fits.0 run.1.1) fits.1 run.1.2 in (
       subst (λ (y : Event). BeforeEach h (IsLawfulItem h y) m.scene r.items) (sym run.0) lawful,
       subst (λ (s : Scene). LawfulFrom h s rs) right.scene rest,
     )
 
 pub run_lawful : (s : Schedule) (records : List Record) → IsSchedule s → Run s records → EveryStoreIsLawful s.header records
 run_lawful s records is run = lawful_from s.header (opening s.header) s.events records is.header (opening_held s.header is.header) (λ q low. opening_described q s.header) is.events run
+
+-- where a run leads
+run_described : (h : Header1) (m : Moment) (es : List Event) (rs : List Record) (n : Moment) → IsHeader h → IsHeld h m → EveryDescribed h m → AllByRecursion (IsEvent h) es → RunTo h m es rs n → EveryDescribed h n
+run_described h m [] [] n header held x fits run = subst (λ (y : Moment). EveryDescribed h y) (sym run) x
+run_described h m [] (r ∷ rs) n header held x fits run = absurd run
+run_described h m (e ∷ es) [] n header held x fits run = absurd run
+run_described h m (e ∷ es) (r ∷ rs) n header held x fits run =
+    run_described h run.1.0 es rs n header (held_next h m e r.items run.1.0 header held fits.0 run.1.1) (described_next h m e r.items run.1.0 header held x fits.0 run.1.1) fits.1 run.1.2
+
+pub stands_described : (h : Header1) (es : List Event) (rs : List Record) (n : Moment) (q k : ℕ) → q < h.queues → Stands h es rs n → IsOutstanding q n.scene k → get_or (n.scene.descriptors q) k [] ≡ chain_in (the_ring q h.size) n.scene.memory (slice_index (n.scene.heads q) k)
+stands_described h es rs n q k low s out =
+    let x : EveryDescribed h n = run_described h (opening h) es rs n s.header (opening_held h s.header) (λ p fits. opening_described p h) s.events s.run in
+    let known : Known q h.size h.capacity n.scene.past (n.scene.heads q) = (stands_held h es rs n s q low).good.holds.known in
+    (x q low).stands k (record { below = omega (arith, out.offered, known.offers_are); kept = out.kept })

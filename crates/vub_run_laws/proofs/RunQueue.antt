@@ -149,6 +149,10 @@ queue_tracks q h s v batch phase size known x = tracks q h s size known x.ringed
 pub head_below : (q : ℕ) (h : Header1) (s : Scene) (v : Driver) (batch : List ℕ) (phase : Phase) (k : ℕ) → QueueFacts q h s v batch phase → IsOut q s.past (s.heads q) k → slice_index (s.heads q) k < h.size
 head_below q h s v batch phase k x out = x.driven.below k out
 
+-- and the descriptor of that number belongs to it
+pub head_owned : (q : ℕ) (h : Header1) (s : Scene) (v : Driver) (batch : List ℕ) (phase : Phase) (k : ℕ) → QueueFacts q h s v batch phase → IsOut q s.past (s.heads q) k → v.owner (slice_index (s.heads q) k) ≡ Some (slice_index (s.heads q) k)
+head_owned q h s v batch phase k x out = x.driven.owned k out
+
 pub heads_apart : (q : ℕ) (h : Header1) (s : Scene) (v : Driver) (batch : List ℕ) (phase : Phase) (j k : ℕ) → QueueFacts q h s v batch phase → IsOut q s.past (s.heads q) j → IsOut q s.past (s.heads q) k → slice_index (s.heads q) j ≡ slice_index (s.heads q) k → j ≡ k
 heads_apart q h s v batch phase j k x out_j out_k same = x.driven.apart j k out_j out_k same
 

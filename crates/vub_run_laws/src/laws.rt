@@ -1,7 +1,9 @@
 //! Laws of all runs.
-ghost use Rattle.std.specs.Prelude.{◌≡◌, ◌<◌, ℕ, true, false, List, [], length, slice_index};
+ghost use Rattle.std.specs.Prelude.{◌≡◌, ◌<◌, ℕ, true, false, List, [], length, get_or, slice_index};
 ghost use Rattle.std.specs.List.{AllByRecursion};
 ghost use Rattle.vub_base.specs.declared.header.Header1.{Header1};
+ghost use Rattle.vub_driver.specs.Layout.{ring_of};
+ghost use Rattle.vub_driver.specs.TableChain.{chain_in};
 ghost use Rattle.vub_device.specs.Legal.{Legal};
 ghost use Rattle.vub_device.specs.Past.{asked, accepted, offers, published, is_among, open_numbers};
 ghost use Rattle.vub_schedule.specs.declared.types.Event.{Event};
@@ -16,7 +18,7 @@ ghost use Rattle.vub_run.specs.Run.{Run, Stands, Plays};
 ghost use Rattle.vub_run.specs.Tracking.{TracksAlways};
 ghost use Rattle.vub_report.specs.Entries.{IsEntry};
 ghost use Rattle.vub_report.specs.Histories.{history_of};
-ghost use Rattle.vub_run.specs.Lawful.{EveryStoreIsLawful};
+ghost use Rattle.vub_run.specs.Lawful.{IsOutstanding, EveryStoreIsLawful};
 ghost use Rattle.vub_run.specs.LegalRuns.{EveryDrainServes};
 
 /// The history of every run of a schedule is legal: the device answers each request at most once,
@@ -38,6 +40,13 @@ pub fn every_entry_is_whole()
 /// requests in flight.
 pub fn every_driver_store_is_lawful()
     ensures { (s : Schedule) (records : List Record) → IsSchedule s → Run s records → EveryStoreIsLawful s.header records }
+{}
+
+/// Where a run leads, the descriptors that history keeps of a request that is offered and not
+/// collected, as memory told them at the offer, are still the chain that stands in memory.
+pub fn every_outstanding_chain_stands()
+    ensures { (h : Header1) (es : List Event) (rs : List Record) (m : Moment) (q k : ℕ) → q < h.queues → Stands h es rs m → IsOutstanding q m.scene k
+        → get_or (m.scene.descriptors q) k [] ≡ chain_in (ring_of q h.size) m.scene.memory (slice_index (m.scene.heads q) k) }
 {}
 
 /// In every run of a schedule a drain of an attached queue serves it: after its record no request of

@@ -3,6 +3,7 @@ use Rattle.std.proofs.Common.{◌≡◌, ◌≤◌, ◌<◌, ℕ, true, List, []
 use Rattle.std.specs.Prelude.{Option, Some, None, map, slice_get, slice_index, option_map}
 use Rattle.std.proofs.lemmas.List.{length-map}
 use Rattle.std.proofs.lemmas.Option.{slice_get-map}
+use Rattle.vub_steps.specs.declared.steps.Course.{Course}
 use Rattle.vub_base.specs.declared.header.Header1.{Header1}
 use Rattle.vub_steps.specs.declared.steps.Phase.{Phase}
 use Rattle.vub_steps.specs.declared.steps.Phase.TheVariants as phases
@@ -21,7 +22,7 @@ use Rattle.vub_world.specs.MachineAt.{MachineAt, LifeAt, AttachedAt, Outstanding
 use Rattle.vub_world.specs.MachineDevice.{BatchFits, ShowsSome, QueueShowsSome, batch_in, queue_batch, is_index, is_showing}
 use Rattle.vub_run.specs.Moments.{Moment}
 use Rattle.vub_queue_in_run.specs.QueueAt.{QueueStands, spot_of}
-use Rattle.vub_queue.specs.QueueState.{QueueState, state_of}
+use Rattle.vub_queue.specs.QueueState.{course_in, QueueState, state_of}
 use Rattle.vub_world.proofs.MachineTurns.{among_right}
 use Rattle.vub_run_laws.proofs.RunFrames.{open_out}
 use Rattle.vub_run_laws.proofs.RunGood.{IsWide, PhaseIs, IsOut}
@@ -30,21 +31,21 @@ use Rattle.vub_run_laws.proofs.RunTurns.{Good}
 
 -- ---- a batch that is shown isn't empty
 
-phase_shows : (batch : List ℕ) (count : ℕ) (phase : Phase) → PhaseIs batch phase → is_index (next_step count phase) ≡ true → 0 < length batch
-phase_shows batch count phases.Rest is shows = absurd (cc shows)
-phase_shows batch count (phases.Start done) is shows = absurd is
-phase_shows batch count (phases.Fetch done) is shows = absurd is
-phase_shows batch count (phases.Publish done) is shows = is.0
+phase_shows : (batch : List ℕ) (course : Course) (phase : Phase) → PhaseIs batch phase → is_index (next_step course phase) ≡ true → 0 < length batch
+phase_shows batch course phases.Rest is shows = absurd (cc shows)
+phase_shows batch course (phases.Start done) is shows = absurd is
+phase_shows batch course (phases.Fetch done) is shows = absurd is
+phase_shows batch course (phases.Publish done) is shows = is.0
 
-pub queue_shows_some : (h : Header1) (r : SplitRing) (m : Moment) (q : QueueState) → Good h m → QueueStands h r m q → is_showing q ≡ true → 1 ≤ length q.batch
+pub queue_shows_some : (h : Header1) (r : SplitRing) (m : Moment) (q : QueueState) → Good 0 h m → QueueStands 0 h r m q → is_showing q ≡ true → 1 ≤ length q.batch
 queue_shows_some h r m q good at shows =
     let lane = m.lanes 0 in
-    let here : is_index (next_step (length q.batch) lane.phase) ≡ true = ap (λ (p : Phase). is_index (next_step (length q.batch) p)) (sym at.phase) ∙ shows in
-    let some : 0 < length lane.batch = phase_shows lane.batch (length q.batch) lane.phase good.holds.worked.phase_is here in
-    let long : length q.batch ≡ length lane.batch = ap length at.batch ∙ length-map lane.batch (spot_of h m.scene.past (m.scene.heads 0)) in
+    let here : is_index (next_step (course_in q) lane.phase) ≡ true = ap (λ (p : Phase). is_index (next_step (course_in q) p)) (sym at.phase) ∙ shows in
+    let some : 0 < length lane.batch = phase_shows lane.batch (course_in q) lane.phase good.holds.worked.phase_is here in
+    let long : length q.batch ≡ length lane.batch = ap length at.batch ∙ length-map lane.batch (spot_of 0 h m.scene.past (m.scene.heads 0)) in
     omega (arith, some, long)
 
-pub shows_some : (w : Machine) (m : Moment) → Good w.header m → MachineAt w m → ShowsSome w.life
+pub shows_some : (w : Machine) (m : Moment) → Good 0 w.header m → MachineAt w m → ShowsSome w.life
 shows_some w m good at = go w.life at.life
   where
     of_queue : (queue : Option Queue) → AttachedAt w.header w.ring m queue → QueueShowsSome queue
@@ -66,31 +67,31 @@ few_reads cap (Some (asks.Discard parts)) is = absurd is
 few_reads cap (Some (asks.Zero parts)) is = absurd is
 few_reads cap None is = absurd is
 
-pub queue_batch_fits : (h : Header1) (r : SplitRing) (m : Moment) (q : QueueState) (outstanding : OutstandingRequests) → h.size ≤ 64 → Good h m → QueueStands h r m q → OutstandingAt h.size m.scene.past (m.scene.heads 0) outstanding → BatchFits outstanding q.batch
+pub queue_batch_fits : (h : Header1) (r : SplitRing) (m : Moment) (q : QueueState) (outstanding : OutstandingRequests) → h.size ≤ 64 → Good 0 h m → QueueStands 0 h r m q → OutstandingAt h.size m.scene.past (m.scene.heads 0) outstanding → BatchFits outstanding q.batch
 queue_batch_fits h r m q outstanding small good at numbered i x found =
     let lane = m.lanes 0 in
     let past = m.scene.past in
     let heads = m.scene.heads 0 in
-    let spots : slice_get (map (spot_of h past heads) lane.batch) i ≡ Some x = ap (λ (xs : List (ℕ × ℕ)). slice_get xs i) (sym at.batch) ∙ found in
-    let mapped : option_map (spot_of h past heads) (slice_get lane.batch i) ≡ Some x = sym (slice_get-map (spot_of h past heads) lane.batch i) ∙ spots in
+    let spots : slice_get (map (spot_of 0 h past heads) lane.batch) i ≡ Some x = ap (λ (xs : List (ℕ × ℕ)). slice_get xs i) (sym at.batch) ∙ found in
+    let mapped : option_map (spot_of 0 h past heads) (slice_get lane.batch i) ≡ Some x = sym (slice_get-map (spot_of 0 h past heads) lane.batch i) ∙ spots in
     pick (slice_get lane.batch i) refl mapped
   where
-    pick : (o : Option ℕ) → slice_get (m.lanes 0).batch i ≡ o → option_map (spot_of h m.scene.past (m.scene.heads 0)) o ≡ Some x → (x.0 < 64) × (x.0 < size_in outstanding) × ((slot_in outstanding x.0).reads ≤ 8)
+    pick : (o : Option ℕ) → slice_get (m.lanes 0).batch i ≡ o → option_map (spot_of 0 h m.scene.past (m.scene.heads 0)) o ≡ Some x → (x.0 < 64) × (x.0 < size_in outstanding) × ((slot_in outstanding x.0).reads ≤ 8)
     pick None here is = absurd (cc is)
     pick (Some k) here is =
         let past = m.scene.past in
         let heads = m.scene.heads 0 in
         let holds = good.holds in
-        let same : spot_of h past heads k ≡ x = cc is in
+        let same : spot_of 0 h past heads k ≡ x = cc is in
         let head : x.0 ≡ slice_index heads k = sym (ap (λ (y : ℕ × ℕ). y.0) same) in
         let among : is_among ((m.lanes 0).completed ++ (m.lanes 0).batch) k ≡ true = among_right (m.lanes 0).completed (m.lanes 0).batch k (among_get (m.lanes 0).batch i k here) in
-        let out : IsOut past heads k = open_out h.size h.capacity past heads k holds.known (holds.worked.opens k among) in
-        let below : slice_index heads k < h.size = holds.driven.below k out in
+        let out : IsOut 0 past heads k = open_out 0 h.size h.capacity past heads k holds.known (holds.worked.opens k among) in
+        let below : slice_index heads k < h.size = holds.queue.driven.below k out in
         let slot : (slot_in outstanding x.0).reads ≡ reads_of (asked past 0 k) = ap (λ (d : ℕ). (slot_in outstanding d).reads) head ∙ ap (λ (o : OutstandingRequest). o.reads) (numbered.slots k out.below out.kept) in
         let few : reads_of (asked past 0 k) ≤ 8 = few_reads h.capacity (asked past 0 k) (holds.known.wide k out.below) in
         (omega (arith, below, head, small), omega (arith, below, head, numbered.places), omega (arith, slot, few))
 
-pub batch_fits : (w : Machine) (m : Moment) → w.header.size ≤ 64 → Good w.header m → MachineAt w m → BatchFits w.outstanding (batch_in w.life)
+pub batch_fits : (w : Machine) (m : Moment) → w.header.size ≤ 64 → Good 0 w.header m → MachineAt w m → BatchFits w.outstanding (batch_in w.life)
 batch_fits w m small good at = go w.life at.life
   where
     none_fits : BatchFits w.outstanding []

@@ -17,7 +17,7 @@ use Rattle.vub_run.specs.Moments.{Moment, opening}
 use Rattle.vub_run.specs.Run.{Stands, Plays}
 use Rattle.vub_run_laws.proofs.RunEntries.{event_offers, run_offers}
 use Rattle.vub_run_laws.proofs.RunServes.{drain_serves, stands_legal}
-use Rattle.vub_run_laws.proofs.RunsLegal.{opening_held}
+use Rattle.vub_run_laws.proofs.RunsLegal.{some_queue, opening_held}
 use Rattle.vub_run_laws.proofs.RunsTo.{stands_more, stands_held}
 
 pub ok_then : {T E : Type 0} (P Q : T → Type 0) (r : Result T E) → ((x : T) → P x → Q x) → IfOk r P → IfOk r Q
@@ -52,7 +52,7 @@ attached_at w m at is = go w.life at.life is
 serves_all : (w : Machine) (e : Event) (es : List Event) (rs : List Record) (m k : Moment) (r : Record) → IsEvent w.header e → MachineAt w m → Stands w.header es rs m → Stands w.header (es ++ e ∷ []) (rs ++ r ∷ []) k → Plays w.header m e r.items k → ServesAll w e (rs ++ r ∷ [])
 serves_all w (events.Drain q) es rs m k r fits at stands next plays = λ is.
     subst (λ (p : ℕ). IsServed p (rs ++ r ∷ [])) (sym fits)
-    (drain_serves w.header es rs m k r stands (subst (λ (p : ℕ). Stands w.header (es ++ events.Drain p ∷ []) (rs ++ r ∷ []) k) fits next) (attached_at w m at is) (subst (λ (p : ℕ). Plays w.header m (events.Drain p) r.items k) fits plays))
+    (drain_serves 0 w.header es rs m k r (some_queue w.header stands.header) stands (subst (λ (p : ℕ). Stands w.header (es ++ events.Drain p ∷ []) (rs ++ r ∷ []) k) fits next) (attached_at w m at is) (subst (λ (p : ℕ). Plays w.header m (events.Drain p) r.items k) fits plays))
 serves_all w (events.Ask q shape a) es rs m k r fits at stands next plays = tt
 serves_all w (events.Guest q n) es rs m k r fits at stands next plays = tt
 serves_all w (events.Collect q) es rs m k r fits at stands next plays = tt
@@ -82,7 +82,7 @@ one_offer w now e is fits stood goes =
     let stands : Stands w.header stood.0 stood.1 m = stood.2.1 in
     let at : MachineAt w m = stood.2.2 in
     let went = goes stood.0 stood.1 m stands at in
-    let few : length (went.0.scene.heads 0) ≤ length (m.scene.heads 0) + 1 = event_offers w.header m e is went.0 stands.header (stands_held w.header stood.0 stood.1 m stands) fits went.1 in
+    let few : length (went.0.scene.heads 0) ≤ length (m.scene.heads 0) + 1 = event_offers 0 w.header m e is went.0 stands.header (some_queue w.header stands.header) (stands_held w.header stood.0 stood.1 m stands) fits went.1 in
     omega (arith, few, went.2.outstanding.offers_are, at.outstanding.offers_are)
 
 -- no more requests were offered than events were played
@@ -90,7 +90,7 @@ pub offers_few : (w : Machine) (es : List Event) (rs : List Record) → StandsFo
 offers_few w es rs stood =
     let m : Moment = stood.0 in
     let stands : Stands w.header es rs m = stood.1 in
-    let few : length (m.scene.heads 0) ≤ 0 + length es = run_offers w.header (opening w.header) es rs m stands.header (opening_held w.header stands.header) stands.events stands.run in
+    let few : length (m.scene.heads 0) ≤ 0 + length es = run_offers 0 w.header (opening w.header) es rs m stands.header (some_queue w.header stands.header) (opening_held w.header stands.header) stands.events stands.run in
     omega (arith, few, stood.2.outstanding.offers_are)
 
 pub standing_on : (w now : Machine) (e : Event) (r : Record) → IsStanding w → StandsOn w now e r → IsStanding now

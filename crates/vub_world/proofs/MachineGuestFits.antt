@@ -2,6 +2,7 @@
 use Rattle.std.proofs.Common.{◌≡◌, ◌≤◌, ℕ, ◌+◌, ◌%◌, List, [], ◌∷◌, ◌++◌, length, refl, ap, sym, ◌∙◌, subst, arith}
 use Rattle.std.specs.Prelude.{Option, Some, None}
 use Rattle.std.specs.List.{AllByRecursion}
+use Rattle.vub_run_laws.proofs.RunsLegal.{some_queue}
 use Rattle.vub_base.specs.declared.header.Header1.{Header1}
 use Rattle.vub_base.specs.declared.request.Ask.{Ask}
 use Rattle.vub_base.specs.declared.request.Ask.TheVariants as wants
@@ -43,13 +44,13 @@ some_small : (p : ℕ) (bytes : List ℕ) → length bytes ≤ 4096 → Small (s
 some_small p [] few = tt
 some_small p (b ∷ bytes) few = (record { space = refl; few = few }, tt)
 
-linked_small : (n index head body status : ℕ) (p : Piece) → Small (linked n index head body status p)
+linked_small : (n index head body status : ℕ) (p : Piece) → Small (linked 0 n index head body status p)
 linked_small n index head body status p = (
-  record { space = refl; few = omega (arith, desc_long (readable_piece (buffer_at head) 16) 1 body) },
+  record { space = refl; few = omega (arith, desc_long (readable_piece (buffer_at 0 head) 16) 1 body) },
   (
     record { space = refl; few = omega (arith, desc_long p 1 status) },
     (
-      record { space = refl; few = omega (arith, desc_long (writable_piece (status_place (buffer_at head)) 1) 0 0) },
+      record { space = refl; few = omega (arith, desc_long (writable_piece (status_place (buffer_at 0 head)) 1) 0 0) },
       (
         record { space = refl; few = omega (arith, length_little 2 head) },
         (record { space = refl; few = omega (arith, length_little 2 ((index + 1) % 65536)) }, tt),
@@ -59,29 +60,29 @@ linked_small n index head body status p = (
 )
 
 two_small : (n index head status : ℕ)
-    → Small (linked_two n index head status)
+    → Small (linked_two 0 n index head status)
 two_small n index head status = (
-  record { space = refl; few = omega (arith, desc_long (readable_piece (buffer_at head) 16) 1 status) },
+  record { space = refl; few = omega (arith, desc_long (readable_piece (buffer_at 0 head) 16) 1 status) },
   (
-    record { space = refl; few = omega (arith, desc_long (writable_piece (status_place (buffer_at head)) 1) 0 0) },
+    record { space = refl; few = omega (arith, desc_long (writable_piece (status_place (buffer_at 0 head)) 1) 0 0) },
     (record { space = refl; few = omega (arith, length_little 2 head) }, (record { space = refl; few = omega (arith, length_little 2 ((index + 1) % 65536)) }, tt)),
   ),
 )
 
-stores_small : (n cap index head body status : ℕ) (a : Ask) → IsWide cap (Some (request_of a)) → Small (request_stores (the_ring n) index a (chain_of (has_data a) head body status))
+stores_small : (n cap index head body status : ℕ) (a : Ask) → IsWide cap (Some (request_of a)) → Small (request_stores (the_ring 0 n) index a (chain_of (has_data a) head body status))
 stores_small n cap index head body status (wants.Read s c) wide = (
   record { space = refl; few = omega (arith, header_long 0 s) },
-  (record { space = refl; few = omega arith }, linked_small n index head body status (data_of (buffer_at head) (request_of (wants.Read s c)))),
+  (record { space = refl; few = omega arith }, linked_small n index head body status (data_of (buffer_at 0 head) (request_of (wants.Read s c)))),
 )
 stores_small n cap index head body status (wants.Write s fills) wide =
     let bytes : List ℕ = written_bytes (wants.Write s fills) in
-    let front : List Store = store_of_some 0 (sectors_place (buffer_at head)) bytes in
-    let last : List Store = one_store 0 (status_place (buffer_at head)) (255 ∷ []) ∷ [] in
-    let rest : List Store = linked n index head body status (data_of (buffer_at head) (request_of (wants.Write s fills))) in (
+    let front : List Store = store_of_some 0 (sectors_place (buffer_at 0 head)) bytes in
+    let last : List Store = one_store 0 (status_place (buffer_at 0 head)) (255 ∷ []) ∷ [] in
+    let rest : List Store = linked 0 n index head body status (data_of (buffer_at 0 head) (request_of (wants.Write s fills))) in (
       record { space = refl; few = omega (arith, header_long 1 s) },
       all_append IsSmall (front ++ last) rest
-          (all_append IsSmall front last (some_small (sectors_place (buffer_at head)) bytes wide.few) (record { space = refl; few = omega arith }, tt))
-          (linked_small n index head body status (data_of (buffer_at head) (request_of (wants.Write s fills)))),
+          (all_append IsSmall front last (some_small (sectors_place (buffer_at 0 head)) bytes wide.few) (record { space = refl; few = omega arith }, tt))
+          (linked_small n index head body status (data_of (buffer_at 0 head) (request_of (wants.Write s fills)))),
     )
 stores_small n cap index head body status wants.Flush wide = (
   record { space = refl; few = omega (arith, header_long 4 0) },
@@ -118,18 +119,18 @@ front_fits w standing = record {
     at : MachineAt w m
     at = standing.2.2
 
-    good : Good h m
-    good = stands_good h standing.0 standing.1 m s
+    good : Good 0 h m
+    good = stands_good 0 h standing.0 standing.1 m (some_queue h s.header) s
 
-    chained : ChainedAt h m
-    chained = stands_chained h standing.0 standing.1 m s
+    chained : ChainedAt 0 h m
+    chained = stands_chained 0 h standing.0 standing.1 m (some_queue h s.header) s
 
     smalls : (o : Option Waiting) → (m.lanes 0).driver.waiting ≡ o → AreSmall o
     smalls None e = tt
     smalls (Some x) e =
         let v : Driver = (m.lanes 0).driver in
-        let waits : IsWaiting h.size h.capacity m.scene.past (m.scene.heads 0) v x = subst (λ (o : Option Waiting). WaitsWell h.size h.capacity m.scene.past (m.scene.heads 0) v o) e good.holds.driven.waits in
-        let ready : IsPrepared h.size m.scene.memory v x = subst (λ (o : Option Waiting). PreparedWell h.size m.scene.memory v o) e chained.waits in
+        let waits : IsWaiting 0 h.size h.capacity m.scene.past (m.scene.heads 0) v x = subst (λ (o : Option Waiting). WaitsWell 0 h.size h.capacity m.scene.past (m.scene.heads 0) v o) e good.holds.queue.driven.waits in
+        let ready : IsPrepared 0 h.size m.scene.memory v x = subst (λ (o : Option Waiting). PreparedWell 0 h.size m.scene.memory v o) e chained.waits in
         all_last IsSmall ready.made x.left (subst (λ (sts : List Store). Small sts) (sym ready.stores) (stores_small h.size h.capacity v.avail_idx x.head ready.body ready.status x.ask waits.wide))
 
     places : (o : Option Waiting) → (m.lanes 0).driver.waiting ≡ o → ShowsPlace w o
@@ -138,6 +139,6 @@ front_fits w standing = record {
         let waits : (driver_in w.guest).waiting ≡ Some x = ap (λ (v : Driver). v.waiting) at.front.driver ∙ e in
         let low = shown_below h standing.0 standing.1 m x s e (left_some w.guest x waits) (left_few w.guest x waits) in
         let small : Small x.left = smalls (Some x) e in
-        let same : last_head (the_ring h.size) (after_all x.left (bytes_in w.memory)) ≡ last_head (the_ring h.size) (put_all x.left m.scene.memory) =
-        ap (λ (b : Bytes). last_head (the_ring h.size) (after_all x.left b)) at.front.memory ∙ ap (λ (b : Bytes). last_head (the_ring h.size) b) (all_put x.left m.scene.memory small) in
+        let same : last_head (the_ring 0 h.size) (after_all x.left (bytes_in w.memory)) ≡ last_head (the_ring 0 h.size) (put_all x.left m.scene.memory) =
+        ap (λ (b : Bytes). last_head (the_ring 0 h.size) (after_all x.left b)) at.front.memory ∙ ap (λ (b : Bytes). last_head (the_ring 0 h.size) b) (all_put x.left m.scene.memory small) in
         omega (arith, low, same, at.outstanding.places)

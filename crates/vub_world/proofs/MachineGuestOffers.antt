@@ -4,6 +4,7 @@ use Rattle.std.specs.Prelude.{Option, Some, None, slice_index, is_some, ◌==◌
 use Rattle.std.proofs.lemmas.Bool.Decides.{nat_tests}
 use Rattle.std.proofs.lemmas.Bool.{cases_Bool, cases_lt}
 use Rattle.std.proofs.lemmas.List.{length_push}
+use Rattle.vub_run_laws.proofs.RunsLegal.{some_queue}
 use Rattle.vub_base.specs.declared.header.Header1.{Header1}
 use Rattle.vub_base.specs.declared.request.Ask.{Ask}
 use Rattle.vub_base.specs.declared.request.Ask.TheVariants as wants
@@ -59,7 +60,7 @@ abbrev slot : ℕ → ℕ → OutstandingRequest
 slot number reads = record { number = number; reads = reads }
 
 -- a request that is offered isn't collected
-new_out : (n cap : ℕ) (past : List Entry) (heads : List ℕ) (r : Asked) (head : ℕ) → Known n cap past heads → IsOut (entries.Offer 0 r ∷ past) (heads ++ head ∷ []) (length heads)
+new_out : (n cap : ℕ) (past : List Entry) (heads : List ℕ) (r : Asked) (head : ℕ) → Known 0 n cap past heads → IsOut 0 (entries.Offer 0 r ∷ past) (heads ++ head ∷ []) (length heads)
 new_out n cap past heads r head known =
     let c : ℕ = length heads in
     record {
@@ -79,8 +80,8 @@ new_out n cap past heads r head known =
         grind (arith, nat_tests)
 
 -- under the head of the request stand its number and what it reads, and others keep their slots
-pub offered_outstanding : (n cap base : ℕ) (past : List Entry) (heads : List ℕ) (a : Ask) (head : ℕ) (v : Driver) (l now : OutstandingRequests) → OutstandingAt n past heads l → Known n cap past heads
-    → Driven n cap base (entries.Offer 0 (request_of a) ∷ past) (heads ++ head ∷ []) v → Offers l now head a
+pub offered_outstanding : (n cap base : ℕ) (past : List Entry) (heads : List ℕ) (a : Ask) (head : ℕ) (v : Driver) (l now : OutstandingRequests) → OutstandingAt n past heads l → Known 0 n cap past heads
+    → Driven 0 n cap base (entries.Offer 0 (request_of a) ∷ past) (heads ++ head ∷ []) v → Offers l now head a
     → OutstandingAt n (entries.Offer 0 (request_of a) ∷ past) (heads ++ head ∷ []) now
 offered_outstanding n cap base past heads a head v l now at known driven offers =
     let r : Asked = request_of a in
@@ -88,7 +89,7 @@ offered_outstanding n cap base past heads a head v l now at known driven offers 
     let heads' : List ℕ = heads ++ head ∷ [] in
     let c : ℕ = length heads in
     let long : length heads' ≡ c + 1 = length_push heads head in
-    let last_out : IsOut past' heads' c = new_out n cap past heads r head known in
+    let last_out : IsOut 0 past' heads' c = new_out n cap past heads r head known in
     let last_head_is : slice_index heads' c ≡ head = new_head heads head in
     record {
       offers_are = offers.offered ∙ ap (λ (k : ℕ). k + 1) at.offers_are ∙ sym long;
@@ -101,7 +102,7 @@ offered_outstanding n cap base past heads a head v l now at known driven offers 
             let apart : d ≢ head = λ same. (let one : k ≡ c = driven.apart k c (record { below = below; kept = kept }) last_out (same ∙ sym last_head_is) in omega (arith, one)) in
             let other : (d == head) ≡ false = grind (arith, nat_tests) in
             let still : slot_in now d ≡ slot_in l d = offers.slots d ∙ ap (λ (b : Bool). cond {A = OutstandingRequest} b (new_slot l a) (slot_in l d)) other in
-            let asks_it : asked past' 0 k ≡ asked past 0 k = same_asked past r k (omega (arith, low, known.offers_are)) in
+            let asks_it : asked past' 0 k ≡ asked past 0 k = same_asked 0 past r k (omega (arith, low, known.offers_are)) in
             still ∙ ap (λ (e : ℕ). slot_in l e) head_is ∙ at.slots k low kept ∙ ap (λ (o : Option Asked). slot k (reads_of o)) (sym asks_it)
         | inr high ↦
             let is : k ≡ c = omega (arith, long, high, below) in
@@ -110,7 +111,7 @@ offered_outstanding n cap base past heads a head v l now at known driven offers 
             let yes : (d == head) ≡ true = grind (arith, nat_tests) in
             let new : slot_in now d ≡ new_slot l a = offers.slots d ∙ ap (λ (b : Bool). cond {A = OutstandingRequest} b (new_slot l a) (slot_in l d)) yes in
             let number : offered_in l ≡ k = at.offers_are ∙ sym is in
-            let asks_it : asked past' 0 k ≡ Some r = new_asked past r k (is ∙ known.offers_are) in
+            let asks_it : asked past' 0 k ≡ Some r = new_asked 0 past r k (is ∙ known.offers_are) in
             new ∙ ap (λ (i : ℕ). slot i (reads_in a)) number ∙ ap (λ (i : ℕ). slot k i) (sym (reads_are a)) ∙ ap (λ (o : Option Asked). slot k (reads_of o)) (sym asks_it)
       ];
     }
@@ -128,13 +129,13 @@ offered_scene h r b s = after_item h (items.Made (entries.Offer 0 r)) (record s 
 abbrev pub moment_with : ℕ → Waiting → Moment → Scene → Moment
 moment_with count x m s = with_lane 0 (stored_lane count x m) (record m { scene = s })
 
-offered_life : (h : Header1) (ring : SplitRing) (count : ℕ) (m : Moment) (x : Waiting) (r : Asked) (b : Bytes) (life : Option Life) → Good h m → LifeAt h ring m life → LifeAt h ring (moment_with count x m (offered_scene h r b m.scene)) life
+offered_life : (h : Header1) (ring : SplitRing) (count : ℕ) (m : Moment) (x : Waiting) (r : Asked) (b : Bytes) (life : Option Life) → Good 0 h m → LifeAt h ring m life → LifeAt h ring (moment_with count x m (offered_scene h r b m.scene)) life
 offered_life h ring count m x r b None good at = at
 offered_life h ring count m x r b (Some l) good at = (at.0, attached l.queue at.1)
   where
     attached : (o : Option Queue) → AttachedAt h ring m o → AttachedAt h ring (moment_with count x m (offered_scene h r b m.scene)) o
     attached None a = a
-    attached (Some q) a = (a.0, a.1, at_offer h ring m.scene.past (m.scene.heads 0) (m.lanes 0).phase (m.lanes 0).batch (m.lanes 0).completed (m.lanes 0).made (state_of q) r (last_head (the_ring h.size) b) good.holds.known good.holds.worked a.2)
+    attached (Some q) a = (a.0, a.1, at_offer 0 h ring m.scene.past (m.scene.heads 0) (m.lanes 0).phase (m.lanes 0).batch (m.lanes 0).completed (m.lanes 0).made (state_of q) r (last_head (the_ring 0 h.size) b) good.holds.known good.holds.worked a.2)
 
 -- stores that offer nothing are nothing to the device
 stored_life : (h : Header1) (ring : SplitRing) (count : ℕ) (m : Moment) (x : Waiting) (b : Bytes) (life : Option Life) → LifeAt h ring m life → LifeAt h ring (moment_with count x m (record m.scene { memory = b })) life
@@ -155,24 +156,24 @@ stored_moment h count x m = (guest_stores h 0 count (Some x) m).next
 
 -- a moment of a run, where these are all that were left
 offered_good : (h : Header1) (es : List Event) (rs : List Record) (m : Moment) (x : Waiting) (is : List Item) (count : ℕ) → Stands h es rs m → count < 65536 → 0 < length x.left → length x.left ≤ count
-    → played is (stored_moment h count x m) ≡ guest h 0 count m → Good h (moment_with count x m (offered_scene h (request_of x.ask) (put_all x.left m.scene.memory) m.scene))
+    → played is (stored_moment h count x m) ≡ guest h 0 count m → Good 0 h (moment_with count x m (offered_scene h (request_of x.ask) (put_all x.left m.scene.memory) m.scene))
 offered_good h es rs m x is count s fits some few plays =
     let next : Moment = stored_moment h count x m in
     let record_of : Record = record { event = events.Guest 0 count; items = is } in
-    let later : Good h next = stands_good h (es ++ events.Guest 0 count ∷ []) (rs ++ record_of ∷ []) next (stands_more h es rs m next (events.Guest 0 count) record_of s (refl, omega (arith, some, few), fits) refl plays) in
-    subst (λ (n : Moment). Good h n) (ap (moment_with count x m) (guest_scene h count x.ask x.left m.scene some few)) later
+    let later : Good 0 h next = stands_good 0 h (es ++ events.Guest 0 count ∷ []) (rs ++ record_of ∷ []) next (some_queue h (stands_more h es rs m next (events.Guest 0 count) record_of s (refl, omega (arith, some, few), fits) refl plays).header) (stands_more h es rs m next (events.Guest 0 count) record_of s (refl, omega (arith, some, few), fits) refl plays) in
+    subst (λ (n : Moment). Good 0 h n) (ap (moment_with count x m) (guest_scene 0 h count x.ask x.left m.scene some few)) later
 
 -- the head that the last store of a request shows is a descriptor of its ring
-pub shown_below : (h : Header1) (es : List Event) (rs : List Record) (m : Moment) (x : Waiting) → Stands h es rs m → (m.lanes 0).driver.waiting ≡ Some x → 0 < length x.left → length x.left ≤ 8 → last_head (the_ring h.size) (put_all x.left m.scene.memory) < h.size
+pub shown_below : (h : Header1) (es : List Event) (rs : List Record) (m : Moment) (x : Waiting) → Stands h es rs m → (m.lanes 0).driver.waiting ≡ Some x → 0 < length x.left → length x.left ≤ 8 → last_head (the_ring 0 h.size) (put_all x.left m.scene.memory) < h.size
 shown_below h es rs m x s waits some few =
     let count : ℕ = length x.left in
     let heads : List ℕ = m.scene.heads 0 in
-    let head : ℕ = last_head (the_ring h.size) (put_all x.left m.scene.memory) in
+    let head : ℕ = last_head (the_ring 0 h.size) (put_all x.left m.scene.memory) in
     let is : List Item = (guest_stores h 0 count (Some x) m).items in
     let plays : played is (stored_moment h count x m) ≡ guest h 0 count m = ap (λ (o : Option Waiting). if_ready (is_some o) (guest_stores h 0 count o m) m) (sym waits) in
     let good = offered_good h es rs m x is count s (omega (arith, few)) some (omega arith) plays in
-    let known : Known h.size h.capacity m.scene.past heads = (stands_good h es rs m s).holds.known in
-    let low : slice_index (heads ++ head ∷ []) (length heads) < h.size = good.holds.driven.below (length heads) (new_out h.size h.capacity m.scene.past heads (request_of x.ask) head known) in
+    let known : Known 0 h.size h.capacity m.scene.past heads = (stands_good 0 h es rs m (some_queue h s.header) s).holds.known in
+    let low : slice_index (heads ++ head ∷ []) (length heads) < h.size = good.holds.queue.driven.below (length heads) (new_out h.size h.capacity m.scene.past heads (request_of x.ask) head known) in
     omega (arith, low, new_head heads head)
 
 -- where these are all that were left
@@ -183,22 +184,22 @@ offered_at : (w : Machine) (memory : WatchedShared) (guest' : Guest) (asked' : O
 offered_at w memory guest' asked' outstanding es rs m x is count position s at fits some few plays goes =
     let h : Header1 = w.header in
     let now : Machine = with_front w memory guest' asked' outstanding in
-    let good : Good h m = stands_good h es rs m s in
+    let good : Good 0 h m = stands_good 0 h es rs m (some_queue h s.header) s in
     let r : Asked = request_of x.ask in
     let next : Moment = stored_moment h count x m in
     let b : Bytes = put_all x.left m.scene.memory in
-    let scene : after_items h (guest_items count 0 x.ask x.left) m.scene ≡ offered_scene h r b m.scene = guest_scene h count x.ask x.left m.scene some few in
+    let scene : after_items h (guest_items count 0 x.ask x.left) m.scene ≡ offered_scene h r b m.scene = guest_scene 0 h count x.ask x.left m.scene some few in
     let whole : next ≡ moment_with count x m (offered_scene h r b m.scene) = ap (moment_with count x m) scene in
     let front : FrontAt now (moment_with count x m (offered_scene h r b m.scene)) = subst (λ (n : Moment). FrontAt now n) whole goes.front in
-    let good_next : Good h (moment_with count x m (offered_scene h r b m.scene)) = offered_good h es rs m x is count s fits some few plays in
-    let shown : head_shown now ≡ last_head (the_ring h.size) b = ap (λ (bs : Bytes). last_head (the_ring h.size) bs) front.memory in
-    let offers : Offers w.outstanding outstanding (last_head (the_ring h.size) b) x.ask = subst (λ (d : ℕ). Offers w.outstanding outstanding d x.ask) shown (goes.outstanding.offers few) in
+    let good_next : Good 0 h (moment_with count x m (offered_scene h r b m.scene)) = offered_good h es rs m x is count s fits some few plays in
+    let shown : head_shown now ≡ last_head (the_ring 0 h.size) b = ap (λ (bs : Bytes). last_head (the_ring 0 h.size) bs) front.memory in
+    let offers : Offers w.outstanding outstanding (last_head (the_ring 0 h.size) b) x.ask = subst (λ (d : ℕ). Offers w.outstanding outstanding d x.ask) shown (goes.outstanding.offers few) in
     let stands : MachineAt now (moment_with count x m (offered_scene h r b m.scene)) = record {
       front = front;
       position = position ∙ at.position;
       life = offered_life h w.ring count m x r b w.life good at.life;
       disk = at.disk;
-      outstanding = offered_outstanding h.size h.capacity h.base m.scene.past (m.scene.heads 0) x.ask (last_head (the_ring h.size) b) (stored_lane count x m).driver w.outstanding outstanding at.outstanding good.holds.known good_next.holds.driven offers;
+      outstanding = offered_outstanding h.size h.capacity h.base m.scene.past (m.scene.heads 0) x.ask (last_head (the_ring 0 h.size) b) (stored_lane count x m).driver w.outstanding outstanding at.outstanding good.holds.known good_next.holds.queue.driven offers;
     } in
     subst (λ (n : Moment). MachineAt now n) (sym whole) stands
 
@@ -209,7 +210,7 @@ partly_at w memory guest' asked' outstanding m x is count position at part goes 
     let h : Header1 = w.header in
     let now : Machine = with_front w memory guest' asked' outstanding in
     let b : Bytes = put_all (take count x.left) m.scene.memory in
-    let scene : after_items h (guest_items count 0 x.ask x.left) m.scene ≡ record m.scene { memory = b } = part_scene h count x.ask x.left m.scene part in
+    let scene : after_items h (guest_items count 0 x.ask x.left) m.scene ≡ record m.scene { memory = b } = part_scene 0 h count x.ask x.left m.scene part in
     let whole : stored_moment h count x m ≡ moment_with count x m (record m.scene { memory = b }) = ap (moment_with count x m) scene in
     let stands : MachineAt now (moment_with count x m (record m.scene { memory = b })) = record {
       front = subst (λ (n : Moment). FrontAt now n) whole goes.front;

@@ -6,7 +6,7 @@ use Rattle.vub_run_laws.proofs.Sizes.{size_laps}
 use Rattle.vub_split.specs.declared.split.SplitRing.{SplitRing}
 use Rattle.vub_world.specs.declared.machine.Machine.{Machine}
 use Rattle.vub_split.specs.Split.{RingLies}
-use Rattle.vub_queue_in_run.specs.QueueAt.{IsMainRing}
+use Rattle.vub_queue_in_run.specs.QueueAt.{LiesAs}
 use Rattle.vub_world.specs.Machine.{IsSound, sizes_in}
 use Rattle.vub_world.specs.Lives.{LiesInLife}
 use Rattle.vub_world.specs.declared.machine.Life.{Life}
@@ -16,7 +16,7 @@ use mathlib.Core.Path.{fun_ext}
 -- ---- the ring of the first queue
 
 -- the ring of the first queue lies in an area of its size
-pub main_lies : (sizes : ℕ → ℕ) (r : SplitRing) (n : ℕ) → 1048576 ≤ sizes 0 → is_size n ≡ true → IsMainRing r n → RingLies sizes r
+pub main_lies : (sizes : ℕ → ℕ) (r : SplitRing) (n : ℕ) → 1048576 ≤ sizes 0 → is_size n ≡ true → LiesAs 0 r n → RingLies sizes r
 main_lies sizes r n sized fits is =
     let laps = size_laps n fits in
     let some : 1 ≤ r.size = omega (arith, is.size, laps.0) in

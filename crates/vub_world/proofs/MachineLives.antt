@@ -71,19 +71,19 @@ joining_at w m at new = go w.life at.life new
 at_rest : (batch : List ℕ) → PhaseIs batch phases.Rest → batch ≡ []
 at_rest batch is = is
 
-pub joined_at : (w : Machine) (m : Moment) (q : Queue) → IsPlain w.header → Good w.header m → w.header.base ≡ 0 → AttachedAt w.header w.ring m None → m.lives ≡ true → IsNew w.ring w.header.base (state_of q) → MachineAt w m
+pub joined_at : (w : Machine) (m : Moment) (q : Queue) → IsPlain w.header → Good 0 w.header m → w.header.base ≡ 0 → AttachedAt w.header w.ring m None → m.lives ≡ true → IsNew w.ring w.header.base (state_of q) → MachineAt w m
     → MachineAt (with_life (record { queue = Some q }) w) (joined m)
 joined_at w m q plain good base new lives made at =
     let l : Lane = m.lanes 0 in
     let quiet = good.holds.worked.quiet new.2 in
     let none : accepted m.scene.past 0 ≡ 0 = good.idle new.2 in
     let batch : l.batch ≡ [] = subst (λ (p : Phase). PhaseIs l.batch p) quiet.0 good.holds.worked.phase_is in
-    let begins : QueueAt w.header w.ring m.scene.past (m.scene.heads 0) phases.Rest [] [] l.made (state_of q) =
-    at_new w.header w.ring m.scene.past (m.scene.heads 0) l.made (state_of q) (omega (arith, base)) good.holds.known.fewer none new.2 made in
-    let stands : QueueStands w.header w.ring (joined m) (state_of q) =
-    subst (λ (p : Phase). QueueAt w.header w.ring m.scene.past (m.scene.heads 0) p l.batch l.completed l.made (state_of q)) (sym quiet.0)
-    (subst (λ (bs : List ℕ). QueueAt w.header w.ring m.scene.past (m.scene.heads 0) phases.Rest bs l.completed l.made (state_of q)) (sym batch)
-    (subst (λ (cs : List ℕ). QueueAt w.header w.ring m.scene.past (m.scene.heads 0) phases.Rest [] cs l.made (state_of q)) (sym quiet.1.0) begins)) in record {
+    let begins : QueueAt 0 w.header w.ring m.scene.past (m.scene.heads 0) phases.Rest [] [] l.made (state_of q) =
+    at_new 0 w.header w.ring m.scene.past (m.scene.heads 0) l.made (state_of q) (omega (arith, base)) good.holds.known.fewer none new.2 made in
+    let stands : QueueStands 0 w.header w.ring (joined m) (state_of q) =
+    subst (λ (p : Phase). QueueAt 0 w.header w.ring m.scene.past (m.scene.heads 0) p l.batch l.completed l.made (state_of q)) (sym quiet.0)
+    (subst (λ (bs : List ℕ). QueueAt 0 w.header w.ring m.scene.past (m.scene.heads 0) phases.Rest bs l.completed l.made (state_of q)) (sym batch)
+    (subst (λ (cs : List ℕ). QueueAt 0 w.header w.ring m.scene.past (m.scene.heads 0) phases.Rest [] cs l.made (state_of q)) (sym quiet.1.0) begins)) in record {
       front = record { memory = at.front.memory; driver = at.front.driver; asks = at.front.asks };
       position = at.position;
       life = (lives, (refl, refl, stands));

@@ -1,11 +1,16 @@
 -- Where the machine stands in the middle of some turns, and at their end.
 use Rattle.std.proofs.Common.{◌≡◌, ◌≢◌, ◌≤◌, ◌<◌, ℕ, suc, ◌+◌, ◌-◌, ◌*◌, Bool, true, false, List, [], ◌++◌, length, refl, ap, sym, ◌∙◌, subst, inl, inr, arith}
-use Rattle.std.specs.Prelude.{Option, Some, None, nat_lt, min}
+use Rattle.std.specs.Prelude.{if◌then◌else◌, slice_get, Option, Some, None, nat_lt, min}
 use Rattle.std.proofs.lemmas.Bool.Decides.{nat_tests}
 use Rattle.std.proofs.lemmas.Bool.{cases_eq}
 use Rattle.std.proofs.lemmas.List.{append-nil, append_assoc, length-map}
+use Rattle.vub_run_laws.proofs.RunsLegal.{some_queue}
+use Rattle.vub_steps.specs.Steps.{start_steps, fetch_steps, publish_steps}
+use Rattle.vub_steps.specs.declared.steps.Course.{Course}
+use Rattle.vub_run.specs.Turns.{course_of}
 use Rattle.vub_base.specs.declared.header.Header1.{Header1}
 use Rattle.vub_steps.specs.declared.steps.Phase.{Phase}
+use Rattle.vub_steps.specs.declared.steps.Phase.TheVariants as phases
 use Rattle.vub_steps.specs.declared.readiness.Turn.{Turn}
 use Rattle.vub_steps.specs.Readiness.{drain_turn}
 use Rattle.vub_device.specs.Past.{accepted, collected}
@@ -18,14 +23,14 @@ use Rattle.vub_report.specs.declared.items.Record.{Record}
 use Rattle.vub_split.specs.declared.split.SplitRing.{SplitRing}
 use Rattle.vub_room.specs.Rooms.{RoomState, HasTurnRoom, HasRoom, SpendsStep}
 use Rattle.vub_world.specs.MachineAt.{MachineAt, LifeAt, AttachedAt, IsReached}
-use Rattle.vub_world.specs.MachineDevice.{batch_in, shown_in, queue_batch, queue_shows}
+use Rattle.vub_world.specs.MachineDevice.{is_index, batch_in, shown_in, queue_batch, queue_shows}
 use Rattle.vub_world.specs.declared.device.Sequence.{Sequence}
 use Rattle.vub_world.specs.declared.device.Sequence.TheVariants as sequences
 use Rattle.vub_world.specs.Sequences.{next_turn, choices_from}
 use Rattle.vub_world.specs.MachineSteps.{StepGoes, TurnsGo, TurnsMade}
 use Rattle.vub_run.specs.Moments.{Moment, standing}
 use Rattle.vub_queue_in_run.specs.QueueAt.{QueueStands, spot_of}
-use Rattle.vub_queue.specs.QueueState.{state_of}
+use Rattle.vub_queue.specs.QueueState.{course_in, state_of}
 use Rattle.vub_run.specs.Run.{Stands, Played, turns, one_turn, is_due, then_played}
 use Rattle.vub_world.proofs.MachineRooms.{shown_by, chosen_shows, undone, effort_bound, batch_undone}
 use Rattle.vub_run_laws.proofs.RunChainsTurns.{turn_gentle}
@@ -36,11 +41,17 @@ use Rattle.vub_run_laws.proofs.RunsTo.{stands_good, stands_turns}
 
 -- ---- what a life shows, and what its lane shows
 
-shows_same : (m : Moment) (a b : ℕ) (p q : Phase) → a ≡ b → p ≡ q → shown_by a p ≡ shown_by b q
-shows_same m a b p q e f = ap (λ (n : ℕ). shown_by n p) e ∙ ap (λ (x : Phase). shown_by b x) f
+shows_same : (a b : Course) (p p' : Phase) → a.batch ≡ b.batch → p ≡ p' → shown_by a p ≡ shown_by b p'
+shows_same a b p p' e f = by_batch p ∙ ap (shown_by b) f
+  where
+    by_batch : (p : Phase) → shown_by a p ≡ shown_by b p
+    by_batch phases.Rest = refl
+    by_batch (phases.Start done) = ap (λ (n : ℕ). if is_index (slice_get start_steps done) then n else 0) e
+    by_batch (phases.Fetch done) = ap (λ (n : ℕ). if is_index (slice_get fetch_steps done) then n else 0) e
+    by_batch (phases.Publish done) = ap (λ (n : ℕ). if is_index (slice_get (publish_steps n) done) then n else 0) e
 
-batch_same : (h : Header1) (r : SplitRing) (m : Moment) (q : Queue) → QueueStands h r m (state_of q) → length (state_of q).batch ≡ length (m.lanes 0).batch
-batch_same h r m q s = ap (λ (xs : List (ℕ × ℕ)). length xs) s.batch ∙ length-map (m.lanes 0).batch (spot_of h m.scene.past (m.scene.heads 0))
+batch_same : (h : Header1) (r : SplitRing) (m : Moment) (q : Queue) → QueueStands 0 h r m (state_of q) → length (state_of q).batch ≡ length (m.lanes 0).batch
+batch_same h r m q s = ap (λ (xs : List (ℕ × ℕ)). length xs) s.batch ∙ length-map (m.lanes 0).batch (spot_of 0 h m.scene.past (m.scene.heads 0))
 
 pub batch_few : (h : Header1) (r : SplitRing) (m : Moment) (life : Option Life) → LifeAt h r m life → length (batch_in life) ≤ length (m.lanes 0).batch
 batch_few h r m None at = omega arith
@@ -50,13 +61,13 @@ batch_few h r m (Some l) at = go l.queue at.1
     go None at = omega arith
     go (Some q) at = omega (arith, batch_same h r m q at.2)
 
-pub shown_is : (h : Header1) (r : SplitRing) (m : Moment) (life : Option Life) → Good h m → LifeAt h r m life → (m.lanes 0).attached ≡ true → shown_in life ≡ shown_by (length (m.lanes 0).batch) (m.lanes 0).phase
+pub shown_is : (h : Header1) (r : SplitRing) (m : Moment) (life : Option Life) → Good 0 h m → LifeAt h r m life → (m.lanes 0).attached ≡ true → shown_in life ≡ shown_by (course_of h (m.lanes 0)) (m.lanes 0).phase
 shown_is h r m None good at attached = absurd (let asleep : (m.lanes 0).attached ≡ false = (good.asleep at).0 in let both : true ≡ false = sym attached ∙ asleep in cc)
 shown_is h r m (Some l) good at attached = go l.queue at.1
   where
-    go : (q : Option Queue) → AttachedAt h r m q → queue_shows q ≡ shown_by (length (m.lanes 0).batch) (m.lanes 0).phase
+    go : (q : Option Queue) → AttachedAt h r m q → queue_shows q ≡ shown_by (course_of h (m.lanes 0)) (m.lanes 0).phase
     go None at = absurd (let both : true ≡ false = sym attached ∙ at.1 in cc)
-    go (Some q) at = shows_same m (length (state_of q).batch) (length (m.lanes 0).batch) (state_of q).phase (m.lanes 0).phase (batch_same h r m q at.2) at.2.phase
+    go (Some q) at = shows_same (course_in (state_of q)) (course_of h (m.lanes 0)) (state_of q).phase (m.lanes 0).phase (batch_same h r m q at.2) at.2.phase
 
 -- ---- the loop
 
@@ -71,7 +82,7 @@ pub record TurnsAre (h : Header1) (sequence : Sequence) (m : Moment) (most done 
   pub begun : 0 < done → is_due h 0 (choices_from h sequence m m) m ≡ true
   pub taken_is : taken + accepted m.scene.past 0 ≡ accepted p.next.scene.past 0
   pub heads_are : p.next.scene.heads 0 ≡ m.scene.heads 0
-  pub falls : done + effort_at p.next ≤ effort_at m
+  pub falls : done + effort_at 0 p.next ≤ effort_at 0 m
   pub room : HasRoom (most - done) (undone p.next) r
 
 abbrev pub TurnsAt : Header1 → Sequence → Moment → ℕ → ℕ → Machine → List Item → List Item → ℕ → RoomState → Type 0
@@ -95,7 +106,7 @@ turns_begin h sequence m w items most all r at few room = record {
 }
 
 -- what is offered and not published is outstanding
-pub undone_few : (h : Header1) (m : Moment) (w : Machine) → Good h m → MachineAt w m → undone m ≤ w.outstanding.offered - w.outstanding.collected
+pub undone_few : (h : Header1) (m : Moment) (w : Machine) → Good 0 h m → MachineAt w m → undone m ≤ w.outstanding.offered - w.outstanding.collected
 undone_few h m w good at =
     let shown = good.holds.known.shown in
     omega (arith, shown, at.outstanding.offers_are, at.outstanding.collects_are)
@@ -104,7 +115,7 @@ undone_few h m w good at =
 pub reached : (h : Header1) (sequence : Sequence) (es : List Event) (rs : List Record) (m : Moment) (done : ℕ) → Stands h es rs m → IsReached h (so_far h sequence m done).next
 reached h sequence es rs m done stands = record { events = es; records = rs; from = m; stands = stands; count = done; choose = choices_from h sequence m; is = refl }
 
-taken_few : (h : Header1) (m n : Moment) (taken : ℕ) → IsPlain h → Good h m → Good h n → n.scene.heads 0 ≡ m.scene.heads 0 → taken + accepted m.scene.past 0 ≡ accepted n.scene.past 0 → taken ≤ 64
+taken_few : (h : Header1) (m n : Moment) (taken : ℕ) → IsPlain h → Good 0 h m → Good 0 h n → n.scene.heads 0 ≡ m.scene.heads 0 → taken + accepted m.scene.past 0 ≡ accepted n.scene.past 0 → taken ≤ 64
 taken_few h m n taken plain good later heads is =
     let few : h.size ≤ 64 = plain.good.size.small in
     let old = good.holds.known in
@@ -116,8 +127,8 @@ taken_few h m n taken plain good later heads is =
 
 pub turns_taken : (h : Header1) (sequence : Sequence) (es : List Event) (rs : List Record) (m : Moment) (most done : ℕ) (now : Machine) (before after : List Item) (taken : ℕ) (r : RoomState) → Stands h es rs m → TurnsAt h sequence m most done now before after taken r → taken < 65535
 turns_taken h sequence es rs m most done now before after taken r stands d =
-    let both = stands_turns h es rs m done (choices_from h sequence m) stands in
-    omega (arith, taken_few h m (so_far h sequence m done).next taken (plain_header h stands.header) (stands_good h es rs m stands) both.0 d.heads_are d.taken_is)
+    let both = stands_turns 0 h es rs m done (choices_from h sequence m) (some_queue h stands.header) stands in
+    omega (arith, taken_few h m (so_far h sequence m done).next taken (plain_header h stands.header) (stands_good 0 h es rs m (some_queue h stands.header) stands) both.0 d.heads_are d.taken_is)
 
 -- the turn that comes next in the machine is the next sequence
 turn_is : (h : Header1) (sequence : Sequence) (m n : Moment) (taken : ℕ) → taken + accepted m.scene.past 0 ≡ accepted n.scene.past 0 → next_turn h sequence taken n ≡ choices_from h sequence m n
@@ -132,14 +143,14 @@ room_of count w = min count (21 * (w.outstanding.offered - w.outstanding.collect
 pub room_left : (h : Header1) (sequence : Sequence) (es : List Event) (rs : List Record) (m : Moment) (count undone_all done : ℕ) (now : Machine) (before after : List Item) (taken : ℕ) (r : RoomState) → Stands h es rs m → undone m ≤ undone_all → done < count
     → TurnsAt h sequence m (min count (21 * undone_all + 3)) done now before after taken r → done < min count (21 * undone_all + 3)
 room_left h sequence es rs m count all done now before after taken r stands few more d =
-    let bound = effort_bound h m (stands_good h es rs m stands) in
+    let bound = effort_bound h m (stands_good 0 h es rs m (some_queue h stands.header) stands) in
     omega (arith, bound, few, more, d.falls)
 
 pub turn_room : (h : Header1) (sequence : Sequence) (es : List Event) (rs : List Record) (m : Moment) (most done : ℕ) (now : Machine) (before after : List Item) (taken : ℕ) (r : RoomState) → Stands h es rs m → now.header ≡ h → done < most
     → TurnsAt h sequence m most done now before after taken r → HasTurnRoom (length (batch_in now.life)) r
 turn_room h sequence es rs m most done now before after taken r stands same left d =
     let n : Moment = (so_far h sequence m done).next in
-    let good = (stands_turns h es rs m done (choices_from h sequence m) stands).0 in
+    let good = (stands_turns 0 h es rs m done (choices_from h sequence m) (some_queue h stands.header) stands).0 in
     let few = batch_few now.header now.ring n now.life d.at.life in
     let not_yet = batch_undone h n good in record {
       items = omega (arith, left, d.room.items);
@@ -164,7 +175,7 @@ pub turns_go_on : (h : Header1) (sequence : Sequence) (es : List Event) (rs : Li
 turns_go_on h sequence es rs m most done now next before after after' taken taken' r r' stands same left d step spent =
     let n : Moment = (so_far h sequence m done).next in
     let plain = plain_header h stands.header in
-    let good = (stands_turns h es rs m done (choices_from h sequence m) stands).0 in
+    let good = (stands_turns 0 h es rs m done (choices_from h sequence m) (some_queue h stands.header) stands).0 in
     let t : Turn = choices_from h sequence m n in
     let is : next_turn h sequence taken n ≡ t = turn_is h sequence m n taken d.taken_is in
     let chosen : next_turn now.header sequence taken n ≡ t = ap (λ (k : Header1). next_turn k sequence taken n) same ∙ is in
@@ -175,13 +186,13 @@ turns_go_on h sequence es rs m most done now next before after after' taken take
     let taken_are : taken' + accepted n.scene.past 0 ≡ taken + accepted (one_turn h 0 t n).next.scene.past 0 = subst (λ (k : Header1). taken' + accepted n.scene.past 0 ≡ taken + accepted (one_turn k 0 t n).next.scene.past 0) same went.3 in
     let attached : (n.lanes 0).attached ≡ true = grind (arith, nat_tests) in
     let life : LifeAt h now.ring n now.life = subst (λ (k : Header1). LifeAt k now.ring n now.life) same d.at.life in
-    let shown : shown_in now.life ≡ shown_by (length (n.lanes 0).batch) (n.lanes 0).phase = shown_is h now.ring n now.life good life attached in
+    let shown : shown_in now.life ≡ shown_by (course_of h (n.lanes 0)) (n.lanes 0).phase = shown_is h now.ring n now.life good life attached in
     let shows = chosen_shows h n sequence taken good t (sym is) in
-    let heads : (one_turn h 0 t n).next.scene.heads 0 ≡ n.scene.heads 0 = (turn_gentle h t n plain good).heads in
+    let heads : (one_turn h 0 t n).next.scene.heads 0 ≡ n.scene.heads 0 = (turn_gentle 0 h t n plain good).heads in
     let many : length ((one_turn h 0 t n).next.scene.heads 0) ≡ length (n.scene.heads 0) = ap (λ (xs : List ℕ). length xs) heads in
-    let falls = turn_falls h t n plain good due in
-    let more : so_far h sequence m (suc done) ≡ then_played (so_far h sequence m done) (one_turn h 0 t n) = turns_more done (choices_from h sequence m) h m due in
-    let later : Good h (one_turn h 0 t n).next = subst (λ (p : Played). Good h p.next) more (stands_turns h es rs m (suc done) (choices_from h sequence m) stands).0 in
+    let falls = turn_falls 0 h t n plain good due in
+    let more : so_far h sequence m (suc done) ≡ then_played (so_far h sequence m done) (one_turn h 0 t n) = turns_more 0 done (choices_from h sequence m) h m due in
+    let later : Good 0 h (one_turn h 0 t n).next = subst (λ (p : Played). Good 0 h p.next) more (stands_turns 0 h es rs m (suc done) (choices_from h sequence m) (some_queue h stands.header) stands).0 in
     let some_shown = later.holds.known.fewer in
     let all_taken = later.holds.known.offered in
     let fewer : undone (one_turn h 0 t n).next + shown_in now.life ≤ undone n = omega (arith, shows, many, shown, some_shown, all_taken) in
@@ -212,7 +223,7 @@ pub record EndsAt (h : Header1) (sequence : Sequence) (es : List Event) (rs : Li
 -- turns never are many
 turns_few : (h : Header1) (sequence : Sequence) (es : List Event) (rs : List Record) (m : Moment) (most done : ℕ) (now : Machine) (before after : List Item) (taken : ℕ) (r : RoomState) → Stands h es rs m → TurnsAt h sequence m most done now before after taken r → done ≤ 2000
 turns_few h sequence es rs m most done now before after taken r stands d =
-    let small = effort_small h m (plain_header h stands.header) (stands_good h es rs m stands) in
+    let small = effort_small 0 h m (plain_header h stands.header) (stands_good 0 h es rs m (some_queue h stands.header) stands) in
     omega (arith, d.falls, small)
 
 -- as many were made as are asked for
@@ -260,7 +271,7 @@ turns_stop h sequence es rs m most done count now next w before after after' tak
     items_are = step.2 ∙ e.here.items_are
 
 -- no more are outstanding than the ring has places
-pub outstanding_few : (h : Header1) (m : Moment) (w : Machine) → IsPlain h → Good h m → MachineAt w m → w.outstanding.offered - w.outstanding.collected ≤ 64
+pub outstanding_few : (h : Header1) (m : Moment) (w : Machine) → IsPlain h → Good 0 h m → MachineAt w m → w.outstanding.offered - w.outstanding.collected ≤ 64
 outstanding_few h m w plain good at =
     let few : h.size ≤ 64 = plain.good.size.small in
     omega (arith, few, good.holds.known.room, at.outstanding.offers_are, at.outstanding.collects_are)

@@ -7,7 +7,7 @@ use Rattle.vub_device.specs.declared.entry.Answered.{Answered}
 use Rattle.vub_world.specs.declared.outstanding.OutstandingRequests.{OutstandingRequests}
 use Rattle.vub_world.specs.OutstandingRequests.{slot_in}
 use Rattle.vub_room.specs.Rooms.{RoomState, SpendsAnswers, SpendsLists, SpendsUpTo}
-use Rattle.vub_queue.specs.QueueState.{QueueState}
+use Rattle.vub_queue.specs.QueueState.{course_in, QueueState}
 use Rattle.vub_steps.specs.Steps.{next_step}
 use Rattle.vub_steps.specs.declared.steps.Step.TheVariants.{Index}
 use Rattle.vub_base.specs.declared.store.Tag.{Tag}
@@ -96,7 +96,7 @@ spends_more count r s t so one = record {
 }
 
 -- what the next step shows
-pub spends_up : (q : QueueState) (r now : RoomState) → next_step (length q.batch) q.phase ≡ Some Index → (is_showing q ≡ true → 1 ≤ length q.batch) → SpendsAnswers (length q.batch) r now
+pub spends_up : (q : QueueState) (r now : RoomState) → next_step (course_in q) q.phase ≡ Some Index → (is_showing q ≡ true → 1 ≤ length q.batch) → SpendsAnswers (length q.batch) r now
     → SpendsUpTo (if is_showing q then length q.batch else 0) r now
 spends_up q r now next some spends =
     let shows : is_showing q ≡ true = ap is_index next in

@@ -3,6 +3,7 @@ use Rattle.std.proofs.Common.{◌≡◌, ◌≤◌, ℕ, zero, suc, ◌+◌, ◌
 use Rattle.std.specs.Prelude.{◌||◌, if◌then◌else◌, Option, Some, None, take, slice_get, nat_lt, ⊤}
 use Rattle.std.proofs.lemmas.Bool.Decides.{nat_tests}
 use Rattle.std.proofs.lemmas.Bool.{cases_Bool}
+use Rattle.vub_steps.specs.declared.steps.Course.{Course}
 use Rattle.vub_base.specs.declared.header.Header1.{Header1}
 use Rattle.vub_steps.specs.declared.steps.Phase.{Phase}
 use Rattle.vub_steps.specs.declared.steps.Phase.TheVariants as phases
@@ -14,7 +15,7 @@ use Rattle.vub_steps.specs.declared.readiness.Turn.TheVariants as turns
 use Rattle.vub_steps.specs.Readiness.{is_publication, any_turn, draining_turn}
 use Rattle.vub_steps.specs.Rows.{Row, row_of}
 use Rattle.vub_ring.specs.Ring.{used_idx}
-use Rattle.vub_steps.specs.Steps.{next_step}
+use Rattle.vub_steps.specs.Steps.{publish_steps, next_step}
 use Rattle.vub_driver.specs.Layout.{ring_of}
 use Rattle.vub_device.specs.declared.entry.Asked.{Asked}
 use Rattle.vub_device.specs.declared.entry.Entry.{Entry}
@@ -32,7 +33,7 @@ use Rattle.vub_run.specs.Moments.{Lane, Moment, standing, unfinished}
 use Rattle.vub_run.specs.Run.{one_turn}
 use Rattle.vub_steps.specs.Tasks.{RequestStep, Look, Put, Act, Sync, Status, task_steps}
 use Rattle.vub_run.specs.TaskItems.{look_items, act_items}
-use Rattle.vub_run.specs.Turns.{turned, work_turn, request_turn, task_turn, phase_turn, phase_goes_on, under_way, begun, is_rest, row_items, step_stores, element_of, answer_at}
+use Rattle.vub_run.specs.Turns.{course_of, turned, work_turn, request_turn, task_turn, phase_turn, phase_goes_on, under_way, begun, is_rest, row_items, step_stores, element_of, answer_at}
 use Rattle.vub_run_laws.proofs.RunNumbers.{missing-among, distinct_join, few_below}
 use Rattle.vub_run_laws.proofs.RunGood.{Known, Worked}
 use Rattle.vub_run_laws.proofs.RunEfforts.{weight, sum_below, weight_small}
@@ -70,8 +71,8 @@ work_shows h s l None = refl
 work_shows h s l (Some k) = request_shows h s l k (asked s.past 0 k)
 
 -- how many answers the next step of a phase shows
-abbrev pub shown_by : ℕ → Phase → ℕ
-shown_by batch p = if is_index (next_step batch p) then batch else 0
+abbrev pub shown_by : Course → Phase → ℕ
+shown_by course p = if is_index (next_step course p) then course.batch else 0
 
 abbrev step_shown : ℕ → Option Step → ℕ
 step_shown batch o = if is_index o then batch else 0
@@ -87,7 +88,7 @@ step_shows h s l (steps.Id e) = row_shows h s (row_of (ring_of 0 h.size) (used_i
 step_shows h s l (steps.Len e) = row_shows h s (row_of (ring_of 0 h.size) (used_idx (ring_of 0 h.size) s.memory) (map (element_of h 0 s) l.batch) (steps.Len e)) ∙ omega arith
 step_shows h s l steps.Index =
     let s' : Scene = after_items h (step_stores h 0 l.batch steps.Index s) s in
-    length-append (published s.past 0) (numbers (map (answer_at 0 s') l.batch)) ∙ ap (λ (ks : List ℕ). length (published s.past 0) + length ks) (numbers_answers s' l.batch)
+    length-append (published s.past 0) (numbers (map (answer_at 0 s') l.batch)) ∙ ap (λ (ks : List ℕ). length (published s.past 0) + length ks) (numbers_answers 0 s' l.batch)
 
 phase_shows : (h : Header1) (s : Scene) (l : Lane) (o : Option Step) → count_in (after_items h (phase_turn h 0 s l o).items s) ≡ count_in s + step_shown (length l.batch) o
 phase_shows h s l None = omega arith
@@ -98,10 +99,10 @@ abbrev IsOfQueue : Turn → Type 0
 IsOfQueue (turns.Work place) = ⊥
 IsOfQueue t = ⊤
 
-begun_shows : (most : ℕ) (l : Lane) → l.batch ≡ [] → step_shown (length (take most l.completed)) (next_step (length (take most l.completed)) (phases.Publish 0)) ≡ 0
+begun_shows : (most : ℕ) (l : Lane) → l.batch ≡ [] → step_shown (length (take most l.completed)) (slice_get (publish_steps (length (take most l.completed))) 0) ≡ 0
 begun_shows most l none = go (length (take most l.completed))
   where
-    go : (n : ℕ) → step_shown n (next_step n (phases.Publish 0)) ≡ 0
+    go : (n : ℕ) → step_shown n (slice_get (publish_steps n) 0) ≡ 0
     go zero = refl
     go (suc n) = refl
 
@@ -112,13 +113,13 @@ rests h s l t of_queue rest none = subst (λ (b : Bool). count_in (after_items h
     go turns.Start is = refl
     go turns.Fetch is = refl
     go (turns.Publish most) is =
-        phase_shows h s (begun (turns.Publish most) l) (next_step (length (take most l.completed)) (phases.Publish 0)) ∙ (let none' = begun_shows most l none in omega (arith, none'))
+        phase_shows h s (begun (turns.Publish most) l) (slice_get (publish_steps (length (take most l.completed))) 0) ∙ (let none' = begun_shows most l none in omega (arith, none'))
     go (turns.Work place) is = absurd is
 
-goes_on : (h : Header1) (s : Scene) (l : Lane) (t : Turn) → is_rest l.phase ≡ false → count_in (after_items h (phase_goes_on h 0 s (under_way t l)).items s) ≡ count_in s + shown_by (length l.batch) l.phase
+goes_on : (h : Header1) (s : Scene) (l : Lane) (t : Turn) → is_rest l.phase ≡ false → count_in (after_items h (phase_goes_on h 0 s (under_way t l)).items s) ≡ count_in s + shown_by (course_of h l) l.phase
 goes_on h s l t busy =
-    subst (λ (b : Bool). count_in (after_items h (phase_goes_on h 0 s (if b then begun t l else l)).items s) ≡ count_in s + shown_by (length l.batch) l.phase) (sym busy)
-    (phase_shows h s l (next_step (length l.batch) l.phase))
+    subst (λ (b : Bool). count_in (after_items h (phase_goes_on h 0 s (if b then begun t l else l)).items s) ≡ count_in s + shown_by (course_of h l) l.phase) (sym busy)
+    (phase_shows h s l (next_step (course_of h l) l.phase))
 
 -- while a batch is published no work on a request comes first
 any_publishes : (size waiting unfinished completed : ℕ) (started : Bool) (phase : Phase) → is_publication phase ≡ true
@@ -147,11 +148,11 @@ publishing_turn h m sequences.Drain taken publishes =
     drain_publishes h.size s.waiting s.unfinished s.completed s.started (m.lanes 0).phase (nat_lt taken h.size) publishes
 
 -- the turn that comes next publishes as many as its step shows
-pub chosen_shows : (h : Header1) (m : Moment) (sequence : Sequence) (taken : ℕ) → Good h m → (t : Turn) → t ≡ next_turn h sequence taken m
-    → length (published (one_turn h 0 t m).next.scene.past 0) ≡ length (published m.scene.past 0) + shown_by (length (m.lanes 0).batch) (m.lanes 0).phase
+pub chosen_shows : (h : Header1) (m : Moment) (sequence : Sequence) (taken : ℕ) → Good 0 h m → (t : Turn) → t ≡ next_turn h sequence taken m
+    → length (published (one_turn h 0 t m).next.scene.past 0) ≡ length (published m.scene.past 0) + shown_by (course_of h (m.lanes 0)) (m.lanes 0).phase
 chosen_shows h m sequence taken good t is = elim (phase_cases l.batch l.phase good.holds.worked.phase_is) [
   | inl rest ↦
-      let none : shown_by (length l.batch) l.phase ≡ 0 = ap (λ (p : Phase). shown_by (length l.batch) p) rest.0 in
+      let none : shown_by (course_of h l) l.phase ≡ 0 = ap (λ (p : Phase). shown_by (course_of h l) p) rest.0 in
       let same : count_in (after_items h (turned h 0 t m).items s) ≡ count_in s = resting t (ap is_rest rest.0) rest.1 in
       omega (arith, none, same)
   | inr shows ↦ publishes t (subst IsOfQueue (sym is) (publishing_turn h m sequence taken (ap is_publication shows.1))) (ap is_rest shows.1)
@@ -169,7 +170,7 @@ chosen_shows h m sequence taken good t is = elim (phase_cases l.batch l.phase go
     resting (turns.Publish most) rest none = rests h s l (turns.Publish most) tt rest none
     resting (turns.Work place) rest none = work_shows h s l (slice_get (unfinished 0 m) place)
 
-    publishes : (t : Turn) → IsOfQueue t → is_rest l.phase ≡ false → count_in (after_items h (turned h 0 t m).items s) ≡ count_in s + shown_by (length l.batch) l.phase
+    publishes : (t : Turn) → IsOfQueue t → is_rest l.phase ≡ false → count_in (after_items h (turned h 0 t m).items s) ≡ count_in s + shown_by (course_of h l) l.phase
     publishes turns.Start of_queue busy = goes_on h s l turns.Start busy
     publishes turns.Fetch of_queue busy = goes_on h s l turns.Fetch busy
     publishes (turns.Publish most) of_queue busy = goes_on h s l (turns.Publish most) busy
@@ -197,7 +198,7 @@ sum_left gone done made (suc a) =
     ]
 
 -- published, completed and left are no more than were accepted
-all_few : (n cap : ℕ) (past : List Entry) (heads : List ℕ) (phase : Phase) (batch completed : List ℕ) (made : ℕ → ℕ) → Known n cap past heads → Worked past phase batch completed made
+all_few : (n cap : ℕ) (past : List Entry) (heads : List ℕ) (phase : Phase) (batch completed : List ℕ) (made : ℕ → ℕ) → Known 0 n cap past heads → Worked 0 past phase batch completed made
     → length (published past 0) + (length completed + length batch) + length (missing_below (published past 0 ++ (completed ++ batch)) (accepted past 0)) ≤ accepted past 0
 all_few n cap past heads phase batch completed made known w =
     let ps : List ℕ = published past 0 in
@@ -222,11 +223,11 @@ all_few n cap past heads phase batch completed made known w =
 abbrev pub undone : Moment → ℕ
 undone m = length (m.scene.heads 0) - length (published m.scene.past 0)
 
-pub effort_bound : (h : Header1) (m : Moment) → Good h m → effort_at m ≤ 21 * undone m + 2
+pub effort_bound : (h : Header1) (m : Moment) → Good 0 h m → effort_at 0 m ≤ 21 * undone m + 2
 effort_bound h m good =
     let s : Scene = m.scene in
     let l : Lane = m.lanes 0 in
-    let known : Known h.size h.capacity s.past (s.heads 0) = good.holds.known in
+    let known : Known 0 h.size h.capacity s.past (s.heads 0) = good.holds.known in
     let offered : accepted s.past 0 ≤ length (s.heads 0) = known.offered in
     let all = all_few h.size h.capacity s.past (s.heads 0) l.phase l.batch l.completed l.made known good.holds.worked in
     let sum = sum_left (published s.past 0) (l.completed ++ l.batch) l.made (accepted s.past 0) in
@@ -235,7 +236,7 @@ effort_bound h m good =
     omega (arith, all, sum, stores, begins)
 
 -- what a batch shows is not published yet
-pub batch_undone : (h : Header1) (m : Moment) → Good h m → length (m.lanes 0).batch ≤ undone m
+pub batch_undone : (h : Header1) (m : Moment) → Good 0 h m → length (m.lanes 0).batch ≤ undone m
 batch_undone h m good =
     let known = good.holds.known in
     let offered : accepted m.scene.past 0 ≤ length (m.scene.heads 0) = known.offered in

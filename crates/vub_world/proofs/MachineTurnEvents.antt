@@ -1,6 +1,7 @@
 -- The events of turns: what the machine's steps in them are in the run.
 use Rattle.std.proofs.Common.{◌≡◌, ◌≤◌, ◌<◌, ℕ, zero, suc, ◌+◌, ◌-◌, ◌*◌, Bool, true, false, cond, List, [], ◌∷◌, ◌++◌, length, refl, ap, sym, ◌∙◌, subst, inl, inr, arith}
 use Rattle.std.specs.Prelude.{min}
+use Rattle.vub_run_laws.proofs.RunsLegal.{some_queue}
 use Rattle.vub_base.specs.declared.header.Header1.{Header1}
 use Rattle.vub_steps.specs.declared.readiness.Turn.{Turn}
 use Rattle.vub_schedule.specs.declared.types.Event.{Event}
@@ -28,13 +29,13 @@ use Rattle.vub_run_laws.proofs.RunsTo.{stands_good}
 
 -- no more are outstanding than the ring has places
 pub standing_few : (w : Machine) → IsStanding w → w.outstanding.offered - w.outstanding.collected ≤ 64
-standing_few w s = outstanding_few w.header s.2.0 w (plain_header w.header s.2.1.header) (stands_good w.header s.0 s.1 s.2.0 s.2.1) s.2.2
+standing_few w s = outstanding_few w.header s.2.0 w (plain_header w.header s.2.1.header) (stands_good 0 w.header s.0 s.1 s.2.0 (some_queue w.header s.2.1.header) s.2.1) s.2.2
 
 -- room for one turn
 pub single_room : (w : Machine) (r : RoomState) → IsStanding w → HasRoom (min 1 (21 * (w.outstanding.offered - w.outstanding.collected) + 3)) (w.outstanding.offered - w.outstanding.collected) r → HasTurnRoom (length (batch_in w.life)) r
 single_room w r s room =
     let m : Moment = s.2.0 in
-    let good = stands_good w.header s.0 s.1 m s.2.1 in
+    let good = stands_good 0 w.header s.0 s.1 m (some_queue w.header s.2.1.header) s.2.1 in
     let batch = batch_few w.header w.ring m w.life s.2.2.life in
     let not_yet = batch_undone w.header m good in
     let few = undone_few w.header m w good s.2.2 in

@@ -44,32 +44,33 @@ use Rattle.vub_world.specs.MachineDevice.{Device, DeviceAt, TurnMade, IsMade, St
 use Rattle.vub_world.specs.MachineFront.{IsSmall, OneSmall}
 use Rattle.vub_run.specs.Memory.{after_items}
 use Rattle.vub_run.specs.Moments.{Lane, Moment, standing}
-use Rattle.vub_queue_in_run.specs.QueueAt.{spot_of, QueueStands, IsMainRing, DiskAt}
+use Rattle.vub_queue_in_run.specs.QueueAt.{spot_of, QueueStands, LiesAs, DiskAt}
 use Rattle.vub_queue.specs.QueueState as states
 use Rattle.vub_split.specs.Split.{used_side}
-use Rattle.vub_queue.specs.QueueState.{QueueState, row_at, row_if, next_row, publishes, publish_row, StoresRow, TrailsRow, Turns, DoesStore, DoesTrail, DoesDisk, IsDue, IfStepped, WorksOut, outcome, is_idle, is_fault}
+use Rattle.vub_queue.specs.QueueState.{course_in, QueueState, row_at, row_if, next_row, publishes, publish_row, StoresRow, TrailsRow, Turns, DoesStore, DoesTrail, DoesDisk, IsDue, IfStepped, WorksOut, outcome, is_idle, is_fault}
 use Rattle.vub_run.specs.Run.{one_turn}
 use Rattle.vub_task.specs.TaskState.{Making}
 use Rattle.vub_run.specs.Turns.{turned, answer_len, answer_at}
 use Rattle.vub_run_laws.proofs.RunNumbers.{not_among-take}
 use Rattle.vub_run_laws.proofs.RunFrames.{open_out, length_little}
 use Rattle.vub_run_laws.proofs.RunGood.{IsWide, IsOut, PhaseIs}
-use Rattle.vub_run_laws.proofs.RingTracks.{some_waits}
+use Rattle.vub_run_laws.proofs.RunHolds.{Holds}
 use Rattle.vub_run_laws.proofs.RunTurns.{IsPlain, Good}
 use Rattle.vub_run_laws.proofs.RunChainsEvents.{ChainedAt}
 use Rattle.vub_queue_in_run.proofs.QueueAtMoves.{new_unpublished}
 use Rattle.vub_queue_in_run.proofs.QueueAtTurns.{IsPhaseTurn, start_stands, fetch_stands, idle_stands, ready_same}
 use Rattle.vub_queue_in_run.proofs.QueueAtRows.{HasPublished, HasShown, MadeElement, ShowsNext, row_stands, shown_stands, stored_stands, after_row, shows_goes, goes_under_way}
 use Rattle.vub_queue_in_run.proofs.WorkAtItems.{turn_disk}
+use Rattle.vub_run_laws.proofs.RunQueue.{queue_ahead}
 
 -- ---- what a turn is given, and what it does
 
 -- the device stands at a moment of a run, and its memory keeps no store
 pub record TurnAt (h : Header1) (r : SplitRing) (m : Moment) (outstanding : OutstandingRequests) (d : Device) : Type 0 where
   pub plain : IsPlain h
-  pub good : Good h m
-  pub chained : ChainedAt h m
-  pub main : IsMainRing r h.size
+  pub good : Good 0 h m
+  pub chained : ChainedAt 0 h m
+  pub main : LiesAs 0 r h.size
   pub at : DeviceAt h r m d
   pub fresh : d.stores ≡ []
   pub numbered : OutstandingAt h.size m.scene.past (m.scene.heads 0) outstanding
@@ -102,7 +103,7 @@ disk_same cap past v w same disk = subst (λ (u : Values). DiskAt cap past u) (s
 pub start_made : (h : Header1) (r : SplitRing) (m : Moment) (outstanding : OutstandingRequests) (cap : ℕ) (sizes : ℕ → ℕ) (d now : Device) (x : Stepped) → TurnAt h r m outstanding d → is_ready (standing h 0 m) turns.Start ≡ true → DeviceDoes turns.Start cap sizes d now x
     → TurnMade h r m turns.Start outstanding d now x
 start_made h r m outstanding cap sizes d now x a ready does =
-    let s = start_stands h r m (Some d.memory) x d.queue now.queue a.plain a.good a.main a.at.stands ready does.fine does.does in
+    let s = start_stands 0 h r m (Some d.memory) x d.queue now.queue a.plain a.good a.main a.at.stands ready does.fine does.does in
     let none : accepts x ≡ 0 = ap accepts s.said in
     let same : accepted (one_turn h 0 turns.Start m).next.scene.past 0 ≡ accepted m.scene.past 0 = ap (λ (is : List Item). accepted (after_items h is m.scene).past 0) s.made in
     record {
@@ -111,7 +112,7 @@ start_made h r m outstanding cap sizes d now x a ready does =
       at = record {
         stands = s.stands;
         memory_is = some_is now.memory d.memory does.stores_are ∙ a.at.memory_is ∙ sym (ap (λ (is : List Item). (after_items h is m.scene).memory) s.made);
-        disk = disk_same h.capacity (one_turn h 0 turns.Start m).next.scene.past d.values now.values (some_is now.values d.values does.values_are) (turn_disk h m turns.Start d.values tt a.at.disk);
+        disk = disk_same h.capacity (one_turn h 0 turns.Start m).next.scene.past d.values now.values (some_is now.values d.values does.values_are) (turn_disk 0 h m turns.Start d.values tt a.at.disk);
       };
       items_are = s.made ∙ sym (ap (noted outstanding now.values now.stores (shown_of outstanding d.memory d.queue)) s.said);
       store = subst (λ (y : Stepped). StoreFits y now.stores) (sym s.said) tt;
@@ -130,10 +131,10 @@ waits_there batch (phases.Start done) s w u c is ready = absurd is
 waits_there batch (phases.Fetch done) s w u c is ready = absurd is
 
 -- where it is ready, one more is offered
-more_offered : (h : Header1) (m : Moment) → IsPlain h → Good h m → is_ready (standing h 0 m) turns.Fetch ≡ true → accepted m.scene.past 0 < length (m.scene.heads 0)
+more_offered : (h : Header1) (m : Moment) → IsPlain h → Good 0 h m → is_ready (standing h 0 m) turns.Fetch ≡ true → accepted m.scene.past 0 < length (m.scene.heads 0)
 more_offered h m plain good ready =
     let st : Standing = standing h 0 m in
-    let some = some_waits h m.scene (m.lanes 0) plain.good good.holds in
+    let some = queue_ahead 0 h m.scene (m.lanes 0) plain.good good.holds in
     let waits = waits_there (m.lanes 0).batch (m.lanes 0).phase st.started st.waiting st.unfinished st.completed good.holds.worked.phase_is ready in
     omega (arith, some, waits)
 
@@ -143,8 +144,8 @@ fetch_made h r m outstanding cap sizes d now x a ready does =
     let k : ℕ = accepted m.scene.past 0 in
     let head : ℕ = slice_index (m.scene.heads 0) k in
     let told : Turns turns.Fetch (Some m.scene.memory) x d.queue now.queue = subst (λ (b : Bytes). Turns turns.Fetch (Some b) x d.queue now.queue) a.at.memory_is does.does in
-    let s = fetch_stands h r m x d.queue now.queue a.plain a.good a.main a.at.stands ready does.fine told in
-    let new = not_among-take (published m.scene.past 0) (collected m.scene.past 0) k (new_unpublished h.size h.capacity m.scene.past (m.scene.heads 0) a.good.holds.known) in
+    let s = fetch_stands 0 h r m x d.queue now.queue a.plain a.good a.main a.at.stands ready does.fine told in
+    let new = not_among-take (published m.scene.past 0) (collected m.scene.past 0) k (new_unpublished 0 h.size h.capacity m.scene.past (m.scene.heads 0) a.good.holds.known) in
     let offered : k < length (m.scene.heads 0) = more_offered h m a.plain a.good ready in
     let slot = a.numbered.slots k offered new in
     let number : number_at outstanding head ≡ k = ap (λ (o : OutstandingRequest). o.number) slot in
@@ -156,12 +157,12 @@ fetch_made h r m outstanding cap sizes d now x a ready does =
       at = record {
         stands = s.stands;
         memory_is = some_is now.memory d.memory does.stores_are ∙ a.at.memory_is ∙ sym (ap (λ (is : List Item). (after_items h is m.scene).memory) s.made);
-        disk = disk_same h.capacity (one_turn h 0 turns.Fetch m).next.scene.past d.values now.values (some_is now.values d.values does.values_are) (turn_disk h m turns.Fetch d.values tt a.at.disk);
+        disk = disk_same h.capacity (one_turn h 0 turns.Fetch m).next.scene.past d.values now.values (some_is now.values d.values does.values_are) (turn_disk 0 h m turns.Fetch d.values tt a.at.disk);
       };
       items_are = s.made ∙ ap (λ (n : ℕ). items.Made (entries.Accept 0 n) ∷ []) (sym number) ∙ sym (ap (noted outstanding now.values now.stores (shown_of outstanding d.memory d.queue)) s.said);
       store = subst (λ (y : Stepped). StoreFits y now.stores) (sym s.said) tt;
       sector = subst (λ (y : Stepped). SectorFits h.capacity y) (sym s.said) tt;
-      head = subst (λ (y : Stepped). HeadFits h.size y) (sym s.said) (a.good.holds.driven.below k (record { below = offered; kept = new }));
+      head = subst (λ (y : Stepped). HeadFits h.size y) (sym s.said) (a.good.holds.queue.driven.below k (record { below = offered; kept = new }));
       taken = omega (arith, one, more);
     }
 
@@ -205,7 +206,7 @@ row_in false u y is = absurd (let fails : None ≡ Some y = is in cc)
 small_row : (most : ℕ) (q : QueueState) (y : Row) → publish_row most q ≡ Some y → y.store.space ≡ 0 → IsSmall y.store
 small_row most q y is space =
     let u : QueueState = states.under_way most q in
-    record { space = space; few = omega (arith, few_row u (next_step (length u.batch) u.phase) y (row_in (publishes most q) u y is)) }
+    record { space = space; few = omega (arith, few_row u (next_step (course_in u) u.phase) y (row_in (publishes most q) u y is)) }
 
 -- the items of a store
 store_made : (d now : Device) (tag : Tag) (y : Row) → StoredRow d now y → stored_items tag now.stores ≡ items.Store tag M y.store.place y.store.bytes ∷ []
@@ -266,7 +267,7 @@ among_right xs ys k held = let joined : is_among (xs ++ ys) k ≡ (is_among xs k
 -- the row of the store of used.idx
 index_place : (q : QueueState) (most : ℕ) (y : Row) → ShowsNext q → publish_row most q ≡ Some y → q.ring.used.1 ≡ 8192 → y.store.place + length y.store.bytes ≤ 65536
 index_place q most y next is lies =
-    let goes : is_publication q.phase ≡ true = shows_goes q.phase (length q.batch) next in
+    let goes : is_publication q.phase ≡ true = shows_goes q.phase (course_in q) next in
     let same : states.under_way most q ≡ q = goes_under_way q most goes in
     let found : next_row q ≡ Some y = subst (λ (u : QueueState). next_row u ≡ Some y) same (row_in (publishes most q) (states.under_way most q) y is) in
     let last : ℕ = (q.next_used + length q.batch) % 65536 in
@@ -283,9 +284,9 @@ answers_same h r m outstanding d y a off =
     let f : ℕ × ℕ → Answered = λ x. answer_for (slot_in outstanding x.0) m.scene.memory x.0 in
     ap (λ (b : Bytes). answers_for outstanding b d.queue.batch) a.at.memory_is
     ∙ ap (λ (xs : List (ℕ × ℕ)). answers_for outstanding m.scene.memory xs) a.at.stands.batch
-    ∙ map_over f (answer_at 0 (after_row h y m.scene)) (spot_of h past heads) l.batch (λ k held.
+    ∙ map_over f (answer_at 0 (after_row h y m.scene)) (spot_of 0 h past heads) l.batch (λ k held.
     let done : is_among (l.completed ++ l.batch) k ≡ true = among_right l.completed l.batch k held in
-    let out : IsOut past heads k = open_out h.size h.capacity past heads k a.good.holds.known (a.good.holds.worked.opens k done) in
+    let out : IsOut 0 past heads k = open_out 0 h.size h.capacity past heads k a.good.holds.known (a.good.holds.worked.opens k done) in
     let head : ℕ = slice_index heads k in
     ap (λ (o : OutstandingRequest). answer_for o m.scene.memory head) (a.numbered.slots k out.below out.kept)
     ∙ answer_same h.capacity (asked past 0 k) m.scene.memory y.store.place y.store.bytes k head (a.good.holds.known.wide k out.below) off (a.good.holds.stored.status k done))
@@ -295,17 +296,17 @@ shown_is : (outstanding : OutstandingRequests) (m : Bytes) (q : QueueState) → 
 shown_is outstanding m q next = ap (λ (o : Option Step). cond {A = List Answered} (is_index o) (answers_for outstanding m q.batch) []) next
 
 -- what a turn of a publication leaves, whichever step it makes
-left_at : (h : Header1) (r : SplitRing) (m : Moment) (outstanding : OutstandingRequests) (most : ℕ) (d now : Device) (tag : Tag) (y : Row) → TurnAt h r m outstanding d → QueueStands h r (one_turn h 0 (turns.Publish most) m).next now.queue → now.values ≡ d.values
+left_at : (h : Header1) (r : SplitRing) (m : Moment) (outstanding : OutstandingRequests) (most : ℕ) (d now : Device) (tag : Tag) (y : Row) → TurnAt h r m outstanding d → QueueStands 0 h r (one_turn h 0 (turns.Publish most) m).next now.queue → now.values ≡ d.values
     → y.store.space ≡ 0 → StoredRow d now y → (one_turn h 0 (turns.Publish most) m).next.scene.memory ≡ (after_items h (items.Store tag M y.store.place y.store.bytes ∷ []) m.scene).memory
     → DeviceAt h r (one_turn h 0 (turns.Publish most) m).next now
 left_at h r m outstanding most d now tag y a stands values space s memory = record {
   stands = stands;
   memory_is = row_memory h m d now tag y a.at.memory_is space s ∙ sym memory;
-  disk = disk_same h.capacity (one_turn h 0 (turns.Publish most) m).next.scene.past d.values now.values values (turn_disk h m (turns.Publish most) d.values tt a.at.disk);
+  disk = disk_same h.capacity (one_turn h 0 (turns.Publish most) m).next.scene.past d.values now.values values (turn_disk 0 h m (turns.Publish most) d.values tt a.at.disk);
 }
 
 -- the store of used.idx
-show_made : (h : Header1) (r : SplitRing) (m : Moment) (outstanding : OutstandingRequests) (most : ℕ) (d now : Device) (x : Stepped) (y : Row) → TurnAt h r m outstanding d → DeviceAt h r (one_turn h 0 (turns.Publish most) m).next now → HasShown h m most x y → ShowsNext d.queue
+show_made : (h : Header1) (r : SplitRing) (m : Moment) (outstanding : OutstandingRequests) (most : ℕ) (d now : Device) (x : Stepped) (y : Row) → TurnAt h r m outstanding d → DeviceAt h r (one_turn h 0 (turns.Publish most) m).next now → HasShown 0 h m most x y → ShowsNext d.queue
     → StoredRow d now y → IsSmall y.store → y.store.place + length y.store.bytes ≤ 65536 → TurnMade h r m (turns.Publish most) outstanding d now x
 show_made h r m outstanding most d now x y a at has next s small off =
     let list : List Answered = map (answer_at 0 (after_row h y m.scene)) (m.lanes 0).batch in
@@ -345,7 +346,7 @@ part_made h r m outstanding most d now x y at part s small =
 
 -- whether the next step shows the batch
 shows_cases : (q : QueueState) → ShowsNext q ⊎ (ShowsNext q → ⊥)
-shows_cases q = go (next_step (length q.batch) q.phase)
+shows_cases q = go (next_step (course_in q) q.phase)
   where
     go : (o : Option Step) → (o ≡ Some steps.Index) ⊎ (o ≡ Some steps.Index → ⊥)
     go None = inr (λ e. let fails : None ≡ Some steps.Index = e in cc)
@@ -359,20 +360,20 @@ pub publish_made : (h : Header1) (r : SplitRing) (m : Moment) (outstanding : Out
     → DeviceDoes (turns.Publish most) cap sizes d now x → TurnMade h r m (turns.Publish most) outstanding d now x
 publish_made h r m outstanding cap sizes most d now x a ready does =
     let t : Turn = turns.Publish most in
-    let found = row_stands h r m most (Some d.memory) x d.queue now.queue a.plain a.good a.main a.at.stands ready does.fine does.does in
+    let found = row_stands 0 h r m most (Some d.memory) x d.queue now.queue a.plain a.good a.main a.at.stands ready does.fine does.does in
     let y : Row = found.0 in
-    let p : HasPublished h r m most x d.queue now.queue y = found.1 in
+    let p : HasPublished 0 h r m most x d.queue now.queue y = found.1 in
     let small : IsSmall y.store = small_row most d.queue y p.row p.space in
     let values : now.values ≡ d.values = some_is now.values d.values does.values_are in
     elim (shows_cases d.queue) [
       | inl next ↦
-          let has : HasShown h m most x y = shown_stands h r m most x d.queue now.queue y a.at.stands p next in
+          let has : HasShown 0 h m most x y = shown_stands 0 h r m most x d.queue now.queue y a.at.stands p next in
           let s : StoredRow d now y = stored_row d now x (publish_row most d.queue) y (ap outcome has.said) p.row a.fresh does.stores_are does.trails in
           let off = index_place d.queue most y next p.row (ap (λ (z : SplitRing). z.used.1) a.at.stands.ring ∙ a.main.used) in
           let at = left_at h r m outstanding most d now SP5 y a p.stands values p.space s (ap (λ (is : List Item). (after_items h is m.scene).memory) has.items) in
           show_made h r m outstanding most d now x y a at has next s small off
       | inr other ↦
-          let part = stored_stands h r m most x d.queue now.queue y a.good a.at.stands ready p other in
+          let part = stored_stands 0 h r m most x d.queue now.queue y a.good a.at.stands ready p other in
           let s : StoredRow d now y = stored_row d now x (publish_row most d.queue) y (ap outcome part.said) p.row a.fresh does.stores_are does.trails in
           let at = left_at h r m outstanding most d now y.tag y a p.stands values p.space s (ap (λ (is : List Item). (after_items h is m.scene).memory) part.items) in
           part_made h r m outstanding most d now x y at part s small
@@ -393,11 +394,11 @@ idle_values (turns.Work place) v w is does = absurd is
 idle_values (turns.Publish most) v w is does = some_is w v does
 
 -- whether a publication is ready doesn't depend on what waits
-unready_still : (h : Header1) (r : SplitRing) (m : Moment) (t : Turn) (q : QueueState) → IsMainRing r h.size → QueueStands h r m q → IsPhaseTurn t → is_ready (standing h 0 m) t ≡ false → (is_ready (states.standing_at q 0) t ≡ false) ⊎ IsEarly t
-unready_still h r m turns.Start q main z is unready = inr tt
-unready_still h r m turns.Fetch q main z is unready = inr tt
-unready_still h r m (turns.Work place) q main z is unready = absurd is
-unready_still h r m (turns.Publish most) q main z is unready = inl (ready_same h r m q (turns.Publish most) main z ∙ unready)
+unready_still : (h : Header1) (r : SplitRing) (m : Moment) (t : Turn) (q : QueueState) → LiesAs 0 r h.size → Holds 0 h m.scene (m.lanes 0) → QueueStands 0 h r m q → IsPhaseTurn t → is_ready (standing h 0 m) t ≡ false → (is_ready (states.standing_at q 0) t ≡ false) ⊎ IsEarly t
+unready_still h r m turns.Start q main holds z is unready = inr tt
+unready_still h r m turns.Fetch q main holds z is unready = inr tt
+unready_still h r m (turns.Work place) q main holds z is unready = absurd is
+unready_still h r m (turns.Publish most) q main holds z is unready = inl (ready_same 0 h r m q (turns.Publish most) main holds z ∙ unready)
 
 idle_memory : (t : Turn) (d now : Device) (x : Stepped) → IsPhaseTurn t → (is_ready (states.standing_at d.queue 0) t ≡ false) ⊎ IsEarly t → DoesStore t (Some d.memory) (Some now.memory) x d.queue → now.memory ≡ d.memory
 idle_memory turns.Start d now x is unready stores = some_is now.memory d.memory stores
@@ -412,12 +413,12 @@ pub idle_made : (h : Header1) (r : SplitRing) (m : Moment) (outstanding : Outsta
     → DeviceDoes t cap sizes d now x → (x ≡ says.Idle) × DeviceAt h r m now
 idle_made h r m outstanding cap sizes t d now x a is unready does =
     let told : Turns t (Some m.scene.memory) x d.queue now.queue = subst (λ (b : Bytes). Turns t (Some b) x d.queue now.queue) a.at.memory_is does.does in
-    let idle = idle_stands h r m t x d.queue now.queue a.main a.at.stands is unready does.fine told in
+    let idle = idle_stands 0 h r m t x d.queue now.queue a.main a.good.holds a.at.stands is unready does.fine told in
     let values : now.values ≡ d.values = idle_values t d.values now.values is does.values_are in (
       idle.0,
       record {
-        stands = subst (λ (q : QueueState). QueueStands h r m q) (sym idle.1) a.at.stands;
-        memory_is = idle_memory t d now x is (unready_still h r m t d.queue a.main a.at.stands is unready) does.stores_are ∙ a.at.memory_is;
+        stands = subst (λ (q : QueueState). QueueStands 0 h r m q) (sym idle.1) a.at.stands;
+        memory_is = idle_memory t d now x is (unready_still h r m t d.queue a.main a.good.holds a.at.stands is unready) does.stores_are ∙ a.at.memory_is;
         disk = disk_same h.capacity m.scene.past d.values now.values values a.at.disk;
       },
     )

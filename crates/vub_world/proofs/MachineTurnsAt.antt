@@ -116,7 +116,7 @@ with_device w memory q disk = record w { memory = memory; life = with_queue q; d
 
 -- the machine stood at a moment with this queue
 pub record HasQueue (w : Machine) (m : Moment) (q : Queue) : Type 0 where
-  pub good : Good w.header m
+  pub good : Good 0 w.header m
   pub at : MachineAt w m
   pub life_is : w.life ≡ with_queue q
 
@@ -132,7 +132,7 @@ made_at : (w : Machine) (m : Moment) (q q' : Queue) (t : Turn) (memory : Watched
 made_at w m q q' t memory disk d x has made =
     let life = life_at w m q has in
     let keeps : Keeps m.scene (after_turn w t m).scene = subst (λ (is : List Item). Keeps m.scene (after_items w.header is m.scene)) (sym made.items_are) (noted_keeps w.header w.outstanding (values_of disk) (stores_in memory) (shown_of w.outstanding d.memory d.queue) x m.scene) in
-    let driver : (turned w.header 0 t m).lane.driver ≡ (m.lanes 0).driver = turn_driver w.header t m in
+    let driver : (turned w.header 0 t m).lane.driver ≡ (m.lanes 0).driver = turn_driver 0 w.header t m in
     record {
       front = record {
         memory = made.at.memory_is;
@@ -140,7 +140,7 @@ made_at w m q q' t memory disk d x has made =
         asks = subst (λ (v : Driver). AskAt v.waiting w.asked) (sym driver) has.at.front.asks;
       };
       position = has.at.position ∙ ap (λ (n : ℕ). (w.header.base + n) % 65536) (sym keeps.collects);
-      life = (life.0, (life.1.0, turned_stays w.header t m ∙ life.1.1, made.at.stands));
+      life = (life.0, (life.1.0, turned_stays 0 w.header t m ∙ life.1.1, made.at.stands));
       disk = made.at.disk;
       outstanding = kept_slots w.header.size m.scene (after_turn w t m).scene w.outstanding keeps has.good.holds.known.shown has.at.outstanding;
     }
@@ -193,7 +193,7 @@ abbrev pub has_no_queue : Option Life → Type 0
 has_no_queue None = ⊤
 has_no_queue (Some l) = l.queue ≡ None
 
-pub none_attached : (w : Machine) (m : Moment) → Good w.header m → MachineAt w m → has_no_queue w.life → (m.lanes 0).attached ≡ false
+pub none_attached : (w : Machine) (m : Moment) → Good 0 w.header m → MachineAt w m → has_no_queue w.life → (m.lanes 0).attached ≡ false
 none_attached w m good at none = go w.life at.life none
   where
     with_queue_or : (q : Option Queue) → AttachedAt w.header w.ring m q → q ≡ None → (m.lanes 0).attached ≡ false
@@ -204,7 +204,7 @@ none_attached w m good at none = go w.life at.life none
     go None at none = (good.asleep at).0
     go (Some l) at none = with_queue_or l.queue at.1 none
 
-pub turn_none : (w : Machine) (m : Moment) (t : Turn) (kept : WatchedShared) → Good w.header m → MachineAt w m → has_no_queue w.life → bytes_in kept ≡ bytes_in w.memory → TurnGoes t w (record w { memory = kept }) m says.Idle
+pub turn_none : (w : Machine) (m : Moment) (t : Turn) (kept : WatchedShared) → Good 0 w.header m → MachineAt w m → has_no_queue w.life → bytes_in kept ≡ bytes_in w.memory → TurnGoes t w (record w { memory = kept }) m says.Idle
 turn_none w m t kept good at none same = (
   λ due. absurd (let fails : true ≡ false = sym due ∙ undue w.header t m (none_attached w m good at none) in cc),
   λ not_due. (

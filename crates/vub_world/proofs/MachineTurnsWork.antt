@@ -118,7 +118,7 @@ pub record Makes (size : ℕ) (outstanding : OutstandingRequests) (d now : Devic
   pub trails : Some now.stores ≡ option_map (with_maybe (due_store d.queue task n)) (Some d.stores)
   pub looks : (head sector : ℕ) (v : Values) → x ≡ says.Looked head sector → values_after n.request n.step v ≡ v
 
-work_noted : (h : Header1) (m : Moment) (t : Turn) (outstanding : OutstandingRequests) (d now : Device) (k : ℕ) (task : Task) (n : Making) (x : Stepped) → Makes h.size outstanding d now k task n x → Shows d.values d.queue k task n (turned h 0 t m).items x → NotesWork h m t outstanding d now x
+work_noted : (h : Header1) (m : Moment) (t : Turn) (outstanding : OutstandingRequests) (d now : Device) (k : ℕ) (task : Task) (n : Making) (x : Stepped) → Makes h.size outstanding d now k task n x → Shows 0 d.values d.queue k task n (turned h 0 t m).items x → NotesWork h m t outstanding d now x
 work_noted h m t outstanding d now k task n (says.Looked head sector) g shows =
     let values : now.values ≡ d.values = g.values_are ∙ g.looks head sector d.values refl in
     let number : number_at outstanding head ≡ k = ap (number_at outstanding) shows.0 ∙ g.number in
@@ -170,17 +170,17 @@ pub work_made : (h : Header1) (r : SplitRing) (m : Moment) (outstanding : Outsta
     → DeviceDoes (turns.Work place) h.capacity sizes d now x → TurnMade h r m (turns.Work place) outstanding d now x
 work_made h r m outstanding sizes place d now x a room ready does =
     let q : QueueState = d.queue in
-    let w : WorkReady h sizes m q place = work_ready h m r sizes q place a.plain a.good a.chained a.main room a.at.stands ready in
+    let w : WorkReady 0 h sizes m q place = work_ready 0 h m r sizes q place a.plain a.good a.chained a.main room a.at.stands ready in
     let n : Making = making w in
     let due : IsDue h.capacity sizes q d.memory place w.task n = subst (λ (b : Bytes). IsDue h.capacity sizes q b place w.task n) (sym a.at.memory_is) w.due in
     let out : WorksOut place w.task n d.memory (Some now.memory) (Some d.stores) (Some now.stores) (Some d.values) (Some now.values) x q now.queue = stepped_out x _ does.fine does.served (does.made place w.task n refl due) in
-    let kind = work_kind h sizes m q place w a.plain a.good in
+    let kind = work_kind 0 h sizes m q place w a.plain a.good in
     let well : SaysWell h.capacity w.request w.step (said (head_in w.task) (answer_in n)) = says_well h (head_in w.task) ((m.lanes 0).made w.k) w.request w.step kind in
     let well_too : SaysWell h.capacity w.request w.step x = subst (λ (y : Stepped). SaysWell h.capacity w.request w.step y) (sym out.says) well in
-    let shows : Shows d.values q w.k w.task n (turned h 0 (turns.Work place) m).items x =
-    subst (λ (y : Stepped). Shows d.values q w.k w.task n (turned h 0 (turns.Work place) m).items y) (sym out.says) (work_items h sizes m r q place d.values w a.plain a.good a.main a.at.stands a.at.disk) in
-    let is_out : IsOut m.scene.past (m.scene.heads 0) w.k = open_out h.size h.capacity m.scene.past (m.scene.heads 0) w.k a.good.holds.known w.is_open in
-    let below : head_in w.task < h.size = omega (arith, w.head, a.good.holds.driven.below w.k is_out) in
+    let shows : Shows 0 d.values q w.k w.task n (turned h 0 (turns.Work place) m).items x =
+    subst (λ (y : Stepped). Shows 0 d.values q w.k w.task n (turned h 0 (turns.Work place) m).items y) (sym out.says) (work_items 0 h sizes m r q place d.values w a.plain a.good a.main a.at.stands a.at.disk) in
+    let is_out : IsOut 0 m.scene.past (m.scene.heads 0) w.k = open_out 0 h.size h.capacity m.scene.past (m.scene.heads 0) w.k a.good.holds.known w.is_open in
+    let below : head_in w.task < h.size = omega (arith, w.head, a.good.holds.queue.driven.below w.k is_out) in
     let number : number_at outstanding (head_in w.task) ≡ w.k = ap (number_at outstanding) w.head ∙ ap (λ (o : OutstandingRequest). o.number) (a.numbered.slots w.k is_out.below is_out.kept) in
     let values : now.values ≡ values_after w.request w.step d.values = some_is now.values (values_after w.request w.step d.values) out.values in
     let notes : NotesWork h m (turns.Work place) outstanding d now x = work_noted h m (turns.Work place) outstanding d now w.k w.task n x (record { fresh = a.fresh; below = below; number = number; values_are = values; trails = out.trails; looks = well_too.looks }) shows in
@@ -190,9 +190,9 @@ work_made h r m outstanding sizes place d now x a room ready does =
       goes = notes.goes;
       made = notes.made;
       at = record {
-        stands = work_stands h sizes m r q now.queue place d.values w a.plain a.good a.at.stands a.at.disk out.leaves;
-        memory_is = memory ∙ sym (work_memory h sizes m r q place w a.plain a.good a.main a.at.stands);
-        disk = subst (λ (v : Values). DiskAt h.capacity (one_turn h 0 (turns.Work place) m).next.scene.past v) (sym values) (work_disk h sizes m q place d.values w a.plain a.good a.at.disk);
+        stands = work_stands 0 h sizes m r q now.queue place d.values w a.plain a.good a.at.stands a.at.disk out.leaves;
+        memory_is = memory ∙ sym (work_memory 0 h sizes m r q place w a.plain a.good a.main a.at.stands);
+        disk = subst (λ (v : Values). DiskAt h.capacity (one_turn h 0 (turns.Work place) m).next.scene.past v) (sym values) (work_disk 0 h sizes m q place d.values w a.plain a.good a.at.disk);
       };
       items_are = notes.items_are;
       store = notes.store;
@@ -217,7 +217,7 @@ rests_at : (h : Header1) (r : SplitRing) (m : Moment) (outstanding : Outstanding
 rests_at h r m outstanding d now x a rests = (
   rests.idle,
   record {
-    stands = subst (λ (q : QueueState). QueueStands h r m q) (sym rests.state) a.at.stands;
+    stands = subst (λ (q : QueueState). QueueStands 0 h r m q) (sym rests.state) a.at.stands;
     memory_is = some_is now.memory d.memory rests.stores ∙ a.at.memory_is;
     disk = disk_same h.capacity m.scene.past d.values now.values (some_is now.values d.values rests.values) a.at.disk;
   },

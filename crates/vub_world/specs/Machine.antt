@@ -12,7 +12,7 @@ use Rattle.vub_schedule.specs.Spelling.{IsHeader}
 use Rattle.vub_memdisk.specs.MemDisks.{capacity_of}
 use Rattle.vub_driver.specs.Layout.{ring_of}
 use Rattle.vub_guest.specs.GuestState.{ring_in}
-use Rattle.vub_queue_in_run.specs.QueueAt.{IsMainRing}
+use Rattle.vub_queue_in_run.specs.QueueAt.{LiesAs}
 use Rattle.vub_world.specs.Lives.{RingOfLife, LiesInLife}
 use Rattle.vub_world.specs.OutstandingRequests.{offered_in}
 use Rattle.vub_world.specs.declared.machine.Machine.{Machine}
@@ -29,7 +29,7 @@ pub record IsSound (m : Machine) : Type 0 where
   pub room : sizes_in m 0 ≡ 1048576
   pub unfailed : watched.IsUnfailed m.memory
   pub guest : ring_in m.guest ≡ ring_of 0 m.header.size
-  pub ring : IsMainRing m.ring m.header.size
+  pub ring : LiesAs 0 m.ring m.header.size
   pub queue : RingOfLife (λ q. q ≡ m.ring) m.life
   pub disk : capacity_of m.disk ≡ m.header.capacity
   pub lies : LiesInLife (sizes_in m) (capacity_of m.disk) m.life

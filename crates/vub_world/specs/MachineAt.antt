@@ -41,7 +41,7 @@ pub record FrontAt (w : Machine) (m : Moment) : Type 0 where
 -- a queue that isn't attached wasn't started
 abbrev pub AttachedAt : Header1 → SplitRing → Moment → Option Queue → Type 0
 AttachedAt h r m None = (m.joined ≡ false) × ((m.lanes 0).attached ≡ false) × (started m.scene.past 0 ≡ false)
-AttachedAt h r m (Some q) = (m.joined ≡ true) × ((m.lanes 0).attached ≡ true) × QueueStands h r m (state_of q)
+AttachedAt h r m (Some q) = (m.joined ≡ true) × ((m.lanes 0).attached ≡ true) × QueueStands 0 h r m (state_of q)
 
 abbrev pub LifeAt : Header1 → SplitRing → Moment → Option Life → Type 0
 LifeAt h r m None = m.lives ≡ false

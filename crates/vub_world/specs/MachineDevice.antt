@@ -32,7 +32,7 @@ use Rattle.vub_world.specs.OutstandingRequests.{size_in, slot_in}
 use Rattle.vub_run.specs.Moments.{Moment, standing}
 use Rattle.vub_steps.specs.declared.readiness.Choice.{Choice}
 use Rattle.vub_steps.specs.Readiness.{chosen}
-use Rattle.vub_queue.specs.QueueState.{QueueState, state_of, is_idle}
+use Rattle.vub_queue.specs.QueueState.{course_in, QueueState, state_of, is_idle}
 use Rattle.vub_queue_in_run.specs.QueueAt.{QueueStands, DiskAt}
 use Rattle.vub_run.specs.Run.{one_turn}
 use Rattle.vub_world.specs.MachineAt.{has_queue}
@@ -85,7 +85,7 @@ abbrev pub device : Queue → WatchedShared → MemDisk → Device
 device q w d = record { queue = state_of q; memory = bytes_in w; values = values_of d; stores = stores_in w }
 
 pub record DeviceAt (h : Header1) (r : SplitRing) (m : Moment) (d : Device) : Type 0 where
-  pub stands : QueueStands h r m d.queue
+  pub stands : QueueStands 0 h r m d.queue
   pub memory_is : d.memory ≡ m.scene.memory
   pub disk : DiskAt h.capacity m.scene.past d.values
 
@@ -95,7 +95,7 @@ is_index (Some Index) = true
 is_index step = false
 
 abbrev pub is_showing : QueueState → Bool
-is_showing q = is_index (next_step (length q.batch) q.phase)
+is_showing q = is_index (next_step (course_in q) q.phase)
 
 -- the answers to the batch that the next step shows, if it shows one
 abbrev pub shown_of : OutstandingRequests → Bytes → QueueState → List Answered

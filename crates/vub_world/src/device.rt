@@ -9,7 +9,7 @@ ghost use Rattle.vub_world.specs.MachineAt.{IsReached, OutstandingAt};
 ghost use Rattle.vub_world.specs.MachineDevice.{DeviceAt, DeviceTurns, device, turn_here};
 ghost use Rattle.vub_run.specs.Moments.{Moment};
 ghost use Rattle.vub_queue.specs.Queue.{ring_in};
-ghost use Rattle.vub_queue_in_run.specs.QueueAt.{IsMainRing};
+ghost use Rattle.vub_queue_in_run.specs.QueueAt.{LiesAs};
 ghost use Rattle.vub_queue.specs.QueueState.{QueueLies, state_of};
 
 use vub_memdisk::MemDisk;
@@ -54,7 +54,7 @@ pub fn turn_queue(
     ensures sizes { (s : ℕ) → sizes_in memory.new s ≡ sizes_in memory.old s }
     ensures unfailed { IsUnfailed memory.new }
     ensures capacity { capacity_of disk.new ≡ capacity_of disk.old }
-    ensures turns { (h : Header1) (r : SplitRing) (m : Moment) (outstanding : OutstandingRequests) → IsReached h m → capacity_of disk.old ≡ h.capacity → IsMainRing r h.size → 1048576 ≤ sizes_in memory.old 0
+    ensures turns { (h : Header1) (r : SplitRing) (m : Moment) (outstanding : OutstandingRequests) → IsReached h m → capacity_of disk.old ≡ h.capacity → LiesAs 0 r h.size → 1048576 ≤ sizes_in memory.old 0
         → DeviceAt h r m (device queue.old memory.old disk.old) → OutstandingAt h.size m.scene.past (m.scene.heads 0) outstanding
         → DeviceTurns h r m (turn_here h choice m) outstanding (device queue.old memory.old disk.old) (device queue.new memory.new disk.new) result }
 {

@@ -48,8 +48,8 @@ returns-clause-turns c h r m outstanding reached cap main room at numbered =
       values_are = c.turn.ensures.values runs b refl;
       made = λ place task n is due. c.turn.ensures.made place task n runs b refl is (subst (λ k. IsDue k (sizes_in c.args.memory.now) q b place task n) (sym cap) due);
     } in
-    let here : IsAsHere h m q b = as_here h r m q b main at.stands at.memory_is in
-    let same : t ≡ turn_here h c.args.choice m = turn_same h r m q b c.args.choice main at.stands at.memory_is in
+    let here : IsAsHere h m q b = as_here h r m q b main holds.0.holds at.stands at.memory_is in
+    let same : t ≡ turn_here h c.args.choice m = turn_same h r m q b c.args.choice main holds.0.holds at.stands at.memory_is in
     let rests : (place : ℕ) → turn_here h c.args.choice m ≡ turns.Work place → is_ready (standing h 0 m) (turns.Work place) ≡ false → RestsAt d now x =
     λ place is unready. c.turn.ensures.rests (waiting q b) place runs (work_asked h.size (standing h 0 m) c.args.choice place is unready) (ap (λ (s : Standing). is_ready s (turns.Work place)) here.standing_is ∙ unready) in
     device_turns h r m outstanding (sizes_in c.args.memory.now) (turn_here h c.args.choice m) d now x

@@ -1,4 +1,5 @@
 use Rattle.std.proofs.Common.{List, ap, sym, ◌∙◌}
+use Rattle.vub_run_laws.proofs.RunsLegal.{some_queue}
 use Rattle.vub_report.specs.declared.items.Item.{Item}
 use Rattle.vub_run.specs.Run.{played}
 use Rattle.vub_world.proofs.MachineLives.{joined, join_plays, joined_at, joining_at}
@@ -16,7 +17,7 @@ returns-clause-performs c es rs m stands at =
     let new = joining_at c.args.self.now m at (sym c.is_joining.ensures ∙ c.if-not-is_joining.false) in (
       joined m,
       ap (λ (is : List Item). played is (joined m)) c.nothing.ensures ∙ join_plays m new.0 new.1.0,
-      joined_at c.args.self.now m c.in_ok-queue.queue (plain_header h stands.header) (stands_good h es rs m stands) stands.header.begins new.1 new.0 c.in_ok-queue.ensures.state at,
+      joined_at c.args.self.now m c.in_ok-queue.queue (plain_header h stands.header) (stands_good 0 h es rs m (some_queue h stands.header) stands) stands.header.begins new.1 new.0 c.in_ok-queue.ensures.state at,
     )
 
 pub returns-clause-sound : goal.returns-clause-sound

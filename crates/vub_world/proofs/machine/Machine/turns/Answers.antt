@@ -1,4 +1,5 @@
 use Rattle.std.proofs.Common.{◌≡◌, ◌∙◌, ap, sym, arith, refl, suc, ◌+◌, ◌-◌, ℕ, subst}
+use Rattle.vub_run_laws.proofs.RunsLegal.{some_queue}
 use Rattle.vub_base.specs.declared.header.Header1.{Header1}
 use Rattle.vub_world.specs.declared.machine.Machine.{Machine}
 use Rattle.vub_world.specs.MachineAt.{IsReached}
@@ -13,7 +14,7 @@ loop-done-init c = record {
   sound = c.requires.sound;
   goes = λ es rs m stands at.
       let w : Machine = c.args.self.now in
-      turns_begin w.header c.args.sequence m w c.args.room.now.items (room_of c.args.count w) (w.outstanding.offered - w.outstanding.collected) c.args.room.now at (undone_few w.header m w (stands_good w.header es rs m stands) at) c.requires.room;
+      turns_begin w.header c.args.sequence m w c.args.room.now.items (room_of c.args.count w) (w.outstanding.offered - w.outstanding.collected) c.args.room.now at (undone_few w.header m w (stands_good 0 w.header es rs m (some_queue w.header stands.header) stands) at) c.requires.room;
   idle = λ none. refl;
 }
 
@@ -32,7 +33,7 @@ next_step-requires-clause-room c =
     let w : Machine = c.args.self.now in
     let same = ap (λ (x : Machine). x.header) c.loop-done.invariant.frame in
     let d = c.loop-done.invariant.goes s.0 s.1 s.2.0 s.2.1 s.2.2 in
-    let few = undone_few w.header s.2.0 w (stands_good w.header s.0 s.1 s.2.0 s.2.1) s.2.2 in
+    let few = undone_few w.header s.2.0 w (stands_good 0 w.header s.0 s.1 s.2.0 (some_queue w.header s.2.1.header) s.2.1) s.2.2 in
     let left = room_left w.header c.args.sequence s.0 s.1 s.2.0 c.args.count (w.outstanding.offered - w.outstanding.collected) c.loop-done.done c.loop-done.self c.args.room.now.items c.loop-done.room.items c.loop-done.accepted c.loop-done.room s.2.1 few c.loop-done-test.true d in
     turn_room w.header c.args.sequence s.0 s.1 s.2.0 (room_of c.args.count w) c.loop-done.done c.loop-done.self c.args.room.now.items c.loop-done.room.items c.loop-done.accepted c.loop-done.room s.2.1 same left d
 
@@ -60,7 +61,7 @@ loop-done-preserved c = record {
       let n : Moment = (so_far w.header c.args.sequence m c.loop-done.done).next in
       let there = subst (λ (k : Header1). IsReached k n) (sym same) (reached w.header c.args.sequence es rs m c.loop-done.done stands) in
       let few = turns_taken w.header c.args.sequence es rs m (room_of c.args.count w) c.loop-done.done c.loop-done.self c.args.room.now.items c.loop-done.room.items c.loop-done.accepted c.loop-done.room stands d in
-      let undone_are = undone_few w.header m w (stands_good w.header es rs m stands) at in
+      let undone_are = undone_few w.header m w (stands_good 0 w.header es rs m (some_queue w.header stands.header) stands) at in
       let left = room_left w.header c.args.sequence es rs m c.args.count (w.outstanding.offered - w.outstanding.collected) c.loop-done.done c.loop-done.self c.args.room.now.items c.loop-done.room.items c.loop-done.accepted c.loop-done.room stands undone_are c.loop-done-test.true d in
       let next : suc c.loop-done.done ≡ c.loop-done.done + 1 = omega arith in
       subst (λ (k : ℕ). TurnsAt w.header c.args.sequence m (room_of c.args.count w) k c.next_step.new.self c.args.room.now.items c.next_step.new.room.items c.next_step.new.accepted c.next_step.new.room) next

@@ -1,0 +1,4 @@
+pub mod FactSteps
+pub mod FactWords
+pub mod HeadLemmas
+pub mod HeldSteps

@@ -1,0 +1,114 @@
+-- What a queue keeps goes on to agree with the open heads.
+use Rattle.std.proofs.Common.{◌≡◌, ◌<◌, ℕ, zero, suc, Bool, true, false, not, List, [], ◌∷◌, ◌++◌, length, map, set, get_or, refl, ap, sym, ◌∙◌, inl, inr, arith}
+use Rattle.std.specs.Prelude.{◌||◌, ◌&&◌, ◌==◌, remove, slice_get, Some, option_map}
+use Rattle.std.proofs.lemmas.Bool.{cases_eq}
+use Rattle.std.proofs.lemmas.Bool.Decides.{nat_tests}
+use Rattle.std.proofs.lemmas.List.{length-set, map-append, get_or-replicate, get_or-set_same, get_or-set_other}
+use Rattle.std.proofs.lemmas.Option.{slice_get-map}
+use Rattle.vub_device.specs.Past.{is_among}
+use Rattle.vub_steps.specs.declared.steps.Phase.{Phase}
+use Rattle.vub_steps.specs.declared.steps.Phase.TheVariants as phases
+use Rattle.vub_steps.specs.declared.steps.Step.TheVariants as steps
+use Rattle.vub_split.specs.declared.split.SplitRing.{SplitRing}
+use Rattle.vub_ring.specs.Ring.{Ring}
+use Rattle.vub_task.specs.declared.task.Task.{Task}
+use Rattle.vub_task.specs.TaskState.{head_in, fresh_task}
+use Rattle.vub_queue.specs.QueueParts.{is_taken, without_heads}
+use Rattle.vub_queue.specs.QueueState as states
+use Rattle.vub_queue.specs.QueueState.{QueueState, worked, done_at}
+use Rattle.vub_facts.specs.Facts.{Words, heads_in, without, words_after}
+use Rattle.vub_facts.specs.Held.{Held, state_after, completed_at}
+use Rattle.vub_facts.proofs.HeldSteps.{held_words, held_like, held_accept, held_index, held_publication_begun, held_completed}
+use Rattle.vub_queue_in_run.specs.QueueAt.{held_in, KeepsHeads}
+
+-- ---- a new queue
+
+-- the used.idx that the queue keeps, with any words beside it
+abbrev pub words_kept : QueueState → Words
+words_kept s = record { ring = record { avail = 0; heads = λ i. 0; used = s.next_used; elements = λ i. (0, 0) } }
+
+pub keeps_new : (r : SplitRing) (base : ℕ) (sectors : List (List ℕ)) → base < 65536 → KeepsHeads r.size [] (states.new_state r base sectors)
+keeps_new r base sectors small w at = record {
+  distinct = refl;
+  below = λ h held. absurd (let fails : false ≡ true = held in cc);
+  avail = omega (arith, at, small);
+  taken = λ d low. get_or-replicate r.size d false true low;
+  splits = record { once = refl; opens = λ h held. held; left = refl };
+}
+
+pub keeps_started : (n : ℕ) (heads : List ℕ) (s : QueueState) → KeepsHeads n heads s → KeepsHeads n heads (record s { started = true })
+keeps_started n heads s x w at = let y : Held n heads w (held_in s) = x w at in record { distinct = y.distinct; below = y.below; avail = y.avail; taken = y.taken; splits = y.splits }
+
+-- ---- a fetch
+
+taken_more : (taken : List Bool) (head d : ℕ) → head < length taken → is_taken (set taken head true) d ≡ ((head == d) || is_taken taken d)
+taken_more taken head d inside = elim (cases_eq head d) [
+  | inl same ↦
+      let there : get_or (set taken head true) head true ≡ true = get_or-set_same taken head true true inside in
+      let here : get_or (set taken head true) d true ≡ true = ap (λ (i : ℕ). get_or (set taken head true) i true) (sym same) ∙ there in
+      grind (arith, nat_tests)
+  | inr apart ↦
+      let other : get_or (set taken head true) d true ≡ get_or taken d true = get_or-set_other taken head d true true (λ e. apart (sym e)) in
+      grind (arith, nat_tests)
+]
+
+pub keeps_accepted : (r : Ring) (heads : List ℕ) (s : QueueState) (head : ℕ) → head < r.size → length s.taken ≡ r.size → is_taken s.taken head ≡ false → KeepsHeads r.size heads s → KeepsHeads r.size (heads ++ head ∷ []) (states.accepted head s)
+keeps_accepted r heads s head low places free x w at =
+    held_like r.size (heads ++ head ∷ []) w (state_after steps.Accept head (held_in s)) (held_in (states.accepted head s)) refl (λ d inside. taken_more s.taken head d (omega (arith, low, places)))
+    (map-append head_in s.unfinished (fresh_task head ∷ [])) refl (held_accept r heads w (held_in s) head low free (x w at))
+
+-- ---- a publication
+
+pub keeps_begun : (n : ℕ) (heads : List ℕ) (most : ℕ) (s : QueueState) → s.batch ≡ [] → KeepsHeads n heads s → KeepsHeads n heads (states.begun most s)
+keeps_begun n heads most s none x w at =
+    let y : Held n heads w (held_in s) = x w at in
+    let z = held_publication_begun n heads w most (held_in s) none y in
+    record { distinct = z.distinct; below = z.below; avail = z.avail; taken = z.taken; splits = z.splits }
+
+pub keeps_phase : (n : ℕ) (heads : List ℕ) (p : Phase) (s : QueueState) → KeepsHeads n heads s → KeepsHeads n heads (record s { phase = p })
+keeps_phase n heads p s x w at = let y : Held n heads w (held_in s) = x w at in record { distinct = y.distinct; below = y.below; avail = y.avail; taken = y.taken; splits = y.splits }
+
+taken_less : (xs : List (ℕ × ℕ)) (taken : List Bool) (d : ℕ) → d < length taken → is_taken (without_heads xs taken) d ≡ (is_taken taken d && not (is_among (heads_in xs) d))
+taken_less [] taken d low = grind (arith, nat_tests)
+taken_less (x ∷ xs) taken d low =
+    let rest : is_taken (without_heads xs (set taken x.0 false)) d ≡ (is_taken (set taken x.0 false) d && not (is_among (heads_in xs) d)) = taken_less xs (set taken x.0 false) d (omega (arith, low, length-set taken x.0 false)) in
+    elim (cases_eq x.0 d) [
+      | inl same ↦
+          let freed : get_or (set taken x.0 false) x.0 true ≡ false = get_or-set_same taken x.0 false true (omega (arith, low, same)) in
+          let here : get_or (set taken x.0 false) d true ≡ false = ap (λ (i : ℕ). get_or (set taken x.0 false) i true) (sym same) ∙ freed in
+          grind (arith, nat_tests)
+      | inr apart ↦
+          let other : get_or (set taken x.0 false) d true ≡ get_or taken d true = get_or-set_other taken x.0 d false true (λ e. apart (sym e)) in
+          grind (arith, nat_tests)
+    ]
+
+pub keeps_shown : (r : Ring) (heads : List ℕ) (s : QueueState) → s.next_used < 65536 → length s.taken ≡ r.size → KeepsHeads r.size heads s → KeepsHeads r.size (without (heads_in s.batch) heads) (states.with_phase phases.Rest s)
+keeps_shown r heads s fits places x w at =
+    let v : Words = record { ring = record w.ring { used = s.next_used } } in
+    let left : List ℕ = without (heads_in s.batch) heads in
+    let shown : Held r.size left (words_after r s.batch steps.Index v) (state_after steps.Index 0 (held_in s)) = held_index r heads v (held_in s) 0 fits (x v refl) in
+    held_like r.size left w (state_after steps.Index 0 (held_in s)) (held_in (states.with_phase phases.Rest s)) refl (λ d low. taken_less s.batch s.taken d (omega (arith, low, places))) refl refl
+    (held_words r.size left w (words_after r s.batch steps.Index v) (state_after steps.Index 0 (held_in s)) at shown)
+
+-- ---- work
+
+heads_set : (xs : List Task) (place : ℕ) (next t : Task) → slice_get xs place ≡ Some t → head_in next ≡ head_in t → map head_in (set xs place next) ≡ map head_in xs
+heads_set [] place next t there same = refl
+heads_set (x ∷ xs) zero next t there same = let here : x ≡ t = cc in ap (λ (h : ℕ). h ∷ map head_in xs) (same ∙ ap head_in (sym here))
+heads_set (x ∷ xs) (suc place) next t there same = ap (λ (hs : List ℕ). head_in x ∷ hs) (heads_set xs place next t there same)
+
+heads_remove : (xs : List Task) (place : ℕ) → map head_in (remove xs place) ≡ remove (map head_in xs) place
+heads_remove [] zero = refl
+heads_remove [] (suc place) = refl
+heads_remove (x ∷ xs) zero = refl
+heads_remove (x ∷ xs) (suc place) = ap (λ (hs : List ℕ). head_in x ∷ hs) (heads_remove xs place)
+
+pub keeps_worked : (n : ℕ) (heads : List ℕ) (s : QueueState) (place : ℕ) (next t : Task) (sector : List ℕ) → slice_get s.unfinished place ≡ Some t → head_in next ≡ head_in t → KeepsHeads n heads s → KeepsHeads n heads (worked place next sector s)
+keeps_worked n heads s place next t sector there same x w at =
+    held_like n heads w (held_in s) (held_in (worked place next sector s)) refl (λ d low. refl) (heads_set s.unfinished place next t there same) refl (x w at)
+
+pub keeps_done : (n : ℕ) (heads : List ℕ) (s : QueueState) (place len : ℕ) (t : Task) (sector : List ℕ) → slice_get s.unfinished place ≡ Some t → KeepsHeads n heads s → KeepsHeads n heads (done_at place (head_in t) len sector s)
+keeps_done n heads s place len t sector there x w at =
+    let head : slice_get (map head_in s.unfinished) place ≡ Some (head_in t) = slice_get-map head_in s.unfinished place ∙ ap (option_map head_in) there in
+    held_like n heads w (completed_at place (head_in t) len (held_in s)) (held_in (done_at place (head_in t) len sector s)) refl (λ d low. refl) (heads_remove s.unfinished place) refl
+    (held_completed n heads w place (head_in t) len (held_in s) head (x w at))
