@@ -6,6 +6,7 @@ pub mod RingFrames
 pub mod RingGood
 pub mod RingOffers
 pub mod RingOpening
+pub mod RingQuiet
 pub mod RingRows
 pub mod RingStores
 pub mod RingTracks

@@ -97,3 +97,6 @@ LastStands q h s w = EntryWell q h.size (h.base + length (s.heads q)) s.memory (
 -- the entry of the next offer, at a moment
 abbrev pub EntryStands : ℕ → Header1 → Moment → Type 0
 EntryStands q h m = EntryWell q h.size (h.base + length (m.scene.heads q)) m.scene.memory (m.lanes q).driver.waiting
+
+abbrev pub offered_by : Driver → Driver
+offered_by v = record v { avail_idx = (v.avail_idx + 1) % 65536; waiting = None }

@@ -19,11 +19,11 @@ use Rattle.vub_device.specs.Requests.{request_of}
 use Rattle.vub_run.specs.Memory.{Scene, with_at, with_last}
 use Rattle.vub_run_laws.proofs.RunOwn.{at_own}
 use Rattle.vub_run_laws.proofs.RunGood.{IsSize, Known}
-use Rattle.vub_run_laws.proofs.RingGood.{the_ring, index_store, IsHarmless, IsPlan, IsWaiting, Ringed, Driven, Built, QueueFacts, LastStands}
+use Rattle.vub_run_laws.proofs.RingGood.{the_ring, index_store, IsHarmless, IsPlan, IsWaiting, Ringed, Driven, Built, QueueFacts, LastStands, offered_by}
 use Rattle.vub_run_laws.proofs.RunFrames.{below_buffers, other_buffer, length_little}
 use Rattle.vub_run_laws.proofs.RingFrames.{OffRings, entry_small, same_entry, ringed_entry, built_below, facts_elsewhere}
 use Rattle.vub_run_laws.proofs.RingOffers.{offer_room, offer_ringed, shown_head, offer_driven, offer_built}
-use Rattle.vub_run_laws.proofs.RunHolds.{StoresLast, StoresBefore, offered_by}
+use Rattle.vub_run_laws.proofs.RunHolds.{StoresLast, StoresBefore}
 
 -- ---- a store before the last one
 

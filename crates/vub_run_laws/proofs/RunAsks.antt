@@ -10,7 +10,7 @@ use Rattle.vub_schedule.specs.Spelling.{IsAsk}
 use Rattle.vub_run.specs.Memory.{Scene}
 use Rattle.vub_run.specs.Moments.{Lane}
 use Rattle.vub_run.specs.Run.{with_driver}
-use Rattle.vub_run_laws.proofs.RunQueue.{queue_ask}
+use Rattle.vub_run_laws.proofs.RunQueue.{queue_ask, takes}
 use Rattle.vub_run_laws.proofs.RingGood.{the_ring}
 use Rattle.vub_run_laws.proofs.RunGood.{IsGood, IsPlainAsk}
 use Rattle.vub_run_laws.proofs.RunHolds.{Holds}
@@ -30,7 +30,7 @@ plain_ask h (asks.Zero parts) is = absurd is
 
 -- ---- the driver
 
-pub ask_holds : (q : ℕ) (h : Header1) (s : Scene) (l : Lane) (a : Ask) → IsGood h → IsPlainAsk h.capacity a → can_take h.size Direct a l.driver ≡ true → Holds q h s l → Holds q h s (with_driver (after_ask (the_ring q h.size) a l.driver) l)
+pub ask_holds : (q : ℕ) (h : Header1) (s : Scene) (l : Lane) (a : Ask) → IsGood h → IsPlainAsk h.capacity a → can_take h.size Direct a l.driver ≡ true → Holds q h s l → Holds q h s (with_driver (takes q h a l.driver) l)
 ask_holds q h s l a good plain ready x = record {
   known = x.known;
   worked = x.worked;

@@ -1,4 +1,4 @@
--- Through every event the chain of each request that is offered and not collected stands in memory.
+-- Split chains. Through every event the chain of each request that is offered and not collected stands in memory.
 use Rattle.std.proofs.Common.{◌<◌, ◌≡◌, ◌≤◌, ℕ, zero, suc, ◌+◌, ◌*◌, ◌%◌, Bool, true, false, not, cond, List, [], ◌∷◌, ◌++◌, length, take, drop, refl, ap, sym, ◌∙◌, subst, inl, inr, arith}
 use Rattle.std.specs.Prelude.{Option, Some, None, is_some, ◌&&◌}
 use Rattle.byteorder.specs.Endian.{little_bytes}

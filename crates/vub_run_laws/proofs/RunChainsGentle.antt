@@ -1,4 +1,4 @@
--- What leaves the chains of offered requests, and what was made of the one that waits.
+-- Split chains. What leaves the chains of offered requests, and what was made of the one that waits.
 use Rattle.std.proofs.Common.{◌≡◌, ◌≢◌, ◌≤◌, ◌<◌, ◌⊎◌, ℕ, ◌+◌, ◌*◌, List, [], ◌∷◌, length, refl, sym, subst, inl, inr, arith}
 use Rattle.std.specs.Prelude.{Option, Some, slice_index}
 use Rattle.std.specs.List.{AllByRecursion}

@@ -1,4 +1,4 @@
--- The driver's stores of a request leave the chains of the others, and its offer adds one.
+-- Split chains. The driver's stores of a request leave the chains of the others, and its offer adds one.
 use Rattle.std.proofs.Common.{◌≡◌, ◌≢◌, ◌≤◌, ◌<◌, ℕ, zero, suc, ◌+◌, ◌*◌, ◌%◌, Bool, true, false, List, [], ◌∷◌, ◌++◌, length, take, drop, refl, ap, sym, ◌∙◌, subst, inl, inr, arith}
 use Rattle.std.specs.Prelude.{Option, Some, None, slice_index}
 use Rattle.std.specs.List.{AllByRecursion}

@@ -1,4 +1,4 @@
--- What memory means along every run: each request that is offered and not published, at its head.
+-- Split chains. What memory means along every run: each request that is offered and not published, at its head.
 use Rattle.std.proofs.Common.{◌≡◌, ◌≤◌, ◌<◌, ℕ, ◌+◌, not, Bool, true, false, List, ◌++◌, length, refl, ap, sym, ◌∙◌, subst, arith}
 use Rattle.std.specs.Prelude.{Option, Some, None, slice_index, slice_get}
 use Rattle.vub_base.specs.declared.header.Header1.{Header1}

@@ -1,4 +1,4 @@
--- An offer adds the chain of its request; asks and collections leave the others.
+-- Split chains. An offer adds the chain of its request; asks and collections leave the others.
 use Rattle.std.proofs.Common.{◌≡◌, ◌≢◌, ◌≤◌, ◌<◌, ℕ, zero, suc, ◌+◌, Bool, true, false, cond, List, [], ◌∷◌, length, take, refl, ap, sym, ◌∙◌, subst, inl, inr, arith}
 use Rattle.std.specs.Prelude.{Option, Some, None, ⊤, slice_index, is_none, ◌==◌}
 use Rattle.std.proofs.lemmas.Bool.{cases_eq}

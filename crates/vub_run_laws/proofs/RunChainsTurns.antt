@@ -1,4 +1,4 @@
--- A turn leaves the chain of each offered request.
+-- Split chains. A turn leaves the chain of each offered request.
 use Rattle.std.proofs.Common.{take, ◌≡◌, ◌≤◌, ◌<◌, ℕ, zero, suc, ◌+◌, ◌*◌, ◌/◌, ◌%◌, Bool, true, false, not, cond, List, [], ◌∷◌, ◌++◌, length, map, refl, ap, sym, ◌∙◌, subst, inl, inr, arith}
 use Rattle.std.specs.Prelude.{Option, Some, None, ⊤, slice_index, slice_get, slice_range, option_map}
 use Rattle.byteorder.specs.Endian.{little_bytes}

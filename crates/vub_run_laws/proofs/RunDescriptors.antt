@@ -1,4 +1,4 @@
--- The descriptors that history keeps of each request that is offered and not collected are its chain in memory.
+-- Split chains. The descriptors that history keeps of each request that is offered and not collected are its chain in memory.
 use Rattle.std.proofs.Common.{◌≡◌, ◌≤◌, ◌<◌, ℕ, zero, suc, ◌+◌, Bool, true, false, not, cond, List, [], ◌∷◌, ◌++◌, length, take, drop, refl, ap, sym, ◌∙◌, subst, inl, inr, arith}
 use Rattle.std.specs.Prelude.{Option, Some, None, ◌==◌, ◌&&◌, bit_and, get_or, slice_index, is_some, if◌then◌else◌}
 use Rattle.std.specs.List.{AllByRecursion}

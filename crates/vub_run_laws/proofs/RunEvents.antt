@@ -35,10 +35,9 @@ use Rattle.vub_device.specs.Requests.{request_of}
 use Rattle.vub_run.specs.Tracking.{Tracks, AfterEach}
 use Rattle.vub_report.specs.Histories.{entries_of}
 use Rattle.vub_run.specs.Turns.{turned}
-use Rattle.vub_run_laws.proofs.RunQueue.{queue_rests, queue_left, queue_stands, queue_first, queue_free}
-use Rattle.vub_run_laws.proofs.RingGood.{the_ring, EntryStands}
+use Rattle.vub_run_laws.proofs.RunQueue.{queue_rests, queue_left, queue_stands, queue_first, queue_free, takes, sees}
 use Rattle.vub_run_laws.proofs.RunGood.{IsPending, PhaseIs, Worked}
-use Rattle.vub_run_laws.proofs.RunHolds.{Holds}
+use Rattle.vub_run_laws.proofs.RunHolds.{Holds, EntryStands}
 use Rattle.vub_run_laws.proofs.RunGuests.{holds_track, offered, Offered, guest_holds, Unoffered, part_holds, left_waits, rest_waits, waits_well}
 use Rattle.vub_run_laws.proofs.RunWork.{Fine}
 use Rattle.vub_run_laws.proofs.RunItems.{after-append, each-append, legal-append, past_after}
@@ -99,8 +98,8 @@ lane_good q h n l holds asleep idle =
     }
 
 ask_right : (q : ℕ) (h : Header1) (m : Moment) (a : Ask) → IsPlain h → Good q h m → IsAsk h a → Leads q h m (ask h q Direct a m)
-ask_right q h m a plain good is = tested q h m (can_take h.size Direct a (m.lanes q).driver) (played [] (with_lane q (with_driver (after_ask (the_ring q h.size) a (m.lanes q).driver) (m.lanes q)) m)) plain good (λ ready. record {
-  good = lane_good q h m (with_driver (after_ask (the_ring q h.size) a (m.lanes q).driver) (m.lanes q)) (ask_holds q h m.scene (m.lanes q) a plain.good (plain_ask h a is) ready good.holds) good.asleep good.idle;
+ask_right q h m a plain good is = tested q h m (can_take h.size Direct a (m.lanes q).driver) (played [] (with_lane q (with_driver (takes q h a (m.lanes q).driver) (m.lanes q)) m)) plain good (λ ready. record {
+  good = lane_good q h m (with_driver (takes q h a (m.lanes q).driver) (m.lanes q)) (ask_holds q h m.scene (m.lanes q) a plain.good (plain_ask h a is) ready good.holds) good.asleep good.idle;
   each = tt;
   scene = refl;
   legal = tt;
@@ -163,9 +162,9 @@ guest_right q h m count plain good entry some = tested q h m (is_some (m.lanes q
     go (Some w) e = guest_some q h m w count plain good entry some e
 
 collect_right : (q : ℕ) (h : Header1) (m : Moment) → IsPlain h → Good q h m → Leads q h m (collect h q m)
-collect_right q h m plain good = go (seen (the_ring q h.size) m.scene.memory (h.base + collected m.scene.past q)) refl
+collect_right q h m plain good = go (sees q h m.scene) refl
   where
-    go : (xs : List (ℕ × ℕ)) → seen (the_ring q h.size) m.scene.memory (h.base + collected m.scene.past q) ≡ xs → Leads q h m (take_first h q xs m)
+    go : (xs : List (ℕ × ℕ)) → sees q h m.scene ≡ xs → Leads q h m (take_first h q xs m)
     go [] e = idle_right q h m plain good
     go (x ∷ xs) e =
         let l : Lane = m.lanes q in

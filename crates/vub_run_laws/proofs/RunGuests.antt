@@ -18,8 +18,7 @@ use Rattle.vub_run.specs.Moments.{Lane}
 use Rattle.vub_run.specs.Run.{guest_items, with_driver}
 use Rattle.vub_run.specs.Tracking.{Tracks, AfterEach}
 use Rattle.vub_run_laws.proofs.RunGood.{Known, Stored, stored_at, IsGood}
-use Rattle.vub_run_laws.proofs.RunHolds.{Holds, StoresBefore, offered_by, offered_scene, StoresLast}
-use Rattle.vub_run_laws.proofs.RingGood.{IsWaiting, LastStands}
+use Rattle.vub_run_laws.proofs.RunHolds.{Holds, StoresBefore, offered_scene, StoresLast, offered_by, IsWaiting, LastStands}
 use Rattle.vub_run_laws.proofs.RunQueue.{queue_waiting, queue_waits, queue_before, queue_last, queue_tracks}
 use Rattle.vub_run_laws.proofs.RunFrames.{open_out, stored_elsewhere}
 use Rattle.vub_run_laws.proofs.RunOffers.{offer_known, offer_worked, offer_stored, batch_taken}

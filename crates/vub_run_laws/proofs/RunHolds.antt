@@ -22,7 +22,7 @@ use Rattle.vub_run.specs.Memory.{Scene, after_item}
 use Rattle.vub_run.specs.Moments.{Lane}
 use Rattle.vub_run.specs.Turns.{step_items, answer_at}
 use Rattle.vub_run_laws.proofs.RunGood.{IsSize, Known, Worked, Stored, IsOut, stored_at}
-use Rattle.vub_run_laws.proofs.RingGood.{QueueFacts, IsWaiting, LastStands}
+pub use Rattle.vub_run_laws.proofs.RingGood.{EntryStands, QueueFacts, IsWaiting, LastStands, offered_by}
 use Rattle.vub_run_laws.proofs.RunFrames.{OffBuffer}
 
 -- counts, numbers and answers; work; what stands in buffers; and the queue
@@ -40,9 +40,6 @@ pub record StoresBefore (q : ℕ) (h : Header1) (s : Scene) (v : Driver) (w : Wa
   pub queue : QueueFacts q h (stored_at st.place st.bytes s) v batch phase
   pub waits : IsWaiting q h.size h.capacity s.past (s.heads q) v (record w { left = left })
   pub last : LastStands q h (stored_at st.place st.bytes s) (record w { left = left })
-
-abbrev pub offered_by : Driver → Driver
-offered_by v = record v { avail_idx = (v.avail_idx + 1) % 65536; waiting = None }
 
 -- the scene after the last store of a request and its offer
 abbrev pub offered_scene : ℕ → Header1 → Waiting → Store → Scene → Scene

@@ -1,4 +1,4 @@
--- Every store of the driver in a run is lawful where it is made.
+-- Split chains. Every store of the driver in a run is lawful where it is made.
 use Rattle.std.proofs.Common.{true, ◌≡◌, ◌≢◌, ◌≤◌, ◌<◌, ℕ, zero, suc, ◌+◌, ◌%◌, false, List, [], ◌∷◌, ◌++◌, length, refl, ap, sym, ◌∙◌, subst, inl, inr, arith}
 use Rattle.std.specs.Prelude.{Option, Some, None, get_or, slice_index, is_some}
 use Rattle.std.specs.List.{AllByRecursion}

@@ -1,4 +1,4 @@
--- Where each store of a request goes: into its buffer, into a descriptor that belongs to its head, into the avail entry
+-- Split chains. Where each store of a request goes: into its buffer, into a descriptor that belongs to its head, into the avail entry
 -- of the driver's index, or to avail.idx.
 use Rattle.std.proofs.Common.{◌≡◌, ◌≤◌, ◌<◌, ◌⊎◌, ℕ, ◌+◌, ◌%◌, Bool, true, false, List, [], ◌∷◌, ◌++◌, length, refl, sym, subst, inl, inr, arith}
 use Rattle.std.specs.Prelude.{Option, Some}

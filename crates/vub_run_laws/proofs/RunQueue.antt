@@ -30,6 +30,10 @@ use Rattle.vub_run_laws.proofs.RingAsks.{ask_facts}
 use Rattle.vub_run_laws.proofs.RingCollects.{first_seen, after_taken, taken_facts}
 use Rattle.vub_run_laws.proofs.RingOffers.{offer_room}
 use Rattle.vub_device.specs.declared.entry.Entry.TheVariants as entries
+use Rattle.vub_steps.specs.declared.steps.Step.{Step}
+use Rattle.vub_run.specs.Turns.{step_items}
+use Rattle.vub_run_laws.proofs.RunItems.{AreQuiet}
+use Rattle.vub_run_laws.proofs.RingQuiet.{step_quiet}
 
 -- ---- the opening
 
@@ -56,8 +60,12 @@ pub queue_same : (q : ℕ) (h : Header1) (s : Scene) (past' : List Entry) (v : D
 queue_same q h s past' v batch phase accepts shows collects asks x =
     queue_entry q h s past' v batch phase (record { accepts = omega (arith, accepts); shows = shows; collects = omega (arith, collects); asks = asks }) collects x
 
+-- what the driver sees of the used elements that it hasn't collected
+abbrev pub sees : ℕ → Header1 → Scene → List (ℕ × ℕ)
+sees q h s = seen (the_ring q h.size) s.memory (h.base + collected s.past q)
+
 -- where an element is seen, the first one is that of the number that is collected next
-pub queue_first : (q : ℕ) (h : Header1) (s : Scene) (l : Lane) (x : ℕ × ℕ) (xs : List (ℕ × ℕ)) → IsGood h → Holds q h s l → seen (the_ring q h.size) s.memory (h.base + collected s.past q) ≡ x ∷ xs → IsTaken q h s l x.0
+pub queue_first : (q : ℕ) (h : Header1) (s : Scene) (l : Lane) (x : ℕ × ℕ) (xs : List (ℕ × ℕ)) → IsGood h → Holds q h s l → sees q h s ≡ x ∷ xs → IsTaken q h s l x.0
 queue_first q h s l x xs good holds e = first_seen q h s l x xs good holds e
 
 -- what is taken is free again
@@ -88,8 +96,12 @@ queue_row q h s v batch done x low = next_row q h s v batch done x low
 
 -- ---- the driver
 
+-- the driver after it took a request
+abbrev pub takes : ℕ → Header1 → Ask → Driver → Driver
+takes q h a v = after_ask (the_ring q h.size) a v
+
 -- a request that it takes
-pub queue_ask : (q : ℕ) (h : Header1) (s : Scene) (v : Driver) (batch : List ℕ) (phase : Phase) (a : Ask) → IsSize h.size → IsPlainAsk h.capacity a → can_take h.size Direct a v ≡ true → QueueFacts q h s v batch phase → QueueFacts q h s (after_ask (the_ring q h.size) a v) batch phase
+pub queue_ask : (q : ℕ) (h : Header1) (s : Scene) (v : Driver) (batch : List ℕ) (phase : Phase) (a : Ask) → IsSize h.size → IsPlainAsk h.capacity a → can_take h.size Direct a v ≡ true → QueueFacts q h s v batch phase → QueueFacts q h s (takes q h a v) batch phase
 queue_ask q h s v batch phase a size plain ready x = ask_facts q h s v batch phase a size plain ready x
 
 -- what is known of the request that waits
@@ -178,3 +190,7 @@ queue_room q h s v batch phase w known waits x = offer_room q h.size h.capacity 
 -- something waits exactly where an offer isn't accepted
 pub queue_ahead : (q : ℕ) (h : Header1) (s : Scene) (l : Lane) → IsGood h → Holds q h s l → ahead (avail_idx (the_ring q h.size) s.memory) (h.base + accepted s.past q) + accepted s.past q ≡ length (s.heads q)
 queue_ahead q h s l good x = some_waits q h s l good x
+
+-- the items of a step are neither a store of a driver nor an offer
+pub queue_quiet : (q : ℕ) (h : Header1) (batch : List ℕ) (step : Step) (s : Scene) → AreQuiet h (step_items h q batch step s)
+queue_quiet q h batch step s = step_quiet q h batch step s

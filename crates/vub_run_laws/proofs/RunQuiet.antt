@@ -31,14 +31,8 @@ use Rattle.vub_run.specs.TaskItems.{look_items, act_items}
 use Rattle.vub_run.specs.Turns.{course_of, turned, row_items, step_items, element_of, phase_turn, phase_goes_on, under_way, work_turn, request_turn, task_turn}
 use Rattle.vub_run_laws.proofs.RingGood.{the_ring}
 use Rattle.vub_run_laws.proofs.RunChainsMade.{all_append}
-
--- neither a store of a driver nor an offer
-pub record IsQuiet (h : Header1) (i : Item) : Type 0 where
-  pub lawful : (e : Event) (s : Scene) → IsLawfulItem h e s i
-  pub kept : (s : Scene) → (after_item h i s).descriptors ≡ s.descriptors
-
-abbrev pub AreQuiet : Header1 → List Item → Type 0
-AreQuiet h is = AllByRecursion (IsQuiet h) is
+use Rattle.vub_run_laws.proofs.RunItems.{IsQuiet, AreQuiet}
+use Rattle.vub_run_laws.proofs.RunQueue.{queue_quiet}
 
 pub quiet_lawful : (h : Header1) (e : Event) (s : Scene) (is : List Item) → AreQuiet h is → BeforeEach h (IsLawfulItem h e) s is
 quiet_lawful h e s [] all = tt
@@ -50,30 +44,9 @@ quiet_kept h s (i ∷ is) all = quiet_kept h (after_item h i s) is all.1 ∙ all
 
 -- ---- the device
 
-step_quiet : (q : ℕ) (h : Header1) (batch : List ℕ) (step : Step) (s : Scene) → AreQuiet h (step_items h q batch step s)
-step_quiet q h batch steps.Start s = (record { lawful = λ e x. tt; kept = λ x. refl }, tt)
-step_quiet q h batch steps.Accept s = (record { lawful = λ e x. tt; kept = λ x. refl }, tt)
-step_quiet q h batch (steps.Id e) s = go (slice_get (map (element_of h q s) batch) e)
-  where
-    i : ℕ
-    i = used_idx (the_ring q h.size) s.memory + e
-
-    go : (o : Option (ℕ × ℕ)) → AreQuiet h (row_items (option_map (λ (y : ℕ × ℕ). row (the_ring q h.size) SP1 (used_id_place (the_ring q h.size) i) (little_bytes 4 y.0)) o) ++ [])
-    go None = tt
-    go (Some y) = (record { lawful = λ e x. tt; kept = λ x. refl }, tt)
-step_quiet q h batch (steps.Len e) s = go (slice_get (map (element_of h q s) batch) e)
-  where
-    i : ℕ
-    i = used_idx (the_ring q h.size) s.memory + e
-
-    go : (o : Option (ℕ × ℕ)) → AreQuiet h (row_items (option_map (λ (y : ℕ × ℕ). row (the_ring q h.size) SP2 (used_len_place (the_ring q h.size) i) (little_bytes 4 y.1)) o) ++ [])
-    go None = tt
-    go (Some y) = (record { lawful = λ e x. tt; kept = λ x. refl }, tt)
-step_quiet q h batch steps.Index s = (record { lawful = λ e x. tt; kept = λ x. refl }, (record { lawful = λ e x. tt; kept = λ x. refl }, tt))
-
 phase_quiet : (q : ℕ) (h : Header1) (s : Scene) (l : Lane) (o : Option Step) → AreQuiet h (phase_turn h q s l o).items
 phase_quiet q h s l None = tt
-phase_quiet q h s l (Some step) = step_quiet q h l.batch step s
+phase_quiet q h s l (Some step) = queue_quiet q h l.batch step s
 
 look_quiet : (q : ℕ) (h : Header1) (k : ℕ) (past : List Entry) (o : Option ℕ) → AreQuiet h (look_items q k past o)
 look_quiet q h k past None = tt

@@ -27,8 +27,7 @@ use Rattle.vub_run_laws.proofs.RunOwn.{published_own, answers_own}
 use Rattle.vub_run_laws.proofs.RunNumbers.{distinct_parts, distinct_join}
 use Rattle.vub_run_laws.proofs.RunTracks.{numbers_answers}
 use Rattle.vub_run_laws.proofs.RunGood.{Known, Worked, Stored, stored_at}
-use Rattle.vub_run_laws.proofs.RingGood.{QueueFacts}
-use Rattle.vub_run_laws.proofs.RunHolds.{Holds, IsPublishing, RowBefore, shown_list, shown_past, RowShows, NextRow, Before, Shows}
+use Rattle.vub_run_laws.proofs.RunHolds.{Holds, IsPublishing, RowBefore, shown_list, shown_past, RowShows, NextRow, Before, Shows, QueueFacts}
 use Rattle.vub_run_laws.proofs.RunQueue.{queue_row}
 use Rattle.vub_run_laws.proofs.RunEfforts.{shown_falls}
 use Rattle.vub_run_laws.proofs.RunFrames.{open_out, OffBuffer, stored_elsewhere}
