@@ -4,14 +4,13 @@ use Rattle.vub_base.specs.declared.header.Header1.{Header1}
 use Rattle.vub_base.specs.declared.request.Ask.{Ask}
 use Rattle.vub_base.specs.declared.request.Ask.TheVariants as asks
 use Rattle.vub_base.specs.declared.request.Shape.TheVariants.{Direct}
-use Rattle.vub_driver.specs.Drivers.{can_take, after_ask}
+use Rattle.vub_driver.specs.Drivers.{can_take}
 use Rattle.vub_driver.specs.Requests.{written_bytes}
 use Rattle.vub_schedule.specs.Spelling.{IsAsk}
 use Rattle.vub_run.specs.Memory.{Scene}
 use Rattle.vub_run.specs.Moments.{Lane}
 use Rattle.vub_run.specs.Run.{with_driver}
 use Rattle.vub_run_laws.proofs.RunQueue.{queue_ask, takes}
-use Rattle.vub_run_laws.proofs.RingGood.{the_ring}
 use Rattle.vub_run_laws.proofs.RunGood.{IsGood, IsPlainAsk}
 use Rattle.vub_run_laws.proofs.RunHolds.{Holds}
 use Rattle.vub_driver.proofs.FillLemmas.{length-fills}

@@ -1,5 +1,5 @@
 -- Every event keeps what holds; its entries are legal, and memory tracks them.
-use Rattle.std.proofs.Common.{◌≡◌, ◌≤◌, ◌<◌, ℕ, zero, suc, ◌+◌, Bool, true, false, not, cond, List, [], ◌∷◌, ◌++◌, length, drop, refl, ap, sym, ◌∙◌, subst, inl, inr, arith}
+use Rattle.std.proofs.Common.{◌≡◌, ◌≤◌, ◌<◌, ℕ, zero, suc, Bool, true, false, not, cond, List, [], ◌∷◌, ◌++◌, length, drop, refl, ap, sym, ◌∙◌, subst, inl, inr, arith}
 use Rattle.std.specs.Prelude.{Option, Some, None, is_some, ◌&&◌}
 use Rattle.std.proofs.lemmas.Bool.Decides.{nat_tests}
 use Rattle.std.proofs.lemmas.Bool.{cases_lt}
@@ -15,14 +15,13 @@ use Rattle.vub_steps.specs.declared.readiness.Turn.{Turn}
 use Rattle.vub_steps.specs.declared.readiness.Turn.TheVariants.{Start, Fetch, Work, Publish}
 use Rattle.vub_steps.specs.declared.steps.Phase.{Phase}
 use Rattle.vub_steps.specs.declared.steps.Phase.TheVariants as phases
-use Rattle.vub_ring.specs.Ring.{seen}
 use Rattle.vub_steps.specs.Readiness.{is_ready}
-use Rattle.vub_driver.specs.Drivers.{Driver, Waiting, can_take, after_ask, with_left, without_owner}
+use Rattle.vub_driver.specs.Drivers.{Driver, Waiting, can_take, with_left, without_owner}
 use Rattle.vub_device.specs.declared.entry.Asked.{Asked}
 use Rattle.vub_device.specs.declared.entry.Entry.{Entry}
 use Rattle.vub_device.specs.declared.entry.Entry.TheVariants as entries
 use Rattle.vub_device.specs.Legal.{LegalFrom, after}
-use Rattle.vub_device.specs.Past.{asked, accepted, collected, is_among, started}
+use Rattle.vub_device.specs.Past.{asked, accepted, is_among, started}
 use Rattle.vub_schedule.specs.declared.types.Event.{Event}
 use Rattle.vub_schedule.specs.declared.types.Event.TheVariants as events
 use Rattle.vub_schedule.specs.Spelling.{IsAsk, IsEvent}

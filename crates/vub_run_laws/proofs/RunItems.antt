@@ -1,5 +1,5 @@
 -- Items one after another.
-use Rattle.std.proofs.Common.{◌≡◌, ℕ, List, [], ◌∷◌, ◌++◌, refl, ap, ◌∙◌, inl, inr, ◌+◌}
+use Rattle.std.proofs.Common.{◌≡◌, ℕ, List, [], ◌∷◌, ◌++◌, refl, ap, ◌∙◌, inl, inr}
 use Rattle.vub_base.specs.declared.header.Header1.{Header1}
 use Rattle.vub_base.specs.declared.header.CacheMode.{CacheMode}
 use Rattle.vub_device.specs.declared.entry.Entry.{Entry}
@@ -12,7 +12,6 @@ use Rattle.vub_run.specs.Tracking.{GoesWithNext, AfterEach}
 use Rattle.vub_report.specs.Histories.{entries_of}
 use Rattle.vub_run.specs.Lawful.{IsLawfulItem}
 use Rattle.std.specs.List.{AllByRecursion}
-use Rattle.vub_steps.specs.Tasks.{Act, Look, Sync}
 use Rattle.vub_schedule.specs.declared.types.Event.{Event}
 
 goes_on-append : (i : Item) (is js : List Item) → GoesWithNext i is → GoesWithNext i (is ++ js)

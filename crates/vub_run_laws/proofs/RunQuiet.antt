@@ -1,18 +1,12 @@
 -- All items of a run but the driver's stores and offers: they leave the descriptors that history keeps.
-use Rattle.std.proofs.Common.{◌≡◌, ℕ, zero, suc, ◌+◌, Bool, true, false, not, cond, List, [], ◌∷◌, ◌++◌, map, refl, sym, ◌∙◌, subst, inl, inr}
-use Rattle.std.specs.Prelude.{Option, Some, None, ◌&&◌, slice_get, option_map, ⊤}
-use Rattle.std.specs.List.{AllByRecursion}
-use Rattle.byteorder.specs.Endian.{little_bytes}
+use Rattle.std.proofs.Common.{◌≡◌, ℕ, zero, suc, Bool, true, false, not, cond, List, [], ◌∷◌, refl, sym, ◌∙◌, subst, inl, inr}
+use Rattle.std.specs.Prelude.{Option, Some, None, ◌&&◌, slice_get, ⊤}
 use Rattle.vub_base.specs.declared.header.Header1.{Header1}
-use Rattle.vub_base.specs.declared.store.Tag.TheVariants.{SP1, SP2}
 use Rattle.vub_steps.specs.declared.steps.Step.{Step}
-use Rattle.vub_steps.specs.declared.steps.Step.TheVariants as steps
 use Rattle.vub_steps.specs.declared.readiness.Turn.{Turn}
 use Rattle.vub_steps.specs.declared.readiness.Turn.TheVariants as turns
-use Rattle.vub_steps.specs.Rows.{row}
 use Rattle.vub_steps.specs.Steps.{next_step}
 use Rattle.vub_steps.specs.Tasks.{RequestStep, Look, Put, Act, Sync, Status, task_steps}
-use Rattle.vub_ring.specs.Ring.{used_idx, used_id_place, used_len_place}
 use Rattle.vub_driver.specs.Drivers.{can_take}
 use Rattle.vub_device.specs.declared.entry.Asked.{Asked}
 use Rattle.vub_device.specs.declared.entry.Entry.{Entry}
@@ -28,8 +22,7 @@ use Rattle.vub_run.specs.Memory.{Scene, after_item, after_items}
 use Rattle.vub_run.specs.Moments.{Lane, Moment, fresh, unfinished}
 use Rattle.vub_run.specs.Run.{Played, played, if_ready, ask, take_first, collect, boot, join, one_turn, is_due, then_played, turns as many_turns, single, up_to, any_choice, drain_choice, Drains, Plays}
 use Rattle.vub_run.specs.TaskItems.{look_items, act_items}
-use Rattle.vub_run.specs.Turns.{course_of, turned, row_items, step_items, element_of, phase_turn, phase_goes_on, under_way, work_turn, request_turn, task_turn}
-use Rattle.vub_run_laws.proofs.RingGood.{the_ring}
+use Rattle.vub_run.specs.Turns.{course_of, turned, phase_turn, phase_goes_on, under_way, work_turn, request_turn, task_turn}
 use Rattle.vub_run_laws.proofs.RunChainsMade.{all_append}
 use Rattle.vub_run_laws.proofs.RunItems.{IsQuiet, AreQuiet}
 use Rattle.vub_run_laws.proofs.RunQueue.{queue_quiet}
