@@ -39,7 +39,7 @@ use Rattle.vub_split.specs.declared.split.SplitRing.{SplitRing}
 use Rattle.vub_task.specs.declared.task.Task.{Task}
 use Rattle.vub_run_laws.proofs.RunOwn.{accepted_own, published_own, started_own}
 use Rattle.vub_run_laws.proofs.RunNumbers.{among_filter, missing-among, among-missing}
-use Rattle.vub_run_laws.proofs.RunFacts.{map_alike}
+use Rattle.vub_run_laws.proofs.RingFacts.{map_alike}
 use Rattle.vub_run_laws.proofs.RunHeads.{heads_accept, heads_publish, missing_exact}
 use Rattle.vub_run_laws.proofs.RunGood.{Known, Worked}
 use Rattle.vub_run_laws.proofs.RunOffers.{same_head, same_asked}

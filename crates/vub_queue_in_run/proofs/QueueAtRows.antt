@@ -35,14 +35,17 @@ use Rattle.vub_split.specs.Split.{used_side}
 use Rattle.vub_queue.specs.QueueState.{QueueState, course_in, row_at, next_row, moved, Moves, publishes, publish_row, Publishes, Turns, is_fault}
 use Rattle.vub_queue_in_run.specs.QueueAt.{spot_of, QueueAt, LiesAs, QueueStands}
 use Rattle.vub_driver.specs.Layout.{area_place}
-use Rattle.vub_run_laws.proofs.RunFacts.{phase_at}
-use Rattle.vub_run_laws.proofs.RunGood.{the_ring, Holds}
+use Rattle.vub_run_laws.proofs.RingGood.{the_ring}
+use Rattle.vub_run_laws.proofs.RunHolds.{Holds}
 use Rattle.vub_run_laws.proofs.RunPhases.{resting, rest_is, taking, taking_holds}
-use Rattle.vub_run_laws.proofs.RunElements.{StepAt, AtId, AtLen, AtIndex, step_at, get_map}
-use Rattle.vub_run_laws.proofs.RunPublications.{publishing, IsUnderWay, more_left, none_left, numbers_answers, batch_open}
+use Rattle.vub_run_laws.proofs.RingRows.{StepAt, AtId, AtLen, AtIndex, step_at, more_left, none_left}
+use Rattle.vub_run_laws.proofs.RunElements.{get_map}
+use Rattle.vub_run_laws.proofs.RunPublications.{publishing, IsUnderWay, batch_open}
+use Rattle.vub_run_laws.proofs.RunTracks.{numbers_answers}
 use Rattle.vub_run_laws.proofs.RunTurns.{IsPlain, Good, phase_cases}
 use Rattle.vub_queue_in_run.proofs.QueueAtMoves.{course_same, moved_is, at_begin, at_row, at_show}
 use Rattle.vub_queue_in_run.proofs.QueueAtTurns.{ready_same, does_of, StandsAfter, stands_after}
+use Rattle.vub_run_laws.proofs.RunQueue.{phase_at, shown_index}
 
 -- ---- the row of a step
 
@@ -68,7 +71,7 @@ rows_same : (q : ℕ) (h : Header1) (r : SplitRing) (s : Scene) (l : Lane) (done
 rows_same q h r s l done u None g = refl
 rows_same q h r s l done u (Some step) g =
     let side : used_side u.ring ≡ the_ring q h.size = ap used_side g.stands.ring ∙ side_is q r h.size g.main in
-    let used : u.next_used ≡ used_idx (the_ring q h.size) s.memory = g.stands.used ∙ sym g.under.holds.queue.ringed.used_idx_is in
+    let used : u.next_used ≡ used_idx (the_ring q h.size) s.memory = g.stands.used ∙ sym (shown_index q h s l.driver l.batch (phases.Publish done) g.under.holds.queue) in
     ap (λ (x : Ring). row_of x u.next_used u.batch step) side
     ∙ ap (λ (n : ℕ). row_of (the_ring q h.size) n u.batch step) used
     ∙ ap (λ (xs : List (ℕ × ℕ)). row_of (the_ring q h.size) (used_idx (the_ring q h.size) s.memory) xs step) g.stands.batch

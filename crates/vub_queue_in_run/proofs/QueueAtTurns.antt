@@ -33,12 +33,14 @@ use Rattle.vub_queue_in_run.specs.QueueAt.{spot_of, QueueAt, LiesAs, QueueStands
 use Rattle.vub_driver.specs.Layout.{area_place}
 use Rattle.vub_run_laws.proofs.RunOwn.{at_own}
 use Rattle.vub_run_laws.proofs.RunNumbers.{not_among-take}
-use Rattle.vub_run_laws.proofs.RunFacts.{phase_at}
-use Rattle.vub_run_laws.proofs.RunGood.{the_ring, IsOut, PhaseIs, Holds}
+use Rattle.vub_run_laws.proofs.RingGood.{the_ring}
+use Rattle.vub_run_laws.proofs.RunGood.{IsOut, PhaseIs}
+use Rattle.vub_run_laws.proofs.RunHolds.{Holds}
 use Rattle.vub_run_laws.proofs.RunFrames.{open_out}
-use Rattle.vub_run_laws.proofs.RunPhases.{resting, rest_is, some_waits}
+use Rattle.vub_run_laws.proofs.RunPhases.{resting, rest_is}
 use Rattle.vub_run_laws.proofs.RunTurns.{IsPlain, Good, phase_cases}
 use Rattle.vub_queue_in_run.proofs.QueueAtMoves.{new_unpublished, count_is, avail_is, taken_open, at_start, at_fetch}
+use Rattle.vub_run_laws.proofs.RunQueue.{phase_at, queue_ahead, offered_head, head_below, heads_apart}
 
 -- ---- how many wait
 
@@ -145,7 +147,7 @@ head_is q h r m state main z holds more =
     ∙ ap (λ (s : ℕ). word 2 mem s (r.avail.1 + (4 + 2 * (state.next_avail % r.size)))) main.avail_space
     ∙ ap (λ (p : ℕ). word 2 mem 0 (p + (4 + 2 * (state.next_avail % r.size)))) main.avail
     ∙ ap (λ (e : ℕ). word 2 mem 0 (area_place q + 4096 + (4 + 2 * e))) place
-    ∙ holds.queue.ringed.avail_at a (omega arith) more
+    ∙ offered_head q h m.scene (m.lanes q).driver (m.lanes q).batch (m.lanes q).phase a holds.queue (omega arith) more
 
 -- the next request isn't open, and is offered
 next_out : (q : ℕ) (h : Header1) (s : Scene) (l : Lane) → Holds q h s l → accepted s.past q < length (s.heads q) → IsOut q s.past (s.heads q) (accepted s.past q)
@@ -168,7 +170,7 @@ keeps_rules q h r m state fault plain good main z breaks = go fault breaks.1
     holds = good.holds
 
     far : states.waiting state m.scene.memory + a ≡ length heads
-    far = omega (arith, waiting_is q h r m state main holds z, some_waits q h m.scene (m.lanes q) plain.good holds)
+    far = omega (arith, waiting_is q h r m state main holds z, queue_ahead q h m.scene (m.lanes q) plain.good holds)
 
     more : a < length heads
     more = omega (arith, far, breaks.0)
@@ -181,12 +183,12 @@ keeps_rules q h r m state fault plain good main z breaks = go fault breaks.1
 
     go : (f : RingFault) → BreaksBy state m.scene.memory f → ⊥
     go (faults.Jump ahead) b = omega (arith, b.0, b.1, far, sized, holds.known.room, holds.known.shown, holds.known.fewer)
-    go (faults.BadHead head) b = omega (arith, b.1, b.2, sized, head_is q h r m state main z holds more, holds.queue.driven.below a out)
+    go (faults.BadHead head) b = omega (arith, b.1, b.2, sized, head_is q h r m state main z holds more, head_below q h m.scene (m.lanes q).driver (m.lanes q).batch (m.lanes q).phase a holds.queue out)
     go (faults.Twice head) b =
         let small : head < r.size = omega (arith, b.2, ap (λ (x : SplitRing). x.size) z.ring) in
         let t = taken_open q h r m.scene.past heads (m.lanes q).phase (m.lanes q).batch (m.lanes q).completed (m.lanes q).made state head small b.3 z in
         let other : IsOut q m.scene.past heads t.0 = open_out q h.size h.capacity m.scene.past heads t.0 holds.known t.1 in
-        let same : t.0 ≡ a = holds.queue.driven.apart t.0 a other out (t.2 ∙ b.1 ∙ head_is q h r m state main z holds more) in
+        let same : t.0 ≡ a = heads_apart q h m.scene (m.lanes q).driver (m.lanes q).batch (m.lanes q).phase t.0 a holds.queue other out (t.2 ∙ b.1 ∙ head_is q h r m state main z holds more) in
         omega (arith, same, t.1.taken)
     go (faults.NoRoom slot) b = b
     go (faults.Chain fault) b = b
@@ -220,7 +222,7 @@ fetch_accepts q h r m x state u plain good main z ready fine fetches = go x fine
         cc)
     go (says.Accepted head) f does =
         let finds = does.2 m.scene.memory refl in
-        let more : a < length (m.scene.heads q) = omega (arith, finds.0.some, waiting_is q h r m state main good.holds z, some_waits q h m.scene (m.lanes q) plain.good good.holds) in
+        let more : a < length (m.scene.heads q) = omega (arith, finds.0.some, waiting_is q h r m state main good.holds z, queue_ahead q h m.scene (m.lanes q) plain.good good.holds) in
         let is : head ≡ slice_index (m.scene.heads q) a = finds.1 ∙ head_is q h r m state main z good.holds more in
         record {
           says = ap says.Accepted is;

@@ -30,6 +30,7 @@ use Rattle.vub_run_laws.proofs.RunTurns.{IsPlain, Good}
 use Rattle.vub_run_laws.proofs.RunChainsEvents.{ChainedAt}
 use Rattle.vub_queue_in_run.proofs.QueueAtMoves.{count_is}
 use Rattle.vub_run_laws.proofs.RunChainsMeaning.{work_means}
+use Rattle.vub_run_laws.proofs.RunQueue.{head_below}
 
 -- ---- kinds of step
 
@@ -214,7 +215,7 @@ due_at q h m r sizes state place k task plain good chained main room a run is at
     let next = some_step h request (l.made k) plain.back wide pending in
     let stands : TaskAt q h r m.scene.past (m.scene.heads q) k (l.made k) task = a.tasks place k task is at in
     let n : Making = making_of q h m k meant.links request next.0 in
-    let low : head < h.size = good.holds.queue.driven.below k is_out in
+    let low : head < h.size = head_below q h m.scene (m.lanes q).driver (m.lanes q).batch (m.lanes q).phase k good.holds.queue is_out in
     let is_next : IsNext h.capacity sizes r m.scene.memory n = record {
       means = meant.means;
       served = record { basic = wide_basic h.capacity request wide; capacity = refl; cached = plain.back };

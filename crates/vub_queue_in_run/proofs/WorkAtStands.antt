@@ -43,6 +43,7 @@ use Rattle.vub_queue_in_run.proofs.WorkAt.{WorkReady, making, Kind, IsLook, IsPu
 use Rattle.vub_queue_in_run.proofs.WorkAtItems.{work_turned, work_kind}
 use Rattle.vub_queue_in_run.proofs.QueueHeld.{keeps_worked, keeps_done}
 use Rattle.vub_queue_in_run.proofs.WorkAtLists.{slice_get-set_same, slice_get-set_other, slice_get-remove_below, slice_get-remove_above, filter_distinct, one_place, one_less, among_kept}
+use Rattle.vub_run_laws.proofs.RunQueue.{heads_apart}
 
 -- ---- the requests that are left
 
@@ -79,9 +80,9 @@ open_same q past past' k j x o = record {
 }
 
 -- requests that are left have heads of their own
-heads_apart : (q : ℕ) (h : Header1) (m : Moment) (j k : ℕ) → Good q h m → IsOpen m.scene.past q j → IsOpen m.scene.past q k → j ≢ k → slice_index (m.scene.heads q) j ≢ slice_index (m.scene.heads q) k
-heads_apart q h m j k good open_j open_k apart same =
-    apart (good.holds.queue.driven.apart j k (open_out q h.size h.capacity m.scene.past (m.scene.heads q) j good.holds.known open_j) (open_out q h.size h.capacity m.scene.past (m.scene.heads q) k good.holds.known open_k) same)
+heads_differ : (q : ℕ) (h : Header1) (m : Moment) (j k : ℕ) → Good q h m → IsOpen m.scene.past q j → IsOpen m.scene.past q k → j ≢ k → slice_index (m.scene.heads q) j ≢ slice_index (m.scene.heads q) k
+heads_differ q h m j k good open_j open_k apart same =
+    apart (heads_apart q h m.scene (m.lanes q).driver (m.lanes q).batch (m.lanes q).phase j k good.holds.queue (open_out q h.size h.capacity m.scene.past (m.scene.heads q) j good.holds.known open_j) (open_out q h.size h.capacity m.scene.past (m.scene.heads q) k good.holds.known open_k) same)
 
 -- ---- one task
 
@@ -152,7 +153,7 @@ goes_on q h sizes m r state place w past' next sector good a x head made put = r
             ap (λ (d : ℕ). get_or (set state.sectors (head_in next) sector) d []) at_head ∙ get_or-set_same state.sectors (head_in next) sector [] fits ∙ put p step_then
             ∙ ap (λ (n : ℕ). slice_range (bytes_read past' q n) (512 * p) (512 * p + 512)) (sym here)
         | inr apart ↦
-            let other : slice_index heads j ≢ (head_in next) = λ e. heads_apart q h m j w.k good (left_open q past l.completed l.batch j left_j) w.is_open apart (e ∙ head ∙ w.head) in
+            let other : slice_index heads j ≢ (head_in next) = λ e. heads_differ q h m j w.k good (left_open q past l.completed l.batch j left_j) w.is_open apart (e ∙ head ∙ w.head) in
             let was : slice_get (task_steps h request) (l.made j) ≡ Some (Put p) = ap (slice_get (task_steps h request)) (sym (at_other l.made w.k (l.made w.k + 1) j apart)) ∙ at_step in
             get_or-set_other state.sectors (head_in next) (slice_index heads j) sector [] other ∙ a.sectors j p request left_j is_old was
             ∙ ap (λ (xs : List ℕ). slice_range xs (512 * p) (512 * p + 512)) (sym (x.sees j apart))
@@ -212,7 +213,7 @@ finished q h sizes m r state place w sector good a = record {
       let parts = not_more l.completed l.batch w.k j out in
       let passes : not (is_among (l.completed ++ l.batch) j) ≡ true = ap not parts.1 in
       let left_j : is_among left j ≡ true = among_kept (λ n. not (is_among (l.completed ++ l.batch) n)) (open_numbers past q) j kept.0 passes in
-      let other : slice_index heads j ≢ (head_in w.task) = λ e. heads_apart q h m j w.k good (left_open q past l.completed l.batch j left_j) w.is_open parts.0 (e ∙ w.head) in
+      let other : slice_index heads j ≢ (head_in w.task) = λ e. heads_differ q h m j w.k good (left_open q past l.completed l.batch j left_j) w.is_open parts.0 (e ∙ w.head) in
       let was_step : slice_get (task_steps h request) (l.made j) ≡ Some (Put p) = ap (slice_get (task_steps h request)) (sym (at_other l.made w.k (l.made w.k + 1) j parts.0)) ∙ at_step in
       get_or-set_other state.sectors (head_in w.task) (slice_index heads j) sector [] other ∙ a.sectors j p request left_j is was_step;
 }

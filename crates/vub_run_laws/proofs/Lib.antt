@@ -1,3 +1,16 @@
+pub mod RingAsks
+pub mod RingCollects
+pub mod RingElements
+pub mod RingEntries
+pub mod RingFacts
+pub mod RingFrames
+pub mod RingGood
+pub mod RingOffers
+pub mod RingOpening
+pub mod RingQuiet
+pub mod RingRows
+pub mod RingStores
+pub mod RingTracks
 pub mod RunAsks
 pub mod RunChains
 pub mod RunChainsEvents
@@ -17,11 +30,11 @@ pub mod RunEnds
 pub mod RunEntries
 pub mod RunEvents
 pub mod RunExists
-pub mod RunFacts
 pub mod RunFrames
 pub mod RunGood
 pub mod RunGuests
 pub mod RunHeads
+pub mod RunHolds
 pub mod RunItems
 pub mod RunLawful
 pub mod RunNumbers
@@ -36,6 +49,7 @@ pub mod RunQuiet
 pub mod RunServes
 pub mod RunShown
 pub mod RunSteps
+pub mod RunTaken
 pub mod RunTracks
 pub mod RunTurns
 pub mod RunWork

@@ -1,4 +1,4 @@
--- The chain of a request in memory: what stores leave of it, and how the driver's stores make it.
+-- Split chains. The chain of a request in memory: what stores leave of it, and how the driver's stores make it.
 use Rattle.std.proofs.Common.{◌≡◌, ◌≤◌, ◌<◌, ◌⊎◌, ℕ, zero, suc, ◌+◌, ◌*◌, ◌^◌, Bool, true, false, List, [], ◌∷◌, ◌++◌, length, refl, ap, sym, ◌∙◌, inl, inr, arith}
 use Rattle.std.specs.Prelude.{Some, None}
 use Rattle.byteorder.specs.Endian.{little_from, little_bytes}

@@ -1,4 +1,4 @@
--- Through every event the chain of each request that is offered and not collected stands in memory.
+-- Split chains. Through every event the chain of each request that is offered and not collected stands in memory.
 use Rattle.std.proofs.Common.{◌<◌, ◌≡◌, ◌≤◌, ℕ, zero, suc, ◌+◌, ◌*◌, ◌%◌, Bool, true, false, not, cond, List, [], ◌∷◌, ◌++◌, length, take, drop, refl, ap, sym, ◌∙◌, subst, inl, inr, arith}
 use Rattle.std.specs.Prelude.{Option, Some, None, is_some, ◌&&◌}
 use Rattle.byteorder.specs.Endian.{little_bytes}
@@ -30,17 +30,18 @@ use Rattle.vub_run.specs.Memory.{Scene, after_items}
 use Rattle.vub_run.specs.Moments.{Lane, Moment, opening}
 use Rattle.vub_run.specs.Run.{Played, played, if_ready, with_lane, with_driver, guest_items, guest, guest_stores, ask, collect, take_first, boot, join, one_turn, is_due, then_played, turns, single, up_to, any_choice, drain_choice, Drains, Plays}
 use Rattle.vub_run.specs.Turns.{turned}
-use Rattle.vub_run_laws.proofs.RunGood.{the_ring, index_store, IsWaiting, WaitsWell, EntryWell, EntryStands}
-use Rattle.vub_run_laws.proofs.RunFrames.{same_entry}
-use Rattle.vub_run_laws.proofs.RunCollects.{IsTaken, next_number, after_taken, first_seen}
+use Rattle.vub_run_laws.proofs.RingGood.{the_ring, index_store, IsWaiting, WaitsWell, EntryWell, EntryStands}
+use Rattle.vub_run_laws.proofs.RingFrames.{same_entry}
+use Rattle.vub_run_laws.proofs.RunTaken.{IsTaken, next_number}
 use Rattle.vub_run_laws.proofs.RunTurns.{IsPlain, Good}
 use Rattle.vub_run_laws.proofs.RunEvents.{turn_right}
-use Rattle.vub_run_laws.proofs.Runs.{none_out}
+use Rattle.vub_run_laws.proofs.RunFrames.{none_out}
 use Rattle.vub_run_laws.proofs.RunChainsStores.{put_all}
 use Rattle.vub_run_laws.proofs.RunChainsMade.{put_append}
 use Rattle.vub_run_laws.proofs.RunChainsTurns.{IsPrepared, PreparedWell, Chained, gentle_chained, turn_gentle, turn_driver}
 use Rattle.vub_run_laws.proofs.RunChainsOffers.{ask_chained, collect_chained}
 use Rattle.vub_run_laws.proofs.RunChainsGuests.{part_scene, part_chained, front_stores, guest_chained}
+use Rattle.vub_run_laws.proofs.RunQueue.{queue_first, queue_free, kept_index}
 
 -- what memory holds at a moment
 abbrev pub ChainedAt : ℕ → Header1 → Moment → Type 0
@@ -89,10 +90,10 @@ collect_all q h m plain good c = go (seen (the_ring q h.size) m.scene.memory (h.
     go [] e = c
     go (x ∷ xs) e =
         let l : Lane = m.lanes q in
-        let t : IsTaken q h m.scene l x.0 = first_seen q h m.scene l x xs plain.good good.holds e in
+        let t : IsTaken q h m.scene l x.0 = queue_first q h m.scene l x xs plain.good good.holds e in
         let k : ℕ = next_number q m.scene in
         lane_chained q h (record m { scene = record m.scene { past = entries.Collect q k ∷ m.scene.past } }) (with_driver (after_collect x.0 l.driver) l)
-        (subst (λ (d : Driver). Chained q h.size (record m.scene { past = entries.Collect q k ∷ m.scene.past }) d) (sym (after_taken q h m.scene l x.0 t)) (collect_chained q h m.scene l x.0 k t c))
+        (subst (λ (d : Driver). Chained q h.size (record m.scene { past = entries.Collect q k ∷ m.scene.past }) d) (sym (queue_free q h m.scene l x.0 t)) (collect_chained q h m.scene l x.0 k t c))
 
 boot_all : (q : ℕ) (h : Header1) (m : Moment) → ChainedAt q h m → ChainedAt q h (boot m).next
 boot_all q h m c = tested q h m (not m.lives) _ c (λ ready. record { linked = c.linked; waits = c.waits })
@@ -156,7 +157,7 @@ entry_made q h m w plain good c waiting one =
     let all : ready.made ++ w.left ≡ (ends.0 ++ entry ∷ []) ++ index_store (the_ring q n) v.avail_idx ∷ [] = ready.stores ∙ ends.1 ∙ sym (append_assoc ends.0 (entry ∷ []) (index_store (the_ring q n) v.avail_idx ∷ [])) in
     let made : ready.made ≡ ends.0 ++ entry ∷ [] = before_last ready.made w.left (ends.0 ++ entry ∷ []) (index_store (the_ring q n) v.avail_idx) all one in
     let stands : m.scene.memory ≡ put front 0 (avail_entry_place (the_ring q n) v.avail_idx) (little_bytes 2 w.head) = sym ready.stand ∙ ap (λ (sts : List Store). put_all sts m.scene.memory) made ∙ put_append ends.0 (entry ∷ []) m.scene.memory in
-    let index : v.avail_idx ≡ (h.base + length (m.scene.heads q)) % 65536 = good.holds.queue.driven.index in
+    let index : v.avail_idx ≡ (h.base + length (m.scene.heads q)) % 65536 = kept_index q h m.scene v (m.lanes q).batch (m.lanes q).phase good.holds.queue in
     let same : entry_of (the_ring q n) v.avail_idx ≡ entry_of (the_ring q n) (h.base + length (m.scene.heads q)) = ap (entry_of (the_ring q n)) index ∙ same_entry q n (h.base + length (m.scene.heads q)) in
     let small : n ≤ 64 = plain.good.size.small in
     ap (λ (e : ℕ). word 2 m.scene.memory 0 (area_place q + 4096 + (4 + 2 * e))) (sym same)

@@ -1,4 +1,4 @@
--- What leaves the chains of offered requests, and what was made of the one that waits.
+-- Split chains. What leaves the chains of offered requests, and what was made of the one that waits.
 use Rattle.std.proofs.Common.{◌≡◌, ◌≢◌, ◌≤◌, ◌<◌, ◌⊎◌, ℕ, ◌+◌, ◌*◌, List, [], ◌∷◌, length, refl, sym, subst, inl, inr, arith}
 use Rattle.std.specs.Prelude.{Option, Some, slice_index}
 use Rattle.std.specs.List.{AllByRecursion}
@@ -10,12 +10,13 @@ use Rattle.vub_device.specs.declared.entry.Asked.{Asked}
 use Rattle.vub_device.specs.Past.{asked}
 use Rattle.vub_run.specs.Memory.{Scene}
 use Rattle.vub_run.specs.Moments.{Lane}
-use Rattle.vub_run_laws.proofs.RunGood.{IsWide, IsOut, Holds}
+use Rattle.vub_run_laws.proofs.RunGood.{IsWide, IsOut, IsGood, stored_at}
+use Rattle.vub_run_laws.proofs.RunHolds.{Holds}
 use Rattle.vub_run_laws.proofs.RunFrames.{other_buffer}
-use Rattle.vub_run_laws.proofs.RunGuests.{IsGood, stored_at}
 use Rattle.vub_run_laws.proofs.RunChains.{buffer_at, HasChain, Spares, chain_kept}
 use Rattle.vub_run_laws.proofs.RunChainsStores.{handed_fits}
 use Rattle.vub_run_laws.proofs.RunChainsMade.{Stand, stand_kept, Serves, serving_off}
+use Rattle.vub_run_laws.proofs.RunQueue.{head_below}
 
 -- a head under which no request is offered and not collected
 abbrev pub IsUnused : ℕ → Scene → ℕ → Type 0
@@ -47,7 +48,7 @@ store_gentle q h s l p bs x above away spares = record {
   out = λ k o. o;
   chain = λ k body status r out fb fs is held.
       let simple : IsWide h.capacity (Some r) = subst (λ (o : Option Asked). IsWide h.capacity o) is (x.known.wide k out.below) in
-      chain_kept q s.memory (slice_index (s.heads q) k) body status r p bs (spares k body status r out (x.queue.driven.below k out) fb fs is simple) held;
+      chain_kept q s.memory (slice_index (s.heads q) k) body status r p bs (spares k body status r out (head_below q h s l.driver l.batch l.phase k x.queue out) fb fs is simple) held;
   made = λ head sts unused serve stand. stand_kept sts s.memory p bs (serving_off q head sts p bs above (away head unused) serve) stand;
 }
 

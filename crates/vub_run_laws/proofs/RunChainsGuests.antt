@@ -1,4 +1,4 @@
--- The driver's stores of a request leave the chains of the others, and its offer adds one.
+-- Split chains. The driver's stores of a request leave the chains of the others, and its offer adds one.
 use Rattle.std.proofs.Common.{◌≡◌, ◌≢◌, ◌≤◌, ◌<◌, ℕ, zero, suc, ◌+◌, ◌*◌, ◌%◌, Bool, true, false, List, [], ◌∷◌, ◌++◌, length, take, drop, refl, ap, sym, ◌∙◌, subst, inl, inr, arith}
 use Rattle.std.specs.Prelude.{Option, Some, None, slice_index}
 use Rattle.std.specs.List.{AllByRecursion}
@@ -25,9 +25,9 @@ use Rattle.vub_run.specs.Memory.{Scene, with_at, with_last, after_item, after_it
 use Rattle.vub_run.specs.Run.{guest_items}
 use Rattle.vub_device.specs.Requests.{request_of}
 use Rattle.vub_run_laws.proofs.RunOwn.{at_own}
-use Rattle.vub_run_laws.proofs.RunGood.{the_ring, IsSize, IsWide, IsOut, IsWaiting, Known, Driven}
+use Rattle.vub_run_laws.proofs.RingGood.{the_ring, IsWaiting, Driven}
+use Rattle.vub_run_laws.proofs.RunGood.{IsSize, IsWide, IsOut, Known, IsGood}
 use Rattle.vub_run_laws.proofs.RunFrames.{keeps, length_little}
-use Rattle.vub_run_laws.proofs.RunGuests.{IsGood}
 use Rattle.vub_run_laws.proofs.RunOffers.{same_head, new_head, same_asked, new_asked}
 use Rattle.vub_run_laws.proofs.RunChains.{table_place, buffer_at, chain_of, HasChain, IsOff, Spares, chain_kept}
 use Rattle.vub_run_laws.proofs.RunChainsStores.{put_all, handed_fits, stores_make}

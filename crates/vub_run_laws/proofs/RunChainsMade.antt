@@ -1,4 +1,4 @@
--- Stores of a request that were made stand in memory, until others reach their places.
+-- Split chains. Stores of a request that were made stand in memory, until others reach their places.
 use Rattle.std.proofs.Common.{◌≡◌, ◌≤◌, ◌<◌, ◌⊎◌, ℕ, ◌+◌, ◌*◌, ◌%◌, List, [], ◌∷◌, ◌++◌, length, refl, ap, sym, ◌∙◌, inl, inr, arith}
 use Rattle.std.specs.Prelude.{Option, Some, ◌==◌, ◌&&◌, nat_le, nat_lt}
 use Rattle.std.specs.List.{AllByRecursion}
@@ -17,8 +17,10 @@ use Rattle.vub_driver.specs.Requests.{Piece, readable_piece, writable_piece, wri
 use Rattle.vub_driver.specs.Stores.{store_of_some, request_stores}
 use Rattle.vub_direct_chain.specs.ChainState.{data_of}
 use Rattle.vub_device.specs.Requests.{request_of}
-use Rattle.vub_run_laws.proofs.RunGood.{the_ring, IsSize, IsWide}
-use Rattle.vub_run_laws.proofs.RunFrames.{length_little, entry_small}
+use Rattle.vub_run_laws.proofs.RingGood.{the_ring}
+use Rattle.vub_run_laws.proofs.RunGood.{IsSize, IsWide}
+use Rattle.vub_run_laws.proofs.RunFrames.{length_little}
+use Rattle.vub_run_laws.proofs.RingFrames.{entry_small}
 use Rattle.vub_run_laws.proofs.RunChains.{table_place, buffer_at, chain_of, IsOff, desc_long}
 use Rattle.vub_run_laws.proofs.RunChainsStores.{put_all, AreOff, header_long, linked, linked_two}
 

@@ -1,4 +1,4 @@
--- What memory means along every run: each request that is offered and not published, at its head.
+-- Split chains. What memory means along every run: each request that is offered and not published, at its head.
 use Rattle.std.proofs.Common.{◌≡◌, ◌≤◌, ◌<◌, ℕ, ◌+◌, not, Bool, true, false, List, ◌++◌, length, refl, ap, sym, ◌∙◌, subst, arith}
 use Rattle.std.specs.Prelude.{Option, Some, None, slice_index, slice_get}
 use Rattle.vub_base.specs.declared.header.Header1.{Header1}
@@ -27,6 +27,7 @@ use Rattle.vub_run_laws.proofs.RunChainsStores.{handed_fits}
 use Rattle.vub_run_laws.proofs.RunChainsTurns.{IsLinked}
 use Rattle.vub_run_laws.proofs.RunChainsEvents.{ChainedAt}
 use Rattle.vub_direct_chain.proofs.ChainReading.{make}
+use Rattle.vub_run_laws.proofs.RunQueue.{head_below}
 
 desc_found : (q : ℕ) (r : SplitRing) (m : Bytes) (d : ℕ) (x : Desc) → r.desc.0.number ≡ 0 → r.desc.1 ≡ area_place q → HasDesc q m d x → desc_in r m d ≡ make x.addr x.len x.flags x.next
 desc_found q r m d x space table h =
@@ -141,7 +142,7 @@ linked_means q sizes r n cap owner m head o ring size low wide l = go (has_body 
 pub moment_means : (q : ℕ) (h : Header1) (m : Moment) (sizes : ℕ → ℕ) (r : SplitRing) (k : ℕ) → IsPlain h → Good q h m → ChainedAt q h m → IsRingOf q sizes r h.size → IsOut q m.scene.past (m.scene.heads q) k
     → Meant q sizes r m.scene.memory (slice_index (m.scene.heads q) k) (asked m.scene.past q k)
 moment_means q h m sizes r k plain good c ring out =
-    linked_means q sizes r h.size h.capacity (m.lanes q).driver.owner m.scene.memory (slice_index (m.scene.heads q) k) (asked m.scene.past q k) ring plain.good.size (good.holds.queue.driven.below k out) (good.holds.known.wide k out.below) (c.linked k out)
+    linked_means q sizes r h.size h.capacity (m.lanes q).driver.owner m.scene.memory (slice_index (m.scene.heads q) k) (asked m.scene.past q k) ring plain.good.size (head_below q h m.scene (m.lanes q).driver (m.lanes q).batch (m.lanes q).phase k good.holds.queue out) (good.holds.known.wide k out.below) (c.linked k out)
 
 -- a request that isn't published isn't collected
 pub unpublished_out : (q : ℕ) (h : Header1) (m : Moment) (k : ℕ) → k < length (m.scene.heads q) → is_among (published m.scene.past q) k ≡ false → IsOut q m.scene.past (m.scene.heads q) k

@@ -1,4 +1,4 @@
--- An offer adds the chain of its request; asks and collections leave the others.
+-- Split chains. An offer adds the chain of its request; asks and collections leave the others.
 use Rattle.std.proofs.Common.{◌≡◌, ◌≢◌, ◌≤◌, ◌<◌, ℕ, zero, suc, ◌+◌, Bool, true, false, cond, List, [], ◌∷◌, length, take, refl, ap, sym, ◌∙◌, subst, inl, inr, arith}
 use Rattle.std.specs.Prelude.{Option, Some, None, ⊤, slice_index, is_none, ◌==◌}
 use Rattle.std.proofs.lemmas.Bool.{cases_eq}
@@ -17,11 +17,11 @@ use Rattle.vub_device.specs.declared.entry.Entry.TheVariants as entries
 use Rattle.vub_device.specs.Past.{asked}
 use Rattle.vub_run.specs.Memory.{Scene}
 use Rattle.vub_run.specs.Moments.{Lane}
-use Rattle.vub_run_laws.proofs.RunGood.{the_ring, IsWaiting, WaitsWell, Driven}
-use Rattle.vub_run_laws.proofs.RunCollects.{IsTaken, next_number, next_out, later_out}
+use Rattle.vub_run_laws.proofs.RingGood.{the_ring, IsWaiting, WaitsWell, Driven}
+use Rattle.vub_run_laws.proofs.RunTaken.{IsTaken, next_number, next_out, later_out}
 use Rattle.vub_run_laws.proofs.RunChains.{chain_of}
 use Rattle.vub_run_laws.proofs.RunChainsTurns.{IsLinked, IsPrepared, PreparedWell, Chained}
-use Rattle.vub_run_laws.proofs.RunAsks.{is_none_means}
+use Rattle.vub_run_laws.proofs.RingAsks.{is_none_means}
 
 -- ---- the descriptors that an ask takes
 

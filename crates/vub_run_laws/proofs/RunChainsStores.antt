@@ -1,4 +1,4 @@
--- The driver's stores of a request make its chain, and leave those of other requests.
+-- Split chains. The driver's stores of a request make its chain, and leave those of other requests.
 use Rattle.std.proofs.Common.{◌≡◌, ◌≢◌, ◌≤◌, ◌<◌, ℕ, ◌+◌, ◌%◌, ◌^◌, true, false, List, [], ◌∷◌, ◌++◌, length, refl, ap, sym, ◌∙◌, subst, inl, inr, arith}
 use Rattle.std.specs.Prelude.{Some, None}
 use Rattle.std.specs.List.{AllByRecursion}
@@ -18,8 +18,10 @@ use Rattle.vub_device.specs.declared.entry.Asked.TheVariants as asks
 use Rattle.vub_direct_chain.specs.declared.chain.Desc.{Desc}
 use Rattle.vub_device.specs.Requests.{request_of}
 use Rattle.vub_direct_chain.specs.ChainState.{handed_bytes, data_start, data_len, data_of, desc_of}
-use Rattle.vub_run_laws.proofs.RunGood.{the_ring, IsSize, IsWide}
-use Rattle.vub_run_laws.proofs.RunFrames.{keeps, length_little, entry_small}
+use Rattle.vub_run_laws.proofs.RingGood.{the_ring}
+use Rattle.vub_run_laws.proofs.RunGood.{IsSize, IsWide}
+use Rattle.vub_run_laws.proofs.RunFrames.{keeps, length_little}
+use Rattle.vub_run_laws.proofs.RingFrames.{entry_small}
 use Rattle.vub_run_laws.proofs.RunChains.{table_place, buffer_at, has_body, chain_of, HasDesc, HasFront, HasChain, IsOff, desc_kept, front_kept, word_made, desc_long, desc_made}
 
 -- memory after stores into guest memory

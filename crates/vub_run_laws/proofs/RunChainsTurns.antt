@@ -1,4 +1,4 @@
--- A turn leaves the chain of each offered request.
+-- Split chains. A turn leaves the chain of each offered request.
 use Rattle.std.proofs.Common.{take, ◌≡◌, ◌≤◌, ◌<◌, ℕ, zero, suc, ◌+◌, ◌*◌, ◌/◌, ◌%◌, Bool, true, false, not, cond, List, [], ◌∷◌, ◌++◌, length, map, refl, ap, sym, ◌∙◌, subst, inl, inr, arith}
 use Rattle.std.specs.Prelude.{Option, Some, None, ⊤, slice_index, slice_get, slice_range, option_map}
 use Rattle.byteorder.specs.Endian.{little_bytes}
@@ -36,9 +36,11 @@ use Rattle.vub_run.specs.Turns.{course_of, turned, work_turn, request_turn, task
 use Rattle.vub_run_laws.proofs.RunOwn.{published_own}
 use Rattle.vub_run_laws.proofs.RunNumbers.{among_filter, missing-among}
 use Rattle.vub_facts.proofs.HeadLemmas.{among_get}
-use Rattle.vub_run_laws.proofs.RunGood.{the_ring, IsSize, IsWide, IsOut, IsWaiting, WaitsWell, Holds, buffer}
-use Rattle.vub_run_laws.proofs.RunFrames.{entry_small, open_out, length_little}
-use Rattle.vub_run_laws.proofs.RunGuests.{IsGood, stored_at}
+use Rattle.vub_run_laws.proofs.RingGood.{the_ring, IsWaiting, WaitsWell}
+use Rattle.vub_run_laws.proofs.RunGood.{IsSize, IsWide, IsOut, buffer, IsGood, stored_at}
+use Rattle.vub_run_laws.proofs.RunHolds.{Holds}
+use Rattle.vub_run_laws.proofs.RingFrames.{entry_small}
+use Rattle.vub_run_laws.proofs.RunFrames.{open_out, length_little}
 use Rattle.vub_run_laws.proofs.RunSteps.{WideCases, AtRead, AtWrite, AtFlush, wide_cases, wide_steps, ReadAt, ToLook, ToPut, ToReply, read_at, read_over, WriteAt, ToAct, ToEnd, write_at, write_over}
 use Rattle.vub_run_laws.proofs.RunWork.{sector_few}
 use Rattle.vub_run_laws.proofs.RunTurns.{IsPlain, Good}
@@ -46,6 +48,7 @@ use Rattle.vub_run_laws.proofs.RunChains.{buffer_at, chain_of, HasChain, Spares}
 use Rattle.vub_run_laws.proofs.RunChainsStores.{handed_fits}
 use Rattle.vub_run_laws.proofs.RunChainsMade.{Stand, all_first, IsMine, AreMine, stores_mine, all_serve}
 use Rattle.vub_run_laws.proofs.RunChainsGentle.{IsGentle, gentle_none, store_gentle, buffer_spares, offered_away, ring_gentle}
+use Rattle.vub_run_laws.proofs.RunQueue.{heads_apart}
 
 -- the chain of an offered request stands in memory, and its descriptors belong to its head
 pub record IsLinked (q n : ℕ) (owner : ℕ → Option ℕ) (m : Bytes) (head : ℕ) (o : Option Asked) : Type 0 where
@@ -207,7 +210,7 @@ put_gentle q h s l k sector c place good x is_open is_k low =
           let is_r : r ≡ asks.Read sector c = cc in
           let here : p ≡ sectors_place (buffer_at q (slice_index (s.heads q) j)) + 512 * place = ap (λ (i : ℕ). sectors_place (buffer q (s.heads q) i) + 512 * place) (sym same) in
           subst (λ (o : Asked). Spares q (slice_index (s.heads q) j) body status o p bs) (sym is_r) (own_read q (slice_index (s.heads q) j) body status sector c p bs (omega arith) (omega arith) (omega arith) (omega (arith, here)))
-      | inr apart ↦ buffer_spares q h.capacity (slice_index (s.heads q) j) body status (slice_index (s.heads q) k) r p bs (omega arith) (omega arith) (omega arith) simple (λ same. apart (x.queue.driven.apart j k out out_k same)) (omega arith) (omega arith)
+      | inr apart ↦ buffer_spares q h.capacity (slice_index (s.heads q) j) body status (slice_index (s.heads q) k) r p bs (omega arith) (omega arith) (omega arith) simple (λ same. apart (heads_apart q h s l.driver l.batch l.phase j k x.queue out out_k same)) (omega arith) (omega arith)
     ])
 
 status_gentle : (q : ℕ) (h : Header1) (s : Scene) (l : Lane) (k byte : ℕ) → IsGood h → Holds q h s l → IsOpen s.past q k → IsGentle q h.size s (stored_at (status_place (buffer q (s.heads q) k)) (byte ∷ []) s)
@@ -218,7 +221,7 @@ status_gentle q h s l k byte good x is_open =
     store_gentle q h s l p (byte ∷ []) x (omega arith) (offered_away q s k p (byte ∷ []) out_k (omega arith) (omega arith)) (λ j body status r out fh fb fs is simple. elim (cases_eq j k) [
       | inl same ↦
           subst (λ (i : ℕ). Spares q (slice_index (s.heads q) j) body status r (status_place (buffer q (s.heads q) i)) (byte ∷ [])) same (own_status q h.capacity (slice_index (s.heads q) j) body status r byte (omega arith) (omega arith) (omega arith) simple)
-      | inr apart ↦ buffer_spares q h.capacity (slice_index (s.heads q) j) body status (slice_index (s.heads q) k) r p (byte ∷ []) (omega arith) (omega arith) (omega arith) simple (λ same. apart (x.queue.driven.apart j k out out_k same)) (omega arith) (omega arith)
+      | inr apart ↦ buffer_spares q h.capacity (slice_index (s.heads q) j) body status (slice_index (s.heads q) k) r p (byte ∷ []) (omega arith) (omega arith) (omega arith) simple (λ same. apart (heads_apart q h s l.driver l.batch l.phase j k x.queue out out_k same)) (omega arith) (omega arith)
     ])
 
 look_gentle : (q n : ℕ) (s : Scene) (k sector : ℕ) (v : List ℕ) → IsGentle q n s (record s { past = entries.Look q k sector v ∷ s.past })

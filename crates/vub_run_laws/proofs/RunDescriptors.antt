@@ -1,4 +1,4 @@
--- The descriptors that history keeps of each request that is offered and not collected are its chain in memory.
+-- Split chains. The descriptors that history keeps of each request that is offered and not collected are its chain in memory.
 use Rattle.std.proofs.Common.{◌≡◌, ◌≤◌, ◌<◌, ℕ, zero, suc, ◌+◌, Bool, true, false, not, cond, List, [], ◌∷◌, ◌++◌, length, take, drop, refl, ap, sym, ◌∙◌, subst, inl, inr, arith}
 use Rattle.std.specs.Prelude.{Option, Some, None, ◌==◌, ◌&&◌, bit_and, get_or, slice_index, is_some, if◌then◌else◌}
 use Rattle.std.specs.List.{AllByRecursion}
@@ -33,13 +33,14 @@ use Rattle.vub_run.specs.Run.{Played, played, if_ready, guest, guest_stores, ask
 use Rattle.vub_run.specs.Turns.{turned}
 use Rattle.vub_run_laws.proofs.RunOwn.{at_own}
 use Rattle.vub_run_laws.proofs.RunQueues.{IsOn}
-use Rattle.vub_run_laws.proofs.RunGood.{the_ring, IsWide, IsOut, IsWaiting}
+use Rattle.vub_run_laws.proofs.RingGood.{the_ring, IsWaiting}
+use Rattle.vub_run_laws.proofs.RunGood.{IsWide, IsOut}
 use Rattle.vub_run_laws.proofs.RunOffers.{same_head, new_head}
 use Rattle.vub_run_laws.proofs.RunGuests.{waits_well}
-use Rattle.vub_run_laws.proofs.RunCollects.{IsTaken, next_number, later_out, first_seen}
+use Rattle.vub_run_laws.proofs.RunTaken.{IsTaken, next_number, later_out}
 use Rattle.vub_run_laws.proofs.RunTurns.{IsPlain, Good}
 use Rattle.vub_run_laws.proofs.RunEvents.{turn_right}
-use Rattle.vub_run_laws.proofs.Runs.{none_out}
+use Rattle.vub_run_laws.proofs.RunFrames.{none_out}
 use Rattle.vub_run_laws.proofs.RunChains.{buffer_at, has_body, chain_of, HasDesc, HasChain}
 use Rattle.vub_run_laws.proofs.RunChainsStores.{put_all}
 use Rattle.vub_run_laws.proofs.RunChainsMade.{all_first, all_last, IsMine, AreMine}
@@ -49,6 +50,7 @@ use Rattle.vub_run_laws.proofs.RunChainsGuests.{chain_stays, part_scene, guest_s
 use Rattle.vub_run_laws.proofs.RunChainsEvents.{ChainedAt, one_turn_chained}
 use Rattle.vub_run_laws.proofs.RunsLegal.{HoldsOf}
 use Rattle.vub_run_laws.proofs.RunQuiet.{turned_quiet, quiet_kept}
+use Rattle.vub_run_laws.proofs.RunQueue.{head_below, head_owned, queue_first}
 
 -- ---- what holds
 
@@ -133,12 +135,12 @@ other_same q h m w sts k plain good c waits mine out =
     let head : ℕ = slice_index (s.heads q) k in
     let was : IsLinked q h.size v.owner s.memory head (asked s.past q k) = c.linked k out in
     let small : h.size ≤ 64 = plain.good.size.small in
-    let below : head < h.size = good.holds.queue.driven.below k out in
+    let below : head < h.size = head_below q h m.scene (m.lanes q).driver (m.lanes q).batch (m.lanes q).phase k good.holds.queue out in
     let body : was.body < h.size = was.body_fits in
     let status : was.status < h.size = was.status_fits in
     let wide : IsWide h.capacity (Some was.request) = subst (λ (o : Option Asked). IsWide h.capacity o) was.is (good.holds.known.wide k out.below) in
     chain_same q h.size s.memory (put_all sts s.memory) head was.body was.status was.request was.stands
-    (chain_stays q h.capacity v.owner w.head head was.body was.status was.request sts s.memory wide (omega arith) (omega arith) (omega arith) (waits.apart k out) (good.holds.queue.driven.owned k out) was.body_mine was.status_mine mine was.stands)
+    (chain_stays q h.capacity v.owner w.head head was.body was.status was.request sts s.memory wide (omega arith) (omega arith) (omega arith) (waits.apart k out) (head_owned q h m.scene (m.lanes q).driver (m.lanes q).batch (m.lanes q).phase k good.holds.queue out) was.body_mine was.status_mine mine was.stands)
 
 stored_described : (q : ℕ) (h : Header1) (m : Moment) (w : Waiting) (sts : List Store) → IsPlain h → Good q h m → ChainedAt q h m → IsWaiting q h.size h.capacity m.scene.past (m.scene.heads q) (m.lanes q).driver w → AreMine q (m.lanes q).driver.owner w.head sts → DescribedAt q h m
     → Described q h.size (record m.scene { memory = put_all sts m.scene.memory })
@@ -217,7 +219,7 @@ collect_all q h m plain good c = go (seen (the_ring q h.size) m.scene.memory (h.
     go : (xs : List (ℕ × ℕ)) → seen (the_ring q h.size) m.scene.memory (h.base + collected m.scene.past q) ≡ xs → DescribedAt q h (take_first h q xs m).next
     go [] e = c
     go (x ∷ xs) e =
-        let t : IsTaken q h m.scene (m.lanes q) x.0 = first_seen q h m.scene (m.lanes q) x xs plain.good good.holds e in
+        let t : IsTaken q h m.scene (m.lanes q) x.0 = queue_first q h m.scene (m.lanes q) x xs plain.good good.holds e in
         record { many = c.many; stands = λ k out. c.stands k (later_out q h m.scene (m.lanes q) x.0 k (next_number q m.scene) t out).0 }
 
 -- ---- turns

@@ -23,10 +23,10 @@ use Rattle.vub_steps.specs.Tasks.{RequestStep, Look, Put, Act, Sync, Status, tas
 use Rattle.vub_run.specs.Turns.{course_of, is_rest, turned, phase_turn, phase_goes_on, under_way, begun, work_turn, request_turn, task_turn}
 use Rattle.vub_run_laws.proofs.RunNumbers.{filter_none}
 use Rattle.vub_run_laws.proofs.RunOwn.{at_own}
-use Rattle.vub_run_laws.proofs.RunFacts.{phase_at}
+use Rattle.vub_run_laws.proofs.RunQueue.{phase_at}
 use Rattle.vub_run_laws.proofs.RunGood.{Known}
 use Rattle.vub_run_laws.proofs.RunWork.{Fine}
-use Rattle.vub_run_laws.proofs.RunPhases.{some_waits}
+use Rattle.vub_run_laws.proofs.RunQueue.{queue_ahead}
 use Rattle.vub_run_laws.proofs.RunTurns.{IsPlain, Good, phase_cases, turn_fine}
 use Rattle.vub_run_laws.proofs.RunEvents.{Right, turn_right, drain_right}
 
@@ -147,7 +147,7 @@ ends_drained q h before n plain good attached low ends =
             | inl more ↦ absurd (grind (arith, nat_tests, none.fetch))
             | inr zero_waits ↦ omega arith
           ] in
-          (none_left q h n plain good run rest.0 rest.1 none.work none.publish, omega (arith, nothing_waits, some_waits q h n.scene l plain.good good.holds, known.offers_are))
+          (none_left q h n plain good run rest.0 rest.1 none.work none.publish, omega (arith, nothing_waits, queue_ahead q h n.scene l plain.good good.holds, known.offers_are))
       | inr many ↦
           let fetches : nat_lt a h.size ≡ false = grind (arith, nat_tests) in
           let none : NoneLeft h.size st = draining_unready h.size st (subst (λ (b : Bool). is_ready st (if b then any_turn h.size st else draining_turn h.size st) ≡ false) fetches unready) in

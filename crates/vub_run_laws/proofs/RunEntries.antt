@@ -43,11 +43,12 @@ use Rattle.vub_run.specs.TaskItems.{look_items, act_items}
 use Rattle.vub_run.specs.Turns.{course_of, turned, row_items, entry_items, step_stores, phase_turn, phase_goes_on, under_way, work_turn, request_turn, task_turn}
 use Rattle.vub_run_laws.proofs.Runs.{plain_header}
 use Rattle.vub_run_laws.proofs.RunEvents.{Right, turn_right}
-use Rattle.vub_run_laws.proofs.RunGood.{IsWide, IsWaiting}
+use Rattle.vub_run_laws.proofs.RunGood.{IsWide}
 use Rattle.vub_run_laws.proofs.RunGuests.{waits_well}
 use Rattle.vub_run_laws.proofs.RunsLegal.{some_queue, IsHeld, held_right, held_next, right_past}
 use Rattle.vub_run_laws.proofs.RunTurns.{IsPlain, Good}
 use Rattle.vub_run_laws.proofs.RunWork.{sector_long}
+use Rattle.vub_run_laws.proofs.RunHolds.{IsWaiting}
 
 -- an entry of that kind that isn't an offer
 abbrev IsMade : Entry → Type 0

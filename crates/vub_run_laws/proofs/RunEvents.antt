@@ -1,10 +1,9 @@
 -- Every event keeps what holds; its entries are legal, and memory tracks them.
-use Rattle.std.proofs.Common.{◌≡◌, ◌≤◌, ◌<◌, ℕ, zero, suc, ◌+◌, Bool, true, false, not, cond, List, [], ◌∷◌, ◌++◌, length, drop, refl, ap, sym, ◌∙◌, subst, inl, inr, arith}
+use Rattle.std.proofs.Common.{◌≡◌, ◌≤◌, ◌<◌, ℕ, zero, suc, Bool, true, false, not, cond, List, [], ◌∷◌, ◌++◌, length, drop, refl, ap, sym, ◌∙◌, subst, inl, inr, arith}
 use Rattle.std.specs.Prelude.{Option, Some, None, is_some, ◌&&◌}
-use Rattle.std.specs.List.{AllByRecursion}
 use Rattle.std.proofs.lemmas.Bool.Decides.{nat_tests}
 use Rattle.std.proofs.lemmas.Bool.{cases_lt}
-use Rattle.std.proofs.lemmas.List.{length-append, drop_all}
+use Rattle.std.proofs.lemmas.List.{length-drop, drop_all}
 use Rattle.vub_run_laws.proofs.RunOwn.{at_own}
 use Rattle.vub_run_laws.proofs.RunQueues.{IsOn}
 use Rattle.vub_base.specs.declared.header.Header1.{Header1}
@@ -16,15 +15,13 @@ use Rattle.vub_steps.specs.declared.readiness.Turn.{Turn}
 use Rattle.vub_steps.specs.declared.readiness.Turn.TheVariants.{Start, Fetch, Work, Publish}
 use Rattle.vub_steps.specs.declared.steps.Phase.{Phase}
 use Rattle.vub_steps.specs.declared.steps.Phase.TheVariants as phases
-use Rattle.vub_ring.specs.Ring.{seen}
 use Rattle.vub_steps.specs.Readiness.{is_ready}
-use Rattle.vub_driver.specs.Drivers.{Driver, Waiting, can_take, after_ask, with_left, without_owner}
-use Rattle.vub_driver.specs.Stores.{offer_stores}
+use Rattle.vub_driver.specs.Drivers.{Driver, Waiting, can_take, with_left, without_owner}
 use Rattle.vub_device.specs.declared.entry.Asked.{Asked}
 use Rattle.vub_device.specs.declared.entry.Entry.{Entry}
 use Rattle.vub_device.specs.declared.entry.Entry.TheVariants as entries
 use Rattle.vub_device.specs.Legal.{LegalFrom, after}
-use Rattle.vub_device.specs.Past.{asked, accepted, collected, is_among, started}
+use Rattle.vub_device.specs.Past.{asked, accepted, is_among, started}
 use Rattle.vub_schedule.specs.declared.types.Event.{Event}
 use Rattle.vub_schedule.specs.declared.types.Event.TheVariants as events
 use Rattle.vub_schedule.specs.Spelling.{IsAsk, IsEvent}
@@ -37,16 +34,17 @@ use Rattle.vub_device.specs.Requests.{request_of}
 use Rattle.vub_run.specs.Tracking.{Tracks, AfterEach}
 use Rattle.vub_report.specs.Histories.{entries_of}
 use Rattle.vub_run.specs.Turns.{turned}
-use Rattle.vub_run_laws.proofs.RunQueue.{queue_rests}
-use Rattle.vub_run_laws.proofs.RunFacts.{phase_at}
-use Rattle.vub_run_laws.proofs.RunGood.{the_ring, index_store, IsHarmless, IsLeft, IsWaiting, EntryWell, EntryStands, IsPending, PhaseIs, Worked, Holds}
-use Rattle.vub_run_laws.proofs.RunGuests.{holds_track, offered, Offered, guest_holds, last_holds, Unoffered, part_holds, left_after, left_some, left_waits, rest_waits, waits_well}
+use Rattle.vub_run_laws.proofs.RunQueue.{phase_at, queue_rests, queue_left, queue_stands, queue_first, queue_free, takes, sees}
+use Rattle.vub_run_laws.proofs.RunGood.{IsPending, PhaseIs, Worked}
+use Rattle.vub_run_laws.proofs.RunHolds.{Holds, EntryStands}
+use Rattle.vub_run_laws.proofs.RunGuests.{holds_track, offered, Offered, guest_holds, Unoffered, part_holds, left_waits, rest_waits, waits_well}
 use Rattle.vub_run_laws.proofs.RunWork.{Fine}
 use Rattle.vub_run_laws.proofs.RunItems.{after-append, each-append, legal-append, past_after}
 use Rattle.vub_report.proofs.HistoryLemmas.{entries-append}
 use Rattle.vub_run_laws.proofs.RunTurns.{IsPlain, Good, turn_fine}
 use Rattle.vub_run_laws.proofs.RunAsks.{plain_ask, ask_holds}
-use Rattle.vub_run_laws.proofs.RunCollects.{IsTaken, next_number, after_taken, taken_holds, taken_legal, first_seen}
+use Rattle.vub_run_laws.proofs.RunTaken.{IsTaken, next_number}
+use Rattle.vub_run_laws.proofs.RunCollects.{taken_holds, taken_legal}
 
 -- items from one moment to another
 pub record Right (q : ℕ) (h : Header1) (m : Moment) (is : List Item) (next : Moment) : Type 0 where
@@ -99,8 +97,8 @@ lane_good q h n l holds asleep idle =
     }
 
 ask_right : (q : ℕ) (h : Header1) (m : Moment) (a : Ask) → IsPlain h → Good q h m → IsAsk h a → Leads q h m (ask h q Direct a m)
-ask_right q h m a plain good is = tested q h m (can_take h.size Direct a (m.lanes q).driver) (played [] (with_lane q (with_driver (after_ask (the_ring q h.size) a (m.lanes q).driver) (m.lanes q)) m)) plain good (λ ready. record {
-  good = lane_good q h m (with_driver (after_ask (the_ring q h.size) a (m.lanes q).driver) (m.lanes q)) (ask_holds q h m.scene (m.lanes q) a plain.good (plain_ask h a is) ready good.holds) good.asleep good.idle;
+ask_right q h m a plain good is = tested q h m (can_take h.size Direct a (m.lanes q).driver) (played [] (with_lane q (with_driver (takes q h a (m.lanes q).driver) (m.lanes q)) m)) plain good (λ ready. record {
+  good = lane_good q h m (with_driver (takes q h a (m.lanes q).driver) (m.lanes q)) (ask_holds q h m.scene (m.lanes q) a plain.good (plain_ask h a is) ready good.holds) good.asleep good.idle;
   each = tt;
   scene = refl;
   legal = tt;
@@ -125,47 +123,34 @@ StoresRight q h m w count left = Leads q h m (comes_about h q (guest_items count
 nothing_left : (q : ℕ) (h : Header1) (m : Moment) (w : Waiting) (count : ℕ) (left : List Store) → length left ≤ count → Leads q h m (comes_about h q (guest_items count q w.ask left) (offered (m.lanes q)) m) → StoresRight q h m w count left
 nothing_left q h m w count left enough all = subst (λ (rest : List Store). Leads q h m (comes_about h q (guest_items count q w.ask left) (with_driver (with_left w rest (m.lanes q).driver) (m.lanes q)) m)) (sym (drop_all count left enough)) all
 
--- fewer stores of a plan than are left: nothing is offered
-guest_part : (q : ℕ) (h : Header1) (m : Moment) (w : Waiting) (count : ℕ) (first : List Store) → IsPlain h → Good q h m → (m.lanes q).driver.waiting ≡ Some w → AllByRecursion (IsHarmless q w.head) first → length first ≤ 14 → count < length first + 2
-    → StoresRight q h m w count (first ++ offer_stores (the_ring q h.size) (m.lanes q).driver.avail_idx w.head)
-guest_part q h m w count first plain good waiting harmless few less =
+-- fewer stores than are left: nothing is offered
+guest_part : (q : ℕ) (h : Header1) (m : Moment) (w : Waiting) (count : ℕ) → IsPlain h → Good q h m → (m.lanes q).driver.waiting ≡ Some w → count < length w.left → StoresRight q h m w count w.left
+guest_part q h m w count plain good waiting less =
     let l : Lane = m.lanes q in
-    let stores : List Store = first ++ offer_stores (the_ring q h.size) l.driver.avail_idx w.head in
-    let is : List Item = guest_items count q w.ask stores in
-    let part : Unoffered q h m.scene l is = part_holds q h m.scene l w count first plain.good (waits_well q h m.scene l w waiting good.holds) harmless less good.holds in
+    let is : List Item = guest_items count q w.ask w.left in
+    let part : Unoffered q h m.scene l w is (drop count w.left) = part_holds q h m.scene l w count w.left plain.good (waits_well q h m.scene l w waiting good.holds) less good.holds in
     let s' : Scene = after_items h is m.scene in
-    let rest : IsLeft q h.size l.driver.avail_idx w.head (drop count stores) = left_after q h.size l.driver.avail_idx w.head count first harmless few less in
-    let v' : Driver = record (l.driver) { waiting = Some (record w { left = drop count stores }) } in
+    let v' : Driver = record (l.driver) { waiting = Some (record w { left = drop count w.left }) } in
     let next : Leads q h m (comes_about h q is (with_driver v' l) m) = record {
-      good = lane_good q h (record m { scene = s' }) (with_driver v' l) (rest_waits q h s' l w (drop count stores) (waits_well q h s' l w waiting part.holds) rest part.holds)
+      good = lane_good q h (record m { scene = s' }) (with_driver v' l) (rest_waits q h s' l w (drop count w.left) part.waits part.holds)
           (λ dead. ((good.asleep dead).0, ap (λ (p : List Entry). started p q) part.past ∙ (good.asleep dead).1))
           (λ stopped. ap (λ (p : List Entry). accepted p q) part.past ∙ good.idle (sym (ap (λ (p : List Entry). started p q) part.past) ∙ stopped));
       each = part.each;
       scene = refl;
       legal = subst (λ (es : List Entry). LegalFrom h.capacity h.mode m.scene.past es) (sym part.none) tt;
     } in
-    subst (λ (v : Driver). Leads q h m (comes_about h q is (with_driver v l) m)) (sym (left_waits w (drop count stores) l.driver (left_some q h.size l.driver.avail_idx w.head (drop count stores) rest))) next
+    subst (λ (v : Driver). Leads q h m (comes_about h q is (with_driver v l) m)) (sym (left_waits w (drop count w.left) l.driver (omega (arith, length-drop count w.left)))) next
 
 -- the next stores of the request that waits
 guest_some : (q : ℕ) (h : Header1) (m : Moment) (w : Waiting) (count : ℕ) → IsPlain h → Good q h m → EntryStands q h m → 1 ≤ count → (m.lanes q).driver.waiting ≡ Some w → StoresRight q h m w count w.left
 guest_some q h m w count plain good entry some waiting =
     let l : Lane = m.lanes q in
-    let waits : IsWaiting q h.size h.capacity m.scene.past (m.scene.heads q) l.driver w = waits_well q h m.scene l w waiting good.holds in
-    elim waits.plan [
-      | inl plan ↦
-          let stores : List Store = plan.first ++ offer_stores (the_ring q h.size) l.driver.avail_idx w.head in
-          let long : length stores ≡ length plan.first + 2 = length-append plan.first (offer_stores (the_ring q h.size) l.driver.avail_idx w.head) in
-          let here : StoresRight q h m w count stores = elim (cases_lt count (length plan.first + 2)) [
-            | inl less ↦ guest_part q h m w count plan.first plain good waiting plan.harmless plan.few less
-            | inr enough ↦
-                nothing_left q h m w count stores (omega (arith, long)) (offers_right q h m (request_of w.ask) (guest_items count q w.ask stores) good (guest_holds q h h.mode m.scene l w count plan.first plain.good waits plan.harmless enough good.holds))
-          ] in
-          subst (λ (left : List Store). StoresRight q h m w count left) (sym plan.whole) here
-      | inr last ↦
-          let stores : List Store = index_store (the_ring q h.size) l.driver.avail_idx ∷ [] in
-          let well : EntryWell q h.size (h.base + length (m.scene.heads q)) m.scene.memory (Some w) = subst (λ (o : Option Waiting). EntryWell q h.size (h.base + length (m.scene.heads q)) m.scene.memory o) waiting entry in
-          let here : StoresRight q h m w count stores = nothing_left q h m w count stores (omega (arith, some)) (offers_right q h m (request_of w.ask) (guest_items count q w.ask stores) good (last_holds q h h.mode m.scene l w count plain.good waits (omega (arith, some)) good.holds (well (ap length last)))) in
-          subst (λ (left : List Store). StoresRight q h m w count left) (sym last) here
+    let waits = waits_well q h m.scene l w waiting good.holds in
+    elim (cases_lt count (length w.left)) [
+      | inl less ↦ guest_part q h m w count plain good waiting less
+      | inr enough ↦
+          let left : 0 < length w.left = queue_left q h.size h.capacity m.scene.past (m.scene.heads q) l.driver (record w { left = w.left }) waits in
+          nothing_left q h m w count w.left enough (offers_right q h m (request_of w.ask) (guest_items count q w.ask w.left) good (guest_holds q h h.mode m.scene l w count w.left plain.good waits (queue_stands q h m w waiting entry) left enough good.holds))
     ]
 
 guest_right : (q : ℕ) (h : Header1) (m : Moment) (count : ℕ) → IsPlain h → Good q h m → EntryStands q h m → 1 ≤ count → Leads q h m (guest h q count m)
@@ -176,13 +161,13 @@ guest_right q h m count plain good entry some = tested q h m (is_some (m.lanes q
     go (Some w) e = guest_some q h m w count plain good entry some e
 
 collect_right : (q : ℕ) (h : Header1) (m : Moment) → IsPlain h → Good q h m → Leads q h m (collect h q m)
-collect_right q h m plain good = go (seen (the_ring q h.size) m.scene.memory (h.base + collected m.scene.past q)) refl
+collect_right q h m plain good = go (sees q h m.scene) refl
   where
-    go : (xs : List (ℕ × ℕ)) → seen (the_ring q h.size) m.scene.memory (h.base + collected m.scene.past q) ≡ xs → Leads q h m (take_first h q xs m)
+    go : (xs : List (ℕ × ℕ)) → sees q h m.scene ≡ xs → Leads q h m (take_first h q xs m)
     go [] e = idle_right q h m plain good
     go (x ∷ xs) e =
         let l : Lane = m.lanes q in
-        let t : IsTaken q h m.scene l x.0 = first_seen q h m.scene l x xs plain.good good.holds e in
+        let t : IsTaken q h m.scene l x.0 = queue_first q h m.scene l x xs plain.good good.holds e in
         let k : ℕ = next_number q m.scene in
         let v : Driver = record l.driver { owner = without_owner x.0 l.driver.owner } in
         let next = taken_holds q h m.scene l x.0 k t in
@@ -192,7 +177,7 @@ collect_right q h m plain good = go (seen (the_ring q h.size) m.scene.memory (h.
           scene = refl;
           legal = (taken_legal q h m.scene l x.0 t, tt);
         } in
-        subst (λ (d : Driver). Leads q h m (comes_about h q (items.Made (entries.Collect q k) ∷ []) (with_driver d l) m)) (sym (after_taken q h m.scene l x.0 t)) whole
+        subst (λ (d : Driver). Leads q h m (comes_about h q (items.Made (entries.Collect q k) ∷ []) (with_driver d l) m)) (sym (queue_free q h m.scene l x.0 t)) whole
 
 -- ---- lives
 

@@ -10,6 +10,9 @@ use Rattle.vub_report.specs.declared.items.Item.TheVariants as items
 use Rattle.vub_run.specs.Memory.{Scene, after_item, after_items}
 use Rattle.vub_run.specs.Tracking.{GoesWithNext, AfterEach}
 use Rattle.vub_report.specs.Histories.{entries_of}
+use Rattle.vub_run.specs.Lawful.{IsLawfulItem}
+use Rattle.std.specs.List.{AllByRecursion}
+use Rattle.vub_schedule.specs.declared.types.Event.{Event}
 
 goes_on-append : (i : Item) (is js : List Item) → GoesWithNext i is → GoesWithNext i (is ++ js)
 goes_on-append (items.Store tag area place bytes) [] js g = absurd g
@@ -66,3 +69,11 @@ past_after h [] s = refl
 past_after h (items.Made e ∷ is) s = past_after h is (after_item h (items.Made e) s) ∙ ap (λ (past : List Entry). after past (entries_of is)) (entry_past h e s)
 past_after h (items.Store tag area place bytes ∷ is) s = past_after h is (after_item h (items.Store tag area place bytes) s)
 past_after h (items.Idle ∷ is) s = past_after h is s
+
+-- neither a store of a driver nor an offer
+pub record IsQuiet (h : Header1) (i : Item) : Type 0 where
+  pub lawful : (e : Event) (s : Scene) → IsLawfulItem h e s i
+  pub kept : (s : Scene) → (after_item h i s).descriptors ≡ s.descriptors
+
+abbrev pub AreQuiet : Header1 → List Item → Type 0
+AreQuiet h is = AllByRecursion (IsQuiet h) is

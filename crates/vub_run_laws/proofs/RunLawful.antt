@@ -1,4 +1,4 @@
--- Every store of the driver in a run is lawful where it is made.
+-- Split chains. Every store of the driver in a run is lawful where it is made.
 use Rattle.std.proofs.Common.{true, ◌≡◌, ◌≢◌, ◌≤◌, ◌<◌, ℕ, zero, suc, ◌+◌, ◌%◌, false, List, [], ◌∷◌, ◌++◌, length, refl, ap, sym, ◌∙◌, subst, inl, inr, arith}
 use Rattle.std.specs.Prelude.{Option, Some, None, get_or, slice_index, is_some}
 use Rattle.std.specs.List.{AllByRecursion}
@@ -23,10 +23,11 @@ use Rattle.vub_run.specs.Lawful.{IsOutstanding, HasRoom, next_index, IsLawful, I
 use Rattle.vub_run.specs.Memory.{Scene}
 use Rattle.vub_run.specs.Moments.{Moment, opening}
 use Rattle.vub_run.specs.Run.{RunTo, Stands, Played, if_ready, guest_items, guest, guest_stores, Plays, RunFrom, Run}
-use Rattle.vub_run_laws.proofs.RunGood.{the_ring, IsSize, IsOut, index_store, IsHarmless, IsLeft, IsWaiting, Known, Driven}
-use Rattle.vub_run_laws.proofs.RunFrames.{keeps, entry_small, length_little}
+use Rattle.vub_run_laws.proofs.RingGood.{the_ring, index_store, IsHarmless, IsWaiting, IsLeft}
+use Rattle.vub_run_laws.proofs.RunGood.{IsSize, IsOut, Known}
+use Rattle.vub_run_laws.proofs.RunFrames.{keeps, length_little}
+use Rattle.vub_run_laws.proofs.RingFrames.{entry_small}
 use Rattle.vub_run_laws.proofs.RunGuests.{waits_well}
-use Rattle.vub_run_laws.proofs.RunOffers.{offer_room}
 use Rattle.vub_run_laws.proofs.RunTurns.{IsPlain}
 use Rattle.vub_run_laws.proofs.RunEvents.{Right}
 use Rattle.vub_run_laws.proofs.Runs.{plain_header}
@@ -37,6 +38,7 @@ use Rattle.vub_run_laws.proofs.RunQueues.{IsOn, on_one}
 use Rattle.vub_run_laws.proofs.RunQuiet.{quiet_lawful, event_quiet}
 use Rattle.vub_run_laws.proofs.RunDescriptors.{DescribedAt, chain_owned, event_described, opening_described}
 use Rattle.vub_run_laws.proofs.RunParts.{IsPart, AreParts, left_parts}
+use Rattle.vub_run_laws.proofs.RunQueue.{kept_index, queue_room, offered_index, head_owned}
 
 -- what the driver of a queue may store at a scene for the request of that head, whatever memory holds
 record MayStore (q : ℕ) (h : Header1) (s : Scene) (index head : ℕ) (owner : ℕ → Option ℕ) : Type 0 where
@@ -151,11 +153,10 @@ may_store q h m w plain held x waits =
     let s : Scene = m.scene in
     let v : Driver = (m.lanes q).driver in
     let known : Known q h.size h.capacity s.past (s.heads q) = held.good.holds.known in
-    let driven : Driven q h.size h.capacity h.base s.past (s.heads q) v = held.good.holds.queue.driven in
     let out_of : (k : ℕ) → IsOutstanding q s k → IsOut q s.past (s.heads q) k = λ k out. record { below = omega (arith, out.offered, known.offers_are); kept = out.kept } in record {
       size = plain.good.size;
-      index_is = driven.index ∙ ap (λ (c : ℕ). (h.base + c) % 65536) known.offers_are;
-      room = let room = offer_room q h.size h.capacity h.base s.past (s.heads q) v w known driven waits in omega (arith, room, known.offers_are);
+      index_is = kept_index q h m.scene (m.lanes q).driver (m.lanes q).batch (m.lanes q).phase held.good.holds.queue ∙ ap (λ (c : ℕ). (h.base + c) % 65536) known.offers_are;
+      room = let room = queue_room q h m.scene (m.lanes q).driver (m.lanes q).batch (m.lanes q).phase w known waits held.good.holds.queue in omega (arith, room, known.offers_are);
       low = waits.below;
       unused = λ k out. waits.apart k (out_of k out);
       unlinked = λ d mine k out. elim (cases_Bool (is_among (get_or (s.descriptors q) k []) d)) [
@@ -163,7 +164,7 @@ may_store q h m w plain held x waits =
             let o : IsOut q s.past (s.heads q) k = out_of k out in
             let head : ℕ = slice_index (s.heads q) k in
             let there : is_among (chain_in (the_ring q h.size) s.memory head) d ≡ true = ap (λ (xs : List ℕ). is_among xs d) (sym (x.stands k o)) ∙ among in
-            let theirs : v.owner d ≡ Some head = chain_owned q h.size v.owner s.memory head d (asked s.past q k) (driven.owned k o) (held.chained.linked k o) there in
+            let theirs : v.owner d ≡ Some head = chain_owned q h.size v.owner s.memory head d (asked s.past q k) (head_owned q h m.scene (m.lanes q).driver (m.lanes q).batch (m.lanes q).phase k held.good.holds.queue o) (held.chained.linked k o) there in
             let both : Some head ≡ Some w.head = sym theirs ∙ mine in
             absurd (waits.apart k o (let same : head ≡ w.head = cc in same))
         | inr free ↦ free
@@ -180,7 +181,7 @@ guest_lawful q h many m plain held x = go (m.lanes q).driver.waiting refl
         let waits : IsWaiting q h.size h.capacity m.scene.past (m.scene.heads q) v w = waits_well q h m.scene (m.lanes q) w e held.good.holds in
         let ready : IsPrepared q h.size m.scene.memory v w = subst (λ (o : Option Waiting). PreparedWell q h.size m.scene.memory v o) e held.chained.waits in
         left_lawful q h many m.scene v.avail_idx w.head v.owner w.ask many w.left (may_store q h m w plain held x waits) waits.plan
-        (left_parts q h.size h.capacity m.scene.past (m.scene.heads q) m.scene.memory v w waits ready) (held.good.holds.queue.ringed.avail_idx_is ∙ sym held.good.holds.queue.driven.index)
+        (left_parts q h.size h.capacity m.scene.past (m.scene.heads q) m.scene.memory v w waits ready) (offered_index q h m.scene (m.lanes q).driver (m.lanes q).batch (m.lanes q).phase held.good.holds.queue)
 
 event_lawful : (q : ℕ) (h : Header1) (m : Moment) (e : Event) (is : List Item) (next : Moment) → IsPlain h → HoldsOf q h m → DescribedAt q h m → IsOn q e → Plays h m e is next → BeforeEach h (IsLawfulItem h e) m.scene is
 event_lawful q h m (events.Guest p k) is next plain held x on plays =

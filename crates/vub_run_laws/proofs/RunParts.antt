@@ -1,4 +1,4 @@
--- Where each store of a request goes: into its buffer, into a descriptor that belongs to its head, into the avail entry
+-- Split chains. Where each store of a request goes: into its buffer, into a descriptor that belongs to its head, into the avail entry
 -- of the driver's index, or to avail.idx.
 use Rattle.std.proofs.Common.{◌≡◌, ◌≤◌, ◌<◌, ◌⊎◌, ℕ, ◌+◌, ◌%◌, Bool, true, false, List, [], ◌∷◌, ◌++◌, length, refl, sym, subst, inl, inr, arith}
 use Rattle.std.specs.Prelude.{Option, Some}
@@ -16,7 +16,8 @@ use Rattle.vub_driver.specs.Requests.{Piece, pieces, written_bytes, header_bytes
 use Rattle.vub_driver.specs.Stores.{store_of_some, buffer_stores, chain_stores, offer_stores, request_stores}
 use Rattle.vub_device.specs.declared.entry.Entry.{Entry}
 use Rattle.vub_device.specs.Requests.{request_of}
-use Rattle.vub_run_laws.proofs.RunGood.{the_ring, IsWide, IsWaiting}
+use Rattle.vub_run_laws.proofs.RingGood.{the_ring, IsWaiting}
+use Rattle.vub_run_laws.proofs.RunGood.{IsWide}
 use Rattle.vub_run_laws.proofs.RunFrames.{length_little}
 use Rattle.vub_run_laws.proofs.RunChains.{buffer_at, chain_of, desc_long}
 use Rattle.vub_run_laws.proofs.RunChainsStores.{header_long}

@@ -1,5 +1,5 @@
 -- Start and fetch keep what holds, and so does the begin of a publication.
-use Rattle.std.proofs.Common.{◌≡◌, ◌≤◌, ◌<◌, ℕ, ◌+◌, true, false, List, [], ◌∷◌, ◌++◌, length, take, drop, refl, ap, sym, ◌∙◌, subst, inl, inr, arith, Bool}
+use Rattle.std.proofs.Common.{◌≡◌, ◌≤◌, ◌<◌, ℕ, true, false, List, [], ◌∷◌, ◌++◌, length, take, drop, refl, ap, sym, ◌∙◌, subst, inl, inr, arith, Bool}
 use Rattle.std.specs.Prelude.{Option, Some, None, ◌||◌, if◌then◌else◌}
 use Rattle.std.proofs.lemmas.Bool.Decides.{nat_tests}
 use Rattle.std.proofs.lemmas.Bool.{cases_lt, cases_Bool, or_right}
@@ -8,7 +8,6 @@ use Rattle.vub_base.specs.declared.header.Header1.{Header1}
 use Rattle.vub_steps.specs.declared.steps.Phase.{Phase}
 use Rattle.vub_steps.specs.declared.steps.Phase.TheVariants as phases
 use Rattle.vub_steps.specs.declared.readiness.Turn.TheVariants as turns
-use Rattle.vub_ring.specs.Ring.{ahead, avail_idx}
 use Rattle.vub_device.specs.declared.entry.Asked.{Asked}
 use Rattle.vub_device.specs.declared.entry.Asked.TheVariants as asks
 use Rattle.vub_device.specs.declared.entry.Entry.{Entry}
@@ -23,13 +22,12 @@ use Rattle.vub_run.specs.Turns.{under_way, phase_goes_on}
 use Rattle.vub_run_laws.proofs.RunOwn.{accepted_own, started_own, looks_start, acts_start, bytes_start, synced_start, faulted_start}
 use Rattle.vub_run_laws.proofs.RunNumbers.{distinct_join}
 use Rattle.vub_facts.proofs.HeadLemmas.{distinct_parts}
-use Rattle.vub_run_laws.proofs.RunGood.{the_ring, IsPending, Worked, Holds, PhaseIs}
-use Rattle.vub_run_laws.proofs.RunTracks.{ahead_by}
+use Rattle.vub_run_laws.proofs.RunGood.{IsPending, PhaseIs, Worked, IsGood}
+use Rattle.vub_run_laws.proofs.RunHolds.{Holds}
 use Rattle.vub_run_laws.proofs.RunEfforts.{weight, effort, sum_below, sum_more, weight_small, sum_moved}
-use Rattle.vub_run_laws.proofs.RunGuests.{IsGood, holds_track}
+use Rattle.vub_run_laws.proofs.RunGuests.{holds_track}
 use Rattle.vub_run_laws.proofs.RunWork.{Fine}
-use Rattle.vub_run_laws.proofs.RunQueue.{queue_entry, queue_begins}
-use Rattle.vub_run_laws.proofs.RunFacts.{phase_at, words_rest, words_rest_at, batch_begins_at}
+use Rattle.vub_run_laws.proofs.RunQueue.{phase_at, queue_entry, queue_begins}
 
 -- the lane at rest
 abbrev pub resting : Lane → Lane
@@ -73,8 +71,8 @@ start_holds q h s l list stopped x = let rest : l.phase ≡ phases.Rest = (x.wor
     sectors = λ k i is_open kept read. absurd (let zero_made : l.made k ≡ 0 = (x.worked.quiet stopped).1.1 k in omega (arith, kept.put));
     status = x.stored.status;
   };
-  queue = queue_entry q h s (entries.Start q list ∷ s.past) l.driver l.batch l.phase (record { accepts = omega arith; shows = refl; collects = omega arith; asks = λ j. refl }) refl
-      (words_rest_at q h (record s { past = entries.Start q list ∷ s.past }) l.batch l.phase rest (subst (λ (p : Phase). PhaseIs l.batch p) rest (phase_at q h s l x)) (words_rest q h (record s { past = entries.Start q list ∷ s.past }) (started_own s.past q list) x.queue.words.used_fits)) x.queue;
+  queue = queue_entry q h s (entries.Start q list ∷ s.past) l.driver l.batch l.phase (record { accepts = omega arith; shows = refl; collects = omega arith; asks = λ j. refl }) refl (started_own s.past q list) rest
+      (subst (λ (p : Phase). PhaseIs l.batch p) rest (phase_at q h s l x)) x.queue;
 }
 
 pub start_fine : (q : ℕ) (h : Header1) (s : Scene) (l : Lane) → IsGood h → started s.past q ≡ false → Holds q h s (resting l) → Fine q h s (resting l) (phase_goes_on h q s (under_way turns.Start (resting l)))
@@ -147,18 +145,9 @@ accept_holds q h s l k run rest more x = record {
     }) kept read;
     status = x.stored.status;
   };
-  queue = queue_entry q h s (entries.Accept q k ∷ s.past) l.driver l.batch l.phase (record { accepts = omega (arith, accepted_own s.past q k); shows = refl; collects = omega arith; asks = λ j. refl }) refl
-      (words_rest_at q h (record s { past = entries.Accept q k ∷ s.past }) l.batch l.phase rest (subst (λ (p : Phase). PhaseIs l.batch p) rest (phase_at q h s l x)) (words_rest q h (record s { past = entries.Accept q k ∷ s.past }) run x.queue.words.used_fits)) x.queue;
+  queue = queue_entry q h s (entries.Accept q k ∷ s.past) l.driver l.batch l.phase (record { accepts = omega (arith, accepted_own s.past q k); shows = refl; collects = omega arith; asks = λ j. refl }) refl run rest
+      (subst (λ (p : Phase). PhaseIs l.batch p) rest (phase_at q h s l x)) x.queue;
 }
-
--- where something waits, an offer isn't accepted
-pub some_waits : (q : ℕ) (h : Header1) (s : Scene) (l : Lane) → IsGood h → Holds q h s l → ahead (avail_idx (the_ring q h.size) s.memory) (h.base + accepted s.past q) + accepted s.past q ≡ length (s.heads q)
-some_waits q h s l good x =
-    let small : h.size ≤ 64 = good.size.small in
-    let room = x.known.room in
-    let shown = x.known.shown in
-    let fewer = x.known.fewer in
-    ap (λ (u : ℕ). ahead u (h.base + accepted s.past q) + accepted s.past q) x.queue.ringed.avail_idx_is ∙ ahead_by h.base (length (s.heads q)) (accepted s.past q) x.known.offered (omega arith)
 
 pub fetch_fine : (q : ℕ) (h : Header1) (s : Scene) (l : Lane) → IsGood h → started s.past q ≡ true → accepted s.past q < length (s.heads q) → Holds q h s (resting l) → Fine q h s (resting l) (phase_goes_on h q s (under_way turns.Fetch (resting l)))
 fetch_fine q h s l good run more x =
@@ -217,9 +206,8 @@ taking_holds q h s l most some any run x =
         sectors = x.stored.sectors;
         status = λ k held. x.stored.status k (same k held);
       };
-      queue = queue_begins q h s l.driver (take most l.completed) [] phases.Rest
-          (batch_begins_at q h s l.driver (take most l.completed) x.known x.queue.driven (omega (arith, some, any, length-take most l.completed)) (distinct_parts (drop most l.completed) (take most l.completed) (swap_distinct most l.completed x.worked.distinct)).second (λ k held.
-          x.worked.opens k (same k (is_among_append (drop most l.completed) (take most l.completed) k ∙ or_right (is_among (drop most l.completed) k) (is_among (take most l.completed) k) held)))) x.queue;
+      queue = queue_begins q h s l.driver (take most l.completed) [] phases.Rest x.known (omega (arith, some, any, length-take most l.completed)) (distinct_parts (drop most l.completed) (take most l.completed) (swap_distinct most l.completed x.worked.distinct)).second (λ k held.
+          x.worked.opens k (same k (is_among_append (drop most l.completed) (take most l.completed) k ∙ or_right (is_among (drop most l.completed) k) (is_among (take most l.completed) k) held))) x.queue;
     }
 
 -- and what is left to do grows by no more than the store that follows

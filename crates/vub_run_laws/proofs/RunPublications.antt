@@ -1,41 +1,31 @@
 -- A publication keeps what holds, and its answers are those of a legal history.
-use Rattle.std.proofs.Common.{◌≡◌, ◌≤◌, ◌<◌, ℕ, zero, suc, ◌+◌, ◌*◌, ◌/◌, ◌^◌, Bool, true, false, List, [], ◌∷◌, ◌++◌, length, map, refl, ap, sym, ◌∙◌, subst, inr, arith}
-use Rattle.std.specs.Prelude.{Option, Some, slice_index, slice_get, option_map, nat_lt, if◌then◌else◌, All}
+use Rattle.std.proofs.Common.{◌≡◌, ◌≤◌, ◌<◌, ℕ, zero, suc, ◌+◌, ◌*◌, ◌/◌, true, List, [], ◌∷◌, ◌++◌, length, map, ap, sym, ◌∙◌, subst, arith}
+use Rattle.std.specs.Prelude.{Option, Some, slice_index, All}
 use Rattle.std.specs.List.{AllByRecursion}
-use Rattle.byteorder.specs.Endian.{little_bytes}
 use Rattle.std.proofs.lemmas.Bool.Decides.{nat_tests}
 use Rattle.std.proofs.lemmas.Bool.{or_right}
 use Rattle.std.proofs.lemmas.List.{ext_get_or}
 use Rattle.vub_base.specs.declared.header.CacheMode.TheVariants.{Back, Through}
 use Rattle.vub_base.specs.declared.header.Header1.{Header1}
-use Rattle.vub_base.specs.declared.store.Tag.TheVariants.{SP1, SP2}
 use Rattle.vub_shared.specs.Bytes.{Bytes, bytes_from}
 use Rattle.vub_shared.proofs.BytesLemmas.{length-bytes_from, get_or-bytes_from}
 use Rattle.vub_steps.specs.declared.steps.Phase.{Phase}
 use Rattle.vub_steps.specs.declared.steps.Phase.TheVariants as phases
-use Rattle.vub_steps.specs.declared.steps.Step.TheVariants as steps
-use Rattle.vub_ring.specs.Ring.{entry_of, used_id_place, used_len_place, used_idx}
-use Rattle.vub_steps.specs.Rows.{row}
-use Rattle.vub_steps.specs.Steps.{publish_steps}
 use Rattle.vub_driver.specs.Layout.{status_place, sectors_place}
 use Rattle.vub_device.specs.declared.entry.Answered.{Answered}
 use Rattle.vub_device.specs.declared.entry.Asked.{Asked}
 use Rattle.vub_device.specs.declared.entry.Asked.TheVariants as asks
 use Rattle.vub_device.specs.declared.entry.Entry.{Entry}
 use Rattle.vub_device.specs.Legal.{IsAnswer, IsDone}
-use Rattle.vub_device.specs.Past.{asked, published, numbers, is_among, IsOpen, started, looks, bytes_read, acts, synced}
+use Rattle.vub_device.specs.Past.{asked, is_among, IsOpen, started, looks, bytes_read, acts, synced}
 use Rattle.vub_device.specs.Requests.{look_at, effect_at}
 use Rattle.vub_device.proofs.Numbers.{is_among_append}
 use Rattle.vub_run.specs.Memory.{Scene}
 use Rattle.vub_run.specs.Moments.{Lane}
-use Rattle.vub_run.specs.Turns.{Turned, element_of, len_of, phase_turn, answer_at, answer_len, row_items, with_phase}
-use Rattle.vub_run_laws.proofs.RunNumbers.{among_at}
-use Rattle.vub_run_laws.proofs.RunGood.{the_ring, IsWide, IsReadTo, IsWrittenTo, IsFull, Worked, Stored, IsRead, buffer, Holds}
-use Rattle.vub_run_laws.proofs.RunFrames.{open_out}
-use Rattle.vub_run_laws.proofs.RunGuests.{IsGood, stored_at, holds_track}
+use Rattle.vub_run.specs.Turns.{answer_at, answer_len}
+use Rattle.vub_run_laws.proofs.RunGood.{IsWide, IsReadTo, IsWrittenTo, IsFull, Worked, Stored, IsRead, buffer, IsGood}
+use Rattle.vub_run_laws.proofs.RunHolds.{Holds}
 use Rattle.vub_run_laws.proofs.RunSteps.{wide_some, wide_served, looks_end, effects_end, read_to, written_to, flushed_to}
-use Rattle.vub_run_laws.proofs.RunWork.{Fine}
-use Rattle.vub_run_laws.proofs.RunElements.{steps_many, get_map, len_is, element_place, IsNextElement, one_on, id_holds, len_holds}
 
 -- the lane with so many stores of its publication made
 abbrev pub publishing : ℕ → Lane → Lane
@@ -48,88 +38,16 @@ pub record IsUnderWay (q : ℕ) (h : Header1) (s : Scene) (l : Lane) (done : ℕ
   pub started : started s.past q ≡ true
   pub holds : Holds q h s (publishing done l)
 
-pub more_left : (m done : ℕ) → done + 1 < 2 * m + 1 → nat_lt (done + 1) (length (publish_steps m)) ≡ true
-more_left m done l = let many : length (publish_steps m) ≡ 2 * m + 1 = steps_many 0 m in grind (arith, nat_tests)
-
-pub none_left : (m done : ℕ) → done ≡ 2 * m → nat_lt (done + 1) (length (publish_steps m)) ≡ false
-none_left m done l = let many : length (publish_steps m) ≡ 2 * m + 1 = steps_many 0 m in grind (arith, nat_tests)
-
 pub in_batch : (q : ℕ) (h : Header1) (s : Scene) (l : Lane) (done k : ℕ) → IsUnderWay q h s l done → is_among l.batch k ≡ true → is_among (l.completed ++ l.batch) k ≡ true
 in_batch q h s l done k x held = is_among_append l.completed l.batch k ∙ or_right (is_among l.completed k) (is_among l.batch k) held
 
 pub batch_open : (q : ℕ) (h : Header1) (s : Scene) (l : Lane) (done k : ℕ) → IsUnderWay q h s l done → is_among l.batch k ≡ true → IsOpen s.past q k
 batch_open q h s l done k x held = x.holds.worked.opens k (in_batch q h s l done k x held)
 
-pub batch_wide : (q : ℕ) (h : Header1) (s : Scene) (l : Lane) (done k : ℕ) → IsUnderWay q h s l done → is_among l.batch k ≡ true → IsWide h.capacity (asked s.past q k)
+batch_wide : (q : ℕ) (h : Header1) (s : Scene) (l : Lane) (done k : ℕ) → IsUnderWay q h s l done → is_among l.batch k ≡ true → IsWide h.capacity (asked s.past q k)
 batch_wide q h s l done k x held = (x.holds.known.wide k (omega (arith, (batch_open q h s l done k x held).taken, x.holds.known.offered)))
 
--- ---- the stores of elements
-
-abbrev id_turn : (q : ℕ) (h : Header1) (l : Lane) (done : ℕ) → Option (ℕ × ℕ) → ℕ → Bool → Turned
-id_turn q h l done o y more = record {
-  items = row_items (option_map (λ (x : ℕ × ℕ). row (the_ring q h.size) SP1 ((the_ring q h.size).used + (4 + 8 * y)) (little_bytes 4 x.0)) o) ++ [];
-  lane = with_phase (if more then phases.Publish (done + 1) else phases.Rest) (publishing done l);
-}
-
-pub id_fine : (q : ℕ) (h : Header1) (s : Scene) (l : Lane) (done e : ℕ) → IsUnderWay q h s l done → e < length l.batch → done ≡ 2 * e → Fine q h s (publishing done l) (phase_turn h q s (publishing done l) (Some (steps.Id e)))
-id_fine q h s l done e x inside at =
-    let k : ℕ = slice_index l.batch e in
-    let held : is_among l.batch k ≡ true = among_at l.batch e inside in
-    let head : ℕ = slice_index (s.heads q) k in
-    let low : head < h.size = x.holds.queue.driven.below k (open_out q h.size h.capacity s.past (s.heads q) k x.holds.known (batch_open q h s l done k x held)) in
-    let small : h.size ≤ 64 = x.good.size.small in
-    let P : ℕ = h.base + length (published s.past q) in
-    let next : IsNextElement q h s (publishing done l) done e = record { good = x.good; back = x.back; holds = x.holds; phase = refl; inside = inside } in
-    let holds = id_holds q h s (publishing done l) done e head next at refl (omega arith) in
-    let whole : Fine q h s (publishing done l) (id_turn q h l done (Some (element_of h q s k)) (entry_of (the_ring q h.size) (P + e)) true) = record {
-      each = (inr (holds_track q h (stored_at (used_id_place (the_ring q h.size) (P + e)) (little_bytes 4 head) s) (one_on done l) x.good holds), tt);
-      holds = holds;
-      legal = tt;
-      runs = x.started;
-      collects = refl;
-      falls = omega arith;
-    } in
-    let one : Fine q h s (publishing done l) (id_turn q h l done (slice_get (map (element_of h q s) l.batch) e) (entry_of (the_ring q h.size) (P + e)) true) =
-    subst (λ (o : Option (ℕ × ℕ)). Fine q h s (publishing done l) (id_turn q h l done o (entry_of (the_ring q h.size) (P + e)) true)) (sym (get_map (element_of h q s) l.batch e inside)) whole in
-    let two : Fine q h s (publishing done l) (id_turn q h l done (slice_get (map (element_of h q s) l.batch) e) (entry_of (the_ring q h.size) (used_idx (the_ring q h.size) s.memory + e)) true) =
-    subst (λ (y : ℕ). Fine q h s (publishing done l) (id_turn q h l done (slice_get (map (element_of h q s) l.batch) e) y true)) (sym (element_place q h.size h.base s.past (s.heads q) s.memory e x.holds.queue.ringed)) one in
-    subst (λ (b : Bool). Fine q h s (publishing done l) (id_turn q h l done (slice_get (map (element_of h q s) l.batch) e) (entry_of (the_ring q h.size) (used_idx (the_ring q h.size) s.memory + e)) b)) (sym (more_left (length l.batch) done (omega arith))) two
-
-abbrev len_turn : (q : ℕ) (h : Header1) (l : Lane) (done : ℕ) → Option (ℕ × ℕ) → ℕ → Bool → Turned
-len_turn q h l done o y more = record {
-  items = row_items (option_map (λ (x : ℕ × ℕ). row (the_ring q h.size) SP2 ((the_ring q h.size).used + (8 + 8 * y)) (little_bytes 4 x.1)) o) ++ [];
-  lane = with_phase (if more then phases.Publish (done + 1) else phases.Rest) (publishing done l);
-}
-
-pub len_fine : (q : ℕ) (h : Header1) (s : Scene) (l : Lane) (done e : ℕ) → IsUnderWay q h s l done → e < length l.batch → done ≡ 2 * e + 1 → Fine q h s (publishing done l) (phase_turn h q s (publishing done l) (Some (steps.Len e)))
-len_fine q h s l done e x inside at =
-    let k : ℕ = slice_index l.batch e in
-    let held : is_among l.batch k ≡ true = among_at l.batch e inside in
-    let len : ℕ = len_of h (asked s.past q k) in
-    let is_len = len_is h (asked s.past q k) x.back (batch_wide q h s l done k x held) in
-    let fits : len < 256 ^ 4 = subst (λ (y : ℕ). y < 256 ^ 4) (sym is_len.0) is_len.1 in
-    let P : ℕ = h.base + length (published s.past q) in
-    let next : IsNextElement q h s (publishing done l) done e = record { good = x.good; back = x.back; holds = x.holds; phase = refl; inside = inside } in
-    let holds = len_holds q h s (publishing done l) done e len next at refl fits in
-    let whole : Fine q h s (publishing done l) (len_turn q h l done (Some (element_of h q s k)) (entry_of (the_ring q h.size) (P + e)) true) = record {
-      each = (inr (holds_track q h (stored_at (used_len_place (the_ring q h.size) (P + e)) (little_bytes 4 len) s) (one_on done l) x.good holds), tt);
-      holds = holds;
-      legal = tt;
-      runs = x.started;
-      collects = refl;
-      falls = omega arith;
-    } in
-    let one : Fine q h s (publishing done l) (len_turn q h l done (slice_get (map (element_of h q s) l.batch) e) (entry_of (the_ring q h.size) (P + e)) true) =
-    subst (λ (o : Option (ℕ × ℕ)). Fine q h s (publishing done l) (len_turn q h l done o (entry_of (the_ring q h.size) (P + e)) true)) (sym (get_map (element_of h q s) l.batch e inside)) whole in
-    let two : Fine q h s (publishing done l) (len_turn q h l done (slice_get (map (element_of h q s) l.batch) e) (entry_of (the_ring q h.size) (used_idx (the_ring q h.size) s.memory + e)) true) =
-    subst (λ (y : ℕ). Fine q h s (publishing done l) (len_turn q h l done (slice_get (map (element_of h q s) l.batch) e) y true)) (sym (element_place q h.size h.base s.past (s.heads q) s.memory e x.holds.queue.ringed)) one in
-    subst (λ (b : Bool). Fine q h s (publishing done l) (len_turn q h l done (slice_get (map (element_of h q s) l.batch) e) (entry_of (the_ring q h.size) (used_idx (the_ring q h.size) s.memory + e)) b)) (sym (more_left (length l.batch) done (omega arith))) two
-
 -- ---- the answers
-
-pub numbers_answers : (q : ℕ) (s : Scene) (xs : List ℕ) → numbers (map (answer_at q s) xs) ≡ xs
-numbers_answers q s [] = refl
-numbers_answers q s (x ∷ xs) = ap (λ ks. x ∷ ks) (numbers_answers q s xs)
 
 pub all_map : (P : Answered → Type 0) (f : ℕ → Answered) (xs : List ℕ) → ((k : ℕ) → is_among xs k ≡ true → P (f k)) → All P (map f xs)
 all_map P f [] each i d l = absurd (omega arith)

@@ -1,91 +1,76 @@
 -- What is known of a queue, and what each step of the driver and of the device leaves of it.
-use Rattle.std.proofs.Common.{◌≡◌, ◌≤◌, ◌<◌, ℕ, ◌+◌, List, [], length, map, take, ap, sym, ◌∙◌, subst, arith, ◌%◌}
-use Rattle.std.specs.Prelude.{Option, Some, None, slice_index}
+use Rattle.std.proofs.Common.{◌≡◌, ◌<◌, ℕ, ◌+◌, ◌*◌, true, List, [], ◌∷◌, length, sym, ◌∙◌, subst, arith, ◌%◌, ◌≤◌}
+use Rattle.std.specs.Prelude.{Option, Some, slice_index, slice_get}
 use Rattle.vub_base.specs.declared.header.Header1.{Header1}
-use Rattle.vub_shared.specs.Bytes.{Bytes, put}
+use Rattle.vub_shared.specs.Bytes.{put}
+use Rattle.vub_shared.specs.Stores.{Store}
 use Rattle.vub_steps.specs.declared.steps.Phase.{Phase}
 use Rattle.vub_steps.specs.declared.steps.Phase.TheVariants as phases
-use Rattle.vub_ring.specs.Ring.{used_idx}
-use Rattle.vub_driver.specs.Drivers.{Driver, Waiting}
-use Rattle.vub_device.specs.declared.entry.Asked.{Asked}
+use Rattle.vub_steps.specs.Steps.{publish_steps}
+use Rattle.vub_ring.specs.Ring.{used_idx, ahead, avail_idx, head_at, seen}
+use Rattle.vub_driver.specs.Drivers.{Driver, Waiting, without_owner, after_collect, can_take, after_ask}
 use Rattle.vub_device.specs.declared.entry.Entry.{Entry}
-use Rattle.vub_device.specs.Past.{started, accepted, asked, published, collected, is_among}
-use Rattle.vub_run.specs.Memory.{Scene}
-use Rattle.vub_run.specs.Tracking.{answered_len}
-use Rattle.vub_run_laws.proofs.RunGood.{the_ring, spot, IsSize, Ringed, IsOut, WaitsWell, Driven, WordsAt, QueueFacts}
-use Rattle.vub_run_laws.proofs.RunFrames.{OffRings, ringed_elsewhere}
-use Rattle.vub_run_laws.proofs.RunFacts.{words_same, words_rests, words_begin, words_elsewhere_at}
-use Rattle.vub_facts.specs.Facts.{InBatch}
-use Rattle.vub_run.specs.Moments.{open_heads}
-use Rattle.vub_run.specs.Turns.{element_of}
+use Rattle.vub_device.specs.Past.{started, accepted, asked, published, collected, is_among, IsOpen}
+use Rattle.vub_device.specs.Places.{are_distinct}
+use Rattle.vub_run.specs.Memory.{Scene, opening_scene}
+use Rattle.vub_run.specs.Moments.{Moment, Lane, opening_lane}
+use Rattle.vub_run.specs.Tracking.{Tracks}
+use Rattle.vub_run_laws.proofs.RingGood.{the_ring, QueueFacts, IsWaiting, WaitsWell, EntryWell, EntryStands, LastStands}
+use Rattle.vub_run_laws.proofs.RunGood.{IsSize, Known, RestsOrPublishes, IsOut, LeavesQueue, IsGood, IsPlainAsk}
+use Rattle.vub_run_laws.proofs.RingFrames.{OffRings}
+use Rattle.vub_run_laws.proofs.RunHolds.{StoresBefore, StoresLast, IsPublishing, NextRow, Holds}
+use Rattle.vub_run_laws.proofs.RingRows.{next_row}
+use Rattle.vub_run_laws.proofs.RingTracks.{tracks, some_waits}
+use Rattle.vub_run_laws.proofs.RingStores.{stores_before, stores_last, some_left}
+use Rattle.vub_run_laws.proofs.RingFacts.{words_same, words_rest, words_rest_at, words_rests, words_begin, batch_begins_at, facts_entry, facts_elsewhere}
+pub use Rattle.vub_run_laws.proofs.RingFacts.{phase_at}
+use Rattle.vub_base.specs.declared.request.Ask.{Ask}
+use Rattle.vub_base.specs.declared.request.Shape.TheVariants.{Direct}
+use Rattle.vub_run_laws.proofs.RunTaken.{IsTaken}
+use Rattle.vub_run_laws.proofs.RingOpening.{open_facts}
+use Rattle.vub_run_laws.proofs.RingAsks.{ask_facts}
+use Rattle.vub_run_laws.proofs.RingCollects.{first_seen, after_taken, taken_facts}
+use Rattle.vub_run_laws.proofs.RingOffers.{offer_room}
+use Rattle.vub_device.specs.declared.entry.Entry.TheVariants as entries
+use Rattle.vub_steps.specs.declared.steps.Step.{Step}
+use Rattle.vub_run.specs.Turns.{step_items}
+use Rattle.vub_run_laws.proofs.RunItems.{AreQuiet}
+use Rattle.vub_run_laws.proofs.RingQuiet.{step_quiet}
 
--- ---- parts of it
+-- ---- the opening
 
-waits_same : (q n cap : ℕ) (past past' : List Entry) (heads : List ℕ) (v : Driver) (o : Option Waiting) → ((k : ℕ) → IsOut q past' heads k → IsOut q past heads k) → WaitsWell q n cap past heads v o → WaitsWell q n cap past' heads v o
-waits_same q n cap past past' heads v None out w = tt
-waits_same q n cap past past' heads v (Some x) out w = record {
-  wide = w.wide;
-  below = w.below;
-  mine = w.mine;
-  apart = λ k o. w.apart k (out k o);
-  plan = w.plan;
-}
-
-pub driven_same : (q n cap base : ℕ) (past past' : List Entry) (heads : List ℕ) (v : Driver) → ((k : ℕ) → IsOut q past' heads k → IsOut q past heads k) → Driven q n cap base past heads v → Driven q n cap base past' heads v
-driven_same q n cap base past past' heads v out d = record {
-  index = d.index;
-  below = λ k o. d.below k (out k o);
-  owned = λ k o. d.owned k (out k o);
-  apart = λ j k oj ok same. d.apart j k (out j oj) (out k ok) same;
-  waits = waits_same q n cap past past' heads v v.waiting out d.waits;
-}
+pub queue_opens : (q : ℕ) (h : Header1) → h.base < 65536 → q < h.queues → QueueFacts q h (opening_scene h) (opening_lane h).driver [] phases.Rest
+queue_opens q h fits low = open_facts q h fits low
 
 -- ---- an entry
 
--- what an entry leaves that offers and shows nothing: it may accept, and it may collect
-pub record LeavesQueue (q : ℕ) (past past' : List Entry) : Type 0 where
-  pub accepts : accepted past q ≤ accepted past' q
-  pub shows : published past' q ≡ published past q
-  pub collects : collected past q ≤ collected past' q
-  pub asks : (k : ℕ) → asked past' q k ≡ asked past q k
-
-ringed_entries : (q n base : ℕ) (past past' : List Entry) (heads : List ℕ) (m : Bytes) → LeavesQueue q past past' → Ringed q n base past heads m → Ringed q n base past' heads m
-ringed_entries q n base past past' heads m leaves r = record {
-  avail_idx_is = r.avail_idx_is;
-  used_idx_is = r.used_idx_is ∙ ap (λ (ks : List ℕ). (base + length ks) % 65536) (sym leaves.shows);
-  avail_at = λ i from upto. r.avail_at i (omega (arith, from, leaves.accepts)) upto;
-  used_at = λ i from upto.
-      let k : ℕ = slice_index (published past' q) i in
-      r.used_at i (omega (arith, from, leaves.collects)) (subst (λ (ks : List ℕ). i < length ks) leaves.shows upto)
-      ∙ ap (λ (ks : List ℕ). spot q heads past (slice_index ks i)) (sym leaves.shows) ∙ ap (λ (o : Option Asked). (slice_index heads k, answered_len 0 o)) (sym (leaves.asks k));
-}
-
--- an entry that offers, shows and collects nothing
-pub queue_entry : (q : ℕ) (h : Header1) (s : Scene) (past' : List Entry) (v : Driver) (batch : List ℕ) (phase : Phase) → LeavesQueue q s.past past' → collected past' q ≡ collected s.past q → WordsAt q h (record s { past = past' }) batch phase
+-- an entry that offers, shows and collects nothing, after which the queue runs, where nothing is under way
+pub queue_entry : (q : ℕ) (h : Header1) (s : Scene) (past' : List Entry) (v : Driver) (batch : List ℕ) (phase : Phase) → LeavesQueue q s.past past' → collected past' q ≡ collected s.past q → started past' q ≡ true → phase ≡ phases.Rest → batch ≡ []
     → QueueFacts q h s v batch phase → QueueFacts q h (record s { past = past' }) v batch phase
-queue_entry q h s past' v batch phase leaves same words x = record {
-  ringed = ringed_entries q h.size h.base s.past past' (s.heads q) s.memory leaves x.ringed;
-  driven = driven_same q h.size h.capacity h.base s.past past' (s.heads q) v (λ j o. record {
-    below = o.below;
-    kept = ap (λ (ks : List ℕ). is_among (take (collected s.past q) ks) j) (sym leaves.shows) ∙ ap (λ (many : ℕ). is_among (take many (published past' q)) j) (sym same) ∙ o.kept;
-  }) x.driven;
-  words = words;
-}
+queue_entry q h s past' v batch phase leaves same run rest none x =
+    facts_entry q h s past' v batch phase leaves same (words_rest_at q h (record s { past = past' }) batch phase rest none (words_rest q h (record s { past = past' }) run x.words.used_fits)) x
 
--- one that accepts nothing and starts nothing either
+-- one that starts and accepts nothing either, whatever is under way
 pub queue_same : (q : ℕ) (h : Header1) (s : Scene) (past' : List Entry) (v : Driver) (batch : List ℕ) (phase : Phase) → started past' q ≡ started s.past q → accepted past' q ≡ accepted s.past q → published past' q ≡ published s.past q → collected past' q ≡ collected s.past q
     → ((k : ℕ) → asked past' q k ≡ asked s.past q k) → QueueFacts q h s v batch phase → QueueFacts q h (record s { past = past' }) v batch phase
 queue_same q h s past' v batch phase runs accepts shows collects asks x =
-    queue_entry q h s past' v batch phase (record { accepts = omega (arith, accepts); shows = shows; collects = omega (arith, collects); asks = asks }) collects (words_same q h s past' batch phase runs accepts shows asks x.words) x
+    facts_entry q h s past' v batch phase (record { accepts = omega (arith, accepts); shows = shows; collects = omega (arith, collects); asks = asks }) collects (words_same q h s past' batch phase runs accepts shows asks x.words) x
 
--- a collection, where the driver takes the next number
-pub queue_collect : (q : ℕ) (h : Header1) (s : Scene) (past' : List Entry) (v v' : Driver) (batch : List ℕ) (phase : Phase) → LeavesQueue q s.past past' → started past' q ≡ started s.past q → accepted past' q ≡ accepted s.past q → Driven q h.size h.capacity h.base past' (s.heads q) v'
-    → QueueFacts q h s v batch phase → QueueFacts q h (record s { past = past' }) v' batch phase
-queue_collect q h s past' v v' batch phase leaves runs accepts driven x = record {
-  ringed = ringed_entries q h.size h.base s.past past' (s.heads q) s.memory leaves x.ringed;
-  driven = driven;
-  words = words_same q h s past' batch phase runs accepts leaves.shows leaves.asks x.words;
-}
+-- what the driver sees of the used elements that it hasn't collected
+abbrev pub sees : ℕ → Header1 → Scene → List (ℕ × ℕ)
+sees q h s = seen (the_ring q h.size) s.memory (h.base + collected s.past q)
+
+-- where an element is seen, the first one is that of the number that is collected next
+pub queue_first : (q : ℕ) (h : Header1) (s : Scene) (l : Lane) (x : ℕ × ℕ) (xs : List (ℕ × ℕ)) → IsGood h → Holds q h s l → sees q h s ≡ x ∷ xs → IsTaken q h s l x.0
+queue_first q h s l x xs good holds e = first_seen q h s l x xs good holds e
+
+-- what is taken is free again
+pub queue_free : (q : ℕ) (h : Header1) (s : Scene) (l : Lane) (x : ℕ) → IsTaken q h s l x → after_collect x l.driver ≡ record l.driver { owner = without_owner x l.driver.owner }
+queue_free q h s l x t = after_taken q h s l x t
+
+-- a collection
+pub queue_collect : (q : ℕ) (h : Header1) (s : Scene) (l : Lane) (x k : ℕ) → IsTaken q h s l x → QueueFacts q h (record s { past = entries.Collect q k ∷ s.past }) (record l.driver { owner = without_owner x l.driver.owner }) l.batch l.phase
+queue_collect q h s l x k t = taken_facts q h s l x k t
 
 -- ---- phases
 
@@ -93,35 +78,89 @@ queue_collect q h s past' v v' batch phase leaves runs accepts driven x = record
 pub queue_rests : (q : ℕ) (h : Header1) (s : Scene) (v : Driver) (batch : List ℕ) (phase : Phase) → QueueFacts q h s v batch phase → QueueFacts q h s v [] phases.Rest
 queue_rests q h s v batch phase x = record { ringed = x.ringed; driven = x.driven; words = words_rests q h s batch phase x.words }
 
--- a batch begins: none of its elements stands yet
-pub queue_begins : (q : ℕ) (h : Header1) (s : Scene) (v : Driver) (batch : List ℕ) (before : List ℕ) (phase : Phase) → InBatch h.size (open_heads q s.past (s.heads q)) (map (element_of h q s) batch) 0 → QueueFacts q h s v before phase → QueueFacts q h s v batch (phases.Publish 0)
-queue_begins q h s v batch before phase begins x = record {
+-- a batch of open numbers begins: none of its elements stands yet
+pub queue_begins : (q : ℕ) (h : Header1) (s : Scene) (v : Driver) (batch : List ℕ) (before : List ℕ) (phase : Phase) → Known q h.size h.capacity s.past (s.heads q) → 0 < length batch → are_distinct batch ≡ true → ((k : ℕ) → is_among batch k ≡ true → IsOpen s.past q k)
+    → QueueFacts q h s v before phase → QueueFacts q h s v batch (phases.Publish 0)
+queue_begins q h s v batch before phase known some distinct opens x = record {
   ringed = x.ringed;
   driven = x.driven;
-  words = words_begin q h s batch before phase begins x.words;
+  words = words_begin q h s batch before phase (batch_begins_at q h s v batch known x.driven some distinct opens) x.words;
 }
+
+-- the next row of a publication: it leaves the elements hidden, or it shows them, with the publication
+pub queue_row : (q : ℕ) (h : Header1) (s : Scene) (v : Driver) (batch : List ℕ) (done : ℕ) → IsPublishing q h s v batch done → done < 2 * length batch + 1 → NextRow q h s v batch done (slice_get (publish_steps (length batch)) done)
+queue_row q h s v batch done x low = next_row q h s v batch done x low
 
 -- ---- the driver
 
--- another driver whose slots are well
-pub queue_driver : (q : ℕ) (h : Header1) (s : Scene) (v v' : Driver) (batch : List ℕ) (phase : Phase) → Driven q h.size h.capacity h.base s.past (s.heads q) v' → QueueFacts q h s v batch phase → QueueFacts q h s v' batch phase
-queue_driver q h s v v' batch phase driven x = record { ringed = x.ringed; driven = driven; words = x.words }
+-- the driver after it took a request
+abbrev pub takes : ℕ → Header1 → Ask → Driver → Driver
+takes q h a v = after_ask (the_ring q h.size) a v
+
+-- a request that it takes
+pub queue_ask : (q : ℕ) (h : Header1) (s : Scene) (v : Driver) (batch : List ℕ) (phase : Phase) (a : Ask) → IsSize h.size → IsPlainAsk h.capacity a → can_take h.size Direct a v ≡ true → QueueFacts q h s v batch phase → QueueFacts q h s (takes q h a v) batch phase
+queue_ask q h s v batch phase a size plain ready x = ask_facts q h s v batch phase a size plain ready x
+
+-- what is known of the request that waits
+pub queue_waiting : (q : ℕ) (h : Header1) (s : Scene) (v : Driver) (batch : List ℕ) (phase : Phase) (w : Waiting) → v.waiting ≡ Some w → QueueFacts q h s v batch phase → IsWaiting q h.size h.capacity s.past (s.heads q) v (record w { left = w.left })
+queue_waiting q h s v batch phase w waiting x =
+    let waits : IsWaiting q h.size h.capacity s.past (s.heads q) v w = subst (λ (o : Option Waiting). WaitsWell q h.size h.capacity s.past (s.heads q) v o) waiting x.driven.waits in
+    record { wide = waits.wide; below = waits.below; mine = waits.mine; apart = waits.apart; plan = waits.plan }
+
+-- something is left of it
+pub queue_left : (q n cap : ℕ) (past : List Entry) (heads : List ℕ) (v : Driver) (w : Waiting) → IsWaiting q n cap past heads v w → 0 < length w.left
+queue_left q n cap past heads v w waits = some_left q n cap past heads v w waits
+
+-- where the last store alone is left, those before it stand
+pub queue_stands : (q : ℕ) (h : Header1) (m : Moment) (w : Waiting) → (m.lanes q).driver.waiting ≡ Some w → EntryStands q h m → LastStands q h m.scene (record w { left = w.left })
+queue_stands q h m w waiting entry one =
+    let well : EntryWell q h.size (h.base + length (m.scene.heads q)) m.scene.memory (Some w) = subst (λ (o : Option Waiting). EntryWell q h.size (h.base + length (m.scene.heads q)) m.scene.memory o) waiting entry in
+    well one
+
+-- the request waits on, with these stores left
+pub queue_waits : (q : ℕ) (h : Header1) (s : Scene) (v : Driver) (batch : List ℕ) (phase : Phase) (w : Waiting) (left : List Store) → IsWaiting q h.size h.capacity s.past (s.heads q) v (record w { left = left }) → QueueFacts q h s v batch phase
+    → QueueFacts q h s (record v { waiting = Some (record w { left = left }) }) batch phase
+queue_waits q h s v batch phase w left waits x = record {
+  ringed = x.ringed;
+  driven = record {
+    index = x.driven.index;
+    below = x.driven.below;
+    owned = x.driven.owned;
+    apart = x.driven.apart;
+    waits = record { wide = waits.wide; below = waits.below; mine = waits.mine; apart = waits.apart; plan = waits.plan };
+  };
+  words = x.words;
+}
+
+-- a store of a request before its last one
+pub queue_before : (q : ℕ) (h : Header1) (s : Scene) (v : Driver) (w : Waiting) (batch : List ℕ) (phase : Phase) (st st' : Store) (left : List Store) → IsSize h.size → Known q h.size h.capacity s.past (s.heads q) → RestsOrPublishes phase
+    → IsWaiting q h.size h.capacity s.past (s.heads q) v (record w { left = st ∷ st' ∷ left }) → QueueFacts q h s v batch phase → StoresBefore q h s v w batch phase st (st' ∷ left)
+queue_before q h s v w batch phase st st' left size known between waits x = stores_before q h s v w batch phase st st' left size known between waits x
+
+-- the last one, with its offer
+pub queue_last : (q : ℕ) (h : Header1) (s : Scene) (v : Driver) (w : Waiting) (batch : List ℕ) (phase : Phase) (st : Store) → IsSize h.size → Known q h.size h.capacity s.past (s.heads q) → RestsOrPublishes phase → ((k : ℕ) → is_among batch k ≡ true → k < accepted s.past q)
+    → IsWaiting q h.size h.capacity s.past (s.heads q) v (record w { left = st ∷ [] }) → LastStands q h s (record w { left = st ∷ [] }) → QueueFacts q h s v batch phase → StoresLast q h s v w batch phase st
+queue_last q h s v w batch phase st size known between taken waits stands x = stores_last q h s v w batch phase st size known between taken waits stands x
 
 -- ---- a store
 
 -- off the words of the ring
 pub queue_elsewhere : (q : ℕ) (h : Header1) (s : Scene) (p : ℕ) (bs : List ℕ) (v : Driver) (batch : List ℕ) (phase : Phase) → IsSize h.size → OffRings q p bs → QueueFacts q h s v batch phase → QueueFacts q h (record s { memory = put s.memory 0 p bs }) v batch phase
-queue_elsewhere q h s p bs v batch phase size off x = record {
-  ringed = ringed_elsewhere q h.size h.base s.past (s.heads q) s.memory p bs size off x.ringed;
-  driven = x.driven;
-  words = words_elsewhere_at q h s p bs batch phase size off x.words;
-}
+queue_elsewhere q h s p bs v batch phase size off x = facts_elsewhere q h s p bs v batch phase size off x
 
 -- ---- what it tells
+
+-- memory and history agree
+pub queue_tracks : (q : ℕ) (h : Header1) (s : Scene) (v : Driver) (batch : List ℕ) (phase : Phase) → IsSize h.size → Known q h.size h.capacity s.past (s.heads q) → QueueFacts q h s v batch phase → Tracks h q s
+queue_tracks q h s v batch phase size known x = tracks q h s size known x.ringed
 
 -- the heads of outstanding offers are places of the queue, and no two are the same
 pub head_below : (q : ℕ) (h : Header1) (s : Scene) (v : Driver) (batch : List ℕ) (phase : Phase) (k : ℕ) → QueueFacts q h s v batch phase → IsOut q s.past (s.heads q) k → slice_index (s.heads q) k < h.size
 head_below q h s v batch phase k x out = x.driven.below k out
+
+-- and the descriptor of that number belongs to it
+pub head_owned : (q : ℕ) (h : Header1) (s : Scene) (v : Driver) (batch : List ℕ) (phase : Phase) (k : ℕ) → QueueFacts q h s v batch phase → IsOut q s.past (s.heads q) k → v.owner (slice_index (s.heads q) k) ≡ Some (slice_index (s.heads q) k)
+head_owned q h s v batch phase k x out = x.driven.owned k out
 
 pub heads_apart : (q : ℕ) (h : Header1) (s : Scene) (v : Driver) (batch : List ℕ) (phase : Phase) (j k : ℕ) → QueueFacts q h s v batch phase → IsOut q s.past (s.heads q) j → IsOut q s.past (s.heads q) k → slice_index (s.heads q) j ≡ slice_index (s.heads q) k → j ≡ k
 heads_apart q h s v batch phase j k x out_j out_k same = x.driven.apart j k out_j out_k same
@@ -129,3 +168,26 @@ heads_apart q h s v batch phase j k x out_j out_k same = x.driven.apart j k out_
 -- used.idx is the base, advanced by what is published
 pub shown_index : (q : ℕ) (h : Header1) (s : Scene) (v : Driver) (batch : List ℕ) (phase : Phase) → QueueFacts q h s v batch phase → used_idx (the_ring q h.size) s.memory ≡ (h.base + length (published s.past q)) % 65536
 shown_index q h s v batch phase x = x.ringed.used_idx_is
+
+-- what the driver keeps of avail.idx is the base, advanced by what is offered; and so stands the word
+pub kept_index : (q : ℕ) (h : Header1) (s : Scene) (v : Driver) (batch : List ℕ) (phase : Phase) → QueueFacts q h s v batch phase → v.avail_idx ≡ (h.base + length (s.heads q)) % 65536
+kept_index q h s v batch phase x = x.driven.index
+
+pub offered_index : (q : ℕ) (h : Header1) (s : Scene) (v : Driver) (batch : List ℕ) (phase : Phase) → QueueFacts q h s v batch phase → avail_idx (the_ring q h.size) s.memory ≡ v.avail_idx
+offered_index q h s v batch phase x = x.ringed.avail_idx_is ∙ sym x.driven.index
+
+-- the entry of each offer that isn't accepted names its head
+pub offered_head : (q : ℕ) (h : Header1) (s : Scene) (v : Driver) (batch : List ℕ) (phase : Phase) (i : ℕ) → QueueFacts q h s v batch phase → accepted s.past q ≤ i → i < length (s.heads q) → head_at (the_ring q h.size) s.memory (h.base + i) ≡ slice_index (s.heads q) i
+offered_head q h s v batch phase i x from upto = x.ringed.avail_at i from upto
+
+-- the queue has room for the request that waits
+pub queue_room : (q : ℕ) (h : Header1) (s : Scene) (v : Driver) (batch : List ℕ) (phase : Phase) (w : Waiting) → Known q h.size h.capacity s.past (s.heads q) → IsWaiting q h.size h.capacity s.past (s.heads q) v w → QueueFacts q h s v batch phase → length (s.heads q) < h.size + collected s.past q
+queue_room q h s v batch phase w known waits x = offer_room q h.size h.capacity h.base s.past (s.heads q) v w known x.driven waits
+
+-- something waits exactly where an offer isn't accepted
+pub queue_ahead : (q : ℕ) (h : Header1) (s : Scene) (l : Lane) → IsGood h → Holds q h s l → ahead (avail_idx (the_ring q h.size) s.memory) (h.base + accepted s.past q) + accepted s.past q ≡ length (s.heads q)
+queue_ahead q h s l good x = some_waits q h s l good x
+
+-- the items of a step are neither a store of a driver nor an offer
+pub queue_quiet : (q : ℕ) (h : Header1) (batch : List ℕ) (step : Step) (s : Scene) → AreQuiet h (step_items h q batch step s)
+queue_quiet q h batch step s = step_quiet q h batch step s

@@ -1,18 +1,12 @@
 -- All items of a run but the driver's stores and offers: they leave the descriptors that history keeps.
-use Rattle.std.proofs.Common.{◌≡◌, ℕ, zero, suc, ◌+◌, Bool, true, false, not, cond, List, [], ◌∷◌, ◌++◌, map, refl, sym, ◌∙◌, subst, inl, inr}
-use Rattle.std.specs.Prelude.{Option, Some, None, ◌&&◌, slice_get, option_map, ⊤}
-use Rattle.std.specs.List.{AllByRecursion}
-use Rattle.byteorder.specs.Endian.{little_bytes}
+use Rattle.std.proofs.Common.{◌≡◌, ℕ, zero, suc, Bool, true, false, not, cond, List, [], ◌∷◌, refl, sym, ◌∙◌, subst, inl, inr}
+use Rattle.std.specs.Prelude.{Option, Some, None, ◌&&◌, slice_get, ⊤}
 use Rattle.vub_base.specs.declared.header.Header1.{Header1}
-use Rattle.vub_base.specs.declared.store.Tag.TheVariants.{SP1, SP2}
 use Rattle.vub_steps.specs.declared.steps.Step.{Step}
-use Rattle.vub_steps.specs.declared.steps.Step.TheVariants as steps
 use Rattle.vub_steps.specs.declared.readiness.Turn.{Turn}
 use Rattle.vub_steps.specs.declared.readiness.Turn.TheVariants as turns
-use Rattle.vub_steps.specs.Rows.{row}
 use Rattle.vub_steps.specs.Steps.{next_step}
 use Rattle.vub_steps.specs.Tasks.{RequestStep, Look, Put, Act, Sync, Status, task_steps}
-use Rattle.vub_ring.specs.Ring.{used_idx, used_id_place, used_len_place}
 use Rattle.vub_driver.specs.Drivers.{can_take}
 use Rattle.vub_device.specs.declared.entry.Asked.{Asked}
 use Rattle.vub_device.specs.declared.entry.Entry.{Entry}
@@ -28,17 +22,10 @@ use Rattle.vub_run.specs.Memory.{Scene, after_item, after_items}
 use Rattle.vub_run.specs.Moments.{Lane, Moment, fresh, unfinished}
 use Rattle.vub_run.specs.Run.{Played, played, if_ready, ask, take_first, collect, boot, join, one_turn, is_due, then_played, turns as many_turns, single, up_to, any_choice, drain_choice, Drains, Plays}
 use Rattle.vub_run.specs.TaskItems.{look_items, act_items}
-use Rattle.vub_run.specs.Turns.{course_of, turned, row_items, step_items, element_of, phase_turn, phase_goes_on, under_way, work_turn, request_turn, task_turn}
-use Rattle.vub_run_laws.proofs.RunGood.{the_ring}
+use Rattle.vub_run.specs.Turns.{course_of, turned, phase_turn, phase_goes_on, under_way, work_turn, request_turn, task_turn}
 use Rattle.vub_run_laws.proofs.RunChainsMade.{all_append}
-
--- neither a store of a driver nor an offer
-pub record IsQuiet (h : Header1) (i : Item) : Type 0 where
-  pub lawful : (e : Event) (s : Scene) → IsLawfulItem h e s i
-  pub kept : (s : Scene) → (after_item h i s).descriptors ≡ s.descriptors
-
-abbrev pub AreQuiet : Header1 → List Item → Type 0
-AreQuiet h is = AllByRecursion (IsQuiet h) is
+use Rattle.vub_run_laws.proofs.RunItems.{IsQuiet, AreQuiet}
+use Rattle.vub_run_laws.proofs.RunQueue.{queue_quiet}
 
 pub quiet_lawful : (h : Header1) (e : Event) (s : Scene) (is : List Item) → AreQuiet h is → BeforeEach h (IsLawfulItem h e) s is
 quiet_lawful h e s [] all = tt
@@ -50,30 +37,9 @@ quiet_kept h s (i ∷ is) all = quiet_kept h (after_item h i s) is all.1 ∙ all
 
 -- ---- the device
 
-step_quiet : (q : ℕ) (h : Header1) (batch : List ℕ) (step : Step) (s : Scene) → AreQuiet h (step_items h q batch step s)
-step_quiet q h batch steps.Start s = (record { lawful = λ e x. tt; kept = λ x. refl }, tt)
-step_quiet q h batch steps.Accept s = (record { lawful = λ e x. tt; kept = λ x. refl }, tt)
-step_quiet q h batch (steps.Id e) s = go (slice_get (map (element_of h q s) batch) e)
-  where
-    i : ℕ
-    i = used_idx (the_ring q h.size) s.memory + e
-
-    go : (o : Option (ℕ × ℕ)) → AreQuiet h (row_items (option_map (λ (y : ℕ × ℕ). row (the_ring q h.size) SP1 (used_id_place (the_ring q h.size) i) (little_bytes 4 y.0)) o) ++ [])
-    go None = tt
-    go (Some y) = (record { lawful = λ e x. tt; kept = λ x. refl }, tt)
-step_quiet q h batch (steps.Len e) s = go (slice_get (map (element_of h q s) batch) e)
-  where
-    i : ℕ
-    i = used_idx (the_ring q h.size) s.memory + e
-
-    go : (o : Option (ℕ × ℕ)) → AreQuiet h (row_items (option_map (λ (y : ℕ × ℕ). row (the_ring q h.size) SP2 (used_len_place (the_ring q h.size) i) (little_bytes 4 y.1)) o) ++ [])
-    go None = tt
-    go (Some y) = (record { lawful = λ e x. tt; kept = λ x. refl }, tt)
-step_quiet q h batch steps.Index s = (record { lawful = λ e x. tt; kept = λ x. refl }, (record { lawful = λ e x. tt; kept = λ x. refl }, tt))
-
 phase_quiet : (q : ℕ) (h : Header1) (s : Scene) (l : Lane) (o : Option Step) → AreQuiet h (phase_turn h q s l o).items
 phase_quiet q h s l None = tt
-phase_quiet q h s l (Some step) = step_quiet q h l.batch step s
+phase_quiet q h s l (Some step) = queue_quiet q h l.batch step s
 
 look_quiet : (q : ℕ) (h : Header1) (k : ℕ) (past : List Entry) (o : Option ℕ) → AreQuiet h (look_items q k past o)
 look_quiet q h k past None = tt

@@ -1,75 +1,57 @@
--- The store of used.idx with its publication keeps what holds.
-use Rattle.std.proofs.Common.{◌≡◌, ◌≤◌, ◌<◌, ℕ, ◌+◌, ◌-◌, ◌*◌, ◌%◌, Bool, true, false, List, [], ◌∷◌, ◌++◌, length, take, map, refl, ap, sym, ◌∙◌, subst, inl, inr, arith}
-use Rattle.std.specs.Prelude.{Option, Some, slice_index, slice_get, if◌then◌else◌, ◌||◌}
-use Rattle.byteorder.specs.Endian.{little_bytes}
+-- A publication keeps what holds: its rows before the last, and the last one with its publication.
+use Rattle.std.proofs.Common.{◌≡◌, ◌≤◌, ◌<◌, ℕ, ◌+◌, ◌*◌, Bool, true, false, List, [], ◌∷◌, ◌++◌, length, refl, ap, sym, ◌∙◌, subst, inl, inr, arith}
+use Rattle.std.specs.Prelude.{Option, Some, nat_lt, slice_get, if◌then◌else◌, ◌||◌}
 use Rattle.std.specs.List.{AllByRecursion}
 use Rattle.std.proofs.lemmas.Bool.Decides.{nat_tests}
-use Rattle.std.proofs.lemmas.Bool.{cases_lt, cases_Bool, or_left}
-use Rattle.std.proofs.lemmas.List.{length-append, length-map, append-nil, take-append-le, get_or_append_left, get_or-append-add}
+use Rattle.std.proofs.lemmas.Bool.{cases_Bool, or_left}
+use Rattle.std.proofs.lemmas.List.{length-append, length-map, append-nil}
 use Rattle.vub_base.specs.declared.header.Header1.{Header1}
-use Rattle.vub_base.specs.declared.store.Tag.TheVariants.{SP5}
 use Rattle.vub_base.specs.declared.store.Area.TheVariants.{M}
-use Rattle.vub_shared.specs.Bytes.{put, word}
-use Rattle.vub_shared.proofs.BytesLemmas.{word-put_same}
 use Rattle.vub_steps.specs.declared.steps.Phase.TheVariants as phases
 use Rattle.vub_steps.specs.declared.steps.Step.{Step}
-use Rattle.vub_steps.specs.declared.steps.Step.TheVariants as steps
-use Rattle.vub_ring.specs.Ring.{avail_idx_place, avail_entry_place, used_idx_place, used_id_place, used_len_place, used_idx, element_at}
 use Rattle.vub_steps.specs.Steps.{publish_steps}
 use Rattle.vub_device.specs.declared.entry.Answered.{Answered}
-use Rattle.vub_device.specs.declared.entry.Entry.{Entry}
 use Rattle.vub_device.specs.declared.entry.Entry.TheVariants as entries
 use Rattle.vub_device.specs.Legal.{IsAnswer, MayPublish}
-use Rattle.vub_device.specs.Past.{asked, accepted, published, collected, numbers, is_among, IsOpen}
+use Rattle.vub_device.specs.Past.{accepted, published, numbers, is_among, IsOpen}
 use Rattle.vub_device.specs.Places.{are_distinct}
 use Rattle.vub_device.proofs.Distinct.{distinct_from_test}
 use Rattle.vub_device.proofs.Numbers.{is_among_append}
+use Rattle.vub_report.specs.declared.items.Item.{Item}
 use Rattle.vub_report.specs.declared.items.Item.TheVariants as items
 use Rattle.vub_run.specs.Memory.{Scene}
 use Rattle.vub_run.specs.Moments.{Lane}
 use Rattle.vub_run.specs.Tracking.{answers}
-use Rattle.vub_run.specs.Turns.{Turned, element_of, phase_turn, phase_goes_on, answer_at, with_phase}
+use Rattle.vub_run.specs.Turns.{Turned, step_items, phase_turn, phase_goes_on, answer_at, with_phase}
 use Rattle.vub_run_laws.proofs.RunOwn.{published_own, answers_own}
-use Rattle.vub_run_laws.proofs.RunNumbers.{distinct_join, among_at}
+use Rattle.vub_run_laws.proofs.RunNumbers.{distinct_join}
 use Rattle.vub_facts.proofs.HeadLemmas.{distinct_parts}
-use Rattle.vub_run_laws.proofs.RunGood.{the_ring, Known, Ringed, spot, Worked, Stored, Holds}
+use Rattle.vub_run_laws.proofs.RunTracks.{numbers_answers}
+use Rattle.vub_run_laws.proofs.RunGood.{Known, Worked, Stored, stored_at}
+use Rattle.vub_run_laws.proofs.RunHolds.{Holds, IsPublishing, RowBefore, shown_list, shown_past, RowShows, NextRow, Before, Shows, QueueFacts}
+use Rattle.vub_run_laws.proofs.RunQueue.{phase_at, queue_row}
 use Rattle.vub_run_laws.proofs.RunEfforts.{shown_falls}
-use Rattle.vub_run_laws.proofs.RunFrames.{keeps, entry_small, length_little, stored_elsewhere, below_buffers}
-use Rattle.vub_run_laws.proofs.RunGuests.{stored_at, holds_track}
+use Rattle.vub_run_laws.proofs.RunFrames.{open_out, OffBuffer, stored_elsewhere}
+use Rattle.vub_run_laws.proofs.RunGuests.{holds_track}
 use Rattle.vub_run_laws.proofs.RunPhases.{resting}
 use Rattle.vub_run_laws.proofs.RunWork.{Fine}
-use Rattle.vub_run_laws.proofs.RunQueue.{driven_same}
-use Rattle.vub_run_laws.proofs.RunFacts.{phase_at, words_rest, words_element}
-use Rattle.vub_run_laws.proofs.RunElements.{StepAt, AtId, AtLen, AtIndex, step_at, batch_room, element_place, len_is}
-use Rattle.vub_run_laws.proofs.RunPublications.{publishing, IsUnderWay, none_left, in_batch, batch_open, id_fine, len_fine, numbers_answers, batch_wide, all_map, good_map, good_append, answer_right}
+use Rattle.vub_run_laws.proofs.RunElements.{batch_room, one_on, worked_on}
+use Rattle.vub_run_laws.proofs.RunPublications.{publishing, IsUnderWay, in_batch, batch_open, all_map, good_map, good_append, answer_right}
 
--- the scene after the store, and the past with the publication
-abbrev shown_scene : ℕ → Header1 → ℕ → Scene → Scene
-shown_scene q h x s = stored_at (used_idx_place (the_ring q h.size)) (little_bytes 2 x) s
+shown_stored : (q : ℕ) (h : Header1) (p : ℕ) (bs : List ℕ) (s : Scene) (l : Lane) (done : ℕ) → IsUnderWay q h s l done → ((k : ℕ) → OffBuffer q (s.heads q) k p bs) → Stored q s.past (s.heads q) (stored_at p bs s).memory l.batch l.completed l.made
+shown_stored q h p bs s l done u off = stored_elsewhere q s.past (s.heads q) s.memory p bs l.batch l.completed l.made u.holds.worked.opens (λ k is_open. off k) u.holds.stored
 
-abbrev shown_list : ℕ → Header1 → ℕ → Scene → Lane → List Answered
-shown_list q h x s l = map (answer_at q (shown_scene q h x s)) l.batch
+shown_published : (q : ℕ) (h : Header1) (p : ℕ) (bs : List ℕ) (s : Scene) (l : Lane) → published (shown_past q p bs s l.batch) q ≡ published s.past q ++ l.batch
+shown_published q h p bs s l = published_own s.past q (shown_list q p bs s l.batch) ∙ ap (λ (ks : List ℕ). published s.past q ++ ks) (numbers_answers q (stored_at p bs s) l.batch)
 
-abbrev shown_past : ℕ → Header1 → ℕ → Scene → Lane → List Entry
-shown_past q h x s l = entries.Publish q (shown_list q h x s l) ∷ s.past
-
-shown_stored : (q : ℕ) (h : Header1) (x : ℕ) (s : Scene) (l : Lane) (done : ℕ) → IsUnderWay q h s l done → Stored q s.past (s.heads q) (shown_scene q h x s).memory l.batch l.completed l.made
-shown_stored q h x s l done u =
-    let two : length (little_bytes 2 x) ≡ 2 = length_little 2 x in
-    stored_elsewhere q s.past (s.heads q) s.memory (used_idx_place (the_ring q h.size)) (little_bytes 2 x) l.batch l.completed l.made u.holds.worked.opens
-    (λ k is_open. below_buffers q (s.heads q) k (used_idx_place (the_ring q h.size)) (little_bytes 2 x) (omega arith)) u.holds.stored
-
-shown_published : (q : ℕ) (h : Header1) (x : ℕ) (s : Scene) (l : Lane) → published (shown_past q h x s l) q ≡ published s.past q ++ l.batch
-shown_published q h x s l = published_own s.past q (shown_list q h x s l) ∙ ap (λ (ks : List ℕ). published s.past q ++ ks) (numbers_answers q (shown_scene q h x s) l.batch)
-
-shown_known : (q : ℕ) (h : Header1) (x : ℕ) (s : Scene) (l : Lane) (done : ℕ) → IsUnderWay q h s l done → Known q h.size h.capacity (shown_past q h x s l) (s.heads q)
-shown_known q h x s l done u =
+shown_known : (q : ℕ) (h : Header1) (p : ℕ) (bs : List ℕ) (s : Scene) (l : Lane) (done : ℕ) → IsUnderWay q h s l done → ((k : ℕ) → OffBuffer q (s.heads q) k p bs) → Known q h.size h.capacity (shown_past q p bs s l.batch) (s.heads q)
+shown_known q h p bs s l done u off =
     let known : Known q h.size h.capacity s.past (s.heads q) = u.holds.known in
-    let ps : published (shown_past q h x s l) q ≡ published s.past q ++ l.batch = shown_published q h x s l in
-    let many : length (published (shown_past q h x s l) q) ≡ length (published s.past q) + length l.batch = ap (λ (ks : List ℕ). length ks) ps ∙ length-append (published s.past q) l.batch in
+    let ps : published (shown_past q p bs s l.batch) q ≡ published s.past q ++ l.batch = shown_published q h p bs s l in
+    let many : length (published (shown_past q p bs s l.batch) q) ≡ length (published s.past q) + length l.batch = ap (λ (ks : List ℕ). length ks) ps ∙ length-append (published s.past q) l.batch in
     let parts = distinct_parts l.completed l.batch u.holds.worked.distinct in
     let room : length (published s.past q) + length l.batch ≤ accepted s.past q = batch_room q s.past (phases.Publish done) l.batch l.completed l.made h.size h.capacity (s.heads q) known u.holds.worked in
-    let st = shown_stored q h x s l done u in record {
+    let st = shown_stored q h p bs s l done u off in record {
       offers_are = known.offers_are;
       offered = known.offered;
       distinct = ap are_distinct ps ∙ distinct_join (published s.past q) l.batch known.distinct parts.second (λ k held. (batch_open q h s l done k u held).unpublished);
@@ -83,68 +65,16 @@ shown_known q h x s l done u =
       shown = omega (arith, many, known.shown);
       fewer = omega (arith, many, room);
       room = known.room;
-      good = subst (AllByRecursion (λ (a : Answered). a.status ≡ 0)) (sym (answers_own s.past q (shown_list q h x s l))) (good_append (answers s.past q) (shown_list q h x s l) known.good (good_map (answer_at q (shown_scene q h x s)) l.batch (λ k held. st.status k (in_batch q h s l done k u held))));
+      good = subst (AllByRecursion (λ (a : Answered). a.status ≡ 0)) (sym (answers_own s.past q (shown_list q p bs s l.batch))) (good_append (answers s.past q) (shown_list q p bs s l.batch) known.good (good_map (answer_at q (stored_at p bs s)) l.batch (λ k held. st.status k (in_batch q h s l done k u held))));
       wide = known.wide;
       unfaulted = known.unfaulted;
       values = known.values;
     }
 
--- the store of used.idx leaves the elements
-element_stays : (q : ℕ) (h : Header1) (x : ℕ) (s : Scene) (i : ℕ) → element_at (the_ring q h.size) (shown_scene q h x s).memory (h.base + i) ≡ element_at (the_ring q h.size) s.memory (h.base + i)
-element_stays q h x s i =
-    let bs : List ℕ = little_bytes 2 x in
-    let two : length bs ≡ 2 = length_little 2 x in
-    let p : ℕ = used_idx_place (the_ring q h.size) in
-    let id : word 4 (put s.memory 0 p bs) 0 (used_id_place (the_ring q h.size) (h.base + i)) ≡ word 4 s.memory 0 (used_id_place (the_ring q h.size) (h.base + i)) = keeps 4 s.memory p bs (used_id_place (the_ring q h.size) (h.base + i)) (inr (omega arith)) in
-    let len : word 4 (put s.memory 0 p bs) 0 (used_len_place (the_ring q h.size) (h.base + i)) ≡ word 4 s.memory 0 (used_len_place (the_ring q h.size) (h.base + i)) = keeps 4 s.memory p bs (used_len_place (the_ring q h.size) (h.base + i)) (inr (omega arith)) in
-    ap (λ (y : ℕ). (y, word 4 (put s.memory 0 p bs) 0 (used_len_place (the_ring q h.size) (h.base + i)))) id ∙ ap (λ (y : ℕ). (word 4 s.memory 0 (used_id_place (the_ring q h.size) (h.base + i)), y)) len
-
--- the elements of the batch stand
-new_element : (q : ℕ) (h : Header1) (s : Scene) (l : Lane) (done e : ℕ) → IsUnderWay q h s l done → done ≡ 2 * length l.batch → e < length l.batch
-    → element_at (the_ring q h.size) s.memory (h.base + length (published s.past q) + e) ≡ spot q (s.heads q) s.past (slice_index l.batch e)
-new_element q h s l done e u whole inside =
-    let P : ℕ = h.base + length (published s.past q) in
-    let k : ℕ = slice_index l.batch e in
-    let held : is_among l.batch k ≡ true = among_at l.batch e inside in
-    words_element q h s l.batch done e (P + e) whole inside (element_place q h.size h.base s.past (s.heads q) s.memory e u.holds.queue.ringed) u.holds.queue.words
-    ∙ ap (λ (len : ℕ). (slice_index (s.heads q) k, len)) (len_is h (asked s.past q k) u.back (batch_wide q h s l done k u held)).0
-
--- so each element stands that will be seen: an old one, or one of the batch
-shown_element : (q : ℕ) (h : Header1) (s : Scene) (l : Lane) (done i : ℕ) → IsUnderWay q h s l done → done ≡ 2 * length l.batch → collected s.past q ≤ i → i < length (published s.past q) + length l.batch
-    → element_at (the_ring q h.size) s.memory (h.base + i) ≡ spot q (s.heads q) s.past (slice_index (published s.past q ++ l.batch) i)
-shown_element q h s l done i u whole from upto =
-    let r : Ringed q h.size h.base s.past (s.heads q) s.memory = u.holds.queue.ringed in
-    elim (cases_lt i (length (published s.past q))) [
-      | inl low ↦ r.used_at i from low ∙ sym (ap (spot q (s.heads q) s.past) (get_or_append_left (published s.past q) l.batch 0 i low))
-      | inr high ↦
-          let e : ℕ = i - length (published s.past q) in
-          let at : i ≡ length (published s.past q) + e = omega arith in
-          let place : h.base + i ≡ h.base + length (published s.past q) + e = omega arith in
-          let k : slice_index (published s.past q ++ l.batch) i ≡ slice_index l.batch e = ap (slice_index (published s.past q ++ l.batch)) at ∙ get_or-append-add (published s.past q) l.batch e 0 in
-          ap (element_at (the_ring q h.size) s.memory) place ∙ new_element q h s l done e u whole (omega arith) ∙ sym (ap (spot q (s.heads q) s.past) k)
-    ]
-
-shown_ringed : (q : ℕ) (h : Header1) (x : ℕ) (s : Scene) (l : Lane) (done : ℕ) → IsUnderWay q h s l done → done ≡ 2 * length l.batch → x ≡ (h.base + length (published s.past q) + length l.batch) % 65536
-    → Ringed q h.size h.base (shown_past q h x s l) (s.heads q) (shown_scene q h x s).memory
-shown_ringed q h x s l done u whole is =
-    let r : Ringed q h.size h.base s.past (s.heads q) s.memory = u.holds.queue.ringed in
-    let bs : List ℕ = little_bytes 2 x in
-    let two : length bs ≡ 2 = length_little 2 x in
-    let p : ℕ = used_idx_place (the_ring q h.size) in
-    let ps : published (shown_past q h x s l) q ≡ published s.past q ++ l.batch = shown_published q h x s l in
-    let many : length (published (shown_past q h x s l) q) ≡ length (published s.past q) + length l.batch = ap (λ (ks : List ℕ). length ks) ps ∙ length-append (published s.past q) l.batch in record {
-      avail_idx_is = keeps 2 s.memory p bs (avail_idx_place (the_ring q h.size)) (inl (omega arith)) ∙ r.avail_idx_is;
-      used_idx_is = word-put_same 2 s.memory 0 p x (omega arith) ∙ is ∙ omega (arith, many);
-      avail_at = λ i from upto. let small = entry_small h.size (h.base + i) u.good.size in keeps 2 s.memory p bs (avail_entry_place (the_ring q h.size) (h.base + i)) (inl (omega arith)) ∙ r.avail_at i from upto;
-      used_at = λ i from upto.
-          let named : slice_index (published (shown_past q h x s l) q) i ≡ slice_index (published s.past q ++ l.batch) i = ap (λ (ks : List ℕ). slice_index ks i) ps in
-          element_stays q h x s i ∙ shown_element q h s l done i u whole from (omega (arith, many)) ∙ sym (ap (spot q (s.heads q) s.past) named);
-    }
-
-shown_worked : (q : ℕ) (h : Header1) (x : ℕ) (s : Scene) (l : Lane) (done : ℕ) → IsUnderWay q h s l done → Worked q (shown_past q h x s l) phases.Rest [] l.completed l.made
-shown_worked q h x s l done u =
+shown_worked : (q : ℕ) (h : Header1) (p : ℕ) (bs : List ℕ) (s : Scene) (l : Lane) (done : ℕ) → IsUnderWay q h s l done → Worked q (shown_past q p bs s l.batch) phases.Rest [] l.completed l.made
+shown_worked q h p bs s l done u =
     let w : Worked q s.past (phases.Publish done) l.batch l.completed l.made = u.holds.worked in
-    let ps : published (shown_past q h x s l) q ≡ published s.past q ++ l.batch = shown_published q h x s l in
+    let ps : published (shown_past q p bs s l.batch) q ≡ published s.past q ++ l.batch = shown_published q h p bs s l in
     let parts = distinct_parts l.completed l.batch w.distinct in
     let bare : (k : ℕ) → is_among (l.completed ++ []) k ≡ true → is_among l.completed k ≡ true = λ k held. ap (λ (ks : List ℕ). is_among ks k) (sym (append-nil l.completed)) ∙ held in
     let same : (k : ℕ) → is_among (l.completed ++ []) k ≡ true → is_among (l.completed ++ l.batch) k ≡ true = λ k held. is_among_append l.completed l.batch k ∙ or_left (is_among l.completed k) (is_among l.batch k) (bare k held) in
@@ -173,79 +103,108 @@ shown_worked q h x s l done u =
     }
 
 -- an open number after the publication was open before it
-still_open : (q : ℕ) (h : Header1) (x : ℕ) (s : Scene) (l : Lane) (k : ℕ) → IsOpen (shown_past q h x s l) q k → IsOpen s.past q k
-still_open q h x s l k is_open = record {
+still_open : (q : ℕ) (h : Header1) (p : ℕ) (bs : List ℕ) (s : Scene) (l : Lane) (k : ℕ) → IsOpen (shown_past q p bs s l.batch) q k → IsOpen s.past q k
+still_open q h p bs s l k is_open = record {
   taken = is_open.taken;
   unpublished =
-      let ps : published (shown_past q h x s l) q ≡ published s.past q ++ l.batch = shown_published q h x s l in
+      let ps : published (shown_past q p bs s l.batch) q ≡ published s.past q ++ l.batch = shown_published q h p bs s l in
       let whole : is_among (published s.past q ++ l.batch) k ≡ false = ap (λ (ks : List ℕ). is_among ks k) (sym ps) ∙ is_open.unpublished in
       let joined : is_among (published s.past q ++ l.batch) k ≡ (is_among (published s.past q) k || is_among l.batch k) = is_among_append (published s.past q) l.batch k in
       grind (arith, nat_tests);
 }
 
-shown_holds : (q : ℕ) (h : Header1) (x : ℕ) (s : Scene) (l : Lane) (done : ℕ) → IsUnderWay q h s l done → done ≡ 2 * length l.batch → x ≡ (h.base + length (published s.past q) + length l.batch) % 65536
-    → Holds q h (record (shown_scene q h x s) { past = shown_past q h x s l }) (resting l)
-shown_holds q h x s l done u whole is =
-    let ps : published (shown_past q h x s l) q ≡ published s.past q ++ l.batch = shown_published q h x s l in
-    let st = shown_stored q h x s l done u in
-    let c : ℕ = collected s.past q in
-    let front : take c (published (shown_past q h x s l) q) ≡ take c (published s.past q) = ap (take c) ps ∙ take-append-le c (published s.past q) l.batch u.holds.known.shown in record {
-      known = shown_known q h x s l done u;
-      worked = shown_worked q h x s l done u;
+shown_holds : (q : ℕ) (h : Header1) (p : ℕ) (bs : List ℕ) (s : Scene) (l : Lane) (done : ℕ) → IsUnderWay q h s l done → ((k : ℕ) → OffBuffer q (s.heads q) k p bs)
+    → QueueFacts q h (record (stored_at p bs s) { past = shown_past q p bs s l.batch }) l.driver [] phases.Rest → Holds q h (record (stored_at p bs s) { past = shown_past q p bs s l.batch }) (resting l)
+shown_holds q h p bs s l done u off queue =
+    let st = shown_stored q h p bs s l done u off in record {
+      known = shown_known q h p bs s l done u off;
+      worked = shown_worked q h p bs s l done u;
       stored = record {
-        sectors = λ k i is_open kept read. st.sectors k i (still_open q h x s l k is_open) kept read;
+        sectors = λ k i is_open kept read. st.sectors k i (still_open q h p bs s l k is_open) kept read;
         status = λ k held. st.status k (is_among_append l.completed l.batch k ∙ or_left (is_among l.completed k) (is_among l.batch k) (ap (λ (ks : List ℕ). is_among ks k) (sym (append-nil l.completed)) ∙ held));
       };
-      queue = record {
-        ringed = shown_ringed q h x s l done u whole is;
-        driven = driven_same q h.size h.capacity h.base s.past (shown_past q h x s l) (s.heads q) l.driver (λ k out. record { below = out.below; kept = ap (λ (ks : List ℕ). is_among ks k) (sym front) ∙ out.kept }) u.holds.queue.driven;
-        words = words_rest q h (record (shown_scene q h x s) { past = shown_past q h x s l }) u.started (omega (arith, (shown_ringed q h x s l done u whole is).used_idx_is));
-      };
+      queue = queue;
     }
 
-shown_legal : (q : ℕ) (h : Header1) (x : ℕ) (s : Scene) (l : Lane) (done : ℕ) → IsUnderWay q h s l done → MayPublish h.capacity h.mode s.past q (shown_list q h x s l)
-shown_legal q h x s l done u =
+shown_legal : (q : ℕ) (h : Header1) (p : ℕ) (bs : List ℕ) (s : Scene) (l : Lane) (done : ℕ) → IsUnderWay q h s l done → ((k : ℕ) → OffBuffer q (s.heads q) k p bs) → MayPublish h.capacity h.mode s.past q (shown_list q p bs s l.batch)
+shown_legal q h p bs s l done u off =
     let w : Worked q s.past (phases.Publish done) l.batch l.completed l.made = u.holds.worked in
     let some : (0 < length l.batch) × (done < 2 * length l.batch + 1) = phase_at q h s (publishing done l) u.holds in
-    let f : ℕ → Answered = answer_at q (shown_scene q h x s) in
-    let st = shown_stored q h x s l done u in
+    let f : ℕ → Answered = answer_at q (stored_at p bs s) in
+    let st = shown_stored q h p bs s l done u off in
     let parts = distinct_parts l.completed l.batch w.distinct in record {
       started = u.started;
       some = omega (arith, some.0, length-map l.batch f);
-      distinct = distinct_from_test (numbers (shown_list q h x s l)) (ap are_distinct (numbers_answers q (shown_scene q h x s) l.batch) ∙ parts.second);
+      distinct = distinct_from_test (numbers (shown_list q p bs s l.batch)) (ap are_distinct (numbers_answers q (stored_at p bs s) l.batch) ∙ parts.second);
       opens = all_map (λ a. IsOpen s.past q a.number) f l.batch (λ k held. batch_open q h s l done k u held);
-      answered = all_map (λ a. IsAnswer h.capacity h.mode s.past q a) f l.batch (λ k held. answer_right q h s l done (shown_scene q h x s).memory k u st held);
+      answered = all_map (λ a. IsAnswer h.capacity h.mode s.past q a) f l.batch (λ k held. answer_right q h s l done (stored_at p bs s).memory k u st held);
     }
 
-abbrev index_turn : ℕ → Header1 → Scene → Lane → ℕ → ℕ → Bool → Turned
-index_turn q h s l done x more = record {
-  items = items.Store SP5 M (used_idx_place (the_ring q h.size)) (little_bytes 2 x) ∷ items.Made (entries.Publish q (shown_list q h x s l)) ∷ [];
-  lane = with_phase (if more then phases.Publish (done + 1) else phases.Rest) (publishing done l);
+-- ---- the next row
+
+-- the turn of a row, where more or none is left after it
+abbrev row_turn : List Item → ℕ → Lane → Bool → Turned
+row_turn is done l more = record { items = is; lane = with_phase (if more then phases.Publish (done + 1) else phases.Rest) (publishing done l) }
+
+before_holds : (q : ℕ) (h : Header1) (s : Scene) (l : Lane) (done : ℕ) (step : Step) → IsUnderWay q h s l done → (x : RowBefore q h s l.driver l.batch done step) → Holds q h (stored_at x.place x.bytes s) (one_on done l)
+before_holds q h s l done step u x = record {
+  known = u.holds.known;
+  worked = worked_on q s.past l.batch l.completed l.made (phases.Publish done) done refl u.holds.worked;
+  stored = stored_elsewhere q s.past (s.heads q) s.memory x.place x.bytes l.batch l.completed l.made u.holds.worked.opens (λ k is_open. x.off k) u.holds.stored;
+  queue = x.queue;
 }
 
-index_fine : (q : ℕ) (h : Header1) (s : Scene) (l : Lane) (done : ℕ) → IsUnderWay q h s l done → done ≡ 2 * length l.batch → Fine q h s (publishing done l) (phase_turn h q s (publishing done l) (Some steps.Index))
-index_fine q h s l done u whole =
-    let x : ℕ = (used_idx (the_ring q h.size) s.memory + length (map (element_of h q s) l.batch)) % 65536 in
-    let many : length (map (element_of h q s) l.batch) ≡ length l.batch = length-map l.batch (element_of h q s) in
-    let is : x ≡ (h.base + length (published s.past q) + length l.batch) % 65536 = omega (arith, u.holds.queue.ringed.used_idx_is, many) in
-    let holds = shown_holds q h x s l done u whole is in
-    let fine : Fine q h s (publishing done l) (index_turn q h s l done x false) = record {
-      each = (inl tt, (inr (holds_track q h (record (shown_scene q h x s) { past = shown_past q h x s l }) (resting l) u.good holds), tt));
+-- a row that leaves the elements hidden
+before_fine : (q : ℕ) (h : Header1) (s : Scene) (l : Lane) (done : ℕ) (step : Step) → IsUnderWay q h s l done → nat_lt (done + 1) (length (publish_steps (length l.batch))) ≡ true → RowBefore q h s l.driver l.batch done step
+    → Fine q h s (publishing done l) (phase_turn h q s (publishing done l) (Some step))
+before_fine q h s l done step u more x =
+    let holds = before_holds q h s l done step u x in
+    let low : done + 1 < 2 * length l.batch + 1 = x.more in
+    let fine : Fine q h s (publishing done l) (row_turn (items.Store x.tag M x.place x.bytes ∷ []) done l true) = record {
+      each = (inr (holds_track q h (stored_at x.place x.bytes s) (one_on done l) u.good holds), tt);
       holds = holds;
-      legal = (shown_legal q h x s l done u, tt);
+      legal = tt;
       runs = u.started;
       collects = refl;
-      falls = omega (arith, shown_falls (published s.past q) (published (shown_past q h x s l) q) l.completed l.batch l.made (accepted s.past q) (shown_published q h x s l));
+      falls = omega arith;
     } in
-    subst (λ (b : Bool). Fine q h s (publishing done l) (index_turn q h s l done x b)) (sym (none_left (length l.batch) done whole)) fine
+    let one : Fine q h s (publishing done l) (row_turn (step_items h q l.batch step s) done l true) = subst (λ (is : List Item). Fine q h s (publishing done l) (row_turn is done l true)) (sym x.stores) fine in
+    subst (λ (b : Bool). Fine q h s (publishing done l) (row_turn (step_items h q l.batch step s) done l b)) (sym more) one
+
+-- the row that shows them, with its publication
+shows_fine : (q : ℕ) (h : Header1) (s : Scene) (l : Lane) (done : ℕ) (step : Step) → IsUnderWay q h s l done → nat_lt (done + 1) (length (publish_steps (length l.batch))) ≡ false → RowShows q h s l.driver l.batch step
+    → Fine q h s (publishing done l) (phase_turn h q s (publishing done l) (Some step))
+shows_fine q h s l done step u none x =
+    let holds = shown_holds q h x.place x.bytes s l done u x.off x.queue in
+    let some : (0 < length l.batch) × (done < 2 * length l.batch + 1) = phase_at q h s (publishing done l) u.holds in
+    let fine : Fine q h s (publishing done l) (row_turn (items.Store x.tag M x.place x.bytes ∷ items.Made (entries.Publish q (shown_list q x.place x.bytes s l.batch)) ∷ []) done l false) = record {
+      each = (inl tt, (inr (holds_track q h (record (stored_at x.place x.bytes s) { past = shown_past q x.place x.bytes s l.batch }) (resting l) u.good holds), tt));
+      holds = holds;
+      legal = (shown_legal q h x.place x.bytes s l done u x.off, tt);
+      runs = u.started;
+      collects = refl;
+      falls = omega (arith, some.0, some.1, shown_falls (published s.past q) (published (shown_past q x.place x.bytes s l.batch) q) l.completed l.batch l.made (accepted s.past q) (shown_published q h x.place x.bytes s l));
+    } in
+    let one : Fine q h s (publishing done l) (row_turn (step_items h q l.batch step s) done l false) = subst (λ (is : List Item). Fine q h s (publishing done l) (row_turn is done l false)) (sym x.stores) fine in
+    subst (λ (b : Bool). Fine q h s (publishing done l) (row_turn (step_items h q l.batch step s) done l b)) (sym none) one
 
 -- the next store of a publication, and at its end the publication
 pub publication_fine : (q : ℕ) (h : Header1) (s : Scene) (l : Lane) (done : ℕ) → IsUnderWay q h s l done → Fine q h s (publishing done l) (phase_goes_on h q s (publishing done l))
 publication_fine q h s l done u =
+    let w : Worked q s.past (phases.Publish done) l.batch l.completed l.made = u.holds.worked in
     let some : (0 < length l.batch) × (done < 2 * length l.batch + 1) = phase_at q h s (publishing done l) u.holds in
-    go (slice_get (publish_steps (length l.batch)) done) (step_at 0 (length l.batch) done some.1)
+    let room = batch_room q s.past (phases.Publish done) l.batch l.completed l.made h.size h.capacity (s.heads q) u.holds.known w in
+    let way : IsPublishing q h s l.driver l.batch done = record {
+      size = u.good.size;
+      back = u.back;
+      started = u.started;
+      known = u.holds.known;
+      room = room;
+      out = λ k held. open_out q h.size h.capacity s.past (s.heads q) k u.holds.known (batch_open q h s l done k u held);
+      queue = u.holds.queue;
+    } in
+    go (slice_get (publish_steps (length l.batch)) done) (queue_row q h s l.driver l.batch done way some.1)
   where
-    go : (o : Option Step) → StepAt 0 (length l.batch) done o → Fine q h s (publishing done l) (phase_turn h q s (publishing done l) o)
-    go o (AtId e inside at is) = subst (λ (x : Option Step). Fine q h s (publishing done l) (phase_turn h q s (publishing done l) x)) (sym (is ∙ ap (λ (k : ℕ). Some (steps.Id k)) (let same : 0 + e ≡ e = omega arith in same))) (id_fine q h s l done e u inside at)
-    go o (AtLen e inside at is) = subst (λ (x : Option Step). Fine q h s (publishing done l) (phase_turn h q s (publishing done l) x)) (sym (is ∙ ap (λ (k : ℕ). Some (steps.Len k)) (let same : 0 + e ≡ e = omega arith in same))) (len_fine q h s l done e u inside at)
-    go o (AtIndex at is) = subst (λ (x : Option Step). Fine q h s (publishing done l) (phase_turn h q s (publishing done l) x)) (sym is) (index_fine q h s l done u at)
+    go : (o : Option Step) → NextRow q h s l.driver l.batch done o → Fine q h s (publishing done l) (phase_turn h q s (publishing done l) o)
+    go o (Before step is more x) = subst (λ (y : Option Step). Fine q h s (publishing done l) (phase_turn h q s (publishing done l) y)) (sym is) (before_fine q h s l done step u more x)
+    go o (Shows step is none x) = subst (λ (y : Option Step). Fine q h s (publishing done l) (phase_turn h q s (publishing done l) y)) (sym is) (shows_fine q h s l done step u none x)

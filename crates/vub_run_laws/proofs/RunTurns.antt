@@ -15,11 +15,11 @@ use Rattle.vub_run.specs.Moments.{Lane, Moment, standing, unfinished}
 use Rattle.vub_run.specs.Turns.{turned, work_turn, phase_goes_on, under_way}
 use Rattle.vub_run_laws.proofs.RunNumbers.{among_filter, missing-among}
 use Rattle.vub_facts.proofs.HeadLemmas.{among_get}
-use Rattle.vub_run_laws.proofs.RunFacts.{phase_at}
-use Rattle.vub_run_laws.proofs.RunGood.{PhaseIs, Holds}
-use Rattle.vub_run_laws.proofs.RunGuests.{IsGood}
+use Rattle.vub_run_laws.proofs.RunGood.{PhaseIs, IsGood}
+use Rattle.vub_run_laws.proofs.RunHolds.{Holds}
 use Rattle.vub_run_laws.proofs.RunWork.{Fine, request_fine}
-use Rattle.vub_run_laws.proofs.RunPhases.{resting, rest_is, start_fine, some_waits, fetch_fine, taking, taking_holds, taking_effort}
+use Rattle.vub_run_laws.proofs.RunPhases.{resting, rest_is, start_fine, fetch_fine, taking, taking_holds, taking_effort}
+use Rattle.vub_run_laws.proofs.RunQueue.{queue_ahead, phase_at}
 use Rattle.vub_run_laws.proofs.RunPublications.{publishing}
 use Rattle.vub_run_laws.proofs.RunShown.{publication_fine}
 
@@ -64,7 +64,7 @@ fetch_due q h m plain good ready =
           let run : started m.scene.past q ≡ true = grind (arith, nat_tests) in
           let no_fetch : is_fetch l.phase ≡ false = ap is_fetch rest.0 in
           let some : 0 < (standing h q m).waiting = grind (arith, nat_tests) in
-          let more : accepted m.scene.past q < length (m.scene.heads q) = omega (arith, some, some_waits q h m.scene l plain.good good.holds) in
+          let more : accepted m.scene.past q < length (m.scene.heads q) = omega (arith, some, queue_ahead q h m.scene l plain.good good.holds) in
           subst (λ (x : Lane). Fine q h m.scene x (phase_goes_on h q m.scene (under_way turns.Fetch x))) same (fetch_fine q h m.scene l plain.good run more at_rest)
       | inr shows ↦
           let publishes : is_publication l.phase ≡ true = ap is_publication shows.1 in

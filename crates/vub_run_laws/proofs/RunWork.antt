@@ -33,12 +33,13 @@ use Rattle.vub_report.specs.Histories.{entries_of}
 use Rattle.vub_run.specs.Turns.{Turned, request_turn, task_turn}
 use Rattle.vub_run_laws.proofs.RunNumbers.{distinct_join}
 use Rattle.vub_facts.proofs.HeadLemmas.{distinct_parts, distinct_push}
-use Rattle.vub_run_laws.proofs.RunGood.{IsWideRead, IsWideWrite, IsWide, Known, IsReadTo, IsWrittenTo, Progress, IsBegun, IsFull, IsPending, Worked, IsKept, Stored, IsRead, buffer, Holds}
+use Rattle.vub_run_laws.proofs.RunGood.{IsWideRead, IsWideWrite, IsWide, Known, IsReadTo, IsWrittenTo, Progress, IsBegun, IsFull, IsPending, Worked, IsKept, Stored, IsRead, buffer, IsGood, stored_at}
+use Rattle.vub_run_laws.proofs.RunHolds.{Holds}
 use Rattle.vub_run_laws.proofs.RunSteps.{WideCases, AtRead, AtWrite, AtFlush, wide_cases, wide_served, wide_steps, ReadAt, ToLook, ToPut, ToReply, read_at, WriteAt, ToAct, ToEnd, write_at, look_is, written, effect_is, read_to, written_to}
 use Rattle.vub_run_laws.proofs.RunEfforts.{effort, step_falls, status_falls}
 use Rattle.vub_run_laws.proofs.RunFrames.{open_out, OffBuffer, sector_elsewhere, status_elsewhere, other_buffer}
-use Rattle.vub_run_laws.proofs.RunQueue.{queue_same, queue_elsewhere}
-use Rattle.vub_run_laws.proofs.RunGuests.{IsGood, stored_at, holds_track}
+use Rattle.vub_run_laws.proofs.RunQueue.{queue_same, queue_elsewhere, heads_apart}
+use Rattle.vub_run_laws.proofs.RunGuests.{holds_track}
 
 -- ---- requests
 
@@ -446,7 +447,7 @@ sync_fine q h s l k x is none =
 
 pub other_open : (q : ℕ) (h : Header1) (s : Scene) (l : Lane) (k j : ℕ) → IsLeft q h s l k → IsOpen s.past q j → j ≢ k → slice_index (s.heads q) j ≢ slice_index (s.heads q) k
 other_open q h s l k j x is_open apart same =
-    apart (x.holds.queue.driven.apart j k (open_out q h.size h.capacity s.past (s.heads q) j x.holds.known is_open) (open_out q h.size h.capacity s.past (s.heads q) k x.holds.known x.is_open) same)
+    apart (heads_apart q h s l.driver l.batch l.phase j k x.holds.queue (open_out q h.size h.capacity s.past (s.heads q) j x.holds.known is_open) (open_out q h.size h.capacity s.past (s.heads q) k x.holds.known x.is_open) same)
 
 -- a store into the buffer of one request leaves those of the others
 off_other : (q : ℕ) (h : Header1) (s : Scene) (l : Lane) (k j p : ℕ) (bs : List ℕ) → IsLeft q h s l k → IsOpen s.past q j → j ≢ k → buffer q (s.heads q) k ≤ p → p + length bs ≤ buffer q (s.heads q) k + 8192 → OffBuffer q (s.heads q) j p bs

@@ -1,10 +1,9 @@
 -- Sizes of a queue.
-use Rattle.std.proofs.Common.{◌≡◌, ◌≤◌, ℕ, sym, subst, true, refl, lit≤, inl, inr}
+use Rattle.std.proofs.Common.{◌≡◌, ◌≤◌, ℕ, sym, subst, true, refl, lit≤, inl, inr, arith}
 use Rattle.std.specs.Int.{◌∣◌}
 use Rattle.std.proofs.lemmas.Bool.Decides.{nat_tests}
 use Rattle.std.proofs.lemmas.Bool.{cases_eq}
 use Rattle.std.proofs.lemmas.Nat.Gcd.{dvd_of_mod-eq-zero}
-use Rattle.std.proofs.Common.{arith}
 use Rattle.vub_schedule.specs.Spelling.{is_size}
 
 -- a size of a queue divides the range of its indexes

@@ -21,7 +21,7 @@ use Rattle.vub_run.specs.Moments.{Moment}
 use Rattle.vub_queue_in_run.specs.QueueAt.{QueueStands, spot_of}
 use Rattle.vub_queue.specs.QueueState.{course_in, QueueState}
 use Rattle.vub_world.proofs.MachineTurns.{among_right}
-use Rattle.vub_run_laws.proofs.RunFacts.{phase_at}
+use Rattle.vub_run_laws.proofs.RunQueue.{phase_at}
 use Rattle.vub_run_laws.proofs.RunFrames.{open_out}
 use Rattle.vub_run_laws.proofs.RunGood.{IsWide, PhaseIs, IsOut}
 use Rattle.vub_facts.proofs.HeadLemmas.{among_get}

@@ -38,8 +38,10 @@ use Rattle.vub_run.specs.Moments.{Lane, Moment}
 use Rattle.vub_queue.specs.QueueState.{state_of}
 use Rattle.vub_run.specs.Run.{Stands, played, with_driver, next_collected, take_first, collect}
 use Rattle.vub_run_laws.proofs.RunNumbers.{among_at}
-use Rattle.vub_run_laws.proofs.RunGood.{the_ring, IsOut, Known}
-use Rattle.vub_run_laws.proofs.RunCollects.{IsTaken, none_before, first_seen, after_taken}
+use Rattle.vub_run_laws.proofs.RingGood.{the_ring}
+use Rattle.vub_run_laws.proofs.RunGood.{IsOut, Known}
+use Rattle.vub_run_laws.proofs.RunTaken.{IsTaken, none_before}
+use Rattle.vub_run_laws.proofs.RingCollects.{first_seen, after_taken}
 use Rattle.vub_run_laws.proofs.RunTurns.{IsPlain, Good}
 use Rattle.vub_run_laws.proofs.Runs.{plain_header}
 use Rattle.vub_run_laws.proofs.RunsTo.{stands_good}

@@ -11,7 +11,7 @@ use Rattle.vub_shared.specs.Watched.{bytes_in}
 use Rattle.vub_ring.specs.Ring.{last_head}
 use Rattle.vub_guest.specs.GuestState.{driver_in}
 use Rattle.vub_guest.proofs.GuestLemmas.{left_few, left_some}
-use Rattle.vub_run_laws.proofs.RunChainsStores.{put_all}
+use Rattle.vub_run_laws.proofs.RunChainsStores.{put_all, header_long, linked, linked_two}
 use Rattle.vub_world.proofs.MachineGuestOffers.{shown_below}
 use Rattle.vub_driver.specs.Layout.{status_place, sectors_place}
 use Rattle.vub_driver.specs.Drivers.{Driver, Waiting}
@@ -24,10 +24,10 @@ use Rattle.vub_world.specs.MachineFront.{IsSmall, AreSmall, FrontFits, ShowsPlac
 use Rattle.vub_run.specs.Moments.{Moment}
 use Rattle.vub_run.specs.Run.{Stands}
 use Rattle.vub_device.specs.Requests.{request_of}
-use Rattle.vub_run_laws.proofs.RunGood.{the_ring, IsWide, IsWaiting, WaitsWell}
+use Rattle.vub_run_laws.proofs.RingGood.{the_ring, IsWaiting, WaitsWell}
+use Rattle.vub_run_laws.proofs.RunGood.{IsWide}
 use Rattle.vub_run_laws.proofs.RunFrames.{length_little}
 use Rattle.vub_run_laws.proofs.RunChains.{buffer_at, chain_of, desc_long}
-use Rattle.vub_run_laws.proofs.RunChainsStores.{header_long, linked, linked_two}
 use Rattle.vub_run_laws.proofs.RunChainsMade.{all_append, all_last}
 use Rattle.vub_run_laws.proofs.RunChainsTurns.{IsPrepared, PreparedWell}
 use Rattle.vub_run_laws.proofs.RunChainsEvents.{ChainedAt}

@@ -36,7 +36,8 @@ use Rattle.vub_run.specs.Moments.{Lane, Moment}
 use Rattle.vub_queue.specs.QueueState.{state_of}
 use Rattle.vub_run.specs.Run.{Stands, played, if_ready, with_lane, with_driver, guest_items, guest_stores, guest}
 use Rattle.vub_device.specs.Requests.{request_of}
-use Rattle.vub_run_laws.proofs.RunGood.{the_ring, Known, IsOut, Driven}
+use Rattle.vub_run_laws.proofs.RingGood.{the_ring, Driven}
+use Rattle.vub_run_laws.proofs.RunGood.{Known, IsOut}
 use Rattle.vub_run_laws.proofs.RunOffers.{same_head, new_head, same_asked, new_asked}
 use Rattle.vub_run_laws.proofs.RunTurns.{Good}
 use Rattle.vub_run_laws.proofs.RunsTo.{stands_good, stands_more}

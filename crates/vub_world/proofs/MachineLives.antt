@@ -12,7 +12,7 @@ use Rattle.vub_queue_in_run.specs.QueueAt.{QueueStands, QueueAt}
 use Rattle.vub_queue.specs.QueueState.{IsNew, state_of}
 use Rattle.vub_run.specs.Run.{played, if_ready, boot, join}
 use Rattle.vub_queue_in_run.proofs.QueueAtMoves.{at_new}
-use Rattle.vub_run_laws.proofs.RunFacts.{phase_at}
+use Rattle.vub_run_laws.proofs.RunQueue.{phase_at}
 use Rattle.vub_run_laws.proofs.RunGood.{PhaseIs}
 use Rattle.vub_run_laws.proofs.RunTurns.{IsPlain, Good}
 

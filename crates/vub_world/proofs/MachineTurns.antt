@@ -3,6 +3,7 @@ use Rattle.std.proofs.Common.{◌≡◌, ◌≤◌, ◌<◌, ◌⊎◌, ℕ, ◌
 use Rattle.std.specs.Prelude.{Option, Some, None, Result, Ok, unwrap_or, option_map, slice_index, slice_get, ◌==◌, ◌||◌, ⊤}
 use Rattle.std.proofs.lemmas.Bool.Decides.{nat_tests}
 use Rattle.byteorder.specs.Endian.{little_bytes}
+use Rattle.vub_run_laws.proofs.RunQueue.{phase_at, queue_ahead}
 use Rattle.vub_base.specs.declared.header.Header1.{Header1}
 use Rattle.vub_base.specs.declared.store.Tag.{Tag}
 use Rattle.vub_base.specs.declared.store.Tag.TheVariants.{SP5}
@@ -53,10 +54,9 @@ use Rattle.vub_task.specs.TaskState.{Making}
 use Rattle.vub_run.specs.Turns.{turned, answer_len, answer_at}
 use Rattle.vub_run_laws.proofs.RunNumbers.{not_among-take}
 use Rattle.vub_run_laws.proofs.RunFrames.{open_out, length_little}
-use Rattle.vub_run_laws.proofs.RunFacts.{phase_at}
-use Rattle.vub_run_laws.proofs.RunGood.{IsWide, IsOut, PhaseIs, Holds}
+use Rattle.vub_run_laws.proofs.RunGood.{IsWide, IsOut, PhaseIs}
+use Rattle.vub_run_laws.proofs.RunHolds.{Holds}
 use Rattle.vub_run_laws.proofs.RunOwn.{accepted_own}
-use Rattle.vub_run_laws.proofs.RunPhases.{some_waits}
 use Rattle.vub_run_laws.proofs.RunTurns.{IsPlain, Good}
 use Rattle.vub_run_laws.proofs.RunChainsEvents.{ChainedAt}
 use Rattle.vub_queue_in_run.proofs.QueueAtMoves.{new_unpublished}
@@ -135,7 +135,7 @@ waits_there batch (phases.Fetch done) s w u c is ready = absurd is
 more_offered : (q : ℕ) (h : Header1) (m : Moment) → IsPlain h → Good q h m → is_ready (standing h q m) turns.Fetch ≡ true → accepted m.scene.past q < length (m.scene.heads q)
 more_offered q h m plain good ready =
     let st : Standing = standing h q m in
-    let some = some_waits q h m.scene (m.lanes q) plain.good good.holds in
+    let some = queue_ahead q h m.scene (m.lanes q) plain.good good.holds in
     let waits = waits_there (m.lanes q).batch (m.lanes q).phase st.started st.waiting st.unfinished st.completed (phase_at q h m.scene (m.lanes q) good.holds) ready in
     omega (arith, some, waits)
 

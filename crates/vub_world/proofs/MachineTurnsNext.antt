@@ -11,7 +11,7 @@ use Rattle.vub_world.specs.MachineDevice.{turn_here}
 use Rattle.vub_run.specs.Moments.{Moment, standing}
 use Rattle.vub_queue_in_run.specs.QueueAt.{QueueStands, LiesAs}
 use Rattle.vub_queue.specs.QueueState.{QueueState, standing_at, waiting}
-use Rattle.vub_run_laws.proofs.RunGood.{Holds}
+use Rattle.vub_run_laws.proofs.RunHolds.{Holds}
 use Rattle.vub_run_laws.proofs.Runs.{plain_header}
 use Rattle.vub_run_laws.proofs.RunTurns.{IsPlain, Good}
 use Rattle.vub_run_laws.proofs.RunChainsEvents.{ChainedAt}

@@ -1,5 +1,5 @@
 -- The facts of a queue's words at the moments of a run.
-use Rattle.std.proofs.Common.{◌≡◌, ◌≤◌, ◌<◌, ℕ, zero, suc, ◌+◌, ◌*◌, Bool, true, false, List, [], ◌∷◌, ◌++◌, length, map, get_or, refl, ap, sym, ◌∙◌, subst, inl, inr, arith}
+use Rattle.std.proofs.Common.{◌≡◌, ◌≤◌, ◌<◌, ℕ, zero, suc, ◌+◌, ◌*◌, Bool, true, false, List, [], ◌∷◌, ◌++◌, length, map, take, get_or, refl, ap, sym, ◌∙◌, subst, inl, inr, arith}
 use Rattle.std.specs.Prelude.{Option, slice_index}
 use Rattle.byteorder.specs.Endian.{little_bytes}
 use Rattle.std.proofs.lemmas.Bool.{cases_Bool}
@@ -14,10 +14,11 @@ use Rattle.vub_steps.specs.declared.steps.Phase.TheVariants as phases
 use Rattle.vub_steps.specs.declared.steps.Step.TheVariants as steps
 use Rattle.vub_ring.specs.Ring.{Ring, entry_of, used_idx, element_at, used_id_place, used_len_place}
 use Rattle.vub_driver.specs.Layout.{area_place}
+use Rattle.vub_driver.specs.Drivers.{Driver}
 use Rattle.vub_device.specs.declared.entry.Asked.{Asked}
 use Rattle.vub_device.specs.declared.entry.Entry.{Entry}
 use Rattle.vub_device.specs.declared.entry.Entry.TheVariants as entries
-use Rattle.vub_device.specs.Past.{started, asked, accepted, published, missing_below, open_numbers, is_among, IsOpen}
+use Rattle.vub_device.specs.Past.{started, asked, accepted, published, collected, missing_below, open_numbers, is_among, IsOpen}
 use Rattle.vub_device.specs.Places.{are_distinct}
 use Rattle.vub_run.specs.Memory.{Scene}
 use Rattle.vub_run.specs.Moments.{Lane, open_heads}
@@ -27,8 +28,12 @@ use Rattle.vub_facts.proofs.FactWords.{facts_off, facts_beside, id_words, len_wo
 use Rattle.vub_facts.proofs.FactSteps.{publication_begins, step_keeps}
 use Rattle.vub_facts.proofs.HeadLemmas.{number_of, among_map, few_below}
 use Rattle.vub_run_laws.proofs.RunNumbers.{missing-among, among-missing}
-use Rattle.vub_run_laws.proofs.RunGood.{the_ring, side_of, WordsAt, IsSize, Known, Driven, IsOut, PhaseIs, RestsOrPublishes, Holds}
-use Rattle.vub_run_laws.proofs.RunFrames.{OffRings, open_out}
+use Rattle.vub_run_laws.proofs.RunGood.{IsSize, Known, IsOut, PhaseIs, RestsOrPublishes, LeavesQueue, stored_at}
+use Rattle.vub_run_laws.proofs.RingGood.{the_ring, side_of, WordsAt, Driven, QueueFacts}
+use Rattle.vub_run_laws.proofs.RunHolds.{Holds}
+use Rattle.vub_run_laws.proofs.RunFrames.{open_out}
+use Rattle.vub_run_laws.proofs.RingFrames.{OffRings, ringed_elsewhere}
+use Rattle.vub_run_laws.proofs.RingEntries.{ringed_entries, driven_same}
 use Rattle.vub_run_laws.proofs.RunOffers.{same_head, same_asked}
 
 -- where the rings of the layout lie
@@ -82,10 +87,15 @@ words_same q h s past' batch phase runs accepts shows asks f =
     facts_are h.size h.base (open_heads q s.past heads) (open_heads q past' heads) (side_of q h s batch phase) (side_of q h (record s { past = past' }) batch phase) (words_at (the_ring q h.size) s.memory) same
     (side_are (started s.past q) (started past' q) phase (map (element_of h q s) batch) (map (element_of h q (record s { past = past' })) batch) (sym runs) elements) f
 
+-- the facts of the words, where the requests of the queue were offered under these heads
+abbrev pub OfferedWords : ℕ → Header1 → Scene → Asked → Bytes → List ℕ → Phase → List ℕ → Type 0
+OfferedWords q h s r m batch phase hs =
+    Facts h.size (open_heads q (entries.Offer q r ∷ s.past) hs) h.base (record { started = started s.past q; phase = phase; batch = map (λ k. (slice_index hs k, len_of h (asked (entries.Offer q r ∷ s.past) q k))) batch }) (words_at (the_ring q h.size) m)
+
 -- an offer: what was accepted before keeps its head and its request
 pub words_offer : (q : ℕ) (h : Header1) (s : Scene) (r : Asked) (x : ℕ) (m : Bytes) (batch : List ℕ) (phase : Phase) → Known q h.size h.capacity s.past (s.heads q) → ((k : ℕ) → is_among batch k ≡ true → k < accepted s.past q)
     → WordsAt q h (record s { memory = m }) batch phase
-    → Facts h.size (open_heads q (entries.Offer q r ∷ s.past) (s.heads q ++ x ∷ [])) h.base (record { started = started s.past q; phase = phase; batch = map (λ k. (slice_index (s.heads q ++ x ∷ []) k, len_of h (asked (entries.Offer q r ∷ s.past) q k))) batch }) (words_at (the_ring q h.size) m)
+    → OfferedWords q h s r m batch phase (s.heads q ++ x ∷ [])
 words_offer q h s r x m batch phase known low f =
     let heads : List ℕ = s.heads q in
     let heads' : List ℕ = heads ++ x ∷ [] in
@@ -100,6 +110,18 @@ words_offer q h s r x m batch phase known low f =
     ap (λ (d : ℕ). (d, len_of h (asked s.past q k))) (head_is k (low k held)) ∙ ap (λ (o : Option Asked). (slice_index heads' k, len_of h o)) (asks_is k (low k held))) in
     facts_are h.size h.base (open_heads q s.past heads) (open_heads q past' heads') _ _ (words_at (the_ring q h.size) m) same
     (side_are (started s.past q) (started s.past q) phase (map (element_of h q s) batch) (map element' batch) refl elements) f
+
+-- an entry that offers, shows and collects nothing, with what it leaves of the words
+pub facts_entry : (q : ℕ) (h : Header1) (s : Scene) (past' : List Entry) (v : Driver) (batch : List ℕ) (phase : Phase) → LeavesQueue q s.past past' → collected past' q ≡ collected s.past q → WordsAt q h (record s { past = past' }) batch phase
+    → QueueFacts q h s v batch phase → QueueFacts q h (record s { past = past' }) v batch phase
+facts_entry q h s past' v batch phase leaves same words x = record {
+  ringed = ringed_entries q h.size h.base s.past past' (s.heads q) s.memory leaves x.ringed;
+  driven = driven_same q h.size h.capacity h.base s.past past' (s.heads q) v (λ j o. record {
+    below = o.below;
+    kept = ap (λ (ks : List ℕ). is_among (take (collected s.past q) ks) j) (sym leaves.shows) ∙ ap (λ (many : ℕ). is_among (take many (published past' q)) j) (sym same) ∙ o.kept;
+  }) x.driven;
+  words = words;
+}
 
 -- ---- at rest
 
@@ -173,6 +195,13 @@ words_elsewhere_at q h s p bs batch phase size off f =
     go : OffRings q p bs → Elsewhere (the_ring q h.size) (one_store 0 p bs)
     go (inl below) = record { avail = inr (inr (omega (arith, below))); used = inr (inr (omega (arith, below))) }
     go (inr above) = record { avail = inr (inl (omega (arith, above, size.small))); used = inr (inl (omega (arith, above, size.small))) }
+
+pub facts_elsewhere : (q : ℕ) (h : Header1) (s : Scene) (p : ℕ) (bs : List ℕ) (v : Driver) (batch : List ℕ) (phase : Phase) → IsSize h.size → OffRings q p bs → QueueFacts q h s v batch phase → QueueFacts q h (stored_at p bs s) v batch phase
+facts_elsewhere q h s p bs v batch phase size off x = record {
+  ringed = ringed_elsewhere q h.size h.base s.past (s.heads q) s.memory p bs size off x.ringed;
+  driven = x.driven;
+  words = words_elsewhere_at q h s p bs batch phase size off x.words;
+}
 
 -- below the used ring, where no fetch is under way
 pub words_below : (q : ℕ) (h : Header1) (s : Scene) (p : ℕ) (bs batch : List ℕ) (phase : Phase) → IsSize h.size → RestsOrPublishes phase → p + length bs ≤ area_place q + 8192 → WordsAt q h s batch phase → WordsAt q h (record s { memory = put s.memory 0 p bs }) batch phase

@@ -1,0 +1,96 @@
+-- What holds of a queue at every moment of a run: history, work, what stands in buffers, and the queue itself; what each
+-- store of a request and each row of a publication leaves of it.
+use Rattle.std.proofs.Common.{◌≡◌, ◌≤◌, ◌<◌, ℕ, ◌+◌, ◌*◌, true, false, List, [], ◌∷◌, ◌++◌, length, map}
+use Rattle.std.specs.Prelude.{Option, Some, nat_lt}
+use Rattle.vub_base.specs.declared.header.CacheMode.TheVariants.{Back}
+use Rattle.vub_base.specs.declared.header.Header1.{Header1}
+use Rattle.vub_base.specs.declared.store.Tag.{Tag}
+use Rattle.vub_base.specs.declared.store.Area.TheVariants.{M}
+use Rattle.vub_shared.specs.Stores.{Store}
+use Rattle.vub_steps.specs.declared.steps.Phase.{Phase}
+use Rattle.vub_steps.specs.declared.steps.Phase.TheVariants as phases
+use Rattle.vub_steps.specs.declared.steps.Step.{Step}
+use Rattle.vub_steps.specs.Steps.{publish_steps}
+use Rattle.vub_driver.specs.Drivers.{Driver, Waiting}
+use Rattle.vub_device.specs.declared.entry.Answered.{Answered}
+use Rattle.vub_device.specs.declared.entry.Entry.{Entry}
+use Rattle.vub_device.specs.declared.entry.Entry.TheVariants as entries
+use Rattle.vub_device.specs.Past.{started, accepted, published, collected, is_among}
+use Rattle.vub_device.specs.Requests.{request_of}
+use Rattle.vub_report.specs.declared.items.Item.TheVariants as items
+use Rattle.vub_run.specs.Memory.{Scene, after_item}
+use Rattle.vub_run.specs.Moments.{Lane}
+use Rattle.vub_run.specs.Turns.{step_items, answer_at}
+use Rattle.vub_run_laws.proofs.RunGood.{IsSize, Known, Worked, Stored, IsOut, stored_at}
+pub use Rattle.vub_run_laws.proofs.RingGood.{EntryStands, QueueFacts, IsWaiting, LastStands, offered_by}
+use Rattle.vub_run_laws.proofs.RunFrames.{OffBuffer}
+
+-- counts, numbers and answers; work; what stands in buffers; and the queue
+pub record Holds (q : ℕ) (h : Header1) (s : Scene) (l : Lane) : Type 0 where
+  pub known : Known q h.size h.capacity s.past (s.heads q)
+  pub worked : Worked q s.past l.phase l.batch l.completed l.made
+  pub stored : Stored q s.past (s.heads q) s.memory l.batch l.completed l.made
+  pub queue : QueueFacts q h s l.driver l.batch l.phase
+
+-- ---- the driver's stores
+
+-- what a store of a request leaves, where these are left: the buffers of what is offered, the queue, and the request
+pub record StoresBefore (q : ℕ) (h : Header1) (s : Scene) (v : Driver) (w : Waiting) (batch : List ℕ) (phase : Phase) (st : Store) (left : List Store) : Type 0 where
+  pub off : (k : ℕ) → IsOut q s.past (s.heads q) k → OffBuffer q (s.heads q) k st.place st.bytes
+  pub queue : QueueFacts q h (stored_at st.place st.bytes s) v batch phase
+  pub waits : IsWaiting q h.size h.capacity s.past (s.heads q) v (record w { left = left })
+  pub last : LastStands q h (stored_at st.place st.bytes s) (record w { left = left })
+
+-- the scene after the last store of a request and its offer
+abbrev pub offered_scene : ℕ → Header1 → Waiting → Store → Scene → Scene
+offered_scene q h w st s = after_item h (items.Made (entries.Offer q (request_of w.ask))) (stored_at st.place st.bytes s)
+
+-- what the last store of a request leaves, with its offer
+pub record StoresLast (q : ℕ) (h : Header1) (s : Scene) (v : Driver) (w : Waiting) (batch : List ℕ) (phase : Phase) (st : Store) : Type 0 where
+  pub off : (k : ℕ) → OffBuffer q (s.heads q) k st.place st.bytes
+  pub room : length (s.heads q) < h.size + collected s.past q
+  pub heads : (offered_scene q h w st s).heads q ≡ s.heads q ++ w.head ∷ []
+  pub queue : QueueFacts q h (offered_scene q h w st s) (offered_by v) batch phase
+
+-- ---- the rows of a publication
+
+-- a publication under way, as far as its rows need it
+pub record IsPublishing (q : ℕ) (h : Header1) (s : Scene) (v : Driver) (batch : List ℕ) (done : ℕ) : Type 0 where
+  pub size : IsSize h.size
+  pub back : h.mode ≡ Back
+  pub started : started s.past q ≡ true
+  pub known : Known q h.size h.capacity s.past (s.heads q)
+  pub room : length (published s.past q) + length batch ≤ accepted s.past q
+  pub out : (k : ℕ) → is_among batch k ≡ true → IsOut q s.past (s.heads q) k
+  pub queue : QueueFacts q h s v batch (phases.Publish done)
+
+-- the store of a step that leaves elements hidden
+pub record RowBefore (q : ℕ) (h : Header1) (s : Scene) (v : Driver) (batch : List ℕ) (done : ℕ) (step : Step) : Type 0 where
+  pub more : done + 1 < 2 * length batch + 1
+  pub tag : Tag
+  pub place : ℕ
+  pub bytes : List ℕ
+  pub stores : step_items h q batch step s ≡ items.Store tag M place bytes ∷ []
+  pub off : (k : ℕ) → OffBuffer q (s.heads q) k place bytes
+  pub queue : QueueFacts q h (stored_at place bytes s) v batch (phases.Publish (done + 1))
+
+-- the answers of a batch, as they stand after a store
+abbrev pub shown_list : ℕ → ℕ → List ℕ → Scene → List ℕ → List Answered
+shown_list q place bytes s batch = map (answer_at q (stored_at place bytes s)) batch
+
+abbrev pub shown_past : ℕ → ℕ → List ℕ → Scene → List ℕ → List Entry
+shown_past q place bytes s batch = entries.Publish q (shown_list q place bytes s batch) ∷ s.past
+
+-- the store of a step that shows the elements, with its publication
+pub record RowShows (q : ℕ) (h : Header1) (s : Scene) (v : Driver) (batch : List ℕ) (step : Step) : Type 0 where
+  pub tag : Tag
+  pub place : ℕ
+  pub bytes : List ℕ
+  pub stores : step_items h q batch step s ≡ items.Store tag M place bytes ∷ items.Made (entries.Publish q (shown_list q place bytes s batch)) ∷ []
+  pub off : (k : ℕ) → OffBuffer q (s.heads q) k place bytes
+  pub queue : QueueFacts q h (record (stored_at place bytes s) { past = shown_past q place bytes s batch }) v [] phases.Rest
+
+-- the step after so many of a publication, with its row
+pub data NextRow : ℕ → Header1 → Scene → Driver → List ℕ → ℕ → Option Step → Type 0 where
+  Before : {q done : ℕ} {h : Header1} {s : Scene} {v : Driver} {batch : List ℕ} {o : Option Step} → (step : Step) → o ≡ Some step → nat_lt (done + 1) (length (publish_steps (length batch))) ≡ true → RowBefore q h s v batch done step → NextRow q h s v batch done o
+  Shows : {q done : ℕ} {h : Header1} {s : Scene} {v : Driver} {batch : List ℕ} {o : Option Step} → (step : Step) → o ≡ Some step → nat_lt (done + 1) (length (publish_steps (length batch))) ≡ false → RowShows q h s v batch step → NextRow q h s v batch done o
