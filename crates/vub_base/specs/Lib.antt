@@ -2,6 +2,7 @@ pub mod Bells
 pub mod Causes
 pub mod Fields
 pub mod MemForms
+pub mod Pending
 pub mod Positions
 pub mod Sinks
 pub mod Sources
