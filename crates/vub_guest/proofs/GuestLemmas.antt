@@ -91,14 +91,14 @@ steps_stored r index p stage v w waits next is =
 
 -- the last store
 pub steps_offered : (r : Ring) (index : ℕ) (p : Pending) (v w : Driver) → v.waiting ≡ Some (waiting_in r index p) → stage_after p.ask (links_of p.chain) p.stage ≡ None
-    → w ≡ record v { avail_idx = (v.avail_idx + 1) % 65536; waiting = None } → Steps Offered v w
+    → w ≡ record v { avail_idx = (v.avail_idx + 1) % 65536; waiting = None } → Steps (Offered p.chain.head) v w
 steps_offered r index p v w waits next is =
     let x : Waiting = waiting_in r index p in
     let l : Links = links_of p.chain in
     let first : Store = store_at r index p.ask l p.stage in
     let left : x.left ≡ first ∷ [] = stores_from-next r index p.ask l p.stage ∙ ap (λ o. first ∷ rest_from r index p.ask l o) next in
     let after : after_stores 1 x v ≡ record v { avail_idx = (v.avail_idx + 1) % 65536; waiting = None } = ap (λ xs. with_left x (drop 1 xs) v) left in
-    (x, waits, ap length left, is ∙ sym after)
+    (x, waits, refl, ap length left, is ∙ sym after)
 
 -- the store that a step makes
 pub next_store-is : (r : Ring) (index : ℕ) (p : Pending) → next_store (Some (waiting_in r index p)) ≡ Some (store_at r index p.ask (links_of p.chain) p.stage)

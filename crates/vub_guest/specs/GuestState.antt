@@ -56,11 +56,11 @@ next_store None = None
 next_store (Some w) = first_store w.left
 
 -- The driver v before a step, and w after it: a step is idle where no request waits, and the last store of a request
--- offers it.
+-- offers it, under its head.
 abbrev pub Steps : GuestStep → Driver → Driver → Type 0
 Steps Idle v w = (v.waiting ≡ None) × (w ≡ v)
 Steps Stored v w = (x : Waiting) × (v.waiting ≡ Some x) × (1 < length x.left) × (w ≡ after_stores 1 x v)
-Steps Offered v w = (x : Waiting) × (v.waiting ≡ Some x) × (length x.left ≡ 1) × (w ≡ after_stores 1 x v)
+Steps (Offered head) v w = (x : Waiting) × (v.waiting ≡ Some x) × (head ≡ x.head) × (length x.left ≡ 1) × (w ≡ after_stores 1 x v)
 Steps Failed v w = (x : Waiting) × (v.waiting ≡ Some x) × (w ≡ v)
 
 -- a step is an error where it failed

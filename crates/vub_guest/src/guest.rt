@@ -26,8 +26,8 @@ pub enum GuestStep {
     /// No request waits.
     Idle,
     Stored,
-    /// The store that offers the request.
-    Offered,
+    /// The store that offers the request, with the head of its chain.
+    Offered(u16),
     /// The shared memory failed.
     Failed,
 }
@@ -363,9 +363,10 @@ impl Guest {
             pending.stage = stage;
             return GuestStep::Stored;
         }
+        let head = pending.chain.head;
         self.avail_idx = self.avail_idx.wrapping_add(1);
         self.waiting = None;
-        GuestStep::Offered
+        GuestStep::Offered(head)
     }
 
     /// Makes the next store of the request that waits; where none waits it is idle, and changes

@@ -5,10 +5,12 @@ pub mod RingEntries
 pub mod RingFacts
 pub mod RingFrames
 pub mod RingGood
+pub mod RingHeads
 pub mod RingOffers
 pub mod RingOpening
 pub mod RingQuiet
 pub mod RingRows
+pub mod RingSmall
 pub mod RingStores
 pub mod RingTracks
 pub mod RunAsks

@@ -1,17 +1,14 @@
 -- Split chains. The driver's stores of a request leave the chains of the others, and its offer adds one.
-use Rattle.std.proofs.Common.{◌≡◌, ◌≢◌, ◌≤◌, ◌<◌, ℕ, zero, suc, ◌+◌, ◌*◌, ◌%◌, Bool, true, false, List, [], ◌∷◌, ◌++◌, length, take, drop, refl, ap, sym, ◌∙◌, subst, inl, inr, arith}
+use Rattle.std.proofs.Common.{◌≡◌, ◌≢◌, ◌≤◌, ◌<◌, ℕ, zero, suc, ◌+◌, ◌%◌, Bool, true, false, List, [], ◌∷◌, ◌++◌, length, take, drop, refl, ap, sym, ◌∙◌, subst, inl, inr, arith}
 use Rattle.std.specs.Prelude.{Option, Some, None, slice_index}
 use Rattle.std.specs.List.{AllByRecursion}
-use Rattle.byteorder.specs.Endian.{little_bytes}
 use Rattle.std.proofs.lemmas.Bool.{cases_lt}
 use Rattle.std.proofs.lemmas.List.{length_push, length-drop, append_assoc, take-append-drop}
-use Rattle.vub_driver.specs.Layout.{area_place}
 use Rattle.vub_base.specs.declared.header.Header1.{Header1}
 use Rattle.vub_base.specs.declared.request.Ask.{Ask}
-use Rattle.vub_shared.specs.Bytes.{Bytes, put, word}
+use Rattle.vub_shared.specs.Bytes.{Bytes, put}
 use Rattle.vub_shared.specs.Stores.{Store}
-use Rattle.vub_shared.proofs.BytesLemmas.{word-put_same}
-use Rattle.vub_ring.specs.Ring.{avail_idx, avail_entry_place, avail_idx_place, last_head}
+use Rattle.vub_ring.specs.Ring.{avail_idx, last_head}
 use Rattle.vub_driver.specs.Drivers.{Driver, Waiting, with_left, after_stores}
 use Rattle.vub_driver.specs.Requests.{pieces, has_data}
 use Rattle.vub_driver.specs.Stores.{buffer_stores, chain_stores, offer_stores, stores_with, request_stores}
@@ -26,8 +23,8 @@ use Rattle.vub_run.specs.Run.{guest_items}
 use Rattle.vub_device.specs.Requests.{request_of}
 use Rattle.vub_run_laws.proofs.RunOwn.{at_own}
 use Rattle.vub_run_laws.proofs.RingGood.{the_ring, IsWaiting, Driven}
-use Rattle.vub_run_laws.proofs.RunGood.{IsSize, IsWide, IsOut, Known, IsGood}
-use Rattle.vub_run_laws.proofs.RunFrames.{keeps, length_little}
+use Rattle.vub_run_laws.proofs.RingHeads.{offer_shows}
+use Rattle.vub_run_laws.proofs.RunGood.{IsWide, IsOut, Known, IsGood}
 use Rattle.vub_run_laws.proofs.RunOffers.{same_head, new_head, same_asked, new_asked}
 use Rattle.vub_run_laws.proofs.RunChains.{table_place, buffer_at, chain_of, HasChain, IsOff, Spares, chain_kept}
 use Rattle.vub_run_laws.proofs.RunChainsStores.{put_all, handed_fits, stores_make}
@@ -89,20 +86,6 @@ part_scene q h zero a sts s part = refl
 part_scene q h (suc count) a [] s part = absurd (omega arith)
 part_scene q h (suc count) a (st ∷ []) s part = absurd (omega arith)
 part_scene q h (suc count) a (st ∷ st' ∷ sts) s part = part_scene q h count a (st' ∷ sts) (record s { memory = put s.memory 0 st.place st.bytes }) (omega arith)
-
--- the head that an offer shows
-offered_head : (q n index head : ℕ) (m : Bytes) → IsSize n → index < 65536 → head < 65536 → last_head (the_ring q n) (put_all (offer_stores (the_ring q n) index head) m) ≡ head
-offered_head q n index head m size fits small =
-    let p : ℕ = avail_entry_place (the_ring q n) index in
-    let there : ℕ = avail_idx_place (the_ring q n) in
-    let y : ℕ = (index + 1) % 65536 in
-    let m1 : Bytes = put m 0 p (little_bytes 2 head) in
-    let m2 : Bytes = put m1 0 there (little_bytes 2 y) in
-    let two : length (little_bytes 2 y) ≡ 2 = length_little 2 y in
-    let shown : avail_idx (the_ring q n) m2 ≡ y = word-put_same 2 m1 0 there y (omega arith) in
-    let back : (avail_idx (the_ring q n) m2 + 65535) % 65536 ≡ index % 65536 = omega (arith, shown) in
-    let place : avail_entry_place (the_ring q n) (avail_idx (the_ring q n) m2 + 65535) ≡ p = ap (λ (x : ℕ). area_place q + 4096 + (4 + 2 * (x % n))) back in
-    ap (word 2 m2 0) place ∙ keeps 2 m1 there (little_bytes 2 y) p (inr (omega arith)) ∙ word-put_same 2 m 0 p head (omega arith)
 
 -- ---- the chains of others
 
@@ -198,7 +181,7 @@ guest_chained q h s v w count good few numbered known driven waits whole ready c
     let from_offer : m ≡ put_all offer (put_all ends.0 s.memory) = from_all ∙ ap (λ (sts : List Store). put_all sts s.memory) ends.1 ∙ put_append ends.0 offer s.memory in
     let index : v.avail_idx < 65536 = omega (arith, driven.index) in
     let small : n ≤ 64 = good.size.small in
-    let shows : last_head (the_ring q n) m ≡ w.head = ap (last_head (the_ring q n)) from_offer ∙ offered_head q n v.avail_idx w.head (put_all ends.0 s.memory) good.size index (omega (arith, waits.below)) in
+    let shows : last_head (the_ring q n) m ≡ w.head = ap (last_head (the_ring q n)) from_offer ∙ offer_shows q n v.avail_idx w.head (put_all ends.0 s.memory) index (omega (arith, waits.below)) in
     let mine : AreMine q v.owner w.head w.left = all_last (λ (st : Store). IsMine q v.owner w.head st.place st.bytes) ready.made w.left (all_mine q h.size h.capacity s.past (s.heads q) s.memory v w good.size waits ready) in
     let made : HasChain q m w.head ready.body ready.status r = subst (λ (x : Bytes). HasChain q x w.head ready.body ready.status r) (sym from_all)
     (stores_make q n h.capacity v.avail_idx w.head ready.body ready.status w.ask s.memory numbered good.size few waits.wide up ready.upper ready.none ready.fits) in

@@ -1,23 +1,27 @@
 -- What is known of a queue, and what each step of the driver and of the device leaves of it.
-use Rattle.std.proofs.Common.{◌≡◌, ◌<◌, ℕ, ◌+◌, ◌*◌, true, List, [], ◌∷◌, length, sym, ◌∙◌, subst, arith, ◌%◌, ◌≤◌}
+use Rattle.std.proofs.Common.{◌≡◌, ◌<◌, ℕ, ◌+◌, ◌*◌, true, List, [], ◌∷◌, ◌++◌, length, ap, sym, ◌∙◌, subst, arith, ◌%◌, ◌≤◌}
 use Rattle.std.specs.Prelude.{Option, Some, slice_index, slice_get}
 use Rattle.vub_base.specs.declared.header.Header1.{Header1}
-use Rattle.vub_shared.specs.Bytes.{put}
+use Rattle.vub_shared.specs.Bytes.{Bytes, put}
 use Rattle.vub_shared.specs.Stores.{Store}
 use Rattle.vub_steps.specs.declared.steps.Phase.{Phase}
 use Rattle.vub_steps.specs.declared.steps.Phase.TheVariants as phases
 use Rattle.vub_steps.specs.Steps.{publish_steps}
 use Rattle.vub_ring.specs.Ring.{used_idx, ahead, avail_idx, head_at, seen}
 use Rattle.vub_driver.specs.Drivers.{Driver, Waiting, without_owner, after_collect, can_take, after_ask}
+use Rattle.vub_device.specs.declared.entry.Asked.{Asked}
 use Rattle.vub_device.specs.declared.entry.Entry.{Entry}
 use Rattle.vub_device.specs.Past.{started, accepted, asked, published, collected, is_among, IsOpen}
 use Rattle.vub_device.specs.Places.{are_distinct}
-use Rattle.vub_run.specs.Memory.{Scene, opening_scene}
+use Rattle.vub_run.specs.Memory.{Scene, opening_scene, shown_head, after_entry}
 use Rattle.vub_run.specs.Moments.{Moment, Lane, opening_lane}
 use Rattle.vub_run.specs.Tracking.{Tracks}
 use Rattle.vub_run_laws.proofs.RingGood.{the_ring, QueueFacts, IsWaiting, WaitsWell, EntryWell, EntryStands, LastStands}
 use Rattle.vub_run_laws.proofs.RunGood.{IsSize, Known, RestsOrPublishes, IsOut, LeavesQueue, IsGood, IsPlainAsk}
 use Rattle.vub_run_laws.proofs.RingFrames.{OffRings}
+use Rattle.vub_run_laws.proofs.RingHeads.{left_shows}
+use Rattle.vub_run_laws.proofs.RunChainsStores.{put_all}
+use Rattle.vub_run_laws.proofs.RunOwn.{at_own}
 use Rattle.vub_run_laws.proofs.RunHolds.{StoresBefore, StoresLast, IsPublishing, NextRow, Holds}
 use Rattle.vub_run_laws.proofs.RingRows.{next_row}
 use Rattle.vub_run_laws.proofs.RingTracks.{tracks, some_waits}
@@ -191,3 +195,17 @@ queue_ahead q h s l good x = some_waits q h s l good x
 -- the items of a step are neither a store of a driver nor an offer
 pub queue_quiet : (q : ℕ) (h : Header1) (batch : List ℕ) (step : Step) (s : Scene) → AreQuiet h (step_items h q batch step s)
 queue_quiet q h batch step s = step_quiet q h batch step s
+
+-- ---- the head of an offer
+
+-- where the stores left of a request are made, memory shows its head
+pub left_shown : (q : ℕ) (h : Header1) (m : Moment) (w : Waiting) → IsSize h.size → (m.lanes q).driver.waiting ≡ Some w → EntryStands q h m → QueueFacts q h m.scene (m.lanes q).driver (m.lanes q).batch (m.lanes q).phase → shown_head h q (put_all w.left m.scene.memory) ≡ w.head
+left_shown q h m w size waiting entry x =
+    left_shows q h m.scene (m.lanes q).driver (record w { left = w.left }) size.small x.driven.index (queue_waiting q h m.scene (m.lanes q).driver (m.lanes q).batch (m.lanes q).phase w waiting x) (queue_stands q h m w waiting entry)
+
+-- and its offer is made under it
+pub left_offered : (q : ℕ) (h : Header1) (m : Moment) (w : Waiting) (r : Asked) → IsSize h.size → (m.lanes q).driver.waiting ≡ Some w → EntryStands q h m → QueueFacts q h m.scene (m.lanes q).driver (m.lanes q).batch (m.lanes q).phase
+    → (after_entry h (entries.Offer q r) (record m.scene { memory = put_all w.left m.scene.memory })).heads q ≡ m.scene.heads q ++ w.head ∷ []
+left_offered q h m w r size waiting entry x =
+    let m' : Bytes = put_all w.left m.scene.memory in
+    at_own m.scene.heads q (m.scene.heads q ++ shown_head h q m' ∷ []) ∙ ap (λ (head : ℕ). m.scene.heads q ++ head ∷ []) (left_shown q h m w size waiting entry x)

@@ -9,8 +9,7 @@ use Rattle.vub_base.specs.declared.request.Ask.{Ask}
 use Rattle.vub_base.specs.declared.request.Ask.TheVariants as wants
 use Rattle.vub_shared.specs.Bytes.{Bytes}
 use Rattle.vub_shared.specs.declared.watched_shared.WatchedShared.{WatchedShared}
-use Rattle.vub_ring.specs.Ring.{last_head}
-use Rattle.vub_driver.specs.Drivers.{Driver, Waiting, after_stores}
+use Rattle.vub_driver.specs.Drivers.{Waiting, after_stores}
 use Rattle.vub_device.specs.declared.entry.Asked.{Asked}
 use Rattle.vub_device.specs.declared.entry.Entry.{Entry}
 use Rattle.vub_device.specs.declared.entry.Entry.TheVariants as entries
@@ -30,22 +29,24 @@ use Rattle.vub_report.specs.declared.items.Record.{Record}
 use Rattle.vub_guest.specs.GuestState.{last_used_in}
 use Rattle.vub_world.specs.OutstandingRequests.{offered_in, slot_in, reads_in, new_slot, Offers}
 use Rattle.vub_world.specs.MachineAt.{FrontAt, LifeAt, OutstandingAt, PartsAt, reads_of}
-use Rattle.vub_world.specs.MachineFront.{head_shown, GuestGoes}
+use Rattle.vub_world.specs.MachineFront.{GuestGoes}
 use Rattle.vub_run.specs.Memory.{Scene, after_item, after_items}
 use Rattle.vub_run.specs.Moments.{Lane, Moment}
 use Rattle.vub_queue.specs.QueueState.{state_of}
 use Rattle.vub_run.specs.Run.{Stands, played, if_ready, with_lane, with_driver, guest_items, guest_stores, guest}
 use Rattle.vub_device.specs.Requests.{request_of}
-use Rattle.vub_run_laws.proofs.RingGood.{the_ring, Driven}
 use Rattle.vub_run_laws.proofs.RunGood.{Known, IsOut}
 use Rattle.vub_run_laws.proofs.RunOffers.{same_head, new_head, same_asked, new_asked}
-use Rattle.vub_run_laws.proofs.RunTurns.{Good}
-use Rattle.vub_run_laws.proofs.RunsTo.{stands_good, stands_more}
+use Rattle.vub_run_laws.proofs.RunTurns.{IsPlain, Good}
+use Rattle.vub_run_laws.proofs.RunHolds.{EntryStands}
+use Rattle.vub_run_laws.proofs.RunQueue.{heads_apart, left_offered}
+use Rattle.vub_run_laws.proofs.RunChainsEvents.{chained_entry}
+use Rattle.vub_run_laws.proofs.Runs.{plain_header}
+use Rattle.vub_run_laws.proofs.RunsTo.{stands_good, stands_chained, stands_more}
 use Rattle.vub_run_laws.proofs.RunChainsStores.{put_all}
 use Rattle.vub_run_laws.proofs.RunChainsGuests.{guest_scene, part_scene}
 use Rattle.vub_queue_in_run.proofs.QueueAtMoves.{at_offer}
 use Rattle.vub_queue_in_run.specs.QueueAt.{QueueAt}
-use Rattle.vub_run_laws.proofs.RunOwn.{at_own}
 use Rattle.vub_world.proofs.MachineLanes.{all_lanes, life_with}
 
 -- ---- the outstanding requests
@@ -81,11 +82,15 @@ new_out q n cap past heads r head known =
         let rest : is_among (take k xs) x ≡ true → is_among xs x ≡ true = λ h. among_taken xs k x h in
         grind (arith, nat_tests)
 
+-- no two outstanding requests have the same head
+abbrev AreApart : ℕ → List Entry → List ℕ → Type 0
+AreApart q past heads = (j k : ℕ) → IsOut q past heads j → IsOut q past heads k → slice_index heads j ≡ slice_index heads k → j ≡ k
+
 -- under the head of the request stand its number and what it reads, and others keep their slots
-pub offered_outstanding : (q : ℕ) (n cap base : ℕ) (past : List Entry) (heads : List ℕ) (a : Ask) (head : ℕ) (v : Driver) (l now : OutstandingRequests) → OutstandingAt q n past heads l → Known q n cap past heads
-    → Driven q n cap base (entries.Offer q (request_of a) ∷ past) (heads ++ head ∷ []) v → Offers l now head a
+offered_outstanding : (q : ℕ) (n cap : ℕ) (past : List Entry) (heads : List ℕ) (a : Ask) (head : ℕ) (l now : OutstandingRequests) → OutstandingAt q n past heads l → Known q n cap past heads
+    → AreApart q (entries.Offer q (request_of a) ∷ past) (heads ++ head ∷ []) → Offers l now head a
     → OutstandingAt q n (entries.Offer q (request_of a) ∷ past) (heads ++ head ∷ []) now
-offered_outstanding q n cap base past heads a head v l now at known driven offers =
+offered_outstanding q n cap past heads a head l now at known distinct offers =
     let r : Asked = request_of a in
     let past' : List Entry = entries.Offer q r ∷ past in
     let heads' : List ℕ = heads ++ head ∷ [] in
@@ -101,7 +106,7 @@ offered_outstanding q n cap base past heads a head v l now at known driven offer
         | inl low ↦
             let d : ℕ = slice_index heads' k in
             let head_is : d ≡ slice_index heads k = same_head heads head k low in
-            let apart : d ≢ head = λ same. (let one : k ≡ c = driven.apart k c (record { below = below; kept = kept }) last_out (same ∙ sym last_head_is) in omega (arith, one)) in
+            let apart : d ≢ head = λ same. (let one : k ≡ c = distinct k c (record { below = below; kept = kept }) last_out (same ∙ sym last_head_is) in omega (arith, one)) in
             let other : (d == head) ≡ false = grind (arith, nat_tests) in
             let still : slot_in now d ≡ slot_in l d = offers.slots d ∙ ap (λ (b : Bool). cond {A = OutstandingRequest} b (new_slot l a) (slot_in l d)) other in
             let asks_it : asked past' q k ≡ asked past q k = same_asked q past r k (omega (arith, low, known.offers_are)) in
@@ -128,22 +133,17 @@ stored_lane q count x m = with_driver (after_stores count x (m.lanes q).driver) 
 abbrev pub offered_scene : ℕ → Header1 → Asked → Bytes → Scene → Scene
 offered_scene q h r b s = after_item h (items.Made (entries.Offer q r)) (record s { memory = b })
 
--- the heads after it
-pub offered_heads : (q : ℕ) (h : Header1) (r : Asked) (b : Bytes) (s : Scene) → (offered_scene q h r b s).heads q ≡ s.heads q ++ last_head (the_ring q h.size) b ∷ []
-offered_heads q h r b s = at_own s.heads q (s.heads q ++ last_head (the_ring q h.size) b ∷ [])
-
 abbrev pub moment_with : ℕ → ℕ → Waiting → Moment → Scene → Moment
 moment_with q count x m s = with_lane q (stored_lane q count x m) (record m { scene = s })
 
-offered_life : (q : ℕ) (h : Header1) (ring : SplitRing) (count : ℕ) (m : Moment) (x : Waiting) (r : Asked) (b : Bytes) (life : Option (Option Queue)) → Good q h m → LifeAt q h ring m life → LifeAt q h ring (moment_with q count x m (offered_scene q h r b m.scene)) life
-offered_life q h ring count m x r b life good at = life_with q h ring (record m { scene = offered_scene q h r b m.scene }) (stored_lane q count x m) life (offered life at)
+offered_life : (q : ℕ) (h : Header1) (ring : SplitRing) (count : ℕ) (m : Moment) (x : Waiting) (r : Asked) (b : Bytes) (life : Option (Option Queue)) → (offered_scene q h r b m.scene).heads q ≡ m.scene.heads q ++ x.head ∷ [] → Good q h m → LifeAt q h ring m life → LifeAt q h ring (moment_with q count x m (offered_scene q h r b m.scene)) life
+offered_life q h ring count m x r b life heads good at = life_with q h ring (record m { scene = offered_scene q h r b m.scene }) (stored_lane q count x m) life (offered life at)
   where
     offered : (life : Option (Option Queue)) → LifeAt q h ring m life → LifeAt q h ring (all_lanes (stored_lane q count x m) (record m { scene = offered_scene q h r b m.scene })) life
     offered None at = at
     offered (Some None) at = at
     offered (Some (Some queue)) at =
-        let heads = offered_heads q h r b m.scene in
-        let stands = at_offer q h ring m.scene.past (m.scene.heads q) (m.lanes q).phase (m.lanes q).batch (m.lanes q).completed (m.lanes q).made (state_of queue) r (last_head (the_ring q h.size) b) good.holds.known good.holds.worked at.1.2 in
+        let stands = at_offer q h ring m.scene.past (m.scene.heads q) (m.lanes q).phase (m.lanes q).batch (m.lanes q).completed (m.lanes q).made (state_of queue) r x.head good.holds.known good.holds.worked at.1.2 in
         (at.0, (at.1.0, at.1.1, subst (λ (hs : List ℕ). QueueAt q h ring (entries.Offer q r ∷ m.scene.past) hs (m.lanes q).phase (m.lanes q).batch (m.lanes q).completed (m.lanes q).made (state_of queue)) (sym heads) stands))
 
 -- stores that offer nothing are nothing to the device
@@ -175,28 +175,12 @@ offered_good q h es rs m x is count low s fits some few plays =
     let later : Good q h next = stands_good q h (es ++ events.Guest q count ∷ []) (rs ++ record_of ∷ []) next low (stands_more h es rs m next (events.Guest q count) record_of s (omega (arith, low, s.header.one), omega (arith, some, few), fits) refl plays) in
     subst (λ (n : Moment). Good q h n) (ap (moment_with q count x m) (guest_scene q h count x.ask x.left m.scene some few)) later
 
--- the head that the last store of a request shows is a descriptor of its ring
-pub shown_below : (q : ℕ) (h : Header1) (es : List Event) (rs : List Record) (m : Moment) (x : Waiting) → q < h.queues → Stands h es rs m → (m.lanes q).driver.waiting ≡ Some x → 0 < length x.left → length x.left ≤ 8 → last_head (the_ring q h.size) (put_all x.left m.scene.memory) < h.size
-shown_below q h es rs m x low s waits some few =
-    let count : ℕ = length x.left in
-    let heads : List ℕ = m.scene.heads q in
-    let head : ℕ = last_head (the_ring q h.size) (put_all x.left m.scene.memory) in
-    let is : List Item = (guest_stores h q count (Some x) m).items in
-    let plays : played is (stored_moment q h count x m) ≡ guest h q count m = ap (λ (o : Option Waiting). if_ready (is_some o) (guest_stores h q count o m) m) (sym waits) in
-    let good = offered_good q h es rs m x is count low s (omega (arith, few)) some (omega arith) plays in
-    let known : Known q h.size h.capacity m.scene.past heads = (stands_good q h es rs m low s).holds.known in
-    let r : Asked = request_of x.ask in
-    let own : (offered_scene q h r (put_all x.left m.scene.memory) m.scene).heads q ≡ heads ++ head ∷ [] = offered_heads q h r (put_all x.left m.scene.memory) m.scene in
-    let out = subst (λ (hs : List ℕ). IsOut q (entries.Offer q r ∷ m.scene.past) hs (length heads)) (sym own) (new_out q h.size h.capacity m.scene.past heads r head known) in
-    let below : slice_index (heads ++ head ∷ []) (length heads) < h.size = subst (λ (hs : List ℕ). slice_index hs (length heads) < h.size) own (good.holds.queue.driven.below (length heads) out) in
-    omega (arith, below, new_head heads head)
-
 -- where these are all that were left
 offered_at : (q : ℕ) (w : Parts) (memory : WatchedShared) (guest' : Guest) (asked' : Option Ask) (outstanding : OutstandingRequests) (es : List Event) (rs : List Record) (m : Moment) (x : Waiting) (is : List Item) (count : ℕ)
-    → last_used_in guest' ≡ last_used_in w.front.guest → q < w.front.header.queues → Stands w.front.header es rs m → PartsAt q w m → count < 65536 → 0 < length x.left → length x.left ≤ count
+    → last_used_in guest' ≡ last_used_in w.front.guest → q < w.front.header.queues → Stands w.front.header es rs m → PartsAt q w m → count < 65536 → 0 < length x.left → length x.left ≤ count → (m.lanes q).driver.waiting ≡ Some x
     → played is (stored_moment q w.front.header count x m) ≡ guest w.front.header q count m → GuestGoes q count x (desk_of w) (desk_of (with_front w memory guest' asked' outstanding)) m [] is
     → PartsAt q (with_front w memory guest' asked' outstanding) (stored_moment q w.front.header count x m)
-offered_at q w memory guest' asked' outstanding es rs m x is count position low s at fits some few plays goes =
+offered_at q w memory guest' asked' outstanding es rs m x is count position low s at fits some few waits plays goes =
     let h : Header1 = w.front.header in
     let now : Parts = with_front w memory guest' asked' outstanding in
     let good : Good q h m = stands_good q h es rs m low s in
@@ -207,20 +191,19 @@ offered_at q w memory guest' asked' outstanding es rs m x is count position low 
     let whole : next ≡ moment_with q count x m (offered_scene q h r b m.scene) = ap (moment_with q count x m) scene in
     let front : FrontAt q (desk_of now) (moment_with q count x m (offered_scene q h r b m.scene)) = subst (λ (n : Moment). FrontAt q (desk_of now) n) whole goes.front in
     let good_next : Good q h (moment_with q count x m (offered_scene q h r b m.scene)) = offered_good q h es rs m x is count low s fits some few plays in
-    let shown : head_shown q (desk_of now) ≡ last_head (the_ring q h.size) b = ap (λ (bs : Bytes). last_head (the_ring q h.size) bs) front.memory in
-    let offers : Offers w.front.outstanding outstanding (last_head (the_ring q h.size) b) x.ask = subst (λ (d : ℕ). Offers w.front.outstanding outstanding d x.ask) shown (goes.outstanding.offers few) in
-    let own = offered_heads q h r b m.scene in
-    let lane : (moment_with q count x m (offered_scene q h r b m.scene)).lanes q ≡ stored_lane q count x m = at_own m.lanes q (stored_lane q count x m) in
-    let driven : Driven q h.size h.capacity h.base (entries.Offer q r ∷ m.scene.past) (m.scene.heads q ++ last_head (the_ring q h.size) b ∷ []) (stored_lane q count x m).driver =
-    subst (λ (l : Lane). Driven q h.size h.capacity h.base (entries.Offer q r ∷ m.scene.past) (m.scene.heads q ++ last_head (the_ring q h.size) b ∷ []) l.driver) lane
-    (subst (λ (hs : List ℕ). Driven q h.size h.capacity h.base (entries.Offer q r ∷ m.scene.past) hs ((moment_with q count x m (offered_scene q h r b m.scene)).lanes q).driver) own good_next.holds.queue.driven) in
+    let plain : IsPlain h = plain_header h s.header in
+    let entry : EntryStands q h m = chained_entry q h m plain good (stands_chained q h es rs m low s) in
+    let own : (offered_scene q h r b m.scene).heads q ≡ m.scene.heads q ++ x.head ∷ [] = left_offered q h m x r plain.good.size waits entry good.holds.queue in
+    let lane : Lane = (moment_with q count x m (offered_scene q h r b m.scene)).lanes q in
+    let apart : AreApart q (entries.Offer q r ∷ m.scene.past) (m.scene.heads q ++ x.head ∷ []) =
+    subst (λ (hs : List ℕ). AreApart q (entries.Offer q r ∷ m.scene.past) hs) own (λ j k. heads_apart q h (offered_scene q h r b m.scene) lane.driver lane.batch lane.phase j k good_next.holds.queue) in
     let stands : PartsAt q now (moment_with q count x m (offered_scene q h r b m.scene)) = record {
       front = front;
       position = position ∙ at.position;
-      life = offered_life q h w.front.ring count m x r b w.life good at.life;
+      life = offered_life q h w.front.ring count m x r b w.life own good at.life;
       disk = at.disk;
       outstanding = subst (λ (hs : List ℕ). OutstandingAt q h.size (entries.Offer q r ∷ m.scene.past) hs outstanding) (sym own)
-          (offered_outstanding q h.size h.capacity h.base m.scene.past (m.scene.heads q) x.ask (last_head (the_ring q h.size) b) (stored_lane q count x m).driver w.front.outstanding outstanding at.outstanding good.holds.known driven offers);
+          (offered_outstanding q h.size h.capacity m.scene.past (m.scene.heads q) x.ask x.head w.front.outstanding outstanding at.outstanding good.holds.known apart (goes.outstanding.offers few));
     } in
     subst (λ (n : Moment). PartsAt q now n) (sym whole) stands
 
@@ -253,6 +236,6 @@ guest_performs q w memory front es rs m x is count frame position low s at fits 
     let here : GuestGoes q count x (desk_of w) (desk_of (with_front w memory front.guest front.asked front.outstanding)) m [] is = subst (λ (f : Front). GuestGoes q count x (desk_of w) (desk memory f) m [] is) frame goes in
     let stands : PartsAt q (with_front w memory front.guest front.asked front.outstanding) next = elim (cases_lt count (length x.left)) [
       | inl part ↦ partly_at q w memory front.guest front.asked front.outstanding m x is count position at part here
-      | inr all ↦ offered_at q w memory front.guest front.asked front.outstanding es rs m x is count position low s at fits some (omega arith) plays here
+      | inr all ↦ offered_at q w memory front.guest front.asked front.outstanding es rs m x is count position low s at fits some (omega arith) waits plays here
     ] in
     (next, plays, subst (λ (f : Front). PartsAt q (with_desk w memory f) next) (sym frame) stands)

@@ -23,7 +23,7 @@ use Rattle.vub_run.specs.Run.{guest_items, guest_stores}
 use Rattle.vub_world.specs.MachineAt.{AskAt, FrontAt}
 use Rattle.vub_shared.specs.Watched.{sizes_in}
 use Rattle.vub_world.specs.declared.front.Front.{Front}
-use Rattle.vub_world.specs.MachineFront.{head_shown, FrontFits, GuestGoes, GuestSteps}
+use Rattle.vub_world.specs.MachineFront.{FrontFits, GuestGoes, GuestSteps}
 use Rattle.vub_run_laws.proofs.RunItems.{after-append}
 use Rattle.vub_world.proofs.MachineLanes.{stored_driver}
 
@@ -118,7 +118,7 @@ one_gone q count x w v now m before mid after more same less went step =
         items = goes.items ∙ ap (λ (js : List Item). js ++ is) went.items ∙ append_assoc before (guest_items count q x.ask x.left) is ∙ ap (λ (js : List Item). before ++ js) (sym whole);
         outstanding = record {
           before = λ left. goes.outstanding.before (omega arith) ∙ outstanding;
-          offers = λ last. subst (λ (l : OutstandingRequests). Offers l now.front.outstanding (head_shown q now) x.ask) outstanding (goes.outstanding.offers (omega arith));
+          offers = λ last. subst (λ (l : OutstandingRequests). Offers l now.front.outstanding x.head x.ask) outstanding (goes.outstanding.offers (omega arith));
         };
       },
       made.0 ∙ (let t : nat_lt 1 (length (c.first ∷ c.rest)) ≡ nat_lt (suc count) (length x.left) = grind (arith, nat_tests) in t),
@@ -143,14 +143,14 @@ pub record GuestLoop (q done : ℕ) (w now : Desk) (r room : RoomState) : Type 0
   pub frame : now.front ≡ record w.front { guest = now.front.guest; asked = now.front.asked; outstanding = now.front.outstanding }
   pub sound : FrontSound now.memory now.front
   pub sizes : (s : ℕ) → sizes_in now.memory s ≡ sizes_in w.memory s
-  pub fits : FrontFits q now
+  pub fits : FrontFits now.front
   pub outstanding : now.front.outstanding ≡ w.front.outstanding
   pub position : last_used_in now.front.guest ≡ last_used_in w.front.guest
   pub items_left : room.item_room + done ≡ r.item_room
   pub lists_left : room.lists + done ≡ r.lists
   pub goes : (m : Moment) (x : Waiting) → FrontAt q w m → (m.lanes q).driver.waiting ≡ Some x → (done < length x.left) × GuestGoes q done x w now m r.items room.items
 
-pub loop_begins : (q : ℕ) (w : Desk) (r : RoomState) → FrontSound w.memory w.front → FrontFits q w → GuestLoop q 0 w w r r
+pub loop_begins : (q : ℕ) (w : Desk) (r : RoomState) → FrontSound w.memory w.front → FrontFits w.front → GuestLoop q 0 w w r r
 loop_begins q w r sound fits = record {
   frame = refl;
   sound = sound;
@@ -174,7 +174,7 @@ pub steps_as : (q p : ℕ) (v now : Desk) (n : Moment) (before after : List Item
 steps_as q p v now n before after more known same is step = subst (λ (k : ℕ). FrontAt k v n → GuestSteps k (n.lanes k).driver.waiting v now n before after known) (sym same) (subst (λ (b : Bool). FrontAt p v n → GuestSteps p (n.lanes p).driver.waiting v now n before after b) is step)
 
 -- one store that isn't the last
-pub loop_more : (q : ℕ) (done : ℕ) (w v now : Desk) (r mid room : RoomState) → GuestLoop q done w v r mid → now.front ≡ record v.front { guest = now.front.guest; asked = now.front.asked; outstanding = now.front.outstanding } → FrontSound now.memory now.front → ((s : ℕ) → sizes_in now.memory s ≡ sizes_in v.memory s) → FrontFits q now → now.front.outstanding ≡ v.front.outstanding → last_used_in now.front.guest ≡ last_used_in v.front.guest → Spends 1 1 mid room
+pub loop_more : (q : ℕ) (done : ℕ) (w v now : Desk) (r mid room : RoomState) → GuestLoop q done w v r mid → now.front ≡ record v.front { guest = now.front.guest; asked = now.front.asked; outstanding = now.front.outstanding } → FrontSound now.memory now.front → ((s : ℕ) → sizes_in now.memory s ≡ sizes_in v.memory s) → FrontFits now.front → now.front.outstanding ≡ v.front.outstanding → last_used_in now.front.guest ≡ last_used_in v.front.guest → Spends 1 1 mid room
     → ((n : Moment) → FrontAt q v n → GuestSteps q (n.lanes q).driver.waiting v now n mid.items room.items true) → GuestLoop q (suc done) w now r room
 loop_more q done w v now r mid room loop frame sound sizes fits outstanding position spent step = record {
   frame = frame_more w.front v.front now.front loop.frame frame;

@@ -3,11 +3,8 @@ use Rattle.std.specs.Prelude.{◌≡◌, ◌<◌, ◌≤◌, ℕ, ◌+◌, Bool,
 use Rattle.std.specs.List.{AllByRecursion}
 use Rattle.vub_base.specs.declared.store.Tag.{Tag}
 use Rattle.vub_base.specs.declared.store.Area.TheVariants.{M}
-use Rattle.vub_shared.specs.Stores.{Store, after_store}
+use Rattle.vub_shared.specs.Stores.{Store}
 use Rattle.vub_shared.specs.Bytes.{Bytes}
-use Rattle.vub_shared.specs.Watched.{bytes_in}
-use Rattle.vub_ring.specs.Ring.{last_head}
-use Rattle.vub_driver.specs.Layout.{ring_of}
 use Rattle.vub_driver.specs.Drivers.{Waiting}
 use Rattle.vub_report.specs.declared.items.Item.{Item}
 use Rattle.vub_report.specs.declared.items.Item.TheVariants as items
@@ -30,21 +27,16 @@ abbrev pub AreSmall : Option Waiting → Type 0
 AreSmall None = ⊤
 AreSmall (Some w) = AllByRecursion IsSmall w.left
 
--- memory after these stores
-abbrev pub after_all : List Store → Bytes → Bytes
-after_all [] m = m
-after_all (st ∷ left) m = after_all left (after_store st m)
-
--- the head that the last of the stores that are left shows has a place in the table of outstanding requests
-abbrev pub ShowsPlace : ℕ → Desk → Option Waiting → Type 0
-ShowsPlace q w None = ⊤
-ShowsPlace q w (Some x) = last_head (ring_of q w.front.header.size) (after_all x.left (bytes_in w.memory)) < size_in w.front.outstanding
+-- the head of the request that waits has a place in the table of outstanding requests
+abbrev pub HeadHasPlace : OutstandingRequests → Option Waiting → Type 0
+HeadHasPlace outstanding None = ⊤
+HeadHasPlace outstanding (Some x) = x.head < size_in outstanding
 
 -- the request that waits is kept, and all that is noted of it has room
-pub record FrontFits (q : ℕ) (w : Desk) : Type 0 where
-  pub stores : AreSmall (driver_in w.front.guest).waiting
-  pub kept : AskAt (driver_in w.front.guest).waiting w.front.asked
-  pub place : ShowsPlace q w (driver_in w.front.guest).waiting
+pub record FrontFits (front : Front) : Type 0 where
+  pub stores : AreSmall (driver_in front.guest).waiting
+  pub kept : AskAt (driver_in front.guest).waiting front.asked
+  pub place : HeadHasPlace front.outstanding (driver_in front.guest).waiting
 
 abbrev pub store_item : Tag → Store → Item
 store_item tag st = items.Store tag M st.place st.bytes
@@ -54,21 +46,17 @@ abbrev pub OneSmall : List Store → Type 0
 OneSmall (st ∷ []) = IsSmall st
 OneSmall sts = ⊥
 
--- the head that the last offer showed
-abbrev pub head_shown : ℕ → Desk → ℕ
-head_shown q w = last_head (ring_of q w.front.header.size) (bytes_in w.memory)
-
--- the outstanding requests after so many stores of a request: it is one of them with its last store
-pub record OutstandingGoes (q count : ℕ) (x : Waiting) (w now : Desk) : Type 0 where
+-- the outstanding requests after so many stores of a request: it is one of them with its last store, under its head
+pub record OutstandingGoes (count : ℕ) (x : Waiting) (w now : Desk) : Type 0 where
   pub before : count < length x.left → now.front.outstanding ≡ w.front.outstanding
-  pub offers : length x.left ≤ count → Offers w.front.outstanding now.front.outstanding (head_shown q now) x.ask
+  pub offers : length x.left ≤ count → Offers w.front.outstanding now.front.outstanding x.head x.ask
 
 -- from a moment on so many stores of the driver lead to where the machine stands, and have these items; more tells
 -- whether some are left
 pub record GuestGoes (q count : ℕ) (x : Waiting) (w now : Desk) (m : Moment) (before after : List Item) : Type 0 where
   pub front : FrontAt q now (guest_stores w.front.header q count (Some x) m).next
   pub items : after ≡ before ++ (guest_stores w.front.header q count (Some x) m).items
-  pub outstanding : OutstandingGoes q count x w now
+  pub outstanding : OutstandingGoes count x w now
 
 -- one store; none where no request waits
 abbrev pub GuestSteps : ℕ → Option Waiting → Desk → Desk → Moment → List Item → List Item → Bool → Type 0

@@ -14,7 +14,6 @@ use vub_report::Item;
 use vub_room::Room;
 use vub_shared::WatchedShared;
 use vub_split::SplitRing;
-use vub_split::layout::{AVAIL_ENTRY_SIZE, AVAIL_IDX, AVAIL_RING};
 
 /// The driver's side of one queue.
 #[derive(Drop)]
@@ -43,7 +42,7 @@ impl Front {
     ghost use Rattle.vub_task.specs.TaskState.{after_maybe, with_maybe};
     ghost use Rattle.vub_world.specs.Fronts.{FrontSound, IsNewFront, desk};
     ghost use Rattle.vub_world.specs.MachineAt.{FrontAt};
-    ghost use Rattle.vub_world.specs.MachineFront.{FrontFits, GuestSteps, GuestGoes, HasPlaces, TakesFirst, head_shown};
+    ghost use Rattle.vub_world.specs.MachineFront.{FrontFits, GuestSteps, GuestGoes, HasPlaces, TakesFirst};
     ghost use Rattle.vub_world.specs.OutstandingRequests.{offered_in, size_in, Offers};
 
     /// That of a queue of the header, whose area lies in this space.
@@ -64,33 +63,20 @@ impl Front {
         })
     }
 
-    /// The head in the avail ring just before avail.idx.
-    fn last_head(&self, memory: &WatchedShared) -> u16
-        requires { FrontSound memory.now self.now }
-        ensures { result ≡ head_shown self.now.index (desk memory.now self.now) }
-    {
-        let (space, place) = self.ring.avail;
-        let index = memory.word16(space, place + AVAIL_IDX).wrapping_sub(1);
-        let entry = u64::from(index % self.header.size);
-        memory.word16(space, place + (AVAIL_RING + AVAIL_ENTRY_SIZE * entry))
-    }
-
-    /// Notes that the waiting request is offered.
-    fn note_offer(&mut self, memory: &WatchedShared, room: &mut Room)
-        requires sound { FrontSound memory.now self.old }
+    /// Notes that the waiting request is offered, under this head.
+    fn note_offer(&mut self, head: u16, room: &mut Room)
         requires more { offered_in self.old.outstanding < 2 ^ 64 - 1 }
         requires asked { IsSome self.old.asked }
-        requires place { head_shown self.old.index (desk memory.now self.old) < size_in self.old.outstanding }
+        requires place { head < size_in self.old.outstanding }
         requires items { 1 ≤ room.old.item_room }
         requires lists { 1 ≤ room.old.lists }
         ensures frame { self.new ≡ record self.old { asked = None; outstanding = self.new.outstanding } }
-        ensures outstanding { (ask : Ask) → self.old.asked ≡ Some ask → Offers self.old.outstanding self.new.outstanding (head_shown self.old.index (desk memory.now self.old)) ask }
+        ensures outstanding { (ask : Ask) → self.old.asked ≡ Some ask → Offers self.old.outstanding self.new.outstanding head ask }
         ensures items { (ask : Ask) → self.old.asked ≡ Some ask → room.new.items ≡ room.old.items ++ items.Made (entries.Offer self.old.index (request_of ask)) ∷ [] }
     {
         let Some(ask) = self.asked.take() else {
             unreachable!();
         };
-        let head = self.last_head(memory);
         self.outstanding.offer(head, &ask);
         let asked = asked_of(ask, room);
         room.note(Item::Made(Entry::Offer(self.index, asked)));
@@ -116,13 +102,13 @@ impl Front {
     fn store(&mut self, memory: &mut WatchedShared, room: &mut Room) -> bool
         requires sound { FrontSound memory.old self.old }
         requires more { offered_in self.old.outstanding < 2 ^ 64 - 1 }
-        requires fits { FrontFits self.old.index (desk memory.old self.old) }
+        requires fits { FrontFits self.old }
         requires items { 2 ≤ room.old.item_room }
         requires lists { 2 ≤ room.old.lists }
         ensures frame { self.new ≡ record self.old { guest = self.new.guest; asked = self.new.asked; outstanding = self.new.outstanding } }
         ensures sound { FrontSound memory.new self.new }
         ensures sizes { (s : ℕ) → sizes_in memory.new s ≡ sizes_in memory.old s }
-        ensures fits { FrontFits self.old.index (desk memory.new self.new) }
+        ensures fits { FrontFits self.new }
         ensures position { last_used_in self.new.guest ≡ last_used_in self.old.guest }
         ensures spent { result ≡ true → Spends 1 1 room.old room.new }
         ensures outstanding { result ≡ true → self.new.outstanding ≡ self.old.outstanding }
@@ -135,9 +121,9 @@ impl Front {
                 note_store(memory, Tag::G, room);
                 true
             }
-            GuestStep::Offered => {
+            GuestStep::Offered(head) => {
                 note_store(memory, Tag::G, room);
-                self.note_offer(memory, room);
+                self.note_offer(head, room);
                 false
             }
         }
@@ -147,7 +133,7 @@ impl Front {
     pub fn stores(&mut self, count: u16, memory: &mut WatchedShared, room: &mut Room)
         requires sound { FrontSound memory.old self.old }
         requires more { offered_in self.old.outstanding < 2 ^ 64 - 1 }
-        requires fits { FrontFits self.old.index (desk memory.old self.old) }
+        requires fits { FrontFits self.old }
         requires items { count + 1 ≤ room.old.item_room }
         requires lists { count + 1 ≤ room.old.lists }
         ensures frame { self.new ≡ record self.old { guest = self.new.guest; asked = self.new.asked; outstanding = self.new.outstanding } }

@@ -4,7 +4,7 @@ use Rattle.vub_world.specs.declared.front.Front.{Front}
 use Rattle.vub_world.specs.Fronts.{Desk, desk}
 use Rattle.vub_world.specs.declared.outstanding.OutstandingRequests.{OutstandingRequests}
 use Rattle.vub_world.specs.OutstandingRequests.{offered_in}
-use Rattle.vub_world.specs.MachineFront.{FrontFits, GuestGoes}
+use Rattle.vub_world.specs.MachineFront.{GuestGoes}
 use Rattle.vub_world.proofs.front.Front.stores.Goals as goal
 
 pub loop-done-init : goal.loop-done-init
@@ -21,7 +21,7 @@ index_stays : (w v : Front) → v ≡ record w { guest = v.guest; asked = v.aske
 index_stays w v frame = sym (ap (λ (f : Front). f.index) frame)
 
 pub store-requires-clause-fits : goal.store-requires-clause-fits
-store-requires-clause-fits c = subst (λ (k : ℕ). FrontFits k (desk c.loop-done.memory c.loop-done.self)) (index_stays c.args.self.now c.loop-done.self c.loop-done.invariant.frame) c.loop-done.invariant.fits
+store-requires-clause-fits c = c.loop-done.invariant.fits
 
 pub store-requires-clause-items : goal.store-requires-clause-items
 store-requires-clause-items c = omega (arith, c.requires.items, c.loop-done.invariant.items_left, c.loop-done-test.true)
@@ -53,9 +53,8 @@ loop-done-preserved c =
     let w : Desk = desk c.args.memory.now c.args.self.now in
     let v : Desk = desk c.loop-done.memory c.loop-done.self in
     let now : Desk = desk c.store.new.memory c.store.new.self in
-    let fits : FrontFits q now = subst (λ (k : ℕ). FrontFits k now) (sym (index_stays c.args.self.now c.loop-done.self c.loop-done.invariant.frame)) c.store.ensures.fits in
     subst (λ (k : ℕ). GuestLoop q k w now c.args.room.now c.store.new.room) (omega arith) (loop_more q c.loop-done.done w v now c.args.room.now c.loop-done.room c.store.new.room c.loop-done.invariant
-    c.store.ensures.frame c.store.ensures.sound c.store.ensures.sizes fits (c.store.ensures.outstanding c.if-not-store.false) c.store.ensures.position (c.store.ensures.spent c.if-not-store.false)
+    c.store.ensures.frame c.store.ensures.sound c.store.ensures.sizes c.store.ensures.fits (c.store.ensures.outstanding c.if-not-store.false) c.store.ensures.position (c.store.ensures.spent c.if-not-store.false)
     (λ n f. steps_as q v.front.index v now n c.loop-done.room.items c.store.new.room.items c.store.result true (index_stays c.args.self.now c.loop-done.self c.loop-done.invariant.frame) c.if-not-store.false (c.store.ensures.goes n) f))
 
 pub returns-clause-frame : goal.returns-clause-frame

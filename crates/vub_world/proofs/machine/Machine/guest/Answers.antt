@@ -9,7 +9,7 @@ use Rattle.vub_world.specs.declared.machine.Machine.{Machine}
 use Rattle.vub_world.specs.Fronts.{parts_of, desk}
 use Rattle.vub_world.specs.Machine.{IsSound}
 use Rattle.vub_world.specs.MachineAt.{FrontAt, MachineAt, Performs}
-use Rattle.vub_world.specs.MachineFront.{FrontFits, GuestGoes}
+use Rattle.vub_world.specs.MachineFront.{GuestGoes}
 use Rattle.vub_world.proofs.MachineEvents.{ok_then}
 use Rattle.vub_world.proofs.MachineDrivers.{guest_on, guest_idle}
 use Rattle.vub_world.proofs.MachineGuestFits.{front_fits}
@@ -24,7 +24,7 @@ stores-requires-clause-fits c =
     let w : Machine = c.args.self.now in
     let q : ℕ = c.args.queue in
     let f : Front = c.index_mut.result.now in
-    subst (λ (k : ℕ). FrontFits k (desk w.memory f)) (sym (c.requires.sound.parts q f (taken_front c.args.self.now c.from-place.result c.args.queue c.index_mut.result.now c.requires.sound c.from-place.ensures c.requires.event.0 c.index_mut.ensures.value)).index) (front_fits q (parts_of q f w) (parts_stand w q f c.requires.sound (taken_front c.args.self.now c.from-place.result c.args.queue c.index_mut.result.now c.requires.sound c.from-place.ensures c.requires.event.0 c.index_mut.ensures.value) c.requires.stands))
+    front_fits q (parts_of q f w) (parts_stand w q f c.requires.sound (taken_front c.args.self.now c.from-place.result c.args.queue c.index_mut.result.now c.requires.sound c.from-place.ensures c.requires.event.0 c.index_mut.ensures.value) c.requires.stands)
 
 pub returns-clause-sound : goal.returns-clause-sound
 returns-clause-sound c =
