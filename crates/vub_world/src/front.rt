@@ -13,7 +13,7 @@ use vub_guest::{Collected, Guest, GuestStep};
 use vub_report::Item;
 use vub_room::Room;
 use vub_shared::WatchedShared;
-use vub_split::SplitRing;
+use vub_queue::QueueSetup;
 use vub_split::layout::{AVAIL_ENTRY_SIZE, AVAIL_IDX, AVAIL_RING};
 
 /// The driver's side of one queue.
@@ -23,7 +23,10 @@ pub struct Front {
     pub header: Header1,
     /// The number of the queue.
     pub index: u16,
-    pub ring: SplitRing,
+    /// How the device's queue is set up.
+    pub setup: QueueSetup,
+    /// The space of guest memory.
+    pub space: Space,
     pub guest: Guest,
     /// The request that waits to be offered.
     pub asked: Option<Ask>,
@@ -57,7 +60,12 @@ impl Front {
             alloc,
             header: *header,
             index,
-            ring: ring_of(space, index, header.size),
+            setup: QueueSetup {
+                index,
+                ring: ring_of(space, index, header.size),
+                base: header.base,
+            },
+            space,
             guest: Guest::new(alloc, header, index, space)?,
             asked: None,
             outstanding: OutstandingRequests::new(alloc, header.size)?,
@@ -69,7 +77,7 @@ impl Front {
         requires { FrontSound memory.now self.now }
         ensures { result ≡ head_shown self.now.index (desk memory.now self.now) }
     {
-        let (space, place) = self.ring.avail;
+        let (space, place) = self.setup.ring.avail;
         let index = memory.word16(space, place + AVAIL_IDX).wrapping_sub(1);
         let entry = u64::from(index % self.header.size);
         memory.word16(space, place + (AVAIL_RING + AVAIL_ENTRY_SIZE * entry))
