@@ -1,5 +1,5 @@
 #!/usr/bin/env python3
-"""Which files name a word of the split ring: by file of the crates below, with the half that its name says.
+"""Which files name a word of the split ring: by file of the crates below, with the part that it belongs to.
 
 python3 bench/ring_words.py [FOLDER OF CRATES]
 """
@@ -7,9 +7,11 @@ import os
 import re
 import sys
 
+# the words of its two rings, and its type. The record of the places of a queue's rings (Ring, ring_of, the_ring) is none of
+# them: it is the same for both formats
 WORDS = """
 avail_idx avail_idx_place avail_entry_place used_idx used_idx_place used_id_place used_len_place entry_of head_at last_head
-element_at elements_from heads_from seen ahead desc_place the_ring ring_of offer_stores index_store words_at WordsAt SplitRing
+element_at elements_from heads_from seen ahead desc_place offer_stores index_store words_at WordsAt SplitRing
 """.split()
 FACTS = "ringed driven words".split()
 CRATES = "vub_run vub_run_laws vub_queue_in_run vub_world".split()
@@ -18,12 +20,16 @@ CRATES = "vub_run vub_run_laws vub_queue_in_run vub_world".split()
 RING = re.compile(r"^(Ring|RunChains|RunDescriptors|RunLawful|RunParts|Lawful)")
 # the one file of laws, through which the other half reaches it
 LAWS = re.compile(r"^RunQueue$")
+# the queue of the device at a moment: each format has its own, by the rings of its set-up
+QUEUE = "vub_queue_in_run"
 
 NAME = re.compile(r"[^\W\d]\w*")
 FIELD = re.compile(r"\.queue\.(\w+)")
 
 
-def half(stem):
+def part_of(crate, stem):
+    if crate == QUEUE:
+        return "queue"
     if LAWS.match(stem):
         return "laws"
     return "ring" if RING.match(stem) else "history"
@@ -57,10 +63,11 @@ def main():
         for path in files_of(os.path.join(crates, crate)):
             stem = os.path.basename(path)[:-5]
             words = found_in(path)
-            key = (half(stem), bool(words))
+            part = part_of(crate, stem)
+            key = (part, bool(words))
             count[key] = count.get(key, 0) + 1
-            print(f"{os.path.relpath(path, crates):64} {half(stem):8} {' '.join(words) or '-'}")
-        print(f"{crate}: " + ", ".join(f"{many} {side} {'with' if names else 'without'} words" for (side, names), many in sorted(count.items())))
+            print(f"{os.path.relpath(path, crates):64} {part:8} {' '.join(words) or '-'}")
+        print(f"{crate}: " + ", ".join(f"{many} {part} {'with' if names else 'without'} words" for (part, names), many in sorted(count.items())))
 
 
 main()

@@ -1,12 +1,13 @@
 -- The guest as the driver of a ring, and what its calls do with both.
-use Rattle.std.specs.Prelude.{◌≡◌, ◌≢◌, ◌<◌, ℕ, ◌+◌, ◌-◌, ◌%◌, true, false, nat_le, is_some, List, [], ◌∷◌, length, take, get_or, All, Option, Some, None, option_map, Result, Ok, Err, ⊤}
+use Rattle.std.specs.Prelude.{◌≡◌, ◌<◌, ℕ, ◌+◌, ◌-◌, ◌%◌, true, false, nat_le, is_some, List, [], ◌∷◌, length, take, get_or, All, Option, Some, None, option_map, Result, Ok, Err, ⊤}
 use Rattle.vub_base.specs.declared.request.Ask.{Ask}
 use Rattle.vub_shared.specs.Bytes.{Bytes}
 use Rattle.vub_shared.specs.Stores.{Store, Stores, Trails}
-use Rattle.vub_ring.specs.Ring.{Ring, used_idx, element_at}
+use Rattle.vub_ring.specs.Ring.{Ring}
 use Rattle.vub_driver.specs.Requests.{descriptors_needed, has_data}
 use Rattle.vub_driver.specs.Drivers.{Driver, Waiting, free_from, after_stores, after_collect}
 use Rattle.vub_driver.specs.GuestChain.{descriptors}
+use Rattle.vub_driver.specs.Shown.{ShowsNext}
 use Rattle.vub_guest.specs.GuestStores.{links_of, store_at, stores_from}
 use Rattle.vub_guest.specs.declared.guest.Chain.{Chain}
 use Rattle.vub_guest.specs.declared.guest.Pending.{Pending}
@@ -79,11 +80,6 @@ TrailsNext before after step None = after ≡ before
 TrailsNext before after step (Some st) = Trails before after (outcome step) st
 
 -- ---- a collection
-
--- the head that the used ring in memory m shows at position p; none where used.idx is there
-abbrev pub ShowsNext : Option ℕ → Ring → Bytes → ℕ → Type 0
-ShowsNext None r m p = used_idx r m ≡ p
-ShowsNext (Some head) r m p = (used_idx r m ≢ p) × (head ≡ (element_at r m p).0 % 65536)
 
 -- what a collection at that position finds there
 abbrev pub Shows : Collected → Ring → Bytes → ℕ → Type 0

@@ -171,11 +171,12 @@ impl Guest {
     ghost use Rattle.vub_driver.specs.Layout.{status_place};
     ghost use Rattle.vub_driver.specs.Requests.{readable_piece, writable_piece};
     ghost use Rattle.vub_driver.specs.GuestChain.{second};
+    ghost use Rattle.vub_driver.specs.Shown.{ShowsNext};
     ghost use Rattle.vub_guest.specs.GuestRequest.{data_piece, table_entry};
     ghost use Rattle.vub_guest.specs.GuestStores.{links_of};
     ghost use Rattle.vub_guest.specs.GuestStores.{buffer_of as links_buffer};
     ghost use Rattle.vub_guest.specs.Guest.{GuestLies};
-    ghost use Rattle.vub_guest.specs.GuestState.{ring_in, driver_in, pending_store, last_used_in, owner_at, FindsFree, Chooses, StoresNext, TrailsNext, Steps, outcome, next_store, Shows, ShowsNext, Collects, fetched};
+    ghost use Rattle.vub_guest.specs.GuestState.{ring_in, driver_in, pending_store, last_used_in, owner_at, FindsFree, Chooses, StoresNext, TrailsNext, Steps, outcome, next_store, Shows, Collects, fetched};
 
     /// The driver of one of the header's queues, whose area lies in this space.
     pub fn new(alloc: Global, header: &Header1, queue: u16, memory: Space) -> Result<Guest, Memory>

@@ -2,6 +2,7 @@ pub mod QueueAtMoves
 pub mod QueueAtRows
 pub mod QueueAtTurns
 pub mod QueueHeld
+pub mod Setups
 pub mod WorkAt
 pub mod WorkAtItems
 pub mod WorkAtLists

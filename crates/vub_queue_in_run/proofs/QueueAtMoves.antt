@@ -36,6 +36,7 @@ use Rattle.vub_run.specs.Moments.{open_heads}
 use Rattle.vub_device.specs.Places.{are_distinct}
 use Rattle.vub_split.specs.Split.{used_side}
 use Rattle.vub_split.specs.declared.split.SplitRing.{SplitRing}
+use Rattle.vub_queue.specs.declared.queue.QueueSetup.{QueueSetup}
 use Rattle.vub_task.specs.declared.task.Task.{Task}
 use Rattle.vub_run_laws.proofs.RunOwn.{accepted_own, published_own, started_own}
 use Rattle.vub_run_laws.proofs.RunNumbers.{among_filter, missing-among, among-missing}
@@ -94,14 +95,14 @@ left_is q past completed batch k held =
 heads_of_spots : (q : ℕ) (h : Header1) (past : List Entry) (heads ks : List ℕ) → heads_in (map (spot_of q h past heads) ks) ≡ map (slice_index heads) ks
 heads_of_spots q h past heads ks = map-map (λ (x : ℕ × ℕ). x.0) (spot_of q h past heads) ks
 
-pub heads_distinct : (q : ℕ) (h : Header1) (r : SplitRing) (past : List Entry) (heads : List ℕ) (phase : Phase) (batch completed : List ℕ) (made : ℕ → ℕ) (state : QueueState) → QueueAt q h r past heads phase batch completed made state
+pub heads_distinct : (q : ℕ) (h : Header1) (setup : QueueSetup) (past : List Entry) (heads : List ℕ) (phase : Phase) (batch completed : List ℕ) (made : ℕ → ℕ) (state : QueueState) → QueueAt q h setup past heads phase batch completed made state
     → are_distinct (open_heads q past heads) ≡ true
-heads_distinct q h r past heads phase batch completed made state x = (x.keeps (words_kept state) refl).distinct
+heads_distinct q h setup past heads phase batch completed made state x = (x.keeps (words_kept state) refl).distinct
 
 -- a task for each request that is left
-pub count_is : (q : ℕ) (h : Header1) (r : SplitRing) (past : List Entry) (heads : List ℕ) (phase : Phase) (batch completed : List ℕ) (made : ℕ → ℕ) (state : QueueState) → Worked q past phase batch completed made
-    → QueueAt q h r past heads phase batch completed made state → length state.unfinished ≡ length (left_of q past completed batch)
-count_is q h r past heads phase batch completed made state w x =
+pub count_is : (q : ℕ) (h : Header1) (setup : QueueSetup) (past : List Entry) (heads : List ℕ) (phase : Phase) (batch completed : List ℕ) (made : ℕ → ℕ) (state : QueueState) → Worked q past phase batch completed made
+    → QueueAt q h setup past heads phase batch completed made state → length state.unfinished ≡ length (left_of q past completed batch)
+count_is q h setup past heads phase batch completed made state w x =
     let f : ℕ → ℕ = slice_index heads in
     let kept = x.keeps (words_kept state) refl in
     let joined : (k : ℕ) → is_among (batch ++ completed) k ≡ is_among (completed ++ batch) k = λ k.
@@ -120,16 +121,16 @@ count_is q h r past heads phase batch completed made state w x =
     sym (length-map state.unfinished head_in) ∙ ap (λ (hs : List ℕ). length hs) left ∙ length-map (without (batch ++ completed) (open_numbers past q)) f ∙ ap (λ (ks : List ℕ). length ks) same
 
 -- the avail position is the base advanced by what was accepted
-pub avail_is : (q : ℕ) (h : Header1) (r : SplitRing) (past : List Entry) (heads : List ℕ) (phase : Phase) (batch completed : List ℕ) (made : ℕ → ℕ) (state : QueueState) → Known q h.size h.capacity past heads
-    → QueueAt q h r past heads phase batch completed made state → state.next_avail ≡ (h.base + accepted past q) % 65536
-avail_is q h r past heads phase batch completed made state known x =
+pub avail_is : (q : ℕ) (h : Header1) (setup : QueueSetup) (past : List Entry) (heads : List ℕ) (phase : Phase) (batch completed : List ℕ) (made : ℕ → ℕ) (state : QueueState) → Known q h.size h.capacity past heads
+    → QueueAt q h setup past heads phase batch completed made state → state.next_avail ≡ (h.base + accepted past q) % 65536
+avail_is q h setup past heads phase batch completed made state known x =
     let all : length (open_numbers past q) + length (published past q) ≡ accepted past q = missing_exact (published past q) (accepted past q) known.distinct known.below in
     omega (arith, (x.keeps (words_kept state) refl).avail, x.used, all, length-map (open_numbers past q) (slice_index heads))
 
 -- a head that is taken is that of an open request
-pub taken_open : (q : ℕ) (h : Header1) (r : SplitRing) (past : List Entry) (heads : List ℕ) (phase : Phase) (batch completed : List ℕ) (made : ℕ → ℕ) (state : QueueState) (d : ℕ) → d < r.size → is_taken state.taken d ≡ true
-    → QueueAt q h r past heads phase batch completed made state → (k : ℕ) × IsOpen past q k × (slice_index heads k ≡ d)
-taken_open q h r past heads phase batch completed made state d low held x =
+pub taken_open : (q : ℕ) (h : Header1) (setup : QueueSetup) (past : List Entry) (heads : List ℕ) (phase : Phase) (batch completed : List ℕ) (made : ℕ → ℕ) (state : QueueState) (d : ℕ) → d < setup.ring.size → is_taken state.taken d ≡ true
+    → QueueAt q h setup past heads phase batch completed made state → (k : ℕ) × IsOpen past q k × (slice_index heads k ≡ d)
+taken_open q h setup past heads phase batch completed made state d low held x =
     let among : is_among (open_heads q past heads) d ≡ true = sym ((x.keeps (words_kept state) refl).taken d low) ∙ held in
     let there = number_of (slice_index heads) (open_numbers past q) d among in
     let opened = missing-among (published past q) (accepted past q) there.0 there.1 in
@@ -147,28 +148,28 @@ none_among q past completed batch k none held =
     cc
 
 -- a new queue stands where no request was accepted
-pub at_new : (q : ℕ) (h : Header1) (r : SplitRing) (past : List Entry) (heads : List ℕ) (made : ℕ → ℕ) (state : QueueState) → h.base < 65536 → length (published past q) ≤ accepted past q → accepted past q ≡ 0 → started past q ≡ false
-    → states.IsNew r h.base state → QueueAt q h r past heads phases.Rest [] [] made state
-at_new q h r past heads made state small fewer none stopped new = subst (λ (t : QueueState). QueueAt q h r past heads phases.Rest [] [] made t) (sym new.is) (record {
+pub at_new : (q : ℕ) (h : Header1) (setup : QueueSetup) (past : List Entry) (heads : List ℕ) (made : ℕ → ℕ) (state : QueueState) → h.base < 65536 → length (published past q) ≤ accepted past q → accepted past q ≡ 0 → started past q ≡ false
+    → setup.base ≡ h.base → states.IsNew setup.ring setup.base state → QueueAt q h setup past heads phases.Rest [] [] made state
+at_new q h setup past heads made state small fewer none stopped base new = subst (λ (t : QueueState). QueueAt q h setup past heads phases.Rest [] [] made t) (sym new.is) (record {
   ring = refl;
   runs = refl;
   started = sym stopped;
-  used = omega (arith, small, none, fewer);
+  used = omega (arith, base, small, none, fewer);
   phase = refl;
   batch = refl;
   completed = refl;
-  keeps = subst (λ (hs : List ℕ). KeepsHeads r.size hs (states.new_state r h.base new.sectors)) (sym (ap (λ (n : ℕ). map (slice_index heads) (missing_below (published past q) n)) none)) (keeps_new r h.base new.sectors small);
+  keeps = subst (λ (hs : List ℕ). KeepsHeads setup.ring.size hs (states.new_state setup.ring setup.base new.sectors)) (sym (ap (λ (n : ℕ). map (slice_index heads) (missing_below (published past q) n)) none)) (keeps_new setup.ring setup.base new.sectors (omega (arith, base, small)));
   tasks = λ i k task there is. absurd (none_among q past [] [] k none (among_get (left_of q past [] []) i k there));
   buffers = new.buffers;
-  places = length-replicate r.size false;
+  places = length-replicate setup.ring.size false;
   sectors = λ k place request held asks_it next. absurd (none_among q past [] [] k none held);
 })
 
 -- ---- a start
 
-pub at_start : (q : ℕ) (h : Header1) (r : SplitRing) (past : List Entry) (heads : List ℕ) (made : ℕ → ℕ) (state : QueueState) → accepted past q ≡ 0
-    → QueueAt q h r past heads phases.Rest [] [] made state → QueueAt q h r (entries.Start q (open_numbers past q) ∷ past) heads phases.Rest [] [] made (record state { started = true })
-at_start q h r past heads made state none x = record {
+pub at_start : (q : ℕ) (h : Header1) (setup : QueueSetup) (past : List Entry) (heads : List ℕ) (made : ℕ → ℕ) (state : QueueState) → accepted past q ≡ 0
+    → QueueAt q h setup past heads phases.Rest [] [] made state → QueueAt q h setup (entries.Start q (open_numbers past q) ∷ past) heads phases.Rest [] [] made (record state { started = true })
+at_start q h setup past heads made state none x = record {
   ring = x.ring;
   runs = x.runs;
   started = sym (started_own past q (open_numbers past q));
@@ -176,7 +177,7 @@ at_start q h r past heads made state none x = record {
   phase = x.phase;
   batch = x.batch;
   completed = x.completed;
-  keeps = keeps_started r.size (open_heads q past heads) state x.keeps;
+  keeps = keeps_started setup.ring.size (open_heads q past heads) state x.keeps;
   tasks = λ i k task there is. record { head = (x.tasks i k task there is).head; stands = λ request asks_it. (x.tasks i k task there is).stands request asks_it };
   buffers = x.buffers;
   places = x.places;
@@ -230,16 +231,16 @@ left_more q past completed batch k unpublished out =
     let kept : filter test (a ∷ []) ≡ a ∷ [] = grind (arith, nat_tests) in
     ap (λ (n : ℕ). filter test (missing_below ps n)) (accepted_own past q a) ∙ ap (λ (n : ℕ). filter test (missing_below ps n)) next ∙ ap (filter test) longer ∙ filter-append test (missing_below ps a) (a ∷ []) ∙ ap (λ (ks : List ℕ). filter test (missing_below ps a) ++ ks) kept
 
-pub at_fetch : (q : ℕ) (h : Header1) (r : SplitRing) (past : List Entry) (heads : List ℕ) (completed : List ℕ) (made : ℕ → ℕ) (state : QueueState) (head : ℕ) → Known q h.size h.capacity past heads → Worked q past phases.Rest [] completed made
-    → head ≡ slice_index heads (accepted past q) → head < r.size → is_taken state.taken head ≡ false → QueueAt q h r past heads phases.Rest [] completed made state
-    → QueueAt q h r (entries.Accept q (accepted past q) ∷ past) heads phases.Rest [] completed made (states.accepted head state)
-at_fetch q h r past heads completed made state head known w is small free x =
+pub at_fetch : (q : ℕ) (h : Header1) (setup : QueueSetup) (past : List Entry) (heads : List ℕ) (completed : List ℕ) (made : ℕ → ℕ) (state : QueueState) (head : ℕ) → Known q h.size h.capacity past heads → Worked q past phases.Rest [] completed made
+    → head ≡ slice_index heads (accepted past q) → head < setup.ring.size → is_taken state.taken head ≡ false → QueueAt q h setup past heads phases.Rest [] completed made state
+    → QueueAt q h setup (entries.Accept q (accepted past q) ∷ past) heads phases.Rest [] completed made (states.accepted head state)
+at_fetch q h setup past heads completed made state head known w is small free x =
     let a : ℕ = accepted past q in
     let past' : List Entry = entries.Accept q a ∷ past in
     let none : made a ≡ 0 = w.untouched a (omega arith) in
     let unpublished : is_among (published past q) a ≡ false = new_unpublished q h.size h.capacity past heads known in
     let more : left_of q past' completed [] ≡ left_of q past completed [] ++ a ∷ [] = left_more q past completed [] a unpublished (new_out q past phases.Rest [] completed made w) in
-    let count : length state.unfinished ≡ length (left_of q past completed []) = count_is q h r past heads phases.Rest [] completed made state w x in
+    let count : length state.unfinished ≡ length (left_of q past completed []) = count_is q h setup past heads phases.Rest [] completed made state w x in
     let joins : open_heads q past' heads ≡ open_heads q past heads ++ head ∷ [] = heads_accept q past heads a unpublished ∙ ap (λ (y : ℕ). open_heads q past heads ++ y ∷ []) (sym is) in
     record {
       ring = x.ring;
@@ -249,7 +250,7 @@ at_fetch q h r past heads completed made state head known w is small free x =
       phase = x.phase;
       batch = x.batch;
       completed = x.completed;
-      keeps = subst (λ (hs : List ℕ). KeepsHeads r.size hs (states.accepted head state)) (sym joins) (keeps_accepted (used_side r) (open_heads q past heads) state head small x.places free x.keeps);
+      keeps = subst (λ (hs : List ℕ). KeepsHeads setup.ring.size hs (states.accepted head state)) (sym joins) (keeps_accepted (used_side setup.ring) (open_heads q past heads) state head small x.places free x.keeps);
       tasks = λ i k task there is_task.
           let there_too : slice_get (left_of q past completed [] ++ a ∷ []) i ≡ Some k = subst (λ (ks : List ℕ). slice_get ks i ≡ Some k) more there in
           elim (pushed_place (left_of q past completed []) a k i there_too) [
@@ -259,7 +260,7 @@ at_fetch q h r past heads completed made state head known w is small free x =
             ]
             | inr last ↦ elim (pushed_place state.unfinished (fresh_task head) task i is_task) [
               | inl old_task ↦ absurd (let low : i < length state.unfinished = slice_get_within state.unfinished i task old_task in omega (arith, last.0, count, low))
-              | inr new ↦ subst (λ (t : Task). TaskAt q h r past' heads k (made k) t) new.1 (subst (λ (j : ℕ). TaskAt q h r past' heads j (made j) (fresh_task head)) last.1 (record {
+              | inr new ↦ subst (λ (t : Task). TaskAt q h setup past' heads k (made k) t) new.1 (subst (λ (j : ℕ). TaskAt q h setup past' heads j (made j) (fresh_task head)) last.1 (record {
                 head = is;
                 stands = λ request asks_it. record { begins = λ e. refl; goes_on = λ some. absurd (omega arith) };
               }))
@@ -283,9 +284,9 @@ at_fetch q h r past heads completed made state head known w is small free x =
 
 -- ---- a batch is taken
 
-pub at_begin : (q : ℕ) (h : Header1) (r : SplitRing) (past : List Entry) (heads : List ℕ) (completed : List ℕ) (made : ℕ → ℕ) (state : QueueState) (most : ℕ) → QueueAt q h r past heads phases.Rest [] completed made state
-    → QueueAt q h r past heads (phases.Publish 0) (take most completed) (drop most completed) made (states.begun most state)
-at_begin q h r past heads completed made state most x =
+pub at_begin : (q : ℕ) (h : Header1) (setup : QueueSetup) (past : List Entry) (heads : List ℕ) (completed : List ℕ) (made : ℕ → ℕ) (state : QueueState) (most : ℕ) → QueueAt q h setup past heads phases.Rest [] completed made state
+    → QueueAt q h setup past heads (phases.Publish 0) (take most completed) (drop most completed) made (states.begun most state)
+at_begin q h setup past heads completed made state most x =
     let same : left_of q past (drop most completed) (take most completed) ≡ left_of q past completed [] = left_same q past (drop most completed) (take most completed) completed [] (swap_among most completed) in
     record {
       ring = x.ring;
@@ -295,7 +296,7 @@ at_begin q h r past heads completed made state most x =
       phase = refl;
       batch = ap (take most) x.completed ∙ take-map (spot_of q h past heads) most completed;
       completed = ap (drop most) x.completed ∙ drop_map (spot_of q h past heads) most completed;
-      keeps = keeps_begun r.size (open_heads q past heads) most state x.batch x.keeps;
+      keeps = keeps_begun setup.ring.size (open_heads q past heads) most state x.batch x.keeps;
       tasks = λ i k task there is. x.tasks i k task (subst (λ (ks : List ℕ). slice_get ks i ≡ Some k) same there) is;
       buffers = x.buffers;
       places = x.places;
@@ -315,25 +316,25 @@ abbrev course_with : ℕ → ℕ → Course
 course_with size batch = record { size = size; batch = batch }
 
 -- the queue's course is that of the header and the batch
-pub course_same : (q : ℕ) (h : Header1) (r : SplitRing) (past : List Entry) (heads : List ℕ) (phase : Phase) (batch completed : List ℕ) (made : ℕ → ℕ) (state : QueueState) → LiesAs q r h.size → QueueAt q h r past heads phase batch completed made state
+pub course_same : (q : ℕ) (h : Header1) (setup : QueueSetup) (past : List Entry) (heads : List ℕ) (phase : Phase) (batch completed : List ℕ) (made : ℕ → ℕ) (state : QueueState) → LiesAs q setup h.size → QueueAt q h setup past heads phase batch completed made state
     → states.course_in state ≡ course_with h.size (length batch)
-course_same q h r past heads phase batch completed made state main x =
+course_same q h setup past heads phase batch completed made state main x =
     let many : length state.batch ≡ length batch = ap (λ (ks : List (ℕ × ℕ)). length ks) x.batch ∙ length-map batch (spot_of q h past heads) in
     let size : state.ring.size ≡ h.size = ap (λ (ring : SplitRing). ring.size) x.ring ∙ main.size in
     ap (λ (n : ℕ). course_with n (length state.batch)) size ∙ ap (course_with h.size) many
 
-pub moved_is : (q : ℕ) (h : Header1) (r : SplitRing) (past : List Entry) (heads : List ℕ) (phase : Phase) (batch completed : List ℕ) (made : ℕ → ℕ) (state : QueueState) → LiesAs q r h.size → QueueAt q h r past heads phase batch completed made state
+pub moved_is : (q : ℕ) (h : Header1) (setup : QueueSetup) (past : List Entry) (heads : List ℕ) (phase : Phase) (batch completed : List ℕ) (made : ℕ → ℕ) (state : QueueState) → LiesAs q setup h.size → QueueAt q h setup past heads phase batch completed made state
     → states.moved state ≡ states.with_phase (after_step (course_with h.size (length batch)) phase) state
-moved_is q h r past heads phase batch completed made state main x =
-    ap (λ (c : Course). states.with_phase (after_step c state.phase) state) (course_same q h r past heads phase batch completed made state main x)
+moved_is q h setup past heads phase batch completed made state main x =
+    ap (λ (c : Course). states.with_phase (after_step c state.phase) state) (course_same q h setup past heads phase batch completed made state main x)
     ∙ ap (λ (p : Phase). states.with_phase (after_step (course_with h.size (length batch)) p) state) x.phase
 
-pub at_row : (q : ℕ) (h : Header1) (r : SplitRing) (past : List Entry) (heads : List ℕ) (phase : Phase) (batch completed : List ℕ) (made : ℕ → ℕ) (state : QueueState) → LiesAs q r h.size → QueueAt q h r past heads phase batch completed made state
-    → is_publication (after_step (course_with h.size (length batch)) phase) ≡ true → QueueAt q h r past heads (after_step (course_with h.size (length batch)) phase) batch completed made (states.moved state)
-at_row q h r past heads phase batch completed made state main x goes =
+pub at_row : (q : ℕ) (h : Header1) (setup : QueueSetup) (past : List Entry) (heads : List ℕ) (phase : Phase) (batch completed : List ℕ) (made : ℕ → ℕ) (state : QueueState) → LiesAs q setup h.size → QueueAt q h setup past heads phase batch completed made state
+    → is_publication (after_step (course_with h.size (length batch)) phase) ≡ true → QueueAt q h setup past heads (after_step (course_with h.size (length batch)) phase) batch completed made (states.moved state)
+at_row q h setup past heads phase batch completed made state main x goes =
     let p : Phase = after_step (course_with h.size (length batch)) phase in
-    let same : states.moved state ≡ record state { phase = p } = moved_is q h r past heads phase batch completed made state main x ∙ goes_to p state goes in
-    subst (λ (t : QueueState). QueueAt q h r past heads p batch completed made t) (sym same) (record {
+    let same : states.moved state ≡ record state { phase = p } = moved_is q h setup past heads phase batch completed made state main x ∙ goes_to p state goes in
+    subst (λ (t : QueueState). QueueAt q h setup past heads p batch completed made t) (sym same) (record {
       ring = x.ring;
       runs = x.runs;
       started = x.started;
@@ -341,7 +342,7 @@ at_row q h r past heads phase batch completed made state main x goes =
       phase = refl;
       batch = x.batch;
       completed = x.completed;
-      keeps = keeps_phase r.size (open_heads q past heads) p state x.keeps;
+      keeps = keeps_phase setup.ring.size (open_heads q past heads) p state x.keeps;
       tasks = x.tasks;
       buffers = x.buffers;
       places = x.places;
@@ -386,20 +387,20 @@ left_shown q past completed batch list is =
     ∙ ap (λ (ks : List ℕ). filter (λ k. not (is_among (completed ++ []) k)) (missing_below (published past q ++ ks) (accepted past q))) is
     ∙ show_filter (published past q) completed batch (accepted past q)
 
-pub at_show : (q : ℕ) (h : Header1) (r : SplitRing) (past : List Entry) (heads : List ℕ) (phase : Phase) (batch completed : List ℕ) (made : ℕ → ℕ) (state : QueueState) (list : List Answered)
-    → after_step (course_with h.size (length batch)) phase ≡ phases.Rest → numbers list ≡ batch → ((k : ℕ) → is_among batch k ≡ true → IsOpen past q k) → LiesAs q r h.size → QueueAt q h r past heads phase batch completed made state
-    → QueueAt q h r (entries.Publish q list ∷ past) heads phases.Rest [] completed made (states.moved state)
-at_show q h r past heads phase batch completed made state list ends is opens main x =
+pub at_show : (q : ℕ) (h : Header1) (setup : QueueSetup) (past : List Entry) (heads : List ℕ) (phase : Phase) (batch completed : List ℕ) (made : ℕ → ℕ) (state : QueueState) (list : List Answered)
+    → after_step (course_with h.size (length batch)) phase ≡ phases.Rest → numbers list ≡ batch → ((k : ℕ) → is_among batch k ≡ true → IsOpen past q k) → LiesAs q setup h.size → QueueAt q h setup past heads phase batch completed made state
+    → QueueAt q h setup (entries.Publish q list ∷ past) heads phases.Rest [] completed made (states.moved state)
+at_show q h setup past heads phase batch completed made state list ends is opens main x =
     let past' : List Entry = entries.Publish q list ∷ past in
     let many : length state.batch ≡ length batch = ap (λ (ks : List (ℕ × ℕ)). length ks) x.batch ∙ length-map batch (spot_of q h past heads) in
-    let moved : states.moved state ≡ states.with_phase phases.Rest state = moved_is q h r past heads phase batch completed made state main x ∙ ap (λ (p : Phase). states.with_phase p state) ends in
+    let moved : states.moved state ≡ states.with_phase phases.Rest state = moved_is q h setup past heads phase batch completed made state main x ∙ ap (λ (p : Phase). states.with_phase p state) ends in
     let same : left_of q past' completed [] ≡ left_of q past completed batch = left_shown q past completed batch list is in
     let shown : length (published past' q) ≡ length (published past q) + length batch = ap (λ (ks : List ℕ). length ks) (published_own past q list) ∙ length-append (published past q) (numbers list) ∙ ap (λ (ks : List ℕ). length (published past q) + length ks) is in
     let batch_heads : map (slice_index heads) batch ≡ heads_in state.batch = sym (ap heads_in x.batch ∙ heads_of_spots q h past heads batch) in
     let leave : open_heads q past' heads ≡ without (heads_in state.batch) (open_heads q past heads) =
-    heads_publish q past heads list batch is (heads_distinct q h r past heads phase batch completed made state x) (λ k held. let o : IsOpen past q k = opens k held in among-missing (published past q) (accepted past q) k o.taken o.unpublished)
+    heads_publish q past heads list batch is (heads_distinct q h setup past heads phase batch completed made state x) (λ k held. let o : IsOpen past q k = opens k held in among-missing (published past q) (accepted past q) k o.taken o.unpublished)
     ∙ ap (λ (hs : List ℕ). without hs (open_heads q past heads)) batch_heads in
-    subst (λ (t : QueueState). QueueAt q h r past' heads phases.Rest [] completed made t) (sym moved) (record {
+    subst (λ (t : QueueState). QueueAt q h setup past' heads phases.Rest [] completed made t) (sym moved) (record {
       ring = x.ring;
       runs = x.runs;
       started = x.started;
@@ -407,7 +408,7 @@ at_show q h r past heads phase batch completed made state list ends is opens mai
       phase = refl;
       batch = refl;
       completed = x.completed;
-      keeps = subst (λ (hs : List ℕ). KeepsHeads r.size hs (states.with_phase phases.Rest state)) (sym leave) (keeps_shown (used_side r) (open_heads q past heads) state (omega (arith, x.used)) x.places x.keeps);
+      keeps = subst (λ (hs : List ℕ). KeepsHeads setup.ring.size hs (states.with_phase phases.Rest state)) (sym leave) (keeps_shown (used_side setup.ring) (open_heads q past heads) state (omega (arith, x.used)) x.places x.keeps);
       tasks = λ i k task there is_task.
           let t = x.tasks i k task (subst (λ (ks : List ℕ). slice_get ks i ≡ Some k) same there) is_task in
           record { head = t.head; stands = t.stands };
@@ -424,10 +425,10 @@ offered_spot q h past heads request x k known low =
     let asks_it : asked (entries.Offer q request ∷ past) q k ≡ asked past q k = same_asked q past request k (omega (arith, low, known.offered, known.offers_are)) in
     ap (λ (y : ℕ). (y, len_of h (asked (entries.Offer q request ∷ past) q k))) head ∙ ap (λ (o : Option Asked). (slice_index heads k, len_of h o)) asks_it
 
-pub at_offer : (q : ℕ) (h : Header1) (r : SplitRing) (past : List Entry) (heads : List ℕ) (phase : Phase) (batch completed : List ℕ) (made : ℕ → ℕ) (state : QueueState) (request : Asked) (x : ℕ)
-    → Known q h.size h.capacity past heads → Worked q past phase batch completed made → QueueAt q h r past heads phase batch completed made state
-    → QueueAt q h r (entries.Offer q request ∷ past) (heads ++ x ∷ []) phase batch completed made state
-at_offer q h r past heads phase batch completed made state request x known w z =
+pub at_offer : (q : ℕ) (h : Header1) (setup : QueueSetup) (past : List Entry) (heads : List ℕ) (phase : Phase) (batch completed : List ℕ) (made : ℕ → ℕ) (state : QueueState) (request : Asked) (x : ℕ)
+    → Known q h.size h.capacity past heads → Worked q past phase batch completed made → QueueAt q h setup past heads phase batch completed made state
+    → QueueAt q h setup (entries.Offer q request ∷ past) (heads ++ x ∷ []) phase batch completed made state
+at_offer q h setup past heads phase batch completed made state request x known w z =
     let past' : List Entry = entries.Offer q request ∷ past in
     let heads' : List ℕ = heads ++ x ∷ [] in
     let low_of : (k : ℕ) → is_among (completed ++ batch) k ≡ true → k < accepted past q = λ k held. (w.opens k held).taken in
@@ -444,13 +445,13 @@ at_offer q h r past heads phase batch completed made state request x known w z =
       phase = z.phase;
       batch = z.batch ∙ map_alike (spot_of q h past heads) (spot_of q h past' heads') batch (λ k held. sym (offered_spot q h past heads request x k known (low_of k (joined k ∙ or_right (is_among completed k) (is_among batch k) held))));
       completed = z.completed ∙ map_alike (spot_of q h past heads) (spot_of q h past' heads') completed (λ k held. sym (offered_spot q h past heads request x k known (low_of k (joined k ∙ or_left (is_among completed k) (is_among batch k) held))));
-      keeps = subst (λ (hs : List ℕ). KeepsHeads r.size hs state) (sym same_open) z.keeps;
+      keeps = subst (λ (hs : List ℕ). KeepsHeads setup.ring.size hs state) (sym same_open) z.keeps;
       tasks = λ i k task there is.
           let low : k < accepted past q = (left_is q past completed batch k (among_get (left_of q past completed batch) i k there)).is_open.taken in
           let t = z.tasks i k task there is in
           record {
             head = t.head ∙ sym (head_is k low);
-            stands = λ asks_this at_k. subst (λ (d : ℕ). IsTaskAt h r (buffer_place (area_place q) d) asks_this (made k) task) (sym (head_is k low)) (t.stands asks_this (sym (asks_is k low) ∙ at_k));
+            stands = λ asks_this at_k. subst (λ (d : ℕ). IsTaskAt h setup.ring (buffer_place (area_place q) d) asks_this (made k) task) (sym (head_is k low)) (t.stands asks_this (sym (asks_is k low) ∙ at_k));
           };
       buffers = z.buffers;
       places = z.places;
@@ -461,9 +462,9 @@ at_offer q h r past heads phase batch completed made state request x known w z =
 
 -- ---- a collection
 
-pub at_collect : (q : ℕ) (h : Header1) (r : SplitRing) (past : List Entry) (heads : List ℕ) (phase : Phase) (batch completed : List ℕ) (made : ℕ → ℕ) (state : QueueState) (k : ℕ)
-    → QueueAt q h r past heads phase batch completed made state → QueueAt q h r (entries.Collect q k ∷ past) heads phase batch completed made state
-at_collect q h r past heads phase batch completed made state k x = record {
+pub at_collect : (q : ℕ) (h : Header1) (setup : QueueSetup) (past : List Entry) (heads : List ℕ) (phase : Phase) (batch completed : List ℕ) (made : ℕ → ℕ) (state : QueueState) (k : ℕ)
+    → QueueAt q h setup past heads phase batch completed made state → QueueAt q h setup (entries.Collect q k ∷ past) heads phase batch completed made state
+at_collect q h setup past heads phase batch completed made state k x = record {
   ring = x.ring;
   runs = x.runs;
   started = x.started;

@@ -1,5 +1,5 @@
 -- What a step of the queue's publication says, stores and leaves in a run.
-use Rattle.std.proofs.Common.{◌≡◌, ◌≢◌, ◌<◌, ◌⊎◌, ℕ, zero, suc, ◌+◌, ◌*◌, ◌%◌, Bool, true, false, List, [], ◌∷◌, ◌++◌, length, map, take, drop, cond, refl, ap, sym, ◌∙◌, subst, inl, inr, arith}
+use Rattle.std.proofs.Common.{◌≡◌, ◌≢◌, ◌≤◌, ◌<◌, ◌⊎◌, ℕ, zero, suc, ◌+◌, ◌*◌, ◌%◌, Bool, true, false, List, [], ◌∷◌, ◌++◌, length, map, take, drop, cond, refl, ap, sym, ◌∙◌, subst, inl, inr, arith}
 use Rattle.std.specs.Prelude.{Option, Some, None, slice_index, slice_get, option_map, nat_lt}
 use Rattle.byteorder.specs.Endian.{little_bytes}
 use Rattle.std.proofs.lemmas.Bool.Decides.{nat_tests}
@@ -25,13 +25,14 @@ use Rattle.vub_report.specs.declared.items.Item.{Item}
 use Rattle.vub_report.specs.declared.items.Item.TheVariants as items
 use Rattle.vub_queue.specs.declared.queue.Stepped.{Stepped}
 use Rattle.vub_queue.specs.declared.queue.Stepped.TheVariants as says
-use Rattle.vub_split.specs.declared.split.SplitRing.{SplitRing}
+use Rattle.vub_queue.specs.declared.queue.QueueSetup.{QueueSetup}
 use Rattle.vub_run.specs.Memory.{Scene, after_items}
 use Rattle.vub_run.specs.Moments.{Lane, Moment, standing}
 use Rattle.vub_run.specs.Run.{one_turn}
 use Rattle.vub_run.specs.Turns.{Turned, course_of, turned, is_rest, begun, under_way, phase_turn, phase_goes_on, element_of, answer_at, row_items, with_phase}
 use Rattle.vub_queue.specs.QueueState as states
 use Rattle.vub_split.specs.Split.{used_side}
+use Rattle.vub_split.specs.declared.split.SplitRing.{SplitRing}
 use Rattle.vub_queue.specs.QueueState.{QueueState, course_in, row_at, next_row, moved, Moves, publishes, publish_row, Publishes, Turns, is_fault}
 use Rattle.vub_queue_in_run.specs.QueueAt.{spot_of, QueueAt, LiesAs, QueueStands}
 use Rattle.vub_driver.specs.Layout.{area_place}
@@ -40,6 +41,7 @@ use Rattle.vub_run_laws.proofs.RunHolds.{Holds}
 use Rattle.vub_run_laws.proofs.RunPhases.{resting, rest_is, taking, taking_holds}
 use Rattle.vub_run_laws.proofs.RingRows.{StepAt, AtId, AtLen, AtIndex, step_at, more_left, none_left}
 use Rattle.vub_run_laws.proofs.RunElements.{get_map}
+use Rattle.vub_run_laws.proofs.RunFrames.{length_little}
 use Rattle.vub_run_laws.proofs.RunPublications.{publishing, IsUnderWay, batch_open}
 use Rattle.vub_run_laws.proofs.RunTracks.{numbers_answers}
 use Rattle.vub_run_laws.proofs.RunTurns.{IsPlain, Good, phase_cases}
@@ -53,8 +55,8 @@ ring_same : (s s' d d' a a' u u' n n' : ℕ) → s ≡ s' → d ≡ d' → a ≡
     → ◌≡◌ {A = Ring} (record { space = s; desc = d; avail = a; used = u; size = n }) (record { space = s'; desc = d'; avail = a'; used = u'; size = n' })
 ring_same s s' d d' a a' u u' n n' es ed ea eu en = cc
 
-side_is : (q : ℕ) (r : SplitRing) (n : ℕ) → LiesAs q r n → used_side r ≡ the_ring q n
-side_is q r n main = ring_same r.used.0.number 0 r.desc.1 (area_place q) r.avail.1 (area_place q + 4096) r.used.1 (area_place q + 8192) r.size n main.used_space main.desc main.avail main.used main.size
+side_is : (q : ℕ) (setup : QueueSetup) (n : ℕ) → LiesAs q setup n → used_side setup.ring ≡ the_ring q n
+side_is q setup n main = ring_same setup.ring.used.0.number 0 setup.ring.desc.1 (area_place q) setup.ring.avail.1 (area_place q + 4096) setup.ring.used.1 (area_place q + 8192) setup.ring.size n main.used_space main.desc main.avail main.used main.size
 
 -- the row that the step table has for a step
 abbrev table_row : ℕ → Header1 → Scene → List ℕ → Option Step → Option Row
@@ -62,23 +64,23 @@ table_row q h s batch None = None
 table_row q h s batch (Some step) = row_of (the_ring q h.size) (used_idx (the_ring q h.size) s.memory) (map (element_of h q s) batch) step
 
 -- the queue's publication stands where that of the lane does
-pub record GoesOn (q : ℕ) (h : Header1) (r : SplitRing) (s : Scene) (l : Lane) (done : ℕ) (u : QueueState) : Type 0 where
-  pub main : LiesAs q r h.size
+pub record GoesOn (q : ℕ) (h : Header1) (setup : QueueSetup) (s : Scene) (l : Lane) (done : ℕ) (u : QueueState) : Type 0 where
+  pub main : LiesAs q setup h.size
   pub under : IsUnderWay q h s l done
-  pub stands : QueueAt q h r s.past (s.heads q) (phases.Publish done) l.batch l.completed l.made u
+  pub stands : QueueAt q h setup s.past (s.heads q) (phases.Publish done) l.batch l.completed l.made u
 
-rows_same : (q : ℕ) (h : Header1) (r : SplitRing) (s : Scene) (l : Lane) (done : ℕ) (u : QueueState) (o : Option Step) → GoesOn q h r s l done u → row_at u o ≡ table_row q h s l.batch o
-rows_same q h r s l done u None g = refl
-rows_same q h r s l done u (Some step) g =
-    let side : used_side u.ring ≡ the_ring q h.size = ap used_side g.stands.ring ∙ side_is q r h.size g.main in
+rows_same : (q : ℕ) (h : Header1) (setup : QueueSetup) (s : Scene) (l : Lane) (done : ℕ) (u : QueueState) (o : Option Step) → GoesOn q h setup s l done u → row_at u o ≡ table_row q h s l.batch o
+rows_same q h setup s l done u None g = refl
+rows_same q h setup s l done u (Some step) g =
+    let side : used_side u.ring ≡ the_ring q h.size = ap used_side g.stands.ring ∙ side_is q setup h.size g.main in
     let used : u.next_used ≡ used_idx (the_ring q h.size) s.memory = g.stands.used ∙ sym (shown_index q h s l.driver l.batch (phases.Publish done) g.under.holds.queue) in
     ap (λ (x : Ring). row_of x u.next_used u.batch step) side
     ∙ ap (λ (n : ℕ). row_of (the_ring q h.size) n u.batch step) used
     ∙ ap (λ (xs : List (ℕ × ℕ)). row_of (the_ring q h.size) (used_idx (the_ring q h.size) s.memory) xs step) g.stands.batch
 
-next_same : (q : ℕ) (h : Header1) (r : SplitRing) (s : Scene) (l : Lane) (done : ℕ) (u : QueueState) → GoesOn q h r s l done u → next_step (course_in u) u.phase ≡ slice_get (publish_steps (length l.batch)) done
-next_same q h r s l done u g =
-    ap (λ (c : Course). next_step c u.phase) (course_same q h r s.past (s.heads q) (phases.Publish done) l.batch l.completed l.made u g.main g.stands)
+next_same : (q : ℕ) (h : Header1) (setup : QueueSetup) (s : Scene) (l : Lane) (done : ℕ) (u : QueueState) → GoesOn q h setup s l done u → next_step (course_in u) u.phase ≡ slice_get (publish_steps (length l.batch)) done
+next_same q h setup s l done u g =
+    ap (λ (c : Course). next_step c u.phase) (course_same q h setup s.past (s.heads q) (phases.Publish done) l.batch l.completed l.made u g.main g.stands)
     ∙ ap (λ (p : Phase). next_step (course_of h l) p) g.stands.phase
 
 -- ---- what a step says
@@ -137,11 +139,11 @@ pub record MadeIndex (q : ℕ) (h : Header1) (s : Scene) (batch : List ℕ) (u :
   pub items : made ≡ items.Store SP5 M y.store.place y.store.bytes ∷ items.Made (entries.Publish q (map (answer_at q (after_row h y s)) batch)) ∷ []
 
 -- what a step of a publication under way made and left
-pub record MadeRow (q : ℕ) (h : Header1) (r : SplitRing) (s : Scene) (batch : List ℕ) (x : Stepped) (u u' : QueueState) (t : Turned) (y : Row) : Type 0 where
+pub record MadeRow (q : ℕ) (h : Header1) (setup : QueueSetup) (s : Scene) (batch : List ℕ) (x : Stepped) (u u' : QueueState) (t : Turned) (y : Row) : Type 0 where
   pub row : next_row u ≡ Some y
   pub space : y.store.space ≡ 0
   pub which : MadeElement u x t.items y ⊎ MadeIndex q h s batch u x t.items y
-  pub stands : StandsAfter q h r s t u'
+  pub stands : StandsAfter q h setup s t u'
 
 -- the step, and what it does of the queue
 pub record DoesStep (x : Stepped) (u u' : QueueState) : Type 0 where
@@ -149,27 +151,27 @@ pub record DoesStep (x : Stepped) (u u' : QueueState) : Type 0 where
   pub moves : Moves x (next_row u) u u'
 
 -- the lane after a step that isn't the last
-goes_lane : (q : ℕ) (h : Header1) (r : SplitRing) (s : Scene) (l : Lane) (done : ℕ) (u u' : QueueState) → GoesOn q h r s l done u → done + 1 < 2 * length l.batch + 1 → u' ≡ moved u
-    → QueueAt q h r s.past (s.heads q) (with_phase (after_step (course_of h l) (phases.Publish done)) (publishing done l)).phase (with_phase (after_step (course_of h l) (phases.Publish done)) (publishing done l)).batch l.completed l.made u'
-goes_lane q h r s l done u u' g more is =
+goes_lane : (q : ℕ) (h : Header1) (setup : QueueSetup) (s : Scene) (l : Lane) (done : ℕ) (u u' : QueueState) → GoesOn q h setup s l done u → done + 1 < 2 * length l.batch + 1 → u' ≡ moved u
+    → QueueAt q h setup s.past (s.heads q) (with_phase (after_step (course_of h l) (phases.Publish done)) (publishing done l)).phase (with_phase (after_step (course_of h l) (phases.Publish done)) (publishing done l)).batch l.completed l.made u'
+goes_lane q h setup s l done u u' g more is =
     let p : Phase = after_step (course_of h l) (phases.Publish done) in
     let left : nat_lt (done + 1) (length (publish_steps (length l.batch))) ≡ true = more_left (length l.batch) done more in
     let goes : p ≡ phases.Publish (done + 1) = ap (λ (b : Bool). cond {A = Phase} b (phases.Publish (done + 1)) phases.Rest) left in
     let publishes_on : is_publication p ≡ true = ap is_publication goes in
-    let after : QueueAt q h r s.past (s.heads q) p l.batch l.completed l.made (moved u) = at_row q h r s.past (s.heads q) (phases.Publish done) l.batch l.completed l.made u g.main g.stands publishes_on in
-    let named : QueueAt q h r s.past (s.heads q) (phases.Publish (done + 1)) l.batch l.completed l.made (moved u) = subst (λ (x : Phase). QueueAt q h r s.past (s.heads q) x l.batch l.completed l.made (moved u)) goes after in
-    subst (λ (t : QueueState). QueueAt q h r s.past (s.heads q) (with_phase p (publishing done l)).phase (with_phase p (publishing done l)).batch l.completed l.made t) (sym is)
-    (subst (λ (x : Phase). QueueAt q h r s.past (s.heads q) (with_phase x (publishing done l)).phase (with_phase x (publishing done l)).batch l.completed l.made (moved u)) (sym goes) named)
+    let after : QueueAt q h setup s.past (s.heads q) p l.batch l.completed l.made (moved u) = at_row q h setup s.past (s.heads q) (phases.Publish done) l.batch l.completed l.made u g.main g.stands publishes_on in
+    let named : QueueAt q h setup s.past (s.heads q) (phases.Publish (done + 1)) l.batch l.completed l.made (moved u) = subst (λ (x : Phase). QueueAt q h setup s.past (s.heads q) x l.batch l.completed l.made (moved u)) goes after in
+    subst (λ (t : QueueState). QueueAt q h setup s.past (s.heads q) (with_phase p (publishing done l)).phase (with_phase p (publishing done l)).batch l.completed l.made t) (sym is)
+    (subst (λ (x : Phase). QueueAt q h setup s.past (s.heads q) (with_phase x (publishing done l)).phase (with_phase x (publishing done l)).batch l.completed l.made (moved u)) (sym goes) named)
 
 -- what a step makes that stores this row and makes no entry
 abbrev element_turn : Header1 → Lane → ℕ → Option Row → Turned
 element_turn h l done o = record { items = row_items o ++ []; lane = with_phase (after_step (course_of h l) (phases.Publish done)) (publishing done l) }
 
-element_step : (q : ℕ) (h : Header1) (r : SplitRing) (s : Scene) (l : Lane) (done e : ℕ) (step : Step) (x : Stepped) (u u' : QueueState) (y : Row) → GoesOn q h r s l done u → done + 1 < 2 * length l.batch + 1
+element_step : (q : ℕ) (h : Header1) (setup : QueueSetup) (s : Scene) (l : Lane) (done e : ℕ) (step : Step) (x : Stepped) (u u' : QueueState) (y : Row) → GoesOn q h setup s l done u → done + 1 < 2 * length l.batch + 1
     → next_step (course_in u) u.phase ≡ Some step → (Some step ≡ Some (steps.Id e)) ⊎ (Some step ≡ Some (steps.Len e)) → table_row q h s l.batch (Some step) ≡ Some y → y.tag ≢ SP5 → y.store.space ≡ 0
-    → DoesStep x u u' → MadeRow q h r s l.batch x u u' (element_turn h l done (Some y)) y
-element_step q h r s l done e step x u u' y g more next kind is other space does =
-    let row_is : next_row u ≡ Some y = ap (row_at u) next ∙ rows_same q h r s l done u (Some step) g ∙ is in
+    → DoesStep x u u' → MadeRow q h setup s l.batch x u u' (element_turn h l done (Some y)) y
+element_step q h setup s l done e step x u u' y g more next kind is other space does =
+    let row_is : next_row u ≡ Some y = ap (row_at u) next ∙ rows_same q h setup s l done u (Some step) g ∙ is in
     let said = says_stored x y u u' other does.fine (subst (λ (o : Option Row). Moves x o u u') row_is does.moves) in
     record {
       row = row_is;
@@ -183,30 +185,30 @@ element_step q h r s l done e step x u u' y g more next kind is other space does
         said = said.0;
         items = refl;
       });
-      stands = goes_lane q h r s l done u u' g more said.1;
+      stands = goes_lane q h setup s l done u u' g more said.1;
     }
 
-id_step : (q : ℕ) (h : Header1) (r : SplitRing) (s : Scene) (l : Lane) (done e : ℕ) (x : Stepped) (u u' : QueueState) → GoesOn q h r s l done u → e < length l.batch → done ≡ 2 * e → next_step (course_in u) u.phase ≡ Some (steps.Id e)
-    → DoesStep x u u' → (y : Row) × MadeRow q h r s l.batch x u u' (phase_turn h q s (publishing done l) (Some (steps.Id e))) y
-id_step q h r s l done e x u u' g inside at next does =
+id_step : (q : ℕ) (h : Header1) (setup : QueueSetup) (s : Scene) (l : Lane) (done e : ℕ) (x : Stepped) (u u' : QueueState) → GoesOn q h setup s l done u → e < length l.batch → done ≡ 2 * e → next_step (course_in u) u.phase ≡ Some (steps.Id e)
+    → DoesStep x u u' → (y : Row) × MadeRow q h setup s l.batch x u u' (phase_turn h q s (publishing done l) (Some (steps.Id e))) y
+id_step q h setup s l done e x u u' g inside at next does =
     let k : ℕ = slice_index l.batch e in
     let y : Row = row (the_ring q h.size) SP1 (used_id_place (the_ring q h.size) (used_idx (the_ring q h.size) s.memory + e)) (little_bytes 4 (slice_index (s.heads q) k)) in
     let is : table_row q h s l.batch (Some (steps.Id e)) ≡ Some y =
     ap (option_map (λ (z : ℕ × ℕ). row (the_ring q h.size) SP1 (used_id_place (the_ring q h.size) (used_idx (the_ring q h.size) s.memory + e)) (little_bytes 4 z.0))) (get_map (element_of h q s) l.batch e inside) in
-    let made : MadeRow q h r s l.batch x u u' (element_turn h l done (Some y)) y =
-    element_step q h r s l done e (steps.Id e) x u u' y g (omega arith) next (inl refl) is (λ fails. cc) refl does in
-    (y, subst (λ (o : Option Row). MadeRow q h r s l.batch x u u' (element_turn h l done o) y) (sym is) made)
+    let made : MadeRow q h setup s l.batch x u u' (element_turn h l done (Some y)) y =
+    element_step q h setup s l done e (steps.Id e) x u u' y g (omega arith) next (inl refl) is (λ fails. cc) refl does in
+    (y, subst (λ (o : Option Row). MadeRow q h setup s l.batch x u u' (element_turn h l done o) y) (sym is) made)
 
-len_step : (q : ℕ) (h : Header1) (r : SplitRing) (s : Scene) (l : Lane) (done e : ℕ) (x : Stepped) (u u' : QueueState) → GoesOn q h r s l done u → e < length l.batch → done ≡ 2 * e + 1 → next_step (course_in u) u.phase ≡ Some (steps.Len e)
-    → DoesStep x u u' → (y : Row) × MadeRow q h r s l.batch x u u' (phase_turn h q s (publishing done l) (Some (steps.Len e))) y
-len_step q h r s l done e x u u' g inside at next does =
+len_step : (q : ℕ) (h : Header1) (setup : QueueSetup) (s : Scene) (l : Lane) (done e : ℕ) (x : Stepped) (u u' : QueueState) → GoesOn q h setup s l done u → e < length l.batch → done ≡ 2 * e + 1 → next_step (course_in u) u.phase ≡ Some (steps.Len e)
+    → DoesStep x u u' → (y : Row) × MadeRow q h setup s l.batch x u u' (phase_turn h q s (publishing done l) (Some (steps.Len e))) y
+len_step q h setup s l done e x u u' g inside at next does =
     let k : ℕ = slice_index l.batch e in
     let y : Row = row (the_ring q h.size) SP2 (used_len_place (the_ring q h.size) (used_idx (the_ring q h.size) s.memory + e)) (little_bytes 4 (element_of h q s k).1) in
     let is : table_row q h s l.batch (Some (steps.Len e)) ≡ Some y =
     ap (option_map (λ (z : ℕ × ℕ). row (the_ring q h.size) SP2 (used_len_place (the_ring q h.size) (used_idx (the_ring q h.size) s.memory + e)) (little_bytes 4 z.1))) (get_map (element_of h q s) l.batch e inside) in
-    let made : MadeRow q h r s l.batch x u u' (element_turn h l done (Some y)) y =
-    element_step q h r s l done e (steps.Len e) x u u' y g (omega arith) next (inr refl) is (λ fails. cc) refl does in
-    (y, subst (λ (o : Option Row). MadeRow q h r s l.batch x u u' (element_turn h l done o) y) (sym is) made)
+    let made : MadeRow q h setup s l.batch x u u' (element_turn h l done (Some y)) y =
+    element_step q h setup s l done e (steps.Len e) x u u' y g (omega arith) next (inr refl) is (λ fails. cc) refl does in
+    (y, subst (λ (o : Option Row). MadeRow q h setup s l.batch x u u' (element_turn h l done o) y) (sym is) made)
 
 -- ---- the last step
 
@@ -217,90 +219,90 @@ index_turn q h s l done y p = record {
   lane = with_phase p (publishing done l);
 }
 
-index_step : (q : ℕ) (h : Header1) (r : SplitRing) (s : Scene) (l : Lane) (done : ℕ) (x : Stepped) (u u' : QueueState) → GoesOn q h r s l done u → done ≡ 2 * length l.batch → next_step (course_in u) u.phase ≡ Some steps.Index
-    → DoesStep x u u' → (y : Row) × MadeRow q h r s l.batch x u u' (phase_turn h q s (publishing done l) (Some steps.Index)) y
-index_step q h r s l done x u u' g whole next does =
+index_step : (q : ℕ) (h : Header1) (setup : QueueSetup) (s : Scene) (l : Lane) (done : ℕ) (x : Stepped) (u u' : QueueState) → GoesOn q h setup s l done u → done ≡ 2 * length l.batch → next_step (course_in u) u.phase ≡ Some steps.Index
+    → DoesStep x u u' → (y : Row) × MadeRow q h setup s l.batch x u u' (phase_turn h q s (publishing done l) (Some steps.Index)) y
+index_step q h setup s l done x u u' g whole next does =
     let y : Row = row (the_ring q h.size) SP5 (used_idx_place (the_ring q h.size)) (little_bytes 2 ((used_idx (the_ring q h.size) s.memory + length (map (element_of h q s) l.batch)) % 65536)) in
     let list : List Answered = map (answer_at q (after_row h y s)) l.batch in
     let p : Phase = after_step (course_of h l) (phases.Publish done) in
     let ends : p ≡ phases.Rest = ap (λ (b : Bool). cond {A = Phase} b (phases.Publish (done + 1)) phases.Rest) (none_left (length l.batch) done whole) in
-    let row_is : next_row u ≡ Some y = ap (row_at u) next ∙ rows_same q h r s l done u (Some steps.Index) g in
+    let row_is : next_row u ≡ Some y = ap (row_at u) next ∙ rows_same q h setup s l done u (Some steps.Index) g in
     let rests : (moved u).phase ≡ phases.Rest =
-    ap (λ (t : QueueState). t.phase) (moved_is q h r s.past (s.heads q) (phases.Publish done) l.batch l.completed l.made u g.main g.stands) ∙ ap (λ (z : Phase). (states.with_phase z u).phase) ends in
+    ap (λ (t : QueueState). t.phase) (moved_is q h setup s.past (s.heads q) (phases.Publish done) l.batch l.completed l.made u g.main g.stands) ∙ ap (λ (z : Phase). (states.with_phase z u).phase) ends in
     let said = says_published x y u u' rests does.fine (subst (λ (o : Option Row). Moves x o u u') row_is does.moves) in
-    let shown : QueueAt q h r (entries.Publish q list ∷ s.past) (s.heads q) phases.Rest [] l.completed l.made (moved u) =
-    at_show q h r s.past (s.heads q) (phases.Publish done) l.batch l.completed l.made u list ends (numbers_answers q (after_row h y s) l.batch) (λ k held. batch_open q h s l done k g.under held) g.main g.stands in
-    let rest : StandsAfter q h r s (index_turn q h s l done y phases.Rest) u' = subst (λ (t : QueueState). QueueAt q h r (entries.Publish q list ∷ s.past) (s.heads q) phases.Rest [] l.completed l.made t) (sym said.1) shown in
-    let stands : StandsAfter q h r s (index_turn q h s l done y p) u' = subst (λ (z : Phase). StandsAfter q h r s (index_turn q h s l done y z) u') (sym ends) rest in
+    let shown : QueueAt q h setup (entries.Publish q list ∷ s.past) (s.heads q) phases.Rest [] l.completed l.made (moved u) =
+    at_show q h setup s.past (s.heads q) (phases.Publish done) l.batch l.completed l.made u list ends (numbers_answers q (after_row h y s) l.batch) (λ k held. batch_open q h s l done k g.under held) g.main g.stands in
+    let rest : StandsAfter q h setup s (index_turn q h s l done y phases.Rest) u' = subst (λ (t : QueueState). QueueAt q h setup (entries.Publish q list ∷ s.past) (s.heads q) phases.Rest [] l.completed l.made t) (sym said.1) shown in
+    let stands : StandsAfter q h setup s (index_turn q h s l done y p) u' = subst (λ (z : Phase). StandsAfter q h setup s (index_turn q h s l done y z) u') (sym ends) rest in
     (y, record { row = row_is; space = refl; which = inr (record { next = next; tag = refl; said = said.0; items = refl }); stands = stands })
 
 -- the step that is next, whichever it is
-pub step_stands : (q : ℕ) (h : Header1) (r : SplitRing) (s : Scene) (l : Lane) (done : ℕ) (x : Stepped) (u u' : QueueState) → GoesOn q h r s l done u → DoesStep x u u'
-    → (y : Row) × MadeRow q h r s l.batch x u u' (phase_goes_on h q s (publishing done l)) y
-step_stands q h r s l done x u u' g does =
+pub step_stands : (q : ℕ) (h : Header1) (setup : QueueSetup) (s : Scene) (l : Lane) (done : ℕ) (x : Stepped) (u u' : QueueState) → GoesOn q h setup s l done u → DoesStep x u u'
+    → (y : Row) × MadeRow q h setup s l.batch x u u' (phase_goes_on h q s (publishing done l)) y
+step_stands q h setup s l done x u u' g does =
     let some : (0 < length l.batch) × (done < 2 * length l.batch + 1) = phase_at q h s (publishing done l) g.under.holds in
-    go (slice_get (publish_steps (length l.batch)) done) (step_at 0 (length l.batch) done some.1) (next_same q h r s l done u g)
+    go (slice_get (publish_steps (length l.batch)) done) (step_at 0 (length l.batch) done some.1) (next_same q h setup s l done u g)
   where
     P : Option Step → Type 0
-    P o = (y : Row) × MadeRow q h r s l.batch x u u' (phase_turn h q s (publishing done l) o) y
+    P o = (y : Row) × MadeRow q h setup s l.batch x u u' (phase_turn h q s (publishing done l) o) y
 
     go : (o : Option Step) → StepAt 0 (length l.batch) done o → next_step (course_in u) u.phase ≡ o → P o
     go o (AtId e inside at is) next =
         let same : o ≡ Some (steps.Id e) = is ∙ ap (λ (k : ℕ). Some (steps.Id k)) (let bare : 0 + e ≡ e = omega arith in bare) in
-        subst P (sym same) (id_step q h r s l done e x u u' g inside at (next ∙ same) does)
+        subst P (sym same) (id_step q h setup s l done e x u u' g inside at (next ∙ same) does)
     go o (AtLen e inside at is) next =
         let same : o ≡ Some (steps.Len e) = is ∙ ap (λ (k : ℕ). Some (steps.Len k)) (let bare : 0 + e ≡ e = omega arith in bare) in
-        subst P (sym same) (len_step q h r s l done e x u u' g inside at (next ∙ same) does)
-    go o (AtIndex at is) next = subst P (sym is) (index_step q h r s l done x u u' g at (next ∙ is) does)
+        subst P (sym same) (len_step q h setup s l done e x u u' g inside at (next ∙ same) does)
+    go o (AtIndex at is) next = subst P (sym is) (index_step q h setup s l done x u u' g at (next ∙ is) does)
 
 -- ---- a publication that is ready
 
 -- what a publication's turn says, makes and leaves
-pub record HasPublished (q : ℕ) (h : Header1) (r : SplitRing) (m : Moment) (most : ℕ) (x : Stepped) (state state' : QueueState) (y : Row) : Type 0 where
+pub record HasPublished (q : ℕ) (h : Header1) (setup : QueueSetup) (m : Moment) (most : ℕ) (x : Stepped) (state state' : QueueState) (y : Row) : Type 0 where
   pub row : publish_row most state ≡ Some y
   pub space : y.store.space ≡ 0
   pub which : MadeElement (states.under_way most state) x (turned h q (turns.Publish most) m).items y ⊎ MadeIndex q h m.scene (under_way (turns.Publish most) (m.lanes q)).batch (states.under_way most state) x (turned h q (turns.Publish most) m).items y
-  pub stands : QueueStands q h r (one_turn h q (turns.Publish most) m).next state'
+  pub stands : QueueStands q h setup (one_turn h q (turns.Publish most) m).next state'
 
 -- the step of the lane's publication, begun or gone on with
-abbrev WhatIsMade : ℕ → Header1 → SplitRing → Scene → ℕ → Stepped → QueueState → QueueState → Lane → Type 0
-WhatIsMade q h r s most x u u' l = (y : Row) × MadeRow q h r s (under_way (turns.Publish most) l).batch x u u' (phase_goes_on h q s (under_way (turns.Publish most) l)) y
+abbrev WhatIsMade : ℕ → Header1 → QueueSetup → Scene → ℕ → Stepped → QueueState → QueueState → Lane → Type 0
+WhatIsMade q h setup s most x u u' l = (y : Row) × MadeRow q h setup s (under_way (turns.Publish most) l).batch x u u' (phase_goes_on h q s (under_way (turns.Publish most) l)) y
 
-begin_stands : (q : ℕ) (h : Header1) (r : SplitRing) (m : Moment) (most : ℕ) (x : Stepped) (state u' : QueueState) → IsPlain h → Good q h m → LiesAs q r h.size → QueueStands q h r m state → is_ready (standing h q m) (turns.Publish most) ≡ true
-    → (m.lanes q).phase ≡ phases.Rest → (m.lanes q).batch ≡ [] → DoesStep x (states.under_way most state) u' → WhatIsMade q h r m.scene most x (states.under_way most state) u' (m.lanes q)
-begin_stands q h r m most x state u' plain good main z ready rest none does =
+begin_stands : (q : ℕ) (h : Header1) (setup : QueueSetup) (m : Moment) (most : ℕ) (x : Stepped) (state u' : QueueState) → IsPlain h → Good q h m → LiesAs q setup h.size → QueueStands q h setup m state → is_ready (standing h q m) (turns.Publish most) ≡ true
+    → (m.lanes q).phase ≡ phases.Rest → (m.lanes q).batch ≡ [] → DoesStep x (states.under_way most state) u' → WhatIsMade q h setup m.scene most x (states.under_way most state) u' (m.lanes q)
+begin_stands q h setup m most x state u' plain good main z ready rest none does =
     let l : Lane = m.lanes q in
     let s : Scene = m.scene in
     let u : QueueState = states.under_way most state in
     let run : started s.past q ≡ true = grind (arith, nat_tests) in
     let same : resting l ≡ l = rest_is l rest none in
     let at_rest : Holds q h s (resting l) = subst (λ (y : Lane). Holds q h s y) (sym same) good.holds in
-    let z_rest : QueueAt q h r s.past (s.heads q) phases.Rest [] l.completed l.made state = subst (λ (y : Lane). QueueAt q h r s.past (s.heads q) y.phase y.batch y.completed y.made state) (sym same) z in
+    let z_rest : QueueAt q h setup s.past (s.heads q) phases.Rest [] l.completed l.made state = subst (λ (y : Lane). QueueAt q h setup s.past (s.heads q) y.phase y.batch y.completed y.made state) (sym same) z in
     let quiet : is_publication l.phase ≡ false = ap is_publication rest in
     let some : 0 < most = grind (arith, nat_tests) in
     let any : 0 < length l.completed = grind (arith, nat_tests) in
     let begins : states.begun most state ≡ u = sym (ap (λ (b : Bool). cond {A = QueueState} b state (states.begun most state)) (ap is_publication (z.phase ∙ rest))) in
     let under : IsUnderWay q h s (taking most l) 0 = record { good = plain.good; back = plain.back; started = run; holds = taking_holds q h s l most some any run at_rest } in
-    let stands : QueueAt q h r s.past (s.heads q) (phases.Publish 0) (take most l.completed) (drop most l.completed) l.made u =
-    subst (λ (t : QueueState). QueueAt q h r s.past (s.heads q) (phases.Publish 0) (take most l.completed) (drop most l.completed) l.made t) begins (at_begin q h r s.past (s.heads q) l.completed l.made state most z_rest) in
-    let from_there : WhatIsMade q h r s most x u u' (resting l) = step_stands q h r s (taking most l) 0 x u u' (record { main = main; under = under; stands = stands }) does in
-    subst (λ (y : Lane). WhatIsMade q h r s most x u u' y) same from_there
+    let stands : QueueAt q h setup s.past (s.heads q) (phases.Publish 0) (take most l.completed) (drop most l.completed) l.made u =
+    subst (λ (t : QueueState). QueueAt q h setup s.past (s.heads q) (phases.Publish 0) (take most l.completed) (drop most l.completed) l.made t) begins (at_begin q h setup s.past (s.heads q) l.completed l.made state most z_rest) in
+    let from_there : WhatIsMade q h setup s most x u u' (resting l) = step_stands q h setup s (taking most l) 0 x u u' (record { main = main; under = under; stands = stands }) does in
+    subst (λ (y : Lane). WhatIsMade q h setup s most x u u' y) same from_there
 
-on_stands : (q : ℕ) (h : Header1) (r : SplitRing) (m : Moment) (most done : ℕ) (x : Stepped) (state u' : QueueState) → IsPlain h → Good q h m → LiesAs q r h.size → QueueStands q h r m state → is_ready (standing h q m) (turns.Publish most) ≡ true
-    → (m.lanes q).phase ≡ phases.Publish done → DoesStep x (states.under_way most state) u' → WhatIsMade q h r m.scene most x (states.under_way most state) u' (m.lanes q)
-on_stands q h r m most done x state u' plain good main z ready shows does =
+on_stands : (q : ℕ) (h : Header1) (setup : QueueSetup) (m : Moment) (most done : ℕ) (x : Stepped) (state u' : QueueState) → IsPlain h → Good q h m → LiesAs q setup h.size → QueueStands q h setup m state → is_ready (standing h q m) (turns.Publish most) ≡ true
+    → (m.lanes q).phase ≡ phases.Publish done → DoesStep x (states.under_way most state) u' → WhatIsMade q h setup m.scene most x (states.under_way most state) u' (m.lanes q)
+on_stands q h setup m most done x state u' plain good main z ready shows does =
     let l : Lane = m.lanes q in
     let s : Scene = m.scene in
     let u : QueueState = states.under_way most state in
     let run : started s.past q ≡ true = grind (arith, nat_tests) in
     let same : publishing done l ≡ l = ap (λ (p : Phase). record l { phase = p }) (sym shows) in
     let held : Holds q h s (publishing done l) = subst (λ (y : Lane). Holds q h s y) (sym same) good.holds in
-    let z_on : QueueAt q h r s.past (s.heads q) (phases.Publish done) l.batch l.completed l.made state = subst (λ (y : Lane). QueueAt q h r s.past (s.heads q) y.phase y.batch y.completed y.made state) (sym same) z in
+    let z_on : QueueAt q h setup s.past (s.heads q) (phases.Publish done) l.batch l.completed l.made state = subst (λ (y : Lane). QueueAt q h setup s.past (s.heads q) y.phase y.batch y.completed y.made state) (sym same) z in
     let goes : state ≡ u = sym (ap (λ (b : Bool). cond {A = QueueState} b state (states.begun most state)) (ap is_publication (z.phase ∙ shows))) in
     let under : IsUnderWay q h s l done = record { good = plain.good; back = plain.back; started = run; holds = held } in
-    let stands : QueueAt q h r s.past (s.heads q) (phases.Publish done) l.batch l.completed l.made u = subst (λ (t : QueueState). QueueAt q h r s.past (s.heads q) (phases.Publish done) l.batch l.completed l.made t) goes z_on in
-    let from_there : WhatIsMade q h r s most x u u' (publishing done l) = step_stands q h r s l done x u u' (record { main = main; under = under; stands = stands }) does in
-    subst (λ (y : Lane). WhatIsMade q h r s most x u u' y) same from_there
+    let stands : QueueAt q h setup s.past (s.heads q) (phases.Publish done) l.batch l.completed l.made u = subst (λ (t : QueueState). QueueAt q h setup s.past (s.heads q) (phases.Publish done) l.batch l.completed l.made t) goes z_on in
+    let from_there : WhatIsMade q h setup s most x u u' (publishing done l) = step_stands q h setup s l done x u u' (record { main = main; under = under; stands = stands }) does in
+    subst (λ (y : Lane). WhatIsMade q h setup s most x u u' y) same from_there
 
 -- no step of a publication breaks a rule or fails, so it halts nothing
 runs_on : (x : Stepped) (u u' : QueueState) (o : Option Row) → is_fault x ≡ false → Moves x o u u' → states.halted x u' ≡ u'
@@ -332,26 +334,26 @@ runs_on x u u' None fine moves = absurd (no_moves x moves)
     no_moves says.Started moves = moves
     no_moves (says.Broken fault) moves = moves
 
-pub row_stands : (q : ℕ) (h : Header1) (r : SplitRing) (m : Moment) (most : ℕ) (told : Option Bytes) (x : Stepped) (state state' : QueueState) → IsPlain h → Good q h m → LiesAs q r h.size → QueueStands q h r m state
-    → is_ready (standing h q m) (turns.Publish most) ≡ true → is_fault x ≡ false → Turns (turns.Publish most) told x state state' → (y : Row) × HasPublished q h r m most x state state' y
-row_stands q h r m most told x state state' plain good main z ready fine made =
+pub row_stands : (q : ℕ) (h : Header1) (setup : QueueSetup) (m : Moment) (most : ℕ) (told : Option Bytes) (x : Stepped) (state state' : QueueState) → IsPlain h → Good q h m → LiesAs q setup h.size → QueueStands q h setup m state
+    → is_ready (standing h q m) (turns.Publish most) ≡ true → is_fault x ≡ false → Turns (turns.Publish most) told x state state' → (y : Row) × HasPublished q h setup m most x state state' y
+row_stands q h setup m most told x state state' plain good main z ready fine made =
     let l : Lane = m.lanes q in
     let u : QueueState = states.under_way most state in
-    let now : publishes most state ≡ true = ready_same q h r m state (turns.Publish most) main good.holds z ∙ ready in
+    let now : publishes most state ≡ true = ready_same q h setup m state (turns.Publish most) main good.holds z ∙ ready in
     let does = does_of (turns.Publish most) told x state state' made fine in
     let moves : Moves x (next_row u) u made.0 = subst (λ (b : Bool). Publishes b x state u made.0) now does in
     let after : made.0 ≡ state' = sym (made.1 ∙ runs_on x u made.0 (next_row u) fine moves) in
     let step : DoesStep x u state' = record { fine = fine; moves = subst (λ (t : QueueState). Moves x (next_row u) u t) after moves } in
-    let is : WhatIsMade q h r m.scene most x u state' l = elim (phase_cases l.batch l.phase (phase_at q h m.scene (m.lanes q) good.holds)) [
-      | inl rest ↦ begin_stands q h r m most x state state' plain good main z ready rest.0 rest.1 step
-      | inr shows ↦ on_stands q h r m most shows.0 x state state' plain good main z ready shows.1 step
+    let is : WhatIsMade q h setup m.scene most x u state' l = elim (phase_cases l.batch l.phase (phase_at q h m.scene (m.lanes q) good.holds)) [
+      | inl rest ↦ begin_stands q h setup m most x state state' plain good main z ready rest.0 rest.1 step
+      | inr shows ↦ on_stands q h setup m most shows.0 x state state' plain good main z ready shows.1 step
     ] in (
       is.0,
       record {
         row = ap (λ (b : Bool). states.row_if b u) now ∙ is.1.row;
         space = is.1.space;
         which = is.1.which;
-        stands = stands_after q h r m (turns.Publish most) state' is.1.stands;
+        stands = stands_after q h setup m (turns.Publish most) state' is.1.stands;
       },
     )
 
@@ -395,14 +397,61 @@ lane_goes l most goes = ap (λ (b : Bool). cond {A = Lane} b (begun (turns.Publi
     not_rest (phases.Fetch done) e = refl
     not_rest (phases.Publish done) e = refl
 
+-- ---- the store of a row
+
+few_get : (o : Option (ℕ × ℕ)) (f : ℕ × ℕ → Row) (y : Row) → ((z : ℕ × ℕ) → length (f z).store.bytes ≤ 512) → option_map f o ≡ Some y → length y.store.bytes ≤ 512
+few_get None f y few is = absurd (let fails : None ≡ Some y = is in cc)
+few_get (Some z) f y few is =
+    let both : Some (f z) ≡ Some y = is in
+    let here : f z ≡ y = cc both in
+    subst (λ (x : Row). length x.store.bytes ≤ 512) here (few z)
+
+few_in : (u : QueueState) (o : Option Step) (y : Row) → row_at u o ≡ Some y → length y.store.bytes ≤ 512
+few_in u None y is = absurd (let fails : None ≡ Some y = is in cc)
+few_in u (Some steps.Start) y is = absurd (let fails : None ≡ Some y = is in cc)
+few_in u (Some steps.Accept) y is = absurd (let fails : None ≡ Some y = is in cc)
+few_in u (Some (steps.Id e)) y is = few_get (slice_get u.batch e) _ y (λ z. omega (arith, length_little 4 z.0)) is
+few_in u (Some (steps.Len e)) y is = few_get (slice_get u.batch e) _ y (λ z. omega (arith, length_little 4 z.1)) is
+few_in u (Some steps.Index) y is =
+    let last : ℕ = (u.next_used + length u.batch) % 65536 in
+    let z : Row = row (used_side u.ring) SP5 (used_idx_place (used_side u.ring)) (little_bytes 2 last) in
+    let both : Some z ≡ Some y = is in
+    let here : z ≡ y = cc both in
+    subst (λ (x : Row). length x.store.bytes ≤ 512) here (omega (arith, length_little 2 last))
+
+row_in : (b : Bool) (u : QueueState) (y : Row) → states.row_if b u ≡ Some y → next_row u ≡ Some y
+row_in true u y is = is
+row_in false u y is = absurd (let fails : None ≡ Some y = is in cc)
+
+-- it has few bytes
+pub few_stored : (most : ℕ) (state : QueueState) (y : Row) → publish_row most state ≡ Some y → length y.store.bytes ≤ 512
+few_stored most state y is =
+    let u : QueueState = states.under_way most state in
+    few_in u (next_step (course_in u) u.phase) y (row_in (publishes most state) u y is)
+
+-- the one that shows the batch lies before the buffers of the queue
+pub shown_place : (q : ℕ) (h : Header1) (setup : QueueSetup) (m : Moment) (most : ℕ) (state : QueueState) (y : Row) → LiesAs q setup h.size → QueueStands q h setup m state → ShowsNext state → publish_row most state ≡ Some y → y.store.place + length y.store.bytes ≤ area_place q + 65536
+shown_place q h setup m most state y main z next is =
+    let goes : is_publication state.phase ≡ true = shows_goes state.phase (course_in state) next in
+    let same : states.under_way most state ≡ state = goes_under_way state most goes in
+    let found : next_row state ≡ Some y = subst (λ (u : QueueState). next_row u ≡ Some y) same (row_in (publishes most state) (states.under_way most state) y is) in
+    let lies : state.ring.used.1 ≡ area_place q + 8192 = ap (λ (x : SplitRing). x.used.1) z.ring ∙ main.used in
+    let last : ℕ = (state.next_used + length state.batch) % 65536 in
+    let x : Row = row (used_side state.ring) SP5 (used_idx_place (used_side state.ring)) (little_bytes 2 last) in
+    let both : Some x ≡ Some y = sym (ap (row_at state) next) ∙ found in
+    let here : x ≡ y = cc both in
+    subst (λ (z : Row). z.store.place + length z.store.bytes ≤ area_place q + 65536) here (omega (arith, lies, length_little 2 last))
+
+-- ---- what it shows
+
 -- the store of used.idx, where it was next before the turn: it shows the lane's batch
 pub record HasShown (q : ℕ) (h : Header1) (m : Moment) (most : ℕ) (x : Stepped) (y : Row) : Type 0 where
   pub tag : y.tag ≡ SP5
   pub said : x ≡ says.Published
   pub items : (turned h q (turns.Publish most) m).items ≡ items.Store SP5 M y.store.place y.store.bytes ∷ items.Made (entries.Publish q (map (answer_at q (after_row h y m.scene)) (m.lanes q).batch)) ∷ []
 
-pub shown_stands : (q : ℕ) (h : Header1) (r : SplitRing) (m : Moment) (most : ℕ) (x : Stepped) (state state' : QueueState) (y : Row) → QueueStands q h r m state → HasPublished q h r m most x state state' y → ShowsNext state → HasShown q h m most x y
-shown_stands q h r m most x state state' y z has next =
+pub shown_stands : (q : ℕ) (h : Header1) (setup : QueueSetup) (m : Moment) (most : ℕ) (x : Stepped) (state state' : QueueState) (y : Row) → QueueStands q h setup m state → HasPublished q h setup m most x state state' y → ShowsNext state → HasShown q h m most x y
+shown_stands q h setup m most x state state' y z has next =
     let goes : is_publication state.phase ≡ true = shows_goes state.phase (course_in state) next in
     let same : states.under_way most state ≡ state = goes_under_way state most goes in
     let lane : under_way (turns.Publish most) (m.lanes q) ≡ m.lanes q = lane_goes (m.lanes q) most (ap is_publication (sym z.phase) ∙ goes) in
@@ -420,9 +469,9 @@ shown_stands q h r m most x state state' y z has next =
     ]
 
 -- any other store makes no entry
-pub stored_stands : (q : ℕ) (h : Header1) (r : SplitRing) (m : Moment) (most : ℕ) (x : Stepped) (state state' : QueueState) (y : Row) → Good q h m → QueueStands q h r m state → is_ready (standing h q m) (turns.Publish most) ≡ true → HasPublished q h r m most x state state' y
+pub stored_stands : (q : ℕ) (h : Header1) (setup : QueueSetup) (m : Moment) (most : ℕ) (x : Stepped) (state state' : QueueState) (y : Row) → Good q h m → QueueStands q h setup m state → is_ready (standing h q m) (turns.Publish most) ≡ true → HasPublished q h setup m most x state state' y
     → (ShowsNext state → ⊥) → MadeElement (states.under_way most state) x (turned h q (turns.Publish most) m).items y
-stored_stands q h r m most x state state' y good z ready has other =
+stored_stands q h setup m most x state state' y good z ready has other =
     let l : Lane = m.lanes q in
     elim has.which [
       | inl part ↦ part

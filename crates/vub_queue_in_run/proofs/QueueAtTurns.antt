@@ -21,6 +21,7 @@ use Rattle.vub_report.specs.declared.items.Item.TheVariants as items
 use Rattle.vub_queue.specs.declared.queue.Stepped.{Stepped}
 use Rattle.vub_queue.specs.declared.queue.Stepped.TheVariants as says
 use Rattle.vub_split.specs.declared.split.SplitRing.{SplitRing}
+use Rattle.vub_queue.specs.declared.queue.QueueSetup.{QueueSetup}
 use Rattle.vub_run.specs.Memory.{Scene, after_items}
 use Rattle.vub_run.specs.Moments.{Lane, Moment, standing}
 use Rattle.vub_run.specs.Run.{one_turn}
@@ -48,34 +49,34 @@ standing_same : (a a' : Bool) (p p' : Phase) (w w' u u' c c' : ℕ) → a ≡ a'
     → ◌≡◌ {A = Standing} (record { started = a; phase = p; waiting = w; unfinished = u; completed = c }) (record { started = a'; phase = p'; waiting = w'; unfinished = u'; completed = c' })
 standing_same a a' p p' w w' u u' c c' ea ep ew eu ec = cc
 
-avail_word : (q : ℕ) (r : SplitRing) (n : ℕ) (m : Bytes) → LiesAs q r n → avail_idx_word r m ≡ avail_idx (the_ring q n) m
-avail_word q r n m main = ap (λ (s : ℕ). word 2 m s (r.avail.1 + 2)) main.avail_space ∙ ap (λ (p : ℕ). word 2 m 0 (p + 2)) main.avail
+avail_word : (q : ℕ) (setup : QueueSetup) (n : ℕ) (m : Bytes) → LiesAs q setup n → avail_idx_word setup.ring m ≡ avail_idx (the_ring q n) m
+avail_word q setup n m main = ap (λ (s : ℕ). word 2 m s (setup.ring.avail.1 + 2)) main.avail_space ∙ ap (λ (p : ℕ). word 2 m 0 (p + 2)) main.avail
 
 -- the queue's avail position is the moment's
-stands_avail : (q : ℕ) (h : Header1) (r : SplitRing) (m : Moment) (state : QueueState) → Holds q h m.scene (m.lanes q) → QueueStands q h r m state → state.next_avail ≡ (h.base + accepted m.scene.past q) % 65536
-stands_avail q h r m state holds z = avail_is q h r m.scene.past (m.scene.heads q) (m.lanes q).phase (m.lanes q).batch (m.lanes q).completed (m.lanes q).made state holds.known z
+stands_avail : (q : ℕ) (h : Header1) (setup : QueueSetup) (m : Moment) (state : QueueState) → Holds q h m.scene (m.lanes q) → QueueStands q h setup m state → state.next_avail ≡ (h.base + accepted m.scene.past q) % 65536
+stands_avail q h setup m state holds z = avail_is q h setup m.scene.past (m.scene.heads q) (m.lanes q).phase (m.lanes q).batch (m.lanes q).completed (m.lanes q).made state holds.known z
 
 -- its own count of what waits is the moment's
-waiting_is : (q : ℕ) (h : Header1) (r : SplitRing) (m : Moment) (state : QueueState) → LiesAs q r h.size → Holds q h m.scene (m.lanes q) → QueueStands q h r m state
+waiting_is : (q : ℕ) (h : Header1) (setup : QueueSetup) (m : Moment) (state : QueueState) → LiesAs q setup h.size → Holds q h m.scene (m.lanes q) → QueueStands q h setup m state
     → states.waiting state m.scene.memory ≡ ahead (avail_idx (the_ring q h.size) m.scene.memory) (h.base + accepted m.scene.past q)
-waiting_is q h r m state main holds z =
+waiting_is q h setup m state main holds z =
     let position : ℕ = h.base + accepted m.scene.past q in
-    let word_is : avail_idx_word state.ring m.scene.memory ≡ avail_idx (the_ring q h.size) m.scene.memory = ap (λ (x : SplitRing). avail_idx_word x m.scene.memory) z.ring ∙ avail_word q r h.size m.scene.memory main in
+    let word_is : avail_idx_word state.ring m.scene.memory ≡ avail_idx (the_ring q h.size) m.scene.memory = ap (λ (x : SplitRing). avail_idx_word x m.scene.memory) z.ring ∙ avail_word q setup h.size m.scene.memory main in
     let wraps : position % 65536 % 65536 ≡ position % 65536 = omega arith in
-    let from : state.next_avail % 65536 ≡ position % 65536 = ap (λ (a : ℕ). a % 65536) (stands_avail q h r m state holds z) ∙ wraps in
+    let from : state.next_avail % 65536 ≡ position % 65536 = ap (λ (a : ℕ). a % 65536) (stands_avail q h setup m state holds z) ∙ wraps in
     omega (arith, word_is, from)
 
-pub standings : (q : ℕ) (h : Header1) (r : SplitRing) (m : Moment) (state : QueueState) → LiesAs q r h.size → Holds q h m.scene (m.lanes q) → QueueStands q h r m state
+pub standings : (q : ℕ) (h : Header1) (setup : QueueSetup) (m : Moment) (state : QueueState) → LiesAs q setup h.size → Holds q h m.scene (m.lanes q) → QueueStands q h setup m state
     → standing_at state (states.waiting state m.scene.memory) ≡ standing h q m
-standings q h r m state main holds z =
+standings q h setup m state main holds z =
     let l : Lane = m.lanes q in
     let many : length state.completed ≡ length l.completed = ap (λ (ks : List (ℕ × ℕ)). length ks) z.completed ∙ length-map l.completed (spot_of q h m.scene.past (m.scene.heads q)) in
     let st : Standing = standing h q m in
-    standing_same state.started st.started state.phase st.phase (states.waiting state m.scene.memory) st.waiting (length state.unfinished) st.unfinished (length state.completed) st.completed z.started z.phase (waiting_is q h r m state main holds z) (count_is q h r m.scene.past (m.scene.heads q) l.phase l.batch l.completed l.made state holds.worked z) many
+    standing_same state.started st.started state.phase st.phase (states.waiting state m.scene.memory) st.waiting (length state.unfinished) st.unfinished (length state.completed) st.completed z.started z.phase (waiting_is q h setup m state main holds z) (count_is q h setup m.scene.past (m.scene.heads q) l.phase l.batch l.completed l.made state holds.worked z) many
 
 -- so the queue and the moment agree on what is ready
-pub ready_same : (q : ℕ) (h : Header1) (r : SplitRing) (m : Moment) (state : QueueState) (t : Turn) → LiesAs q r h.size → Holds q h m.scene (m.lanes q) → QueueStands q h r m state → is_ready (standing_at state (states.waiting state m.scene.memory)) t ≡ is_ready (standing h q m) t
-ready_same q h r m state t main holds z = ap (λ (s : Standing). is_ready s t) (standings q h r m state main holds z)
+pub ready_same : (q : ℕ) (h : Header1) (setup : QueueSetup) (m : Moment) (state : QueueState) (t : Turn) → LiesAs q setup h.size → Holds q h m.scene (m.lanes q) → QueueStands q h setup m state → is_ready (standing_at state (states.waiting state m.scene.memory)) t ≡ is_ready (standing h q m) t
+ready_same q h setup m state t main holds z = ap (λ (s : Standing). is_ready s t) (standings q h setup m state main holds z)
 
 -- ---- what a turn that didn't fail does
 
@@ -83,13 +84,13 @@ pub does_of : (t : Turn) (told : Option Bytes) (x : Stepped) (state state' : Que
 does_of t told x state state' made fine = subst (λ (b : Bool). Unless b (DoesOf t told x state made.0)) fine made.2
 
 -- where the queue stands after these items
-abbrev pub StandsAfter : ℕ → Header1 → SplitRing → Scene → Turned → QueueState → Type 0
-StandsAfter q h r s t state = QueueAt q h r (after_items h t.items s).past ((after_items h t.items s).heads q) t.lane.phase t.lane.batch t.lane.completed t.lane.made state
+abbrev pub StandsAfter : ℕ → Header1 → QueueSetup → Scene → Turned → QueueState → Type 0
+StandsAfter q h setup s t state = QueueAt q h setup (after_items h t.items s).past ((after_items h t.items s).heads q) t.lane.phase t.lane.batch t.lane.completed t.lane.made state
 
-pub stands_after : (q : ℕ) (h : Header1) (r : SplitRing) (m : Moment) (t : Turn) (state : QueueState) → StandsAfter q h r m.scene (turned h q t m) state → QueueStands q h r (one_turn h q t m).next state
-stands_after q h r m t state z =
+pub stands_after : (q : ℕ) (h : Header1) (setup : QueueSetup) (m : Moment) (t : Turn) (state : QueueState) → StandsAfter q h setup m.scene (turned h q t m) state → QueueStands q h setup (one_turn h q t m).next state
+stands_after q h setup m t state z =
     let now : Scene = after_items h (turned h q t m).items m.scene in
-    subst (λ (l : Lane). QueueAt q h r now.past (now.heads q) l.phase l.batch l.completed l.made state) (sym (at_own m.lanes q (turned h q t m).lane)) z
+    subst (λ (l : Lane). QueueAt q h setup now.past (now.heads q) l.phase l.batch l.completed l.made state) (sym (at_own m.lanes q (turned h q t m).lane)) z
 
 -- ---- a start
 
@@ -105,14 +106,14 @@ none_open : (q : ℕ) (past : List Entry) → accepted past q ≡ 0 → open_num
 none_open q past none = ap (missing_below (published past q)) none
 
 -- what a start says, makes and leaves
-pub record HasStarted (q : ℕ) (h : Header1) (r : SplitRing) (m : Moment) (x : Stepped) (state' : QueueState) : Type 0 where
+pub record HasStarted (q : ℕ) (h : Header1) (setup : QueueSetup) (m : Moment) (x : Stepped) (state' : QueueState) : Type 0 where
   pub said : x ≡ says.Started
   pub made : (turned h q turns.Start m).items ≡ items.Made (entries.Start q []) ∷ []
-  pub stands : QueueStands q h r (one_turn h q turns.Start m).next state'
+  pub stands : QueueStands q h setup (one_turn h q turns.Start m).next state'
 
-pub start_stands : (q : ℕ) (h : Header1) (r : SplitRing) (m : Moment) (told : Option Bytes) (x : Stepped) (state state' : QueueState) → IsPlain h → Good q h m → LiesAs q r h.size → QueueStands q h r m state
-    → is_ready (standing h q m) turns.Start ≡ true → is_fault x ≡ false → Turns turns.Start told x state state' → HasStarted q h r m x state'
-start_stands q h r m told x state state' plain good main z ready fine made =
+pub start_stands : (q : ℕ) (h : Header1) (setup : QueueSetup) (m : Moment) (told : Option Bytes) (x : Stepped) (state state' : QueueState) → IsPlain h → Good q h m → LiesAs q setup h.size → QueueStands q h setup m state
+    → is_ready (standing h q m) turns.Start ≡ true → is_fault x ≡ false → Turns turns.Start told x state state' → HasStarted q h setup m x state'
+start_stands q h setup m told x state state' plain good main z ready fine made =
     let l : Lane = m.lanes q in
     let past : List Entry = m.scene.past in
     let heads : List ℕ = m.scene.heads q in
@@ -124,28 +125,28 @@ start_stands q h r m told x state state' plain good main z ready fine made =
     let does = does_of turns.Start told x state state' made fine in
     let said : x ≡ says.Started = does.0 ∙ ap (λ (b : Bool). cond {A = Stepped} b says.Idle says.Started) (z.started ∙ stopped) in
     let after : state' ≡ record state { started = true } = made.1 ∙ ap (λ (y : Stepped). states.halted y made.0) said ∙ does.1 in
-    let at_rest : QueueAt q h r past heads phases.Rest [] [] l.made state = subst (λ (y : Lane). QueueAt q h r past heads y.phase y.batch y.completed y.made state) (sym same) z in
-    let begins : StandsAfter q h r m.scene (phase_goes_on h q m.scene (under_way turns.Start (asleep l))) (record state { started = true }) = at_start q h r past heads l.made state none at_rest in
-    let stands : StandsAfter q h r m.scene (turned h q turns.Start m) (record state { started = true }) = subst (λ (y : Lane). StandsAfter q h r m.scene (phase_goes_on h q m.scene (under_way turns.Start y)) (record state { started = true })) same begins in
+    let at_rest : QueueAt q h setup past heads phases.Rest [] [] l.made state = subst (λ (y : Lane). QueueAt q h setup past heads y.phase y.batch y.completed y.made state) (sym same) z in
+    let begins : StandsAfter q h setup m.scene (phase_goes_on h q m.scene (under_way turns.Start (asleep l))) (record state { started = true }) = at_start q h setup past heads l.made state none at_rest in
+    let stands : StandsAfter q h setup m.scene (turned h q turns.Start m) (record state { started = true }) = subst (λ (y : Lane). StandsAfter q h setup m.scene (phase_goes_on h q m.scene (under_way turns.Start y)) (record state { started = true })) same begins in
     record {
       said = said;
       made = sym (ap (λ (y : Lane). (phase_goes_on h q m.scene (under_way turns.Start y)).items) same) ∙ ap (λ (ks : List ℕ). items.Made (entries.Start q ks) ∷ []) (none_open q past none);
-      stands = stands_after q h r m turns.Start state' (subst (λ (y : QueueState). StandsAfter q h r m.scene (turned h q turns.Start m) y) (sym after) stands);
+      stands = stands_after q h setup m turns.Start state' (subst (λ (y : QueueState). StandsAfter q h setup m.scene (turned h q turns.Start m) y) (sym after) stands);
     }
 
 -- ---- a fetch
 
 -- the head that waits is that of the next request
-head_is : (q : ℕ) (h : Header1) (r : SplitRing) (m : Moment) (state : QueueState) → LiesAs q r h.size → QueueStands q h r m state → Holds q h m.scene (m.lanes q) → accepted m.scene.past q < length (m.scene.heads q)
+head_is : (q : ℕ) (h : Header1) (setup : QueueSetup) (m : Moment) (state : QueueState) → LiesAs q setup h.size → QueueStands q h setup m state → Holds q h m.scene (m.lanes q) → accepted m.scene.past q < length (m.scene.heads q)
     → head_word state.ring m.scene.memory state.next_avail ≡ slice_index (m.scene.heads q) (accepted m.scene.past q)
-head_is q h r m state main z holds more =
+head_is q h setup m state main z holds more =
     let mem : Bytes = m.scene.memory in
     let a : ℕ = accepted m.scene.past q in
     let index : ℕ = (h.base + a) % 65536 in
-    let place : state.next_avail % r.size ≡ index % h.size = ap (λ (i : ℕ). i % r.size) (stands_avail q h r m state holds z) ∙ ap (λ (n : ℕ). index % n) main.size in
+    let place : state.next_avail % setup.ring.size ≡ index % h.size = ap (λ (i : ℕ). i % setup.ring.size) (stands_avail q h setup m state holds z) ∙ ap (λ (n : ℕ). index % n) main.size in
     ap (λ (x : SplitRing). head_word x mem state.next_avail) z.ring
-    ∙ ap (λ (s : ℕ). word 2 mem s (r.avail.1 + (4 + 2 * (state.next_avail % r.size)))) main.avail_space
-    ∙ ap (λ (p : ℕ). word 2 mem 0 (p + (4 + 2 * (state.next_avail % r.size)))) main.avail
+    ∙ ap (λ (s : ℕ). word 2 mem s (setup.ring.avail.1 + (4 + 2 * (state.next_avail % setup.ring.size)))) main.avail_space
+    ∙ ap (λ (p : ℕ). word 2 mem 0 (p + (4 + 2 * (state.next_avail % setup.ring.size)))) main.avail
     ∙ ap (λ (e : ℕ). word 2 mem 0 (area_place q + 4096 + (4 + 2 * e))) place
     ∙ offered_head q h m.scene (m.lanes q).driver (m.lanes q).batch (m.lanes q).phase a holds.queue (omega arith) more
 
@@ -157,8 +158,8 @@ next_out q h s l holds more = record {
 }
 
 -- so the avail ring breaks no rule
-keeps_rules : (q : ℕ) (h : Header1) (r : SplitRing) (m : Moment) (state : QueueState) (fault : RingFault) → IsPlain h → Good q h m → LiesAs q r h.size → QueueStands q h r m state → Breaks state m.scene.memory fault → ⊥
-keeps_rules q h r m state fault plain good main z breaks = go fault breaks.1
+keeps_rules : (q : ℕ) (h : Header1) (setup : QueueSetup) (m : Moment) (state : QueueState) (fault : RingFault) → IsPlain h → Good q h m → LiesAs q setup h.size → QueueStands q h setup m state → Breaks state m.scene.memory fault → ⊥
+keeps_rules q h setup m state fault plain good main z breaks = go fault breaks.1
   where
     a : ℕ
     a = accepted m.scene.past q
@@ -170,7 +171,7 @@ keeps_rules q h r m state fault plain good main z breaks = go fault breaks.1
     holds = good.holds
 
     far : states.waiting state m.scene.memory + a ≡ length heads
-    far = omega (arith, waiting_is q h r m state main holds z, queue_ahead q h m.scene (m.lanes q) plain.good holds)
+    far = omega (arith, waiting_is q h setup m state main holds z, queue_ahead q h m.scene (m.lanes q) plain.good holds)
 
     more : a < length heads
     more = omega (arith, far, breaks.0)
@@ -183,54 +184,54 @@ keeps_rules q h r m state fault plain good main z breaks = go fault breaks.1
 
     go : (f : RingFault) → BreaksBy state m.scene.memory f → ⊥
     go (faults.Jump ahead) b = omega (arith, b.0, b.1, far, sized, holds.known.room, holds.known.shown, holds.known.fewer)
-    go (faults.BadHead head) b = omega (arith, b.1, b.2, sized, head_is q h r m state main z holds more, head_below q h m.scene (m.lanes q).driver (m.lanes q).batch (m.lanes q).phase a holds.queue out)
+    go (faults.BadHead head) b = omega (arith, b.1, b.2, sized, head_is q h setup m state main z holds more, head_below q h m.scene (m.lanes q).driver (m.lanes q).batch (m.lanes q).phase a holds.queue out)
     go (faults.Twice head) b =
-        let small : head < r.size = omega (arith, b.2, ap (λ (x : SplitRing). x.size) z.ring) in
-        let t = taken_open q h r m.scene.past heads (m.lanes q).phase (m.lanes q).batch (m.lanes q).completed (m.lanes q).made state head small b.3 z in
+        let small : head < setup.ring.size = omega (arith, b.2, ap (λ (x : SplitRing). x.size) z.ring) in
+        let t = taken_open q h setup m.scene.past heads (m.lanes q).phase (m.lanes q).batch (m.lanes q).completed (m.lanes q).made state head small b.3 z in
         let other : IsOut q m.scene.past heads t.0 = open_out q h.size h.capacity m.scene.past heads t.0 holds.known t.1 in
-        let same : t.0 ≡ a = heads_apart q h m.scene (m.lanes q).driver (m.lanes q).batch (m.lanes q).phase t.0 a holds.queue other out (t.2 ∙ b.1 ∙ head_is q h r m state main z holds more) in
+        let same : t.0 ≡ a = heads_apart q h m.scene (m.lanes q).driver (m.lanes q).batch (m.lanes q).phase t.0 a holds.queue other out (t.2 ∙ b.1 ∙ head_is q h setup m state main z holds more) in
         omega (arith, same, t.1.taken)
     go (faults.NoRoom slot) b = b
     go (faults.Chain fault) b = b
     go (faults.NoStatus head) b = b
 
 -- what a fetch says, makes and leaves
-pub record HasFetched (q : ℕ) (h : Header1) (r : SplitRing) (m : Moment) (x : Stepped) (state' : QueueState) : Type 0 where
+pub record HasFetched (q : ℕ) (h : Header1) (setup : QueueSetup) (m : Moment) (x : Stepped) (state' : QueueState) : Type 0 where
   pub said : x ≡ says.Accepted (slice_index (m.scene.heads q) (accepted m.scene.past q))
   pub made : (turned h q turns.Fetch m).items ≡ items.Made (entries.Accept q (accepted m.scene.past q)) ∷ []
-  pub stands : QueueStands q h r (one_turn h q turns.Fetch m).next state'
+  pub stands : QueueStands q h setup (one_turn h q turns.Fetch m).next state'
 
 -- the head of the next request is accepted: it is below the size and free
-record Accepts (q : ℕ) (r : SplitRing) (m : Moment) (x : Stepped) (state u : QueueState) : Type 0 where
+record Accepts (q : ℕ) (setup : QueueSetup) (m : Moment) (x : Stepped) (state u : QueueState) : Type 0 where
   pub says : x ≡ says.Accepted (slice_index (m.scene.heads q) (accepted m.scene.past q))
   pub leaves : u ≡ states.accepted (slice_index (m.scene.heads q) (accepted m.scene.past q)) state
-  pub small : slice_index (m.scene.heads q) (accepted m.scene.past q) < r.size
+  pub small : slice_index (m.scene.heads q) (accepted m.scene.past q) < setup.ring.size
   pub free : is_taken state.taken (slice_index (m.scene.heads q) (accepted m.scene.past q)) ≡ false
 
 -- a fetch that is ready and doesn't fail accepts a head
-fetch_accepts : (q : ℕ) (h : Header1) (r : SplitRing) (m : Moment) (x : Stepped) (state u : QueueState) → IsPlain h → Good q h m → LiesAs q r h.size → QueueStands q h r m state → is_ready (standing h q m) turns.Fetch ≡ true → is_fault x ≡ false
-    → Fetches (Some m.scene.memory) x state u → Accepts q r m x state u
-fetch_accepts q h r m x state u plain good main z ready fine fetches = go x fine fetches
+fetch_accepts : (q : ℕ) (h : Header1) (setup : QueueSetup) (m : Moment) (x : Stepped) (state u : QueueState) → IsPlain h → Good q h m → LiesAs q setup h.size → QueueStands q h setup m state → is_ready (standing h q m) turns.Fetch ≡ true → is_fault x ≡ false
+    → Fetches (Some m.scene.memory) x state u → Accepts q setup m x state u
+fetch_accepts q h setup m x state u plain good main z ready fine fetches = go x fine fetches
   where
     a : ℕ
     a = accepted m.scene.past q
 
-    go : (y : Stepped) → is_fault y ≡ false → Fetches (Some m.scene.memory) y state u → Accepts q r m y state u
+    go : (y : Stepped) → is_fault y ≡ false → Fetches (Some m.scene.memory) y state u → Accepts q setup m y state u
     go says.Idle f does = absurd (
         let unready : is_ready (standing_at state (states.waiting state m.scene.memory)) turns.Fetch ≡ false = does.1 m.scene.memory refl in
-        let fails : true ≡ false = sym ready ∙ sym (ready_same q h r m state turns.Fetch main good.holds z) ∙ unready in
+        let fails : true ≡ false = sym ready ∙ sym (ready_same q h setup m state turns.Fetch main good.holds z) ∙ unready in
         cc)
     go (says.Accepted head) f does =
         let finds = does.2 m.scene.memory refl in
-        let more : a < length (m.scene.heads q) = omega (arith, finds.0.some, waiting_is q h r m state main good.holds z, queue_ahead q h m.scene (m.lanes q) plain.good good.holds) in
-        let is : head ≡ slice_index (m.scene.heads q) a = finds.1 ∙ head_is q h r m state main z good.holds more in
+        let more : a < length (m.scene.heads q) = omega (arith, finds.0.some, waiting_is q h setup m state main good.holds z, queue_ahead q h m.scene (m.lanes q) plain.good good.holds) in
+        let is : head ≡ slice_index (m.scene.heads q) a = finds.1 ∙ head_is q h setup m state main z good.holds more in
         record {
           says = ap says.Accepted is;
           leaves = does.0 ∙ ap (λ (d : ℕ). states.accepted d state) is;
           small = omega (arith, is, finds.2, ap (λ (y : SplitRing). y.size) z.ring);
           free = ap (is_taken state.taken) (sym is) ∙ finds.3;
         }
-    go (says.Broken fault) f does = absurd (keeps_rules q h r m state fault plain good main z (does.2 m.scene.memory refl))
+    go (says.Broken fault) f does = absurd (keeps_rules q h setup m state fault plain good main z (does.2 m.scene.memory refl))
     go says.SharedFault f does = absurd (let fails : true ≡ false = f in cc)
     go (says.Stored tag) f does = absurd does
     go (says.Looked head sector) f does = absurd does
@@ -252,24 +253,24 @@ fetch_rests q h m good ready =
           absurd (grind (arith, nat_tests))
     ]
 
-pub fetch_stands : (q : ℕ) (h : Header1) (r : SplitRing) (m : Moment) (x : Stepped) (state state' : QueueState) → IsPlain h → Good q h m → LiesAs q r h.size → QueueStands q h r m state
-    → is_ready (standing h q m) turns.Fetch ≡ true → is_fault x ≡ false → Turns turns.Fetch (Some m.scene.memory) x state state' → HasFetched q h r m x state'
-fetch_stands q h r m x state state' plain good main z ready fine made =
+pub fetch_stands : (q : ℕ) (h : Header1) (setup : QueueSetup) (m : Moment) (x : Stepped) (state state' : QueueState) → IsPlain h → Good q h m → LiesAs q setup h.size → QueueStands q h setup m state
+    → is_ready (standing h q m) turns.Fetch ≡ true → is_fault x ≡ false → Turns turns.Fetch (Some m.scene.memory) x state state' → HasFetched q h setup m x state'
+fetch_stands q h setup m x state state' plain good main z ready fine made =
     let l : Lane = m.lanes q in
     let past : List Entry = m.scene.past in
     let heads : List ℕ = m.scene.heads q in
     let head : ℕ = slice_index heads (accepted past q) in
     let same : resting l ≡ l = fetch_rests q h m good ready in
-    let accepts = fetch_accepts q h r m x state made.0 plain good main z ready fine (does_of turns.Fetch (Some m.scene.memory) x state state' made fine) in
+    let accepts = fetch_accepts q h setup m x state made.0 plain good main z ready fine (does_of turns.Fetch (Some m.scene.memory) x state state' made fine) in
     let after : state' ≡ states.accepted head state = made.1 ∙ ap (λ (y : Stepped). states.halted y made.0) accepts.says ∙ accepts.leaves in
-    let at_rest : QueueAt q h r past heads phases.Rest [] l.completed l.made state = subst (λ (y : Lane). QueueAt q h r past heads y.phase y.batch y.completed y.made state) (sym same) z in
+    let at_rest : QueueAt q h setup past heads phases.Rest [] l.completed l.made state = subst (λ (y : Lane). QueueAt q h setup past heads y.phase y.batch y.completed y.made state) (sym same) z in
     let held : Holds q h m.scene (resting l) = subst (λ (y : Lane). Holds q h m.scene y) (sym same) good.holds in
-    let begins : StandsAfter q h r m.scene (phase_goes_on h q m.scene (under_way turns.Fetch (resting l))) (states.accepted head state) = at_fetch q h r past heads l.completed l.made state head held.known held.worked refl accepts.small accepts.free at_rest in
-    let stands : StandsAfter q h r m.scene (turned h q turns.Fetch m) (states.accepted head state) = subst (λ (y : Lane). StandsAfter q h r m.scene (phase_goes_on h q m.scene (under_way turns.Fetch y)) (states.accepted head state)) same begins in
+    let begins : StandsAfter q h setup m.scene (phase_goes_on h q m.scene (under_way turns.Fetch (resting l))) (states.accepted head state) = at_fetch q h setup past heads l.completed l.made state head held.known held.worked refl accepts.small accepts.free at_rest in
+    let stands : StandsAfter q h setup m.scene (turned h q turns.Fetch m) (states.accepted head state) = subst (λ (y : Lane). StandsAfter q h setup m.scene (phase_goes_on h q m.scene (under_way turns.Fetch y)) (states.accepted head state)) same begins in
     record {
       said = accepts.says;
       made = sym (ap (λ (y : Lane). (phase_goes_on h q m.scene (under_way turns.Fetch y)).items) same);
-      stands = stands_after q h r m turns.Fetch state' (subst (λ (y : QueueState). StandsAfter q h r m.scene (turned h q turns.Fetch m) y) (sym after) stands);
+      stands = stands_after q h setup m turns.Fetch state' (subst (λ (y : QueueState). StandsAfter q h setup m.scene (turned h q turns.Fetch m) y) (sym after) stands);
     }
 
 -- ---- a turn that isn't ready
@@ -318,8 +319,8 @@ idle_does turns.Fetch state u x m is unready f does = idle_fetch state u x m unr
 idle_does (turns.Work place) state u x m is unready f does = absurd is
 idle_does (turns.Publish most) state u x m is unready f does = idle_publish state u x most unready does
 
-pub idle_stands : (q : ℕ) (h : Header1) (r : SplitRing) (m : Moment) (t : Turn) (x : Stepped) (state state' : QueueState) → LiesAs q r h.size → Holds q h m.scene (m.lanes q) → QueueStands q h r m state → IsPhaseTurn t
+pub idle_stands : (q : ℕ) (h : Header1) (setup : QueueSetup) (m : Moment) (t : Turn) (x : Stepped) (state state' : QueueState) → LiesAs q setup h.size → Holds q h m.scene (m.lanes q) → QueueStands q h setup m state → IsPhaseTurn t
     → is_ready (standing h q m) t ≡ false → is_fault x ≡ false → Turns t (Some m.scene.memory) x state state' → (x ≡ says.Idle) × (state' ≡ state)
-idle_stands q h r m t x state state' main holds z is unready fine made =
-    let idle = idle_does t state made.0 x m.scene.memory is (ready_same q h r m state t main holds z ∙ unready) fine (does_of t (Some m.scene.memory) x state state' made fine) in
+idle_stands q h setup m t x state state' main holds z is unready fine made =
+    let idle = idle_does t state made.0 x m.scene.memory is (ready_same q h setup m state t main holds z ∙ unready) fine (does_of t (Some m.scene.memory) x state state' made fine) in
     (idle.0, made.1 ∙ ap (λ (y : Stepped). states.halted y made.0) idle.0 ∙ idle.1)

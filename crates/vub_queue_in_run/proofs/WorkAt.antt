@@ -13,6 +13,7 @@ use Rattle.vub_device.specs.declared.entry.Asked.TheVariants as asks
 use Rattle.vub_device.specs.Past.{asked, accepted, published, is_among, open_numbers, IsOpen, started}
 use Rattle.vub_device.specs.Requests.{refusal}
 use Rattle.vub_split.specs.declared.split.SplitRing.{SplitRing}
+use Rattle.vub_queue.specs.declared.queue.QueueSetup.{QueueSetup}
 use Rattle.vub_task.specs.declared.task.Task.{Task}
 use Rattle.vub_direct_chain.specs.ChainState.{IsRingOf, Meant}
 use Rattle.vub_driver.specs.GuestChain.{Links}
@@ -189,8 +190,8 @@ pub record WorkReady (q : ℕ) (h : Header1) (sizes : ℕ → ℕ) (m : Moment) 
 abbrev pub making : {q : ℕ} {h : Header1} {sizes : ℕ → ℕ} {m : Moment} {state : QueueState} {place : ℕ} → WorkReady q h sizes m state place → Making
 making {q} {h} {sizes} {m} w = making_of q h m w.k w.links w.request w.step
 
-ring_is : (q : ℕ) (sizes : ℕ → ℕ) (r : SplitRing) (n : ℕ) → LiesAs q r n → area_place q + 1048576 ≤ sizes 0 → IsRingOf q sizes r n
-ring_is q sizes r n main room = record { space = main.desc_space; table = main.desc; size = main.size; room = room }
+ring_is : (q : ℕ) (sizes : ℕ → ℕ) (setup : QueueSetup) (n : ℕ) → LiesAs q setup n → area_place q + 1048576 ≤ sizes 0 → IsRingOf q sizes setup.ring n
+ring_is q sizes setup n main room = record { space = main.desc_space; table = main.desc; size = main.size; room = room }
 
 -- a number among the unfinished ones is open, and of no completed request
 pub unfinished_open : (q : ℕ) (m : Moment) (place k : ℕ) → slice_get (unfinished q m) place ≡ Some k → IsOpen m.scene.past q k × (is_among ((m.lanes q).completed ++ (m.lanes q).batch) k ≡ false)
@@ -201,27 +202,27 @@ unfinished_open q m place k is =
     let t : not (is_among (l.completed ++ l.batch) k) ≡ true = kept.1 in
     (record { taken = opened.0; unpublished = opened.1 }, grind (arith, nat_tests))
 
-due_at : (q : ℕ) (h : Header1) (m : Moment) (r : SplitRing) (sizes : ℕ → ℕ) (state : QueueState) (place k : ℕ) (task : Task) → IsPlain h → Good q h m → ChainedAt q h m → LiesAs q r h.size → area_place q + 1048576 ≤ sizes 0 → QueueStands q h r m state → started m.scene.past q ≡ true
+due_at : (q : ℕ) (h : Header1) (m : Moment) (setup : QueueSetup) (sizes : ℕ → ℕ) (state : QueueState) (place k : ℕ) (task : Task) → IsPlain h → Good q h m → ChainedAt q h m → LiesAs q setup h.size → area_place q + 1048576 ≤ sizes 0 → QueueStands q h setup m state → started m.scene.past q ≡ true
     → slice_get (unfinished q m) place ≡ Some k → slice_get state.unfinished place ≡ Some task → WorkReady q h sizes m state place
-due_at q h m r sizes state place k task plain good chained main room a run is at =
+due_at q h m setup sizes state place k task plain good chained main room a run is at =
     let l : Lane = m.lanes q in
     let head : ℕ = slice_index (m.scene.heads q) k in
     let where_open = unfinished_open q m place k is in
     let is_out : IsOut q m.scene.past (m.scene.heads q) k = open_out q h.size h.capacity m.scene.past (m.scene.heads q) k good.holds.known where_open.0 in
-    let meant : Meant q sizes r m.scene.memory head (asked m.scene.past q k) = work_means q h m sizes r place k plain good chained (ring_is q sizes r h.size main room) is in
+    let meant : Meant q sizes setup.ring m.scene.memory head (asked m.scene.past q k) = work_means q h m sizes setup.ring place k plain good chained (ring_is q sizes setup h.size main room) is in
     let request : Asked = meant.request in
     let wide : IsWide h.capacity (Some request) = subst (λ (o : Option Asked). IsWide h.capacity o) meant.is (good.holds.known.wide k is_out.below) in
     let pending : IsPending (l.made k) (Some request) = subst (λ (o : Option Asked). IsPending (l.made k) o) meant.is (good.holds.worked.pending k where_open.0 where_open.1) in
     let next = some_step h request (l.made k) plain.back wide pending in
-    let stands : TaskAt q h r m.scene.past (m.scene.heads q) k (l.made k) task = a.tasks place k task is at in
+    let stands : TaskAt q h setup m.scene.past (m.scene.heads q) k (l.made k) task = a.tasks place k task is at in
     let n : Making = making_of q h m k meant.links request next.0 in
     let low : head < h.size = head_below q h m.scene (m.lanes q).driver (m.lanes q).batch (m.lanes q).phase k good.holds.queue is_out in
-    let is_next : IsNext h.capacity sizes r m.scene.memory n = record {
+    let is_next : IsNext h.capacity sizes setup.ring m.scene.memory n = record {
       means = meant.means;
       served = record { basic = wide_basic h.capacity request wide; capacity = refl; cached = plain.back };
       next = next.1;
     } in
-    let ready : IsReady r n task = (meant.at_head ∙ sym stands.head, stands.stands request meant.is) in
+    let ready : IsReady setup.ring n task = (meant.at_head ∙ sym stands.head, stands.stands request meant.is) in
     record {
       k = k;
       request = request;
@@ -242,11 +243,11 @@ due_at q h m r sizes state place k task plain good chained main room a run is at
     }
 
 -- where work is ready, a step is due
-pub work_ready : (q : ℕ) (h : Header1) (m : Moment) (r : SplitRing) (sizes : ℕ → ℕ) (state : QueueState) (place : ℕ) → IsPlain h → Good q h m → ChainedAt q h m → LiesAs q r h.size → area_place q + 1048576 ≤ sizes 0 → QueueStands q h r m state → is_ready (standing h q m) (turns.Work place) ≡ true
+pub work_ready : (q : ℕ) (h : Header1) (m : Moment) (setup : QueueSetup) (sizes : ℕ → ℕ) (state : QueueState) (place : ℕ) → IsPlain h → Good q h m → ChainedAt q h m → LiesAs q setup h.size → area_place q + 1048576 ≤ sizes 0 → QueueStands q h setup m state → is_ready (standing h q m) (turns.Work place) ≡ true
     → WorkReady q h sizes m state place
-work_ready q h m r sizes state place plain good chained main room a ready =
+work_ready q h m setup sizes state place plain good chained main room a ready =
     let run : started m.scene.past q ≡ true = grind (arith, nat_tests) in
     let inside : place < length (unfinished q m) = grind (arith, nat_tests) in
     let is : slice_get (unfinished q m) place ≡ Some (slice_index (unfinished q m) place) = slice_get-get_or (unfinished q m) place 0 inside in
-    let at : slice_get state.unfinished place ≡ Some (get_or state.unfinished place (fresh_task 0)) = slice_get-get_or state.unfinished place (fresh_task 0) (omega (arith, inside, count_is q h r m.scene.past (m.scene.heads q) (m.lanes q).phase (m.lanes q).batch (m.lanes q).completed (m.lanes q).made state good.holds.worked a)) in
-    due_at q h m r sizes state place (slice_index (unfinished q m) place) (get_or state.unfinished place (fresh_task 0)) plain good chained main room a run is at
+    let at : slice_get state.unfinished place ≡ Some (get_or state.unfinished place (fresh_task 0)) = slice_get-get_or state.unfinished place (fresh_task 0) (omega (arith, inside, count_is q h setup m.scene.past (m.scene.heads q) (m.lanes q).phase (m.lanes q).batch (m.lanes q).completed (m.lanes q).made state good.holds.worked a)) in
+    due_at q h m setup sizes state place (slice_index (unfinished q m) place) (get_or state.unfinished place (fresh_task 0)) plain good chained main room a run is at

@@ -30,6 +30,7 @@ use Rattle.vub_queue.specs.declared.queue.Stepped.TheVariants as says
 use Rattle.vub_report.specs.declared.items.Item.{Item}
 use Rattle.vub_report.specs.declared.items.Item.TheVariants as items
 use Rattle.vub_split.specs.declared.split.SplitRing.{SplitRing}
+use Rattle.vub_queue.specs.declared.queue.QueueSetup.{QueueSetup}
 use Rattle.vub_task.specs.declared.task.Task.{Task}
 use Rattle.vub_driver.specs.GuestChain.{Links}
 use Rattle.vub_run.specs.Memory.{Scene, after_item, after_items}
@@ -129,36 +130,36 @@ show_status q h m state v k task links request space =
       },
     )
 
-ring_space : (q : ℕ) (h : Header1) (m : Moment) (r : SplitRing) (state : QueueState) → LiesAs q r h.size → QueueStands q h r m state → state.ring.desc.0.number ≡ 0
-ring_space q h m r state main a = ap (λ (x : SplitRing). x.desc.0.number) a.ring ∙ main.desc_space
+ring_space : (q : ℕ) (h : Header1) (m : Moment) (setup : QueueSetup) (state : QueueState) → LiesAs q setup h.size → QueueStands q h setup m state → state.ring.desc.0.number ≡ 0
+ring_space q h m setup state main a = ap (λ (x : SplitRing). x.desc.0.number) a.ring ∙ main.desc_space
 
 -- before its store, what was read stands in the queue
-held_sector : (q : ℕ) (h : Header1) (sizes : ℕ → ℕ) (m : Moment) (r : SplitRing) (state : QueueState) (place p : ℕ) (w : WorkReady q h sizes m state place) → QueueStands q h r m state → w.step ≡ Put p
+held_sector : (q : ℕ) (h : Header1) (sizes : ℕ → ℕ) (m : Moment) (setup : QueueSetup) (state : QueueState) (place p : ℕ) (w : WorkReady q h sizes m state place) → QueueStands q h setup m state → w.step ≡ Put p
     → sector_at state (head_in w.task) ≡ slice_range (bytes_read m.scene.past q w.k) (512 * p) (512 * p + 512)
-held_sector q h sizes m r state place p w a put =
+held_sector q h sizes m setup state place p w a put =
     ap (sector_at state) w.head ∙ a.sectors w.k p w.request (among_get (unfinished q m) place w.k w.at) w.is (w.due.next.next ∙ ap (λ (s : RequestStep). Some s) put)
 
-show_step : (q : ℕ) (h : Header1) (sizes : ℕ → ℕ) (m : Moment) (r : SplitRing) (state : QueueState) (place : ℕ) (v : Values) (w : WorkReady q h sizes m state place) → LiesAs q r h.size → QueueStands q h r m state → DiskAt h.capacity m.scene.past v
+show_step : (q : ℕ) (h : Header1) (sizes : ℕ → ℕ) (m : Moment) (setup : QueueSetup) (state : QueueState) (place : ℕ) (v : Values) (w : WorkReady q h sizes m state place) → LiesAs q setup h.size → QueueStands q h setup m state → DiskAt h.capacity m.scene.past v
     → Kind h w.request ((m.lanes q).made w.k) w.step → ShowsAt q h m state v w.k w.task w.links w.request w.step
-show_step q h sizes m r state place v w main a disk (inl x) =
+show_step q h sizes m setup state place v w main a disk (inl x) =
     subst (λ (s : RequestStep). ShowsAt q h m state v w.k w.task w.links w.request s) (sym x.next)
     (subst (λ (o : Asked). ShowsAt q h m state v w.k w.task w.links o (Look x.place)) (sym x.is) (show_look q h m state v w.k w.task w.links x.sector x.count x.place x.within (disk (x.sector + x.place) (omega (arith, x.within, x.wide.fits)))))
-show_step q h sizes m r state place v w main a disk (inr (inl x)) =
+show_step q h sizes m setup state place v w main a disk (inr (inl x)) =
     subst (λ (s : RequestStep). ShowsAt q h m state v w.k w.task w.links w.request s) (sym x.next)
-    (subst (λ (o : Asked). ShowsAt q h m state v w.k w.task w.links o (Put x.place)) (sym x.is) (show_put q h m state v w.k w.task w.links x.sector x.count x.place (ring_space q h m r state main a) (held_sector q h sizes m r state place x.place w a x.next)))
-show_step q h sizes m r state place v w main a disk (inr (inr (inl x))) =
+    (subst (λ (o : Asked). ShowsAt q h m state v w.k w.task w.links o (Put x.place)) (sym x.is) (show_put q h m state v w.k w.task w.links x.sector x.count x.place (ring_space q h m setup state main a) (held_sector q h sizes m setup state place x.place w a x.next)))
+show_step q h sizes m setup state place v w main a disk (inr (inr (inl x))) =
     subst (λ (s : RequestStep). ShowsAt q h m state v w.k w.task w.links w.request s) (sym x.next)
     (subst (λ (o : Asked). ShowsAt q h m state v w.k w.task w.links o (Act x.place)) (sym x.is) (show_act q h m state v w.k w.task w.links x.sector x.place x.bytes x.within))
-show_step q h sizes m r state place v w main a disk (inr (inr (inr (inl x)))) = subst (λ (s : RequestStep). ShowsAt q h m state v w.k w.task w.links w.request s) (sym x.next) (refl, refl)
-show_step q h sizes m r state place v w main a disk (inr (inr (inr (inr x)))) =
-    subst (λ (s : RequestStep). ShowsAt q h m state v w.k w.task w.links w.request s) (sym x.next) (show_status q h m state v w.k w.task w.links w.request (ring_space q h m r state main a))
+show_step q h sizes m setup state place v w main a disk (inr (inr (inr (inl x)))) = subst (λ (s : RequestStep). ShowsAt q h m state v w.k w.task w.links w.request s) (sym x.next) (refl, refl)
+show_step q h sizes m setup state place v w main a disk (inr (inr (inr (inr x)))) =
+    subst (λ (s : RequestStep). ShowsAt q h m state v w.k w.task w.links w.request s) (sym x.next) (show_status q h m state v w.k w.task w.links w.request (ring_space q h m setup state main a))
 
 -- what a turn of work shows, by what the queue says of it
-pub work_items : (q : ℕ) (h : Header1) (sizes : ℕ → ℕ) (m : Moment) (r : SplitRing) (state : QueueState) (place : ℕ) (v : Values) (w : WorkReady q h sizes m state place) → IsPlain h → Good q h m → LiesAs q r h.size → QueueStands q h r m state → DiskAt h.capacity m.scene.past v
+pub work_items : (q : ℕ) (h : Header1) (sizes : ℕ → ℕ) (m : Moment) (setup : QueueSetup) (state : QueueState) (place : ℕ) (v : Values) (w : WorkReady q h sizes m state place) → IsPlain h → Good q h m → LiesAs q setup h.size → QueueStands q h setup m state → DiskAt h.capacity m.scene.past v
     → Shows q v state w.k w.task (making w) (turned h q (turns.Work place) m).items (said (head_in w.task) (answer_in (making w)))
-work_items q h sizes m r state place v w plain good main a disk =
+work_items q h sizes m setup state place v w plain good main a disk =
     subst (λ (t : Turned). Shows q v state w.k w.task (making w) t.items (said (head_in w.task) (answer_in (making w)))) (sym (work_turned q h sizes m state place w))
-    (show_step q h sizes m r state place v w main a disk (work_kind q h sizes m state place w plain good))
+    (show_step q h sizes m setup state place v w main a disk (work_kind q h sizes m state place w plain good))
 
 -- ---- memory
 
@@ -178,27 +179,27 @@ looks_memory : (q : ℕ) (h : Header1) (k : ℕ) (s : Scene) (o : Option ℕ) �
 looks_memory q h k s None = refl
 looks_memory q h k s (Some x) = refl
 
-memory_step : (q : ℕ) (h : Header1) (sizes : ℕ → ℕ) (m : Moment) (r : SplitRing) (state : QueueState) (place : ℕ) (w : WorkReady q h sizes m state place) → LiesAs q r h.size → QueueStands q h r m state
+memory_step : (q : ℕ) (h : Header1) (sizes : ℕ → ℕ) (m : Moment) (setup : QueueSetup) (state : QueueState) (place : ℕ) (w : WorkReady q h sizes m state place) → LiesAs q setup h.size → QueueStands q h setup m state
     → Kind h w.request ((m.lanes q).made w.k) w.step → LeavesMemory q h m state w.k w.task w.links w.request w.step
-memory_step q h sizes m r state place w main a (inl x) =
+memory_step q h sizes m setup state place w main a (inl x) =
     subst (λ (s : RequestStep). LeavesMemory q h m state w.k w.task w.links w.request s) (sym x.next) (looks_memory q h w.k m.scene (look_at w.request x.place))
-memory_step q h sizes m r state place w main a (inr (inl x)) =
+memory_step q h sizes m setup state place w main a (inr (inl x)) =
     subst (λ (s : RequestStep). LeavesMemory q h m state w.k w.task w.links w.request s) (sym x.next)
     (subst (λ (o : Asked). LeavesMemory q h m state w.k w.task w.links o (Put x.place)) (sym x.is)
-    (stored_memory state m.scene.memory (sectors_place (buffer_of q w.k m.scene) + 512 * x.place) (slice_range (bytes_read m.scene.past q w.k) (512 * x.place) (512 * x.place + 512)) (sector_at state (head_in w.task)) (ring_space q h m r state main a) (held_sector q h sizes m r state place x.place w a x.next)))
-memory_step q h sizes m r state place w main a (inr (inr (inl x))) =
+    (stored_memory state m.scene.memory (sectors_place (buffer_of q w.k m.scene) + 512 * x.place) (slice_range (bytes_read m.scene.past q w.k) (512 * x.place) (512 * x.place + 512)) (sector_at state (head_in w.task)) (ring_space q h m setup state main a) (held_sector q h sizes m setup state place x.place w a x.next)))
+memory_step q h sizes m setup state place w main a (inr (inr (inl x))) =
     subst (λ (s : RequestStep). LeavesMemory q h m state w.k w.task w.links w.request s) (sym x.next) (acts_memory q h w.k m.scene (effect_at w.request x.place))
-memory_step q h sizes m r state place w main a (inr (inr (inr (inl x)))) = subst (λ (s : RequestStep). LeavesMemory q h m state w.k w.task w.links w.request s) (sym x.next) refl
-memory_step q h sizes m r state place w main a (inr (inr (inr (inr x)))) =
+memory_step q h sizes m setup state place w main a (inr (inr (inr (inl x)))) = subst (λ (s : RequestStep). LeavesMemory q h m state w.k w.task w.links w.request s) (sym x.next) refl
+memory_step q h sizes m setup state place w main a (inr (inr (inr (inr x)))) =
     subst (λ (s : RequestStep). LeavesMemory q h m state w.k w.task w.links w.request s) (sym x.next)
-    (stored_memory state m.scene.memory (status_place (buffer_of q w.k m.scene)) (status_of h w.request ∷ []) (status_of h w.request ∷ []) (ring_space q h m r state main a) refl)
+    (stored_memory state m.scene.memory (status_place (buffer_of q w.k m.scene)) (status_of h w.request ∷ []) (status_of h w.request ∷ []) (ring_space q h m setup state main a) refl)
 
 -- a turn of work leaves memory as the step that is due
-pub work_memory : (q : ℕ) (h : Header1) (sizes : ℕ → ℕ) (m : Moment) (r : SplitRing) (state : QueueState) (place : ℕ) (w : WorkReady q h sizes m state place) → IsPlain h → Good q h m → LiesAs q r h.size → QueueStands q h r m state
+pub work_memory : (q : ℕ) (h : Header1) (sizes : ℕ → ℕ) (m : Moment) (setup : QueueSetup) (state : QueueState) (place : ℕ) (w : WorkReady q h sizes m state place) → IsPlain h → Good q h m → LiesAs q setup h.size → QueueStands q h setup m state
     → (one_turn h q (turns.Work place) m).next.scene.memory ≡ memory_after state.ring (making w) (sector_at state (head_in w.task)) m.scene.memory
-work_memory q h sizes m r state place w plain good main a =
+work_memory q h sizes m setup state place w plain good main a =
     ap (λ (t : Turned). (after_items h t.items m.scene).memory) (work_turned q h sizes m state place w)
-    ∙ memory_step q h sizes m r state place w main a (work_kind q h sizes m state place w plain good)
+    ∙ memory_step q h sizes m setup state place w main a (work_kind q h sizes m state place w plain good)
 
 -- ---- the disk
 

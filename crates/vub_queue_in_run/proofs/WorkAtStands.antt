@@ -19,6 +19,7 @@ use Rattle.vub_device.specs.Past.{asked, accepted, published, missing_below, ope
 use Rattle.vub_device.specs.Places.{are_distinct}
 use Rattle.vub_device.specs.Requests.{look_at, effect_at}
 use Rattle.vub_split.specs.declared.split.SplitRing.{SplitRing}
+use Rattle.vub_queue.specs.declared.queue.QueueSetup.{QueueSetup}
 use Rattle.vub_task.specs.declared.task.Task.{Task}
 use Rattle.vub_run.specs.Memory.{with_at, after_items}
 use Rattle.vub_run.specs.Moments.{Lane, Moment, buffer_of, open_heads}
@@ -86,32 +87,32 @@ heads_differ q h m j k good open_j open_k apart same =
 
 -- ---- one task
 
-task_same : (q : ℕ) (h : Header1) (r : SplitRing) (past past' : List Entry) (heads : List ℕ) (k j made made' : ℕ) (task : Task) → Keeps q past past' k → made' ≡ made → TaskAt q h r past heads j made task → TaskAt q h r past' heads j made' task
-task_same q h r past past' heads k j made made' task x same t = record {
+task_same : (q : ℕ) (h : Header1) (setup : QueueSetup) (past past' : List Entry) (heads : List ℕ) (k j made made' : ℕ) (task : Task) → Keeps q past past' k → made' ≡ made → TaskAt q h setup past heads j made task → TaskAt q h setup past' heads j made' task
+task_same q h setup past past' heads k j made made' task x same t = record {
   head = t.head;
-  stands = λ request is. subst (λ (c : ℕ). IsTaskAt h r (buffer_place (area_place q) (slice_index heads j)) request c task) (sym same) (t.stands request (ap (λ (f : ℕ → Option Asked). f j) (sym x.requests) ∙ is));
+  stands = λ request is. subst (λ (c : ℕ). IsTaskAt h setup.ring (buffer_place (area_place q) (slice_index heads j)) request c task) (sym same) (t.stands request (ap (λ (f : ℕ → Option Asked). f j) (sym x.requests) ∙ is));
 }
 
 -- the task that was worked on
-task_next : (q : ℕ) (h : Header1) (sizes : ℕ → ℕ) (m : Moment) (r : SplitRing) (state : QueueState) (place : ℕ) (w : WorkReady q h sizes m state place) (past' : List Entry) (next : Task) → state.ring ≡ r → Keeps q m.scene.past past' w.k → head_in next ≡ head_in w.task → HasMade state.ring (making w) next
-    → TaskAt q h r past' (m.scene.heads q) w.k ((m.lanes q).made w.k + 1) next
-task_next q h sizes m r state place w past' next ring x head made = record {
+task_next : (q : ℕ) (h : Header1) (sizes : ℕ → ℕ) (m : Moment) (setup : QueueSetup) (state : QueueState) (place : ℕ) (w : WorkReady q h sizes m state place) (past' : List Entry) (next : Task) → state.ring ≡ setup.ring → Keeps q m.scene.past past' w.k → head_in next ≡ head_in w.task → HasMade state.ring (making w) next
+    → TaskAt q h setup past' (m.scene.heads q) w.k ((m.lanes q).made w.k + 1) next
+task_next q h sizes m setup state place w past' next ring x head made = record {
   head = head ∙ w.head;
   stands = λ request is.
       let both : Some w.request ≡ Some request = sym w.is ∙ ap (λ (f : ℕ → Option Asked). f w.k) (sym x.requests) ∙ is in
       let same : w.request ≡ request = cc in
-      let here : IsTaskAt h r (buffer_place (area_place q) (slice_index (m.scene.heads q) w.k)) w.request ((m.lanes q).made w.k + 1) next =
+      let here : IsTaskAt h setup.ring (buffer_place (area_place q) (slice_index (m.scene.heads q) w.k)) w.request ((m.lanes q).made w.k + 1) next =
       subst (λ (y : SplitRing). IsTaskAt h y (buffer_place (area_place q) (slice_index (m.scene.heads q) w.k)) w.request ((m.lanes q).made w.k + 1) next) ring made in
-      subst (λ (o : Asked). IsTaskAt h r (buffer_place (area_place q) (slice_index (m.scene.heads q) w.k)) o ((m.lanes q).made w.k + 1) next) same here;
+      subst (λ (o : Asked). IsTaskAt h setup.ring (buffer_place (area_place q) (slice_index (m.scene.heads q) w.k)) o ((m.lanes q).made w.k + 1) next) same here;
 }
 
 -- ---- a step that isn't the last
 
-goes_on : (q : ℕ) (h : Header1) (sizes : ℕ → ℕ) (m : Moment) (r : SplitRing) (state : QueueState) (place : ℕ) (w : WorkReady q h sizes m state place) (past' : List Entry) (next : Task) (sector : List ℕ) → Good q h m → QueueStands q h r m state → Keeps q m.scene.past past' w.k
+goes_on : (q : ℕ) (h : Header1) (sizes : ℕ → ℕ) (m : Moment) (setup : QueueSetup) (state : QueueState) (place : ℕ) (w : WorkReady q h sizes m state place) (past' : List Entry) (next : Task) (sector : List ℕ) → Good q h m → QueueStands q h setup m state → Keeps q m.scene.past past' w.k
     → head_in next ≡ head_in w.task → HasMade state.ring (making w) next
     → ((p : ℕ) → slice_get (task_steps h w.request) ((m.lanes q).made w.k + 1) ≡ Some (Put p) → sector ≡ slice_range (bytes_read past' q w.k) (512 * p) (512 * p + 512))
-    → QueueAt q h r past' (m.scene.heads q) (m.lanes q).phase (m.lanes q).batch (m.lanes q).completed (with_at (m.lanes q).made w.k ((m.lanes q).made w.k + 1)) (worked place next sector state)
-goes_on q h sizes m r state place w past' next sector good a x head made put = record {
+    → QueueAt q h setup past' (m.scene.heads q) (m.lanes q).phase (m.lanes q).batch (m.lanes q).completed (with_at (m.lanes q).made w.k ((m.lanes q).made w.k + 1)) (worked place next sector state)
+goes_on q h sizes m setup state place w past' next sector good a x head made put = record {
   ring = a.ring;
   runs = a.runs;
   started = a.started ∙ sym x.runs;
@@ -119,7 +120,7 @@ goes_on q h sizes m r state place w past' next sector good a x head made put = r
   phase = a.phase;
   batch = a.batch ∙ spots_same q h past past' heads w.k l.batch x;
   completed = a.completed ∙ spots_same q h past past' heads w.k l.completed x;
-  keeps = subst (λ (hs : List ℕ). KeepsHeads r.size hs (worked place next sector state)) (sym same_heads) (keeps_worked r.size (open_heads q past heads) state place next w.task sector w.due.at head a.keeps);
+  keeps = subst (λ (hs : List ℕ). KeepsHeads setup.ring.size hs (worked place next sector state)) (sym same_heads) (keeps_worked setup.ring.size (open_heads q past heads) state place next w.task sector w.due.at head a.keeps);
   tasks = λ i j t at_left at_task.
       let at_i : slice_get left i ≡ Some j = ap (λ (xs : List ℕ). slice_get xs i) (sym same) ∙ at_left in
       elim (cases_eq i place) [
@@ -129,13 +130,13 @@ goes_on q h sizes m r state place w past' next sector good a x head made put = r
             let inside : place < length state.unfinished = slice_get_within state.unfinished place w.task w.due.at in
             let stored : slice_get (set state.unfinished place next) i ≡ Some next = ap (slice_get (set state.unfinished place next)) here ∙ slice_get-set_same state.unfinished place next inside in
             let is_t : next ≡ t = cc in
-            let there : TaskAt q h r past' heads w.k (with_at l.made w.k (l.made w.k + 1) w.k) next =
-            subst (λ (c : ℕ). TaskAt q h r past' heads w.k c next) (sym (at_same l.made w.k (l.made w.k + 1) w.k refl)) (task_next q h sizes m r state place w past' next a.ring x head made) in
-            subst (λ (y : Task). TaskAt q h r past' heads j (with_at l.made w.k (l.made w.k + 1) j) y) is_t (subst (λ (n : ℕ). TaskAt q h r past' heads n (with_at l.made w.k (l.made w.k + 1) n) next) is_k there)
+            let there : TaskAt q h setup past' heads w.k (with_at l.made w.k (l.made w.k + 1) w.k) next =
+            subst (λ (c : ℕ). TaskAt q h setup past' heads w.k c next) (sym (at_same l.made w.k (l.made w.k + 1) w.k refl)) (task_next q h sizes m setup state place w past' next a.ring x head made) in
+            subst (λ (y : Task). TaskAt q h setup past' heads j (with_at l.made w.k (l.made w.k + 1) j) y) is_t (subst (λ (n : ℕ). TaskAt q h setup past' heads n (with_at l.made w.k (l.made w.k + 1) n) next) is_k there)
         | inr apart ↦
             let differs : j ≢ w.k = λ e. apart (one_place left i place w.k (left_distinct q past l.completed l.batch) (at_i ∙ ap (λ (n : ℕ). Some n) e) w.at) in
             let old : slice_get state.unfinished i ≡ Some t = sym (slice_get-set_other state.unfinished place i next apart) ∙ at_task in
-            task_same q h r past past' heads w.k j (l.made j) (with_at l.made w.k (l.made w.k + 1) j) t x (at_other l.made w.k (l.made w.k + 1) j differs) (a.tasks i j t at_i old)
+            task_same q h setup past past' heads w.k j (l.made j) (with_at l.made w.k (l.made w.k + 1) j) t x (at_other l.made w.k (l.made w.k + 1) j differs) (a.tasks i j t at_i old)
       ];
   buffers = length-set state.sectors (head_in next) sector ∙ a.buffers;
   places = a.places;
@@ -145,7 +146,7 @@ goes_on q h sizes m r state place w past' next sector good a x head made put = r
       elim (cases_eq j w.k) [
         | inl here ↦
             let at_head : slice_index heads j ≡ (head_in next) = ap (slice_index heads) here ∙ sym (head ∙ w.head) in
-            let fits : head_in next < length state.sectors = let low : head_in w.task < state.ring.size = w.due.fits in let size : state.ring.size ≡ r.size = ap (λ (y : SplitRing). y.size) a.ring in omega (arith, low, size, head, a.buffers) in
+            let fits : head_in next < length state.sectors = let low : head_in w.task < state.ring.size = w.due.fits in let size : state.ring.size ≡ setup.ring.size = ap (λ (y : SplitRing). y.size) a.ring in omega (arith, low, size, head, a.buffers) in
             let both : Some w.request ≡ Some request = sym w.is ∙ ap (asked past q) (sym here) ∙ is_old in
             let is_request : w.request ≡ request = cc in
             let now : with_at l.made w.k (l.made w.k + 1) j ≡ l.made w.k + 1 = at_same l.made w.k (l.made w.k + 1) j here in
@@ -180,9 +181,9 @@ goes_on q h sizes m r state place w past' next sector good a x head made put = r
 
 -- ---- the last step
 
-finished : (q : ℕ) (h : Header1) (sizes : ℕ → ℕ) (m : Moment) (r : SplitRing) (state : QueueState) (place : ℕ) (w : WorkReady q h sizes m state place) (sector : List ℕ) → Good q h m → QueueStands q h r m state
-    → QueueAt q h r m.scene.past (m.scene.heads q) (m.lanes q).phase (m.lanes q).batch ((m.lanes q).completed ++ w.k ∷ []) (with_at (m.lanes q).made w.k ((m.lanes q).made w.k + 1)) (done_at place (head_in w.task) (used_len (status_of h w.request) w.request) sector state)
-finished q h sizes m r state place w sector good a = record {
+finished : (q : ℕ) (h : Header1) (sizes : ℕ → ℕ) (m : Moment) (setup : QueueSetup) (state : QueueState) (place : ℕ) (w : WorkReady q h sizes m state place) (sector : List ℕ) → Good q h m → QueueStands q h setup m state
+    → QueueAt q h setup m.scene.past (m.scene.heads q) (m.lanes q).phase (m.lanes q).batch ((m.lanes q).completed ++ w.k ∷ []) (with_at (m.lanes q).made w.k ((m.lanes q).made w.k + 1)) (done_at place (head_in w.task) (used_len (status_of h w.request) w.request) sector state)
+finished q h sizes m setup state place w sector good a = record {
   ring = a.ring;
   runs = a.runs;
   started = a.started;
@@ -192,7 +193,7 @@ finished q h sizes m r state place w sector good a = record {
   completed = ap (λ (xs : List (ℕ × ℕ)). xs ++ (head_in w.task, used_len (status_of h w.request) w.request) ∷ []) a.completed
       ∙ ap (λ (e : ℕ × ℕ). map (spot_of q h past heads) l.completed ++ e ∷ []) element
       ∙ sym (map-append (spot_of q h past heads) l.completed (w.k ∷ []));
-  keeps = keeps_done r.size (open_heads q past heads) state place (used_len (status_of h w.request) w.request) w.task sector w.due.at a.keeps;
+  keeps = keeps_done setup.ring.size (open_heads q past heads) state place (used_len (status_of h w.request) w.request) w.task sector w.due.at a.keeps;
   tasks = λ i j t at_left at_task.
       let at_i : slice_get (remove left place) i ≡ Some j = ap (λ (xs : List ℕ). slice_get xs i) (sym less) ∙ at_left in
       elim (cases_lt i place) [
@@ -245,17 +246,17 @@ finished q h sizes m r state place w sector good a = record {
     nothing_new : Keeps q past past w.k
     nothing_new = record { runs = refl; accepts = refl; publishes = refl; requests = refl; sees = λ j apart. refl }
 
-    was : (i j : ℕ) (t : Task) → i ≢ place → slice_get left i ≡ Some j → slice_get state.unfinished i ≡ Some t → TaskAt q h r past heads j (with_at l.made w.k (l.made w.k + 1) j) t
+    was : (i j : ℕ) (t : Task) → i ≢ place → slice_get left i ≡ Some j → slice_get state.unfinished i ≡ Some t → TaskAt q h setup past heads j (with_at l.made w.k (l.made w.k + 1) j) t
     was i j t apart at_left at_task =
         let differs : j ≢ w.k = λ e. apart (one_place left i place w.k (left_distinct q past l.completed l.batch) (at_left ∙ ap (λ (n : ℕ). Some n) e) w.at) in
-        task_same q h r past past heads w.k j (l.made j) (with_at l.made w.k (l.made w.k + 1) j) t nothing_new (at_other l.made w.k (l.made w.k + 1) j differs) (a.tasks i j t at_left at_task)
+        task_same q h setup past past heads w.k j (l.made j) (with_at l.made w.k (l.made w.k + 1) j) t nothing_new (at_other l.made w.k (l.made w.k + 1) j differs) (a.tasks i j t at_left at_task)
 
 -- ---- any step
 
 -- where the queue stands after a step of the k-th request
-abbrev StandsAfter : ℕ → Header1 → SplitRing → Moment → ℕ → QueueState → Asked → RequestStep → Type 0
-StandsAfter q h r m k state request step =
-    QueueAt q h r (after_items h (task_items h q k (buffer_of q k m.scene) m.scene.past request step) m.scene).past ((after_items h (task_items h q k (buffer_of q k m.scene) m.scene.past request step) m.scene).heads q)
+abbrev StandsAfter : ℕ → Header1 → QueueSetup → Moment → ℕ → QueueState → Asked → RequestStep → Type 0
+StandsAfter q h setup m k state request step =
+    QueueAt q h setup (after_items h (task_items h q k (buffer_of q k m.scene) m.scene.past request step) m.scene).past ((after_items h (task_items h q k (buffer_of q k m.scene) m.scene.past request step) m.scene).heads q)
     (after_task_step k step (m.lanes q)).phase (after_task_step k step (m.lanes q)).batch (after_task_step k step (m.lanes q)).completed (after_task_step k step (m.lanes q)).made state
 
 -- the last sector of some
@@ -284,13 +285,13 @@ next_put : (h : Header1) (request : Asked) (c p : ℕ) → slice_get (task_steps
 next_put h request c p next = ap (slice_get (task_steps h request)) (let same : suc c ≡ c + 1 = omega arith in same) ∙ next
 
 -- where the queue stands after a look, if any
-abbrev LookStands : ℕ → Header1 → SplitRing → Moment → ℕ → QueueState → Option ℕ → Type 0
-LookStands q h r m k state o =
-    QueueAt q h r (after_items h (look_items q k m.scene.past o) m.scene).past ((after_items h (look_items q k m.scene.past o) m.scene).heads q) (m.lanes q).phase (m.lanes q).batch (m.lanes q).completed (with_at (m.lanes q).made k ((m.lanes q).made k + 1)) state
+abbrev LookStands : ℕ → Header1 → QueueSetup → Moment → ℕ → QueueState → Option ℕ → Type 0
+LookStands q h setup m k state o =
+    QueueAt q h setup (after_items h (look_items q k m.scene.past o) m.scene).past ((after_items h (look_items q k m.scene.past o) m.scene).heads q) (m.lanes q).phase (m.lanes q).batch (m.lanes q).completed (with_at (m.lanes q).made k ((m.lanes q).made k + 1)) state
 
-look_stands : (q : ℕ) (h : Header1) (sizes : ℕ → ℕ) (m : Moment) (r : SplitRing) (state state' : QueueState) (place : ℕ) (v : Values) (w : WorkReady q h sizes m state place) (x : IsLook h w.request ((m.lanes q).made w.k) w.step) → IsPlain h → Good q h m → QueueStands q h r m state → DiskAt h.capacity m.scene.past v
-    → HasWorked (Some v) place w.task (making w) state state' → StandsAfter q h r m w.k state' w.request w.step
-look_stands q h sizes m r state state' place v w x plain good a disk made =
+look_stands : (q : ℕ) (h : Header1) (sizes : ℕ → ℕ) (m : Moment) (setup : QueueSetup) (state state' : QueueState) (place : ℕ) (v : Values) (w : WorkReady q h sizes m state place) (x : IsLook h w.request ((m.lanes q).made w.k) w.step) → IsPlain h → Good q h m → QueueStands q h setup m state → DiskAt h.capacity m.scene.past v
+    → HasWorked (Some v) place w.task (making w) state state' → StandsAfter q h setup m w.k state' w.request w.step
+look_stands q h sizes m setup state state' place v w x plain good a disk made =
     let past : List Entry = m.scene.past in
     let s : ℕ = x.sector + x.place in
     let read : List ℕ = value past s in
@@ -310,11 +311,11 @@ look_stands q h sizes m r state state' place v w x plain good a disk made =
     let put : (p : ℕ) → slice_get (task_steps h w.request) (c + 1) ≡ Some (Put p) → made.sector ≡ slice_range (bytes_read past' q w.k) (512 * p) (512 * p + 512) = λ p next.
     let same : p ≡ x.place = put_place p x.place (sym (step_follows q h sizes m state place w (Look x.place) plain x.next).0.next ∙ next_put h w.request c p next) in
     held ∙ sym whole ∙ ap (λ (n : ℕ). slice_range (bytes_read past' q w.k) (512 * n) (512 * n + 512)) (sym same) in
-    let stands : LookStands q h r m w.k (worked place goes.0 made.sector state) (Some s) = goes_on q h sizes m r state place w past' goes.0 made.sector good a keeps goes.1 goes.2 put in
+    let stands : LookStands q h setup m w.k (worked place goes.0 made.sector state) (Some s) = goes_on q h sizes m setup state place w past' goes.0 made.sector good a keeps goes.1 goes.2 put in
     let found : look_at w.request x.place ≡ Some s = ap (λ (y : Asked). look_at y x.place) x.is ∙ look_is x.sector x.count x.place x.within in
-    subst (λ (y : RequestStep). StandsAfter q h r m w.k state' w.request y) (sym x.next)
-    (subst (λ (o : Option ℕ). LookStands q h r m w.k state' o) (sym found)
-    (subst (λ (t : QueueState). LookStands q h r m w.k t (Some s)) (sym goes.3) stands))
+    subst (λ (y : RequestStep). StandsAfter q h setup m w.k state' w.request y) (sym x.next)
+    (subst (λ (o : Option ℕ). LookStands q h setup m w.k state' o) (sym found)
+    (subst (λ (t : QueueState). LookStands q h setup m w.k t (Some s)) (sym goes.3) stands))
 
 -- no store of what was read comes after these
 no_put : (end state : ℕ) (after : Option RequestStep) (p : ℕ) → Puts end state after → after ≡ Some (Put p) → ⊥
@@ -332,64 +333,64 @@ no_put_act end state after p x next = elim (cases_lt (state + 1) end) [
 no_put_sync : (after : Option RequestStep) (p : ℕ) → after ≡ Some Status → after ≡ Some (Put p) → ⊥
 no_put_sync after p x next = let both : Some Status ≡ Some (Put p) = sym x ∙ next in cc
 
-put_stands : (q : ℕ) (h : Header1) (sizes : ℕ → ℕ) (m : Moment) (r : SplitRing) (state state' : QueueState) (place : ℕ) (v : Values) (w : WorkReady q h sizes m state place) (x : IsPut h w.request ((m.lanes q).made w.k) w.step) → IsPlain h → Good q h m → QueueStands q h r m state
-    → HasWorked (Some v) place w.task (making w) state state' → StandsAfter q h r m w.k state' w.request w.step
-put_stands q h sizes m r state state' place v w x plain good a made =
+put_stands : (q : ℕ) (h : Header1) (sizes : ℕ → ℕ) (m : Moment) (setup : QueueSetup) (state state' : QueueState) (place : ℕ) (v : Values) (w : WorkReady q h sizes m state place) (x : IsPut h w.request ((m.lanes q).made w.k) w.step) → IsPlain h → Good q h m → QueueStands q h setup m state
+    → HasWorked (Some v) place w.task (making w) state state' → StandsAfter q h setup m w.k state' w.request w.step
+put_stands q h sizes m setup state state' place v w x plain good a made =
     let goes : Advances place w.task (making w) made.sector (Put x.place) state state' = subst (λ (y : RequestStep). Advances place w.task (making w) made.sector y state state') x.next made.state in
     let keeps : Keeps q m.scene.past m.scene.past w.k = record { runs = refl; accepts = refl; publishes = refl; requests = refl; sees = λ j apart. refl } in
-    let stands : StandsAfter q h r m w.k (worked place goes.0 made.sector state) w.request (Put x.place) =
-    goes_on q h sizes m r state place w m.scene.past goes.0 made.sector good a keeps goes.1 goes.2 (λ p next. absurd (no_put _ x.place _ p (step_follows q h sizes m state place w (Put x.place) plain x.next) (next_put h w.request ((m.lanes q).made w.k) p next))) in
-    subst (λ (y : RequestStep). StandsAfter q h r m w.k state' w.request y) (sym x.next) (subst (λ (t : QueueState). StandsAfter q h r m w.k t w.request (Put x.place)) (sym goes.3) stands)
+    let stands : StandsAfter q h setup m w.k (worked place goes.0 made.sector state) w.request (Put x.place) =
+    goes_on q h sizes m setup state place w m.scene.past goes.0 made.sector good a keeps goes.1 goes.2 (λ p next. absurd (no_put _ x.place _ p (step_follows q h sizes m state place w (Put x.place) plain x.next) (next_put h w.request ((m.lanes q).made w.k) p next))) in
+    subst (λ (y : RequestStep). StandsAfter q h setup m w.k state' w.request y) (sym x.next) (subst (λ (t : QueueState). StandsAfter q h setup m w.k t w.request (Put x.place)) (sym goes.3) stands)
 
 -- where the queue stands after an act, if any
-abbrev ActStands : ℕ → Header1 → SplitRing → Moment → ℕ → QueueState → Option SectorValue → Type 0
-ActStands q h r m k state o =
-    QueueAt q h r (after_items h (act_items q k o) m.scene).past ((after_items h (act_items q k o) m.scene).heads q) (m.lanes q).phase (m.lanes q).batch (m.lanes q).completed (with_at (m.lanes q).made k ((m.lanes q).made k + 1)) state
+abbrev ActStands : ℕ → Header1 → QueueSetup → Moment → ℕ → QueueState → Option SectorValue → Type 0
+ActStands q h setup m k state o =
+    QueueAt q h setup (after_items h (act_items q k o) m.scene).past ((after_items h (act_items q k o) m.scene).heads q) (m.lanes q).phase (m.lanes q).batch (m.lanes q).completed (with_at (m.lanes q).made k ((m.lanes q).made k + 1)) state
 
-act_stands : (q : ℕ) (h : Header1) (sizes : ℕ → ℕ) (m : Moment) (r : SplitRing) (state state' : QueueState) (place : ℕ) (v : Values) (w : WorkReady q h sizes m state place) (x : IsAct h w.request ((m.lanes q).made w.k) w.step) → IsPlain h → Good q h m → QueueStands q h r m state
-    → HasWorked (Some v) place w.task (making w) state state' → StandsAfter q h r m w.k state' w.request w.step
-act_stands q h sizes m r state state' place v w x plain good a made =
+act_stands : (q : ℕ) (h : Header1) (sizes : ℕ → ℕ) (m : Moment) (setup : QueueSetup) (state state' : QueueState) (place : ℕ) (v : Values) (w : WorkReady q h sizes m state place) (x : IsAct h w.request ((m.lanes q).made w.k) w.step) → IsPlain h → Good q h m → QueueStands q h setup m state
+    → HasWorked (Some v) place w.task (making w) state state' → StandsAfter q h setup m w.k state' w.request w.step
+act_stands q h sizes m setup state state' place v w x plain good a made =
     let goes : Advances place w.task (making w) made.sector (Act x.place) state state' = subst (λ (y : RequestStep). Advances place w.task (making w) made.sector y state state') x.next made.state in
     let none : (p : ℕ) → slice_get (task_steps h w.request) ((m.lanes q).made w.k + 1) ≡ Some (Put p) → ⊥ = λ p next. no_put_act _ x.place _ p (step_follows q h sizes m state place w (Act x.place) plain x.next).0 (next_put h w.request ((m.lanes q).made w.k) p next) in
-    let each : (o : Option SectorValue) → ActStands q h r m w.k (worked place goes.0 made.sector state) o = elim [
+    let each : (o : Option SectorValue) → ActStands q h setup m w.k (worked place goes.0 made.sector state) o = elim [
       | None ↦
           let keeps : Keeps q m.scene.past m.scene.past w.k = record { runs = refl; accepts = refl; publishes = refl; requests = refl; sees = λ j apart. refl } in
-          goes_on q h sizes m r state place w m.scene.past goes.0 made.sector good a keeps goes.1 goes.2 (λ p next. absurd (none p next))
+          goes_on q h sizes m setup state place w m.scene.past goes.0 made.sector good a keeps goes.1 goes.2 (λ p next. absurd (none p next))
       | Some e ↦
           let past' : List Entry = entries.Act q w.k e.sector e.value ∷ m.scene.past in
           let keeps : Keeps q m.scene.past past' w.k = record { runs = refl; accepts = refl; publishes = refl; requests = refl; sees = λ j apart. refl } in
-          goes_on q h sizes m r state place w past' goes.0 made.sector good a keeps goes.1 goes.2 (λ p next. absurd (none p next))
+          goes_on q h sizes m setup state place w past' goes.0 made.sector good a keeps goes.1 goes.2 (λ p next. absurd (none p next))
     ] in
-    subst (λ (y : RequestStep). StandsAfter q h r m w.k state' w.request y) (sym x.next) (subst (λ (t : QueueState). ActStands q h r m w.k t (effect_at w.request x.place)) (sym goes.3) (each (effect_at w.request x.place)))
+    subst (λ (y : RequestStep). StandsAfter q h setup m w.k state' w.request y) (sym x.next) (subst (λ (t : QueueState). ActStands q h setup m w.k t (effect_at w.request x.place)) (sym goes.3) (each (effect_at w.request x.place)))
 
-sync_stands : (q : ℕ) (h : Header1) (sizes : ℕ → ℕ) (m : Moment) (r : SplitRing) (state state' : QueueState) (place : ℕ) (v : Values) (w : WorkReady q h sizes m state place) (x : IsSync h w.request ((m.lanes q).made w.k) w.step) → IsPlain h → Good q h m → QueueStands q h r m state
-    → HasWorked (Some v) place w.task (making w) state state' → StandsAfter q h r m w.k state' w.request w.step
-sync_stands q h sizes m r state state' place v w x plain good a made =
+sync_stands : (q : ℕ) (h : Header1) (sizes : ℕ → ℕ) (m : Moment) (setup : QueueSetup) (state state' : QueueState) (place : ℕ) (v : Values) (w : WorkReady q h sizes m state place) (x : IsSync h w.request ((m.lanes q).made w.k) w.step) → IsPlain h → Good q h m → QueueStands q h setup m state
+    → HasWorked (Some v) place w.task (making w) state state' → StandsAfter q h setup m w.k state' w.request w.step
+sync_stands q h sizes m setup state state' place v w x plain good a made =
     let goes : Advances place w.task (making w) made.sector Sync state state' = subst (λ (y : RequestStep). Advances place w.task (making w) made.sector y state state') x.next made.state in
     let past' : List Entry = entries.Sync q w.k ∷ m.scene.past in
     let keeps : Keeps q m.scene.past past' w.k = record { runs = refl; accepts = refl; publishes = refl; requests = refl; sees = λ j apart. refl } in
-    let stands : StandsAfter q h r m w.k (worked place goes.0 made.sector state) w.request Sync =
-    goes_on q h sizes m r state place w past' goes.0 made.sector good a keeps goes.1 goes.2 (λ p next. absurd (no_put_sync _ p (step_follows q h sizes m state place w Sync plain x.next) (next_put h w.request ((m.lanes q).made w.k) p next))) in
-    subst (λ (y : RequestStep). StandsAfter q h r m w.k state' w.request y) (sym x.next) (subst (λ (t : QueueState). StandsAfter q h r m w.k t w.request Sync) (sym goes.3) stands)
+    let stands : StandsAfter q h setup m w.k (worked place goes.0 made.sector state) w.request Sync =
+    goes_on q h sizes m setup state place w past' goes.0 made.sector good a keeps goes.1 goes.2 (λ p next. absurd (no_put_sync _ p (step_follows q h sizes m state place w Sync plain x.next) (next_put h w.request ((m.lanes q).made w.k) p next))) in
+    subst (λ (y : RequestStep). StandsAfter q h setup m w.k state' w.request y) (sym x.next) (subst (λ (t : QueueState). StandsAfter q h setup m w.k t w.request Sync) (sym goes.3) stands)
 
-last_stands : (q : ℕ) (h : Header1) (sizes : ℕ → ℕ) (m : Moment) (r : SplitRing) (state state' : QueueState) (place : ℕ) (v : Values) (w : WorkReady q h sizes m state place) → w.step ≡ Status → Good q h m → QueueStands q h r m state
-    → HasWorked (Some v) place w.task (making w) state state' → StandsAfter q h r m w.k state' w.request w.step
-last_stands q h sizes m r state state' place v w last good a made =
+last_stands : (q : ℕ) (h : Header1) (sizes : ℕ → ℕ) (m : Moment) (setup : QueueSetup) (state state' : QueueState) (place : ℕ) (v : Values) (w : WorkReady q h sizes m state place) → w.step ≡ Status → Good q h m → QueueStands q h setup m state
+    → HasWorked (Some v) place w.task (making w) state state' → StandsAfter q h setup m w.k state' w.request w.step
+last_stands q h sizes m setup state state' place v w last good a made =
     let goes : Advances place w.task (making w) made.sector Status state state' = subst (λ (y : RequestStep). Advances place w.task (making w) made.sector y state state') last made.state in
-    let stands : StandsAfter q h r m w.k (done_at place (head_in w.task) (used_len (status_of h w.request) w.request) made.sector state) w.request Status = finished q h sizes m r state place w made.sector good a in
-    subst (λ (y : RequestStep). StandsAfter q h r m w.k state' w.request y) (sym last) (subst (λ (t : QueueState). StandsAfter q h r m w.k t w.request Status) (sym goes) stands)
+    let stands : StandsAfter q h setup m w.k (done_at place (head_in w.task) (used_len (status_of h w.request) w.request) made.sector state) w.request Status = finished q h sizes m setup state place w made.sector good a in
+    subst (λ (y : RequestStep). StandsAfter q h setup m w.k state' w.request y) (sym last) (subst (λ (t : QueueState). StandsAfter q h setup m w.k t w.request Status) (sym goes) stands)
 
-step_stands : (q : ℕ) (h : Header1) (sizes : ℕ → ℕ) (m : Moment) (r : SplitRing) (state state' : QueueState) (place : ℕ) (v : Values) (w : WorkReady q h sizes m state place) → IsPlain h → Good q h m → QueueStands q h r m state → DiskAt h.capacity m.scene.past v
-    → HasWorked (Some v) place w.task (making w) state state' → Kind h w.request ((m.lanes q).made w.k) w.step → StandsAfter q h r m w.k state' w.request w.step
-step_stands q h sizes m r state state' place v w plain good a disk made (inl x) = look_stands q h sizes m r state state' place v w x plain good a disk made
-step_stands q h sizes m r state state' place v w plain good a disk made (inr (inl x)) = put_stands q h sizes m r state state' place v w x plain good a made
-step_stands q h sizes m r state state' place v w plain good a disk made (inr (inr (inl x))) = act_stands q h sizes m r state state' place v w x plain good a made
-step_stands q h sizes m r state state' place v w plain good a disk made (inr (inr (inr (inl x)))) = sync_stands q h sizes m r state state' place v w x plain good a made
-step_stands q h sizes m r state state' place v w plain good a disk made (inr (inr (inr (inr x)))) = last_stands q h sizes m r state state' place v w x.next good a made
+step_stands : (q : ℕ) (h : Header1) (sizes : ℕ → ℕ) (m : Moment) (setup : QueueSetup) (state state' : QueueState) (place : ℕ) (v : Values) (w : WorkReady q h sizes m state place) → IsPlain h → Good q h m → QueueStands q h setup m state → DiskAt h.capacity m.scene.past v
+    → HasWorked (Some v) place w.task (making w) state state' → Kind h w.request ((m.lanes q).made w.k) w.step → StandsAfter q h setup m w.k state' w.request w.step
+step_stands q h sizes m setup state state' place v w plain good a disk made (inl x) = look_stands q h sizes m setup state state' place v w x plain good a disk made
+step_stands q h sizes m setup state state' place v w plain good a disk made (inr (inl x)) = put_stands q h sizes m setup state state' place v w x plain good a made
+step_stands q h sizes m setup state state' place v w plain good a disk made (inr (inr (inl x))) = act_stands q h sizes m setup state state' place v w x plain good a made
+step_stands q h sizes m setup state state' place v w plain good a disk made (inr (inr (inr (inl x)))) = sync_stands q h sizes m setup state state' place v w x plain good a made
+step_stands q h sizes m setup state state' place v w plain good a disk made (inr (inr (inr (inr x)))) = last_stands q h sizes m setup state state' place v w x.next good a made
 
 -- where the queue stands after a turn of work
-pub work_stands : (q : ℕ) (h : Header1) (sizes : ℕ → ℕ) (m : Moment) (r : SplitRing) (state state' : QueueState) (place : ℕ) (v : Values) (w : WorkReady q h sizes m state place) → IsPlain h → Good q h m → QueueStands q h r m state → DiskAt h.capacity m.scene.past v
-    → HasWorked (Some v) place w.task (making w) state state' → QueueStands q h r (one_turn h q (turns.Work place) m).next state'
-work_stands q h sizes m r state state' place v w plain good a disk made =
-    stands_after q h r m (turns.Work place) state' (subst (λ (t : Turned). QueueAt q h r (after_items h t.items m.scene).past ((after_items h t.items m.scene).heads q) t.lane.phase t.lane.batch t.lane.completed t.lane.made state') (sym (work_turned q h sizes m state place w))
-    (step_stands q h sizes m r state state' place v w plain good a disk made (work_kind q h sizes m state place w plain good)))
+pub work_stands : (q : ℕ) (h : Header1) (sizes : ℕ → ℕ) (m : Moment) (setup : QueueSetup) (state state' : QueueState) (place : ℕ) (v : Values) (w : WorkReady q h sizes m state place) → IsPlain h → Good q h m → QueueStands q h setup m state → DiskAt h.capacity m.scene.past v
+    → HasWorked (Some v) place w.task (making w) state state' → QueueStands q h setup (one_turn h q (turns.Work place) m).next state'
+work_stands q h sizes m setup state state' place v w plain good a disk made =
+    stands_after q h setup m (turns.Work place) state' (subst (λ (t : Turned). QueueAt q h setup (after_items h t.items m.scene).past ((after_items h t.items m.scene).heads q) t.lane.phase t.lane.batch t.lane.completed t.lane.made state') (sym (work_turned q h sizes m state place w))
+    (step_stands q h sizes m setup state state' place v w plain good a disk made (work_kind q h sizes m state place w plain good)))

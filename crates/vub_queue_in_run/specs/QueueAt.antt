@@ -12,9 +12,12 @@ use Rattle.vub_steps.specs.Tasks.{Put, task_steps}
 use Rattle.vub_run.specs.Moments.{Moment, open_heads}
 use Rattle.vub_run.specs.Turns.{len_of}
 use Rattle.vub_queue.specs.QueueParts.{is_taken}
-use Rattle.vub_queue.specs.QueueState.{QueueState}
+use Rattle.vub_queue.specs.QueueState.{QueueState, QueueLies, IsNew, state_of}
 use Rattle.vub_task.specs.TaskState.{IsTaskAt, head_in}
-use Rattle.vub_split.specs.declared.split.SplitRing.{SplitRing}
+use Rattle.vub_queue.specs.declared.queue.Queue.{Queue}
+use Rattle.vub_queue.specs.declared.queue.QueueSetup.{QueueSetup}
+use Rattle.vub_queue.specs.Queue.{ring_in}
+use Rattle.vub_split.specs.Split.{RingLies}
 use Rattle.vub_task.specs.declared.task.Task.{Task}
 use Rattle.vub_facts.specs.Facts.{Words}
 use Rattle.vub_facts.specs.Held.{State, Held}
@@ -46,42 +49,60 @@ abbrev pub left_of : ℕ → List Entry → List ℕ → List ℕ → List ℕ
 left_of q past completed batch = filter (λ k. not (is_among (completed ++ batch) k)) (open_numbers past q)
 
 -- the task of the k-th request, of which so many steps were made
-pub record TaskAt (q : ℕ) (h : Header1) (r : SplitRing) (past : List Entry) (heads : List ℕ) (k made : ℕ) (task : Task) : Type 0 where
+pub record TaskAt (q : ℕ) (h : Header1) (setup : QueueSetup) (past : List Entry) (heads : List ℕ) (k made : ℕ) (task : Task) : Type 0 where
   pub head : head_in task ≡ slice_index heads k
-  pub stands : (request : Asked) → asked past q k ≡ Some request → IsTaskAt h r (buffer_place (area_place q) (slice_index heads k)) request made task
+  pub stands : (request : Asked) → asked past q k ≡ Some request → IsTaskAt h setup.ring (buffer_place (area_place q) (slice_index heads k)) request made task
 
-pub record QueueAt (q : ℕ) (h : Header1) (r : SplitRing) (past : List Entry) (heads : List ℕ) (at_phase : Phase) (in_batch ready : List ℕ) (made : ℕ → ℕ) (state : QueueState) : Type 0 where
-  pub ring : state.ring ≡ r
+pub record QueueAt (q : ℕ) (h : Header1) (setup : QueueSetup) (past : List Entry) (heads : List ℕ) (at_phase : Phase) (in_batch ready : List ℕ) (made : ℕ → ℕ) (state : QueueState) : Type 0 where
+  pub ring : state.ring ≡ setup.ring
   pub runs : state.stopped ≡ None
   pub started : state.started ≡ started past q
   pub used : state.next_used ≡ (h.base + length (published past q)) % 65536
   pub phase : state.phase ≡ at_phase
   pub batch : state.batch ≡ map (spot_of q h past heads) in_batch
   pub completed : state.completed ≡ map (spot_of q h past heads) ready
-  pub keeps : KeepsHeads r.size (open_heads q past heads) state
+  pub keeps : KeepsHeads setup.ring.size (open_heads q past heads) state
   -- the tasks of the requests that are left, in order
-  pub tasks : (i k : ℕ) (task : Task) → slice_get (left_of q past ready in_batch) i ≡ Some k → slice_get state.unfinished i ≡ Some task → TaskAt q h r past heads k (made k) task
+  pub tasks : (i k : ℕ) (task : Task) → slice_get (left_of q past ready in_batch) i ≡ Some k → slice_get state.unfinished i ≡ Some task → TaskAt q h setup past heads k (made k) task
   -- between a look and its store, what was read stands at the head
-  pub buffers : length state.sectors ≡ r.size
-  pub places : length state.taken ≡ r.size
+  pub buffers : length state.sectors ≡ setup.ring.size
+  pub places : length state.taken ≡ setup.ring.size
   pub sectors : (k place : ℕ) (request : Asked) → is_among (left_of q past ready in_batch) k ≡ true → asked past q k ≡ Some request → slice_get (task_steps h request) (made k) ≡ Some (Put place)
       → get_or state.sectors (slice_index heads k) [] ≡ slice_range (bytes_read past q k) (512 * place) (512 * place + 512)
 
 -- ---- at a moment
 
 -- the queue stands where its lane of the moment does
-abbrev pub QueueStands : ℕ → Header1 → SplitRing → Moment → QueueState → Type 0
-QueueStands q h r m state = QueueAt q h r m.scene.past (m.scene.heads q) (m.lanes q).phase (m.lanes q).batch (m.lanes q).completed (m.lanes q).made state
+abbrev pub QueueStands : ℕ → Header1 → QueueSetup → Moment → QueueState → Type 0
+QueueStands q h setup m state = QueueAt q h setup m.scene.past (m.scene.heads q) (m.lanes q).phase (m.lanes q).batch (m.lanes q).completed (m.lanes q).made state
 
--- a ring of n places that lies in guest memory as that of queue q does
-pub record LiesAs (q : ℕ) (r : SplitRing) (n : ℕ) : Type 0 where
-  pub desc_space : r.desc.0.number ≡ 0
-  pub avail_space : r.avail.0.number ≡ 0
-  pub used_space : r.used.0.number ≡ 0
-  pub desc : r.desc.1 ≡ area_place q
-  pub avail : r.avail.1 ≡ area_place q + 4096
-  pub used : r.used.1 ≡ area_place q + 8192
-  pub size : r.size ≡ n
+-- ---- the set-up of a queue
+
+-- its rings have n places and lie in guest memory as those of queue q do
+pub record LiesAs (q : ℕ) (setup : QueueSetup) (n : ℕ) : Type 0 where
+  pub desc_space : setup.ring.desc.0.number ≡ 0
+  pub avail_space : setup.ring.avail.0.number ≡ 0
+  pub used_space : setup.ring.used.0.number ≡ 0
+  pub desc : setup.ring.desc.1 ≡ area_place q
+  pub avail : setup.ring.avail.1 ≡ area_place q + 4096
+  pub used : setup.ring.used.1 ≡ area_place q + 8192
+  pub size : setup.ring.size ≡ n
+
+-- its rings lie in shared memory, whose spaces have these sizes
+abbrev pub SetupLies : (ℕ → ℕ) → QueueSetup → Type 0
+SetupLies sizes setup = RingLies sizes setup.ring
+
+-- a queue is on the rings of the set-up
+abbrev pub IsOn : QueueSetup → Queue → Type 0
+IsOn setup queue = ring_in queue ≡ setup.ring
+
+-- it isn't started
+pub record IsNewQueue (setup : QueueSetup) (queue : Queue) : Type 0 where
+  pub ring : IsOn setup queue
+  pub state : IsNew setup.ring setup.base (state_of queue)
+  pub lies : (sizes : ℕ → ℕ) (capacity : ℕ) → SetupLies sizes setup → QueueLies sizes capacity (state_of queue)
+
+-- ---- the disk
 
 -- the disk's values are those of the history
 abbrev pub DiskAt : ℕ → List Entry → Values → Type 0

@@ -1,10 +1,11 @@
 -- A used element that the driver takes, on a split ring.
-use Rattle.std.proofs.Common.{◌≡◌, ◌≢◌, ◌≤◌, ◌<◌, ℕ, zero, suc, ◌+◌, ◌%◌, Bool, false, List, cond, ◌∷◌, length, refl, ap, sym, ◌∙◌, arith}
-use Rattle.std.specs.Prelude.{Option, Some, None, ◌==◌, slice_index}
+use Rattle.std.proofs.Common.{◌≡◌, ◌≢◌, ◌≤◌, ◌<◌, ℕ, zero, suc, ◌+◌, ◌*◌, ◌%◌, Bool, false, List, cond, ◌∷◌, length, refl, ap, sym, ◌∙◌, arith}
+use Rattle.std.specs.Prelude.{Option, Some, None, [], ◌==◌, slice_index}
 use Rattle.std.proofs.lemmas.Bool.Decides.{nat_tests}
 use Rattle.vub_base.specs.declared.header.Header1.{Header1}
-use Rattle.vub_shared.specs.Bytes.{Bytes}
+use Rattle.vub_shared.specs.Bytes.{Bytes, word}
 use Rattle.vub_ring.specs.Ring.{Ring, ahead, seen, used_idx, element_at, elements_from}
+use Rattle.vub_driver.specs.Shown.{ShowsNext}
 use Rattle.vub_driver.specs.Drivers.{Driver, Waiting, is_head, after_collect, is_that, without_owner}
 use Rattle.vub_device.specs.Past.{published, collected}
 use Rattle.vub_device.specs.declared.entry.Entry.TheVariants as entries
@@ -86,6 +87,51 @@ first_seen q h s l x xs good holds e =
     let more : c < length (published s.past q) = omega arith in
     let is : x ≡ spot q (s.heads q) s.past (slice_index (published s.past q) c) = sym first.1 ∙ holds.queue.ringed.used_at c (omega arith) more in
     record { good = good; holds = holds; more = more; head = ap (λ (p : ℕ × ℕ). p.0) is }
+
+-- ---- what a collection finds
+
+-- an index counts modulo 65536
+same_element : (r : Ring) (m : Bytes) (p : ℕ) → element_at r m (p % 65536) ≡ element_at r m p
+same_element r m p =
+    let e : (p % 65536) % 65536 ≡ p % 65536 = omega arith in
+    ap (λ (i : ℕ). (word 4 m r.space (r.used + (4 + 8 * (i % r.size))), word 4 m r.space (r.used + (8 + 8 * (i % r.size))))) e
+
+some_elements : (r : Ring) (m : Bytes) (k d : ℕ) → 0 < k → (xs : List (ℕ × ℕ)) × (elements_from r m k d ≡ element_at r m d ∷ xs)
+some_elements r m zero d some = absurd (omega arith)
+some_elements r m (suc k) d some = (elements_from r m k (d + 1), refl)
+
+-- where none is shown at the driver's position, it sees none
+pub none_seen : (q : ℕ) (h : Header1) (s : Scene) (position : ℕ) → position ≡ (h.base + collected s.past q) % 65536 → ShowsNext None (the_ring q h.size) s.memory position → seen (the_ring q h.size) s.memory (h.base + collected s.past q) ≡ []
+none_seen q h s position at shown =
+    let p : ℕ = h.base + collected s.past q in
+    let none : ahead (used_idx (the_ring q h.size) s.memory) p ≡ 0 = omega (arith, shown, at) in
+    ap (λ (k : ℕ). elements_from (the_ring q h.size) s.memory k p) none
+
+-- the first element that the driver sees names this head, and that of the number that is collected next
+pub record SeesFirst (q : ℕ) (h : Header1) (s : Scene) (l : Lane) (head : ℕ) : Type 0 where
+  pub first : ℕ × ℕ
+  pub rest : List (ℕ × ℕ)
+  pub sees : seen (the_ring q h.size) s.memory (h.base + collected s.past q) ≡ first ∷ rest
+  pub taken : IsTaken q h s l first.0
+  pub head_is : head ≡ first.0
+
+pub shown_seen : (q : ℕ) (h : Header1) (s : Scene) (l : Lane) (position head : ℕ) → IsGood h → Holds q h s l → position ≡ (h.base + collected s.past q) % 65536 → ShowsNext (Some head) (the_ring q h.size) s.memory position → SeesFirst q h s l head
+shown_seen q h s l position head good holds at shown =
+    let r : Ring = the_ring q h.size in
+    let p : ℕ = h.base + collected s.past q in
+    let u : ℕ = used_idx r s.memory in
+    let x : ℕ × ℕ = element_at r s.memory p in
+    let index : u ≡ (h.base + length (published s.past q)) % 65536 = holds.queue.ringed.used_idx_is in
+    let apart : u ≢ p % 65536 = λ same. shown.0 (same ∙ sym at) in
+    let far : 0 < ahead u p = omega (arith, index, apart) in
+    let some = some_elements r s.memory (ahead u p) p far in
+    let taken : IsTaken q h s l x.0 = first_seen q h s l x some.0 good holds some.1 in
+    let low : slice_index (s.heads q) (next_number q s) < h.size = holds.queue.driven.below (next_number q s) (next_out q h s l x.0 taken) in
+    let small : h.size ≤ 64 = good.size.small in
+    let read : (element_at r s.memory position).0 ≡ x.0 = ap (λ (i : ℕ). (element_at r s.memory i).0) at ∙ ap (λ (y : ℕ × ℕ). y.0) (same_element r s.memory p) in
+    record { first = x; rest = some.0; sees = some.1; taken = taken; head_is = omega (arith, shown.1, read, taken.head, low, small) }
+
+-- ---- a collection
 
 pub taken_facts : (q : ℕ) (h : Header1) (s : Scene) (l : Lane) (x k : ℕ) → IsTaken q h s l x → QueueFacts q h (record s { past = entries.Collect q k ∷ s.past }) (record l.driver { owner = without_owner x l.driver.owner }) l.batch l.phase
 taken_facts q h s l x k t =

@@ -1,6 +1,6 @@
 -- What is known of a queue, and what each step of the driver and of the device leaves of it.
 use Rattle.std.proofs.Common.{◌≡◌, ◌<◌, ℕ, ◌+◌, ◌*◌, true, List, [], ◌∷◌, ◌++◌, length, ap, sym, ◌∙◌, subst, arith, ◌%◌, ◌≤◌}
-use Rattle.std.specs.Prelude.{Option, Some, slice_index, slice_get}
+use Rattle.std.specs.Prelude.{Option, Some, None, slice_index, slice_get}
 use Rattle.vub_base.specs.declared.header.Header1.{Header1}
 use Rattle.vub_shared.specs.Bytes.{Bytes, put}
 use Rattle.vub_shared.specs.Stores.{Store}
@@ -8,6 +8,7 @@ use Rattle.vub_steps.specs.declared.steps.Phase.{Phase}
 use Rattle.vub_steps.specs.declared.steps.Phase.TheVariants as phases
 use Rattle.vub_steps.specs.Steps.{publish_steps}
 use Rattle.vub_ring.specs.Ring.{used_idx, ahead, avail_idx, head_at, seen}
+use Rattle.vub_driver.specs.Shown.{ShowsNext}
 use Rattle.vub_driver.specs.Drivers.{Driver, Waiting, without_owner, after_collect, can_take, after_ask}
 use Rattle.vub_device.specs.declared.entry.Asked.{Asked}
 use Rattle.vub_device.specs.declared.entry.Entry.{Entry}
@@ -33,7 +34,8 @@ use Rattle.vub_base.specs.declared.request.Shape.TheVariants.{Direct}
 use Rattle.vub_run_laws.proofs.RunTaken.{IsTaken}
 use Rattle.vub_run_laws.proofs.RingOpening.{open_facts}
 use Rattle.vub_run_laws.proofs.RingAsks.{ask_facts}
-use Rattle.vub_run_laws.proofs.RingCollects.{first_seen, after_taken, taken_facts}
+use Rattle.vub_run_laws.proofs.RingCollects.{first_seen, after_taken, taken_facts, none_seen, shown_seen}
+pub use Rattle.vub_run_laws.proofs.RingCollects.{SeesFirst}
 use Rattle.vub_run_laws.proofs.RingOffers.{offer_room}
 use Rattle.vub_device.specs.declared.entry.Entry.TheVariants as entries
 use Rattle.vub_steps.specs.declared.steps.Step.{Step}
@@ -75,6 +77,16 @@ queue_free q h s l x t = after_taken q h s l x t
 -- a collection
 pub queue_collect : (q : ℕ) (h : Header1) (s : Scene) (l : Lane) (x k : ℕ) → IsTaken q h s l x → QueueFacts q h (record s { past = entries.Collect q k ∷ s.past }) (record l.driver { owner = without_owner x l.driver.owner }) l.batch l.phase
 queue_collect q h s l x k t = taken_facts q h s l x k t
+
+-- ---- what a collection finds
+
+-- none at the driver's position: it sees none
+pub queue_none : (q : ℕ) (h : Header1) (s : Scene) (position : ℕ) → position ≡ (h.base + collected s.past q) % 65536 → ShowsNext None (the_ring q h.size) s.memory position → sees q h s ≡ []
+queue_none q h s position at shown = none_seen q h s position at shown
+
+-- a head: that of the first element that it sees
+pub queue_shown : (q : ℕ) (h : Header1) (s : Scene) (l : Lane) (position head : ℕ) → IsGood h → Holds q h s l → position ≡ (h.base + collected s.past q) % 65536 → ShowsNext (Some head) (the_ring q h.size) s.memory position → SeesFirst q h s l head
+queue_shown q h s l position head good holds at shown = shown_seen q h s l position head good holds at shown
 
 -- ---- phases
 

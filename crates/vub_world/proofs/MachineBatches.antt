@@ -13,7 +13,7 @@ use Rattle.vub_device.specs.declared.entry.Asked.TheVariants as asks
 use Rattle.vub_device.specs.Past.{asked, is_among}
 use Rattle.vub_world.specs.declared.outstanding.OutstandingRequests.{OutstandingRequests}
 use Rattle.vub_world.specs.declared.outstanding.OutstandingRequest.{OutstandingRequest}
-use Rattle.vub_split.specs.declared.split.SplitRing.{SplitRing}
+use Rattle.vub_queue.specs.declared.queue.QueueSetup.{QueueSetup}
 use Rattle.vub_world.specs.OutstandingRequests.{size_in, slot_in}
 use Rattle.vub_world.specs.MachineAt.{OutstandingAt, reads_of}
 use Rattle.vub_world.specs.MachineDevice.{BatchFits, ShowsSome, is_index}
@@ -21,7 +21,7 @@ use Rattle.vub_run.specs.Moments.{Moment}
 use Rattle.vub_queue_in_run.specs.QueueAt.{QueueStands, spot_of}
 use Rattle.vub_queue.specs.QueueState.{course_in, QueueState}
 use Rattle.vub_world.proofs.MachineTurns.{among_right}
-use Rattle.vub_run_laws.proofs.RunQueue.{phase_at}
+use Rattle.vub_run_laws.proofs.RunQueue.{phase_at, head_below}
 use Rattle.vub_run_laws.proofs.RunFrames.{open_out}
 use Rattle.vub_run_laws.proofs.RunGood.{IsWide, PhaseIs, IsOut}
 use Rattle.vub_facts.proofs.HeadLemmas.{among_get}
@@ -35,8 +35,8 @@ phase_shows batch course (phases.Start done) is shows = absurd is
 phase_shows batch course (phases.Fetch done) is shows = absurd is
 phase_shows batch course (phases.Publish done) is shows = is.0
 
-pub queue_shows_some : (q : ℕ) (h : Header1) (r : SplitRing) (m : Moment) (state : QueueState) → Good q h m → QueueStands q h r m state → ShowsSome state
-queue_shows_some q h r m state good at shows =
+pub queue_shows_some : (q : ℕ) (h : Header1) (setup : QueueSetup) (m : Moment) (state : QueueState) → Good q h m → QueueStands q h setup m state → ShowsSome state
+queue_shows_some q h setup m state good at shows =
     let lane = m.lanes q in
     let here : is_index (next_step (course_in state) lane.phase) ≡ true = ap (λ (p : Phase). is_index (next_step (course_in state) p)) (sym at.phase) ∙ shows in
     let some : 0 < length lane.batch = phase_shows lane.batch (course_in state) lane.phase (phase_at q h m.scene (m.lanes q) good.holds) here in
@@ -54,8 +54,8 @@ few_reads cap (Some (asks.Discard parts)) is = absurd is
 few_reads cap (Some (asks.Zero parts)) is = absurd is
 few_reads cap None is = absurd is
 
-pub queue_batch_fits : (q : ℕ) (h : Header1) (r : SplitRing) (m : Moment) (state : QueueState) (outstanding : OutstandingRequests) → h.size ≤ 64 → Good q h m → QueueStands q h r m state → OutstandingAt q h.size m.scene.past (m.scene.heads q) outstanding → BatchFits outstanding state.batch
-queue_batch_fits q h r m state outstanding small good at numbered i x found =
+pub queue_batch_fits : (q : ℕ) (h : Header1) (setup : QueueSetup) (m : Moment) (state : QueueState) (outstanding : OutstandingRequests) → h.size ≤ 64 → Good q h m → QueueStands q h setup m state → OutstandingAt q h.size m.scene.past (m.scene.heads q) outstanding → BatchFits outstanding state.batch
+queue_batch_fits q h setup m state outstanding small good at numbered i x found =
     let lane = m.lanes q in
     let past = m.scene.past in
     let heads = m.scene.heads q in
@@ -73,7 +73,7 @@ queue_batch_fits q h r m state outstanding small good at numbered i x found =
         let head : x.0 ≡ slice_index heads k = sym (ap (λ (y : ℕ × ℕ). y.0) same) in
         let among : is_among ((m.lanes q).completed ++ (m.lanes q).batch) k ≡ true = among_right (m.lanes q).completed (m.lanes q).batch k (among_get (m.lanes q).batch i k here) in
         let out : IsOut q past heads k = open_out q h.size h.capacity past heads k holds.known (holds.worked.opens k among) in
-        let below : slice_index heads k < h.size = holds.queue.driven.below k out in
+        let below : slice_index heads k < h.size = head_below q h m.scene (m.lanes q).driver (m.lanes q).batch (m.lanes q).phase k holds.queue out in
         let slot : (slot_in outstanding x.0).reads ≡ reads_of (asked past q k) = ap (λ (d : ℕ). (slot_in outstanding d).reads) head ∙ ap (λ (o : OutstandingRequest). o.reads) (numbered.slots k out.below out.kept) in
         let few : reads_of (asked past q k) ≤ 8 = few_reads h.capacity (asked past q k) (holds.known.wide k out.below) in
         (omega (arith, below, head, small), omega (arith, below, head, numbered.places), omega (arith, slot, few))

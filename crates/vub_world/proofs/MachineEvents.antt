@@ -11,7 +11,7 @@ use Rattle.vub_world.specs.declared.machine.Machine.{Machine}
 use Rattle.vub_queue.specs.declared.queue.Queue.{Queue}
 use Rattle.vub_report.specs.declared.items.Item.{Item}
 use Rattle.vub_report.specs.declared.items.Record.{Record}
-use Rattle.vub_split.specs.declared.split.SplitRing.{SplitRing}
+use Rattle.vub_queue.specs.declared.queue.QueueSetup.{QueueSetup}
 use Rattle.vub_world.specs.Fronts.{offers_in}
 use Rattle.vub_world.specs.Lives.{life_of, queue_of}
 use Rattle.vub_world.specs.Machine.{IsSound, AreAttached, AreInLife}
@@ -40,11 +40,11 @@ none_past [] q none less = omega (arith, less)
 none_past (x ∷ qs) zero none less = cc none
 none_past (x ∷ qs) (suc q) none less = none_past qs q none (omega (arith, less))
 
-attached_with : {Z : Type 0} (h : Header1) (q count : ℕ) (r : SplitRing) (m : Moment) (o : Option (Vec Queue Z)) → AreAttached count o → q < count → is_some o ≡ true → LifeAt q h r m (Some (queue_of q o)) → (m.lanes q).attached ≡ true
-attached_with h q count r m None many low is at = absurd (cc is)
-attached_with h q count r m (Some qs) many low is at = go (slice_get qs.items q) refl at
+attached_with : {Z : Type 0} (h : Header1) (q count : ℕ) (setup : QueueSetup) (m : Moment) (o : Option (Vec Queue Z)) → AreAttached count o → q < count → is_some o ≡ true → LifeAt q h setup m (Some (queue_of q o)) → (m.lanes q).attached ≡ true
+attached_with h q count setup m None many low is at = absurd (cc is)
+attached_with h q count setup m (Some qs) many low is at = go (slice_get qs.items q) refl at
   where
-    go : (o : Option Queue) → slice_get qs.items q ≡ o → LifeAt q h r m (Some o) → (m.lanes q).attached ≡ true
+    go : (o : Option Queue) → slice_get qs.items q ≡ o → LifeAt q h setup m (Some o) → (m.lanes q).attached ≡ true
     go None e at = absurd (none_past qs.items q e (omega (arith, many, low)))
     go (Some queue) e at = at.1.1
 
@@ -55,9 +55,9 @@ attached_at w q m sound is_zero at is = go w.life sound.attached is (at.queues q
     front : (f : Front) × (slice_get w.fronts.items q ≡ Some f)
     front = event_front w q sound is_zero
 
-    go : (l : Option Life) → AreInLife w.header.queues l → is_attached l ≡ true → LifeAt q front.0.header front.0.ring m (life_of q l) → (m.lanes q).attached ≡ true
+    go : (l : Option Life) → AreInLife w.header.queues l → is_attached l ≡ true → LifeAt q front.0.header front.0.setup m (life_of q l) → (m.lanes q).attached ≡ true
     go None many is here = absurd (cc is)
-    go (Some l) many is here = attached_with front.0.header q w.header.queues front.0.ring m l.queues many (omega (arith, is_zero, sound.header.one)) is here
+    go (Some l) many is here = attached_with front.0.header q w.header.queues front.0.setup m l.queues many (omega (arith, is_zero, sound.header.one)) is here
 
 serves_all : (w : Machine) (e : Event) (es : List Event) (rs : List Record) (m k : Moment) (r : Record) → IsSound w → IsEvent w.header e → MachineAt w m → Stands w.header es rs m → Stands w.header (es ++ e ∷ []) (rs ++ r ∷ []) k → Plays w.header m e r.items k → ServesAll w e (rs ++ r ∷ [])
 serves_all w (events.Drain q) es rs m k r sound fits at stands next plays = λ is. drain_serves q w.header es rs m k r (omega (arith, fits, sound.header.one)) stands next (attached_at w q m sound fits at is) plays

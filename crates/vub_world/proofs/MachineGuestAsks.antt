@@ -10,7 +10,7 @@ use Rattle.vub_driver.specs.Drivers.{Driver, can_take, after_ask}
 use Rattle.vub_guest.specs.declared.guest.Guest.{Guest}
 use Rattle.vub_world.specs.Fronts.{Parts, desk}
 use Rattle.vub_queue.specs.declared.queue.Queue.{Queue}
-use Rattle.vub_split.specs.declared.split.SplitRing.{SplitRing}
+use Rattle.vub_queue.specs.declared.queue.QueueSetup.{QueueSetup}
 use Rattle.vub_guest.specs.GuestState.{ring_in, driver_in, last_used_in}
 use Rattle.vub_world.specs.MachineAt.{LifeAt, PartsAt}
 use Rattle.vub_run.specs.Moments.{Moment}
@@ -22,10 +22,10 @@ abbrev pub driven_moment : ℕ → Driver → Moment → Moment
 driven_moment q v m = with_lane q (with_driver v (m.lanes q)) m
 
 -- the device's side stays
-pub life_driven : (q : ℕ) (h : Header1) (r : SplitRing) (m : Moment) (v : Driver) (life : Option (Option Queue)) → LifeAt q h r m life → LifeAt q h r (driven_moment q v m) life
-life_driven q h r m v life at = life_with q h r m (with_driver v (m.lanes q)) life (same life at)
+pub life_driven : (q : ℕ) (h : Header1) (setup : QueueSetup) (m : Moment) (v : Driver) (life : Option (Option Queue)) → LifeAt q h setup m life → LifeAt q h setup (driven_moment q v m) life
+life_driven q h setup m v life at = life_with q h setup m (with_driver v (m.lanes q)) life (same life at)
   where
-    same : (life : Option (Option Queue)) → LifeAt q h r m life → LifeAt q h r (all_lanes (with_driver v (m.lanes q)) m) life
+    same : (life : Option (Option Queue)) → LifeAt q h setup m life → LifeAt q h setup (all_lanes (with_driver v (m.lanes q)) m) life
     same None at = at
     same (Some None) at = at
     same (Some (Some queue)) at = at
@@ -47,7 +47,7 @@ ask_performs q w guest' m shape a ready ring at says taken driver position =
       record {
         front = front_with q (desk w.memory (record w.front { guest = guest'; asked = Some a })) m (with_driver (after_ask (ring_of q h.size) a v) (m.lanes q)) (record { memory = at.front.memory; driver = now_driver; asks = refl });
         position = position ∙ at.position;
-        life = life_driven q h w.front.ring m (after_ask (ring_of q h.size) a v) w.life at.life;
+        life = life_driven q h w.front.setup m (after_ask (ring_of q h.size) a v) w.life at.life;
         disk = at.disk;
         outstanding = at.outstanding;
       },

@@ -5,11 +5,12 @@ use Rattle.std.proofs.lemmas.Bool.Decides.{nat_tests}
 use Rattle.std.proofs.lemmas.Bool.{cases_lt}
 use Rattle.std.proofs.lemmas.List.{take_more}
 use Rattle.vub_base.specs.declared.header.Header1.{Header1}
-use Rattle.vub_shared.specs.Bytes.{Bytes, word}
+use Rattle.vub_shared.specs.Bytes.{Bytes}
 use Rattle.vub_shared.specs.Watched.{bytes_in}
 use Rattle.vub_shared.specs.declared.watched_shared.WatchedShared.{WatchedShared}
-use Rattle.vub_ring.specs.Ring.{Ring, ahead, used_idx, element_at, elements_from, seen}
+use Rattle.vub_ring.specs.Ring.{Ring}
 use Rattle.vub_driver.specs.Drivers.{Driver, after_collect}
+use Rattle.vub_driver.specs.Shown.{ShowsNext}
 use Rattle.vub_device.specs.declared.entry.Entry.TheVariants as entries
 use Rattle.vub_device.specs.Past.{published, collected, is_among}
 use Rattle.vub_device.proofs.Numbers.{is_among_append}
@@ -22,13 +23,13 @@ use Rattle.vub_guest.specs.declared.guest.Collected.TheVariants as takes
 use Rattle.vub_report.specs.declared.items.Item.{Item}
 use Rattle.vub_world.specs.declared.front.Front.{Front}
 use Rattle.vub_world.specs.Fronts.{Parts, desk_of}
-use Rattle.vub_world.specs.MachineFront.{HasPlaces, TakesOne, TakesFirst}
+use Rattle.vub_world.specs.MachineFront.{HasPlace, HasPlaces, TakesOne, TakesFirst}
 use Rattle.vub_run.specs.Memory.{after_items}
 use Rattle.vub_run_laws.proofs.RunOwn.{collected_own}
 use Rattle.vub_world.proofs.MachineLanes.{all_lanes, life_with, front_with}
 use Rattle.vub_world.proofs.MachineGuestOffers.{with_desk}
 use Rattle.vub_queue.specs.declared.queue.Queue.{Queue}
-use Rattle.vub_split.specs.declared.split.SplitRing.{SplitRing}
+use Rattle.vub_queue.specs.declared.queue.QueueSetup.{QueueSetup}
 use Rattle.vub_report.specs.declared.items.Item.TheVariants as items
 use Rattle.vub_report.specs.declared.items.Record.{Record}
 use Rattle.vub_guest.specs.GuestState.{ring_in, driver_in, last_used_in, Shows}
@@ -37,12 +38,10 @@ use Rattle.vub_world.specs.MachineAt.{AskAt, LifeAt, PartsAt, PartsStand}
 use Rattle.vub_run.specs.Moments.{Lane, Moment}
 use Rattle.vub_queue.specs.QueueState.{state_of}
 use Rattle.vub_run.specs.Run.{Stands, played, with_driver, next_collected, take_first, collect}
-use Rattle.vub_run_laws.proofs.RunNumbers.{among_at}
-use Rattle.vub_run_laws.proofs.RingGood.{the_ring}
-use Rattle.vub_run_laws.proofs.RunGood.{IsOut, Known}
-use Rattle.vub_run_laws.proofs.RunTaken.{IsTaken, none_before}
-use Rattle.vub_run_laws.proofs.RingCollects.{first_seen, after_taken}
-use Rattle.vub_run_laws.proofs.RunTurns.{IsPlain, Good}
+use Rattle.vub_run_laws.proofs.RunGood.{IsOut}
+use Rattle.vub_run_laws.proofs.RunQueue.{sees, SeesFirst, queue_none, queue_shown, queue_free, head_below}
+use Rattle.vub_run_laws.proofs.RunTaken.{IsTaken, next_number, next_out}
+use Rattle.vub_run_laws.proofs.RunTurns.{Good}
 use Rattle.vub_run_laws.proofs.Runs.{plain_header}
 use Rattle.vub_run_laws.proofs.RunsTo.{stands_good}
 use Rattle.vub_queue_in_run.proofs.QueueAtMoves.{at_collect}
@@ -51,20 +50,22 @@ use Rattle.vub_queue_in_run.proofs.QueueAtMoves.{at_collect}
 abbrev pub with_taken : Parts → WatchedShared → Guest → OutstandingRequests → Parts
 with_taken w memory guest' outstanding = record w { memory = memory; front = record w.front { guest = guest'; outstanding = outstanding } }
 
+-- ---- what is shown
+
+-- it stands in the memory of the moment
+shown_there : (q : ℕ) (w : Parts) (m : Moment) (found : Option ℕ) → PartsAt q w m → ShowsNext found (ring_of q w.front.header.size) (bytes_in w.memory) (last_used_in w.front.guest) → ShowsNext found (ring_of q w.front.header.size) m.scene.memory (last_used_in w.front.guest)
+shown_there q w m found at shown = subst (λ (b : Bytes). ShowsNext found (ring_of q w.front.header.size) b (last_used_in w.front.guest)) at.front.memory shown
+
 -- ---- nothing is shown
 
-pub none_performs : (q : ℕ) (w : Parts) (memory : WatchedShared) (guest' : Guest) (m : Moment) → PartsAt q w m → bytes_in memory ≡ bytes_in w.memory → used_idx (the_ring q w.front.header.size) (bytes_in w.memory) ≡ last_used_in w.front.guest
+pub none_performs : (q : ℕ) (w : Parts) (memory : WatchedShared) (guest' : Guest) (m : Moment) → PartsAt q w m → bytes_in memory ≡ bytes_in w.memory → ShowsNext None (ring_of q w.front.header.size) (bytes_in w.memory) (last_used_in w.front.guest)
     → driver_in guest' ≡ driver_in w.front.guest → last_used_in guest' ≡ last_used_in w.front.guest
     → (next : Moment) × (played (items.Idle ∷ []) next ≡ collect w.front.header q m) × PartsAt q (with_taken w memory guest' w.front.outstanding) next
 none_performs q w memory guest' m at bytes shown driver position =
     let h : Header1 = w.front.header in
-    let r : Ring = the_ring q h.size in
-    let p : ℕ = h.base + collected m.scene.past q in
-    let index : used_idx r m.scene.memory ≡ p % 65536 = ap (used_idx r) (sym at.front.memory) ∙ shown ∙ at.position in
-    let none : ahead (used_idx r m.scene.memory) p ≡ 0 = omega (arith, index) in
-    let sees : seen r m.scene.memory p ≡ [] = ap (λ (k : ℕ). elements_from r m.scene.memory k p) none in (
+    let none : sees q h m.scene ≡ [] = queue_none q h m.scene (last_used_in w.front.guest) at.position (shown_there q w m None at shown) in (
       m,
-      sym (ap (λ (xs : List (ℕ × ℕ)). take_first h q xs m) sees),
+      sym (ap (λ (xs : List (ℕ × ℕ)). take_first h q xs m) none),
       record {
         front = record { memory = bytes ∙ at.front.memory; driver = driver ∙ at.front.driver; asks = at.front.asks };
         position = position ∙ at.position;
@@ -75,16 +76,6 @@ none_performs q w memory guest' m at bytes shown driver position =
     )
 
 -- ---- an element is taken
-
-some_elements : (r : Ring) (m : Bytes) (k d : ℕ) → 0 < k → (xs : List (ℕ × ℕ)) × (elements_from r m k d ≡ element_at r m d ∷ xs)
-some_elements r m zero d some = absurd (omega arith)
-some_elements r m (suc k) d some = (elements_from r m k (d + 1), refl)
-
--- an index counts modulo 65536
-same_element : (r : Ring) (m : Bytes) (p : ℕ) → element_at r m (p % 65536) ≡ element_at r m p
-same_element r m p =
-    let e : (p % 65536) % 65536 ≡ p % 65536 = omega arith in
-    ap (λ (i : ℕ). (word 4 m r.space (r.used + (4 + 8 * (i % r.size))), word 4 m r.space (r.used + (8 + 8 * (i % r.size))))) e
 
 -- what isn't among more numbers isn't among fewer
 fewer_among : (xs : List ℕ) (c k : ℕ) → c < length xs → is_among (take (c + 1) xs) k ≡ false → is_among (take c xs) k ≡ false
@@ -102,88 +93,44 @@ taken_lane q x m = with_driver (after_collect x (m.lanes q).driver) (m.lanes q)
 abbrev taken_moment : Header1 → ℕ → Moment → Moment
 taken_moment h q m = record m { scene = after_items h (items.Made (entries.Collect q (next_collected q m)) ∷ []) m.scene }
 
-taken_life : (q : ℕ) (h : Header1) (ring : SplitRing) (m : Moment) (x : ℕ × ℕ) (xs : List (ℕ × ℕ)) (life : Option (Option Queue)) → LifeAt q h ring m life → LifeAt q h ring (take_first h q (x ∷ xs) m).next life
-taken_life q h ring m x xs life at = life_with q h ring (taken_moment h q m) (taken_lane q x.0 m) life (taken life at)
+taken_life : (q : ℕ) (h : Header1) (setup : QueueSetup) (m : Moment) (x : ℕ × ℕ) (xs : List (ℕ × ℕ)) (life : Option (Option Queue)) → LifeAt q h setup m life → LifeAt q h setup (take_first h q (x ∷ xs) m).next life
+taken_life q h setup m x xs life at = life_with q h setup (taken_moment h q m) (taken_lane q x.0 m) life (taken life at)
   where
-    taken : (life : Option (Option Queue)) → LifeAt q h ring m life → LifeAt q h ring (all_lanes (taken_lane q x.0 m) (taken_moment h q m)) life
+    taken : (life : Option (Option Queue)) → LifeAt q h setup m life → LifeAt q h setup (all_lanes (taken_lane q x.0 m) (taken_moment h q m)) life
     taken None at = at
     taken (Some None) at = at
-    taken (Some (Some queue)) at = (at.0, (at.1.0, at.1.1, at_collect q h ring m.scene.past (m.scene.heads q) (m.lanes q).phase (m.lanes q).batch (m.lanes q).completed (m.lanes q).made (state_of queue) (next_collected q m) at.1.2))
+    taken (Some (Some queue)) at = (at.0, (at.1.0, at.1.1, at_collect q h setup m.scene.past (m.scene.heads q) (m.lanes q).phase (m.lanes q).batch (m.lanes q).completed (m.lanes q).made (state_of queue) (next_collected q m) at.1.2))
 
-head_plays : (q : ℕ) (h : Header1) (m : Moment) (x : ℕ × ℕ) (xs : List (ℕ × ℕ)) (number : ℕ) → number ≡ next_collected q m → seen (the_ring q h.size) m.scene.memory (h.base + collected m.scene.past q) ≡ x ∷ xs
+head_plays : (q : ℕ) (h : Header1) (m : Moment) (x : ℕ × ℕ) (xs : List (ℕ × ℕ)) (number : ℕ) → number ≡ next_collected q m → sees q h m.scene ≡ x ∷ xs
     → played (items.Made (entries.Collect q number) ∷ []) (take_first h q (x ∷ xs) m).next ≡ collect h q m
-head_plays q h m x xs number is sees =
+head_plays q h m x xs number is seen_is =
     let next : Moment = (take_first h q (x ∷ xs) m).next in
     let here : played (items.Made (entries.Collect q number) ∷ []) next ≡ take_first h q (x ∷ xs) m = ap (λ (j : ℕ). played (items.Made (entries.Collect q j) ∷ []) next) is in
-    here ∙ sym (ap (λ (ys : List (ℕ × ℕ)). take_first h q ys m) sees)
-
--- an element that is shown and not taken is that of a request that isn't collected
-pub one_is_left : (q : ℕ) (w : Parts) → PartsStand q w → used_idx (the_ring q w.front.header.size) (bytes_in w.memory) ≢ last_used_in w.front.guest → collected_in w.front.outstanding < offered_in w.front.outstanding
-one_is_left q w stood shown =
-    let h : Header1 = w.front.header in
-    let r : Ring = the_ring q h.size in
-    let m : Moment = stood.2.0 in
-    let s : Stands h stood.0 stood.1 m = stood.2.1 in
-    let at : PartsAt q w m = stood.2.2 in
-    let good : Good q h m = stands_good q h stood.0 stood.1 m stood.2.3 s in
-    let known : Known q h.size h.capacity m.scene.past (m.scene.heads q) = good.holds.known in
-    let c : ℕ = collected m.scene.past q in
-    let ps : List ℕ = published m.scene.past q in
-    let u : ℕ = used_idx r m.scene.memory in
-    let index : u ≡ (h.base + length ps) % 65536 = good.holds.queue.ringed.used_idx_is in
-    let apart : u ≢ (h.base + c) % 65536 = λ same. shown (ap (used_idx r) at.front.memory ∙ same ∙ sym at.position) in
-    let more : c < length ps = elim (cases_lt c (length ps)) [
-      | inl less ↦ less
-      | inr none ↦ absurd (apart (index ∙ ap (λ (n : ℕ). (h.base + n) % 65536) (let all : length ps ≡ c = omega (arith, none, known.shown) in all)))
-    ] in
-    omega (arith, at.outstanding.collects_are, at.outstanding.offers_are, more, known.fewer, known.offered)
+    here ∙ sym (ap (λ (ys : List (ℕ × ℕ)). take_first h q ys m) seen_is)
 
 -- the first element that the driver sees: it names the head of a request that isn't collected
 pub record IsFirst (q : ℕ) (w : Parts) (m : Moment) (head : ℕ) : Type 0 where
-  pub rest : List (ℕ × ℕ)
-  pub sees : seen (the_ring q w.front.header.size) m.scene.memory (w.front.header.base + collected m.scene.past q) ≡ element_at (the_ring q w.front.header.size) m.scene.memory (w.front.header.base + collected m.scene.past q) ∷ rest
-  pub taken : IsTaken q w.front.header m.scene (m.lanes q) (element_at (the_ring q w.front.header.size) m.scene.memory (w.front.header.base + collected m.scene.past q)).0
+  pub shown : SeesFirst q w.front.header m.scene (m.lanes q) head
   pub out : IsOut q m.scene.past (m.scene.heads q) (slice_index (published m.scene.past q) (collected m.scene.past q))
   pub low : head < w.front.header.size
-  pub is : head ≡ (element_at (the_ring q w.front.header.size) m.scene.memory (w.front.header.base + collected m.scene.past q)).0
 
-is_first : (q : ℕ) (w : Parts) (es : List Event) (rs : List Record) (m : Moment) (head : ℕ) → q < w.front.header.queues → Stands w.front.header es rs m → PartsAt q w m → used_idx (the_ring q w.front.header.size) (bytes_in w.memory) ≢ last_used_in w.front.guest
-    → head ≡ (element_at (the_ring q w.front.header.size) (bytes_in w.memory) (last_used_in w.front.guest)).0 % 65536 → IsFirst q w m head
-is_first q w es rs m head low s at shown head_is =
+is_first : (q : ℕ) (w : Parts) (es : List Event) (rs : List Record) (m : Moment) (head : ℕ) → q < w.front.header.queues → Stands w.front.header es rs m → PartsAt q w m → ShowsNext (Some head) (ring_of q w.front.header.size) (bytes_in w.memory) (last_used_in w.front.guest) → IsFirst q w m head
+is_first q w es rs m head low s at shown =
     let h : Header1 = w.front.header in
-    let r : Ring = the_ring q h.size in
-    let plain : IsPlain h = plain_header h s.header in
     let good : Good q h m = stands_good q h es rs m low s in
-    let known : Known q h.size h.capacity m.scene.past (m.scene.heads q) = good.holds.known in
-    let c : ℕ = collected m.scene.past q in
-    let ps : List ℕ = published m.scene.past q in
-    let p : ℕ = h.base + c in
     let l : Lane = m.lanes q in
-    let u : ℕ = used_idx r m.scene.memory in
-    let index : u ≡ (h.base + length ps) % 65536 = good.holds.queue.ringed.used_idx_is in
-    let apart : u ≢ p % 65536 = λ same. shown (ap (used_idx r) at.front.memory ∙ same ∙ sym at.position) in
-    let far : 0 < ahead u p = omega (arith, index, apart) in
-    let some = some_elements r m.scene.memory (ahead u p) p far in
-    let x : ℕ × ℕ = element_at r m.scene.memory p in
-    let sees : seen r m.scene.memory p ≡ x ∷ some.0 = some.1 in
-    let t : IsTaken q h m.scene l x.0 = first_seen q h m.scene l x some.0 plain.good good.holds sees in
-    let k : ℕ = slice_index ps c in
-    let there : k < length (m.scene.heads q) = omega (arith, known.below k (among_at ps c t.more), known.offered) in
-    let kept : is_among (take c ps) k ≡ false = none_before ps c known.distinct t.more in
-    let low : slice_index (m.scene.heads q) k < h.size = good.holds.queue.driven.below k (record { below = there; kept = kept }) in
-    let first : x.0 ≡ slice_index (m.scene.heads q) k = t.head in
-    let small : h.size ≤ 64 = plain.good.size.small in
-    let read : (element_at r (bytes_in w.memory) (last_used_in w.front.guest)).0 ≡ x.0 =
-    ap (λ (b : Bytes). (element_at r b (last_used_in w.front.guest)).0) at.front.memory ∙ ap (λ (i : ℕ). (element_at r m.scene.memory i).0) at.position ∙ ap (λ (y : ℕ × ℕ). y.0) (same_element r m.scene.memory p) in
-    let same : head ≡ x.0 = omega (arith, head_is, read, first, low, small) in
-    record { rest = some.0; sees = sees; taken = t; out = record { below = there; kept = kept }; low = omega (arith, same, first, low); is = same }
+    let first : SeesFirst q h m.scene l head = queue_shown q h m.scene l (last_used_in w.front.guest) head (plain_header h s.header).good good.holds at.position (shown_there q w m (Some head) at shown) in
+    let out : IsOut q m.scene.past (m.scene.heads q) (next_number q m.scene) = next_out q h m.scene l first.first.0 first.taken in
+    let below : slice_index (m.scene.heads q) (next_number q m.scene) < h.size = head_below q h m.scene l.driver l.batch l.phase (next_number q m.scene) good.holds.queue out in
+    record { shown = first; out = out; low = omega (arith, first.head_is, first.taken.head, below) }
 
--- so the table of outstanding requests has a place for it
-pub head_placed : (q : ℕ) (w : Parts) (head : ℕ) → PartsStand q w → used_idx (the_ring q w.front.header.size) (bytes_in w.memory) ≢ last_used_in w.front.guest → head ≡ (element_at (the_ring q w.front.header.size) (bytes_in w.memory) (last_used_in w.front.guest)).0 % 65536
-    → head < size_in w.front.outstanding
-head_placed q w head stood shown head_is =
-    let f : IsFirst q w stood.2.0 head = is_first q w stood.0 stood.1 stood.2.0 head stood.2.3 stood.2.1 stood.2.2 shown head_is in
-    omega (arith, f.low, stood.2.2.outstanding.places)
+-- so the table of outstanding requests has a place for it, and one is left to be collected
+pub head_placed : (q : ℕ) (w : Parts) (head : ℕ) → PartsStand q w → ShowsNext (Some head) (ring_of q w.front.header.size) (bytes_in w.memory) (last_used_in w.front.guest) → HasPlace w.front head
+head_placed q w head stood shown =
+    let at : PartsAt q w stood.2.0 = stood.2.2 in
+    let f : IsFirst q w stood.2.0 head = is_first q w stood.0 stood.1 stood.2.0 head stood.2.3 stood.2.1 at shown in
+    let known = f.shown.taken.holds.known in
+    record { below = omega (arith, f.low, at.outstanding.places); left = omega (arith, at.outstanding.collects_are, at.outstanding.offers_are, f.shown.taken.more, known.fewer, known.offered) }
 
 -- no more requests are collected than were offered
 pub collects_within : (q : ℕ) (w : Parts) → PartsStand q w → collected_in w.front.outstanding ≤ offered_in w.front.outstanding
@@ -193,35 +140,31 @@ collects_within q w stood =
     omega (arith, at.outstanding.collects_are, at.outstanding.offers_are, known.shown, known.fewer, known.offered)
 
 pub head_performs : (q : ℕ) (w : Parts) (memory : WatchedShared) (guest' : Guest) (outstanding : OutstandingRequests) (es : List Event) (rs : List Record) (m : Moment) (head : ℕ) → q < w.front.header.queues → Stands w.front.header es rs m → PartsAt q w m → bytes_in memory ≡ bytes_in w.memory
-    → used_idx (the_ring q w.front.header.size) (bytes_in w.memory) ≢ last_used_in w.front.guest → head ≡ (element_at (the_ring q w.front.header.size) (bytes_in w.memory) (last_used_in w.front.guest)).0 % 65536
+    → ShowsNext (Some head) (ring_of q w.front.header.size) (bytes_in w.memory) (last_used_in w.front.guest)
     → driver_in guest' ≡ after_collect head (driver_in w.front.guest) → last_used_in guest' ≡ (last_used_in w.front.guest + 1) % 65536 → TakesOne w.front.outstanding outstanding
     → (next : Moment) × (played (items.Made (entries.Collect q (slot_in w.front.outstanding head).number) ∷ []) next ≡ collect w.front.header q m) × PartsAt q (with_taken w memory guest' outstanding) next
-head_performs q w memory guest' outstanding es rs m head low s at bytes shown head_is driver position takes =
+head_performs q w memory guest' outstanding es rs m head low s at bytes shown driver position takes =
     let h : Header1 = w.front.header in
-    let r : Ring = the_ring q h.size in
-    let good : Good q h m = stands_good q h es rs m low s in
     let c : ℕ = collected m.scene.past q in
     let ps : List ℕ = published m.scene.past q in
     let l : Lane = m.lanes q in
-    let x : ℕ × ℕ = element_at r m.scene.memory (h.base + c) in
-    let f : IsFirst q w m head = is_first q w es rs m head low s at shown head_is in
+    let f : IsFirst q w m head = is_first q w es rs m head low s at shown in
+    let x : ℕ × ℕ = f.shown.first in
     let k : ℕ = slice_index ps c in
-    let there : k < length (m.scene.heads q) = f.out.below in
-    let kept : is_among (take c ps) k ≡ false = f.out.kept in
-    let t : IsTaken q h m.scene l x.0 = f.taken in
-    let number : (slot_in w.front.outstanding head).number ≡ k = ap (λ (d : ℕ). (slot_in w.front.outstanding d).number) (f.is ∙ t.head) ∙ ap (λ (o : OutstandingRequest). o.number) (at.outstanding.slots k there kept) in
-    let next : Moment = (take_first h q (x ∷ f.rest) m).next in
+    let t : IsTaken q h m.scene l x.0 = f.shown.taken in
+    let number : (slot_in w.front.outstanding head).number ≡ k = ap (λ (d : ℕ). (slot_in w.front.outstanding d).number) (f.shown.head_is ∙ t.head) ∙ ap (λ (o : OutstandingRequest). o.number) (at.outstanding.slots k f.out.below f.out.kept) in
+    let next : Moment = (take_first h q (x ∷ f.shown.rest) m).next in
     let own : collected next.scene.past q ≡ c + 1 = collected_own m.scene.past q (next_collected q m) in (
       next,
-      head_plays q h m x f.rest (slot_in w.front.outstanding head).number number f.sees,
+      head_plays q h m x f.shown.rest (slot_in w.front.outstanding head).number number f.shown.sees,
       record {
         front = front_with q (desk_of (with_taken w memory guest' outstanding)) (taken_moment h q m) (taken_lane q x.0 m) (record {
           memory = bytes ∙ at.front.memory;
-          driver = driver ∙ ap (λ (d : ℕ). after_collect d (driver_in w.front.guest)) f.is ∙ ap (λ (v : Driver). after_collect x.0 v) at.front.driver;
-          asks = subst (λ (v : Driver). AskAt v.waiting w.front.asked) (sym (after_taken q h m.scene l x.0 t)) at.front.asks;
+          driver = driver ∙ ap (λ (d : ℕ). after_collect d (driver_in w.front.guest)) f.shown.head_is ∙ ap (λ (v : Driver). after_collect x.0 v) at.front.driver;
+          asks = subst (λ (v : Driver). AskAt v.waiting w.front.asked) (sym (queue_free q h m.scene l x.0 t)) at.front.asks;
         });
         position = let e : last_used_in guest' ≡ (h.base + collected next.scene.past q) % 65536 = omega (arith, position, at.position, own) in e;
-        life = taken_life q h w.front.ring m x f.rest w.life at.life;
+        life = taken_life q h w.front.setup m x f.shown.rest w.life at.life;
         disk = at.disk;
         outstanding = record {
           offers_are = takes.offers ∙ at.outstanding.offers_are;
@@ -242,8 +185,7 @@ taken_item q (Some number) = items.Made (entries.Collect q number)
 -- each head that is shown has a place
 pub shown_placed : (q : ℕ) (w : Parts) → ring_in w.front.guest ≡ ring_of q w.front.header.size → PartsStand q w → HasPlaces (bytes_in w.memory) w.front
 shown_placed q w ring stood head shown =
-    let there = subst (λ (r : Ring). Shows (takes.Head head) r (bytes_in w.memory) (last_used_in w.front.guest)) ring shown in
-    record { below = head_placed q w head stood there.0 there.1; left = one_is_left q w stood there.0 }
+    head_placed q w head stood (subst (λ (r : Ring). Shows (takes.Head head) r (bytes_in w.memory) (last_used_in w.front.guest)) ring shown)
 
 pub takes_performs : (q : ℕ) (w : Parts) (memory : WatchedShared) (front : Front) (number : Option ℕ) (es : List Event) (rs : List Record) (m : Moment) → ring_in w.front.guest ≡ ring_of q w.front.header.size → q < w.front.header.queues → Stands w.front.header es rs m → PartsAt q w m → bytes_in memory ≡ bytes_in w.memory
     → front ≡ record w.front { guest = front.guest; outstanding = front.outstanding } → TakesFirst (bytes_in w.memory) w.front front number
@@ -255,7 +197,7 @@ takes_performs q w memory front None es rs m ring low s at bytes frame took =
     (done.0, done.1, subst (λ (f : Front). PartsAt q (with_desk w memory f) done.0) (sym same) done.2)
 takes_performs q w memory front (Some number) es rs m ring low s at bytes frame took =
     let shown = subst (λ (r : Ring). Shows (takes.Head took.head) r (bytes_in w.memory) (last_used_in w.front.guest)) ring took.shown in
-    let done = head_performs q w memory front.guest front.outstanding es rs m took.head low s at bytes shown.0 shown.1 took.driver.0 took.driver.1 took.takes in (
+    let done = head_performs q w memory front.guest front.outstanding es rs m took.head low s at bytes shown took.driver.0 took.driver.1 took.takes in (
       done.0,
       ap (λ (n : ℕ). played (items.Made (entries.Collect q n) ∷ []) done.0) took.is ∙ done.1,
       subst (λ (f : Front). PartsAt q (with_desk w memory f) done.0) (sym frame) done.2,

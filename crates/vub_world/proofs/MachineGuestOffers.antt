@@ -22,7 +22,7 @@ use Rattle.vub_world.specs.declared.outstanding.OutstandingRequest.{OutstandingR
 use Rattle.vub_world.specs.declared.front.Front.{Front}
 use Rattle.vub_world.specs.Fronts.{Parts, desk, desk_of}
 use Rattle.vub_queue.specs.declared.queue.Queue.{Queue}
-use Rattle.vub_split.specs.declared.split.SplitRing.{SplitRing}
+use Rattle.vub_queue.specs.declared.queue.QueueSetup.{QueueSetup}
 use Rattle.vub_report.specs.declared.items.Item.{Item}
 use Rattle.vub_report.specs.declared.items.Item.TheVariants as items
 use Rattle.vub_report.specs.declared.items.Record.{Record}
@@ -136,21 +136,21 @@ offered_scene q h r b s = after_item h (items.Made (entries.Offer q r)) (record 
 abbrev pub moment_with : ℕ → ℕ → Waiting → Moment → Scene → Moment
 moment_with q count x m s = with_lane q (stored_lane q count x m) (record m { scene = s })
 
-offered_life : (q : ℕ) (h : Header1) (ring : SplitRing) (count : ℕ) (m : Moment) (x : Waiting) (r : Asked) (b : Bytes) (life : Option (Option Queue)) → (offered_scene q h r b m.scene).heads q ≡ m.scene.heads q ++ x.head ∷ [] → Good q h m → LifeAt q h ring m life → LifeAt q h ring (moment_with q count x m (offered_scene q h r b m.scene)) life
-offered_life q h ring count m x r b life heads good at = life_with q h ring (record m { scene = offered_scene q h r b m.scene }) (stored_lane q count x m) life (offered life at)
+offered_life : (q : ℕ) (h : Header1) (setup : QueueSetup) (count : ℕ) (m : Moment) (x : Waiting) (r : Asked) (b : Bytes) (life : Option (Option Queue)) → (offered_scene q h r b m.scene).heads q ≡ m.scene.heads q ++ x.head ∷ [] → Good q h m → LifeAt q h setup m life → LifeAt q h setup (moment_with q count x m (offered_scene q h r b m.scene)) life
+offered_life q h setup count m x r b life heads good at = life_with q h setup (record m { scene = offered_scene q h r b m.scene }) (stored_lane q count x m) life (offered life at)
   where
-    offered : (life : Option (Option Queue)) → LifeAt q h ring m life → LifeAt q h ring (all_lanes (stored_lane q count x m) (record m { scene = offered_scene q h r b m.scene })) life
+    offered : (life : Option (Option Queue)) → LifeAt q h setup m life → LifeAt q h setup (all_lanes (stored_lane q count x m) (record m { scene = offered_scene q h r b m.scene })) life
     offered None at = at
     offered (Some None) at = at
     offered (Some (Some queue)) at =
-        let stands = at_offer q h ring m.scene.past (m.scene.heads q) (m.lanes q).phase (m.lanes q).batch (m.lanes q).completed (m.lanes q).made (state_of queue) r x.head good.holds.known good.holds.worked at.1.2 in
-        (at.0, (at.1.0, at.1.1, subst (λ (hs : List ℕ). QueueAt q h ring (entries.Offer q r ∷ m.scene.past) hs (m.lanes q).phase (m.lanes q).batch (m.lanes q).completed (m.lanes q).made (state_of queue)) (sym heads) stands))
+        let stands = at_offer q h setup m.scene.past (m.scene.heads q) (m.lanes q).phase (m.lanes q).batch (m.lanes q).completed (m.lanes q).made (state_of queue) r x.head good.holds.known good.holds.worked at.1.2 in
+        (at.0, (at.1.0, at.1.1, subst (λ (hs : List ℕ). QueueAt q h setup (entries.Offer q r ∷ m.scene.past) hs (m.lanes q).phase (m.lanes q).batch (m.lanes q).completed (m.lanes q).made (state_of queue)) (sym heads) stands))
 
 -- stores that offer nothing are nothing to the device
-stored_life : (q : ℕ) (h : Header1) (ring : SplitRing) (count : ℕ) (m : Moment) (x : Waiting) (b : Bytes) (life : Option (Option Queue)) → LifeAt q h ring m life → LifeAt q h ring (moment_with q count x m (record m.scene { memory = b })) life
-stored_life q h ring count m x b life at = life_with q h ring (record m { scene = record m.scene { memory = b } }) (stored_lane q count x m) life (stored life at)
+stored_life : (q : ℕ) (h : Header1) (setup : QueueSetup) (count : ℕ) (m : Moment) (x : Waiting) (b : Bytes) (life : Option (Option Queue)) → LifeAt q h setup m life → LifeAt q h setup (moment_with q count x m (record m.scene { memory = b })) life
+stored_life q h setup count m x b life at = life_with q h setup (record m { scene = record m.scene { memory = b } }) (stored_lane q count x m) life (stored life at)
   where
-    stored : (life : Option (Option Queue)) → LifeAt q h ring m life → LifeAt q h ring (all_lanes (stored_lane q count x m) (record m { scene = record m.scene { memory = b } })) life
+    stored : (life : Option (Option Queue)) → LifeAt q h setup m life → LifeAt q h setup (all_lanes (stored_lane q count x m) (record m { scene = record m.scene { memory = b } })) life
     stored None at = at
     stored (Some None) at = at
     stored (Some (Some queue)) at = at
@@ -200,7 +200,7 @@ offered_at q w memory guest' asked' outstanding es rs m x is count position low 
     let stands : PartsAt q now (moment_with q count x m (offered_scene q h r b m.scene)) = record {
       front = front;
       position = position ∙ at.position;
-      life = offered_life q h w.front.ring count m x r b w.life own good at.life;
+      life = offered_life q h w.front.setup count m x r b w.life own good at.life;
       disk = at.disk;
       outstanding = subst (λ (hs : List ℕ). OutstandingAt q h.size (entries.Offer q r ∷ m.scene.past) hs outstanding) (sym own)
           (offered_outstanding q h.size h.capacity m.scene.past (m.scene.heads q) x.ask x.head w.front.outstanding outstanding at.outstanding good.holds.known apart (goes.outstanding.offers few));
@@ -219,7 +219,7 @@ partly_at q w memory guest' asked' outstanding m x is count position at part goe
     let stands : PartsAt q now (moment_with q count x m (record m.scene { memory = b })) = record {
       front = subst (λ (n : Moment). FrontAt q (desk_of now) n) whole goes.front;
       position = position ∙ at.position;
-      life = stored_life q h w.front.ring count m x b w.life at.life;
+      life = stored_life q h w.front.setup count m x b w.life at.life;
       disk = at.disk;
       outstanding = subst (λ (l : OutstandingRequests). OutstandingAt q h.size m.scene.past (m.scene.heads q) l) (sym (goes.outstanding.before part)) at.outstanding;
     } in

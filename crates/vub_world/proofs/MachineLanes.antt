@@ -9,7 +9,7 @@ use Rattle.vub_queue_in_run.specs.QueueAt.{QueueAt}
 use Rattle.vub_run.specs.Moments.{Lane, Moment}
 use Rattle.vub_run.specs.Run.{with_lane, with_driver, guest_stores}
 use Rattle.vub_run_laws.proofs.RunOwn.{at_own}
-use Rattle.vub_split.specs.declared.split.SplitRing.{SplitRing}
+use Rattle.vub_queue.specs.declared.queue.QueueSetup.{QueueSetup}
 use Rattle.vub_world.specs.Fronts.{Desk}
 use Rattle.vub_world.specs.MachineAt.{AskAt, FrontAt, LifeAt}
 
@@ -17,15 +17,15 @@ use Rattle.vub_world.specs.MachineAt.{AskAt, FrontAt, LifeAt}
 abbrev pub all_lanes : Lane → Moment → Moment
 all_lanes l m = record m { lanes = λ p. l }
 
-pub life_with : (q : ℕ) (h : Header1) (r : SplitRing) (m : Moment) (l : Lane) (life : Option (Option Queue)) → LifeAt q h r (all_lanes l m) life → LifeAt q h r (with_lane q l m) life
-life_with q h r m l None at = at
-life_with q h r m l (Some None) at = (at.0, (at.1.0, ap (λ (k : Lane). k.attached) (at_own m.lanes q l) ∙ at.1.1, at.1.2))
-life_with q h r m l (Some (Some queue)) at = (
+pub life_with : (q : ℕ) (h : Header1) (setup : QueueSetup) (m : Moment) (l : Lane) (life : Option (Option Queue)) → LifeAt q h setup (all_lanes l m) life → LifeAt q h setup (with_lane q l m) life
+life_with q h setup m l None at = at
+life_with q h setup m l (Some None) at = (at.0, (at.1.0, ap (λ (k : Lane). k.attached) (at_own m.lanes q l) ∙ at.1.1, at.1.2))
+life_with q h setup m l (Some (Some queue)) at = (
   at.0,
   (
     at.1.0,
     ap (λ (k : Lane). k.attached) (at_own m.lanes q l) ∙ at.1.1,
-    subst (λ (k : Lane). QueueAt q h r m.scene.past (m.scene.heads q) k.phase k.batch k.completed k.made (state_of queue)) (sym (at_own m.lanes q l)) at.1.2,
+    subst (λ (k : Lane). QueueAt q h setup m.scene.past (m.scene.heads q) k.phase k.batch k.completed k.made (state_of queue)) (sym (at_own m.lanes q l)) at.1.2,
   ),
 )
 

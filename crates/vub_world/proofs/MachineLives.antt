@@ -8,8 +8,8 @@ use Rattle.vub_world.specs.Fronts.{Parts}
 use Rattle.vub_queue.specs.declared.queue.Queue.{Queue}
 use Rattle.vub_world.specs.MachineAt.{PartsAt, LifeAt, AttachedAt}
 use Rattle.vub_run.specs.Moments.{Lane, Moment, fresh}
-use Rattle.vub_queue_in_run.specs.QueueAt.{QueueStands, QueueAt}
-use Rattle.vub_queue.specs.QueueState.{IsNew, state_of}
+use Rattle.vub_queue_in_run.specs.QueueAt.{QueueStands, QueueAt, IsNewQueue}
+use Rattle.vub_queue.specs.QueueState.{state_of}
 use Rattle.vub_run.specs.Run.{played, if_ready, boot, join}
 use Rattle.vub_queue_in_run.proofs.QueueAtMoves.{at_new}
 use Rattle.vub_run_laws.proofs.RunQueue.{phase_at}
@@ -39,7 +39,7 @@ booted_at q w m quiet at = record {
 
 -- where there is no life
 pub asleep_at : (q : ℕ) (w : Parts) (m : Moment) → PartsAt q w m → w.life ≡ None → m.lives ≡ false
-asleep_at q w m at none = subst (λ (l : Option (Option Queue)). LifeAt q w.front.header w.front.ring m l) none at.life
+asleep_at q w m at none = subst (λ (l : Option (Option Queue)). LifeAt q w.front.header w.front.setup m l) none at.life
 
 -- ---- the queues are attached
 
@@ -52,25 +52,25 @@ join_plays m lives new = sym (
     ∙ ap (λ (b : Bool). if_ready (true && not b) (played [] (joined m)) m) new)
 
 -- where there is a life that has no queue
-pub joining_at : (q : ℕ) (w : Parts) (m : Moment) → PartsAt q w m → w.life ≡ Some None → (m.lives ≡ true) × AttachedAt q w.front.header w.front.ring m None
-joining_at q w m at new = subst (λ (l : Option (Option Queue)). LifeAt q w.front.header w.front.ring m l) new at.life
+pub joining_at : (q : ℕ) (w : Parts) (m : Moment) → PartsAt q w m → w.life ≡ Some None → (m.lives ≡ true) × AttachedAt q w.front.header w.front.setup m None
+joining_at q w m at new = subst (λ (l : Option (Option Queue)). LifeAt q w.front.header w.front.setup m l) new at.life
 
 at_rest : (batch : List ℕ) → PhaseIs batch phases.Rest → batch ≡ []
 at_rest batch is = is
 
-pub joined_at : (q : ℕ) (w : Parts) (m : Moment) (queue : Queue) → IsPlain w.front.header → Good q w.front.header m → w.front.header.base ≡ 0 → AttachedAt q w.front.header w.front.ring m None → m.lives ≡ true → IsNew w.front.ring w.front.header.base (state_of queue) → PartsAt q w m
+pub joined_at : (q : ℕ) (w : Parts) (m : Moment) (queue : Queue) → IsPlain w.front.header → Good q w.front.header m → w.front.header.base ≡ 0 → w.front.setup.base ≡ w.front.header.base → AttachedAt q w.front.header w.front.setup m None → m.lives ≡ true → IsNewQueue w.front.setup queue → PartsAt q w m
     → PartsAt q (with_life (Some queue) w) (joined m)
-joined_at q w m queue plain good base new lives made at =
+joined_at q w m queue plain good base same new lives made at =
     let l : Lane = m.lanes q in
     let quiet = good.holds.worked.quiet new.2 in
     let none : accepted m.scene.past q ≡ 0 = good.idle new.2 in
     let batch : l.batch ≡ [] = subst (λ (p : Phase). PhaseIs l.batch p) quiet.0 (phase_at q w.front.header m.scene (m.lanes q) good.holds) in
-    let begins : QueueAt q w.front.header w.front.ring m.scene.past (m.scene.heads q) phases.Rest [] [] l.made (state_of queue) =
-    at_new q w.front.header w.front.ring m.scene.past (m.scene.heads q) l.made (state_of queue) (omega (arith, base)) good.holds.known.fewer none new.2 made in
-    let stands : QueueStands q w.front.header w.front.ring (joined m) (state_of queue) =
-    subst (λ (p : Phase). QueueAt q w.front.header w.front.ring m.scene.past (m.scene.heads q) p l.batch l.completed l.made (state_of queue)) (sym quiet.0)
-    (subst (λ (bs : List ℕ). QueueAt q w.front.header w.front.ring m.scene.past (m.scene.heads q) phases.Rest bs l.completed l.made (state_of queue)) (sym batch)
-    (subst (λ (cs : List ℕ). QueueAt q w.front.header w.front.ring m.scene.past (m.scene.heads q) phases.Rest [] cs l.made (state_of queue)) (sym quiet.1.0) begins)) in record {
+    let begins : QueueAt q w.front.header w.front.setup m.scene.past (m.scene.heads q) phases.Rest [] [] l.made (state_of queue) =
+    at_new q w.front.header w.front.setup m.scene.past (m.scene.heads q) l.made (state_of queue) (omega (arith, base)) good.holds.known.fewer none new.2 same made.state in
+    let stands : QueueStands q w.front.header w.front.setup (joined m) (state_of queue) =
+    subst (λ (p : Phase). QueueAt q w.front.header w.front.setup m.scene.past (m.scene.heads q) p l.batch l.completed l.made (state_of queue)) (sym quiet.0)
+    (subst (λ (bs : List ℕ). QueueAt q w.front.header w.front.setup m.scene.past (m.scene.heads q) phases.Rest bs l.completed l.made (state_of queue)) (sym batch)
+    (subst (λ (cs : List ℕ). QueueAt q w.front.header w.front.setup m.scene.past (m.scene.heads q) phases.Rest [] cs l.made (state_of queue)) (sym quiet.1.0) begins)) in record {
       front = record { memory = at.front.memory; driver = at.front.driver; asks = at.front.asks };
       position = at.position;
       life = (lives, (refl, refl, stands));

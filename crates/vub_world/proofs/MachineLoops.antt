@@ -18,7 +18,7 @@ use Rattle.vub_world.specs.Fronts.{Parts}
 use Rattle.vub_queue.specs.declared.queue.Queue.{Queue}
 use Rattle.vub_report.specs.declared.items.Item.{Item}
 use Rattle.vub_report.specs.declared.items.Record.{Record}
-use Rattle.vub_split.specs.declared.split.SplitRing.{SplitRing}
+use Rattle.vub_queue.specs.declared.queue.QueueSetup.{QueueSetup}
 use Rattle.vub_room.specs.Rooms.{RoomState, HasTurnRoom, HasRoom, SpendsStep}
 use Rattle.vub_world.specs.MachineAt.{PartsAt, LifeAt, AttachedAt, IsReached}
 use Rattle.vub_world.specs.MachineDevice.{is_index, batch_in, shown_in, queue_batch, queue_shows}
@@ -48,24 +48,24 @@ shows_same a b p p' e f = by_batch p ∙ ap (shown_by b) f
     by_batch (phases.Fetch done) = ap (λ (n : ℕ). if is_index (slice_get fetch_steps done) then n else 0) e
     by_batch (phases.Publish done) = ap (λ (n : ℕ). if is_index (slice_get (publish_steps n) done) then n else 0) e
 
-batch_same : (q : ℕ) (h : Header1) (r : SplitRing) (m : Moment) (queue : Queue) → QueueStands q h r m (state_of queue) → length (state_of queue).batch ≡ length (m.lanes q).batch
-batch_same q h r m queue s = ap (λ (xs : List (ℕ × ℕ)). length xs) s.batch ∙ length-map (m.lanes q).batch (spot_of q h m.scene.past (m.scene.heads q))
+batch_same : (q : ℕ) (h : Header1) (setup : QueueSetup) (m : Moment) (queue : Queue) → QueueStands q h setup m (state_of queue) → length (state_of queue).batch ≡ length (m.lanes q).batch
+batch_same q h setup m queue s = ap (λ (xs : List (ℕ × ℕ)). length xs) s.batch ∙ length-map (m.lanes q).batch (spot_of q h m.scene.past (m.scene.heads q))
 
-pub batch_few : (q : ℕ) (h : Header1) (r : SplitRing) (m : Moment) (life : Option (Option Queue)) → LifeAt q h r m life → length (batch_in life) ≤ length (m.lanes q).batch
-batch_few q h r m None at = omega arith
-batch_few q h r m (Some l) at = go l at.1
+pub batch_few : (q : ℕ) (h : Header1) (setup : QueueSetup) (m : Moment) (life : Option (Option Queue)) → LifeAt q h setup m life → length (batch_in life) ≤ length (m.lanes q).batch
+batch_few q h setup m None at = omega arith
+batch_few q h setup m (Some l) at = go l at.1
   where
-    go : (queue : Option Queue) → AttachedAt q h r m queue → length (queue_batch queue) ≤ length (m.lanes q).batch
+    go : (queue : Option Queue) → AttachedAt q h setup m queue → length (queue_batch queue) ≤ length (m.lanes q).batch
     go None at = omega arith
-    go (Some queue) at = omega (arith, batch_same q h r m queue at.2)
+    go (Some queue) at = omega (arith, batch_same q h setup m queue at.2)
 
-pub shown_is : (q : ℕ) (h : Header1) (r : SplitRing) (m : Moment) (life : Option (Option Queue)) → Good q h m → LifeAt q h r m life → (m.lanes q).attached ≡ true → shown_in life ≡ shown_by (course_of h (m.lanes q)) (m.lanes q).phase
-shown_is q h r m None good at attached = absurd (let asleep : (m.lanes q).attached ≡ false = (good.asleep at).0 in let both : true ≡ false = sym attached ∙ asleep in cc)
-shown_is q h r m (Some l) good at attached = go l at.1
+pub shown_is : (q : ℕ) (h : Header1) (setup : QueueSetup) (m : Moment) (life : Option (Option Queue)) → Good q h m → LifeAt q h setup m life → (m.lanes q).attached ≡ true → shown_in life ≡ shown_by (course_of h (m.lanes q)) (m.lanes q).phase
+shown_is q h setup m None good at attached = absurd (let asleep : (m.lanes q).attached ≡ false = (good.asleep at).0 in let both : true ≡ false = sym attached ∙ asleep in cc)
+shown_is q h setup m (Some l) good at attached = go l at.1
   where
-    go : (queue : Option Queue) → AttachedAt q h r m queue → queue_shows queue ≡ shown_by (course_of h (m.lanes q)) (m.lanes q).phase
+    go : (queue : Option Queue) → AttachedAt q h setup m queue → queue_shows queue ≡ shown_by (course_of h (m.lanes q)) (m.lanes q).phase
     go None at = absurd (let both : true ≡ false = sym attached ∙ at.1 in cc)
-    go (Some queue) at = shows_same (course_in (state_of queue)) (course_of h (m.lanes q)) (state_of queue).phase (m.lanes q).phase (batch_same q h r m queue at.2) at.2.phase
+    go (Some queue) at = shows_same (course_in (state_of queue)) (course_of h (m.lanes q)) (state_of queue).phase (m.lanes q).phase (batch_same q h setup m queue at.2) at.2.phase
 
 -- ---- the loop
 
@@ -149,7 +149,7 @@ pub turn_room : (q : ℕ) (h : Header1) (sequence : Sequence) (es : List Event) 
 turn_room q h sequence es rs m most done now before after taken r low stands same left d =
     let n : Moment = (so_far q h sequence m done).next in
     let good = (stands_turns q h es rs m done (choices_from q h sequence m) low stands).0 in
-    let few = batch_few q now.front.header now.front.ring n now.life d.at.life in
+    let few = batch_few q now.front.header now.front.setup n now.life d.at.life in
     let not_yet = batch_undone q h n good in record {
       items = omega (arith, left, d.room.items);
       lists = omega (arith, left, d.room.lists, few, not_yet);
@@ -183,8 +183,8 @@ turns_go_on q h sequence es rs m most done now next before after after' taken ta
     let items_are : after' ≡ after ++ (one_turn h q t n).items = subst (λ (k : Header1). after' ≡ after ++ (one_turn k q t n).items) same went.2 in
     let taken_are : taken' + accepted n.scene.past q ≡ taken + accepted (one_turn h q t n).next.scene.past q = subst (λ (k : Header1). taken' + accepted n.scene.past q ≡ taken + accepted (one_turn k q t n).next.scene.past q) same went.3 in
     let attached : (n.lanes q).attached ≡ true = grind (arith, nat_tests) in
-    let life : LifeAt q h now.front.ring n now.life = subst (λ (k : Header1). LifeAt q k now.front.ring n now.life) same d.at.life in
-    let shown : shown_in now.life ≡ shown_by (course_of h (n.lanes q)) (n.lanes q).phase = shown_is q h now.front.ring n now.life good life attached in
+    let life : LifeAt q h now.front.setup n now.life = subst (λ (k : Header1). LifeAt q k now.front.setup n now.life) same d.at.life in
+    let shown : shown_in now.life ≡ shown_by (course_of h (n.lanes q)) (n.lanes q).phase = shown_is q h now.front.setup n now.life good life attached in
     let shows = chosen_shows q h n sequence taken good t (sym is) in
     let heads : (one_turn h q t n).next.scene.heads q ≡ n.scene.heads q = (turn_gentle q h t n plain good).heads in
     let many : length ((one_turn h q t n).next.scene.heads q) ≡ length (n.scene.heads q) = ap (λ (xs : List ℕ). length xs) heads in

@@ -11,12 +11,12 @@ use Rattle.vub_driver.specs.Layout.{ring_of}
 use Rattle.vub_memdisk.specs.MemDisks.{values_of, capacity_of}
 use Rattle.vub_ring.specs.Ring.{Ring}
 use Rattle.vub_schedule.specs.Spelling.{IsHeader}
-use Rattle.vub_queue_in_run.specs.QueueAt.{LiesAs}
+use Rattle.vub_queue_in_run.specs.QueueAt.{LiesAs, IsNewQueue}
 use Rattle.vub_shared.specs.declared.watched_shared.WatchedShared.{WatchedShared}
 use Rattle.vub_world.specs.declared.front.Front.{Front}
 use Rattle.vub_world.specs.declared.machine.Machine.{Machine}
-use Rattle.vub_world.specs.Fronts.{FrontSound, IsNewFront, AreNewFronts, IsNewQueue, AreNewQueues, offered_by}
-use Rattle.vub_world.specs.Lives.{RingOfLife, LiesInLife, life_of}
+use Rattle.vub_world.specs.Fronts.{FrontSound, IsNewFront, AreNewFronts, AreNewQueues, offered_by}
+use Rattle.vub_world.specs.Lives.{IsOnInLife, LiesInLife, life_of}
 use Rattle.vub_world.specs.declared.machine.Life.{Life}
 use Rattle.std.proofs.lemmas.List.{length_push}
 use Rattle.std.proofs.lemmas.Option.{slice_get_within}
@@ -58,7 +58,9 @@ new_sound h q memory f is new low size unfailed = record {
   header = subst (λ (k : Header1). IsHeader k) (sym new.header) is;
   exists = omega (arith, new.index, low, ap (λ (k : Header1). k.queues) new.header);
   guest = new.guest ∙ ap (λ (k : Header1). ring_of q k.size) (sym new.header) ∙ ap (λ (p : ℕ). ring_of p f.header.size) (sym new.index);
-  ring = subst (λ (p : ℕ). LiesAs p f.ring f.header.size) (sym new.index) (subst (λ (k : Header1). LiesAs q f.ring k.size) (sym new.header) new.ring);
+  setup = subst (λ (p : ℕ). LiesAs p f.setup f.header.size) (sym new.index) (subst (λ (k : Header1). LiesAs q f.setup k.size) (sym new.header) new.setup);
+  base = new.base ∙ ap (λ (k : Header1). k.base) (sym new.header);
+  space = new.space;
   room = omega (arith, new.index, low, size);
   unfailed = unfailed;
 }
@@ -76,7 +78,7 @@ opens w is none fronts life disk = record {
           asks = new.asked;
         };
         position = new.position ∙ (let e : w.header.base ≡ (f.header.base + 0) % 65536 = omega (arith, is.begins, ap (λ (k : Header1). k.base) new.header) in e);
-        life = subst (λ (l : Option Life). LifeAt q f.header f.ring (opening w.header) (life_of q l)) (sym life) refl;
+        life = subst (λ (l : Option Life). LifeAt q f.header f.setup (opening w.header) (life_of q l)) (sym life) refl;
         disk = subst (λ (k : Header1). (s : ℕ) → s < k.capacity → values_of w.disk s ≡ replicate 512 0) (sym new.header) disk;
         outstanding = record {
           offers_are = new.offered;
@@ -114,7 +116,7 @@ one_front_more h count fronts f now new made is = subst (λ (xs : List Front). A
 pub no_queues : (fronts : List Front) (queues : List Queue) → length queues ≡ 0 → AreNewQueues 0 fronts queues
 no_queues fronts queues none = record { many = none; each = λ q f queue is there. absurd (omega (arith, none, slice_get_within queues q queue there)) }
 
-pub one_queue_more : (count : ℕ) (fronts : List Front) (queues : List Queue) (f : Front) (queue : Queue) (now : List Queue) → AreNewQueues count fronts queues → slice_get fronts count ≡ Some f → IsNewQueue f queue → now ≡ queues ++ queue ∷ [] → AreNewQueues (count + 1) fronts now
+pub one_queue_more : (count : ℕ) (fronts : List Front) (queues : List Queue) (f : Front) (queue : Queue) (now : List Queue) → AreNewQueues count fronts queues → slice_get fronts count ≡ Some f → IsNewQueue f.setup queue → now ≡ queues ++ queue ∷ [] → AreNewQueues (count + 1) fronts now
 one_queue_more count fronts queues f queue now new here made is = subst (λ (xs : List Queue). AreNewQueues (count + 1) fronts xs) (sym is) (record {
   many = omega (arith, new.many, length_push queues queue);
   each = λ q x y front there. elim (last_of queues queue y q there) [
@@ -122,7 +124,7 @@ one_queue_more count fronts queues f queue now new here made is = subst (λ (xs 
     | inr last ↦
         let same : Some f ≡ Some x = sym here ∙ ap (λ (k : ℕ). slice_get fronts k) (sym (last.0 ∙ new.many)) ∙ front in
         let it : f ≡ x = cc same in
-        subst (λ (z : Front). IsNewQueue z y) it (subst (λ (z : Queue). IsNewQueue f z) last.1 made)
+        subst (λ (z : Front). IsNewQueue z.setup y) it (subst (λ (z : Queue). IsNewQueue f.setup z) last.1 made)
   ];
 })
 
@@ -141,7 +143,7 @@ opening_sound w is size unfailed fronts life disk = record {
       record {
         index = new.index;
         front = new_sound w.header q w.memory f is new low size unfailed;
-        queue = subst (λ (l : Option Life). RingOfLife (λ r. r ≡ f.ring) (life_of q l)) (sym life) tt;
+        queue = subst (λ (l : Option Life). IsOnInLife f.setup (life_of q l)) (sym life) tt;
         disk = disk ∙ ap (λ (h : Header1). h.capacity) (sym new.header);
         lies = subst (λ (l : Option Life). LiesInLife (sizes_in w.memory) (capacity_of w.disk) (life_of q l)) (sym life) tt;
       };

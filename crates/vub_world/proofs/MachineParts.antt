@@ -13,17 +13,16 @@ use Rattle.vub_memdisk.specs.MemDisks.{capacity_of}
 use Rattle.vub_memdisk.specs.declared.mem_disk.MemDisk.{MemDisk}
 use Rattle.vub_queue.specs.declared.queue.Queue.{Queue}
 use Rattle.vub_queue_in_run.proofs.WorkAtLists.{slice_get-set_same}
-use Rattle.vub_run_laws.proofs.Sizes.{size_laps}
 use Rattle.vub_run.specs.Moments.{Moment}
 use Rattle.vub_run.specs.Run.{Stands}
 use Rattle.vub_shared.specs.Watched.{sizes_in}
 use Rattle.vub_shared.specs.declared.watched_shared.WatchedShared.{WatchedShared}
-use Rattle.vub_split.specs.declared.split.SplitRing.{SplitRing}
+use Rattle.vub_queue.specs.declared.queue.QueueSetup.{QueueSetup}
 use Rattle.vub_world.specs.declared.front.Front.{Front}
 use Rattle.vub_world.specs.declared.machine.Life.{Life}
 use Rattle.vub_world.specs.declared.machine.Machine.{Machine}
 use Rattle.vub_world.specs.Fronts.{Parts, FrontSound, PartsSound, parts, parts_of, offered_by}
-use Rattle.vub_world.specs.Lives.{RingOfLife, life_of, queue_of}
+use Rattle.vub_world.specs.Lives.{IsOnInLife, life_of, queue_of}
 use Rattle.vub_world.specs.Machine.{IsSound, AreAttached}
 use Rattle.vub_world.specs.MachineAt.{MachineAt, PartsAt, IsStanding, PartsStand}
 use Rattle.vub_world.specs.MachineDevice.{is_joining}
@@ -123,7 +122,7 @@ with_front_at w memory q g = record w { memory = memory; fronts = with_item w.fr
 pub record KeepsFront (f g : Front) : Type 0 where
   pub header : g.header ≡ f.header
   pub index : g.index ≡ f.index
-  pub ring : g.ring ≡ f.ring
+  pub setup : g.setup ≡ f.setup
 
 pub front_sound : (w : Machine) (memory : WatchedShared) (q : ℕ) (f g : Front) → IsSound w → slice_get w.fronts.items q ≡ Some f → KeepsFront f g → FrontSound memory g → ((s : ℕ) → sizes_in memory s ≡ sizes_in w.memory s) → IsSound (with_front_at w memory q g)
 front_sound w memory q f g sound is keeps front sizes = record {
@@ -135,7 +134,7 @@ front_sound w memory q f g sound is keeps front sizes = record {
   parts = each_front w q f g (λ p x. PartsSound p (parts_of p x now)) sound is (record {
     index = keeps.index ∙ old.index;
     front = front;
-    queue = subst (λ (r : SplitRing). RingOfLife (λ x. x ≡ r) (life_of q w.life)) (sym keeps.ring) old.queue;
+    queue = subst (λ (s : QueueSetup). IsOnInLife s (life_of q w.life)) (sym keeps.setup) old.queue;
     disk = old.disk ∙ ap (λ (h : Header1). h.capacity) (sym keeps.header);
     lies = life_lies (sizes_in w.memory) (sizes_in memory) (capacity_of w.disk) (life_of q w.life) sizes old.lies;
   });
@@ -151,8 +150,8 @@ front_sound w memory q f g sound is keeps front sizes = record {
 pub asked_sound : (w : Machine) (q : ℕ) (f g : Front) → IsSound w → slice_get w.fronts.items q ≡ Some f → g ≡ record f { guest = g.guest; asked = g.asked } → ring_in g.guest ≡ ring_in f.guest → IsSound (with_front_at w w.memory q g)
 asked_sound w q f g sound is frame ring =
     let old = (sound.parts q f is).front in
-    let asked : FrontSound w.memory (record f { guest = g.guest; asked = g.asked }) = record { header = old.header; exists = old.exists; guest = ring ∙ old.guest; ring = old.ring; room = old.room; unfailed = old.unfailed } in
-    front_sound w w.memory q f g sound is (record { header = ap (λ (x : Front). x.header) frame; index = ap (λ (x : Front). x.index) frame; ring = ap (λ (x : Front). x.ring) frame }) (subst (λ (x : Front). FrontSound w.memory x) (sym frame) asked) (λ s. refl)
+    let asked : FrontSound w.memory (record f { guest = g.guest; asked = g.asked }) = record { header = old.header; exists = old.exists; guest = ring ∙ old.guest; setup = old.setup; base = old.base; space = old.space; room = old.room; unfailed = old.unfailed } in
+    front_sound w w.memory q f g sound is (record { header = ap (λ (x : Front). x.header) frame; index = ap (λ (x : Front). x.index) frame; setup = ap (λ (x : Front). x.setup) frame }) (subst (λ (x : Front). FrontSound w.memory x) (sym frame) asked) (λ s. refl)
 
 pub front_at : (w : Machine) (memory : WatchedShared) (q : ℕ) (f g : Front) (next : Moment) → IsSound w → slice_get w.fronts.items q ≡ Some f → PartsAt q (with_desk (parts_of q f w) memory g) next → MachineAt (with_front_at w memory q g) next
 front_at w memory q f g next sound is at = record { many = length-set w.fronts.items q g ∙ sound.many; queues = each_front w q f g (λ p x. PartsAt p (parts_of p x (with_front_at w memory q g)) next) sound is at }
@@ -232,10 +231,3 @@ turns_begin_at w q f k qs queue sound stood is life queues there = record {
 
     same : parts_of q f w ≡ p
     same = ap (λ (o : Option (Option Queue)). record { memory = w.memory; front = f; life = o; disk = w.disk }) (life_has w.life k qs q queue life queues there)
-
--- the ring of a front is small
-pub ring_few : (w : Machine) (q : ℕ) (f : Front) → IsSound w → slice_get w.fronts.items q ≡ Some f → f.ring.size ≤ 1024
-ring_few w q f sound is =
-    let front = (sound.parts q f is).front in
-    let laps = size_laps f.header.size front.header.sized in
-    omega (arith, front.ring.size, laps.1)

@@ -12,11 +12,9 @@ use Rattle.vub_steps.specs.declared.readiness.Standing.{Standing}
 use Rattle.vub_steps.specs.declared.readiness.Turn.{Turn}
 use Rattle.vub_steps.specs.declared.readiness.Turn.TheVariants as turns
 use Rattle.vub_steps.specs.Readiness.{is_publication, any_turn, draining_turn}
-use Rattle.vub_steps.specs.Rows.{Row, row_of}
-use Rattle.vub_ring.specs.Ring.{used_idx}
+use Rattle.vub_steps.specs.Rows.{Row}
 use Rattle.vub_steps.specs.declared.steps.Course.{Course}
 use Rattle.vub_steps.specs.Steps.{publish_steps, next_step}
-use Rattle.vub_driver.specs.Layout.{ring_of}
 use Rattle.vub_device.specs.declared.entry.Asked.{Asked}
 use Rattle.vub_device.specs.declared.entry.Entry.{Entry}
 use Rattle.vub_device.specs.declared.entry.SectorValue.{SectorValue}
@@ -33,7 +31,7 @@ use Rattle.vub_run.specs.Moments.{Lane, Moment, standing, unfinished}
 use Rattle.vub_run.specs.Run.{one_turn}
 use Rattle.vub_steps.specs.Tasks.{RequestStep, Look, Put, Act, Sync, Status, task_steps}
 use Rattle.vub_run.specs.TaskItems.{look_items, act_items}
-use Rattle.vub_run.specs.Turns.{course_of, turned, work_turn, request_turn, task_turn, phase_turn, phase_goes_on, under_way, begun, is_rest, row_items, step_stores, element_of, answer_at}
+use Rattle.vub_run.specs.Turns.{course_of, turned, work_turn, request_turn, task_turn, phase_turn, phase_goes_on, under_way, begun, is_rest, row_items, step_stores, answer_at}
 use Rattle.vub_run_laws.proofs.RunQueue.{phase_at}
 use Rattle.vub_run_laws.proofs.RunNumbers.{missing-among, distinct_join}
 use Rattle.vub_facts.proofs.HeadLemmas.{few_below}
@@ -85,11 +83,14 @@ row_shows : (q : ℕ) (h : Header1) (s : Scene) (o : Option Row) → count_in q 
 row_shows q h s None = refl
 row_shows q h s (Some x) = refl
 
+stores_show : (q : ℕ) (h : Header1) (s : Scene) (batch : List ℕ) (step : Step) → count_in q (after_items h (step_stores h q batch step s ++ []) s) ≡ count_in q s
+stores_show q h s batch step = row_shows q h s _
+
 step_shows : (q : ℕ) (h : Header1) (s : Scene) (l : Lane) (step : Step) → count_in q (after_items h (phase_turn h q s l (Some step)).items s) ≡ count_in q s + step_shown (length l.batch) (Some step)
 step_shows q h s l steps.Start = omega arith
 step_shows q h s l steps.Accept = omega arith
-step_shows q h s l (steps.Id e) = row_shows q h s (row_of (ring_of q h.size) (used_idx (ring_of q h.size) s.memory) (map (element_of h q s) l.batch) (steps.Id e)) ∙ omega arith
-step_shows q h s l (steps.Len e) = row_shows q h s (row_of (ring_of q h.size) (used_idx (ring_of q h.size) s.memory) (map (element_of h q s) l.batch) (steps.Len e)) ∙ omega arith
+step_shows q h s l (steps.Id e) = stores_show q h s l.batch (steps.Id e) ∙ omega arith
+step_shows q h s l (steps.Len e) = stores_show q h s l.batch (steps.Len e) ∙ omega arith
 step_shows q h s l steps.Index =
     let s' : Scene = after_items h (step_stores h q l.batch steps.Index s) s in
     let list : List Answered = map (answer_at q s') l.batch in

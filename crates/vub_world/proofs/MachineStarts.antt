@@ -17,13 +17,13 @@ use Rattle.vub_world.specs.declared.front.Front.{Front}
 use Rattle.vub_world.specs.declared.machine.Life.{Life}
 use Rattle.vub_world.specs.declared.machine.Machine.{Machine}
 use Rattle.vub_world.specs.Fronts.{AreNewQueues, parts_of}
-use Rattle.vub_world.specs.Lives.{RingOfLife, LiesInLife, life_of, queue_of}
+use Rattle.vub_world.specs.Lives.{IsOnInLife, LiesInLife, life_of, queue_of}
 use Rattle.vub_world.specs.Machine.{IsSound, AreAttached, AreInLife}
 use Rattle.vub_world.specs.MachineAt.{LifeAt, MachineAt, PartsAt, is_attached}
 use Rattle.vub_world.specs.MachineDevice.{is_joining}
-use Rattle.vub_world.proofs.MachineLemmas.{sound_ring}
+use Rattle.vub_world.proofs.MachineLemmas.{sound_lies}
 use Rattle.vub_world.proofs.MachineLives.{booted, booted_at, asleep_at, joined, joined_at, joining_at}
-use Rattle.vub_split.specs.declared.split.SplitRing.{SplitRing}
+use Rattle.vub_queue.specs.declared.queue.QueueSetup.{QueueSetup}
 use Rattle.vub_world.proofs.MachineTurnsAt.{has_no_queue, none_attached}
 use Rattle.vub_world.proofs.MachineParts.{found_there, the_low, first_front, life_none, life_joining, with_life_of}
 
@@ -47,7 +47,7 @@ booted_sound w l sound none = record {
       record {
         index = old.index;
         front = old.front;
-        queue = subst (λ (o : Option (Option Queue)). RingOfLife (λ r. r ≡ f.ring) o) (sym life) tt;
+        queue = subst (λ (o : Option (Option Queue)). IsOnInLife f.setup o) (sym life) tt;
         disk = old.disk;
         lies = subst (λ (o : Option (Option Queue)). LiesInLife (sizes_in w.memory) (capacity_of w.disk) o) (sym life) tt;
       };
@@ -86,9 +86,9 @@ joined_sound w l qs sound new many has = record {
       record {
         index = old.index;
         front = old.front;
-        queue = subst (λ (o : Option (Option Queue)). RingOfLife (λ r. r ≡ f.ring) o) (sym life) made.ring;
+        queue = subst (λ (o : Option (Option Queue)). IsOnInLife f.setup o) (sym life) made.ring;
         disk = old.disk;
-        lies = subst (λ (o : Option (Option Queue)). LiesInLife (sizes_in w.memory) (capacity_of w.disk) o) (sym life) (made.lies (sizes_in w.memory) (capacity_of w.disk) (sound_ring w.memory f old.front));
+        lies = subst (λ (o : Option (Option Queue)). LiesInLife (sizes_in w.memory) (capacity_of w.disk) o) (sym life) (made.lies (sizes_in w.memory) (capacity_of w.disk) (sound_lies w.memory f old.front));
       };
 }
 
@@ -104,7 +104,7 @@ joined_on w l qs es rs m sound new joining has stands at = record {
       let made = new.each q f there.0 is there.1 in
       let none = joining_at q (parts_of q f w) m (at.queues q f is) (life_joining w.life q joining) in
       subst (λ (o : Option (Option Queue)). PartsAt q (record (parts_of q f w) { life = o }) (joined m)) (sym life)
-      (joined_at q (parts_of q f w) m there.0 (plain_header h s.header) (stands_good q h es rs m (the_low w q f sound is) s) s.header.begins none.1 none.0 made.state (at.queues q f is));
+      (joined_at q (parts_of q f w) m there.0 (plain_header h s.header) (stands_good q h es rs m (the_low w q f sound is) s) s.header.begins (sound.parts q f is).front.base none.1 none.0 made (at.queues q f is));
 }
 
 -- ---- where they aren't ready
@@ -115,7 +115,7 @@ living_on w m sound some at = go w.life some (at.queues 0 front.0 front.1).life
     front : (f : Front) × (slice_get w.fronts.items 0 ≡ Some f)
     front = first_front w sound
 
-    go : (l : Option Life) → is_some l ≡ true → LifeAt 0 front.0.header front.0.ring m (life_of 0 l) → m.lives ≡ true
+    go : (l : Option Life) → is_some l ≡ true → LifeAt 0 front.0.header front.0.setup m (life_of 0 l) → m.lives ≡ true
     go None some at = absurd (cc some)
     go (Some l) some at = at.0
 
@@ -123,11 +123,11 @@ pub boot_idle : (m : Moment) → m.lives ≡ true → played (items.Idle ∷ [])
 boot_idle m lives = sym (ap (λ (b : Bool). if_ready (not b) (played [] (booted m)) m) lives)
 
 -- every queue is attached where one is
-attached_first : {Z : Type 0} (h : Header1) (count : ℕ) (r : SplitRing) (m : Moment) (o : Option (Vec Queue Z)) → AreAttached count o → 0 < count → not (is_some o) ≡ false → LifeAt 0 h r m (Some (queue_of 0 o)) → m.joined ≡ true
-attached_first h count r m None many low is at = absurd (cc is)
-attached_first h count r m (Some qs) many low is at =
+attached_first : {Z : Type 0} (h : Header1) (count : ℕ) (setup : QueueSetup) (m : Moment) (o : Option (Vec Queue Z)) → AreAttached count o → 0 < count → not (is_some o) ≡ false → LifeAt 0 h setup m (Some (queue_of 0 o)) → m.joined ≡ true
+attached_first h count setup m None many low is at = absurd (cc is)
+attached_first h count setup m (Some qs) many low is at =
     let there = found_there qs.items 0 (omega (arith, many, low)) in
-    let here : LifeAt 0 h r m (Some (Some there.0)) = subst (λ (o : Option Queue). LifeAt 0 h r m (Some o)) there.1 at in
+    let here : LifeAt 0 h setup m (Some (Some there.0)) = subst (λ (o : Option Queue). LifeAt 0 h setup m (Some o)) there.1 at in
     here.1.0
 
 pub join_idle_on : (w : Machine) (m : Moment) → IsSound w → is_joining w.life ≡ false → MachineAt w m → played (items.Idle ∷ []) m ≡ join m
@@ -136,10 +136,10 @@ join_idle_on w m sound none at = go w.life sound.attached none (at.queues 0 fron
     front : (f : Front) × (slice_get w.fronts.items 0 ≡ Some f)
     front = first_front w sound
 
-    go : (l : Option Life) → AreInLife w.header.queues l → is_joining l ≡ false → LifeAt 0 front.0.header front.0.ring m (life_of 0 l) → played (items.Idle ∷ []) m ≡ join m
+    go : (l : Option Life) → AreInLife w.header.queues l → is_joining l ≡ false → LifeAt 0 front.0.header front.0.setup m (life_of 0 l) → played (items.Idle ∷ []) m ≡ join m
     go None many is at = sym (ap (λ (b : Bool). if_ready (b && not m.joined) (played [] (joined m)) m) at)
     go (Some l) many is at =
-        let all : m.joined ≡ true = attached_first front.0.header w.header.queues front.0.ring m l.queues many (omega (arith, sound.header.one)) is at in
+        let all : m.joined ≡ true = attached_first front.0.header w.header.queues front.0.setup m l.queues many (omega (arith, sound.header.one)) is at in
         sym (ap (λ (b : Bool). if_ready (b && not m.joined) (played [] (joined m)) m) at.0 ∙ ap (λ (b : Bool). if_ready (true && not b) (played [] (joined m)) m) all)
 
 -- ---- where no queue is attached

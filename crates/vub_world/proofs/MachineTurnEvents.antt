@@ -37,7 +37,7 @@ pub single_room : (q : ℕ) (w : Parts) (r : RoomState) → PartsStand q w → H
 single_room q w r s room =
     let m : Moment = s.2.0 in
     let good = stands_good q w.front.header s.0 s.1 m s.2.3 s.2.1 in
-    let batch = batch_few q w.front.header w.front.ring m w.life s.2.2.life in
+    let batch = batch_few q w.front.header w.front.setup m w.life s.2.2.life in
     let not_yet = batch_undone q w.front.header m good in
     let few = undone_few q w.front.header m w good s.2.2 in
     record {

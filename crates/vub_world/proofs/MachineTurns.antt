@@ -2,8 +2,7 @@
 use Rattle.std.proofs.Common.{◌≡◌, ◌≤◌, ◌<◌, ◌⊎◌, ℕ, ◌+◌, ◌*◌, ◌%◌, Bool, true, false, List, [], ◌∷◌, ◌++◌, length, map, cond, refl, ap, sym, ◌∙◌, subst, inl, inr, arith}
 use Rattle.std.specs.Prelude.{Option, Some, None, Result, Ok, unwrap_or, option_map, slice_index, slice_get, ◌==◌, ◌||◌, ⊤}
 use Rattle.std.proofs.lemmas.Bool.Decides.{nat_tests}
-use Rattle.byteorder.specs.Endian.{little_bytes}
-use Rattle.vub_run_laws.proofs.RunQueue.{phase_at, queue_ahead}
+use Rattle.vub_run_laws.proofs.RunQueue.{phase_at, queue_ahead, head_below}
 use Rattle.vub_base.specs.declared.header.Header1.{Header1}
 use Rattle.vub_base.specs.declared.store.Tag.{Tag}
 use Rattle.vub_base.specs.declared.store.Tag.TheVariants.{SP5}
@@ -20,7 +19,6 @@ use Rattle.vub_steps.specs.declared.readiness.Turn.TheVariants as turns
 use Rattle.vub_steps.specs.declared.steps.Step.{Step}
 use Rattle.vub_steps.specs.declared.steps.Step.TheVariants as steps
 use Rattle.vub_steps.specs.Readiness.{is_ready, is_publication}
-use Rattle.vub_ring.specs.Ring.{used_idx_place}
 use Rattle.vub_steps.specs.Rows.{Row, row}
 use Rattle.vub_steps.specs.Steps.{next_step}
 use Rattle.vub_driver.specs.Layout.{area_place, buffer_place, status_place, sectors_place}
@@ -37,7 +35,7 @@ use Rattle.vub_report.specs.declared.items.Item.{Item}
 use Rattle.vub_report.specs.declared.items.Item.TheVariants as items
 use Rattle.vub_queue.specs.declared.queue.Stepped.{Stepped}
 use Rattle.vub_queue.specs.declared.queue.Stepped.TheVariants as says
-use Rattle.vub_split.specs.declared.split.SplitRing.{SplitRing}
+use Rattle.vub_queue.specs.declared.queue.QueueSetup.{QueueSetup}
 use Rattle.vub_task.specs.declared.task.Task.{Task}
 use Rattle.vub_world.specs.OutstandingRequests.{slot_in}
 use Rattle.vub_world.specs.MachineAt.{OutstandingAt, reads_of}
@@ -47,7 +45,6 @@ use Rattle.vub_run.specs.Memory.{after_items}
 use Rattle.vub_run.specs.Moments.{Lane, Moment, standing}
 use Rattle.vub_queue_in_run.specs.QueueAt.{spot_of, QueueStands, LiesAs, DiskAt}
 use Rattle.vub_queue.specs.QueueState as states
-use Rattle.vub_split.specs.Split.{used_side}
 use Rattle.vub_queue.specs.QueueState.{course_in, QueueState, row_at, row_if, next_row, publishes, publish_row, StoresRow, TrailsRow, Turns, DoesStore, DoesTrail, DoesDisk, IsDue, IfStepped, WorksOut, outcome, is_idle, is_fault}
 use Rattle.vub_run.specs.Run.{one_turn}
 use Rattle.vub_task.specs.TaskState.{Making}
@@ -61,18 +58,18 @@ use Rattle.vub_run_laws.proofs.RunTurns.{IsPlain, Good}
 use Rattle.vub_run_laws.proofs.RunChainsEvents.{ChainedAt}
 use Rattle.vub_queue_in_run.proofs.QueueAtMoves.{new_unpublished}
 use Rattle.vub_queue_in_run.proofs.QueueAtTurns.{IsPhaseTurn, start_stands, fetch_stands, idle_stands, ready_same}
-use Rattle.vub_queue_in_run.proofs.QueueAtRows.{HasPublished, HasShown, MadeElement, ShowsNext, row_stands, shown_stands, stored_stands, after_row, shows_goes, goes_under_way}
+use Rattle.vub_queue_in_run.proofs.QueueAtRows.{HasPublished, HasShown, MadeElement, ShowsNext, row_stands, shown_stands, stored_stands, after_row, few_stored, shown_place}
 use Rattle.vub_queue_in_run.proofs.WorkAtItems.{turn_disk}
 
 -- ---- what a turn is given, and what it does
 
 -- the device stands at a moment of a run, and its memory keeps no store
-pub record TurnAt (q : ℕ) (h : Header1) (r : SplitRing) (m : Moment) (outstanding : OutstandingRequests) (d : Device) : Type 0 where
+pub record TurnAt (q : ℕ) (h : Header1) (setup : QueueSetup) (m : Moment) (outstanding : OutstandingRequests) (d : Device) : Type 0 where
   pub plain : IsPlain h
   pub good : Good q h m
   pub chained : ChainedAt q h m
-  pub main : LiesAs q r h.size
-  pub at : DeviceAt q h r m d
+  pub main : LiesAs q setup h.size
+  pub at : DeviceAt q h setup m d
   pub fresh : d.stores ≡ []
   pub numbered : OutstandingAt q h.size m.scene.past (m.scene.heads q) outstanding
 
@@ -101,10 +98,10 @@ disk_same cap past v w same disk = subst (λ (u : Values). DiskAt cap past u) (s
 
 -- ---- a start
 
-pub start_made : (q : ℕ) (h : Header1) (r : SplitRing) (m : Moment) (outstanding : OutstandingRequests) (cap : ℕ) (sizes : ℕ → ℕ) (d now : Device) (x : Stepped) → TurnAt q h r m outstanding d → is_ready (standing h q m) turns.Start ≡ true → DeviceDoes turns.Start cap sizes d now x
-    → TurnMade q h r m turns.Start outstanding d now x
-start_made q h r m outstanding cap sizes d now x a ready does =
-    let s = start_stands q h r m (Some d.memory) x d.queue now.queue a.plain a.good a.main a.at.stands ready does.fine does.does in
+pub start_made : (q : ℕ) (h : Header1) (setup : QueueSetup) (m : Moment) (outstanding : OutstandingRequests) (cap : ℕ) (sizes : ℕ → ℕ) (d now : Device) (x : Stepped) → TurnAt q h setup m outstanding d → is_ready (standing h q m) turns.Start ≡ true → DeviceDoes turns.Start cap sizes d now x
+    → TurnMade q h setup m turns.Start outstanding d now x
+start_made q h setup m outstanding cap sizes d now x a ready does =
+    let s = start_stands q h setup m (Some d.memory) x d.queue now.queue a.plain a.good a.main a.at.stands ready does.fine does.does in
     let none : accepts x ≡ 0 = ap accepts s.said in
     let same : accepted (one_turn h q turns.Start m).next.scene.past q ≡ accepted m.scene.past q = ap (λ (is : List Item). accepted (after_items h is m.scene).past q) s.made in
     record {
@@ -139,13 +136,13 @@ more_offered q h m plain good ready =
     let waits = waits_there (m.lanes q).batch (m.lanes q).phase st.started st.waiting st.unfinished st.completed (phase_at q h m.scene (m.lanes q) good.holds) ready in
     omega (arith, some, waits)
 
-pub fetch_made : (q : ℕ) (h : Header1) (r : SplitRing) (m : Moment) (outstanding : OutstandingRequests) (cap : ℕ) (sizes : ℕ → ℕ) (d now : Device) (x : Stepped) → TurnAt q h r m outstanding d → is_ready (standing h q m) turns.Fetch ≡ true → DeviceDoes turns.Fetch cap sizes d now x
-    → TurnMade q h r m turns.Fetch outstanding d now x
-fetch_made q h r m outstanding cap sizes d now x a ready does =
+pub fetch_made : (q : ℕ) (h : Header1) (setup : QueueSetup) (m : Moment) (outstanding : OutstandingRequests) (cap : ℕ) (sizes : ℕ → ℕ) (d now : Device) (x : Stepped) → TurnAt q h setup m outstanding d → is_ready (standing h q m) turns.Fetch ≡ true → DeviceDoes turns.Fetch cap sizes d now x
+    → TurnMade q h setup m turns.Fetch outstanding d now x
+fetch_made q h setup m outstanding cap sizes d now x a ready does =
     let k : ℕ = accepted m.scene.past q in
     let head : ℕ = slice_index (m.scene.heads q) k in
     let told : Turns turns.Fetch (Some m.scene.memory) x d.queue now.queue = subst (λ (b : Bytes). Turns turns.Fetch (Some b) x d.queue now.queue) a.at.memory_is does.does in
-    let s = fetch_stands q h r m x d.queue now.queue a.plain a.good a.main a.at.stands ready does.fine told in
+    let s = fetch_stands q h setup m x d.queue now.queue a.plain a.good a.main a.at.stands ready does.fine told in
     let new = not_among-take (published m.scene.past q) (collected m.scene.past q) k (new_unpublished q h.size h.capacity m.scene.past (m.scene.heads q) a.good.holds.known) in
     let offered : k < length (m.scene.heads q) = more_offered q h m a.plain a.good ready in
     let slot = a.numbered.slots k offered new in
@@ -163,7 +160,7 @@ fetch_made q h r m outstanding cap sizes d now x a ready does =
       items_are = s.made ∙ ap (λ (n : ℕ). items.Made (entries.Accept q n) ∷ []) (sym number) ∙ sym (ap (noted q outstanding now.values now.stores (shown_of q outstanding d.memory d.queue)) s.said);
       store = subst (λ (y : Stepped). StoreFits y now.stores) (sym s.said) tt;
       sector = subst (λ (y : Stepped). SectorFits h.capacity y) (sym s.said) tt;
-      head = subst (λ (y : Stepped). HeadFits h.size y) (sym s.said) (a.good.holds.queue.driven.below k (record { below = offered; kept = new }));
+      head = subst (λ (y : Stepped). HeadFits h.size y) (sym s.said) (head_below q h m.scene (m.lanes q).driver (m.lanes q).batch (m.lanes q).phase k a.good.holds.queue (record { below = offered; kept = new }));
       taken = omega (arith, one, more);
     }
 
@@ -185,29 +182,8 @@ stored_row d now x o y fine is fresh stores trails =
       stores_are = some_is now.stores (after_in_trail y.store d.stores) trail ∙ ap (after_in_trail y.store) fresh;
     }
 
-few_get : (o : Option (ℕ × ℕ)) (f : ℕ × ℕ → Row) (y : Row) → ((z : ℕ × ℕ) → length (f z).store.bytes ≤ 512) → option_map f o ≡ Some y → length y.store.bytes ≤ 512
-few_get None f y few is = absurd (let fails : None ≡ Some y = is in cc)
-few_get (Some z) f y few is = subst (λ (x : Row). length x.store.bytes ≤ 512) (some_is (f z) y is) (few z)
-
--- a row stores few bytes
-few_row : (u : QueueState) (o : Option Step) (y : Row) → row_at u o ≡ Some y → length y.store.bytes ≤ 512
-few_row u None y is = absurd (let fails : None ≡ Some y = is in cc)
-few_row u (Some steps.Start) y is = absurd (let fails : None ≡ Some y = is in cc)
-few_row u (Some steps.Accept) y is = absurd (let fails : None ≡ Some y = is in cc)
-few_row u (Some (steps.Id e)) y is = few_get (slice_get u.batch e) _ y (λ z. omega (arith, length_little 4 z.0)) is
-few_row u (Some (steps.Len e)) y is = few_get (slice_get u.batch e) _ y (λ z. omega (arith, length_little 4 z.1)) is
-few_row u (Some steps.Index) y is =
-    let last : ℕ = (u.next_used + length u.batch) % 65536 in
-    subst (λ (x : Row). length x.store.bytes ≤ 512) (some_is (row (used_side u.ring) SP5 (used_idx_place (used_side u.ring)) (little_bytes 2 last)) y is) (omega (arith, length_little 2 last))
-
-row_in : (b : Bool) (u : QueueState) (y : Row) → row_if b u ≡ Some y → next_row u ≡ Some y
-row_in true u y is = is
-row_in false u y is = absurd (let fails : None ≡ Some y = is in cc)
-
 small_row : (most : ℕ) (state : QueueState) (y : Row) → publish_row most state ≡ Some y → y.store.space ≡ 0 → IsSmall y.store
-small_row most state y is space =
-    let u : QueueState = states.under_way most state in
-    record { space = space; few = omega (arith, few_row u (next_step (course_in u) u.phase) y (row_in (publishes most state) u y is)) }
+small_row most state y is space = record { space = space; few = omega (arith, few_stored most state y is) }
 
 -- the items of a store
 store_made : (d now : Device) (tag : Tag) (y : Row) → StoredRow d now y → stored_items tag now.stores ≡ items.Store tag M y.store.place y.store.bytes ∷ []
@@ -265,20 +241,9 @@ map_over f g spot (k ∷ ks) same =
 pub among_right : (xs ys : List ℕ) (k : ℕ) → is_among ys k ≡ true → is_among (xs ++ ys) k ≡ true
 among_right xs ys k held = let joined : is_among (xs ++ ys) k ≡ (is_among xs k || is_among ys k) = is_among_append xs ys k in grind (arith, nat_tests)
 
--- the row of the store of used.idx
-index_place : (q : ℕ) (state : QueueState) (most : ℕ) (y : Row) → ShowsNext state → publish_row most state ≡ Some y → state.ring.used.1 ≡ area_place q + 8192 → y.store.place + length y.store.bytes ≤ area_place q + 65536
-index_place q state most y next is lies =
-    let goes : is_publication state.phase ≡ true = shows_goes state.phase (course_in state) next in
-    let same : states.under_way most state ≡ state = goes_under_way state most goes in
-    let found : next_row state ≡ Some y = subst (λ (u : QueueState). next_row u ≡ Some y) same (row_in (publishes most state) (states.under_way most state) y is) in
-    let last : ℕ = (state.next_used + length state.batch) % 65536 in
-    let z : Row = row (used_side state.ring) SP5 (used_idx_place (used_side state.ring)) (little_bytes 2 last) in
-    let same_row : z ≡ y = some_is z y (sym (ap (row_at state) next) ∙ found) in
-    subst (λ (x : Row). x.store.place + length x.store.bytes ≤ area_place q + 65536) same_row (omega (arith, lies, length_little 2 last))
-
-answers_same : (q : ℕ) (h : Header1) (r : SplitRing) (m : Moment) (outstanding : OutstandingRequests) (d : Device) (y : Row) → TurnAt q h r m outstanding d → y.store.place + length y.store.bytes ≤ area_place q + 65536
+answers_same : (q : ℕ) (h : Header1) (setup : QueueSetup) (m : Moment) (outstanding : OutstandingRequests) (d : Device) (y : Row) → TurnAt q h setup m outstanding d → y.store.place + length y.store.bytes ≤ area_place q + 65536
     → answers_for q outstanding d.memory d.queue.batch ≡ map (answer_at q (after_row h y m.scene)) (m.lanes q).batch
-answers_same q h r m outstanding d y a off =
+answers_same q h setup m outstanding d y a off =
     let l : Lane = m.lanes q in
     let past : List Entry = m.scene.past in
     let heads : List ℕ = m.scene.heads q in
@@ -297,23 +262,23 @@ shown_is : (q : ℕ) (outstanding : OutstandingRequests) (m : Bytes) (state : Qu
 shown_is q outstanding m state next = ap (λ (o : Option Step). cond {A = List Answered} (is_index o) (answers_for q outstanding m state.batch) []) next
 
 -- what a turn of a publication leaves, whichever step it makes
-left_at : (q : ℕ) (h : Header1) (r : SplitRing) (m : Moment) (outstanding : OutstandingRequests) (most : ℕ) (d now : Device) (tag : Tag) (y : Row) → TurnAt q h r m outstanding d → QueueStands q h r (one_turn h q (turns.Publish most) m).next now.queue → now.values ≡ d.values
+left_at : (q : ℕ) (h : Header1) (setup : QueueSetup) (m : Moment) (outstanding : OutstandingRequests) (most : ℕ) (d now : Device) (tag : Tag) (y : Row) → TurnAt q h setup m outstanding d → QueueStands q h setup (one_turn h q (turns.Publish most) m).next now.queue → now.values ≡ d.values
     → y.store.space ≡ 0 → StoredRow d now y → (one_turn h q (turns.Publish most) m).next.scene.memory ≡ (after_items h (items.Store tag M y.store.place y.store.bytes ∷ []) m.scene).memory
-    → DeviceAt q h r (one_turn h q (turns.Publish most) m).next now
-left_at q h r m outstanding most d now tag y a stands values space s memory = record {
+    → DeviceAt q h setup (one_turn h q (turns.Publish most) m).next now
+left_at q h setup m outstanding most d now tag y a stands values space s memory = record {
   stands = stands;
   memory_is = row_memory h m d now tag y a.at.memory_is space s ∙ sym memory;
   disk = disk_same h.capacity (one_turn h q (turns.Publish most) m).next.scene.past d.values now.values values (turn_disk q h m (turns.Publish most) d.values tt a.at.disk);
 }
 
 -- the store of used.idx
-show_made : (q : ℕ) (h : Header1) (r : SplitRing) (m : Moment) (outstanding : OutstandingRequests) (most : ℕ) (d now : Device) (x : Stepped) (y : Row) → TurnAt q h r m outstanding d → DeviceAt q h r (one_turn h q (turns.Publish most) m).next now → HasShown q h m most x y → ShowsNext d.queue
-    → StoredRow d now y → IsSmall y.store → y.store.place + length y.store.bytes ≤ area_place q + 65536 → TurnMade q h r m (turns.Publish most) outstanding d now x
-show_made q h r m outstanding most d now x y a at has next s small off =
+show_made : (q : ℕ) (h : Header1) (setup : QueueSetup) (m : Moment) (outstanding : OutstandingRequests) (most : ℕ) (d now : Device) (x : Stepped) (y : Row) → TurnAt q h setup m outstanding d → DeviceAt q h setup (one_turn h q (turns.Publish most) m).next now → HasShown q h m most x y → ShowsNext d.queue
+    → StoredRow d now y → IsSmall y.store → y.store.place + length y.store.bytes ≤ area_place q + 65536 → TurnMade q h setup m (turns.Publish most) outstanding d now x
+show_made q h setup m outstanding most d now x y a at has next s small off =
     let list : List Answered = map (answer_at q (after_row h y m.scene)) (m.lanes q).batch in
     let none : accepts x ≡ 0 = ap accepts has.said in
     let same : accepted (one_turn h q (turns.Publish most) m).next.scene.past q ≡ accepted m.scene.past q = ap (λ (is : List Item). accepted (after_items h is m.scene).past q) has.items in
-    let answers : shown_of q outstanding d.memory d.queue ≡ list = shown_is q outstanding d.memory d.queue next ∙ answers_same q h r m outstanding d y a off in
+    let answers : shown_of q outstanding d.memory d.queue ≡ list = shown_is q outstanding d.memory d.queue next ∙ answers_same q h setup m outstanding d y a off in
     record {
       goes = ap is_idle has.said;
       made = subst (λ (z : Stepped). IsMade z) (sym has.said) tt;
@@ -329,9 +294,9 @@ show_made q h r m outstanding most d now x y a at has next s small off =
     }
 
 -- any other store
-part_made : (q : ℕ) (h : Header1) (r : SplitRing) (m : Moment) (outstanding : OutstandingRequests) (most : ℕ) (d now : Device) (x : Stepped) (y : Row) → DeviceAt q h r (one_turn h q (turns.Publish most) m).next now
-    → MadeElement (states.under_way most d.queue) x (turned h q (turns.Publish most) m).items y → StoredRow d now y → IsSmall y.store → TurnMade q h r m (turns.Publish most) outstanding d now x
-part_made q h r m outstanding most d now x y at part s small =
+part_made : (q : ℕ) (h : Header1) (setup : QueueSetup) (m : Moment) (outstanding : OutstandingRequests) (most : ℕ) (d now : Device) (x : Stepped) (y : Row) → DeviceAt q h setup (one_turn h q (turns.Publish most) m).next now
+    → MadeElement (states.under_way most d.queue) x (turned h q (turns.Publish most) m).items y → StoredRow d now y → IsSmall y.store → TurnMade q h setup m (turns.Publish most) outstanding d now x
+part_made q h setup m outstanding most d now x y at part s small =
     let none : accepts x ≡ 0 = ap accepts part.said in
     let same : accepted (one_turn h q (turns.Publish most) m).next.scene.past q ≡ accepted m.scene.past q = ap (λ (is : List Item). accepted (after_items h is m.scene).past q) part.items in
     record {
@@ -357,27 +322,27 @@ shows_cases state = go (next_step (course_in state) state.phase)
     go (Some (steps.Len k)) = inr (λ e. let fails : Some (steps.Len k) ≡ Some steps.Index = e in cc)
     go (Some steps.Index) = inl refl
 
-pub publish_made : (q : ℕ) (h : Header1) (r : SplitRing) (m : Moment) (outstanding : OutstandingRequests) (cap : ℕ) (sizes : ℕ → ℕ) (most : ℕ) (d now : Device) (x : Stepped) → TurnAt q h r m outstanding d → is_ready (standing h q m) (turns.Publish most) ≡ true
-    → DeviceDoes (turns.Publish most) cap sizes d now x → TurnMade q h r m (turns.Publish most) outstanding d now x
-publish_made q h r m outstanding cap sizes most d now x a ready does =
+pub publish_made : (q : ℕ) (h : Header1) (setup : QueueSetup) (m : Moment) (outstanding : OutstandingRequests) (cap : ℕ) (sizes : ℕ → ℕ) (most : ℕ) (d now : Device) (x : Stepped) → TurnAt q h setup m outstanding d → is_ready (standing h q m) (turns.Publish most) ≡ true
+    → DeviceDoes (turns.Publish most) cap sizes d now x → TurnMade q h setup m (turns.Publish most) outstanding d now x
+publish_made q h setup m outstanding cap sizes most d now x a ready does =
     let t : Turn = turns.Publish most in
-    let found = row_stands q h r m most (Some d.memory) x d.queue now.queue a.plain a.good a.main a.at.stands ready does.fine does.does in
+    let found = row_stands q h setup m most (Some d.memory) x d.queue now.queue a.plain a.good a.main a.at.stands ready does.fine does.does in
     let y : Row = found.0 in
-    let p : HasPublished q h r m most x d.queue now.queue y = found.1 in
+    let p : HasPublished q h setup m most x d.queue now.queue y = found.1 in
     let small : IsSmall y.store = small_row most d.queue y p.row p.space in
     let values : now.values ≡ d.values = some_is now.values d.values does.values_are in
     elim (shows_cases d.queue) [
       | inl next ↦
-          let has : HasShown q h m most x y = shown_stands q h r m most x d.queue now.queue y a.at.stands p next in
+          let has : HasShown q h m most x y = shown_stands q h setup m most x d.queue now.queue y a.at.stands p next in
           let s : StoredRow d now y = stored_row d now x (publish_row most d.queue) y (ap outcome has.said) p.row a.fresh does.stores_are does.trails in
-          let off = index_place q d.queue most y next p.row (ap (λ (z : SplitRing). z.used.1) a.at.stands.ring ∙ a.main.used) in
-          let at = left_at q h r m outstanding most d now SP5 y a p.stands values p.space s (ap (λ (is : List Item). (after_items h is m.scene).memory) has.items) in
-          show_made q h r m outstanding most d now x y a at has next s small off
+          let off = shown_place q h setup m most d.queue y a.main a.at.stands next p.row in
+          let at = left_at q h setup m outstanding most d now SP5 y a p.stands values p.space s (ap (λ (is : List Item). (after_items h is m.scene).memory) has.items) in
+          show_made q h setup m outstanding most d now x y a at has next s small off
       | inr other ↦
-          let part = stored_stands q h r m most x d.queue now.queue y a.good a.at.stands ready p other in
+          let part = stored_stands q h setup m most x d.queue now.queue y a.good a.at.stands ready p other in
           let s : StoredRow d now y = stored_row d now x (publish_row most d.queue) y (ap outcome part.said) p.row a.fresh does.stores_are does.trails in
-          let at = left_at q h r m outstanding most d now y.tag y a p.stands values p.space s (ap (λ (is : List Item). (after_items h is m.scene).memory) part.items) in
-          part_made q h r m outstanding most d now x y at part s small
+          let at = left_at q h setup m outstanding most d now y.tag y a p.stands values p.space s (ap (λ (is : List Item). (after_items h is m.scene).memory) part.items) in
+          part_made q h setup m outstanding most d now x y at part s small
     ]
 
 -- ---- a turn that isn't due
@@ -395,11 +360,11 @@ idle_values (turns.Work place) v w is does = absurd is
 idle_values (turns.Publish most) v w is does = some_is w v does
 
 -- whether a publication is ready doesn't depend on what waits
-unready_still : (q : ℕ) (h : Header1) (r : SplitRing) (m : Moment) (t : Turn) (state : QueueState) → LiesAs q r h.size → Holds q h m.scene (m.lanes q) → QueueStands q h r m state → IsPhaseTurn t → is_ready (standing h q m) t ≡ false → (is_ready (states.standing_at state 0) t ≡ false) ⊎ IsEarly t
-unready_still q h r m turns.Start state main holds z is unready = inr tt
-unready_still q h r m turns.Fetch state main holds z is unready = inr tt
-unready_still q h r m (turns.Work place) state main holds z is unready = absurd is
-unready_still q h r m (turns.Publish most) state main holds z is unready = inl (ready_same q h r m state (turns.Publish most) main holds z ∙ unready)
+unready_still : (q : ℕ) (h : Header1) (setup : QueueSetup) (m : Moment) (t : Turn) (state : QueueState) → LiesAs q setup h.size → Holds q h m.scene (m.lanes q) → QueueStands q h setup m state → IsPhaseTurn t → is_ready (standing h q m) t ≡ false → (is_ready (states.standing_at state 0) t ≡ false) ⊎ IsEarly t
+unready_still q h setup m turns.Start state main holds z is unready = inr tt
+unready_still q h setup m turns.Fetch state main holds z is unready = inr tt
+unready_still q h setup m (turns.Work place) state main holds z is unready = absurd is
+unready_still q h setup m (turns.Publish most) state main holds z is unready = inl (ready_same q h setup m state (turns.Publish most) main holds z ∙ unready)
 
 idle_memory : (t : Turn) (d now : Device) (x : Stepped) → IsPhaseTurn t → (is_ready (states.standing_at d.queue 0) t ≡ false) ⊎ IsEarly t → DoesStore t (Some d.memory) (Some now.memory) x d.queue → now.memory ≡ d.memory
 idle_memory turns.Start d now x is unready stores = some_is now.memory d.memory stores
@@ -410,16 +375,16 @@ idle_memory (turns.Publish most) d now x is (inl unready) stores =
     some_is now.memory d.memory (subst (λ (o : Option Row). StoresRow (Some d.memory) (Some now.memory) x o) none stores)
 idle_memory (turns.Publish most) d now x is (inr early) stores = absurd early
 
-pub idle_made : (q : ℕ) (h : Header1) (r : SplitRing) (m : Moment) (outstanding : OutstandingRequests) (cap : ℕ) (sizes : ℕ → ℕ) (t : Turn) (d now : Device) (x : Stepped) → TurnAt q h r m outstanding d → IsPhaseTurn t → is_ready (standing h q m) t ≡ false
-    → DeviceDoes t cap sizes d now x → (x ≡ says.Idle) × DeviceAt q h r m now
-idle_made q h r m outstanding cap sizes t d now x a is unready does =
+pub idle_made : (q : ℕ) (h : Header1) (setup : QueueSetup) (m : Moment) (outstanding : OutstandingRequests) (cap : ℕ) (sizes : ℕ → ℕ) (t : Turn) (d now : Device) (x : Stepped) → TurnAt q h setup m outstanding d → IsPhaseTurn t → is_ready (standing h q m) t ≡ false
+    → DeviceDoes t cap sizes d now x → (x ≡ says.Idle) × DeviceAt q h setup m now
+idle_made q h setup m outstanding cap sizes t d now x a is unready does =
     let told : Turns t (Some m.scene.memory) x d.queue now.queue = subst (λ (b : Bytes). Turns t (Some b) x d.queue now.queue) a.at.memory_is does.does in
-    let idle = idle_stands q h r m t x d.queue now.queue a.main a.good.holds a.at.stands is unready does.fine told in
+    let idle = idle_stands q h setup m t x d.queue now.queue a.main a.good.holds a.at.stands is unready does.fine told in
     let values : now.values ≡ d.values = idle_values t d.values now.values is does.values_are in (
       idle.0,
       record {
-        stands = subst (λ (state : QueueState). QueueStands q h r m state) (sym idle.1) a.at.stands;
-        memory_is = idle_memory t d now x is (unready_still q h r m t d.queue a.main a.good.holds a.at.stands is unready) does.stores_are ∙ a.at.memory_is;
+        stands = subst (λ (state : QueueState). QueueStands q h setup m state) (sym idle.1) a.at.stands;
+        memory_is = idle_memory t d now x is (unready_still q h setup m t d.queue a.main a.good.holds a.at.stands is unready) does.stores_are ∙ a.at.memory_is;
         disk = disk_same h.capacity m.scene.past d.values now.values values a.at.disk;
       },
     )

@@ -117,14 +117,14 @@ pub record HasQueue (q : ℕ) (w : Parts) (m : Moment) (queue : Queue) : Type 0 
   pub at : PartsAt q w m
   pub life_is : w.life ≡ with_queue queue
 
-pub life_at : (q : ℕ) (w : Parts) (m : Moment) (queue : Queue) → HasQueue q w m queue → LifeAt q w.front.header w.front.ring m (with_queue queue)
-life_at q w m queue has = subst (λ (l : Option (Option Queue)). LifeAt q w.front.header w.front.ring m l) has.life_is has.at.life
+pub life_at : (q : ℕ) (w : Parts) (m : Moment) (queue : Queue) → HasQueue q w m queue → LifeAt q w.front.header w.front.setup m (with_queue queue)
+life_at q w m queue has = subst (λ (l : Option (Option Queue)). LifeAt q w.front.header w.front.setup m l) has.life_is has.at.life
 
 abbrev after_turn : ℕ → Parts → Turn → Moment → Moment
 after_turn q w t m = (one_turn w.front.header q t m).next
 
 -- after a turn that was made
-made_at : (q : ℕ) (w : Parts) (m : Moment) (queue queue' : Queue) (t : Turn) (memory : WatchedShared) (disk : MemDisk) (d : Device) (x : Stepped) → HasQueue q w m queue → TurnMade q w.front.header w.front.ring m t w.front.outstanding d (device queue' memory disk) x
+made_at : (q : ℕ) (w : Parts) (m : Moment) (queue queue' : Queue) (t : Turn) (memory : WatchedShared) (disk : MemDisk) (d : Device) (x : Stepped) → HasQueue q w m queue → TurnMade q w.front.header w.front.setup m t w.front.outstanding d (device queue' memory disk) x
     → PartsAt q (with_device w memory queue' disk) (after_turn q w t m)
 made_at q w m queue queue' t memory disk d x has made =
     let life = life_at q w m queue has in
@@ -144,7 +144,7 @@ made_at q w m queue queue' t memory disk d x has made =
     }
 
 -- after a turn in which nothing was made
-idle_at : (q : ℕ) (w : Parts) (m : Moment) (queue queue' : Queue) (memory : WatchedShared) (disk : MemDisk) → HasQueue q w m queue → DeviceAt q w.front.header w.front.ring m (device queue' memory disk) → PartsAt q (with_device w memory queue' disk) m
+idle_at : (q : ℕ) (w : Parts) (m : Moment) (queue queue' : Queue) (memory : WatchedShared) (disk : MemDisk) → HasQueue q w m queue → DeviceAt q w.front.header w.front.setup m (device queue' memory disk) → PartsAt q (with_device w memory queue' disk) m
 idle_at q w m queue queue' memory disk has at =
     let life = life_at q w m queue has in
     record {
@@ -157,14 +157,14 @@ idle_at q w m queue queue' memory disk has at =
 
 -- a turn of the device is one of the machine
 pub turn_goes : (q : ℕ) (w : Parts) (m : Moment) (queue queue' : Queue) (t : Turn) (kept memory : WatchedShared) (disk : MemDisk) (x : Stepped) → HasQueue q w m queue → bytes_in kept ≡ bytes_in w.memory
-    → (DeviceAt q w.front.header w.front.ring m (device queue kept w.disk) → DeviceTurns q w.front.header w.front.ring m t w.front.outstanding (device queue kept w.disk) (device queue' memory disk) x) → TurnGoes q t w (with_device w memory queue' disk) m x
+    → (DeviceAt q w.front.header w.front.setup m (device queue kept w.disk) → DeviceTurns q w.front.header w.front.setup m t w.front.outstanding (device queue kept w.disk) (device queue' memory disk) x) → TurnGoes q t w (with_device w memory queue' disk) m x
 turn_goes q w m queue queue' t kept memory disk x has same turns =
     let life = life_at q w m queue has in
     let d : Device = device queue kept w.disk in
     let does = turns (record { stands = life.1.2; memory_is = same ∙ has.at.front.memory; disk = has.at.disk }) in (
       λ due.
           let ready : is_ready (standing w.front.header q m) t ≡ true = grind (arith, nat_tests) in
-          let made : TurnMade q w.front.header w.front.ring m t w.front.outstanding d (device queue' memory disk) x = does.0 ready in
+          let made : TurnMade q w.front.header w.front.setup m t w.front.outstanding d (device queue' memory disk) x = does.0 ready in
           let shown : shown_of q w.front.outstanding (bytes_in kept) (state_of queue) ≡ answers_shown q w.front.outstanding (bytes_in w.memory) w.life =
           ap (λ (b : Bytes). shown_of q w.front.outstanding b (state_of queue)) same ∙ sym (ap (answers_shown q w.front.outstanding (bytes_in w.memory)) has.life_is) in
           record {
@@ -194,11 +194,11 @@ has_no_queue (Some l) = l ≡ None
 pub none_attached : (q : ℕ) (w : Parts) (m : Moment) → Good q w.front.header m → PartsAt q w m → has_no_queue w.life → (m.lanes q).attached ≡ false
 none_attached q w m good at none = go w.life at.life none
   where
-    with_queue_or : (queue : Option Queue) → AttachedAt q w.front.header w.front.ring m queue → queue ≡ None → (m.lanes q).attached ≡ false
+    with_queue_or : (queue : Option Queue) → AttachedAt q w.front.header w.front.setup m queue → queue ≡ None → (m.lanes q).attached ≡ false
     with_queue_or None at none = at.1
     with_queue_or (Some queue) at none = absurd (let fails : Some queue ≡ None = none in cc)
 
-    go : (l : Option (Option Queue)) → LifeAt q w.front.header w.front.ring m l → has_no_queue l → (m.lanes q).attached ≡ false
+    go : (l : Option (Option Queue)) → LifeAt q w.front.header w.front.setup m l → has_no_queue l → (m.lanes q).attached ≡ false
     go None at none = (good.asleep at).0
     go (Some l) at none = with_queue_or l at.1 none
 

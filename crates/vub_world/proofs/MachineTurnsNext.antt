@@ -5,7 +5,7 @@ use Rattle.vub_shared.specs.Bytes.{Bytes}
 use Rattle.vub_steps.specs.declared.readiness.Standing.{Standing}
 use Rattle.vub_steps.specs.declared.readiness.Choice.{Choice}
 use Rattle.vub_steps.specs.Readiness.{chosen}
-use Rattle.vub_split.specs.declared.split.SplitRing.{SplitRing}
+use Rattle.vub_queue.specs.declared.queue.QueueSetup.{QueueSetup}
 use Rattle.vub_world.specs.MachineAt.{IsReached}
 use Rattle.vub_world.specs.MachineDevice.{turn_here}
 use Rattle.vub_run.specs.Moments.{Moment, standing}
@@ -17,6 +17,7 @@ use Rattle.vub_run_laws.proofs.RunTurns.{IsPlain, Good}
 use Rattle.vub_run_laws.proofs.RunChainsEvents.{ChainedAt}
 use Rattle.vub_run_laws.proofs.RunsTo.{stands_turns}
 use Rattle.vub_queue_in_run.proofs.QueueAtTurns.{standings}
+use Rattle.vub_queue_in_run.proofs.Setups.{places_are}
 
 -- ---- a moment of a run
 
@@ -33,14 +34,14 @@ pub record IsAsHere (q : ℕ) (h : Header1) (m : Moment) (state : QueueState) (b
   pub size : state.ring.size ≡ h.size
   pub standing_is : standing_at state (waiting state b) ≡ standing h q m
 
-pub as_here : (q : ℕ) (h : Header1) (r : SplitRing) (m : Moment) (state : QueueState) (b : Bytes) → LiesAs q r h.size → Holds q h m.scene (m.lanes q) → QueueStands q h r m state → b ≡ m.scene.memory → IsAsHere q h m state b
-as_here q h r m state b main holds z memory = record {
-  size = ap (λ (y : SplitRing). y.size) z.ring ∙ main.size;
-  standing_is = ap (λ (c : Bytes). standing_at state (waiting state c)) memory ∙ standings q h r m state main holds z;
+pub as_here : (q : ℕ) (h : Header1) (setup : QueueSetup) (m : Moment) (state : QueueState) (b : Bytes) → LiesAs q setup h.size → Holds q h m.scene (m.lanes q) → QueueStands q h setup m state → b ≡ m.scene.memory → IsAsHere q h m state b
+as_here q h setup m state b main holds z memory = record {
+  size = places_are q h setup m state main z;
+  standing_is = ap (λ (c : Bytes). standing_at state (waiting state c)) memory ∙ standings q h setup m state main holds z;
 }
 
-pub turn_same : (q : ℕ) (h : Header1) (r : SplitRing) (m : Moment) (state : QueueState) (b : Bytes) (choice : Choice) → LiesAs q r h.size → Holds q h m.scene (m.lanes q) → QueueStands q h r m state → b ≡ m.scene.memory
+pub turn_same : (q : ℕ) (h : Header1) (setup : QueueSetup) (m : Moment) (state : QueueState) (b : Bytes) (choice : Choice) → LiesAs q setup h.size → Holds q h m.scene (m.lanes q) → QueueStands q h setup m state → b ≡ m.scene.memory
     → chosen state.ring.size choice (standing_at state (waiting state b)) ≡ turn_here q h choice m
-turn_same q h r m state b choice main holds z memory =
-    let here = as_here q h r m state b main holds z memory in
+turn_same q h setup m state b choice main holds z memory =
+    let here = as_here q h setup m state b main holds z memory in
     ap (λ (n : ℕ). chosen n choice (standing_at state (waiting state b))) here.size ∙ ap (λ (s : Standing). chosen h.size choice s) here.standing_is

@@ -24,7 +24,7 @@ use Rattle.vub_queue.specs.declared.queue.Stepped.{Stepped}
 use Rattle.vub_queue.specs.declared.queue.Stepped.TheVariants as says
 use Rattle.vub_steps.specs.declared.readiness.Choice.{Choice}
 use Rattle.vub_steps.specs.declared.readiness.Choice.TheVariants as choices
-use Rattle.vub_split.specs.declared.split.SplitRing.{SplitRing}
+use Rattle.vub_queue.specs.declared.queue.QueueSetup.{QueueSetup}
 use Rattle.vub_task.specs.declared.task.Task.{Task}
 use Rattle.vub_world.specs.MachineDevice.{Device, DeviceAt, TurnMade, DeviceTurns, IsMade, StoreFits, SectorFits, HeadFits, noted, stored_items, shown_of, accepts, number_at}
 use Rattle.vub_world.specs.MachineFront.{OneSmall}
@@ -38,6 +38,7 @@ use Rattle.vub_steps.specs.Tasks.{RequestStep, Look, Act}
 use Rattle.vub_run.specs.Turns.{turned}
 use Rattle.vub_run_laws.proofs.RunFrames.{open_out}
 use Rattle.vub_run_laws.proofs.RunGood.{IsOut}
+use Rattle.vub_run_laws.proofs.RunQueue.{head_below}
 use Rattle.vub_queue_in_run.proofs.WorkAt.{WorkReady, making, Kind, work_ready}
 use Rattle.vub_queue_in_run.proofs.WorkAtItems.{Shows, ShowsStore, work_items, work_memory, work_disk, work_kind}
 use Rattle.vub_queue_in_run.proofs.WorkAtStands.{work_stands}
@@ -167,11 +168,11 @@ work_noted q h m t outstanding d now k task n says.Started g shows = absurd show
 work_noted q h m t outstanding d now k task n says.SharedFault g shows = absurd shows
 work_noted q h m t outstanding d now k task n (says.Broken fault) g shows = absurd shows
 
-pub work_made : (q : ℕ) (h : Header1) (r : SplitRing) (m : Moment) (outstanding : OutstandingRequests) (sizes : ℕ → ℕ) (place : ℕ) (d now : Device) (x : Stepped) → TurnAt q h r m outstanding d → area_place q + 1048576 ≤ sizes 0 → is_ready (standing h q m) (turns.Work place) ≡ true
-    → DeviceDoes (turns.Work place) h.capacity sizes d now x → TurnMade q h r m (turns.Work place) outstanding d now x
-work_made q h r m outstanding sizes place d now x a room ready does =
+pub work_made : (q : ℕ) (h : Header1) (setup : QueueSetup) (m : Moment) (outstanding : OutstandingRequests) (sizes : ℕ → ℕ) (place : ℕ) (d now : Device) (x : Stepped) → TurnAt q h setup m outstanding d → area_place q + 1048576 ≤ sizes 0 → is_ready (standing h q m) (turns.Work place) ≡ true
+    → DeviceDoes (turns.Work place) h.capacity sizes d now x → TurnMade q h setup m (turns.Work place) outstanding d now x
+work_made q h setup m outstanding sizes place d now x a room ready does =
     let state : QueueState = d.queue in
-    let w : WorkReady q h sizes m state place = work_ready q h m r sizes state place a.plain a.good a.chained a.main room a.at.stands ready in
+    let w : WorkReady q h sizes m state place = work_ready q h m setup sizes state place a.plain a.good a.chained a.main room a.at.stands ready in
     let n : Making = making w in
     let due : IsDue h.capacity sizes state d.memory place w.task n = subst (λ (b : Bytes). IsDue h.capacity sizes state b place w.task n) (sym a.at.memory_is) w.due in
     let out : WorksOut place w.task n d.memory (Some now.memory) (Some d.stores) (Some now.stores) (Some d.values) (Some now.values) x state now.queue = stepped_out x _ does.fine does.served (does.made place w.task n refl due) in
@@ -179,9 +180,9 @@ work_made q h r m outstanding sizes place d now x a room ready does =
     let well : SaysWell h.capacity w.request w.step (said (head_in w.task) (answer_in n)) = says_well h (head_in w.task) ((m.lanes q).made w.k) w.request w.step kind in
     let well_too : SaysWell h.capacity w.request w.step x = subst (λ (y : Stepped). SaysWell h.capacity w.request w.step y) (sym out.says) well in
     let shows : Shows q d.values state w.k w.task n (turned h q (turns.Work place) m).items x =
-    subst (λ (y : Stepped). Shows q d.values state w.k w.task n (turned h q (turns.Work place) m).items y) (sym out.says) (work_items q h sizes m r state place d.values w a.plain a.good a.main a.at.stands a.at.disk) in
+    subst (λ (y : Stepped). Shows q d.values state w.k w.task n (turned h q (turns.Work place) m).items y) (sym out.says) (work_items q h sizes m setup state place d.values w a.plain a.good a.main a.at.stands a.at.disk) in
     let is_out : IsOut q m.scene.past (m.scene.heads q) w.k = open_out q h.size h.capacity m.scene.past (m.scene.heads q) w.k a.good.holds.known w.is_open in
-    let below : head_in w.task < h.size = omega (arith, w.head, a.good.holds.queue.driven.below w.k is_out) in
+    let below : head_in w.task < h.size = omega (arith, w.head, head_below q h m.scene (m.lanes q).driver (m.lanes q).batch (m.lanes q).phase w.k a.good.holds.queue is_out) in
     let number : number_at outstanding (head_in w.task) ≡ w.k = ap (number_at outstanding) w.head ∙ ap (λ (o : OutstandingRequest). o.number) (a.numbered.slots w.k is_out.below is_out.kept) in
     let values : now.values ≡ values_after w.request w.step d.values = some_is now.values (values_after w.request w.step d.values) out.values in
     let notes : NotesWork q h m (turns.Work place) outstanding d now x = work_noted q h m (turns.Work place) outstanding d now w.k w.task n x (record { fresh = a.fresh; below = below; number = number; values_are = values; trails = out.trails; looks = well_too.looks }) shows in
@@ -191,8 +192,8 @@ work_made q h r m outstanding sizes place d now x a room ready does =
       goes = notes.goes;
       made = notes.made;
       at = record {
-        stands = work_stands q h sizes m r state now.queue place d.values w a.plain a.good a.at.stands a.at.disk out.leaves;
-        memory_is = memory ∙ sym (work_memory q h sizes m r state place w a.plain a.good a.main a.at.stands);
+        stands = work_stands q h sizes m setup state now.queue place d.values w a.plain a.good a.at.stands a.at.disk out.leaves;
+        memory_is = memory ∙ sym (work_memory q h sizes m setup state place w a.plain a.good a.main a.at.stands);
         disk = subst (λ (v : Values). DiskAt h.capacity (one_turn h q (turns.Work place) m).next.scene.past v) (sym values) (work_disk q h sizes m state place d.values w a.plain a.good a.at.disk);
       };
       items_are = notes.items_are;
@@ -214,11 +215,11 @@ work_asked size s (choices.Drain accepted) place is unready = absurd (let fails 
 abbrev pub RestsAt : Device → Device → Stepped → Type 0
 RestsAt d now x = Rests (Some d.memory) (Some now.memory) (Some d.stores) (Some now.stores) (Some d.values) (Some now.values) x d.queue now.queue
 
-rests_at : (q : ℕ) (h : Header1) (r : SplitRing) (m : Moment) (outstanding : OutstandingRequests) (d now : Device) (x : Stepped) → TurnAt q h r m outstanding d → RestsAt d now x → (x ≡ says.Idle) × DeviceAt q h r m now
-rests_at q h r m outstanding d now x a rests = (
+rests_at : (q : ℕ) (h : Header1) (setup : QueueSetup) (m : Moment) (outstanding : OutstandingRequests) (d now : Device) (x : Stepped) → TurnAt q h setup m outstanding d → RestsAt d now x → (x ≡ says.Idle) × DeviceAt q h setup m now
+rests_at q h setup m outstanding d now x a rests = (
   rests.idle,
   record {
-    stands = subst (λ (state : QueueState). QueueStands q h r m state) (sym rests.state) a.at.stands;
+    stands = subst (λ (state : QueueState). QueueStands q h setup m state) (sym rests.state) a.at.stands;
     memory_is = some_is now.memory d.memory rests.stores ∙ a.at.memory_is;
     disk = disk_same h.capacity m.scene.past d.values now.values (some_is now.values d.values rests.values) a.at.disk;
   },
@@ -227,11 +228,11 @@ rests_at q h r m outstanding d now x a rests = (
 -- ---- any turn
 
 -- it is made where it is due, and else nothing is
-pub device_turns : (q : ℕ) (h : Header1) (r : SplitRing) (m : Moment) (outstanding : OutstandingRequests) (sizes : ℕ → ℕ) (t : Turn) (d now : Device) (x : Stepped) → TurnAt q h r m outstanding d → area_place q + 1048576 ≤ sizes 0
-    → ((place : ℕ) → t ≡ turns.Work place → is_ready (standing h q m) (turns.Work place) ≡ false → RestsAt d now x) → DeviceDoes t h.capacity sizes d now x → DeviceTurns q h r m t outstanding d now x
-device_turns q h r m outstanding sizes turns.Start d now x a room rests does = (λ ready. start_made q h r m outstanding h.capacity sizes d now x a ready does, λ unready. idle_made q h r m outstanding h.capacity sizes turns.Start d now x a tt unready does)
-device_turns q h r m outstanding sizes turns.Fetch d now x a room rests does = (λ ready. fetch_made q h r m outstanding h.capacity sizes d now x a ready does, λ unready. idle_made q h r m outstanding h.capacity sizes turns.Fetch d now x a tt unready does)
-device_turns q h r m outstanding sizes (turns.Publish most) d now x a room rests does =
-    (λ ready. publish_made q h r m outstanding h.capacity sizes most d now x a ready does, λ unready. idle_made q h r m outstanding h.capacity sizes (turns.Publish most) d now x a tt unready does)
-device_turns q h r m outstanding sizes (turns.Work place) d now x a room rests does =
-    (λ ready. work_made q h r m outstanding sizes place d now x a room ready does, λ unready. rests_at q h r m outstanding d now x a (rests place refl unready))
+pub device_turns : (q : ℕ) (h : Header1) (setup : QueueSetup) (m : Moment) (outstanding : OutstandingRequests) (sizes : ℕ → ℕ) (t : Turn) (d now : Device) (x : Stepped) → TurnAt q h setup m outstanding d → area_place q + 1048576 ≤ sizes 0
+    → ((place : ℕ) → t ≡ turns.Work place → is_ready (standing h q m) (turns.Work place) ≡ false → RestsAt d now x) → DeviceDoes t h.capacity sizes d now x → DeviceTurns q h setup m t outstanding d now x
+device_turns q h setup m outstanding sizes turns.Start d now x a room rests does = (λ ready. start_made q h setup m outstanding h.capacity sizes d now x a ready does, λ unready. idle_made q h setup m outstanding h.capacity sizes turns.Start d now x a tt unready does)
+device_turns q h setup m outstanding sizes turns.Fetch d now x a room rests does = (λ ready. fetch_made q h setup m outstanding h.capacity sizes d now x a ready does, λ unready. idle_made q h setup m outstanding h.capacity sizes turns.Fetch d now x a tt unready does)
+device_turns q h setup m outstanding sizes (turns.Publish most) d now x a room rests does =
+    (λ ready. publish_made q h setup m outstanding h.capacity sizes most d now x a ready does, λ unready. idle_made q h setup m outstanding h.capacity sizes (turns.Publish most) d now x a tt unready does)
+device_turns q h setup m outstanding sizes (turns.Work place) d now x a room rests does =
+    (λ ready. work_made q h setup m outstanding sizes place d now x a room ready does, λ unready. rests_at q h setup m outstanding d now x a (rests place refl unready))

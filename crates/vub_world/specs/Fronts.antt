@@ -7,17 +7,14 @@ use Rattle.vub_guest.specs.GuestState.{driver_in, last_used_in}
 use Rattle.vub_guest.specs.GuestState.{ring_in as guest_ring}
 use Rattle.vub_memdisk.specs.MemDisks.{capacity_of}
 use Rattle.vub_memdisk.specs.declared.mem_disk.MemDisk.{MemDisk}
-use Rattle.vub_queue.specs.Queue.{ring_in}
-use Rattle.vub_queue.specs.QueueState.{IsNew, QueueLies, state_of}
 use Rattle.vub_queue.specs.declared.queue.Queue.{Queue}
-use Rattle.vub_queue_in_run.specs.QueueAt.{LiesAs}
+use Rattle.vub_queue_in_run.specs.QueueAt.{LiesAs, IsNewQueue}
 use Rattle.vub_schedule.specs.Spelling.{IsHeader}
 use Rattle.vub_shared.specs.Watched.{IsUnfailed, sizes_in}
 use Rattle.vub_shared.specs.declared.watched_shared.WatchedShared.{WatchedShared}
-use Rattle.vub_split.specs.Split.{RingLies}
 use Rattle.vub_world.specs.declared.front.Front.{Front}
 use Rattle.vub_world.specs.declared.machine.Machine.{Machine}
-use Rattle.vub_world.specs.Lives.{RingOfLife, LiesInLife, life_of}
+use Rattle.vub_world.specs.Lives.{IsOnInLife, LiesInLife, life_of}
 use Rattle.vub_world.specs.OutstandingRequests.{offered_in, collected_in, size_in}
 
 -- ---- what a queue has, and what it shares with the others
@@ -61,22 +58,24 @@ offers_in w = offered_by w.fronts.items
 
 -- ---- between two steps
 
--- the queue is one of the header's, driver and ring are those of its area, which memory has, and no call of memory has
+-- the queue is one of the header's, driver and set-up are those of its area, which memory has, and no call of memory has
 -- failed
 pub record FrontSound (memory : WatchedShared) (front : Front) : Type 0 where
   pub header : IsHeader front.header
   pub exists : front.index < front.header.queues
   pub guest : guest_ring front.guest ≡ ring_of front.index front.header.size
-  pub ring : LiesAs front.index front.ring front.header.size
+  pub setup : LiesAs front.index front.setup front.header.size
+  pub base : front.setup.base ≡ front.header.base
+  pub space : front.space.number ≡ 0
   pub room : area_place front.index + 1048576 ≤ sizes_in memory 0
   pub unfailed : IsUnfailed memory
 
--- the front is the one of queue q, an attached queue is on its ring and lies where it should, and the disk has the
+-- the front is the one of queue q, an attached queue is on its rings and lies where it should, and the disk has the
 -- header's capacity
 pub record PartsSound (q : ℕ) (p : Parts) : Type 0 where
   pub index : p.front.index ≡ q
   pub front : FrontSound p.memory p.front
-  pub queue : RingOfLife (λ r. r ≡ p.front.ring) p.life
+  pub queue : IsOnInLife p.front.setup p.life
   pub disk : capacity_of p.disk ≡ p.front.header.capacity
   pub lies : LiesInLife (sizes_in p.memory) (capacity_of p.disk) p.life
 
@@ -87,7 +86,9 @@ pub record IsNewFront (h : Header1) (q : ℕ) (front : Front) : Type 0 where
   pub header : front.header ≡ h
   pub index : front.index ≡ q
   pub guest : guest_ring front.guest ≡ ring_of q h.size
-  pub ring : LiesAs q front.ring h.size
+  pub setup : LiesAs q front.setup h.size
+  pub base : front.setup.base ≡ h.base
+  pub space : front.space.number ≡ 0
   pub driver : driver_in front.guest ≡ new_driver h.base
   pub position : last_used_in front.guest ≡ h.base
   pub asked : front.asked ≡ None
@@ -100,13 +101,7 @@ pub record AreNewFronts (h : Header1) (count : ℕ) (fronts : List Front) : Type
   pub many : length fronts ≡ count
   pub each : (q : ℕ) (front : Front) → slice_get fronts q ≡ Some front → IsNewFront h q front
 
--- a queue of the device that isn't started, on the ring of a front
-pub record IsNewQueue (front : Front) (queue : Queue) : Type 0 where
-  pub ring : ring_in queue ≡ front.ring
-  pub state : IsNew front.ring front.header.base (state_of queue)
-  pub lies : (sizes : ℕ → ℕ) (capacity : ℕ) → RingLies sizes front.ring → QueueLies sizes capacity (state_of queue)
-
 -- these are new queues of the first so many fronts
 pub record AreNewQueues (count : ℕ) (fronts : List Front) (queues : List Queue) : Type 0 where
   pub many : length queues ≡ count
-  pub each : (q : ℕ) (front : Front) (queue : Queue) → slice_get fronts q ≡ Some front → slice_get queues q ≡ Some queue → IsNewQueue front queue
+  pub each : (q : ℕ) (front : Front) (queue : Queue) → slice_get fronts q ≡ Some front → slice_get queues q ≡ Some queue → IsNewQueue front.setup queue

@@ -1,10 +1,10 @@
 -- A life of the device, and what one queue has of it.
 use Rattle.std.specs.Prelude.{ℕ, Vec, slice_get, Option, Some, None, ⊤}
-use Rattle.vub_split.specs.declared.split.SplitRing.{SplitRing}
 use Rattle.vub_queue.specs.declared.queue.Queue.{Queue}
+use Rattle.vub_queue.specs.declared.queue.QueueSetup.{QueueSetup}
 use Rattle.vub_world.specs.declared.machine.Life.{Life}
-use Rattle.vub_queue.specs.Queue.{ring_in}
 use Rattle.vub_queue.specs.QueueState.{QueueLies, state_of}
+use Rattle.vub_queue_in_run.specs.QueueAt.{IsOn}
 
 -- queue q, where the queues are attached
 abbrev pub queue_of : {Z : Type 0} → ℕ → Option (Vec Queue Z) → Option Queue
@@ -16,15 +16,14 @@ abbrev pub life_of : ℕ → Option Life → Option (Option Queue)
 life_of q None = None
 life_of q (Some l) = Some (queue_of q l.queues)
 
--- a fact of the ring of a queue, where there is one
-abbrev pub RingOfQueue : (SplitRing → Type 0) → Option Queue → Type 0
-RingOfQueue P None = ⊤
-RingOfQueue P (Some queue) = P (ring_in queue)
+-- the queue of a life is on the rings of a set-up, where it is attached
+abbrev pub IsAttachedOn : QueueSetup → Option Queue → Type 0
+IsAttachedOn setup None = ⊤
+IsAttachedOn setup (Some queue) = IsOn setup queue
 
--- the same of the queue of a life, where it is attached
-abbrev pub RingOfLife : (SplitRing → Type 0) → Option (Option Queue) → Type 0
-RingOfLife P None = ⊤
-RingOfLife P (Some queue) = RingOfQueue P queue
+abbrev pub IsOnInLife : QueueSetup → Option (Option Queue) → Type 0
+IsOnInLife setup None = ⊤
+IsOnInLife setup (Some queue) = IsAttachedOn setup queue
 
 -- the queue of a life lies in memory and on the disk, where it is attached
 abbrev pub LiesAttached : (ℕ → ℕ) → ℕ → Option Queue → Type 0

@@ -14,7 +14,7 @@ use Rattle.vub_schedule.specs.declared.types.Event.{Event}
 use Rattle.vub_schedule.specs.declared.types.Event.TheVariants as events
 use Rattle.vub_report.specs.declared.items.Item.{Item}
 use Rattle.vub_report.specs.declared.items.Record.{Record}
-use Rattle.vub_split.specs.declared.split.SplitRing.{SplitRing}
+use Rattle.vub_queue.specs.declared.queue.QueueSetup.{QueueSetup}
 use Rattle.vub_world.specs.declared.outstanding.OutstandingRequests.{OutstandingRequests}
 use Rattle.vub_queue.specs.declared.queue.Queue.{Queue}
 use Rattle.vub_world.specs.declared.machine.Life.{Life}
@@ -41,13 +41,13 @@ pub record FrontAt (q : ℕ) (d : Desk) (m : Moment) : Type 0 where
   pub asks : AskAt (m.lanes q).driver.waiting d.front.asked
 
 -- a queue that isn't attached wasn't started
-abbrev pub AttachedAt : ℕ → Header1 → SplitRing → Moment → Option Queue → Type 0
-AttachedAt q h r m None = (m.joined ≡ false) × ((m.lanes q).attached ≡ false) × (started m.scene.past q ≡ false)
-AttachedAt q h r m (Some queue) = (m.joined ≡ true) × ((m.lanes q).attached ≡ true) × QueueStands q h r m (state_of queue)
+abbrev pub AttachedAt : ℕ → Header1 → QueueSetup → Moment → Option Queue → Type 0
+AttachedAt q h setup m None = (m.joined ≡ false) × ((m.lanes q).attached ≡ false) × (started m.scene.past q ≡ false)
+AttachedAt q h setup m (Some queue) = (m.joined ≡ true) × ((m.lanes q).attached ≡ true) × QueueStands q h setup m (state_of queue)
 
-abbrev pub LifeAt : ℕ → Header1 → SplitRing → Moment → Option (Option Queue) → Type 0
-LifeAt q h r m None = m.lives ≡ false
-LifeAt q h r m (Some queue) = (m.lives ≡ true) × AttachedAt q h r m queue
+abbrev pub LifeAt : ℕ → Header1 → QueueSetup → Moment → Option (Option Queue) → Type 0
+LifeAt q h setup m None = m.lives ≡ false
+LifeAt q h setup m (Some queue) = (m.lives ≡ true) × AttachedAt q h setup m queue
 
 abbrev pub reads_of : Option Asked → ℕ
 reads_of (Some (requests.Read s n)) = n
@@ -65,7 +65,7 @@ pub record OutstandingAt (q size : ℕ) (past : List Entry) (heads : List ℕ) (
 pub record PartsAt (q : ℕ) (p : Parts) (m : Moment) : Type 0 where
   pub front : FrontAt q (desk_of p) m
   pub position : last_used_in p.front.guest ≡ (p.front.header.base + collected m.scene.past q) % 65536
-  pub life : LifeAt q p.front.header p.front.ring m p.life
+  pub life : LifeAt q p.front.header p.front.setup m p.life
   pub disk : DiskAt p.front.header.capacity m.scene.past (values_of p.disk)
   pub outstanding : OutstandingAt q p.front.header.size m.scene.past (m.scene.heads q) p.front.outstanding
 

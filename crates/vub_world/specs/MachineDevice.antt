@@ -25,7 +25,7 @@ use Rattle.vub_world.specs.declared.outstanding.OutstandingRequests.{Outstanding
 use Rattle.vub_world.specs.declared.outstanding.OutstandingRequest.{OutstandingRequest}
 use Rattle.vub_world.specs.declared.machine.Life.{Life}
 use Rattle.vub_queue.specs.declared.queue.Queue.{Queue}
-use Rattle.vub_split.specs.declared.split.SplitRing.{SplitRing}
+use Rattle.vub_queue.specs.declared.queue.QueueSetup.{QueueSetup}
 use Rattle.vub_queue.specs.declared.queue.Stepped.{Stepped}
 use Rattle.vub_queue.specs.declared.queue.Stepped.TheVariants as says
 use Rattle.vub_world.specs.OutstandingRequests.{size_in, slot_in}
@@ -83,8 +83,8 @@ pub record Device : Type 0 where
 abbrev pub device : Queue → WatchedShared → MemDisk → Device
 device queue w d = record { queue = state_of queue; memory = bytes_in w; values = values_of d; stores = stores_in w }
 
-pub record DeviceAt (q : ℕ) (h : Header1) (r : SplitRing) (m : Moment) (d : Device) : Type 0 where
-  pub stands : QueueStands q h r m d.queue
+pub record DeviceAt (q : ℕ) (h : Header1) (setup : QueueSetup) (m : Moment) (d : Device) : Type 0 where
+  pub stands : QueueStands q h setup m d.queue
   pub memory_is : d.memory ≡ m.scene.memory
   pub disk : DiskAt h.capacity m.scene.past d.values
 
@@ -139,10 +139,10 @@ accepts (says.Accepted head) = 1
 accepts x = 0
 
 -- a turn that is due was made
-pub record TurnMade (q : ℕ) (h : Header1) (r : SplitRing) (m : Moment) (t : Turn) (outstanding : OutstandingRequests) (d now : Device) (x : Stepped) : Type 0 where
+pub record TurnMade (q : ℕ) (h : Header1) (setup : QueueSetup) (m : Moment) (t : Turn) (outstanding : OutstandingRequests) (d now : Device) (x : Stepped) : Type 0 where
   pub goes : is_idle x ≡ false
   pub made : IsMade x
-  pub at : DeviceAt q h r (one_turn h q t m).next now
+  pub at : DeviceAt q h setup (one_turn h q t m).next now
   pub items_are : (one_turn h q t m).items ≡ noted q outstanding now.values now.stores (shown_of q outstanding d.memory d.queue) x
   pub store : StoreFits x now.stores
   pub sector : SectorFits h.capacity x
@@ -150,10 +150,10 @@ pub record TurnMade (q : ℕ) (h : Header1) (r : SplitRing) (m : Moment) (t : Tu
   pub taken : accepts x + accepted m.scene.past q ≡ accepted (one_turn h q t m).next.scene.past q
 
 -- the turn is made where it is due, and else nothing is
-abbrev pub DeviceTurns : ℕ → Header1 → SplitRing → Moment → Turn → OutstandingRequests → Device → Device → Stepped → Type 0
-DeviceTurns q h r m t outstanding d now x =
-    (is_ready (standing h q m) t ≡ true → TurnMade q h r m t outstanding d now x)
-    × (is_ready (standing h q m) t ≡ false → (x ≡ says.Idle) × DeviceAt q h r m now)
+abbrev pub DeviceTurns : ℕ → Header1 → QueueSetup → Moment → Turn → OutstandingRequests → Device → Device → Stepped → Type 0
+DeviceTurns q h setup m t outstanding d now x =
+    (is_ready (standing h q m) t ≡ true → TurnMade q h setup m t outstanding d now x)
+    × (is_ready (standing h q m) t ≡ false → (x ≡ says.Idle) × DeviceAt q h setup m now)
 
 -- ---- the batch under way
 

@@ -5,7 +5,7 @@ ghost use Rattle.vub_driver.specs.Layout.{area_place};
 ghost use Rattle.vub_memdisk.specs.MemDisks.{capacity_of};
 ghost use Rattle.vub_shared.specs.Watched.{stores_in, sizes_in, IsUnfailed};
 ghost use Rattle.vub_world.specs.declared.outstanding.OutstandingRequests.{OutstandingRequests};
-ghost use Rattle.vub_split.specs.declared.split.SplitRing.{SplitRing};
+ghost use Rattle.vub_queue.specs.declared.queue.QueueSetup.{QueueSetup};
 ghost use Rattle.vub_world.specs.MachineAt.{IsReached, OutstandingAt};
 ghost use Rattle.vub_world.specs.MachineDevice.{DeviceAt, DeviceTurns, device, turn_here};
 ghost use Rattle.vub_run.specs.Moments.{Moment};
@@ -55,9 +55,9 @@ pub fn turn_queue(
     ensures sizes { (s : ℕ) → sizes_in memory.new s ≡ sizes_in memory.old s }
     ensures unfailed { IsUnfailed memory.new }
     ensures capacity { capacity_of disk.new ≡ capacity_of disk.old }
-    ensures turns { (q : ℕ) (h : Header1) (r : SplitRing) (m : Moment) (outstanding : OutstandingRequests) → IsReached q h m → capacity_of disk.old ≡ h.capacity → LiesAs q r h.size → area_place q + 1048576 ≤ sizes_in memory.old 0
-        → DeviceAt q h r m (device queue.old memory.old disk.old) → OutstandingAt q h.size m.scene.past (m.scene.heads q) outstanding
-        → DeviceTurns q h r m (turn_here q h choice m) outstanding (device queue.old memory.old disk.old) (device queue.new memory.new disk.new) result }
+    ensures turns { (q : ℕ) (h : Header1) (setup : QueueSetup) (m : Moment) (outstanding : OutstandingRequests) → IsReached q h m → capacity_of disk.old ≡ h.capacity → LiesAs q setup h.size → area_place q + 1048576 ≤ sizes_in memory.old 0
+        → DeviceAt q h setup m (device queue.old memory.old disk.old) → OutstandingAt q h.size m.scene.past (m.scene.heads q) outstanding
+        → DeviceTurns q h setup m (turn_here q h choice m) outstanding (device queue.old memory.old disk.old) (device queue.new memory.new disk.new) result }
 {
     queue.turn(choice, memory, disk)
 }

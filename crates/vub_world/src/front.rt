@@ -13,7 +13,7 @@ use vub_guest::{Collected, Guest, GuestStep};
 use vub_report::Item;
 use vub_room::Room;
 use vub_shared::WatchedShared;
-use vub_split::SplitRing;
+use vub_queue::QueueSetup;
 
 /// The driver's side of one queue.
 #[derive(Drop)]
@@ -22,7 +22,10 @@ pub struct Front {
     pub header: Header1,
     /// The number of the queue.
     pub index: u16,
-    pub ring: SplitRing,
+    /// How the device's queue is set up.
+    pub setup: QueueSetup,
+    /// The space of guest memory.
+    pub space: Space,
     pub guest: Guest,
     /// The request that waits to be offered.
     pub asked: Option<Ask>,
@@ -56,7 +59,12 @@ impl Front {
             alloc,
             header: *header,
             index,
-            ring: ring_of(space, index, header.size),
+            setup: QueueSetup {
+                index,
+                ring: ring_of(space, index, header.size),
+                base: header.base,
+            },
+            space,
             guest: Guest::new(alloc, header, index, space)?,
             asked: None,
             outstanding: OutstandingRequests::new(alloc, header.size)?,

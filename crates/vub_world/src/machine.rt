@@ -16,7 +16,7 @@ use vub_device::Entry;
 use vub_disk::Disk;
 use vub_guest::layout::AREA;
 use vub_memdisk::MemDisk;
-use vub_queue::{Choice, Queue, QueueSetup, Turn};
+use vub_queue::{Choice, Queue, Turn};
 use vub_report::{Item, Items, Record};
 use vub_room::{Room, Spare};
 use vub_schedule::Event;
@@ -247,12 +247,7 @@ impl Machine {
         let mut queues = Vec::with_capacity(self.alloc, self.fronts.len()).map_err(|_| Memory)?;
         for index in 0..self.header.queues {
             let front = &self.fronts[usize::from(index)];
-            let setup = QueueSetup {
-                index,
-                ring: front.ring,
-                base: front.header.base,
-            };
-            let queue = Queue::new(self.alloc, &setup)?;
+            let queue = Queue::new(self.alloc, &front.setup)?;
             add_queue(&mut queues, queue)?;
         }
         Ok(queues)

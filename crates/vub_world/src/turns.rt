@@ -40,16 +40,15 @@ impl Front {
         ensures answer { result ≡ answer_for self.now.index (slot_in self.now.outstanding head) (bytes_in memory.now) head }
         ensures room { SpendsLists 1 room.old room.new }
     {
-        let (space, _) = self.ring.desc;
         let buffer = buffer_of(area_of(self.index), head);
         let request = self.outstanding.at(head);
-        let status = memory.byte(space, buffer + STATUS);
+        let status = memory.byte(self.space, buffer + STATUS);
         let read = if status == VIRTIO_BLK_S_OK {
             SECTOR_SIZE * usize::from(request.reads)
         } else {
             0
         };
-        let bytes = memory.bytes(space, buffer + SECTORS, read);
+        let bytes = memory.bytes(self.space, buffer + SECTORS, read);
         Answered {
             number: request.number,
             status,

@@ -29,7 +29,7 @@ pub returns-clause-unfailed : goal.returns-clause-unfailed
 returns-clause-unfailed c = unfailed_after c
 
 pub returns-clause-turns : goal.returns-clause-turns
-returns-clause-turns c q h r m outstanding reached cap main room at numbered =
+returns-clause-turns c q h setup m outstanding reached cap main room at numbered =
     let state : QueueState = state_of c.args.queue.now in
     let b : Bytes = bytes_in c.args.memory.now in
     let d : Device = device c.args.queue.now c.args.memory.now c.args.disk.now in
@@ -48,11 +48,11 @@ returns-clause-turns c q h r m outstanding reached cap main room at numbered =
       values_are = c.turn.ensures.values runs b refl;
       made = λ place task n is due. c.turn.ensures.made place task n runs b refl is (subst (λ k. IsDue k (sizes_in c.args.memory.now) state b place task n) (sym cap) due);
     } in
-    let here : IsAsHere q h m state b = as_here q h r m state b main holds.0.holds at.stands at.memory_is in
-    let same : t ≡ turn_here q h c.args.choice m = turn_same q h r m state b c.args.choice main holds.0.holds at.stands at.memory_is in
+    let here : IsAsHere q h m state b = as_here q h setup m state b main holds.0.holds at.stands at.memory_is in
+    let same : t ≡ turn_here q h c.args.choice m = turn_same q h setup m state b c.args.choice main holds.0.holds at.stands at.memory_is in
     let rests : (place : ℕ) → turn_here q h c.args.choice m ≡ turns.Work place → is_ready (standing h q m) (turns.Work place) ≡ false → RestsAt d now x =
     λ place is unready. c.turn.ensures.rests (waiting state b) place runs (work_asked h.size (standing h q m) c.args.choice place is unready) (ap (λ (s : Standing). is_ready s (turns.Work place)) here.standing_is ∙ unready) in
-    device_turns q h r m outstanding (sizes_in c.args.memory.now) (turn_here q h c.args.choice m) d now x
+    device_turns q h setup m outstanding (sizes_in c.args.memory.now) (turn_here q h c.args.choice m) d now x
     (record { plain = reached_plain q h m reached; good = holds.0; chained = holds.1; main = main; at = at; fresh = c.requires.fresh; numbered = numbered })
     room rests
     (subst (λ (u : Turn). DeviceDoes u h.capacity (sizes_in c.args.memory.now) d now x) same does)

@@ -1,6 +1,7 @@
 use Rattle.std.proofs.Common.{ℕ, subst}
 use Rattle.std.specs.Prelude.{Option}
-use Rattle.vub_guest.specs.GuestState.{ring_in, last_used_in, ShowsNext}
+use Rattle.vub_driver.specs.Shown.{ShowsNext}
+use Rattle.vub_guest.specs.GuestState.{ring_in, last_used_in}
 use Rattle.vub_guest.proofs.guest.Guest.collect.Goals as goal
 
 pub returns-in-Ok-None-clause-shown : goal.returns-in-Ok-None-clause-shown

@@ -17,14 +17,14 @@ answers-answers-requires-clause-fits c =
     let q : ℕ = c.args.self.now.index in
     let w : Parts = parts c.args.memory.now c.args.self.now c.args.queue.now c.args.disk.now in
     let s = c.requires.stands in
-    queue_batch_fits q w.front.header w.front.ring s.0 (state_of c.args.queue.now) w.front.outstanding (reached_plain q w.front.header s.0 s.1).good.size.small (reached_holds q w.front.header s.0 s.1).0 s.2.life.1.2 s.2.outstanding
+    queue_batch_fits q w.front.header w.front.setup s.0 (state_of c.args.queue.now) w.front.outstanding (reached_plain q w.front.header s.0 s.1).good.size.small (reached_holds q w.front.header s.0 s.1).0 s.2.life.1.2 s.2.outstanding
 
 pub answers-answers-requires-clause-some : goal.answers-answers-requires-clause-some
 answers-answers-requires-clause-some c =
     let q : ℕ = c.args.self.now.index in
     let w : Parts = parts c.args.memory.now c.args.self.now c.args.queue.now c.args.disk.now in
     let s = c.requires.stands in
-    queue_shows_some q w.front.header w.front.ring s.0 (state_of c.args.queue.now) (reached_holds q w.front.header s.0 s.1).0 s.2.life.1.2
+    queue_shows_some q w.front.header w.front.setup s.0 (state_of c.args.queue.now) (reached_holds q w.front.header s.0 s.1).0 s.2.life.1.2
 
 pub note_turn-requires-clause-stores : goal.note_turn-requires-clause-stores
 note_turn-requires-clause-stores c =

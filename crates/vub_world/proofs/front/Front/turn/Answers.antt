@@ -42,4 +42,4 @@ returns-clause-turns c m reached at =
     let same = c.restart.ensures.memory in
     let has : HasQueue q w m c.args.queue.now = record { good = (reached_holds q w.front.header m reached).0; at = at; life_is = refl } in
     turn_goes q w m c.args.queue.now c.turn_queue.new.queue (turn_here q w.front.header c.args.choice m) c.restart.new.self c.turn_queue.new.memory c.turn_queue.new.disk c.turn_queue.result has (kept_bytes w c.restart.new.self same)
-    (λ d. c.turn_queue.ensures.turns q w.front.header w.front.ring m w.front.outstanding reached sound.disk sound.front.ring (kept_room w c.restart.new.self sound.front same) d at.outstanding)
+    (λ d. c.turn_queue.ensures.turns q w.front.header w.front.setup m w.front.outstanding reached sound.disk sound.front.setup (kept_room w c.restart.new.self sound.front same) d at.outstanding)

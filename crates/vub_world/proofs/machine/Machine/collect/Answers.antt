@@ -25,7 +25,7 @@ pub returns-clause-sound : goal.returns-clause-sound
 returns-clause-sound c =
     let w : Machine = c.args.self.now in
     let t = c.collect.ensures in
-    let keeps : KeepsFront c.index_mut-front.result.now c.collect.new.self = record { header = ap (λ f. f.header) t.frame; index = ap (λ f. f.index) t.frame; ring = ap (λ f. f.ring) t.frame } in
+    let keeps : KeepsFront c.index_mut-front.result.now c.collect.new.self = record { header = ap (λ f. f.header) t.frame; index = ap (λ f. f.index) t.frame; setup = ap (λ f. f.setup) t.frame } in
     subst (λ k. IsSound (with_front_at w c.collect.new.memory k c.collect.new.self)) (sym c.from.ensures) (front_sound w c.collect.new.memory c.args.queue c.index_mut-front.result.now c.collect.new.self c.requires.sound (taken_front c.args.self.now c.from.result c.args.queue c.index_mut-front.result.now c.requires.sound c.from.ensures c.requires.event c.index_mut-front.ensures.value) keeps t.sound t.sizes)
 
 pub returns-clause-performs : goal.returns-clause-performs

@@ -30,7 +30,7 @@ pub returns-clause-sound : goal.returns-clause-sound
 returns-clause-sound c =
     let w : Machine = c.args.self.now in
     let t = c.stores.ensures in
-    let keeps : KeepsFront c.index_mut.result.now c.stores.new.self = record { header = ap (λ f. f.header) t.frame; index = ap (λ f. f.index) t.frame; ring = ap (λ f. f.ring) t.frame } in
+    let keeps : KeepsFront c.index_mut.result.now c.stores.new.self = record { header = ap (λ f. f.header) t.frame; index = ap (λ f. f.index) t.frame; setup = ap (λ f. f.setup) t.frame } in
     subst (λ k. IsSound (with_front_at w c.stores.new.memory k c.stores.new.self)) (sym c.from-place.ensures) (front_sound w c.stores.new.memory c.args.queue c.index_mut.result.now c.stores.new.self c.requires.sound (taken_front c.args.self.now c.from-place.result c.args.queue c.index_mut.result.now c.requires.sound c.from-place.ensures c.requires.event.0 c.index_mut.ensures.value) keeps t.sound t.sizes)
 
 pub returns-clause-performs : goal.returns-clause-performs

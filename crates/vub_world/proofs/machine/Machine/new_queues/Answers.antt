@@ -3,7 +3,9 @@ use Rattle.std.specs.Prelude.{Some, slice_get, get_or}
 use Rattle.vub_world.specs.declared.front.Front.{Front}
 use Rattle.vub_world.specs.declared.machine.Machine.{Machine}
 use Rattle.vub_world.proofs.MachineOpening.{no_queues, one_queue_more}
-use Rattle.vub_world.proofs.MachineParts.{found, ring_few}
+use Rattle.vub_queue_in_run.proofs.Setups.{few_places}
+use Rattle.vub_run_laws.proofs.Sizes.{size_laps}
+use Rattle.vub_world.proofs.MachineParts.{found}
 use Rattle.vub_world.proofs.machine.Machine.new_queues.Goals as goal
 
 pub loop-index-init : goal.loop-index-init
@@ -16,7 +18,8 @@ new-requires c =
     let w : Machine = c.args.self.now in
     let f : Front = c.index-front.result.now in
     let here : slice_get w.fronts.items c.loop-index.index ≡ Some f = found w.fronts.items c.loop-index.index f (omega (arith, c.loop-index-test.true, c.requires.many)) (c.index-front.ensures ∙ ap (λ (k : ℕ). get_or w.fronts.items k f) c.from.ensures) in
-    ring_few w c.loop-index.index f c.requires here
+    let sound = (c.requires.parts c.loop-index.index f here).front in
+    few_places f.index f.setup f.header.size (size_laps f.header.size sound.header.sized).1 sound.setup
 
 pub loop-index-preserved : goal.loop-index-preserved
 loop-index-preserved c =
