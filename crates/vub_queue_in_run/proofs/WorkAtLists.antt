@@ -7,7 +7,9 @@ use Rattle.vub_device.specs.Past.{is_among}
 use Rattle.vub_device.specs.Places.{are_distinct}
 use Rattle.vub_device.proofs.Numbers.{is_among_append}
 use Rattle.vub_run_laws.proofs.RunNumbers.{among_filter}
-use Rattle.vub_facts.proofs.HeadLemmas.{among_get}
+use Rattle.vub_facts.specs.Facts.{without}
+use Rattle.vub_facts.proofs.HeadLemmas.{among_get, distinct_without, without_both, remove_is_without}
+use Rattle.std.proofs.lemmas.List.Elements.{filter_agree}
 
 -- ---- elements by index
 
@@ -38,20 +40,6 @@ slice_get-remove_above (x ∷ xs) (suc i) (suc j) l within = slice_get-remove_ab
 
 -- ---- distinct numbers
 
-pub filter_distinct : (test : ℕ → Bool) (xs : List ℕ) → are_distinct xs ≡ true → are_distinct (filter test xs) ≡ true
-filter_distinct test [] d = refl
-filter_distinct test (x ∷ xs) d =
-    let rest : are_distinct (filter test xs) ≡ true = filter_distinct test xs (grind (arith, nat_tests)) in
-    let new : is_among xs x ≡ false = grind (arith, nat_tests) in
-    let out : is_among (filter test xs) x ≡ false = elim (cases_Bool (is_among (filter test xs) x)) [
-      | inl held ↦ let fails : is_among xs x ≡ true = (among_filter test xs x held).0 in cc
-      | inr fails ↦ fails
-    ] in
-    elim (cases_Bool (test x)) [
-      | inl holds ↦ grind (arith, nat_tests)
-      | inr fails ↦ grind (arith, nat_tests)
-    ]
-
 -- a number stands in one place
 pub one_place : (xs : List ℕ) (i j k : ℕ) → are_distinct xs ≡ true → slice_get xs i ≡ Some k → slice_get xs j ≡ Some k → i ≡ j
 one_place [] i j k d at_i at_j = absurd (cc)
@@ -70,45 +58,8 @@ one_place (x ∷ xs) (suc i) (suc j) k d at_i at_j = ap suc (one_place xs i j k 
 
 -- ---- one number less
 
-keep_all : (xs : List ℕ) (k : ℕ) → is_among xs k ≡ false → filter (λ j. not (k == j)) xs ≡ xs
-keep_all [] k out = refl
-keep_all (x ∷ xs) k out =
-    let rest : filter (λ j. not (k == j)) xs ≡ xs = keep_all xs k (grind (arith, nat_tests)) in
-    let differs : (x == k) ≡ false = grind (arith, nat_tests) in
-    let turned : (k == x) ≡ false = grind (arith, nat_tests) in
-    grind (arith, nat_tests)
-
--- all but the number in one place
-without_one : (xs : List ℕ) (i k : ℕ) → are_distinct xs ≡ true → slice_get xs i ≡ Some k → filter (λ j. not (k == j)) xs ≡ remove xs i
-without_one [] i k d at = absurd (cc)
-without_one (x ∷ xs) zero k d at =
-    let same : x ≡ k = cc in
-    let new : is_among xs x ≡ false = grind (arith, nat_tests) in
-    let all : filter (λ j. not (k == j)) xs ≡ xs = keep_all xs k (ap (is_among xs) (sym same) ∙ new) in
-    let tested : (k == x) ≡ true = grind (arith, nat_tests) in
-    grind (arith, nat_tests)
-without_one (x ∷ xs) (suc i) k d at =
-    let new : is_among xs x ≡ false = grind (arith, nat_tests) in
-    let held : is_among xs k ≡ true = among_get xs i k at in
-    let differs : k ≢ x = λ same. let fails : is_among xs k ≡ false = ap (is_among xs) same ∙ new in absurd (cc) in
-    let rest : filter (λ j. not (k == j)) xs ≡ remove xs i = without_one xs i k (grind (arith, nat_tests)) at in
-    let tested : (k == x) ≡ false = grind (arith, nat_tests) in
-    let whole : filter (λ j. not (k == j)) (x ∷ xs) ≡ x ∷ filter (λ j. not (k == j)) xs = grind (arith, nat_tests) in
-    whole ∙ ap (λ (ys : List ℕ). x ∷ ys) rest
-
--- two tests one after another
-twice : (test : ℕ → Bool) (k : ℕ) (out : ℕ → Bool) (xs : List ℕ) → ((j : ℕ) → out j ≡ (test j || (k == j))) → filter (λ j. not (out j)) xs ≡ filter (λ j. not (k == j)) (filter (λ j. not (test j)) xs)
-twice test k out [] same = refl
-twice test k out (x ∷ xs) same =
-    let rest : filter (λ j. not (out j)) xs ≡ filter (λ j. not (k == j)) (filter (λ j. not (test j)) xs) = twice test k out xs same in
-    let here : out x ≡ (test x || (k == x)) = same x in
-    elim (cases_Bool (test x)) [
-      | inl holds ↦ grind (arith, nat_tests)
-      | inr fails ↦ elim (cases_eq k x) [
-        | inl same_x ↦ grind (arith, nat_tests)
-        | inr apart ↦ grind (arith, nat_tests)
-      ]
-    ]
+one_or_none : (b : Bool) (k j : ℕ) → (b || is_among (k ∷ []) j) ≡ (b || (k == j))
+one_or_none b k j = grind (arith, nat_tests)
 
 among_both : (xs ys : List ℕ) (k j : ℕ) → is_among ((xs ++ k ∷ []) ++ ys) j ≡ (is_among (xs ++ ys) j || (k == j))
 among_both xs ys k j =
@@ -118,11 +69,11 @@ among_both xs ys k j =
     grind (arith, nat_tests)
 
 -- one more is left out
-pub one_less : (xs ys zs : List ℕ) (i k : ℕ) → are_distinct zs ≡ true → slice_get (filter (λ j. not (is_among (xs ++ ys) j)) zs) i ≡ Some k
-    → filter (λ j. not (is_among ((xs ++ k ∷ []) ++ ys) j)) zs ≡ remove (filter (λ j. not (is_among (xs ++ ys) j)) zs) i
+pub one_less : (xs ys zs : List ℕ) (i k : ℕ) → are_distinct zs ≡ true → slice_get (without (xs ++ ys) zs) i ≡ Some k → without ((xs ++ k ∷ []) ++ ys) zs ≡ remove (without (xs ++ ys) zs) i
 one_less xs ys zs i k d at =
-    twice (is_among (xs ++ ys)) k (is_among ((xs ++ k ∷ []) ++ ys)) zs (λ j. among_both xs ys k j)
-    ∙ without_one (filter (λ j. not (is_among (xs ++ ys) j)) zs) i k (filter_distinct (λ j. not (is_among (xs ++ ys) j)) zs d) at
+    filter_agree (λ j. not (is_among ((xs ++ k ∷ []) ++ ys) j)) (λ j. not (is_among ((xs ++ ys) ++ k ∷ []) j)) (λ j. ap not (among_both xs ys k j ∙ sym (is_among_append (xs ++ ys) (k ∷ []) j ∙ one_or_none (is_among (xs ++ ys) j) k j))) zs
+    ∙ sym (without_both (xs ++ ys) (k ∷ []) zs)
+    ∙ sym (remove_is_without (without (xs ++ ys) zs) i k (distinct_without (xs ++ ys) zs d) at)
 
 -- a member that passes is kept
 pub among_kept : (test : ℕ → Bool) (xs : List ℕ) (k : ℕ) → is_among xs k ≡ true → test k ≡ true → is_among (filter test xs) k ≡ true

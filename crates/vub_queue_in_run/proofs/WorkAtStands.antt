@@ -43,7 +43,8 @@ use Rattle.vub_queue_in_run.proofs.QueueAtTurns.{stands_after}
 use Rattle.vub_queue_in_run.proofs.WorkAt.{WorkReady, making, Kind, IsLook, IsPut, IsAct, IsSync}
 use Rattle.vub_queue_in_run.proofs.WorkAtItems.{work_turned, work_kind}
 use Rattle.vub_queue_in_run.proofs.QueueHeld.{keeps_worked, keeps_done}
-use Rattle.vub_queue_in_run.proofs.WorkAtLists.{slice_get-set_same, slice_get-set_other, slice_get-remove_below, slice_get-remove_above, filter_distinct, one_place, one_less, among_kept}
+use Rattle.vub_facts.proofs.HeadLemmas.{distinct_without}
+use Rattle.vub_queue_in_run.proofs.WorkAtLists.{slice_get-set_same, slice_get-set_other, slice_get-remove_below, slice_get-remove_above, one_place, one_less, among_kept}
 use Rattle.vub_run_laws.proofs.RunQueue.{heads_apart}
 
 -- ---- the requests that are left
@@ -65,7 +66,7 @@ spots_same : (q : ℕ) (h : Header1) (past past' : List Entry) (heads : List ℕ
 spots_same q h past past' heads k ks x = ap (λ (f : ℕ → Option Asked). map (λ j. (slice_index heads j, len_of h (f j))) ks) (sym x.requests)
 
 left_distinct : (q : ℕ) (past : List Entry) (completed batch : List ℕ) → are_distinct (left_of q past completed batch) ≡ true
-left_distinct q past completed batch = filter_distinct (λ j. not (is_among (completed ++ batch) j)) (open_numbers past q) (missing_distinct (published past q) (accepted past q))
+left_distinct q past completed batch = distinct_without (completed ++ batch) (open_numbers past q) (missing_distinct (published past q) (accepted past q))
 
 -- one of them is open
 left_open : (q : ℕ) (past : List Entry) (completed batch : List ℕ) (k : ℕ) → is_among (left_of q past completed batch) k ≡ true → IsOpen past q k
