@@ -9,7 +9,7 @@ use Rattle.vub_ring.specs.Ring.{Ring}
 use Rattle.vub_driver.specs.Drivers.{Driver, Waiting, owned_by, without_owner, is_that, is_head}
 use Rattle.vub_driver.specs.OwnStores.{IsOwn, IsOwnStore}
 use Rattle.vub_driver.specs.Requests.{Piece, written_bytes, data_place}
-use Rattle.vub_guest.specs.declared.guest.Pending.{Pending}
+use Rattle.vub_guest.specs.declared.guest.WaitingRequest.{WaitingRequest}
 use Rattle.vub_guest.specs.declared.guest.Stage.{Stage}
 use Rattle.vub_guest.specs.declared.guest.Stage.TheVariants.{Header, Data, Status, HeaderDescriptor, DataDescriptor, StatusDescriptor, AvailEntry, AvailIdx}
 use Rattle.vub_guest.specs.GuestRequest.{table_entry}
@@ -48,10 +48,10 @@ owns_still old new head other d apart count owners owns = (
 )
 
 -- each request that waits owns its descriptors
-abbrev pub Waits : List (Option ℕ) → Option Pending → Type 0
+abbrev pub Waits : List (Option ℕ) → Option WaitingRequest → Type 0
 Waits owners o = ForSome o (λ p. IsOwned owners (links_of p.chain))
 
-pub waits_still : (r : Ring) (index : ℕ) (old new : List (Option ℕ)) (head : ℕ) (o : Option Pending) → is_head head (option_map (waiting_in r index) o) ≡ false → length new ≡ length old
+pub waits_still : (r : Ring) (index : ℕ) (old new : List (Option ℕ)) (head : ℕ) (o : Option WaitingRequest) → is_head head (option_map (waiting_in r index) o) ≡ false → length new ≡ length old
     → ((d : ℕ) → owner_at new d ≡ without_owner head (owner_at old) d) → Waits old o → Waits new o
 waits_still r index old new head o apart count owners waits = λ p is.
     let owned : IsOwned old (links_of p.chain) = waits p is in
@@ -59,8 +59,8 @@ waits_still r index old new head o apart count owners waits = λ p is.
     let still : (d : ℕ) → Owns old p.chain.head d → Owns new p.chain.head d = λ d. owns_still old new head p.chain.head d other count owners in
     (still p.chain.head owned.0, (still (second (links_of p.chain)) owned.1.0, still p.chain.status owned.1.1))
 
-pub waits_of : (owners : List (Option ℕ)) (p : Pending) → IsOwned owners (links_of p.chain) → Waits owners (Some p)
-waits_of owners p owned = λ x is. subst (λ (o : Option Pending). IfSome o (λ q. IsOwned owners (links_of q.chain))) is owned
+pub waits_of : (owners : List (Option ℕ)) (p : WaitingRequest) → IsOwned owners (links_of p.chain) → Waits owners (Some p)
+waits_of owners p owned = λ x is. subst (λ (o : Option WaitingRequest). IfSome o (λ q. IsOwned owners (links_of q.chain))) is owned
 
 -- ---- the driver's own stores
 
@@ -100,7 +100,7 @@ own r v w owners d owner waits size owns =
       free = grind (arith, nat_tests);
     }
 
-pub own_next : (r : Ring) (index : ℕ) (p : Pending) (o : Option Pending) (owners : List (Option ℕ)) → o ≡ Some p → length owners ≡ r.size → Waits owners o → (p.stage ≡ Data → length (written_bytes p.ask) ≤ 4096)
+pub own_next : (r : Ring) (index : ℕ) (p : WaitingRequest) (o : Option WaitingRequest) (owners : List (Option ℕ)) → o ≡ Some p → length owners ≡ r.size → Waits owners o → (p.stage ≡ Data → length (written_bytes p.ask) ≤ 4096)
     → let v : Driver = record { avail_idx = index; owner = owner_at owners; waiting = option_map (waiting_in r index) o } in
     IfSome (next_store v.waiting) (IsOwnStore r v)
 own_next r index p o owners is size waits small =

@@ -14,7 +14,7 @@ use Rattle.vub_driver.specs.Stores.{store_of_some, chain_stores, offer_stores, r
 use Rattle.vub_guest.specs.GuestRequest.{table_entry}
 use Rattle.vub_guest.specs.declared.guest.Chain.{Chain}
 use Rattle.vub_guest.specs.declared.guest.Guest.{Guest}
-use Rattle.vub_guest.specs.declared.guest.Pending.{Pending}
+use Rattle.vub_guest.specs.declared.guest.WaitingRequest.{WaitingRequest}
 use Rattle.vub_guest.specs.declared.guest.Stage.{Stage}
 use Rattle.vub_guest.specs.declared.guest.Stage.TheVariants.{Header, Data, Status, HeaderDescriptor, DataDescriptor, StatusDescriptor, AvailEntry, AvailIdx}
 use Rattle.vub_guest.specs.declared.guest.GuestStep.{GuestStep}
@@ -74,7 +74,7 @@ stores_from-next r index ask l AvailEntry = refl
 stores_from-next r index ask l AvailIdx = refl
 
 -- a store that isn't the last
-pub steps_stored : (r : Ring) (index : ℕ) (p : Pending) (stage : Stage) (v w : Driver) → v.waiting ≡ Some (waiting_in r index p) → stage_after p.ask (links_of p.chain) p.stage ≡ Some stage
+pub steps_stored : (r : Ring) (index : ℕ) (p : WaitingRequest) (stage : Stage) (v w : Driver) → v.waiting ≡ Some (waiting_in r index p) → stage_after p.ask (links_of p.chain) p.stage ≡ Some stage
     → w ≡ record v { waiting = Some (waiting_in r index (record p { stage = stage })) } → Steps Stored v w
 steps_stored r index p stage v w waits next is =
     let x : Waiting = waiting_in r index p in
@@ -90,7 +90,7 @@ steps_stored r index p stage v w waits next is =
     (x, waits, omega (arith, many), sym same ∙ sym after)
 
 -- the last store
-pub steps_offered : (r : Ring) (index : ℕ) (p : Pending) (v w : Driver) → v.waiting ≡ Some (waiting_in r index p) → stage_after p.ask (links_of p.chain) p.stage ≡ None
+pub steps_offered : (r : Ring) (index : ℕ) (p : WaitingRequest) (v w : Driver) → v.waiting ≡ Some (waiting_in r index p) → stage_after p.ask (links_of p.chain) p.stage ≡ None
     → w ≡ record v { avail_idx = (v.avail_idx + 1) % 65536; waiting = None } → Steps (Offered p.chain.head) v w
 steps_offered r index p v w waits next is =
     let x : Waiting = waiting_in r index p in
@@ -101,17 +101,17 @@ steps_offered r index p v w waits next is =
     (x, waits, refl, ap length left, is ∙ sym after)
 
 -- the store that a step makes
-pub next_store-is : (r : Ring) (index : ℕ) (p : Pending) → next_store (Some (waiting_in r index p)) ≡ Some (store_at r index p.ask (links_of p.chain) p.stage)
+pub next_store-is : (r : Ring) (index : ℕ) (p : WaitingRequest) → next_store (Some (waiting_in r index p)) ≡ Some (store_at r index p.ask (links_of p.chain) p.stage)
 next_store-is r index p = ap (λ xs. next_store (Some (record { ask = p.ask; head = p.chain.head; left = xs }))) (stores_from-next r index p.ask (links_of p.chain) p.stage)
 
-pub stores_made : (before after : Option Bytes) (r : Ring) (index : ℕ) (p : Pending) (waiting : Option Pending) (step : GuestStep) (result : Result (Unit {0}) (Unit {0})) → waiting ≡ Some p → outcome step ≡ result
+pub stores_made : (before after : Option Bytes) (r : Ring) (index : ℕ) (p : WaitingRequest) (waiting : Option WaitingRequest) (step : GuestStep) (result : Result (Unit {0}) (Unit {0})) → waiting ≡ Some p → outcome step ≡ result
     → Stores before after result (store_at r index p.ask (links_of p.chain) p.stage) → StoresNext before after step (next_store (option_map (waiting_in r index) waiting))
 stores_made before after r index p waiting step result waits done made =
     let st : Store = store_at r index p.ask (links_of p.chain) p.stage in
     let next : next_store (option_map (waiting_in r index) waiting) ≡ Some st = ap (λ o. next_store (option_map (waiting_in r index) o)) waits ∙ next_store-is r index p in
     subst (λ (o : Option Store). StoresNext before after step o) (sym next) (subst (λ (x : Result (Unit {0}) (Unit {0})). Stores before after x st) (sym done) made)
 
-pub trails_made : (before after : Option (List Store)) (r : Ring) (index : ℕ) (p : Pending) (waiting : Option Pending) (step : GuestStep) (result : Result (Unit {0}) (Unit {0})) → waiting ≡ Some p → outcome step ≡ result
+pub trails_made : (before after : Option (List Store)) (r : Ring) (index : ℕ) (p : WaitingRequest) (waiting : Option WaitingRequest) (step : GuestStep) (result : Result (Unit {0}) (Unit {0})) → waiting ≡ Some p → outcome step ≡ result
     → Trails before after result (store_at r index p.ask (links_of p.chain) p.stage) → TrailsNext before after step (next_store (option_map (waiting_in r index) waiting))
 trails_made before after r index p waiting step result waits done made =
     let st : Store = store_at r index p.ask (links_of p.chain) p.stage in
@@ -195,7 +195,7 @@ stores_some r index ask l AvailIdx = omega arith
 pub left_some : (g : Guest) (x : Waiting) → (driver_in g).waiting ≡ Some x → 0 < length x.left
 left_some g x is = go g.waiting is
   where
-    go : (o : Option Pending) → option_map (waiting_in (ring_in g) g.avail_idx) o ≡ Some x → 0 < length x.left
+    go : (o : Option WaitingRequest) → option_map (waiting_in (ring_in g) g.avail_idx) o ≡ Some x → 0 < length x.left
     go None e = absurd (cc)
     go (Some p) e =
         let same : waiting_in (ring_in g) g.avail_idx p ≡ x = cc in
@@ -231,7 +231,7 @@ stores_few r index ask l AvailIdx = omega arith
 pub left_few : (g : Guest) (x : Waiting) → (driver_in g).waiting ≡ Some x → length x.left ≤ 8
 left_few g x is = go g.waiting is
   where
-    go : (o : Option Pending) → option_map (waiting_in (ring_in g) g.avail_idx) o ≡ Some x → length x.left ≤ 8
+    go : (o : Option WaitingRequest) → option_map (waiting_in (ring_in g) g.avail_idx) o ≡ Some x → length x.left ≤ 8
     go None e = absurd (cc)
     go (Some p) e =
         let same : waiting_in (ring_in g) g.avail_idx p ≡ x = cc in

@@ -13,7 +13,7 @@ use Rattle.vub_split.specs.Stores.{avail_idx_store, avail_entry_store}
 use Rattle.vub_split.proofs.Words.{avail_idx_off_used, avail_entry_off_used, head_stored}
 use Rattle.vub_split.proofs.Seen.{waiting_off, waiting_entry, waiting_index, seen_off}
 use Rattle.vub_guest.specs.declared.guest.Guest.{Guest}
-use Rattle.vub_guest.specs.declared.guest.Pending.{Pending}
+use Rattle.vub_guest.specs.declared.guest.WaitingRequest.{WaitingRequest}
 use Rattle.vub_guest.specs.declared.guest.Stage.{Stage}
 use Rattle.vub_guest.specs.declared.guest.Stage.TheVariants.{Header, Data, Status, HeaderDescriptor, DataDescriptor, StatusDescriptor, AvailEntry, AvailIdx}
 use Rattle.vub_driver.specs.GuestChain.{Links, second}
@@ -52,7 +52,7 @@ next_fits : (o : Option ℕ) (head status : ℕ) → ForSome o (λ d. d < 64) �
 next_fits None head status all fits = fits
 next_fits (Some d) head status all fits = all d refl
 
-in_table : (p : Pending) → InTable (links_of p.chain)
+in_table : (p : WaitingRequest) → InTable (links_of p.chain)
 in_table p = record { head = p.chain.head_fits; next = next_fits p.chain.body p.chain.head p.chain.status p.chain.body_fits p.chain.status_fits; status = p.chain.status_fits }
 
 -- past the used ring, or before the avail ring
@@ -150,13 +150,13 @@ next_of g w is = go g.waiting refl is
     r : Ring
     r = ring_in g
 
-    go : (o : Option Pending) → g.waiting ≡ o → option_map (waiting_in r g.avail_idx) o ≡ Some w → Next g w
+    go : (o : Option WaitingRequest) → g.waiting ≡ o → option_map (waiting_in r g.avail_idx) o ≡ Some w → Next g w
     go None same e = absurd (cc)
     go (Some p) same e =
         let found : waiting_in r g.avail_idx p ≡ w = cc in
         let l : Links = links_of p.chain in
         let st : Store = store_at r g.avail_idx p.ask l p.stage in
-        let first : next_store (driver_in g).waiting ≡ Some st = ap (λ (x : Option Pending). next_store (option_map (waiting_in r g.avail_idx) x)) same ∙ next_store-is r g.avail_idx p in
+        let first : next_store (driver_in g).waiting ≡ Some st = ap (λ (x : Option WaitingRequest). next_store (option_map (waiting_in r g.avail_idx) x)) same ∙ next_store-is r g.avail_idx p in
         let low : p.chain.head < 64 = p.chain.head_fits in
         subst (λ (x : Waiting). Next g x) found (record {
           store = st;

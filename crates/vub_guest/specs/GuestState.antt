@@ -10,7 +10,7 @@ use Rattle.vub_driver.specs.GuestChain.{descriptors}
 use Rattle.vub_driver.specs.Shown.{ShowsNext}
 use Rattle.vub_guest.specs.GuestStores.{links_of, store_at, stores_from}
 use Rattle.vub_guest.specs.declared.guest.Chain.{Chain}
-use Rattle.vub_guest.specs.declared.guest.Pending.{Pending}
+use Rattle.vub_guest.specs.declared.guest.WaitingRequest.{WaitingRequest}
 use Rattle.vub_guest.specs.declared.guest.Stage.{Stage}
 use Rattle.vub_guest.specs.declared.guest.Guest.{Guest}
 use Rattle.vub_guest.specs.declared.guest.GuestStep.{GuestStep}
@@ -29,7 +29,7 @@ abbrev pub owner_at : List (Option ℕ) → ℕ → Option ℕ
 owner_at owners d = get_or owners d None
 
 -- a request that waits, with the stores from its stage on
-abbrev pub waiting_in : Ring → ℕ → Pending → Waiting
+abbrev pub waiting_in : Ring → ℕ → WaitingRequest → Waiting
 waiting_in r index p = record { ask = p.ask; head = p.chain.head; left = stores_from r index p.ask (links_of p.chain) p.stage }
 
 -- what it keeps, as a driver
@@ -37,8 +37,8 @@ abbrev pub driver_in : Guest → Driver
 driver_in g = record { avail_idx = g.avail_idx; owner = owner_at g.owners.items; waiting = option_map (waiting_in (ring_in g) g.avail_idx) g.waiting }
 
 -- the store of a stage of a request that waits in it
-abbrev pub pending_store : Guest → Pending → Stage → Store
-pending_store g p stage = store_at (ring_in g) g.avail_idx p.ask (links_of p.chain) stage
+abbrev pub waiting_store : Guest → WaitingRequest → Stage → Store
+waiting_store g p stage = store_at (ring_in g) g.avail_idx p.ask (links_of p.chain) stage
 
 -- the index of the used element that it takes next
 abbrev pub last_used_in : Guest → ℕ

@@ -69,7 +69,7 @@ enum Stage {
 
 /// A request that isn't offered yet.
 #[derive(Debug, Drop)]
-struct Pending {
+struct WaitingRequest {
     ask: Ask,
     chain: Chain,
     stage: Stage,
@@ -107,7 +107,7 @@ impl Chain {
     }
 }
 
-impl Pending {
+impl WaitingRequest {
     ghost use Rattle.vub_guest.specs.GuestStores.{links_of, stage_after};
 
     /// The store after this one; none after the last.
@@ -148,7 +148,7 @@ pub struct Guest {
     last_used: u16,
     // The head of the request that each descriptor belongs to.
     owners: Vec<Option<u16>>,
-    waiting: Option<Pending>,
+    waiting: Option<WaitingRequest>,
     ghost some: { 1 ≤ size },
     ghost few: { size ≤ 64 },
     ghost near: { area < 2 ^ 40 },
@@ -176,7 +176,7 @@ impl Guest {
     ghost use Rattle.vub_guest.specs.GuestStores.{links_of};
     ghost use Rattle.vub_guest.specs.GuestStores.{buffer_of as links_buffer};
     ghost use Rattle.vub_guest.specs.Guest.{GuestLies};
-    ghost use Rattle.vub_guest.specs.GuestState.{ring_in, driver_in, pending_store, last_used_in, owner_at, FindsFree, Chooses, StoresNext, TrailsNext, Steps, outcome, next_store, Shows, Collects, fetched};
+    ghost use Rattle.vub_guest.specs.GuestState.{ring_in, driver_in, waiting_store, last_used_in, owner_at, FindsFree, Chooses, StoresNext, TrailsNext, Steps, outcome, next_store, Shows, Collects, fetched};
 
     /// The driver of one of the header's queues, whose area lies in this space.
     pub fn new(alloc: Global, header: &Header1, queue: u16, memory: Space) -> Result<Guest, Memory>
@@ -253,7 +253,7 @@ impl Guest {
             return false;
         };
         chain.own(&mut self.owners);
-        self.waiting = Some(Pending {
+        self.waiting = Some(WaitingRequest {
             ask: ask.copied(),
             chain,
             stage: Stage::Header,
@@ -262,15 +262,15 @@ impl Guest {
     }
 
     /// Where the store of a stage goes.
-    fn place_of(&self, pending: &Pending) -> u64
-        ensures { result ≡ (pending_store self.now pending.now pending.now.stage).place }
+    fn place_of(&self, waiting: &WaitingRequest) -> u64
+        ensures { result ≡ (waiting_store self.now waiting.now waiting.now.stage).place }
     {
-        let chain = &pending.chain;
+        let chain = &waiting.chain;
         let buffer = buffer_of(self.area, chain.head);
         let avail = self.area + AVAIL;
-        match pending.stage {
+        match waiting.stage {
             Stage::Header => buffer,
-            Stage::Data => data_start(buffer, &pending.ask),
+            Stage::Data => data_start(buffer, &waiting.ask),
             Stage::Status => buffer + STATUS,
             Stage::HeaderDescriptor => self.descriptor_place(chain.head),
             Stage::DataDescriptor => self.descriptor_place(chain.second()),
@@ -303,16 +303,16 @@ impl Guest {
     }
 
     /// The descriptor of the data.
-    fn data_descriptor(&self, pending: &Pending) -> [u8; DESC_SIZE]
-        ensures { result ≡ table_entry (data_piece (links_buffer (ring_in self.now) (links_of pending.now.chain)) pending.now.ask) (Some pending.now.chain.status) }
+    fn data_descriptor(&self, waiting: &WaitingRequest) -> [u8; DESC_SIZE]
+        ensures { result ≡ table_entry (data_piece (links_buffer (ring_in self.now) (links_of waiting.now.chain)) waiting.now.ask) (Some waiting.now.chain.status) }
     {
-        let ask = &pending.ask;
-        let data = data_start(buffer_of(self.area, pending.chain.head), ask);
+        let ask = &waiting.ask;
+        let data = data_start(buffer_of(self.area, waiting.chain.head), ask);
         descriptor(
             data,
             data_len(ask),
             is_read(ask),
-            Some(pending.chain.status),
+            Some(waiting.chain.status),
         )
     }
 
@@ -324,23 +324,23 @@ impl Guest {
     }
 
     /// Makes the store of the stage: the status byte, a word of the avail ring, or a run of bytes.
-    fn make_store<M: Shared>(&self, mem: &mut M, pending: &Pending) -> Result<(), Failed>
+    fn make_store<M: Shared>(&self, mem: &mut M, waiting: &WaitingRequest) -> Result<(), Failed>
         requires { GuestLies (M.sizes mem.old) self.now }
-        ensures makes_store { MakesStore M.told M.trail M.names M.handed M.sizes mem.old mem.new result (pending_store self.now pending.now pending.now.stage) }
-        ensures small { pending.now.stage ≡ Data → length (written_bytes pending.now.ask) ≤ 4096 }
+        ensures makes_store { MakesStore M.told M.trail M.names M.handed M.sizes mem.old mem.new result (waiting_store self.now waiting.now waiting.now.stage) }
+        ensures small { waiting.now.stage ≡ Data → length (written_bytes waiting.now.ask) ≤ 4096 }
         ensures cause { HasCause (M.faults mem.old) (M.faults mem.new) result }
     {
-        let chain = &pending.chain;
-        let place = self.place_of(pending);
-        match pending.stage {
-            Stage::Header => mem.store_run(self.memory, place, &header(&pending.ask)),
-            Stage::Data => mem.store_run(self.memory, place, &written(&pending.ask)),
+        let chain = &waiting.chain;
+        let place = self.place_of(waiting);
+        match waiting.stage {
+            Stage::Header => mem.store_run(self.memory, place, &header(&waiting.ask)),
+            Stage::Data => mem.store_run(self.memory, place, &written(&waiting.ask)),
             Stage::Status => mem.store1(self.memory, place, NO_STATUS),
             Stage::HeaderDescriptor => {
                 mem.store_run(self.memory, place, &self.header_descriptor(chain))
             }
             Stage::DataDescriptor => {
-                mem.store_run(self.memory, place, &self.data_descriptor(pending))
+                mem.store_run(self.memory, place, &self.data_descriptor(waiting))
             }
             Stage::StatusDescriptor => {
                 mem.store_run(self.memory, place, &self.status_descriptor(chain))
@@ -357,14 +357,14 @@ impl Guest {
         ensures ring { ring_in self.new ≡ ring_in self.old }
         ensures position { last_used_in self.new ≡ last_used_in self.old }
     {
-        let Some(pending) = &mut self.waiting else {
+        let Some(waiting) = &mut self.waiting else {
             return GuestStep::Idle;
         };
-        if let Some(stage) = pending.next_stage() {
-            pending.stage = stage;
+        if let Some(stage) = waiting.next_stage() {
+            waiting.stage = stage;
             return GuestStep::Stored;
         }
-        let head = pending.chain.head;
+        let head = waiting.chain.head;
         self.avail_idx = self.avail_idx.wrapping_add(1);
         self.waiting = None;
         GuestStep::Offered(head)
@@ -385,10 +385,10 @@ impl Guest {
         ensures position { last_used_in self.new ≡ last_used_in self.old }
         ensures cause { HasCause (M.faults mem.old) (M.faults mem.new) (outcome result) }
     {
-        let Some(pending) = &self.waiting else {
+        let Some(waiting) = &self.waiting else {
             return GuestStep::Idle;
         };
-        match self.make_store(mem, pending) {
+        match self.make_store(mem, waiting) {
             Ok(()) => self.advance(),
             Err(Failed) => GuestStep::Failed,
         }
@@ -432,7 +432,7 @@ impl Guest {
         ensures { result ≡ is_head head (driver_in self.now).waiting }
     {
         match &self.waiting {
-            Some(pending) => pending.chain.head == head,
+            Some(waiting) => waiting.chain.head == head,
             None => false,
         }
     }

@@ -8,14 +8,14 @@ use Rattle.vub_guest.proofs.guest.Guest.advance.Goals as goal
 pub returns-in-Some-next_stage-clause-driver : goal.returns-in-Some-next_stage-clause-driver
 returns-in-Some-next_stage-clause-driver c =
     let g = c.args.self.now in
-    steps_stored (ring_in g) g.avail_idx c.in-Some.pending c.in-Some-next_stage.stage (driver_in g) _ (ap (option_map (waiting_in (ring_in g) g.avail_idx)) c.in-Some.is) (sym c.next_stage.ensures ∙ c.in-Some-next_stage.is) refl
+    steps_stored (ring_in g) g.avail_idx c.in-Some.waiting c.in-Some-next_stage.stage (driver_in g) _ (ap (option_map (waiting_in (ring_in g) g.avail_idx)) c.in-Some.is) (sym c.next_stage.ensures ∙ c.in-Some-next_stage.is) refl
 
 pub returns-clause-driver : goal.returns-clause-driver
 returns-clause-driver c =
     let g = c.args.self.now in
-    steps_offered (ring_in g) g.avail_idx c.in-Some.pending (driver_in g) _ (ap (option_map (waiting_in (ring_in g) g.avail_idx)) c.in-Some.is) (sym c.next_stage.ensures ∙ c.in_default-next_stage.is) refl
+    steps_offered (ring_in g) g.avail_idx c.in-Some.waiting (driver_in g) _ (ap (option_map (waiting_in (ring_in g) g.avail_idx)) c.in-Some.is) (sym c.next_stage.ensures ∙ c.in_default-next_stage.is) refl
 
 pub invariant_of-self-in-Some-next_stage-clause-waits : goal.invariant_of-self-in-Some-next_stage-clause-waits
 invariant_of-self-in-Some-next_stage-clause-waits c =
-    let p = c.in-Some.pending in
+    let p = c.in-Some.waiting in
     waits_of c.args.self.now.owners.items (record p { stage = c.in-Some-next_stage.stage }) (c.args.self.now.waits p c.in-Some.is)

@@ -3,7 +3,7 @@ use Rattle.std.proofs.lemmas.List.{with_items_is, places}
 use Rattle.std.specs.Prelude.{Option, Some}
 use Rattle.vub_driver.specs.Drivers.{owned_by}
 use Rattle.vub_driver.specs.GuestChain.{descriptors, IsOwned}
-use Rattle.vub_guest.specs.declared.guest.Pending.{Pending}
+use Rattle.vub_guest.specs.declared.guest.WaitingRequest.{WaitingRequest}
 use Rattle.vub_guest.specs.declared.guest.Stage.TheVariants.{Header}
 use Rattle.vub_guest.specs.GuestStores.{links_of}
 use Rattle.vub_guest.specs.GuestState.{ring_in, driver_in, owner_at, Chooses}
@@ -30,7 +30,7 @@ invariant_of-self-clause-waits c =
     let chooses : Chooses old c.args.ask.now (Some chain) = subst (λ (xs : List (Option ℕ)). Chooses xs c.args.ask.now (Some chain)) c.deref.ensures.value c.in-Some.ensures in
     let owners : (d : ℕ) → owner_at c.own.new.owners d ≡ owned_by chain.head (descriptors (links_of chain)) (owner_at old) d =
     subst (λ (xs : List (Option ℕ)). (d : ℕ) → owner_at c.own.new.owners d ≡ owned_by chain.head (descriptors (links_of chain)) (owner_at xs) d) c.deref_mut.ensures.value c.own.ensures.owners in
-    let p : Pending = record { ask = c.copied.result; chain = chain; stage = Header } in
+    let p : WaitingRequest = record { ask = c.copied.result; chain = chain; stage = Header } in
     let owned : IsOwned c.own.new.owners (links_of chain) = owned_after old c.own.new.owners chain.head chain.body chain.status chooses.3 (c.own.ensures.count ∙ ap length c.deref_mut.ensures.value) owners in
     subst (λ (xs : List (Option ℕ)). Waits xs (Some p)) (sym (with_items_is g.owners c.own.new.owners (search (rules, places)))) (waits_of c.own.new.owners p owned)
 
