@@ -1,8 +1,7 @@
--- Where the machine stands after the driver took an element of the used ring.
-use Rattle.std.proofs.Common.{◌≡◌, ◌≢◌, ◌≤◌, ◌<◌, ℕ, zero, suc, ◌+◌, ◌*◌, ◌%◌, false, List, [], ◌∷◌, ◌++◌, length, take, refl, ap, sym, ◌∙◌, subst, inl, inr, arith}
+-- Where the machine stands after the driver collected what the device shows.
+use Rattle.std.proofs.Common.{◌≡◌, ◌≤◌, ◌<◌, ℕ, ◌+◌, ◌%◌, false, List, [], ◌∷◌, ◌++◌, length, take, ap, sym, ◌∙◌, subst, arith}
 use Rattle.std.specs.Prelude.{Option, Some, None, slice_index, ◌||◌}
 use Rattle.std.proofs.lemmas.Bool.Decides.{nat_tests}
-use Rattle.std.proofs.lemmas.Bool.{cases_lt}
 use Rattle.std.proofs.lemmas.List.{take_more}
 use Rattle.vub_base.specs.declared.header.Header1.{Header1}
 use Rattle.vub_shared.specs.Bytes.{Bytes}
@@ -33,7 +32,7 @@ use Rattle.vub_queue.specs.declared.queue.QueueSetup.{QueueSetup}
 use Rattle.vub_report.specs.declared.items.Item.TheVariants as items
 use Rattle.vub_report.specs.declared.items.Record.{Record}
 use Rattle.vub_guest.specs.GuestState.{ring_in, driver_in, last_used_in, Shows}
-use Rattle.vub_world.specs.OutstandingRequests.{offered_in, collected_in, size_in, slot_in}
+use Rattle.vub_world.specs.OutstandingRequests.{offered_in, collected_in, slot_in}
 use Rattle.vub_world.specs.MachineAt.{AskAt, LifeAt, PartsAt, PartsStand}
 use Rattle.vub_run.specs.Moments.{Lane, Moment}
 use Rattle.vub_queue.specs.QueueState.{state_of}

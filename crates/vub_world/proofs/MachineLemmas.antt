@@ -1,5 +1,5 @@
 -- Where the rings of a sound front lie.
-use Rattle.std.proofs.Common.{◌≡◌, ◌≤◌, ℕ, ◌+◌, sym, subst, ◌∙◌, arith, true}
+use Rattle.std.proofs.Common.{◌≡◌, ◌≤◌, ℕ, ◌+◌, sym, subst, ◌∙◌}
 use Rattle.std.specs.Prelude.{Option}
 use mathlib.Core.Path.{fun_ext}
 use Rattle.vub_driver.specs.Layout.{area_place}

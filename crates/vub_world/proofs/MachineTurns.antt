@@ -1,6 +1,6 @@
 -- A turn of the device at a moment of a run: start, fetch and publication.
-use Rattle.std.proofs.Common.{◌≡◌, ◌≤◌, ◌<◌, ◌⊎◌, ℕ, ◌+◌, ◌*◌, ◌%◌, Bool, true, false, List, [], ◌∷◌, ◌++◌, length, map, cond, refl, ap, sym, ◌∙◌, subst, inl, inr, arith}
-use Rattle.std.specs.Prelude.{Option, Some, None, Result, Ok, unwrap_or, option_map, slice_index, slice_get, ◌==◌, ◌||◌, ⊤}
+use Rattle.std.proofs.Common.{◌≡◌, ◌≤◌, ◌<◌, ◌⊎◌, ℕ, ◌+◌, ◌*◌, Bool, true, false, List, [], ◌∷◌, ◌++◌, length, map, cond, refl, ap, sym, ◌∙◌, subst, inl, inr, arith}
+use Rattle.std.specs.Prelude.{Option, Some, None, Result, Ok, unwrap_or, slice_index, ◌==◌, ◌||◌, ⊤}
 use Rattle.std.proofs.lemmas.Bool.Decides.{nat_tests}
 use Rattle.vub_run_laws.proofs.RunQueue.{phase_at, queue_ahead, head_below}
 use Rattle.vub_base.specs.declared.header.Header1.{Header1}
@@ -18,8 +18,8 @@ use Rattle.vub_steps.specs.declared.readiness.Turn.{Turn}
 use Rattle.vub_steps.specs.declared.readiness.Turn.TheVariants as turns
 use Rattle.vub_steps.specs.declared.steps.Step.{Step}
 use Rattle.vub_steps.specs.declared.steps.Step.TheVariants as steps
-use Rattle.vub_steps.specs.Readiness.{is_ready, is_publication}
-use Rattle.vub_steps.specs.Rows.{Row, row}
+use Rattle.vub_steps.specs.Readiness.{is_ready}
+use Rattle.vub_steps.specs.Rows.{Row}
 use Rattle.vub_steps.specs.Steps.{next_step}
 use Rattle.vub_driver.specs.Layout.{area_place, buffer_place, status_place, sectors_place}
 use Rattle.vub_device.specs.declared.entry.Answered.{Answered}
@@ -45,12 +45,12 @@ use Rattle.vub_run.specs.Memory.{after_items}
 use Rattle.vub_run.specs.Moments.{Lane, Moment, standing}
 use Rattle.vub_queue_in_run.specs.QueueAt.{spot_of, QueueStands, LiesAs, DiskAt}
 use Rattle.vub_queue.specs.QueueState as states
-use Rattle.vub_queue.specs.QueueState.{course_in, QueueState, row_at, row_if, next_row, publishes, publish_row, StoresRow, TrailsRow, Turns, DoesStore, DoesTrail, DoesDisk, IsDue, IfStepped, WorksOut, outcome, is_idle, is_fault}
+use Rattle.vub_queue.specs.QueueState.{course_in, QueueState, row_if, publish_row, StoresRow, TrailsRow, Turns, DoesStore, DoesTrail, DoesDisk, IsDue, IfStepped, WorksOut, outcome, is_idle, is_fault}
 use Rattle.vub_run.specs.Run.{one_turn}
 use Rattle.vub_task.specs.TaskState.{Making}
 use Rattle.vub_run.specs.Turns.{turned, answer_len, answer_at}
 use Rattle.vub_run_laws.proofs.RunNumbers.{not_among-take}
-use Rattle.vub_run_laws.proofs.RunFrames.{open_out, length_little}
+use Rattle.vub_run_laws.proofs.RunFrames.{open_out}
 use Rattle.vub_run_laws.proofs.RunGood.{IsWide, IsOut, PhaseIs}
 use Rattle.vub_run_laws.proofs.RunHolds.{Holds}
 use Rattle.vub_run_laws.proofs.RunOwn.{accepted_own}
@@ -212,7 +212,7 @@ len_same cap (Some asks.Id) simple = absurd simple
 len_same cap (Some (asks.Discard parts)) simple = absurd simple
 len_same cap (Some (asks.Zero parts)) simple = absurd simple
 
--- the store of used.idx touches no buffer
+-- the store that shows a batch touches no buffer
 answer_same : (q : ℕ) (cap : ℕ) (o : Option Asked) (m : Bytes) (p : ℕ) (bs : List ℕ) (k head : ℕ) → IsWide cap o → p + length bs ≤ area_place q + 65536 → m 0 (status_place (buffer_place (area_place q) head)) ≡ 0
     → answer_for q (record { number = k; reads = reads_of o }) m head
     ≡ record {
@@ -271,7 +271,7 @@ left_at q h setup m outstanding most d now tag y a stands values space s memory 
   disk = disk_same h.capacity (one_turn h q (turns.Publish most) m).next.scene.past d.values now.values values (turn_disk q h m (turns.Publish most) d.values tt a.at.disk);
 }
 
--- the store of used.idx
+-- the store that shows the batch
 show_made : (q : ℕ) (h : Header1) (setup : QueueSetup) (m : Moment) (outstanding : OutstandingRequests) (most : ℕ) (d now : Device) (x : Stepped) (y : Row) → TurnAt q h setup m outstanding d → DeviceAt q h setup (one_turn h q (turns.Publish most) m).next now → HasShown q h m most x y → ShowsNext d.queue
     → StoredRow d now y → IsSmall y.store → y.store.place + length y.store.bytes ≤ area_place q + 65536 → TurnMade q h setup m (turns.Publish most) outstanding d now x
 show_made q h setup m outstanding most d now x y a at has next s small off =

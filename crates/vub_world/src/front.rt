@@ -10,10 +10,10 @@ use vub_base::{Ask, Header1, Memory, Shape, Space, Tag};
 use vub_device::Entry;
 use vub_guest::layout::ring_of;
 use vub_guest::{Collected, Guest, GuestStep};
+use vub_queue::QueueSetup;
 use vub_report::Item;
 use vub_room::Room;
 use vub_shared::WatchedShared;
-use vub_queue::QueueSetup;
 
 /// The driver's side of one queue.
 #[derive(Drop)]
