@@ -8,7 +8,7 @@ use Rattle.vub_base.specs.declared.header.Header1.{Header1}
 use Rattle.vub_base.specs.declared.request.Ask.{Ask}
 use Rattle.vub_shared.specs.Bytes.{Bytes, put}
 use Rattle.vub_shared.specs.Stores.{Store}
-use Rattle.vub_ring.specs.Ring.{avail_idx, last_head}
+use Rattle.vub_ring.specs.Ring.{last_head}
 use Rattle.vub_driver.specs.Drivers.{Driver, Waiting, with_left, after_stores}
 use Rattle.vub_driver.specs.Requests.{pieces, has_data}
 use Rattle.vub_driver.specs.Stores.{buffer_stores, chain_stores, offer_stores, stores_with, request_stores}
