@@ -6,7 +6,6 @@ use Rattle.std.proofs.lemmas.Bool.{cases_eq, cases_Bool}
 use Rattle.vub_device.specs.Past.{is_among}
 use Rattle.vub_device.specs.Places.{are_distinct}
 use Rattle.vub_device.proofs.Numbers.{is_among_append}
-use Rattle.vub_run_laws.proofs.RunNumbers.{among_filter}
 use Rattle.vub_facts.specs.Facts.{without}
 use Rattle.vub_facts.proofs.HeadLemmas.{among_get, distinct_without, without_both, remove_is_without}
 use Rattle.std.proofs.lemmas.List.Elements.{filter_agree}
