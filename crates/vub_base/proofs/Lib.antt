@@ -1,2 +1,3 @@
 mod FieldLemmas
+pub mod PendingLemmas
 pub mod PositionLemmas

@@ -1,4 +1,5 @@
 ghost use Rattle.std.specs.Prelude.{◌≡◌, ◌<◌, ◌++◌, ◌∷◌, [], length, IfOk};
+ghost use Rattle.vub_base.specs.Pending.{sorted};
 
 use crate::Memory;
 use std::alloc::Global;
@@ -71,5 +72,14 @@ impl PendingList {
         if self.items.push(item).is_err() {
             unreachable!();
         }
+    }
+
+    /// Puts the items in rising order of counter, those of equal counter in rising order of head,
+    /// and those of equal head too in rising order of num. Takes no memory.
+    pub fn sort(&mut self)
+        ensures { self.new ≡ record self.old { items = sorted self.old.items } }
+    {
+        self.items
+            .sort_unstable_by_key(|p| (p.counter, p.head, p.num));
     }
 }
