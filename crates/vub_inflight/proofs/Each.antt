@@ -1,5 +1,5 @@
 -- What holds of each entry of a list, as the list is sorted.
-use Rattle.std.proofs.Common.{◌≡◌, ℕ, Bool, true, false, cond, List, [], ◌∷◌, ◌++◌}
+use Rattle.std.proofs.Common.{◌≡◌, ℕ, Bool, true, false, cond, List, [], ◌∷◌, ◌++◌, filter}
 use Rattle.std.specs.List.{AllByRecursion}
 use Rattle.vub_base.specs.declared.pending.Pending.{Pending}
 use Rattle.vub_base.specs.Pending.{precedes, insert_pending, sorted}
@@ -15,6 +15,13 @@ all_append P (x ∷ xs) ys a b = (a.0, all_append P xs ys a.1 b)
 pub append_all : {X : Type 0} (P : X → Type 0) (xs ys : List X) → AllByRecursion P (xs ++ ys) → AllByRecursion P xs × AllByRecursion P ys
 append_all P [] ys a = (tt, a)
 append_all P (x ∷ xs) ys a = let rest = append_all P xs ys a.1 in ((a.0, rest.0), rest.1)
+
+pub all_filter : (P : Pending → Type 0) (p : Pending → Bool) (xs : List Pending) → AllByRecursion P xs → AllByRecursion P (filter p xs)
+all_filter P p [] a = tt
+all_filter P p (x ∷ xs) a = elim (p x) as (λ b. AllByRecursion P (cond b (x ∷ filter p xs) (filter p xs))) [
+  | true ↦ (a.0, all_filter P p xs a.1)
+  | false ↦ all_filter P p xs a.1
+]
 
 pub all_insert : (P : Pending → Type 0) (e : Pending) (xs : List Pending) → P e → AllByRecursion P xs → AllByRecursion P (insert_pending e xs)
 all_insert P e [] h a = (h, tt)

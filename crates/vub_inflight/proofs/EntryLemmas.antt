@@ -1,21 +1,21 @@
 -- The open entries by counter, as the entries change.
 use Rattle.std.proofs.Common.{◌≡◌, ◌≢◌, ◌≤◌, ◌<◌, ℕ, zero, suc, Bool, true, false, cond, not, List, [], ◌∷◌, ◌++◌, map, filter, refl, ap, sym, ◌∙◌, subst, inl, inr, arith}
-use Rattle.std.specs.Prelude.{◌&&◌, ◌||◌, ◌==◌, nat_lt}
+use Rattle.std.specs.Prelude.{◌&&◌, ◌||◌, ◌==◌, nat_lt, ⊤}
 use Rattle.std.specs.List.{AllByRecursion}
 use Rattle.std.proofs.lemmas.Bool.Decides.{nat_tests}
 use Rattle.std.proofs.lemmas.Bool.{cases_eq}
-use Rattle.std.proofs.lemmas.List.{append-nil}
+use Rattle.std.proofs.lemmas.List.{append-nil, map-append}
+use Rattle.std.proofs.lemmas.List.Elements.{filter-append}
 use Rattle.vub_base.specs.declared.pending.Pending.{Pending}
 use Rattle.vub_base.specs.Pending.{precedes, insert_pending, sorted}
+use Rattle.vub_base.proofs.PendingLemmas.{sorted_push}
 use Rattle.vub_device.specs.Past.{is_among}
+use Rattle.vub_device.specs.Places.{are_distinct}
 use Rattle.vub_inflight.specs.Entries.{entry_at, by_index, by_counter, heads_of, without_heads, CountersBelow}
-use Rattle.vub_inflight.proofs.Each.{all_append, append_all, all_sorted, sorted_all}
+use Rattle.vub_device.proofs.Numbers.{is_among_append}
+use Rattle.vub_inflight.proofs.Each.{all_weaker, all_append, append_all, all_filter, all_insert, all_sorted, sorted_all}
 
 -- ---- one entry more
-
--- TODO: base's lemma
-sorted_push : (xs : List Pending) (e : Pending) → sorted (xs ++ e ∷ []) ≡ insert_pending e (sorted xs)
-sorted_push xs e = ?
 
 pub by_counter-more : (c u : ℕ → ℕ) (p : ℕ → Bool) (n : ℕ) → by_counter c u p (suc n) ≡ cond (p n) (insert_pending (entry_at c u n) (by_counter c u p n)) (by_counter c u p n)
 by_counter-more c u p n = elim (p n) as (λ b. sorted (by_index c u p n ++ cond b (entry_at c u n ∷ []) []) ≡ cond b (insert_pending (entry_at c u n) (by_counter c u p n)) (by_counter c u p n)) [
@@ -102,3 +102,114 @@ by_counter_add c u p q h (suc n) l out in' same above =
           insert_before_last (entry_at c u n) (entry_at c u h) (by_counter c u p n) in
           grind arith
     ]
+
+-- ---- fewer
+
+-- entries in order, and none before one that it precedes
+abbrev pub AreOrdered : List Pending → Type 0
+AreOrdered [] = ⊤
+AreOrdered (x ∷ xs) = AllByRecursion (λ (y : Pending). precedes y x ≡ false) xs × AreOrdered xs
+
+behind : (e x y : Pending) → precedes e x ≡ true → precedes y x ≡ false → precedes y e ≡ false
+behind e x y before later = grind (arith, nat_tests)
+
+ahead_of : (e x y : Pending) → precedes e x ≡ true → precedes y x ≡ false → precedes e y ≡ true
+ahead_of e x y before later = grind (arith, nat_tests)
+
+ordered_insert : (e : Pending) (xs : List Pending) → AreOrdered xs → AreOrdered (insert_pending e xs)
+ordered_insert e [] o = (tt, tt)
+ordered_insert e (x ∷ xs) o =
+    let go : (b : Bool) → precedes e x ≡ b → AreOrdered (cond b (e ∷ (x ∷ xs)) (x ∷ insert_pending e xs)) = elim [
+      | true ↦ λ is. ((grind (arith, nat_tests), all_weaker (λ y. precedes y x ≡ false) (λ y. precedes y e ≡ false) xs (λ y. behind e x y is) o.0), o)
+      | false ↦ λ is. (all_insert (λ y. precedes y x ≡ false) e xs is o.0, ordered_insert e xs o.1)
+    ] in
+    go (precedes e x) refl
+
+pub ordered_sorted : (xs : List Pending) → AreOrdered (sorted xs)
+ordered_sorted [] = tt
+ordered_sorted (x ∷ xs) = ordered_insert x (sorted xs) (ordered_sorted xs)
+
+-- one that precedes all goes first
+insert_first : (e : Pending) (xs : List Pending) → AllByRecursion (λ (y : Pending). precedes e y ≡ true) xs → insert_pending e xs ≡ e ∷ xs
+insert_first e [] h = refl
+insert_first e (x ∷ xs) h = let first : precedes e x ≡ true = h.0 in grind arith
+
+-- a filter and an insertion commute
+filter_insert : (p : Pending → Bool) (e : Pending) (xs : List Pending) → AreOrdered xs → filter p (insert_pending e xs) ≡ cond (p e) (insert_pending e (filter p xs)) (filter p xs)
+filter_insert p e [] o = grind arith
+filter_insert p e (x ∷ xs) o =
+    let rest : filter p (insert_pending e xs) ≡ cond (p e) (insert_pending e (filter p xs)) (filter p xs) = filter_insert p e xs o.1 in
+    let first : precedes e x ≡ true → insert_pending e (filter p xs) ≡ e ∷ filter p xs = λ is.
+    insert_first e (filter p xs) (all_filter (λ y. precedes e y ≡ true) p xs (all_weaker (λ y. precedes y x ≡ false) (λ y. precedes e y ≡ true) xs (λ y. ahead_of e x y is) o.0)) in
+    grind arith
+
+pub sorted_filter : (p : Pending → Bool) (xs : List Pending) → filter p (sorted xs) ≡ sorted (filter p xs)
+sorted_filter p [] = refl
+sorted_filter p (x ∷ xs) =
+    let rest : filter p (sorted xs) ≡ sorted (filter p xs) = sorted_filter p xs in
+    let here : filter p (insert_pending x (sorted xs)) ≡ cond (p x) (insert_pending x (filter p (sorted xs))) (filter p (sorted xs)) = filter_insert p x (sorted xs) (ordered_sorted xs) in
+    grind arith
+
+-- the entries that are open and aren't among these heads
+pub by_counter_without : (c u : ℕ → ℕ) (p q : ℕ → Bool) (heads : List ℕ) (n : ℕ) → ((i : ℕ) → i < n → q i ≡ (p i && not (is_among heads i))) → by_counter c u q n ≡ without_heads heads (by_counter c u p n)
+by_counter_without c u p q heads n same = ap sorted (left n same) ∙ sym (sorted_filter (λ e. not (is_among heads e.head)) (by_index c u p n))
+  where
+    left : (k : ℕ) → ((i : ℕ) → i < k → q i ≡ (p i && not (is_among heads i))) → by_index c u q k ≡ without_heads heads (by_index c u p k)
+    left zero agree = refl
+    left (suc k) agree =
+        let rest : by_index c u q k ≡ without_heads heads (by_index c u p k) = left k (λ i l. agree i (omega arith)) in
+        let here : q k ≡ (p k && not (is_among heads k)) = agree k (omega arith) in
+        let parts : without_heads heads (by_index c u p k ++ cond (p k) (entry_at c u k ∷ []) []) ≡ without_heads heads (by_index c u p k) ++ without_heads heads (cond (p k) (entry_at c u k ∷ []) []) =
+        filter-append (λ e. not (is_among heads e.head)) (by_index c u p k) (cond (p k) (entry_at c u k ∷ []) []) in
+        let last : cond (q k) (entry_at c u k ∷ []) [] ≡ without_heads heads (cond (p k) (entry_at c u k ∷ []) []) = grind arith in
+        grind arith
+
+-- ---- heads
+
+among_insert : (i : ℕ) (e : Pending) (xs : List Pending) → is_among (heads_of (insert_pending e xs)) i ≡ ((e.head == i) || is_among (heads_of xs) i)
+among_insert i e [] = refl
+among_insert i e (x ∷ xs) =
+    let rest : is_among (heads_of (insert_pending e xs)) i ≡ ((e.head == i) || is_among (heads_of xs) i) = among_insert i e xs in
+    grind arith
+
+pub among_sorted : (i : ℕ) (xs : List Pending) → is_among (heads_of (sorted xs)) i ≡ is_among (heads_of xs) i
+among_sorted i [] = refl
+among_sorted i (x ∷ xs) =
+    let rest : is_among (heads_of (sorted xs)) i ≡ is_among (heads_of xs) i = among_sorted i xs in
+    let added : is_among (heads_of (insert_pending x (sorted xs))) i ≡ ((x.head == i) || is_among (heads_of (sorted xs)) i) = among_insert i x (sorted xs) in
+    grind arith
+
+-- the heads are the entries that are open
+pub among_by_index : (c u : ℕ → ℕ) (p : ℕ → Bool) (n i : ℕ) → is_among (heads_of (by_index c u p n)) i ≡ (nat_lt i n && p i)
+among_by_index c u p zero i = grind (arith, nat_tests)
+among_by_index c u p (suc n) i =
+    let rest : is_among (heads_of (by_index c u p n)) i ≡ (nat_lt i n && p i) = among_by_index c u p n i in
+    let heads : heads_of (by_index c u p n ++ cond (p n) (entry_at c u n ∷ []) []) ≡ heads_of (by_index c u p n) ++ heads_of (cond (p n) (entry_at c u n ∷ []) []) = map-append (λ e. e.head) (by_index c u p n) (cond (p n) (entry_at c u n ∷ []) []) in
+    let parts : is_among (heads_of (by_index c u p n) ++ heads_of (cond (p n) (entry_at c u n ∷ []) [])) i ≡ (is_among (heads_of (by_index c u p n)) i || is_among (heads_of (cond (p n) (entry_at c u n ∷ []) [])) i) =
+    is_among_append (heads_of (by_index c u p n)) (heads_of (cond (p n) (entry_at c u n ∷ []) [])) i in
+    let whole : is_among (heads_of (by_index c u p (suc n))) i ≡ (is_among (heads_of (by_index c u p n)) i || is_among (heads_of (cond (p n) (entry_at c u n ∷ []) [])) i) = ap (λ (xs : List ℕ). is_among xs i) heads ∙ parts in
+    let last : is_among (heads_of (cond (p n) (entry_at c u n ∷ []) [])) i ≡ (p n && (n == i)) = grind arith in
+    elim (cases_eq i n) [
+      | inl here ↦ let at_n : p n ≡ p i = ap p (sym here) in grind (arith, nat_tests)
+      | inr apart ↦ grind (arith, nat_tests)
+    ]
+
+pub among_by_counter : (c u : ℕ → ℕ) (p : ℕ → Bool) (n i : ℕ) → is_among (heads_of (by_counter c u p n)) i ≡ (nat_lt i n && p i)
+among_by_counter c u p n i = among_sorted i (by_index c u p n) ∙ among_by_index c u p n i
+
+distinct_insert : (e : Pending) (xs : List Pending) → are_distinct (heads_of (insert_pending e xs)) ≡ (not (is_among (heads_of xs) e.head) && are_distinct (heads_of xs))
+distinct_insert e [] = refl
+distinct_insert e (x ∷ xs) =
+    let rest : are_distinct (heads_of (insert_pending e xs)) ≡ (not (is_among (heads_of xs) e.head) && are_distinct (heads_of xs)) = distinct_insert e xs in
+    let added : is_among (heads_of (insert_pending e xs)) x.head ≡ ((e.head == x.head) || is_among (heads_of xs) x.head) = among_insert x.head e xs in
+    grind (arith, nat_tests)
+
+pub distinct_by_counter : (c u : ℕ → ℕ) (p : ℕ → Bool) (n : ℕ) → are_distinct (heads_of (by_counter c u p n)) ≡ true
+distinct_by_counter c u p zero = refl
+distinct_by_counter c u p (suc n) =
+    let rest : are_distinct (heads_of (by_counter c u p n)) ≡ true = distinct_by_counter c u p n in
+    let out : is_among (heads_of (by_counter c u p n)) n ≡ (nat_lt n n && p n) = among_by_counter c u p n n in
+    let more : are_distinct (heads_of (insert_pending (entry_at c u n) (by_counter c u p n))) ≡ (not (is_among (heads_of (by_counter c u p n)) n) && are_distinct (heads_of (by_counter c u p n))) = distinct_insert (entry_at c u n) (by_counter c u p n) in
+    let new : are_distinct (heads_of (insert_pending (entry_at c u n) (by_counter c u p n))) ≡ true = grind (arith, nat_tests) in
+    let go : (b : Bool) → are_distinct (heads_of (cond b (insert_pending (entry_at c u n) (by_counter c u p n)) (by_counter c u p n))) ≡ true = elim [ true ↦ new | false ↦ rest ] in
+    ap (λ xs. are_distinct (heads_of xs)) (by_counter-more c u p n) ∙ go (p n)

@@ -1,0 +1,1 @@
+//! Laws of a region's words: what each store leaves of them.

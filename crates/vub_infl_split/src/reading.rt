@@ -1,0 +1,1 @@
+//! What a split queue's region says.
