@@ -6,7 +6,7 @@ ghost use Rattle.vub_shared.specs.Frames.{OnlyLoads, MakesStore};
 ghost use Rattle.vub_infl_split.specs.Stores.{header_word};
 
 use crate::layout::{
-    DESC, DESC_COUNTER, DESC_INFLIGHT), DESC_NEXT, DESC_NUM, DESC_SIZE, FEATURES, LAST_BATCH_HEAD,
+    DESC, DESC_COUNTER, DESC_INFLIGHT, DESC_NEXT, DESC_NUM, DESC_SIZE, FEATURES, LAST_BATCH_HEAD,
     USED_IDX, VERSION,
 };
 use vub_base::{Failed, Space};
