@@ -1,1 +1,2 @@
+pub mod ReadingChecks
 pub mod WordLemmas

@@ -1,7 +1,7 @@
 -- The first two entries of one counter are found among neighbours in the order of counters.
-use Rattle.std.proofs.Common.{◌≡◌, ◌≢◌, ◌≤◌, ◌<◌, ◌⊎◌, ℕ, zero, suc, Bool, true, false, cond, List, [], ◌∷◌, ◌++◌, refl, ap, sym, ◌∙◌, subst, inl, inr, arith}
+use Rattle.std.proofs.Common.{◌≡◌, ◌≢◌, ◌≤◌, ◌<◌, ◌⊎◌, ℕ, zero, suc, Bool, true, false, cond, ◌+◌, ◌-◌, List, [], ◌∷◌, ◌++◌, length, get_or, drop, refl, ap, sym, ◌∙◌, subst, inl, inr, arith}
 use Rattle.std.specs.Prelude.{◌==◌, ◌&&◌, ◌||◌, nat_lt, Option, Some, None, ⊤}
-use Rattle.std.proofs.lemmas.List.{append-nil}
+use Rattle.std.proofs.lemmas.List.{append-nil, drop_more, length-drop}
 use Rattle.std.specs.List.{find, AllByRecursion}
 use Rattle.std.specs.Option.{option_or, option_map}
 use Rattle.std.proofs.lemmas.Bool.Decides.{nat_tests}
@@ -252,3 +252,41 @@ no_twins (x ∷ y ∷ xs) r =
     let differs : x.counter < y.counter = r.0.0 in
     let none : twin x y ≡ None = grind (arith, nat_tests) in
     ap (λ (o : Option (ℕ × ℕ)). earlier o (twins (y ∷ xs))) none ∙ rest
+
+-- ---- neighbours in turn
+
+earlier_none : (a : Option (ℕ × ℕ)) → earlier a None ≡ a
+earlier_none None = refl
+earlier_none (Some a) = refl
+
+earlier_assoc : (a b c : Option (ℕ × ℕ)) → earlier (earlier a b) c ≡ earlier a (earlier b c)
+earlier_assoc None b c = refl
+earlier_assoc (Some a) None c = refl
+earlier_assoc (Some a) (Some b) None = earlier_none (earlier (Some a) (Some b))
+earlier_assoc (Some a) (Some b) (Some c) = grind (arith, nat_tests)
+
+-- one pair of neighbours more
+pub twins_go_on : (xs : List Pending) (i : ℕ) (d e : Pending) (least new : Option (ℕ × ℕ)) → 1 ≤ i → i < length xs → new ≡ earlier least (twin (get_or xs (i - 1) d) (get_or xs i e)) → earlier least (twins (drop (i - 1) xs)) ≡ twins xs
+    → earlier new (twins (drop (i + 1 - 1) xs)) ≡ twins xs
+twins_go_on xs i d e least new some low is so_far =
+    let before : i - 1 + 1 ≡ i = omega (arith, some) in
+    let after : i + 1 - 1 ≡ i = omega arith in
+    let x : Pending = get_or xs (i - 1) d in
+    let y : Pending = get_or xs i e in
+    let first : drop (i - 1) xs ≡ x ∷ drop (i - 1 + 1) xs = drop_more xs (i - 1) d (omega (arith, low)) in
+    let second : drop i xs ≡ y ∷ drop (i + 1) xs = drop_more xs i e low in
+    let both : drop (i - 1) xs ≡ x ∷ (y ∷ drop (i + 1) xs) = first ∙ ap (λ (k : ℕ). x ∷ drop k xs) before ∙ ap (λ (ys : List Pending). x ∷ ys) second in
+    let here : twins (drop (i - 1) xs) ≡ earlier (twin x y) (twins (drop i xs)) = ap twins both ∙ ap (λ (ys : List Pending). earlier (twin x y) (twins ys)) (sym second) in
+    let joined : earlier (earlier least (twin x y)) (twins (drop i xs)) ≡ twins xs = earlier_assoc least (twin x y) (twins (drop i xs)) ∙ ap (earlier least) (sym here) ∙ so_far in
+    rw (after, is) joined
+
+pub twins_done : (xs : List Pending) (i : ℕ) (least : Option (ℕ × ℕ)) → 1 ≤ i → length xs ≤ i → earlier least (twins (drop (i - 1) xs)) ≡ twins xs → least ≡ twins xs
+twins_done xs i least some past so_far =
+    let one : (ys : List Pending) → length ys ≤ 1 → twins ys ≡ None = λ ys few. short ys few in
+    let none : twins (drop (i - 1) xs) ≡ None = one (drop (i - 1) xs) (omega (arith, some, past, length-drop (i - 1) xs)) in
+    sym (earlier_none least) ∙ ap (earlier least) (sym none) ∙ so_far
+  where
+    short : (ys : List Pending) → length ys ≤ 1 → twins ys ≡ None
+    short [] few = refl
+    short (y ∷ []) few = refl
+    short (y ∷ z ∷ ys) few = absurd (omega (arith, few))
