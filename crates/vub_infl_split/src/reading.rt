@@ -1,16 +1,16 @@
 //! What a split queue's region says: its open entries, or why it can't be read.
-ghost use Rattle.std.specs.Prelude.{◌≡◌, ◌≢◌, ◌<◌, ◌≤◌, ◌++◌, ◌∷◌, [], ℕ, Bool, None, Ok, All, length, not, ◌==◌, ◌&&◌, ◌||◌, false, suc, nat_lt, if◌then◌else◌, IfOk};
+ghost use Rattle.std.specs.Prelude.{◌≡◌, ◌≢◌, ◌<◌, ◌≤◌, ◌+◌, ◌++◌, ◌∷◌, [], ℕ, Bool, None, Ok, length, not, ◌==◌, ◌&&◌, ◌||◌, false, nat_lt, if◌then◌else◌, IfOk, OnOk};
 ghost use Rattle.std.proofs.Common.{get_or};
 ghost use Rattle.vub_base.specs.Causes.{HasCause};
 ghost use Rattle.vub_base.specs.Pending.{sorted};
 ghost use Rattle.vub_base.specs.Told.{WhereTold};
 ghost use Rattle.vub_base.specs.declared.reading.Reading.TheVariants.{Entries};
 ghost use Rattle.vub_shared.specs.Frames.{OnlyLoads};
-ghost use Rattle.vub_inflight.specs.Entries.{by_index, entry_at, with_counter};
+ghost use Rattle.vub_inflight.specs.Entries.{by_index, entry_at, with_counter, AreEntries};
 ghost use Rattle.vub_inflight.specs.Links.{links, first_bad, AreMarked};
 ghost use Rattle.vub_inflight.specs.Neighbours as neighbours;
 ghost use Rattle.vub_infl_split.specs.Readings as readings;
-ghost use Rattle.vub_infl_split.specs.Readings.{split_reading, split_entries, counted, open_by_index, one_each};
+ghost use Rattle.vub_infl_split.specs.Readings.{split_reading, split_entries, open_by_index, one_each};
 ghost use Rattle.vub_infl_split.specs.Region.{RegionLies, words_of};
 
 use crate::SplitRegion;
@@ -36,8 +36,9 @@ impl SplitRegion {
         requires few { self.now.size ≤ 1024 }
         requires room { self.now.size ≤ into.old.room }
         ensures reads { IfOk result (λ x. WhereTold (M.told mem.old) (λ m. x ≡ split_reading self.now.size ring_used (words_of self.now m))) }
-        ensures entries { IfOk result (λ x. WhereTold (M.told mem.old) (λ m. into.new.items ≡ split_entries self.now.size ring_used (words_of self.now m))) }
+        ensures open { IfOk result (λ x. WhereTold (M.told mem.old) (λ m. into.new.items ≡ split_entries self.now.size ring_used (words_of self.now m))) }
         ensures empty { result ≢ Ok Entries → into.new.items ≡ [] }
+        ensures entries { AreEntries self.now.size into.new.items }
         ensures same_room { into.new.room ≡ into.old.room }
         ensures only_loads { OnlyLoads M.told M.trail M.names M.handed M.sizes mem.old mem.new }
         ensures cause { HasCause (M.faults mem.old) (M.faults mem.new) result }
@@ -63,7 +64,8 @@ fn read<M: Shared>(
     requires room { region.now.size ≤ into.old.room }
     requires empty { into.old.items ≡ [] }
     ensures reads { IfOk result (λ x. WhereTold (M.told mem.old) (λ m. x ≡ split_reading region.now.size ring_used (words_of region.now m))) }
-    ensures entries { IfOk result (λ x. x ≡ Entries → WhereTold (M.told mem.old) (λ m. into.new.items ≡ readings.open_entries region.now.size ring_used (words_of region.now m))) }
+    ensures open { IfOk result (λ x. x ≡ Entries → WhereTold (M.told mem.old) (λ m. into.new.items ≡ readings.open_entries region.now.size ring_used (words_of region.now m))) }
+    ensures entries { IfOk result (λ x. x ≡ Entries → AreEntries region.now.size into.new.items) }
     ensures same_room { into.new.room ≡ into.old.room }
     ensures only_loads { OnlyLoads M.told M.trail M.names M.handed M.sizes mem.old mem.new }
     ensures cause { HasCause (M.faults mem.old) (M.faults mem.new) result }
@@ -91,7 +93,8 @@ fn fault<M: Shared>(
     requires room { region.now.size ≤ into.old.room }
     requires empty { into.old.items ≡ [] }
     ensures fault { IfOk result (λ x. WhereTold (M.told mem.old) (λ m. (words_of region.now m).version ≡ 1 → x ≡ readings.made_fault region.now.size ring_used (words_of region.now m))) }
-    ensures entries { IfOk result (λ x. x ≡ None → WhereTold (M.told mem.old) (λ m. into.new.items ≡ readings.open_entries region.now.size ring_used (words_of region.now m))) }
+    ensures open { IfOk result (λ x. x ≡ None → WhereTold (M.told mem.old) (λ m. into.new.items ≡ readings.open_entries region.now.size ring_used (words_of region.now m))) }
+    ensures entries { IfOk result (λ x. x ≡ None → AreEntries region.now.size into.new.items) }
     ensures same_room { into.new.room ≡ into.old.room }
     ensures only_loads { OnlyLoads M.told M.trail M.names M.handed M.sizes mem.old mem.new }
     ensures cause { HasCause (M.faults mem.old) (M.faults mem.new) result }
@@ -161,6 +164,7 @@ fn gather<M: Shared>(
     requires room { region.now.size ≤ into.old.room }
     requires empty { into.old.items ≡ [] }
     ensures gathered { IfOk result (λ t. WhereTold (M.told mem.old) (λ m. (used : ℕ) → AreMarked counted.now (readings.counted used (words_of region.now m)) → into.new.items ≡ open_by_index region.now.size used (words_of region.now m))) }
+    ensures entries { OnOk result (AreEntries region.now.size into.new.items) }
     ensures same_room { into.new.room ≡ into.old.room }
     ensures only_loads { OnlyLoads M.told M.trail M.names M.handed M.sizes mem.old mem.new }
     ensures cause { HasCause (M.faults mem.old) (M.faults mem.new) result }
@@ -185,7 +189,7 @@ fn add_if_open<M: Shared>(
     requires room { length into.old.items < into.old.room }
     ensures added { IfOk result (λ t. WhereTold (M.told mem.old) (λ m. into.new.items ≡ into.old.items
         ++ (if not ((words_of region.now m).inflight index == 0) && not (get_or counted.now index false) then entry_at (words_of region.now m).counter one_each index ∷ [] else []))) }
-    ensures at_most_one { length into.new.items ≤ suc (length into.old.items) }
+    ensures entries { AreEntries index into.old.items → AreEntries (index + 1) into.new.items }
     ensures same_room { into.new.room ≡ into.old.room }
     ensures only_loads { OnlyLoads M.told M.trail M.names M.handed M.sizes mem.old mem.new }
     ensures cause { HasCause (M.faults mem.old) (M.faults mem.new) result }

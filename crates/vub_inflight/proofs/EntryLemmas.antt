@@ -1,17 +1,17 @@
 -- The open entries by counter, as the entries change.
-use Rattle.std.proofs.Common.{◌≡◌, ◌≢◌, ◌≤◌, ◌<◌, ℕ, zero, suc, Bool, true, false, cond, not, List, [], ◌∷◌, ◌++◌, map, filter, refl, ap, sym, ◌∙◌, subst, inl, inr, arith}
+use Rattle.std.proofs.Common.{◌≡◌, ◌≢◌, ◌≤◌, ◌<◌, ℕ, zero, suc, Bool, true, false, cond, not, List, [], ◌∷◌, ◌++◌, ◌+◌, length, map, filter, refl, ap, sym, ◌∙◌, subst, inl, inr, arith}
 use Rattle.std.specs.Prelude.{◌&&◌, ◌||◌, ◌==◌, nat_lt, ⊤}
 use Rattle.std.specs.List.{AllByRecursion}
 use Rattle.std.proofs.lemmas.Bool.Decides.{nat_tests}
 use Rattle.std.proofs.lemmas.Bool.{cases_eq}
-use Rattle.std.proofs.lemmas.List.{append-nil, map-append}
+use Rattle.std.proofs.lemmas.List.{append-nil, map-append, length-append}
 use Rattle.std.proofs.lemmas.List.Elements.{filter-append}
 use Rattle.vub_base.specs.declared.pending.Pending.{Pending}
 use Rattle.vub_base.specs.Pending.{precedes, insert_pending, sorted}
 use Rattle.vub_base.proofs.PendingLemmas.{sorted_push}
 use Rattle.vub_device.specs.Past.{is_among}
 use Rattle.vub_device.specs.Places.{are_distinct}
-use Rattle.vub_inflight.specs.Entries.{entry_at, by_index, by_counter, heads_of, without_heads, CountersBelow}
+use Rattle.vub_inflight.specs.Entries.{entry_at, by_index, by_counter, heads_of, without_heads, AreEntries, CountersBelow}
 use Rattle.vub_device.proofs.Numbers.{is_among_append}
 use Rattle.vub_inflight.proofs.Each.{all_weaker, all_append, append_all, all_filter, all_insert, all_sorted, sorted_all}
 
@@ -213,3 +213,57 @@ distinct_by_counter c u p (suc n) =
     let new : are_distinct (heads_of (insert_pending (entry_at c u n) (by_counter c u p n))) ≡ true = grind (arith, nat_tests) in
     let go : (b : Bool) → are_distinct (heads_of (cond b (insert_pending (entry_at c u n) (by_counter c u p n)) (by_counter c u p n))) ≡ true = elim [ true ↦ new | false ↦ rest ] in
     ap (λ xs. are_distinct (heads_of xs)) (by_counter-more c u p n) ∙ go (p n)
+
+-- ---- lists of entries
+
+length_insert : (e : Pending) (xs : List Pending) → length (insert_pending e xs) ≡ suc (length xs)
+length_insert e [] = refl
+length_insert e (x ∷ xs) = let rest : length (insert_pending e xs) ≡ suc (length xs) = length_insert e xs in grind arith
+
+length_sorted : (xs : List Pending) → length (sorted xs) ≡ length xs
+length_sorted [] = refl
+length_sorted (x ∷ xs) = length_insert x (sorted xs) ∙ ap suc (length_sorted xs)
+
+distinct_sorted : (xs : List Pending) → are_distinct (heads_of (sorted xs)) ≡ are_distinct (heads_of xs)
+distinct_sorted [] = refl
+distinct_sorted (x ∷ xs) =
+    let rest : are_distinct (heads_of (sorted xs)) ≡ are_distinct (heads_of xs) = distinct_sorted xs in
+    let here : is_among (heads_of (sorted xs)) x.head ≡ is_among (heads_of xs) x.head = among_sorted x.head xs in
+    let added : are_distinct (heads_of (insert_pending x (sorted xs))) ≡ (not (is_among (heads_of (sorted xs)) x.head) && are_distinct (heads_of (sorted xs))) = distinct_insert x (sorted xs) in
+    grind arith
+
+pub entries_sorted : (n : ℕ) (xs : List Pending) → AreEntries n xs → AreEntries n (sorted xs)
+entries_sorted n xs f = record {
+  few = omega (arith, length_sorted xs, f.few);
+  below = all_sorted (λ e. e.head < n) xs f.below;
+  distinct = distinct_sorted xs ∙ f.distinct;
+}
+
+pub entries_wider : (n m : ℕ) (xs : List Pending) → n ≤ m → AreEntries n xs → AreEntries m xs
+entries_wider n m xs up f = record {
+  few = omega (arith, up, f.few);
+  below = all_weaker (λ e. e.head < n) (λ e. e.head < m) xs (λ e l. omega (arith, up, l)) f.below;
+  distinct = f.distinct;
+}
+
+distinct_push : (xs : List Pending) (e : Pending) → AllByRecursion (λ (x : Pending). x.head < e.head) xs → are_distinct (heads_of xs) ≡ true → are_distinct (heads_of (xs ++ e ∷ [])) ≡ true
+distinct_push [] e below d = refl
+distinct_push (x ∷ xs) e below d =
+    let rest : are_distinct (heads_of (xs ++ e ∷ [])) ≡ true = distinct_push xs e below.1 (grind arith) in
+    let heads : heads_of (xs ++ e ∷ []) ≡ heads_of xs ++ heads_of (e ∷ []) = map-append (λ y. y.head) xs (e ∷ []) in
+    let joined : is_among (heads_of xs ++ heads_of (e ∷ [])) x.head ≡ (is_among (heads_of xs) x.head || is_among (heads_of (e ∷ [])) x.head) = is_among_append (heads_of xs) (heads_of (e ∷ [])) x.head in
+    let lower : x.head < e.head = below.0 in
+    grind (arith, nat_tests)
+
+-- one more behind lower heads
+pub entries_push : (n : ℕ) (xs : List Pending) (e : Pending) → e.head ≡ n → AreEntries n xs → AreEntries (n + 1) (xs ++ e ∷ [])
+entries_push n xs e is f =
+    let more : length (xs ++ e ∷ []) ≡ length xs + 1 = length-append xs (e ∷ []) in
+    record {
+      few = omega (arith, more, f.few);
+      below = all_append (λ x. x.head < n + 1) xs (e ∷ []) (all_weaker (λ x. x.head < n) (λ x. x.head < n + 1) xs (λ x l. omega (arith, l)) f.below) (omega (arith, is), tt);
+      distinct = distinct_push xs e (subst (λ (k : ℕ). AllByRecursion (λ (x : Pending). x.head < k) xs) (sym is) f.below) f.distinct;
+    }
+
+pub no_entries : (n : ℕ) → AreEntries n []
+no_entries n = record { few = omega arith; below = tt; distinct = refl }

@@ -1,10 +1,11 @@
 -- The open entries of an in-flight region of n entries (vhost-user, "Inflight I/O tracking"), and what their counters say.
-use Rattle.std.specs.Prelude.{◌<◌, ℕ, zero, suc, ◌+◌, Bool, not, ◌==◌, nat_lt, if◌then◌else◌, List, [], ◌∷◌, ◌++◌, map, filter, Option, None, ⊤}
+use Rattle.std.specs.Prelude.{◌≡◌, ◌<◌, ◌≤◌, ℕ, zero, suc, ◌+◌, Bool, true, not, ◌==◌, nat_lt, if◌then◌else◌, List, [], ◌∷◌, ◌++◌, length, map, filter, Option, None, ⊤}
 use Rattle.std.specs.List.{find, AllByRecursion}
 use Rattle.std.specs.Option.{option_map, option_or}
 use Rattle.vub_base.specs.Pending.{sorted}
 use Rattle.vub_base.specs.declared.pending.Pending.{Pending}
 use Rattle.vub_device.specs.Past.{is_among}
+use Rattle.vub_device.specs.Places.{are_distinct}
 
 -- f with the value v at i
 abbrev pub with_at : (ℕ → ℕ) → ℕ → ℕ → ℕ → ℕ
@@ -31,6 +32,12 @@ heads_of entries = map (λ (e : Pending). e.head) entries
 -- those whose head isn't among these
 abbrev pub without_heads : List ℕ → List Pending → List Pending
 without_heads heads entries = filter (λ (e : Pending). not (is_among heads e.head)) entries
+
+-- a list of entries below n: no more than n, and no head stands twice
+pub record AreEntries (n : ℕ) (entries : List Pending) : Type 0 where
+  pub few : length entries ≤ n
+  pub below : AllByRecursion (λ (e : Pending). e.head < n) entries
+  pub distinct : are_distinct (heads_of entries) ≡ true
 
 -- ---- counters
 

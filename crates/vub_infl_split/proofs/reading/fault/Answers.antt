@@ -1,8 +1,11 @@
-use Rattle.std.proofs.Common.{◌≡◌, ◌≤◌, ◌<◌, ◌∙◌, ◌+◌, ◌-◌, ◌%◌, sym, ap, subst, ℕ, false, None, Some, [], arith}
+use Rattle.std.proofs.Common.{◌≡◌, ◌≤◌, ◌<◌, ◌∙◌, ◌+◌, ◌-◌, ◌%◌, sym, ap, subst, ℕ, false, None, Some, List, [], arith}
 use Rattle.std.proofs.lemmas.List.{get_or-replicate}
 use Rattle.vub_base.specs.Pending.{sorted}
 use Rattle.vub_shared.proofs.BytesLemmas.{word-lt}
 use Rattle.vub_ring.specs.Ring.{ahead}
+use Rattle.vub_base.specs.declared.pending.Pending.{Pending}
+use Rattle.vub_inflight.specs.Entries.{AreEntries}
+use Rattle.vub_inflight.proofs.EntryLemmas.{entries_sorted}
 use Rattle.vub_inflight.specs.Links.{links, first_bad, AreMarked}
 use Rattle.vub_infl_split.specs.Readings as readings
 use Rattle.vub_infl_split.specs.Readings.{counted, is_open, one_each, open_by_index}
@@ -30,8 +33,8 @@ returns-clause-fault g c m told version =
     let gathered = c.in_ok-gather.ensures.gathered m told_4 used marked in
     c.bad_counter.ensures.fault w.counter one_each (is_open used w) n gathered ∙ ap readings.bad_counter gathered ∙ sym (counters_left n used w version count few bad)
 
-pub returns-clause-entries : goal.returns-clause-entries
-returns-clause-entries g c none m told =
+pub returns-clause-open : goal.returns-clause-open
+returns-clause-open g c none m told =
     let w = words_of c.args.region.now m in
     let used = c.args.ring_used in
     let told_2 : g.M.Shared.told c.desc_num.new.mem ≡ Some m = c.desc_num.ensures.only_loads.same_told ∙ told in
@@ -41,3 +44,6 @@ returns-clause-entries g c none m told =
     let batch : ahead used w.used_idx ≡ (used + (65536 - c.in_ok-used_idx.used_idx)) % 65536 = ahead_loaded used w.used_idx c.in_ok-used_idx.used_idx fits (c.in_ok-used_idx.ensures.loaded m told_2) in
     let marked = subst (λ (k : ℕ). AreMarked c.walk_links.new.met (links w.next k w.last_batch_head)) (sym batch) (c.in_ok-bad.ensures.met c.in_default.is m told_3) in
     c.bad_counter.ensures.sorted none ∙ ap sorted (c.in_ok-gather.ensures.gathered m told_4 used marked)
+
+pub returns-clause-entries : goal.returns-clause-entries
+returns-clause-entries g c none = subst (λ (xs : List Pending). AreEntries c.args.region.now.size xs) (sym (c.bad_counter.ensures.sorted none)) (entries_sorted c.args.region.now.size c.gather.new.into.items c.in_ok-gather.ensures.entries)

@@ -9,7 +9,7 @@ use Rattle.vub_infl_split.proofs.reading.gather.Goals as goal
 
 pub loop-index-preserved : goal.loop-index-preserved
 loop-index-preserved g c = record {
-  few = grind (arith, common_steps);
+  entries = c.add_if_open.ensures.entries c.loop-index.invariant.entries;
   room = grind (arith, common_steps);
   only_loads = loads_twice _ _ _ _ _ _ _ _ c.loop-index.invariant.only_loads c.add_if_open.ensures.only_loads;
   faults = c.in_ok-add_if_open.ensures.cause.quiet ∙ c.loop-index.invariant.faults;
