@@ -6,5 +6,7 @@ pub mod laws;
 pub mod layout;
 mod reading;
 mod region;
+#[cfg(test)]
+mod tests;
 
 pub use region::{SplitRegion, SplitStore};

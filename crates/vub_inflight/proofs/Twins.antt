@@ -12,7 +12,7 @@ use Rattle.vub_device.specs.Past.{is_among}
 use Rattle.vub_device.specs.Places.{are_distinct}
 use Rattle.vub_inflight.specs.Entries.{heads_of, CountersRise, with_counter, same_counter, entry_at, by_index, by_counter}
 use Rattle.vub_inflight.specs.Neighbours.{earlier, twin, twins}
-use Rattle.vub_inflight.proofs.Each.{all_append}
+use Rattle.vub_inflight.proofs.Each.{all_weaker, all_append}
 use Rattle.vub_inflight.proofs.EntryLemmas.{AreOrdered, ordered_sorted, among_sorted, all_by_index, all_by_counter, distinct_by_counter}
 
 -- two heads of one counter, the lower first, and no pair of heads of one counter stands before them
@@ -252,6 +252,27 @@ no_twins (x ∷ y ∷ xs) r =
     let differs : x.counter < y.counter = r.0.0 in
     let none : twin x y ≡ None = grind (arith, nat_tests) in
     ap (λ (o : Option (ℕ × ℕ)). earlier o (twins (y ∷ xs))) none ∙ rest
+
+-- and entries in order of which no neighbours have one counter
+pub rise_without_twins : (xs : List Pending) → AreOrdered xs → twins xs ≡ None → CountersRise xs
+rise_without_twins [] o none = tt
+rise_without_twins (x ∷ []) o none = (tt, tt)
+rise_without_twins (x ∷ y ∷ xs) o none =
+    let both = none_earlier (twin x y) (twins (y ∷ xs)) none in
+    let rest : CountersRise (y ∷ xs) = rise_without_twins (y ∷ xs) o.1 both.1 in
+    let after : precedes y x ≡ false = o.0.0 in
+    let differs : x.counter ≢ y.counter = λ same. (let equal : (x.counter == y.counter) ≡ true = grind (arith, nat_tests) in let found : twin x y ≡ Some (x.head, y.head) = grind arith in let fails : ◌≡◌ {A = Option (ℕ × ℕ)} (Some (x.head, y.head)) None = sym found ∙ both.0 in cc) in
+    let up : x.counter < y.counter = grind (arith, nat_tests) in
+    ((up, all_weaker (λ e. y.counter < e.counter) (λ e. x.counter < e.counter) xs (λ e l. omega (arith, up, l)) rest.0), rest)
+  where
+    none_earlier : (a b : Option (ℕ × ℕ)) → earlier a b ≡ None → (a ≡ None) × (b ≡ None)
+    none_earlier None b e = (refl, e)
+    none_earlier (Some a) None e = absurd (let fails : ◌≡◌ {A = Option (ℕ × ℕ)} (Some a) None = e in cc)
+    none_earlier (Some a) (Some b) e = go (nat_lt b.0 a.0) e
+      where
+        go : (t : Bool) → cond t (Some b) (Some a) ≡ None → (Some a ≡ None) × (Some b ≡ None)
+        go true e' = absurd (let fails : ◌≡◌ {A = Option (ℕ × ℕ)} (Some b) None = e' in cc)
+        go false e' = absurd (let fails : ◌≡◌ {A = Option (ℕ × ℕ)} (Some a) None = e' in cc)
 
 -- ---- neighbours in turn
 
