@@ -6,6 +6,7 @@ use vub_base::{Pending, PendingList, Reading, RegionFault};
 use vub_shared::{MemShared, Shared};
 
 const PLACE: u64 = 8;
+
 const BYTES: usize = 80;
 
 // The region of a queue of 4 descriptors. Entry 2 was linked last, behind entry 3, and used_idx is 6.
@@ -94,8 +95,16 @@ fn the_first_cause_of_damage(rt: HostRuntime) -> Result<(), Fail> {
         (5, [(12, 4), (0, 0)], damaged(RegionFault::BadUsed(65535))),
         (7, [(12, 4), (0, 1)], damaged(RegionFault::BadLink(4))),
         (8, [(54, 2), (40, 3)], damaged(RegionFault::BadLink(2))),
-        (6, [(56, 9), (0, 1)], damaged(RegionFault::SameCounter(0, 2))),
-        (6, [(32, 1), (56, 9)], damaged(RegionFault::SameCounter(0, 1))),
+        (
+            6,
+            [(56, 9), (0, 1)],
+            damaged(RegionFault::SameCounter(0, 2)),
+        ),
+        (
+            6,
+            [(32, 1), (56, 9)],
+            damaged(RegionFault::SameCounter(0, 1)),
+        ),
     ];
     for (used, changes, expected) in rows {
         let mut bytes = REGION;
@@ -133,7 +142,11 @@ fn changes(
     let start = 8 + at;
     let image = memory.image(region.space);
     let same = image.iter().enumerate().all(|(i, byte)| {
-        let new = if i < start { None } else { bytes.get(i - start) };
+        let new = if i < start {
+            None
+        } else {
+            bytes.get(i - start)
+        };
         new.unwrap_or(&0xaa) == byte
     });
     filled.is_ok() && stored.is_ok() && same && image.len() == 88
@@ -151,7 +164,15 @@ fn each_store_by_hand(rt: HostRuntime) -> Result<(), Fail> {
     assert!(rt; changes(m, r, SplitStore::SI3(0x0102), 8, &[1, 0, 4, 0, 0, 0, 2, 1]));
     assert!(rt; changes(m, r, SplitStore::SR1(3), 64, &[0]));
     assert!(rt; changes(m, r, SplitStore::SR2(0x0304), 14, &[4, 3]));
-    assert!(rt; changes(m, r, SplitStore::SF1(1, 0x0102_0304_0506_0708), 40, &[8, 7, 6, 5, 4, 3, 2, 1]));
+    assert!(rt;
+        changes(
+            m,
+            r,
+            SplitStore::SF1(1, 0x0102_0304_0506_0708),
+            40,
+            &[8, 7, 6, 5, 4, 3, 2, 1]
+        )
+    );
     assert!(rt; changes(m, r, SplitStore::SF2(0), 16, &[1]));
     assert!(rt; changes(m, r, SplitStore::SP3(2, 0x0506), 54, &[6, 5]));
     assert!(rt; changes(m, r, SplitStore::SP4(0x0708), 12, &[8, 7]));

@@ -126,6 +126,7 @@ fine_links n met (x ∷ xs) none = go (fine_links n (met ++ x ∷ []) xs) (not (
             | inr apart ↦ let later : is_among xs i ≡ true = grind (arith, nat_tests) in let old : is_among (met ++ x ∷ []) i ≡ false = rest.new i later in let at_i = joined i in grind (arith, nat_tests)
           ];
         }
+
     go : (first_bad n (met ++ x ∷ []) xs ≡ None → FineLinks n (met ++ x ∷ []) xs) → (b : Bool) → (not (nat_lt x n) || is_among met x) ≡ b → cond b (Some x) (first_bad n (met ++ x ∷ []) xs) ≡ None → FineLinks n met (x ∷ xs)
     go rest true is none' = absurd (let fails : ◌≡◌ {A = Option ℕ} (Some x) None = none' in cc)
     go rest false is none' = with_rest (grind arith) (grind arith) (rest none')
