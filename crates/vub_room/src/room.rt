@@ -110,7 +110,7 @@ impl Room {
     }
 
     /// Room for the items of so many turns, or of all that can follow one another where so many
-    /// requests are offered and not published: at most 21 for each of these, and two besides. A turn
+    /// requests are offered and not published: at most 21 for each of these, and three besides. A turn
     /// has two items at most and one list of bytes; each answer takes a list more.
     pub fn for_turns(
         alloc: Global,
