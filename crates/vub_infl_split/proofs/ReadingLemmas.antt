@@ -1,5 +1,5 @@
 -- What each store leaves of the open entries of a region.
-use Rattle.std.proofs.Common.{◌≡◌, ◌≢◌, ◌≤◌, ◌<◌, ℕ, ◌+◌, ◌%◌, Bool, cond, true, false, not, List, [], ◌∷◌, ◌++◌, refl, ap, sym, ◌∙◌, subst, inl, inr, arith}
+use Rattle.std.proofs.Common.{◌≡◌, ◌≢◌, ◌<◌, ℕ, ◌+◌, ◌%◌, Bool, cond, true, false, not, List, [], ◌∷◌, ◌++◌, refl, ap, sym, ◌∙◌, inl, inr, arith}
 use Rattle.std.specs.Prelude.{◌&&◌, ◌==◌, nat_le, Option, Some, None}
 use Rattle.std.specs.List.{AllByRecursion}
 use Rattle.std.specs.Option.{option_map, option_or}
@@ -12,7 +12,7 @@ use Rattle.vub_shared.specs.Bytes.{Bytes, word}
 use Rattle.vub_shared.proofs.BytesLemmas.{word-lt}
 use Rattle.vub_device.specs.Past.{is_among}
 use Rattle.vub_ring.specs.Ring.{ahead}
-use Rattle.vub_inflight.specs.Entries.{with_at, entry_at, without_heads, heads_of, with_counter, same_counter, by_index, CountersBelow}
+use Rattle.vub_inflight.specs.Entries.{with_at, entry_at, without_heads, heads_of, with_counter, same_counter, CountersBelow}
 use Rattle.vub_inflight.specs.Links.{links, first_bad}
 use Rattle.vub_inflight.specs.Neighbours.{twins}
 use Rattle.vub_inflight.proofs.Each.{all_sorted, sorted_all}

@@ -10,3 +10,4 @@ mod region;
 mod tests;
 
 pub use region::{SplitRegion, SplitStore};
+pub use vub_base::Reading;

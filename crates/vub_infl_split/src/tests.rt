@@ -134,7 +134,11 @@ fn changes(
 ) -> bool
     requires { NamesEntry 4 step }
 {
-    if memory.size(region.space) != PLACE + 80 || region.place != PLACE || region.size != 4 {
+    if memory.size(region.space) != PLACE + 80
+        || region.place != PLACE
+        || region.size != 4
+        || at > BYTES
+    {
         return false;
     }
     let filled = memory.store_run(region.space, 0, &[0xaa; 88]);
