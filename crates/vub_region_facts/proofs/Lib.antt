@@ -1,2 +1,4 @@
 pub mod BatchLemmas
 pub mod SoundLemmas
+pub mod StartLemmas
+pub mod LifeLemmas
