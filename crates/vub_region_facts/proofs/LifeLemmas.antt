@@ -1,12 +1,10 @@
 -- Step by step through the phases of a life, and what it leaves where it is cut off.
-use Rattle.std.proofs.Common.{◌≡◌, ◌≢◌, ◌≤◌, ◌<◌, ◌⊎◌, ℕ, ◌+◌, ◌-◌, ◌*◌, ◌/◌, ◌%◌, true, false, not, List, [], ◌∷◌, ◌++◌, length, filter, take, reverse, get_or, refl, ap, sym, ◌∙◌, subst, inl, inr, arith, add-one}
+use Rattle.std.proofs.Common.{◌≡◌, ◌≢◌, ◌≤◌, ◌<◌, ◌⊎◌, ℕ, ◌+◌, ◌-◌, ◌*◌, ◌/◌, ◌%◌, true, false, not, List, [], ◌∷◌, ◌++◌, length, filter, take, refl, ap, sym, ◌∙◌, subst, inl, inr, arith, add-one}
 use Rattle.std.specs.Prelude.{◌||◌, ◌==◌, slice_index}
-use Rattle.std.specs.List.{AllByRecursion}
 use Rattle.std.proofs.lemmas.Bool.Decides.{nat_tests}
 use Rattle.std.proofs.lemmas.List.{take_all}
 use Rattle.vub_base.specs.declared.pending.Pending.{Pending}
 use Rattle.vub_device.specs.Past.{is_among}
-use Rattle.vub_device.specs.Places.{are_distinct}
 use Rattle.vub_steps.specs.declared.steps.Phase.{Phase}
 use Rattle.vub_steps.specs.declared.steps.Phase.TheVariants as phases
 use Rattle.vub_inflight.specs.Entries.{with_at, next_counter, CountersBelow}
@@ -17,10 +15,9 @@ use Rattle.vub_infl_split.specs.declared.region.SplitStore.TheVariants.{SF1, SF2
 use Rattle.vub_infl_split.specs.Region.{RegionWords}
 use Rattle.vub_infl_split.specs.Stores.{words_after}
 use Rattle.vub_infl_split.specs.Readings.{counted, open_entries}
-use Rattle.vub_infl_split.specs.Sound.{Sound}
 use Rattle.vub_infl_split.proofs.ReadingLemmas.{reading_link, reading_last, reading_clear, reading_note}
 use Rattle.vub_region_facts.specs.Starts.{Left, IsNoted, IsSettled}
-use Rattle.vub_region_facts.specs.Phases.{IsCounted, InFetch, index_step, note_step, IsLinked, IsShown, InPublication, InLife, NotStarted}
+use Rattle.vub_region_facts.specs.Phases.{IsCounted, index_step, note_step, IsBatch, IsLinked, IsShown, InPublication, InLife, NotStarted}
 use Rattle.vub_region_facts.proofs.BatchLemmas.{among_get_or, below_among, among_reverse, among_take_more, reverse_take_more, apart_from_first}
 use Rattle.vub_region_facts.proofs.SoundLemmas.{free_head, sound_count, counted_now, sound_accept, below_accept, sound_link, sound_last, sound_show, shown_now, below_show, sound_clear, sound_note}
 use Rattle.vub_region_facts.proofs.StartLemmas.{start_left}
@@ -114,15 +111,15 @@ pub publication_stores : (n used head counter : ℕ) (heads batch : List ℕ) (e
 publication_stores n used head counter heads batch e done w more which p = record { sound = p.sound; below = p.below; under_way = element_stored used batch e done w more which p.under_way }
 
 -- SP3: the link of an element
-pub publication_links : (n used head counter : ℕ) (heads batch : List ℕ) (e : ℕ) (w : RegionWords) → used < 65536 → e < length batch → are_distinct batch ≡ true → InLife n used head counter heads batch (phases.Publish (4 * e + 2)) w
+pub publication_links : (n used head counter : ℕ) (heads batch : List ℕ) (e : ℕ) (w : RegionWords) → used < 65536 → e < length batch → IsBatch n batch → InLife n used head counter heads batch (phases.Publish (4 * e + 2)) w
     → InLife n used head counter heads batch (phases.Publish (4 * e + 3)) (words_after n (SP3 (slice_index batch e) w.last_batch_head) w)
-publication_links n used head counter heads batch e w fits more distinct p =
+publication_links n used head counter heads batch e w fits more b p =
     let entry : ℕ = slice_index batch e in
     let w' : RegionWords = words_after n (SP3 entry w.last_batch_head) w in
     let at : (4 * e + 2) / 4 ≡ e = omega arith in
     let at' : (4 * e + 3) / 4 ≡ e = omega arith in
     let old : IsLinked used batch e w = subst (λ (k : ℕ). IsLinked used batch k w) at (p.under_way.linked (omega (arith, more))) in
-    let out : is_among (links w.next e w.last_batch_head) entry ≡ false = ap (λ (xs : List ℕ). is_among xs entry) old.linked ∙ among_reverse (take e batch) entry ∙ apart_from_first batch e distinct more in
+    let out : is_among (links w.next e w.last_batch_head) entry ≡ false = ap (λ (xs : List ℕ). is_among xs entry) old.linked ∙ among_reverse (take e batch) entry ∙ apart_from_first batch e b.distinct more in
     let new : IsLinked used batch e w' = record { noted = old.noted; linked = links-with_at w.next entry w.last_batch_head e w.last_batch_head out ∙ old.linked } in
     let here : with_at w.next entry w.last_batch_head entry ≡ w.last_batch_head = grind (arith, nat_tests) in
     record {
@@ -137,14 +134,14 @@ publication_links n used head counter heads batch e w fits more distinct p =
     }
 
 -- SP4: it is last_batch_head
-pub publication_heads : (n used head counter : ℕ) (heads batch : List ℕ) (e : ℕ) (w : RegionWords) → n < 65536 → used < 65536 → e < length batch → AllByRecursion (λ (h : ℕ). h < n) batch → InLife n used head counter heads batch (phases.Publish (4 * e + 3)) w
+pub publication_heads : (n used head counter : ℕ) (heads batch : List ℕ) (e : ℕ) (w : RegionWords) → n < 65536 → used < 65536 → e < length batch → IsBatch n batch → InLife n used head counter heads batch (phases.Publish (4 * e + 3)) w
     → InLife n used head counter heads batch (phases.Publish (4 * e + 4)) (words_after n (SP4 (slice_index batch e)) w)
-publication_heads n used head counter heads batch e w small fits more within p =
+publication_heads n used head counter heads batch e w small fits more b p =
     let entry : ℕ = slice_index batch e in
     let w' : RegionWords = words_after n (SP4 entry) w in
     let at : (4 * e + 3) / 4 ≡ e = omega arith in
     let at' : (4 * e + 4) / 4 ≡ e + 1 = omega arith in
-    let low : entry < n = below_among n batch entry within (among_get_or batch e more) in
+    let low : entry < n = below_among n batch entry b.within (among_get_or batch e more) in
     let old : IsLinked used batch e w = subst (λ (k : ℕ). IsLinked used batch k w) at (p.under_way.linked (omega (arith, more))) in
     let link : w.next entry ≡ w.last_batch_head = subst (λ (k : ℕ). w.next (slice_index batch k) ≡ w.last_batch_head) at (p.under_way.linking (omega (arith, more)) (omega arith)) in
     let first : links w.next (e + 1) entry ≡ entry ∷ links w.next e (w.next entry) = rw add-one refl in
@@ -168,16 +165,16 @@ publication_heads n used head counter heads batch e w small fits more within p =
 pub publication_linked : (used : ℕ) (batch : List ℕ) (w : RegionWords) → InPublication used batch (index_step batch) w → IsLinked used batch (length batch) w
 publication_linked used batch w p = let at : 4 * length batch / 4 ≡ length batch = omega arith in subst (λ (k : ℕ). IsLinked used batch k w) at (p.linked (omega arith))
 
-pub publication_shows : (n used head next counter : ℕ) (heads batch : List ℕ) (w : RegionWords) → n < 65536 → used < 65536 → length batch ≤ n → are_distinct batch ≡ true → AllByRecursion (λ (h : ℕ). h < n) batch
+pub publication_shows : (n used head next counter : ℕ) (heads batch : List ℕ) (w : RegionWords) → n < 65536 → used < 65536 → IsBatch n batch
     → InLife n used head counter heads batch (phases.Publish (index_step batch)) w
     → InLife n ((used + length batch) % 65536) next counter (filter (λ (h : ℕ). not (is_among batch h)) heads) batch (phases.Publish (index_step batch + 1)) w
-publication_shows n used head next counter heads batch w small fits few distinct within p =
-    let low : length batch < 65536 = omega (arith, few, small) in
+publication_shows n used head next counter heads batch w small fits b p =
+    let low : length batch < 65536 = omega (arith, b.few, small) in
     let f : IsLinked used batch (length batch) w = publication_linked used batch w p.under_way in
     let shown : IsShown ((used + length batch) % 65536) batch 0 w = shown_now used batch w fits low f in
     let at : 4 * length batch + 1 - (4 * length batch + 1) ≡ 0 = omega arith in
     record {
-      sound = sound_show n used heads batch w small fits few distinct within f p.sound;
+      sound = sound_show n used heads batch w small fits b f p.sound;
       below = below_show n used counter batch w fits low f p.below;
       under_way = record {
         linked = λ le. absurd (omega (arith, le));

@@ -1,5 +1,5 @@
 -- What each store of a split queue leaves of a sound region, and what is read of it.
-use Rattle.std.proofs.Common.{◌≡◌, ◌≤◌, ◌<◌, ℕ, zero, suc, ◌+◌, ◌%◌, true, false, not, List, [], ◌∷◌, ◌++◌, length, map, filter, take, reverse, refl, ap, sym, ◌∙◌, subst, inl, inr, arith}
+use Rattle.std.proofs.Common.{◌≡◌, ◌≤◌, ◌<◌, ℕ, zero, suc, ◌+◌, ◌%◌, true, false, not, List, [], ◌∷◌, ◌++◌, length, filter, reverse, refl, ap, sym, ◌∙◌, subst, inl, inr, arith}
 use Rattle.std.specs.Prelude.{◌==◌}
 use Rattle.std.specs.List.{AllByRecursion}
 use Rattle.std.proofs.lemmas.Bool.Decides.{nat_tests}
@@ -7,7 +7,7 @@ use Rattle.std.proofs.lemmas.List.{map-append, take_all}
 use Rattle.vub_base.specs.Pending.{sorted}
 use Rattle.vub_base.specs.declared.pending.Pending.{Pending}
 use Rattle.vub_base.specs.declared.reading.Reading.{Reading}
-use Rattle.vub_base.specs.declared.reading.Reading.TheVariants.{Uninitialised, Entries}
+use Rattle.vub_base.specs.declared.reading.Reading.TheVariants.{Uninitialised}
 use Rattle.vub_ring.specs.Ring.{ahead}
 use Rattle.vub_device.specs.Past.{is_among}
 use Rattle.vub_device.specs.Places.{are_distinct}
@@ -22,8 +22,8 @@ use Rattle.vub_infl_split.specs.Stores.{words_after}
 use Rattle.vub_infl_split.specs.Readings.{counted, is_open, one_each, open_by_index, open_entries, split_reading, read_list, split_entries}
 use Rattle.vub_infl_split.specs.Sound.{Sound}
 use Rattle.vub_infl_split.proofs.ReadingLemmas.{open_at_rest, counted_shown, reading_count, reading_accept, reading_link, reading_last, reading_show, reading_clear, reading_note, sound_reads}
-use Rattle.vub_region_facts.specs.Starts.{Unmade, Left, IsNoted}
-use Rattle.vub_region_facts.specs.Phases.{IsCounted, IsLinked, IsShown}
+use Rattle.vub_region_facts.specs.Starts.{Left, IsNoted}
+use Rattle.vub_region_facts.specs.Phases.{IsCounted, IsBatch, IsLinked, IsShown}
 use Rattle.vub_region_facts.proofs.BatchLemmas.{among_reverse, below_reverse, distinct_reverse}
 
 -- ---- sound again
@@ -160,9 +160,10 @@ shown_entries n used batch w fits few p =
     reading_show n used w (length batch) p.noted fits few
     ∙ without_agree (links w.next (length batch) w.last_batch_head) batch (open_entries n used w) (λ i. ap (λ (xs : List ℕ). is_among xs i) (all_linked used batch w p) ∙ among_reverse batch i)
 
-pub sound_show : (n used : ℕ) (heads batch : List ℕ) (w : RegionWords) → n < 65536 → used < 65536 → length batch ≤ n → are_distinct batch ≡ true → AllByRecursion (λ (h : ℕ). h < n) batch
+pub sound_show : (n used : ℕ) (heads batch : List ℕ) (w : RegionWords) → n < 65536 → used < 65536 → IsBatch n batch
     → IsLinked used batch (length batch) w → Sound n used heads w → Sound n ((used + length batch) % 65536) (filter (λ (h : ℕ). not (is_among batch h)) heads) w
-sound_show n used heads batch w small fits few distinct within p s =
+sound_show n used heads batch w small fits b p s =
+    let few : length batch ≤ n = b.few in
     let shown : counted ((used + length batch) % 65536) w ≡ reverse batch = counted_shown used w (length batch) p.noted fits (omega (arith, few, small)) ∙ all_linked used batch w p in
     let left : open_entries n ((used + length batch) % 65536) w ≡ without_heads batch (open_entries n used w) = shown_entries n used batch w fits (omega (arith, few, small)) p in
     let noted : w.used_idx ≡ used = p.noted in
@@ -170,8 +171,8 @@ sound_show n used heads batch w small fits few distinct within p s =
       version = s.version;
       count = s.count;
       few = omega (arith, noted, fits, few, small);
-      distinct = ap are_distinct shown ∙ distinct_reverse batch distinct;
-      within = subst (λ (xs : List ℕ). AllByRecursion (λ (x : ℕ). x < n) xs) (sym shown) (below_reverse n batch within);
+      distinct = ap are_distinct shown ∙ distinct_reverse batch b.distinct;
+      within = subst (λ (xs : List ℕ). AllByRecursion (λ (x : ℕ). x < n) xs) (sym shown) (below_reverse n batch b.within);
       reads = ap heads_of left ∙ heads_without batch (open_entries n used w) ∙ ap (filter (λ (h : ℕ). not (is_among batch h))) s.reads;
       rising = subst (λ (es : List Pending). CountersRise es) (sym left) (rise_without batch (open_entries n used w) s.rising);
       low = subst (λ (es : List Pending). CountersBelow 18446744073709551615 es) (sym left) (all_filter (λ (e : Pending). e.counter < 18446744073709551615) (λ (e : Pending). not (is_among batch e.head)) (open_entries n used w) s.low);

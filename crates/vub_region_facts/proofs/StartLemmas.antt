@@ -1,6 +1,6 @@
 -- Store by store through a start, and what it leaves where it is cut off.
-use Rattle.std.proofs.Common.{◌≡◌, ◌≢◌, ◌≤◌, ◌<◌, ℕ, zero, suc, ◌+◌, Bool, true, false, cond, List, [], ◌∷◌, ◌++◌, refl, ap, sym, ◌∙◌, subst, inl, inr, arith}
-use Rattle.std.specs.Prelude.{◌||◌, ◌==◌, None}
+use Rattle.std.proofs.Common.{◌≡◌, ◌≢◌, ◌<◌, ℕ, zero, suc, ◌+◌, true, false, List, [], ◌∷◌, ◌++◌, refl, ap, sym, ◌∙◌, subst, inl, inr, arith}
+use Rattle.std.specs.Prelude.{◌||◌, None}
 use Rattle.std.proofs.lemmas.Bool.Decides.{nat_tests}
 use Rattle.std.proofs.lemmas.Bool.{cases_eq}
 use Rattle.vub_base.specs.declared.pending.Pending.{Pending}
@@ -16,7 +16,7 @@ use Rattle.vub_infl_split.specs.Stores.{words_after}
 use Rattle.vub_infl_split.specs.Readings.{counted, open_entries, made_fault, split_entries}
 use Rattle.vub_infl_split.specs.Sound.{Sound}
 use Rattle.vub_infl_split.proofs.ReadingLemmas.{WordsFit, undamaged_sound}
-use Rattle.vub_region_facts.specs.Starts.{Unmade, Left, IsNoted, InNew, InSettling, IsSettled, InStart, Makes, Settles, Settled}
+use Rattle.vub_region_facts.specs.Starts.{Unmade, Left, InNew, InSettling, IsSettled, InStart, Makes, Settles, Settled}
 use Rattle.vub_region_facts.proofs.SoundLemmas.{sound_new, sound_clear, sound_note, sound_entries, unmade_entries}
 
 -- ---- a new region
