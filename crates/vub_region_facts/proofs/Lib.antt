@@ -2,3 +2,4 @@ pub mod BatchLemmas
 pub mod SoundLemmas
 pub mod StartLemmas
 pub mod LifeLemmas
+pub mod MemoryLemmas

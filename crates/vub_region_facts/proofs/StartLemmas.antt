@@ -15,7 +15,7 @@ use Rattle.vub_infl_split.specs.Region.{RegionWords}
 use Rattle.vub_infl_split.specs.Stores.{words_after}
 use Rattle.vub_infl_split.specs.Readings.{counted, open_entries, made_fault, split_entries}
 use Rattle.vub_infl_split.specs.Sound.{Sound}
-use Rattle.vub_infl_split.proofs.ReadingLemmas.{WordsFit, undamaged_sound}
+use Rattle.vub_infl_split.proofs.ReadingLemmas.{WordsFit, sound_undamaged, undamaged_sound}
 use Rattle.vub_region_facts.specs.Starts.{Unmade, Left, InNew, InSettling, IsSettled, InStart, Makes, Settles, Settled}
 use Rattle.vub_region_facts.proofs.SoundLemmas.{sound_new, sound_clear, sound_note, sound_entries, unmade_entries}
 
@@ -97,8 +97,18 @@ start_left n used heads base done w (Makes p) = inl p.unmade
 start_left n used heads base done w (Settles count p) = inr p.sound
 start_left n used heads base done w (Settled p) = inr p.sound
 
--- ---- where the checks of a start find nothing, the region is one that a life left, with what is read of it
+-- ---- the checks of a start
 
+-- they find nothing in what a life left
+pub left_undamaged : (n used : ℕ) (heads : List ℕ) (base : ℕ) (w : RegionWords) → Left n used heads base w → w.version ≢ 0 → made_fault n used w ≡ None
+left_undamaged n used heads base w (inl u) made = absurd (made u.version)
+left_undamaged n used heads base w (inr s) made = sound_undamaged n used heads w s
+
+pub left_at_base : (n used : ℕ) (heads : List ℕ) (base : ℕ) (w : RegionWords) → Left n used heads base w → w.version ≡ 0 → base ≡ used
+left_at_base n used heads base w (inl u) new = u.at_base
+left_at_base n used heads base w (inr s) new = absurd (omega (arith, s.version, new))
+
+-- where they find nothing, the region is one that a life left, with what is read of it
 pub unfaulted_left : (n used base : ℕ) (w : RegionWords) → WordsFit w → (w.version ≡ 0 → base ≡ used) → (w.version ≢ 0 → made_fault n used w ≡ None) → Left n used (heads_of (split_entries n used w)) base w
 unfaulted_left n used base w fits at_base undamaged = elim (cases_eq w.version 0) [
   | inl new ↦ inl (record { version = new; none = ap heads_of (unmade_entries n used w new); at_base = at_base new })
