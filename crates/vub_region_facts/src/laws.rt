@@ -4,7 +4,6 @@ ghost use Rattle.std.specs.Prelude.{◌≡◌, ◌≢◌, ◌<◌, ◌⊎◌, �
 ghost use Rattle.vub_shared.specs.Bytes.{Bytes};
 ghost use Rattle.vub_shared.specs.Stores.{Store, after_store};
 ghost use Rattle.vub_device.specs.Past.{is_among};
-ghost use Rattle.vub_ring.specs.Ring.{ahead};
 ghost use Rattle.vub_steps.specs.declared.steps.Phase.{Phase};
 ghost use Rattle.vub_steps.specs.declared.steps.Phase.TheVariants as phases;
 ghost use Rattle.vub_inflight.specs.Entries.{heads_of, next_counter};
@@ -13,27 +12,27 @@ ghost use Rattle.vub_infl_split.specs.declared.region.SplitRegion.{SplitRegion};
 ghost use Rattle.vub_infl_split.specs.declared.region.SplitStore.TheVariants.{SI1, SI2, SI3, SR1, SR2, SF1, SF2, SP3, SP4, SP6, SP7};
 ghost use Rattle.vub_infl_split.specs.Readings.{made_fault, open_entries, split_entries};
 ghost use Rattle.vub_infl_split.specs.Region.{words_of, OffRegion};
-ghost use Rattle.vub_infl_split.specs.Sound.{Sound};
 ghost use Rattle.vub_infl_split.specs.Stores.{store_of};
-ghost use Rattle.vub_region_facts.specs.Starts.{Unmade, Left, InNew, InSettling, IsSettled, InStart};
-ghost use Rattle.vub_region_facts.specs.Phases.{index_step, note_step, IsBatch, InLife};
+ghost use Rattle.vub_region_facts.specs.Starts.{Left, InNew, InSettling, IsSettled, InStart};
+ghost use Rattle.vub_region_facts.specs.Phases.{index_step, note_step, IsBatch, InLife, NotStarted};
 
-/// Each store of a start leaves the region to the next one, for the same open requests. A start that
-/// is cut off between any two stores leaves what a life can find.
+/// A start begins with what a life can find. Each store of it leaves the region to the next one, for
+/// the same open requests, and a start that is cut off anywhere leaves what a life can find.
 pub fn a_start_keeps_the_open_requests()
-    ensures begins_new { (r : SplitRegion) (used : ℕ) (heads : List ℕ) (base : ℕ) (m : Bytes) → Unmade used heads base (words_of r m) → InNew r.size used heads base 0 (words_of r m) }
+    ensures begins { (r : SplitRegion) (used : ℕ) (heads : List ℕ) (base : ℕ) (m : Bytes) → used < 65536 → Left r.size used heads base (words_of r m) → InStart r.size used heads base 0 (words_of r m) }
     ensures features { (r : SplitRegion) (used : ℕ) (heads : List ℕ) (base : ℕ) (m : Bytes) → r.size < 65536 → InNew r.size used heads base 0 (words_of r m)
         → InNew r.size used heads base 1 (words_of r (after_store (store_of r SI1) m)) }
     ensures entry { (r : SplitRegion) (used : ℕ) (heads : List ℕ) (base i : ℕ) (m : Bytes) → r.size < 65536 → i < r.size → InNew r.size used heads base (i + 1) (words_of r m)
         → InNew r.size used heads base (i + 2) (words_of r (after_store (store_of r (SI2 i)) m)) }
     ensures header { (r : SplitRegion) (used : ℕ) (heads : List ℕ) (base : ℕ) (m : Bytes) → r.size < 65536 → used < 65536 → InNew r.size used heads base (r.size + 1) (words_of r m)
         → IsSettled r.size used heads (words_of r (after_store (store_of r (SI3 used)) m)) }
-    ensures begins_settling { (r : SplitRegion) (used : ℕ) (heads : List ℕ) (m : Bytes) → Sound r.size used heads (words_of r m) → InSettling r.size used heads (ahead used (words_of r m).used_idx) 0 (words_of r m) }
     ensures clear { (r : SplitRegion) (used : ℕ) (heads : List ℕ) (count done : ℕ) (m : Bytes) → r.size < 65536 → done < count → InSettling r.size used heads count done (words_of r m)
         → InSettling r.size used heads count (done + 1) (words_of r (after_store (store_of r (SR1 (link_at (words_of r m).next done (words_of r m).last_batch_head))) m)) }
     ensures note { (r : SplitRegion) (used : ℕ) (heads : List ℕ) (count : ℕ) (m : Bytes) → r.size < 65536 → used < 65536 → InSettling r.size used heads count count (words_of r m)
         → IsSettled r.size used heads (words_of r (after_store (store_of r (SR2 used)) m)) }
-    ensures cut_off { (r : SplitRegion) (used : ℕ) (heads : List ℕ) (base done : ℕ) (m : Bytes) → InStart r.size used heads base done (words_of r m) → Left r.size used heads base (words_of r m) }
+    ensures elsewhere { (r : SplitRegion) (used : ℕ) (heads : List ℕ) (base : ℕ) (phase : Phase) (m : Bytes) (st : Store) → OffRegion r st → NotStarted r.size used heads base phase (words_of r m)
+        → NotStarted r.size used heads base phase (words_of r (after_store st m)) }
+    ensures cut_off { (r : SplitRegion) (used : ℕ) (heads : List ℕ) (base : ℕ) (phase : Phase) (m : Bytes) → NotStarted r.size used heads base phase (words_of r m) → Left r.size used heads base (words_of r m) }
 {}
 
 /// Each store of a fetch and of a publication leaves the region to the next one. The head that is
