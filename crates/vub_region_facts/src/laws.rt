@@ -41,7 +41,7 @@ pub fn a_start_keeps_the_open_requests()
 pub fn a_life_keeps_the_open_requests()
     ensures begins { (r : SplitRegion) (used head : ℕ) (heads batch : List ℕ) (m : Bytes) → IsSettled r.size used heads (words_of r m)
         → InLife r.size used head (next_counter (open_entries r.size used (words_of r m))) heads batch phases.Rest (words_of r m) }
-    ensures count { (r : SplitRegion) (used head counter : ℕ) (heads batch : List ℕ) (m : Bytes) → r.size < 65536 → used < 65536 → head < r.size → is_among heads head ≡ false → counter < 18446744073709551615
+    ensures counter { (r : SplitRegion) (used head counter : ℕ) (heads batch : List ℕ) (m : Bytes) → r.size < 65536 → used < 65536 → head < r.size → is_among heads head ≡ false → counter < 18446744073709551615
         → InLife r.size used head counter heads batch (phases.Fetch 0) (words_of r m)
         → InLife r.size used head (counter + 1) heads batch (phases.Fetch 1) (words_of r (after_store (store_of r (SF1 head counter)) m)) }
     ensures accept { (r : SplitRegion) (used head next counter : ℕ) (heads batch : List ℕ) (m : Bytes) → r.size < 65536 → used < 65536 → InLife r.size used head counter heads batch (phases.Fetch 1) (words_of r m)
