@@ -1,6 +1,6 @@
 -- What each store of a split queue leaves of a sound region, and what is read of it.
-use Rattle.std.proofs.Common.{◌≡◌, ◌≤◌, ◌<◌, ℕ, zero, suc, ◌+◌, ◌%◌, true, false, not, List, [], ◌∷◌, ◌++◌, length, filter, reverse, refl, ap, sym, ◌∙◌, subst, inl, inr, arith}
-use Rattle.std.specs.Prelude.{◌==◌}
+use Rattle.std.proofs.Common.{◌≡◌, ◌≢◌, ◌≤◌, ◌<◌, ℕ, zero, suc, ◌+◌, ◌%◌, true, false, not, List, [], ◌∷◌, ◌++◌, length, filter, reverse, refl, ap, sym, ◌∙◌, subst, inl, inr, arith}
+use Rattle.std.specs.Prelude.{◌&&◌, ◌==◌, nat_lt}
 use Rattle.std.specs.List.{AllByRecursion}
 use Rattle.std.proofs.lemmas.Bool.Decides.{nat_tests}
 use Rattle.std.proofs.lemmas.List.{map-append, take_all}
@@ -14,7 +14,7 @@ use Rattle.vub_device.specs.Places.{are_distinct}
 use Rattle.vub_inflight.specs.Entries.{entry_at, heads_of, without_heads, CountersBelow, CountersRise}
 use Rattle.vub_inflight.specs.Links.{links}
 use Rattle.vub_inflight.proofs.Each.{all_append, all_filter}
-use Rattle.vub_inflight.proofs.EntryLemmas.{by_counter_all, among_by_counter}
+use Rattle.vub_inflight.proofs.EntryLemmas.{by_counter_all, among_by_counter, distinct_by_counter}
 use Rattle.vub_inflight.proofs.CounterLemmas.{below_weaker, rise_push, rise_without}
 use Rattle.vub_infl_split.specs.declared.region.SplitStore.TheVariants.{SI3, SR1, SR2, SF1, SF2, SP3, SP4}
 use Rattle.vub_infl_split.specs.Region.{RegionWords}
@@ -215,3 +215,16 @@ unmade_entries n used w version = ap (λ (x : Reading). read_list x (open_entrie
 pub left_reads : (n used : ℕ) (heads : List ℕ) (base : ℕ) (w : RegionWords) → Left n used heads base w → heads_of (split_entries n used w) ≡ heads
 left_reads n used heads base w (inl u) = ap heads_of (unmade_entries n used w u.version) ∙ sym u.none
 left_reads n used heads base w (inr s) = ap heads_of (sound_entries n used heads w s) ∙ s.reads
+
+-- ---- the open heads
+
+pub left_distinct : (n used : ℕ) (heads : List ℕ) (base : ℕ) (w : RegionWords) → Left n used heads base w → are_distinct heads ≡ true
+left_distinct n used heads base w (inl u) = ap are_distinct u.none
+left_distinct n used heads base w (inr s) = ap are_distinct (sym s.reads) ∙ distinct_by_counter w.counter one_each (is_open used w) n
+
+-- each is an entry in flight
+pub left_open : (n used : ℕ) (heads : List ℕ) (base : ℕ) (w : RegionWords) (h : ℕ) → Left n used heads base w → is_among heads h ≡ true → (h < n) × (w.inflight h ≢ 0)
+left_open n used heads base w h (inl u) held = absurd (let none : is_among heads h ≡ false = ap (λ (hs : List ℕ). is_among hs h) u.none in cc)
+left_open n used heads base w h (inr s) held =
+    let there : (nat_lt h n && is_open used w h) ≡ true = sym (among_by_counter w.counter one_each (is_open used w) n h) ∙ ap (λ (hs : List ℕ). is_among hs h) s.reads ∙ held in
+    (grind (arith, nat_tests), grind (arith, nat_tests))

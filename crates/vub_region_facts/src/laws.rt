@@ -4,6 +4,7 @@ ghost use Rattle.std.specs.Prelude.{◌≡◌, ◌≢◌, ◌<◌, ◌⊎◌, �
 ghost use Rattle.vub_shared.specs.Bytes.{Bytes};
 ghost use Rattle.vub_shared.specs.Stores.{Store, after_store};
 ghost use Rattle.vub_device.specs.Past.{is_among};
+ghost use Rattle.vub_device.specs.Places.{are_distinct};
 ghost use Rattle.vub_steps.specs.declared.steps.Phase.{Phase};
 ghost use Rattle.vub_steps.specs.declared.steps.Phase.TheVariants as phases;
 ghost use Rattle.vub_inflight.specs.Entries.{heads_of, next_counter};
@@ -69,9 +70,12 @@ pub fn a_life_keeps_the_open_requests()
 {}
 
 /// What a life leaves is read as its open requests, in the order of their acceptance, and without
-/// damage. Where the checks of a start find nothing, the region is such a one.
+/// damage: distinct entries that are in flight. Where the checks of a start find nothing, the region
+/// is such a one.
 pub fn what_a_life_leaves_is_read()
     ensures reads { (r : SplitRegion) (used : ℕ) (heads : List ℕ) (base : ℕ) (m : Bytes) → Left r.size used heads base (words_of r m) → heads_of (split_entries r.size used (words_of r m)) ≡ heads }
+    ensures distinct { (r : SplitRegion) (used : ℕ) (heads : List ℕ) (base : ℕ) (m : Bytes) → Left r.size used heads base (words_of r m) → are_distinct heads ≡ true }
+    ensures in_flight { (r : SplitRegion) (used : ℕ) (heads : List ℕ) (base h : ℕ) (m : Bytes) → Left r.size used heads base (words_of r m) → is_among heads h ≡ true → (h < r.size) × ((words_of r m).inflight h ≢ 0) }
     ensures undamaged { (r : SplitRegion) (used : ℕ) (heads : List ℕ) (base : ℕ) (m : Bytes) → Left r.size used heads base (words_of r m) → (words_of r m).version ≢ 0 → made_fault r.size used (words_of r m) ≡ None }
     ensures at_base { (r : SplitRegion) (used : ℕ) (heads : List ℕ) (base : ℕ) (m : Bytes) → Left r.size used heads base (words_of r m) → (words_of r m).version ≡ 0 → base ≡ used }
     ensures checked { (r : SplitRegion) (used base : ℕ) (m : Bytes) → ((s p : ℕ) → m s p < 256) → ((words_of r m).version ≡ 0 → base ≡ used) → ((words_of r m).version ≢ 0 → made_fault r.size used (words_of r m) ≡ None)
