@@ -8,8 +8,8 @@ use Rattle.vub_device.specs.Past.{is_among}
 use Rattle.vub_device.proofs.Numbers.{is_among_append}
 use Rattle.vub_ring.specs.Ring.{ahead}
 use Rattle.vub_inflight.specs.Entries.{heads_of}
-use Rattle.vub_inflight.specs.Links.{links}
-use Rattle.vub_inflight.proofs.LinkLemmas.{link_at, links_go_on}
+use Rattle.vub_inflight.specs.Links.{links, link_at}
+use Rattle.vub_inflight.proofs.LinkLemmas.{links_go_on}
 use Rattle.vub_infl_split.specs.declared.region.SplitStore.TheVariants.{SI1, SI2, SI3, SR1, SR2}
 use Rattle.vub_infl_split.specs.Region.{RegionWords}
 use Rattle.vub_infl_split.specs.Stores.{words_after}

@@ -8,7 +8,7 @@ ghost use Rattle.vub_device.specs.Places.{are_distinct};
 ghost use Rattle.vub_steps.specs.declared.steps.Phase.{Phase};
 ghost use Rattle.vub_steps.specs.declared.steps.Phase.TheVariants as phases;
 ghost use Rattle.vub_inflight.specs.Entries.{heads_of, next_counter};
-ghost use Rattle.vub_inflight.proofs.LinkLemmas.{link_at};
+ghost use Rattle.vub_inflight.specs.Links.{link_at};
 ghost use Rattle.vub_infl_split.specs.declared.region.SplitRegion.{SplitRegion};
 ghost use Rattle.vub_infl_split.specs.declared.region.SplitStore.TheVariants.{SI1, SI2, SI3, SR1, SR2, SF1, SF2, SP3, SP4, SP6, SP7};
 ghost use Rattle.vub_infl_split.specs.Readings.{made_fault, open_entries, split_entries};

@@ -2,7 +2,7 @@ use Rattle.std.proofs.Common.{◌<◌, ◌+◌, ℕ}
 use Rattle.vub_infl_split.specs.declared.region.SplitStore.TheVariants.{SI1, SI2, SI3, SR1, SR2}
 use Rattle.vub_infl_split.specs.Region.{RegionWords, words_of}
 use Rattle.vub_infl_split.specs.Readings.{counted}
-use Rattle.vub_inflight.proofs.LinkLemmas.{link_at}
+use Rattle.vub_inflight.specs.Links.{link_at}
 use Rattle.vub_region_facts.specs.Starts.{InNew, InSettling, IsSettled}
 use Rattle.vub_region_facts.specs.Phases.{NotStarted}
 use Rattle.vub_region_facts.proofs.BatchLemmas.{below_among}
