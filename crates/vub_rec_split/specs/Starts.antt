@@ -1,0 +1,197 @@
+-- A start of a split queue over its in-flight region: what its first step finds, and its stores, one a step (vhost-user,
+-- "Inflight I/O tracking").
+use Rattle.std.specs.Prelude.{◌≡◌, ◌≤◌, ℕ, ◌+◌, ◌-◌, ◌==◌, ◌&&◌, Bool, nat_lt, nat_le, if◌then◌else◌, List, Option, Some, None, Result, Ok, Err, ⊤}
+use Rattle.vub_base.specs.declared.reading.RegionFault.{RegionFault}
+use Rattle.vub_base.specs.declared.reading.RegionFault.TheVariants.{BadBase}
+use Rattle.vub_base.specs.declared.pending.Pending.{Pending}
+use Rattle.vub_base.specs.declared.store.Tag.{Tag}
+use Rattle.vub_base.specs.declared.store.Tag.TheVariants as tags
+use Rattle.vub_shared.specs.Bytes.{Bytes}
+use Rattle.vub_shared.specs.Spaces.{Names}
+use Rattle.vub_shared.specs.Stores.{Store}
+use Rattle.vub_shared.specs.Frames.{OnlyLoads, MakesStore}
+use Rattle.vub_ring.specs.Ring.{ahead}
+use Rattle.vub_split.specs.declared.split.SplitRing.{SplitRing}
+use Rattle.vub_split.specs.Split.{RingLies, used_idx_word}
+use Rattle.vub_infl_split.specs.declared.region.SplitRegion.{SplitRegion}
+use Rattle.vub_infl_split.specs.declared.region.SplitStore.{SplitStore}
+use Rattle.vub_infl_split.specs.declared.region.SplitStore.TheVariants.{SI1, SI2, SI3, SR1, SR2, SF1, SF2, SP3, SP4, SP6, SP7}
+use Rattle.vub_infl_split.specs.Region.{RegionWords, RegionLies, words_of}
+use Rattle.vub_infl_split.specs.Stores.{store_of, NamesEntry}
+use Rattle.vub_infl_split.specs.Readings.{made_fault, split_entries}
+use Rattle.vub_rec_split.specs.declared.plan.Plan.{Plan}
+use Rattle.vub_rec_split.specs.declared.plan.Plan.TheVariants.{New, Settles, Settled}
+use Rattle.vub_rec_split.specs.declared.plan.Found.{Found}
+use Rattle.vub_rec_split.specs.declared.plan.Found.TheVariants as finds
+use Rattle.vub_rec_split.specs.declared.plan.Recovered.{Recovered}
+use Rattle.vub_rec_split.specs.declared.plan.Recovered.TheVariants.{Stored, Done, Failed, Damaged}
+
+-- ---- what the first step finds, where used.idx is `used`
+
+-- a queue whose region was never made starts where its used ring stands
+abbrev pub bad_base : ℕ → ℕ → Option RegionFault
+bad_base base used = if base == used then None else Some (BadBase base)
+
+-- the first cause for which a queue of n descriptors can't start
+abbrev pub start_fault : ℕ → ℕ → ℕ → RegionWords → Option RegionFault
+start_fault base n used w = if w.version == 0 then bad_base base used else made_fault n used w
+
+-- a batch of so many is settled; there is nothing to settle where none is there
+abbrev pub settles : ℕ → Plan
+settles count = if count == 0 then Settled else Settles count
+
+abbrev pub plan_of : ℕ → RegionWords → Plan
+plan_of used w = if w.version == 0 then New else settles (ahead used w.used_idx)
+
+-- ---- the step in place `done` of a plan
+
+-- what a step sees: used.idx, and the entry that is linked next
+pub record Sight : Type 0 where
+  pub used : ℕ
+  pub link : ℕ
+
+-- the features, an entry each, and the header
+abbrev pub new_step : ℕ → Sight → ℕ → SplitStore
+new_step n sight done = if done == 0 then SI1 else if nat_le done n then SI2 (done - 1) else SI3 sight.used
+
+-- an entry each of the batch, up to a link that is no entry, and used_idx
+abbrev pub settle_step : ℕ → Sight → ℕ → ℕ → SplitStore
+settle_step n sight count done = if nat_lt done count && nat_lt sight.link n then SR1 sight.link else SR2 sight.used
+
+abbrev pub step_of : ℕ → Sight → Plan → ℕ → Option SplitStore
+step_of n sight New done = Some (new_step n sight done)
+step_of n sight (Settles count) done = Some (settle_step n sight count done)
+step_of n sight Settled done = None
+
+abbrev pub tag_of : SplitStore → Tag
+tag_of SI1 = tags.SI1
+tag_of (SI2 i) = tags.SI2
+tag_of (SI3 used_idx) = tags.SI3
+tag_of (SR1 i) = tags.SR1
+tag_of (SR2 used_idx) = tags.SR2
+tag_of (SF1 i counter) = tags.SF1
+tag_of (SF2 i) = tags.SF2
+tag_of (SP3 i next) = tags.SP3
+tag_of (SP4 head) = tags.SP4
+tag_of (SP6 i) = tags.SP6
+tag_of (SP7 used_idx) = tags.SP7
+
+-- ---- a recovery
+
+-- its queue, the base that it starts from, its plan once the first step found it, how many of its steps are done, and the entry
+-- that was cleared last of a batch
+pub record RecoveryState : Type 0 where
+  pub ring : SplitRing
+  pub region : SplitRegion
+  pub base : ℕ
+  pub plan : Option Plan
+  pub done : ℕ
+  pub cleared : Option ℕ
+
+-- the first link of a batch is last_batch_head, and then comes the next of the entry before
+abbrev pub link_after : Option ℕ → RegionWords → ℕ
+link_after None w = w.last_batch_head
+link_after (Some entry) w = w.next entry
+
+abbrev pub sight_in : RecoveryState → Bytes → Sight
+sight_in s m = record { used = used_idx_word s.ring m; link = link_after s.cleared (words_of s.region m) }
+
+-- the checks are made where there is no plan yet
+abbrev pub fault_if : Option Plan → Option RegionFault → Option RegionFault
+fault_if None fault = fault
+fault_if (Some plan) fault = None
+
+abbrev pub fault_in : RecoveryState → Bytes → Option RegionFault
+fault_in s m = fault_if s.plan (start_fault s.base s.region.size (used_idx_word s.ring m) (words_of s.region m))
+
+abbrev pub plan_or : Option Plan → Plan → Plan
+plan_or None plan = plan
+plan_or (Some plan) other = plan
+
+abbrev pub plan_in : RecoveryState → Bytes → Plan
+plan_in s m = plan_or s.plan (plan_of (used_idx_word s.ring m) (words_of s.region m))
+
+abbrev pub unless_fault : Option RegionFault → Option SplitStore → Option SplitStore
+unless_fault None step = step
+unless_fault (Some fault) step = None
+
+-- the step that is due: none where there is a fault or no store is left
+abbrev pub due_in : RecoveryState → Bytes → Option SplitStore
+due_in s m = unless_fault (fault_in s m) (step_of s.region.size (sight_in s m) (plan_in s m) s.done)
+
+-- what a step answers that doesn't fail
+abbrev pub answered : Option RegionFault → Option SplitStore → Recovered
+answered (Some fault) step = Damaged fault
+answered None (Some step) = Stored (tag_of step)
+answered None None = Done
+
+abbrev pub answer_in : RecoveryState → Bytes → Recovered
+answer_in s m = answered (fault_in s m) (due_in s m)
+
+-- the recovery after a step of its plan: the last store of each plan leaves nothing to settle
+abbrev pub moved : SplitStore → RecoveryState → RecoveryState
+moved SI1 s = record s { done = s.done + 1 }
+moved (SI2 i) s = record s { done = s.done + 1 }
+moved (SR1 i) s = record s { done = s.done + 1; cleared = Some i }
+moved step s = record s { plan = Some Settled }
+
+abbrev pub gone_on : Option RegionFault → Option SplitStore → Plan → RecoveryState → RecoveryState
+gone_on (Some fault) step plan s = s
+gone_on None (Some step) plan s = moved step (record s { plan = Some plan })
+gone_on None None plan s = record s { plan = Some Settled }
+
+abbrev pub state_after : RecoveryState → Bytes → RecoveryState
+state_after s m = gone_on (fault_in s m) (due_in s m) (plan_in s m) s
+
+-- ---- a call of `step`
+
+-- ring and region lie in their spaces and have one size
+pub record StartLies (sizes : ℕ → ℕ) (s : RecoveryState) : Type 0 where
+  pub ring : RingLies sizes s.ring
+  pub region : RegionLies sizes s.region
+  pub same_size : s.region.size ≡ s.ring.size
+
+-- no batch of more entries than there are is followed
+abbrev pub PlanFits : ℕ → Option Plan → Type 0
+PlanFits n (Some (Settles count)) = count ≤ n
+PlanFits n plan = ⊤
+
+-- a step that isn't the last of its plan has a place for the next one
+abbrev pub StepFits : ℕ → ℕ → SplitStore → Type 0
+StepFits n done SI1 = done ≤ n
+StepFits n done (SI2 i) = done ≤ n
+StepFits n done (SR1 i) = done ≤ n
+StepFits n done step = ⊤
+
+abbrev pub outcome : Recovered → Result ⊤ ⊤
+outcome Failed = Err tt
+outcome result = Ok tt
+
+-- it makes the store of this step, or only loads where there is none
+abbrev pub MakesStep : {M : Type 0} → (M → Option Bytes) → (M → Option (List Store)) → (M → Option Names) → (M → ℕ → Bool) → (M → ℕ → ℕ) → M → M → Recovered → SplitRegion → Option SplitStore → Type 0
+MakesStep told trail names handed sizes before now result region None = OnlyLoads told trail names handed sizes before now
+MakesStep told trail names handed sizes before now result region (Some step) = MakesStore told trail names handed sizes before now (outcome result) (store_of region step)
+
+-- the open entries as the region says them then
+abbrev pub entries_in : RecoveryState → Bytes → List Pending
+entries_in s m = split_entries s.region.size (used_idx_word s.ring m) (words_of s.region m)
+
+-- ---- what is to be done, before it is done
+
+abbrev pub found : Option RegionFault → Option SplitStore → Plan → Found
+found (Some fault) step plan = finds.Damaged fault
+found None (Some step) plan = finds.Store plan step
+found None None plan = finds.Nothing
+
+abbrev pub found_in : RecoveryState → Bytes → Found
+found_in s m = found (fault_in s m) (due_in s m) (plan_in s m)
+
+-- over any memory: a store within the region
+abbrev pub FoundFits : RecoveryState → Found → Type 0
+FoundFits s (finds.Store plan step) = PlanFits s.region.size (Some plan) × NamesEntry s.region.size step × StepFits s.region.size s.done step
+FoundFits s found = ⊤
+
+-- the plan, or why there is none
+abbrev pub begun : Option RegionFault → Plan → Result Plan RegionFault
+begun None plan = Ok plan
+begun (Some fault) plan = Err fault

@@ -1,0 +1,9 @@
+//! The recovery of a split queue's in-flight region (vhost-user, "Inflight I/O tracking"): the checks
+//! of a start, and its stores one after another.
+#![tactic(auto)]
+
+mod plan;
+mod recovery;
+
+pub use plan::{Plan, Recovered};
+pub use recovery::SplitRecovery;
