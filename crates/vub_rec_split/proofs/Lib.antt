@@ -1,2 +1,5 @@
 pub mod LoadLemmas
+pub mod PlanSteps
+pub mod SoundLemmas
+pub mod StandLemmas
 pub mod StartLemmas

@@ -8,7 +8,7 @@ use Rattle.vub_base.specs.declared.store.Tag.{Tag}
 use Rattle.vub_base.specs.declared.store.Tag.TheVariants as tags
 use Rattle.vub_shared.specs.Bytes.{Bytes}
 use Rattle.vub_shared.specs.Spaces.{Names}
-use Rattle.vub_shared.specs.Stores.{Store}
+use Rattle.vub_shared.specs.Stores.{Store, after_store}
 use Rattle.vub_shared.specs.Frames.{OnlyLoads, MakesStore}
 use Rattle.vub_ring.specs.Ring.{ahead}
 use Rattle.vub_split.specs.declared.split.SplitRing.{SplitRing}
@@ -128,12 +128,25 @@ answered None None = Done
 abbrev pub answer_in : RecoveryState → Bytes → Recovered
 answer_in s m = answered (fault_in s m) (due_in s m)
 
--- the recovery after a step of its plan: the last store of each plan leaves nothing to settle
+-- the recovery after a store of its plan: the last one of each plan leaves nothing to settle
+abbrev pub plan_after : SplitStore → Option Plan → Option Plan
+plan_after SI1 plan = plan
+plan_after (SI2 i) plan = plan
+plan_after (SR1 i) plan = plan
+plan_after step plan = Some Settled
+
+abbrev pub done_after : SplitStore → ℕ → ℕ
+done_after SI1 done = done + 1
+done_after (SI2 i) done = done + 1
+done_after (SR1 i) done = done + 1
+done_after step done = done
+
+abbrev pub cleared_after : SplitStore → Option ℕ → Option ℕ
+cleared_after (SR1 i) cleared = Some i
+cleared_after step cleared = cleared
+
 abbrev pub moved : SplitStore → RecoveryState → RecoveryState
-moved SI1 s = record s { done = s.done + 1 }
-moved (SI2 i) s = record s { done = s.done + 1 }
-moved (SR1 i) s = record s { done = s.done + 1; cleared = Some i }
-moved step s = record s { plan = Some Settled }
+moved step s = record s { plan = plan_after step s.plan; done = done_after step s.done; cleared = cleared_after step s.cleared }
 
 abbrev pub gone_on : Option RegionFault → Option SplitStore → Plan → RecoveryState → RecoveryState
 gone_on (Some fault) step plan s = s
@@ -171,6 +184,11 @@ outcome result = Ok tt
 abbrev pub MakesStep : {M : Type 0} → (M → Option Bytes) → (M → Option (List Store)) → (M → Option Names) → (M → ℕ → Bool) → (M → ℕ → ℕ) → M → M → Recovered → SplitRegion → Option SplitStore → Type 0
 MakesStep told trail names handed sizes before now result region None = OnlyLoads told trail names handed sizes before now
 MakesStep told trail names handed sizes before now result region (Some step) = MakesStore told trail names handed sizes before now (outcome result) (store_of region step)
+
+-- the memory after it
+abbrev pub memory_after : SplitRegion → Option SplitStore → Bytes → Bytes
+memory_after region None m = m
+memory_after region (Some step) m = after_store (store_of region step) m
 
 -- the open entries as the region says them then
 abbrev pub entries_in : RecoveryState → Bytes → List Pending
