@@ -1,11 +1,13 @@
 -- A step over told memory, from where the recovery stands to where it stands after it.
-use Rattle.std.proofs.Common.{◌≡◌, ◌≤◌, ◌<◌, ◌⊎◌, ℕ, ◌+◌, ◌*◌, ◌^◌, List, [], length, refl, ap, sym, ◌∙◌, subst, inl, inr, arith}
+use Rattle.std.proofs.Common.{◌≡◌, ◌≢◌, ◌≤◌, ◌<◌, ◌⊎◌, ℕ, ◌+◌, ◌*◌, ◌^◌, Bool, List, [], length, refl, ap, sym, ◌∙◌, subst, inl, inr, arith}
 use Rattle.std.specs.Prelude.{Option, Some, None}
+use Rattle.std.specs.Option.{option_map}
 use Rattle.byteorder.specs.Endian.{little_bytes}
 use Rattle.byteorder.specs.Numbers.{length-bytes_low_first}
 use Rattle.vub_base.specs.declared.pending.Pending.{Pending}
 use Rattle.vub_base.specs.declared.reading.RegionFault.{RegionFault}
 use Rattle.vub_shared.specs.Bytes.{Bytes, word, put, Apart}
+use Rattle.vub_shared.specs.Spaces.{Names}
 use Rattle.vub_shared.specs.Stores.{Store, after_store}
 use Rattle.vub_shared.proofs.BytesLemmas.{word-put_other, word-lt}
 use Rattle.vub_split.specs.Split.{used_idx_word, used_idx_place}
@@ -19,7 +21,9 @@ use Rattle.vub_infl_split.specs.Readings.{split_entries}
 use Rattle.vub_infl_split.proofs.WordLemmas.{words_stored}
 use Rattle.vub_rec_split.specs.declared.plan.Plan.{Plan}
 use Rattle.vub_rec_split.specs.declared.plan.Plan.TheVariants.{New, Settles, Settled}
-use Rattle.vub_rec_split.specs.Starts.{RecoveryState, new_step, settle_step, step_of, unless_fault, fault_in, plan_in, plan_or, plan_of, start_fault, sight_in, due_in, moved, gone_on, state_after, memory_after, entries_in}
+use Rattle.vub_rec_split.specs.declared.plan.Recovered.{Recovered}
+use Rattle.vub_rec_split.specs.declared.plan.Recovered.TheVariants as recovered
+use Rattle.vub_rec_split.specs.Starts.{RecoveryState, tag_of, answered, answer_in, MakesStep, new_step, settle_step, step_of, unless_fault, fault_in, plan_in, plan_or, plan_of, start_fault, sight_in, due_in, moved, gone_on, state_after, memory_after, entries_in}
 use Rattle.vub_rec_split.specs.Sound.{InStart, IsApart, LeftAt, StandsAt, Keeps}
 use Rattle.vub_rec_split.proofs.SoundLemmas.{left_fine, left_reads}
 use Rattle.vub_rec_split.proofs.PlanSteps.{Kept, begins, plan_kept, step_fits, start_left}
@@ -119,3 +123,57 @@ stands_keeps s m heads fits small p =
     let due : step_of s.region.size (sight_in s m) (plan_in s m) s.done ≡ due_in s m = sym (ap (λ (f : Option RegionFault). unless_fault f (step_of s.region.size (sight_in s m) (plan_in s m) s.done)) none) in
     let kept : Keeps heads s (gone_on None (due_in s m) (plan_in s m) s) m (memory_after s.region (due_in s m) m) = keeps_due s m heads (plan_in s m) (due_in s m) fits small p.apart (planned s m heads s.plan fits p.in_start) due in
     subst (λ (f : Option RegionFault). Keeps heads s (gone_on f (due_in s m) (plan_in s m) s) m (memory_after s.region (due_in s m) m)) (sym none) kept
+
+-- ---- the told memory after a call
+
+-- one that doesn't fail
+pub told_moved : {M : Type 0} (told : M → Option Bytes) (trail : M → Option (List Store)) (names : M → Option Names) (handed : M → ℕ → Bool) (sizes : M → ℕ → ℕ) (before now : M) (result : Recovered) (region : SplitRegion) (due : Option SplitStore) (m : Bytes)
+    → MakesStep told trail names handed sizes before now result region due → told before ≡ Some m → result ≢ recovered.Failed → told now ≡ Some (memory_after region due m)
+told_moved told trail names handed sizes before now result region None m makes is fine = makes.same_told ∙ is
+told_moved told trail names handed sizes before now (recovered.Stored tag) region (Some step) m makes is fine = makes.stored ∙ ap (option_map (after_store (store_of region step))) is
+told_moved told trail names handed sizes before now recovered.Done region (Some step) m makes is fine = makes.stored ∙ ap (option_map (after_store (store_of region step))) is
+told_moved told trail names handed sizes before now (recovered.Damaged fault) region (Some step) m makes is fine = makes.stored ∙ ap (option_map (after_store (store_of region step))) is
+told_moved told trail names handed sizes before now recovered.Failed region (Some step) m makes is fine = absurd (fine refl)
+
+-- one that may have failed: the old bytes or the new ones
+pub told_either : {M : Type 0} (told : M → Option Bytes) (trail : M → Option (List Store)) (names : M → Option Names) (handed : M → ℕ → Bool) (sizes : M → ℕ → ℕ) (before now : M) (result : Recovered) (region : SplitRegion) (due : Option SplitStore) (m : Bytes)
+    → MakesStep told trail names handed sizes before now result region due → told before ≡ Some m → (told now ≡ Some m) ⊎ (told now ≡ Some (memory_after region due m))
+told_either told trail names handed sizes before now result region None m makes is = inl (makes.same_told ∙ is)
+told_either told trail names handed sizes before now (recovered.Stored tag) region (Some step) m makes is = inr (makes.stored ∙ ap (option_map (after_store (store_of region step))) is)
+told_either told trail names handed sizes before now recovered.Done region (Some step) m makes is = inr (makes.stored ∙ ap (option_map (after_store (store_of region step))) is)
+told_either told trail names handed sizes before now (recovered.Damaged fault) region (Some step) m makes is = inr (makes.stored ∙ ap (option_map (after_store (store_of region step))) is)
+told_either told trail names handed sizes before now recovered.Failed region (Some step) m makes is = elim makes.stored [
+  | inl same ↦ inl (same ∙ is)
+  | inr made ↦ inr (made ∙ ap (option_map (after_store (store_of region step))) is)
+]
+
+-- ---- what a call leaves
+
+pub stands_on : (s s' : RecoveryState) (m m' : Bytes) (heads : List ℕ) (now : Option Bytes) → ((t q : ℕ) → m t q < 256) → s.region.size < 65536 → StandsAt heads s m → s' ≡ state_after s m → now ≡ Some (memory_after s.region (due_in s m) m) → now ≡ Some m'
+    → StandsAt heads s' m'
+stands_on s s' m m' heads now fits small p state told there =
+    let same : memory_after s.region (due_in s m) m ≡ m' = cc in
+    let kept = stands_keeps s m heads fits small p in
+    subst (λ (x : RecoveryState). StandsAt heads x m') (sym state) (subst (λ (x : Bytes). StandsAt heads (state_after s m) x) same kept.stands)
+
+pub left_on : (s : RecoveryState) (m m' : Bytes) (heads : List ℕ) (now : Option Bytes) → ((t q : ℕ) → m t q < 256) → s.region.size < 65536 → StandsAt heads s m → (now ≡ Some m) ⊎ (now ≡ Some (memory_after s.region (due_in s m) m)) → now ≡ Some m'
+    → LeftAt heads s m' × (entries_in s m' ≡ entries_in s m)
+left_on s m m' heads now fits small p (inl told) there =
+    let same : m ≡ m' = cc in
+    (subst (λ (x : Bytes). LeftAt heads s x) same (stands_left s m heads p), ap (entries_in s) (sym same))
+left_on s m m' heads now fits small p (inr told) there =
+    let same : memory_after s.region (due_in s m) m ≡ m' = cc in
+    let kept = stands_keeps s m heads fits small p in
+    (subst (λ (x : Bytes). LeftAt heads s x) same kept.left, subst (λ (x : Bytes). entries_in s x ≡ entries_in s m) same kept.same_entries)
+
+-- it isn't damaged
+pub stands_undamaged : (s : RecoveryState) (m : Bytes) (heads : List ℕ) (result : Recovered) (fault : RegionFault) → StandsAt heads s m → (result ≢ recovered.Failed → result ≡ answer_in s m) → result ≢ recovered.Damaged fault
+stands_undamaged s m heads result fault p answers damaged =
+    let none : fault_in s m ≡ None = stands_fine s m heads p in
+    let fine : result ≢ recovered.Failed = λ failed. let fails : recovered.Damaged fault ≡ recovered.Failed = sym damaged ∙ failed in cc in
+    let answer : recovered.Damaged fault ≡ answered None (due_in s m) = sym damaged ∙ answers fine ∙ ap (λ (f : Option RegionFault). answered f (due_in s m)) none in
+    never (due_in s m) answer
+  where
+    never : (due : Option SplitStore) → recovered.Damaged fault ≢ answered None due
+    never None is = let fails : recovered.Damaged fault ≡ recovered.Done = is in cc
+    never (Some step) is = let fails : recovered.Damaged fault ≡ recovered.Stored (tag_of step) = is in cc

@@ -1,16 +1,18 @@
 //! A start of a split queue over its in-flight region, a step at a time.
-ghost use Rattle.std.specs.Prelude.{◌≡◌, ◌≢◌, ◌<◌, ◌≤◌, ◌-◌, ℕ, Option, Some, None, [], IfOk, IfSome, OnOk};
+ghost use Rattle.std.specs.Prelude.{◌≡◌, ◌≢◌, ◌<◌, ◌≤◌, ◌-◌, ℕ, List, Option, Some, None, [], IfOk, IfSome, OnOk};
 ghost use Rattle.vub_base.specs.Causes.{HasCause};
 ghost use Rattle.vub_base.specs.Told.{WhereTold};
 ghost use Rattle.vub_shared.specs.Frames.{OnlyLoads, MakesStore};
 ghost use Rattle.vub_ring.specs.Ring.{ahead};
 ghost use Rattle.vub_split.specs.Split.{used_idx_word};
-ghost use Rattle.vub_inflight.specs.Entries.{AreEntries};
+ghost use Rattle.vub_base.specs.declared.reading.RegionFault.{RegionFault};
+ghost use Rattle.vub_inflight.specs.Entries.{AreEntries, heads_of};
 ghost use Rattle.vub_infl_split.specs.declared.region.SplitStore.{SplitStore};
 ghost use Rattle.vub_infl_split.specs.Region.{words_of};
 ghost use Rattle.vub_infl_split.specs.Stores.{store_of, NamesEntry};
 ghost use Rattle.vub_rec_split.specs.declared.plan.Found.TheVariants.{Nothing};
 ghost use Rattle.vub_rec_split.specs.declared.plan.Recovered.TheVariants as recovered;
+ghost use Rattle.vub_rec_split.specs.Sound.{LeftAt, StandsAt};
 ghost use Rattle.vub_rec_split.specs.Starts as starts;
 ghost use Rattle.vub_rec_split.specs.Starts.{start_fault, plan_of, plan_in, sight_in, step_of, settle_step, fault_in, due_in, answer_in, state_after, moved, StartLies, PlanFits, StepFits, outcome, MakesStep, entries_in, found_in, FoundFits};
 
@@ -66,7 +68,34 @@ impl SplitRecovery {
     /// Makes the checks where it is the first step, and then the next store. `Done` comes where no
     /// store is left: `list` gets the open entries in rising order of their counters. Else it is empty.
     /// After `Failed` and `Damaged` the recovery is as it was.
+    ///
+    /// Where memory is told and no life before left more than a life can (`StandsAt`), no step finds
+    /// damage, and each, also one that fails, leaves what is read of the region: so a recovery that is
+    /// cut off anywhere and begun again ends with the same list.
     pub fn step<M: Shared>(&mut self, mem: &mut M, list: &mut PendingList) -> Recovered
+        requires lies { StartLies (M.sizes mem.old) self.old }
+        requires room { self.old.region.size ≤ list.old.room }
+        ensures answers { WhereTold (M.told mem.old) (λ m. result ≢ recovered.Failed → result ≡ answer_in self.old m) }
+        ensures state { WhereTold (M.told mem.old) (λ m. result ≢ recovered.Failed → self.new ≡ state_after self.old m) }
+        ensures stays { result ≡ recovered.Failed → self.new ≡ self.old }
+        ensures list { WhereTold (M.told mem.old) (λ m. result ≡ recovered.Done → list.new.items ≡ entries_in self.old m) }
+        ensures empty { result ≢ recovered.Done → list.new.items ≡ [] }
+        ensures entries { AreEntries self.old.region.size list.new.items }
+        ensures same_room { list.new.room ≡ list.old.room }
+        ensures due { WhereTold (M.told mem.old) (λ m. MakesStep M.told M.trail M.names M.handed M.sizes mem.old mem.new result self.old.region (due_in self.old m)) }
+        ensures one_store { (step : Option SplitStore) × MakesStep M.told M.trail M.names M.handed M.sizes mem.old mem.new result self.old.region step }
+        ensures cause { HasCause (M.faults mem.old) (M.faults mem.new) (outcome result) }
+        ensures undamaged { (heads : List ℕ) → WhereTold (M.told mem.old) (λ m. StandsAt heads self.old m → (fault : RegionFault) → result ≢ recovered.Damaged fault) }
+        ensures stands { (heads : List ℕ) → WhereTold (M.told mem.old) (λ m. StandsAt heads self.old m → result ≢ recovered.Failed → WhereTold (M.told mem.new) (λ m'. StandsAt heads self.new m')) }
+        ensures left { (heads : List ℕ) → WhereTold (M.told mem.old) (λ m. StandsAt heads self.old m → WhereTold (M.told mem.new) (λ m'. LeftAt heads self.old m')) }
+        ensures same_entries { (heads : List ℕ) → WhereTold (M.told mem.old) (λ m. StandsAt heads self.old m → WhereTold (M.told mem.new) (λ m'. entries_in self.old m' ≡ entries_in self.old m)) }
+        ensures open_heads { (heads : List ℕ) → WhereTold (M.told mem.old) (λ m. StandsAt heads self.old m → result ≡ recovered.Done → heads_of list.new.items ≡ heads) }
+    {
+        self.go_on(mem, list)
+    }
+
+    /// The next step.
+    fn go_on<M: Shared>(&mut self, mem: &mut M, list: &mut PendingList) -> Recovered
         requires lies { StartLies (M.sizes mem.old) self.old }
         requires room { self.old.region.size ≤ list.old.room }
         ensures answers { WhereTold (M.told mem.old) (λ m. result ≢ recovered.Failed → result ≡ answer_in self.old m) }

@@ -1,29 +1,30 @@
-use Rattle.std.proofs.Common.{◌≡◌, ◌∙◌, ap, sym, subst, Option, Some}
-use Rattle.vub_infl_split.specs.declared.region.SplitStore.{SplitStore}
-use Rattle.vub_infl_split.specs.Stores.{store_of}
-use Rattle.vub_rec_split.specs.Starts.{outcome, MakesStep}
-use Rattle.vub_rec_split.proofs.LoadLemmas.{loads_before}
-use Rattle.vub_rec_split.proofs.StartLemmas.{store_due, store_answer, store_state, damaged_state}
+use Rattle.std.proofs.Common.{◌≡◌, ◌<◌, ◌∙◌, ℕ, ap, sym, List, arith}
+use Rattle.vub_base.specs.declared.pending.Pending.{Pending}
+use Rattle.vub_inflight.specs.Entries.{heads_of}
+use Rattle.vub_rec_split.specs.Starts.{due_in}
+use Rattle.vub_rec_split.proofs.StandLemmas.{told_moved, told_either, stands_on, left_on, stands_undamaged, stands_reads}
 use Rattle.vub_rec_split.proofs.recovery.SplitRecovery.step.Goals as goal
 
-pub returns-in-Ok-Store-clause-answers : goal.returns-in-Ok-Store-clause-answers
-returns-in-Ok-Store-clause-answers g c m told fine =
-    c.make.ensures.said fine ∙ sym (store_answer c.args.self.now m c.in-Ok-Store.plan c.in-Ok-Store.step (sym c.in-Ok-Store.field-0-is ∙ c.in-Ok-Store.ensures.found m told))
+pub returns-clause-undamaged : goal.returns-clause-undamaged
+returns-clause-undamaged g c heads m told stands fault = stands_undamaged c.args.self.now m heads c.go_on.result fault stands (c.go_on.ensures.answers m told)
 
-pub returns-in-Ok-Store-clause-state : goal.returns-in-Ok-Store-clause-state
-returns-in-Ok-Store-clause-state g c m told fine =
-    c.make.ensures.state fine ∙ sym (store_state c.args.self.now m c.in-Ok-Store.plan c.in-Ok-Store.step (sym c.in-Ok-Store.field-0-is ∙ c.in-Ok-Store.ensures.found m told))
+pub returns-clause-stands : goal.returns-clause-stands
+returns-clause-stands g c heads m told stands fine m' told' =
+    let small : c.args.self.now.region.size < 65536 = omega (arith, c.requires.lies.same_size, c.requires.lies.ring.few) in
+    let now = told_moved _ _ _ _ _ _ _ c.go_on.result c.args.self.now.region (due_in c.args.self.now m) m (c.go_on.ensures.due m told) told fine in
+    stands_on c.args.self.now c.go_on.new.self m m' heads (g.M.Shared.told c.go_on.new.mem) (g.met.M.Shared.told_fits c.args.mem.now m told) small stands (c.go_on.ensures.state m told fine) now told'
 
-pub returns-in-Ok-Store-clause-due : goal.returns-in-Ok-Store-clause-due
-returns-in-Ok-Store-clause-due g c m told =
-    subst (λ (due : Option SplitStore). MakesStep g.M.Shared.told g.M.Shared.trail g.M.Shared.names g.M.Shared.handed g.M.Shared.sizes c.args.mem.now c.make.new.mem c.make.result c.args.self.now.region due)
-    (sym (store_due c.args.self.now m c.in-Ok-Store.plan c.in-Ok-Store.step (sym c.in-Ok-Store.field-0-is ∙ c.in-Ok-Store.ensures.found m told)))
-    (loads_before _ _ _ _ _ _ _ _ (outcome c.make.result) (store_of c.args.self.now.region c.in-Ok-Store.step) c.find.ensures.only_loads c.make.ensures.store)
+pub returns-clause-left : goal.returns-clause-left
+returns-clause-left g c heads m told stands m' told' =
+    let small : c.args.self.now.region.size < 65536 = omega (arith, c.requires.lies.same_size, c.requires.lies.ring.few) in
+    let now = told_either _ _ _ _ _ _ _ c.go_on.result c.args.self.now.region (due_in c.args.self.now m) m (c.go_on.ensures.due m told) told in
+    (left_on c.args.self.now m m' heads (g.M.Shared.told c.go_on.new.mem) (g.met.M.Shared.told_fits c.args.mem.now m told) small stands now told').0
 
-pub returns-in-Ok-Store-clause-one_store : goal.returns-in-Ok-Store-clause-one_store
-returns-in-Ok-Store-clause-one_store g c =
-    (Some c.in-Ok-Store.step, loads_before _ _ _ _ _ _ _ _ (outcome c.make.result) (store_of c.args.self.now.region c.in-Ok-Store.step) c.find.ensures.only_loads c.make.ensures.store)
+pub returns-clause-same_entries : goal.returns-clause-same_entries
+returns-clause-same_entries g c heads m told stands m' told' =
+    let small : c.args.self.now.region.size < 65536 = omega (arith, c.requires.lies.same_size, c.requires.lies.ring.few) in
+    let now = told_either _ _ _ _ _ _ _ c.go_on.result c.args.self.now.region (due_in c.args.self.now m) m (c.go_on.ensures.due m told) told in
+    (left_on c.args.self.now m m' heads (g.M.Shared.told c.go_on.new.mem) (g.met.M.Shared.told_fits c.args.mem.now m told) small stands now told').1
 
-pub returns-in-Ok-Damaged-clause-state : goal.returns-in-Ok-Damaged-clause-state
-returns-in-Ok-Damaged-clause-state g c m told fine =
-    sym (damaged_state c.args.self.now m c.in-Ok-Damaged.fault (sym c.in-Ok-Damaged.field-0-is ∙ c.in-Ok-Damaged.ensures.found m told))
+pub returns-clause-open_heads : goal.returns-clause-open_heads
+returns-clause-open_heads g c heads m told stands is_done = ap (λ (entries : List Pending). heads_of entries) (c.go_on.ensures.list m told is_done) ∙ stands_reads c.args.self.now m heads stands
