@@ -1,32 +1,32 @@
-/// Why an in-flight region can't be read: the first of these that applies, in the order in which
-/// they stand here.
+/// Why an in-flight region can't be read: the first of these that applies, in this order.
 #[derive(Clone, Copy, Debug, PartialEq, Eq)]
 pub enum RegionFault {
-    /// The version is neither 0 nor 1.
+    /// The version, which is neither 0 nor 1.
     BadVersion(u16),
-    /// The region was never made, and the base with which the queue starts is none for it. Split:
-    /// it isn't used.idx. Packed: its avail and its used half differ, or its index isn't below the
-    /// size of the queue.
+    /// The region was never made, and the queue can't start from this base. Split: it isn't
+    /// used.idx. Packed: its avail half isn't its used half, or its index isn't below the queue
+    /// size.
     BadBase(u32),
-    /// The number of descriptors isn't the size of the queue.
+    /// The number of descriptors, which isn't the queue size.
     BadCount(u16),
-    /// Split: the used ring is so far ahead of the region's used index, more than the size of the
-    /// queue. Packed: this used index isn't below the size of the queue, or this wrap counter is
-    /// above 1, or the used position isn't 0 to size slots past the old one, whose index this isn't.
+    /// Split: how far used.idx is ahead of the region's used index, more than the queue size.
+    /// Packed: a used index that isn't below the queue size, a wrap counter above 1, or the index of
+    /// a used position that isn't 0 to queue size slots past the old one.
     BadUsed(u16),
-    /// Packed: this link of the free list isn't an entry, or was met before.
+    /// Packed: the first link of the free list that is above the queue size, at which the list would
+    /// end, or that was met before.
     BadFree(u16),
-    /// Split: this link of the last batch isn't an entry, or was met before. Packed: the chain of
-    /// this head has no entries, or this link of a chain isn't an entry, is free or was met before,
-    /// or a chain doesn't end at this `last`.
+    /// Split: the first link of the last batch that isn't below the queue size or was met before.
+    /// Packed: a head whose chain has no entries, a link of a chain that isn't below the queue size,
+    /// is free or was met before, or a `last` at which its chain doesn't end.
     BadLink(u16),
-    /// Packed: the chains of the open entries have so many entries together, and that isn't the
-    /// number of entries that aren't free.
+    /// Packed: how many entries the chains of the open heads have together, which isn't how many
+    /// aren't free.
     BadSum(u32),
-    /// The lowest open entry with the counter 2^64 - 1, which leaves no counter for the next.
+    /// The lowest open entry whose counter is 2^64 - 1, so that no counter is left.
     LastCounter(u16),
-    /// Two open entries have one counter: the lowest that another above it shares, and the lowest
-    /// of these others.
+    /// Two open entries of one counter: the lowest that shares it with one above, and the lowest of
+    /// those above.
     SameCounter(u16, u16),
 }
 

@@ -1,6 +1,6 @@
 use crate::{
-    Ask, Bytes, MemSink, MemSource, Sink, Source, get_u16, get_u32, get_u64, put_u16, put_u32,
-    put_u64,
+    Ask, Bell, Bytes, MemBell, MemSink, MemSource, Pending, PendingList, Sink, Source, get_u16,
+    get_u32, get_u64, put_u16, put_u32, put_u64,
 };
 use std::test::Fail;
 
@@ -53,5 +53,49 @@ fn values(rt: HostRuntime) -> Result<(), Fail> {
         count: 2,
     };
     assert_eq!(rt; ask.copied() == ask, true);
+    Ok(())
+}
+
+#[test]
+fn bell_with_room(rt: HostRuntime) -> Result<(), Fail> {
+    let fails = Vec::from_slice(rt.alloc(), &[2])?;
+    let mut bell = MemBell::new(rt.alloc(), 2, fails).ok().ok_or("room")?;
+    assert_eq!(rt; bell.attach(3, "call3").is_ok(), true);
+    assert_eq!(rt; bell.ring(4).is_ok(), true);
+    assert_eq!(rt; bell.ring(3).is_ok(), true);
+    assert_eq!(rt; bell.ring(3).is_ok(), false);
+    assert_eq!(rt; bell.ring(3).is_ok(), true);
+    assert_eq!(rt; bell.ring(3).is_ok(), false);
+    assert_eq!(rt; bell.rung(), [3, 3].as_slice());
+    assert_eq!(rt; bell.restart(1).is_ok(), true);
+    assert_eq!(rt; bell.rung().is_empty(), true);
+    assert_eq!(rt; bell.ring(3).is_ok(), true);
+    assert_eq!(rt; bell.rung(), [3].as_slice());
+    Ok(())
+}
+
+fn pending(head: u16, counter: u64) -> Pending {
+    Pending {
+        head,
+        counter,
+        num: 1,
+    }
+}
+
+#[test]
+fn pending_in_order(rt: HostRuntime) -> Result<(), Fail> {
+    let Ok(mut list) = PendingList::new(rt.alloc(), 4) else {
+        return Err("room".into());
+    };
+    list.push(pending(5, 7));
+    list.push(pending(1, 9));
+    list.push(pending(4, 7));
+    list.push(pending(6, 3));
+    list.sort();
+    let sorted = [pending(6, 3), pending(4, 7), pending(5, 7), pending(1, 9)];
+    assert_eq!(rt; list.items(), sorted.as_slice());
+    list.clear();
+    assert_eq!(rt; list.items().is_empty(), true);
+    assert_eq!(rt; list.room(), 4);
     Ok(())
 }

@@ -1,2 +1,3 @@
 pub mod ReadingChecks
+pub mod ReadingLemmas
 pub mod WordLemmas

@@ -49,13 +49,26 @@ bounded_set n f g k v l same h i = elim (cases_eq i k) [
 
 -- ---- a word of an entry
 
+record HeaderStays (v w : RegionWords) : Type 0 where
+  pub version : v.version ≡ w.version
+  pub desc_num : v.desc_num ≡ w.desc_num
+  pub last_batch_head : v.last_batch_head ≡ w.last_batch_head
+  pub used_idx : v.used_idx ≡ w.used_idx
+
+-- a number of v bytes behind the header leaves it
+header_stays : (v x o : ℕ) (r : SplitRegion) (m : Bytes) → 16 ≤ o → HeaderStays (words_of r (put m r.space.number (r.place + o) (little_bytes v x))) (words_of r m)
+header_stays v x o r m behind = record {
+  version = beside 2 v x r m o 8 (inl (omega (arith, behind)));
+  desc_num = beside 2 v x r m o 10 (inl (omega (arith, behind)));
+  last_batch_head = beside 2 v x r m o 12 (inl (omega (arith, behind)));
+  used_idx = beside 2 v x r m o 14 (inl (omega (arith, behind)));
+}
+
 inflight_stored : (r : SplitRegion) (m : Bytes) (i v : ℕ) → i < r.size → v < 256 ^ 1
     → words_of r (after_store (put_word r (inflight_place r i) 1 v) m) ≡ record (words_of r m) { inflight = with_at (words_of r m).inflight i v }
-inflight_stored r m i v within fits = same_words _ _
-    (beside 2 1 v r m (16 + 16 * i) 8 (grind arith))
-    (beside 2 1 v r m (16 + 16 * i) 10 (grind arith))
-    (beside 2 1 v r m (16 + 16 * i) 12 (grind arith))
-    (beside 2 1 v r m (16 + 16 * i) 14 (grind arith))
+inflight_stored r m i v within fits =
+    let h = header_stays 1 v (16 + 16 * i) r m (omega arith) in
+    same_words _ _ h.version h.desc_num h.last_batch_head h.used_idx
     (bounded_set r.size (λ j. word 1 m r.space.number (inflight_place r j)) (λ j. word 1 (put m r.space.number (inflight_place r i) (little_bytes 1 v)) r.space.number (inflight_place r j)) i v within
     (word-put_same 1 m r.space.number (inflight_place r i) v fits) (λ j b apart. beside 1 1 v r m (16 + 16 * i) (16 + 16 * j) (grind arith)))
     (bounded_keeps r.size _ _ (λ j b. beside 2 1 v r m (16 + 16 * i) (22 + 16 * j) (grind arith)))
@@ -63,11 +76,9 @@ inflight_stored r m i v within fits = same_words _ _
 
 next_stored : (r : SplitRegion) (m : Bytes) (i v : ℕ) → i < r.size → v < 256 ^ 2
     → words_of r (after_store (put_word r (next_place r i) 2 v) m) ≡ record (words_of r m) { next = with_at (words_of r m).next i v }
-next_stored r m i v within fits = same_words _ _
-    (beside 2 2 v r m (22 + 16 * i) 8 (grind arith))
-    (beside 2 2 v r m (22 + 16 * i) 10 (grind arith))
-    (beside 2 2 v r m (22 + 16 * i) 12 (grind arith))
-    (beside 2 2 v r m (22 + 16 * i) 14 (grind arith))
+next_stored r m i v within fits =
+    let h = header_stays 2 v (22 + 16 * i) r m (omega arith) in
+    same_words _ _ h.version h.desc_num h.last_batch_head h.used_idx
     (bounded_keeps r.size _ _ (λ j b. beside 1 2 v r m (22 + 16 * i) (16 + 16 * j) (grind arith)))
     (bounded_set r.size (λ j. word 2 m r.space.number (next_place r j)) (λ j. word 2 (put m r.space.number (next_place r i) (little_bytes 2 v)) r.space.number (next_place r j)) i v within
     (word-put_same 2 m r.space.number (next_place r i) v fits) (λ j b apart. beside 2 2 v r m (22 + 16 * i) (22 + 16 * j) (grind arith)))
@@ -75,11 +86,9 @@ next_stored r m i v within fits = same_words _ _
 
 counter_stored : (r : SplitRegion) (m : Bytes) (i v : ℕ) → i < r.size → v < 256 ^ 8
     → words_of r (after_store (put_word r (counter_place r i) 8 v) m) ≡ record (words_of r m) { counter = with_at (words_of r m).counter i v }
-counter_stored r m i v within fits = same_words _ _
-    (beside 2 8 v r m (24 + 16 * i) 8 (grind arith))
-    (beside 2 8 v r m (24 + 16 * i) 10 (grind arith))
-    (beside 2 8 v r m (24 + 16 * i) 12 (grind arith))
-    (beside 2 8 v r m (24 + 16 * i) 14 (grind arith))
+counter_stored r m i v within fits =
+    let h = header_stays 8 v (24 + 16 * i) r m (omega arith) in
+    same_words _ _ h.version h.desc_num h.last_batch_head h.used_idx
     (bounded_keeps r.size _ _ (λ j b. beside 1 8 v r m (24 + 16 * i) (16 + 16 * j) (grind arith)))
     (bounded_keeps r.size _ _ (λ j b. beside 2 8 v r m (24 + 16 * i) (22 + 16 * j) (grind arith)))
     (bounded_set r.size (λ j. word 8 m r.space.number (counter_place r j)) (λ j. word 8 (put m r.space.number (counter_place r i) (little_bytes 8 v)) r.space.number (counter_place r j)) i v within
@@ -87,12 +96,12 @@ counter_stored r m i v within fits = same_words _ _
 
 -- ---- a word of the header
 
--- a number of v bytes at offset o of the header leaves the entries
 record EntriesStay (v w : RegionWords) : Type 0 where
   pub inflight : (i : ℕ) → v.inflight i ≡ w.inflight i
   pub next : (i : ℕ) → v.next i ≡ w.next i
   pub counter : (i : ℕ) → v.counter i ≡ w.counter i
 
+-- a number of v bytes in the header leaves the entries
 entries_stay : (v x o : ℕ) (r : SplitRegion) (m : Bytes) → o + v ≤ 16 → EntriesStay (words_of r (put m r.space.number (r.place + o) (little_bytes v x))) (words_of r m)
 entries_stay v x o r m low = record {
   inflight = bounded_keeps r.size _ _ (λ j b. beside 1 v x r m o (16 + 16 * j) (inr (omega (arith, low))));

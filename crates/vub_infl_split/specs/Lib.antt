@@ -1,3 +1,4 @@
 pub mod Readings
 pub mod Region
+pub mod Sound
 pub mod Stores

@@ -22,7 +22,7 @@ counted used w = links w.next (ahead used w.used_idx) w.last_batch_head
 abbrev pub is_open : ℕ → RegionWords → ℕ → Bool
 is_open used w i = not (w.inflight i == 0) && not (is_among (counted used w) i)
 
--- each is one descriptor chain of a split queue
+-- an entry of a split queue counts as one descriptor
 abbrev pub one_each : ℕ → ℕ
 one_each i = 1
 

@@ -6,5 +6,8 @@ pub mod laws;
 pub mod layout;
 mod reading;
 mod region;
+#[cfg(test)]
+mod tests;
 
 pub use region::{SplitRegion, SplitStore};
+pub use vub_base::Reading;

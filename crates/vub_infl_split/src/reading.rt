@@ -77,8 +77,8 @@ fn read<M: Shared>(
     if version != 1 {
         return Ok(Reading::Damaged(RegionFault::BadVersion(version)));
     }
-    let fault = fault(region, mem, ring_used, into)?;
-    Ok(fault.map_or(Reading::Entries, Reading::Damaged))
+    let cause = fault(region, mem, ring_used, into)?;
+    Ok(cause.map_or(Reading::Entries, Reading::Damaged))
 }
 
 /// Why a region of version 1 can't be read, or its open entries by counter.

@@ -140,13 +140,21 @@ impl SplitRegion {
                 mem.store1(self.space, self.place + (entry(index) + DESC_INFLIGHT), 0)
             }
             SplitStore::SI3(used_idx) => {
-                mem.store8(self.space, self.place + VERSION, header_word(self.size, used_idx))
+                mem.store8(
+                    self.space,
+                    self.place + VERSION,
+                    header_word(self.size, used_idx),
+                )
             }
             SplitStore::SR2(used_idx) | SplitStore::SP7(used_idx) => {
                 mem.store2(self.space, self.place + USED_IDX, used_idx)
             }
             SplitStore::SF1(index, counter) => {
-                mem.store8(self.space, self.place + (entry(index) + DESC_COUNTER), counter)
+                mem.store8(
+                    self.space,
+                    self.place + (entry(index) + DESC_COUNTER),
+                    counter,
+                )
             }
             SplitStore::SF2(index) => {
                 mem.store1(self.space, self.place + (entry(index) + DESC_INFLIGHT), 1)

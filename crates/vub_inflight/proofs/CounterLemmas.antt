@@ -1,6 +1,7 @@
 -- Counters that rise, and what is read of them.
-use Rattle.std.proofs.Common.{◌≡◌, ◌≢◌, ◌≤◌, ◌<◌, ℕ, zero, suc, ◌+◌, Bool, true, false, cond, List, [], ◌∷◌, ◌++◌, filter, refl, ap, sym, ◌∙◌, subst, arith}
-use Rattle.std.specs.Prelude.{◌==◌, nat_lt, None, not}
+use Rattle.std.proofs.Common.{◌≡◌, ◌≢◌, ◌≤◌, ◌<◌, ℕ, ◌+◌, Bool, true, false, cond, List, [], ◌∷◌, ◌++◌, refl, arith}
+use Rattle.std.specs.Prelude.{◌==◌, nat_lt, Option, Some, None, not}
+use Rattle.std.specs.Option.{option_map}
 use Rattle.std.specs.List.{find, AllByRecursion}
 use Rattle.std.proofs.lemmas.Bool.Decides.{nat_tests}
 use Rattle.vub_base.specs.declared.pending.Pending.{Pending}
@@ -41,3 +42,12 @@ none_with counter (x ∷ xs) b =
     let rest : with_counter counter xs ≡ None = none_with counter xs b.1 in
     let lower : x.counter < counter = b.0 in
     grind (arith, nat_tests)
+
+-- and where none has it
+pub none_has : (counter : ℕ) (xs : List Pending) → with_counter counter xs ≡ None → AllByRecursion (λ (e : Pending). e.counter ≢ counter) xs
+none_has counter [] none = tt
+none_has counter (x ∷ xs) none = go (none_has counter xs) (x.counter == counter) refl none
+  where
+    go : (with_counter counter xs ≡ None → AllByRecursion (λ (e : Pending). e.counter ≢ counter) xs) → (b : Bool) → (x.counter == counter) ≡ b → option_map (λ (e : Pending). e.head) (cond b (Some x) (find (λ (e : Pending). e.counter == counter) xs)) ≡ None → AllByRecursion (λ (e : Pending). e.counter ≢ counter) (x ∷ xs)
+    go rest true is none' = absurd (let fails : ◌≡◌ {A = Option ℕ} (Some x.head) None = none' in cc)
+    go rest false is none' = (grind (arith, nat_tests), rest none')

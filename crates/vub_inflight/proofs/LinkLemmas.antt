@@ -3,7 +3,7 @@ use Rattle.std.proofs.Common.{◌≡◌, ◌≤◌, ◌<◌, ℕ, zero, suc, ◌
 use Rattle.std.specs.Prelude.{not, ◌||◌, ◌==◌, nat_lt, Option, Some, None}
 use Rattle.std.specs.List.{AllByRecursion}
 use Rattle.std.proofs.lemmas.Bool.Decides.{nat_tests}
-use Rattle.std.proofs.lemmas.Bool.{cases_eq}
+use Rattle.std.proofs.lemmas.Bool.{cases_eq, cases_Bool}
 use Rattle.std.proofs.lemmas.List.{length-set, get_or-set_same, get_or-set_other}
 use Rattle.vub_device.specs.Past.{is_among}
 use Rattle.vub_device.specs.Places.{are_distinct}
@@ -99,3 +99,34 @@ marked_more marks entries h low marked i l =
 -- a mark tells whether an entry below 1024 was met
 pub bad_by_mark : (link n : ℕ) (mark met : Bool) → n ≤ 1024 → (link < 1024 → mark ≡ met) → (not (nat_lt link n) || mark) ≡ true → (not (nat_lt link n) || met) ≡ true
 bad_by_mark link n mark met few same bad = grind (arith, nat_tests)
+
+-- links with no bad one are distinct entries, none of them met before
+pub record FineLinks (n : ℕ) (met xs : List ℕ) : Type 0 where
+  pub distinct : are_distinct xs ≡ true
+  pub within : AllByRecursion (λ (x : ℕ). x < n) xs
+  pub new : (i : ℕ) → is_among xs i ≡ true → is_among met i ≡ false
+
+pub fine_links : (n : ℕ) (met xs : List ℕ) → first_bad n met xs ≡ None → FineLinks n met xs
+fine_links n met [] none = record { distinct = refl; within = tt; new = λ i held. (let fails : false ≡ true = held in absurd cc) }
+fine_links n met (x ∷ xs) none = go (fine_links n (met ++ x ∷ []) xs) (not (nat_lt x n) || is_among met x) refl none
+  where
+    with_rest : nat_lt x n ≡ true → is_among met x ≡ false → FineLinks n (met ++ x ∷ []) xs → FineLinks n met (x ∷ xs)
+    with_rest low out rest =
+        let joined : (i : ℕ) → is_among (met ++ x ∷ []) i ≡ (is_among met i || is_among (x ∷ []) i) = is_among_append met (x ∷ []) in
+        let here : is_among (met ++ x ∷ []) x ≡ true = let at_x = joined x in grind (arith, nat_tests) in
+        let first : is_among xs x ≡ false = elim (cases_Bool (is_among xs x)) [
+          | inl there ↦ absurd (let old : is_among (met ++ x ∷ []) x ≡ false = rest.new x there in let fails : true ≡ false = sym here ∙ old in cc)
+          | inr never ↦ never
+        ] in
+        record {
+          distinct = let others : are_distinct xs ≡ true = rest.distinct in grind arith;
+          within = (grind (arith, nat_tests), rest.within);
+          new = λ i held. elim (cases_eq x i) [
+            | inl same ↦ ap (is_among met) (sym same) ∙ out
+            | inr apart ↦ let later : is_among xs i ≡ true = grind (arith, nat_tests) in let old : is_among (met ++ x ∷ []) i ≡ false = rest.new i later in let at_i = joined i in grind (arith, nat_tests)
+          ];
+        }
+
+    go : (first_bad n (met ++ x ∷ []) xs ≡ None → FineLinks n (met ++ x ∷ []) xs) → (b : Bool) → (not (nat_lt x n) || is_among met x) ≡ b → cond b (Some x) (first_bad n (met ++ x ∷ []) xs) ≡ None → FineLinks n met (x ∷ xs)
+    go rest true is none' = absurd (let fails : ◌≡◌ {A = Option ℕ} (Some x) None = none' in cc)
+    go rest false is none' = with_rest (grind arith) (grind arith) (rest none')

@@ -1,18 +1,18 @@
 -- The first two entries of one counter are found among neighbours in the order of counters.
 use Rattle.std.proofs.Common.{◌≡◌, ◌≢◌, ◌≤◌, ◌<◌, ◌⊎◌, ℕ, zero, suc, Bool, true, false, cond, ◌+◌, ◌-◌, List, [], ◌∷◌, ◌++◌, length, get_or, drop, refl, ap, sym, ◌∙◌, subst, inl, inr, arith}
-use Rattle.std.specs.Prelude.{◌==◌, ◌&&◌, ◌||◌, nat_lt, Option, Some, None, ⊤}
+use Rattle.std.specs.Prelude.{◌==◌, ◌||◌, nat_lt, Option, Some, None, ⊤}
 use Rattle.std.proofs.lemmas.List.{append-nil, drop_more, length-drop}
 use Rattle.std.specs.List.{find, AllByRecursion}
 use Rattle.std.specs.Option.{option_or, option_map}
 use Rattle.std.proofs.lemmas.Bool.Decides.{nat_tests}
 use Rattle.std.proofs.lemmas.Bool.{cases_eq}
 use Rattle.vub_base.specs.declared.pending.Pending.{Pending}
-use Rattle.vub_base.specs.Pending.{precedes, sorted}
+use Rattle.vub_base.specs.Pending.{precedes}
 use Rattle.vub_device.specs.Past.{is_among}
 use Rattle.vub_device.specs.Places.{are_distinct}
 use Rattle.vub_inflight.specs.Entries.{heads_of, CountersRise, with_counter, same_counter, entry_at, by_index, by_counter}
 use Rattle.vub_inflight.specs.Neighbours.{earlier, twin, twins}
-use Rattle.vub_inflight.proofs.Each.{all_append}
+use Rattle.vub_inflight.proofs.Each.{all_weaker, all_append}
 use Rattle.vub_inflight.proofs.EntryLemmas.{AreOrdered, ordered_sorted, among_sorted, all_by_index, all_by_counter, distinct_by_counter}
 
 -- two heads of one counter, the lower first, and no pair of heads of one counter stands before them
@@ -136,11 +136,16 @@ first_with c v (x ∷ xs) r counters =
     let here : x.counter ≡ c x.head = counters.0 in
     let q : ℕ → Bool = is_among (heads_of xs) in
     let go : (b : Bool) → (x.counter == v) ≡ b → IsFirstWith c (λ i. (x.head == i) || q i) v (option_map (λ (e : Pending). e.head) (cond b (Some x) (find (λ (e : Pending). e.counter == v) xs))) = elim [
-      | true ↦ λ is.
-          (held_first x.head q, (let same : x.counter ≡ v = grind (arith, nat_tests) in sym here ∙ same, (λ l held same. elim (held_or x.head l q held) [
+      | true ↦ λ is. (
+        held_first x.head q,
+        (
+          let same : x.counter ≡ v = grind (arith, nat_tests) in sym here ∙ same,
+          (λ l held same. elim (held_or x.head l q held) [
             | inl first ↦ omega (arith, first)
             | inr there ↦ let above : x.head < l = all_above x.head xs l r.0 there in omega (arith, above)
-          ])))
+          ]),
+        ),
+      )
       | false ↦ λ is.
           let apart : v ≢ c x.head = let differs : x.counter ≢ v = grind (arith, nat_tests) in (λ e. differs (here ∙ sym e)) in
           widen q v x.head (with_counter v xs) apart rest
@@ -157,6 +162,7 @@ shares_by_index c (x ∷ xs) r counters = step (shares_by_index c xs r.1 counter
   where
     here : x.counter ≡ c x.head
     here = counters.0
+
     step : Shares c (is_among (heads_of xs)) (same_counter xs) → (o : Option ℕ) → IsFirstWith c (is_among (heads_of xs)) x.counter o → Shares c (λ i. (x.head == i) || is_among (heads_of xs) i) (option_or (option_map (λ (head : ℕ). (x.head, head)) o) (same_counter xs))
     step rest None f = shares_rest c (is_among (heads_of xs)) x.head (same_counter xs) (λ l held same. f l held (here ∙ same)) rest
     step rest (Some h) f =
@@ -182,21 +188,28 @@ shares_by_counter c (x ∷ y ∷ xs) o counters d = go (x.counter == y.counter) 
   where
     q : ℕ → Bool
     q = is_among (heads_of (y ∷ xs))
+
     here : x.counter ≡ c x.head
     here = counters.0
+
     next : y.counter ≡ c y.head
     next = counters.1.0
+
     y_held : q y.head ≡ true
     y_held = held_first y.head (is_among (heads_of xs))
+
     x_out : q x.head ≡ false
     x_out = grind arith
+
     apart : (l : ℕ) → q l ≡ true → x.head ≢ l
     apart l held same = let at_x : q x.head ≡ true = ap q same ∙ held in let fails : false ≡ true = sym x_out ∙ at_x in cc
+
     above : (l : ℕ) → q l ≡ true → x.counter ≡ c l → x.head < l
     above l held same =
         let le : x.head ≤ l = (later_above c x (y ∷ xs) l o.0 counters.1 here held).1 same in
         let differs : x.head ≢ l = apart l held in
         omega (arith, le, differs)
+
     -- those of its counter begin with its neighbour
     nearest : (l : ℕ) → q l ≡ true → x.counter ≡ c l → (x.counter ≡ y.counter) × (y.head ≤ l)
     nearest l held same = elim (held_or y.head l (is_among (heads_of xs)) held) [
@@ -208,8 +221,10 @@ shares_by_counter c (x ∷ y ∷ xs) o counters d = go (x.counter == y.counter) 
           let share : x.counter ≡ y.counter = omega (arith, low, up, same) in
           (share, high.1 (sym share ∙ same))
     ]
+
     pair : x.counter ≡ y.counter → ((k l : ℕ) → q k ≡ true → q l ≡ true → k < l → c k ≡ c l → x.head < k) → AreFirst c (λ i. (x.head == i) || q i) x.head y.head
     pair share lower = shares_first c q x.head y.head y_held (above y.head y_held (share ∙ next)) (sym here ∙ share ∙ next) (λ l held same. (nearest l held (here ∙ same)).1) lower
+
     go : (b : Bool) → (x.counter == y.counter) ≡ b → (r : Option (ℕ × ℕ)) → Shares c q r → Shares c (λ i. (x.head == i) || q i) (earlier (cond b (Some (x.head, y.head)) None) r)
     go false is r s = shares_rest c q x.head r (λ l held same. (let share : x.counter ≡ y.counter = (nearest l held (here ∙ same)).0 in let differs : x.counter ≢ y.counter = grind (arith, nat_tests) in differs share)) s
     go true is None s = pair (grind (arith, nat_tests)) (λ k l a b up same. absurd (s k l a b up same))
@@ -217,6 +232,7 @@ shares_by_counter c (x ∷ y ∷ xs) o counters d = go (x.counter == y.counter) 
       where
         share : x.counter ≡ y.counter
         share = grind (arith, nat_tests)
+
         choose : (t : Bool) → nat_lt i x.head ≡ t → Shares c (λ k. (x.head == k) || q k) (cond t (Some (i, j)) (Some (x.head, y.head)))
         choose true lower = record {
           first = held_rest x.head i q s.first;
@@ -252,6 +268,27 @@ no_twins (x ∷ y ∷ xs) r =
     let differs : x.counter < y.counter = r.0.0 in
     let none : twin x y ≡ None = grind (arith, nat_tests) in
     ap (λ (o : Option (ℕ × ℕ)). earlier o (twins (y ∷ xs))) none ∙ rest
+
+-- and entries in order of which no neighbours have one counter
+pub rise_without_twins : (xs : List Pending) → AreOrdered xs → twins xs ≡ None → CountersRise xs
+rise_without_twins [] o none = tt
+rise_without_twins (x ∷ []) o none = (tt, tt)
+rise_without_twins (x ∷ y ∷ xs) o none =
+    let both = none_earlier (twin x y) (twins (y ∷ xs)) none in
+    let rest : CountersRise (y ∷ xs) = rise_without_twins (y ∷ xs) o.1 both.1 in
+    let after : precedes y x ≡ false = o.0.0 in
+    let differs : x.counter ≢ y.counter = λ same. (let equal : (x.counter == y.counter) ≡ true = grind (arith, nat_tests) in let found : twin x y ≡ Some (x.head, y.head) = grind arith in let fails : ◌≡◌ {A = Option (ℕ × ℕ)} (Some (x.head, y.head)) None = sym found ∙ both.0 in cc) in
+    let up : x.counter < y.counter = grind (arith, nat_tests) in
+    ((up, all_weaker (λ e. y.counter < e.counter) (λ e. x.counter < e.counter) xs (λ e l. omega (arith, up, l)) rest.0), rest)
+  where
+    none_earlier : (a b : Option (ℕ × ℕ)) → earlier a b ≡ None → (a ≡ None) × (b ≡ None)
+    none_earlier None b e = (refl, e)
+    none_earlier (Some a) None e = absurd (let fails : ◌≡◌ {A = Option (ℕ × ℕ)} (Some a) None = e in cc)
+    none_earlier (Some a) (Some b) e = go (nat_lt b.0 a.0) e
+      where
+        go : (t : Bool) → cond t (Some b) (Some a) ≡ None → (Some a ≡ None) × (Some b ≡ None)
+        go true e' = absurd (let fails : ◌≡◌ {A = Option (ℕ × ℕ)} (Some b) None = e' in cc)
+        go false e' = absurd (let fails : ◌≡◌ {A = Option (ℕ × ℕ)} (Some a) None = e' in cc)
 
 -- ---- neighbours in turn
 

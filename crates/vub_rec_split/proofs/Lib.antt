@@ -1,5 +1,6 @@
 pub mod LoadLemmas
 pub mod PlanSteps
+pub mod PlanStores
 pub mod SoundLemmas
 pub mod StandLemmas
 pub mod StartLemmas

@@ -24,7 +24,7 @@ use Rattle.vub_rec_split.proofs.SoundLemmas.{reading_clear, reading_note, sound_
 
 -- ---- lists
 
-below_among : (n : ℕ) (xs : List ℕ) (x : ℕ) → AllByRecursion (λ y. y < n) xs → is_among xs x ≡ true → x < n
+pub below_among : (n : ℕ) (xs : List ℕ) (x : ℕ) → AllByRecursion (λ y. y < n) xs → is_among xs x ≡ true → x < n
 below_among n [] x below held = absurd (let fails : false ≡ true = held in cc)
 below_among n (y ∷ xs) x below held = elim (cases_eq y x) [
   | inl same ↦ let l : y < n = below.0 in omega (arith, l, same)
@@ -68,6 +68,12 @@ begins n used heads base w fits (inr s) =
 pub record Kept (n used : ℕ) (heads : List ℕ) (base : ℕ) (s : RecoveryState) (w w' : RegionWords) : Type 0 where
   pub in_start : InStart n used heads base s.plan s.done s.cleared w'
   pub entries : split_entries n used w' ≡ split_entries n used w
+
+-- the next link of a batch is one of its entries
+pub next_held : (n used : ℕ) (heads : List ℕ) (count done : ℕ) (cleared : Option ℕ) (w : RegionWords) → done < count → InSettling n used heads count done cleared w → is_among (counted used w) (link_after cleared w) ≡ true
+next_held n used heads count done cleared w more p =
+    let all : counted used w ≡ links w.next count w.last_batch_head = ap (λ (k : ℕ). links w.next k w.last_batch_head) p.batch in
+    ap (λ (xs : List ℕ). is_among xs (link_after cleared w)) all ∙ ap (is_among (links w.next count w.last_batch_head)) p.link ∙ among_links w.next done count w.last_batch_head more
 
 new_kept : (n used : ℕ) (heads : List ℕ) (base : ℕ) (s : RecoveryState) (sight : Sight) (w : RegionWords) → used < 65536 → sight.used ≡ used → InNew n used heads base s.done w
     → Kept n used heads base (moved (new_step n sight s.done) (record s { plan = Some New })) w (words_after n (new_step n sight s.done) w)
@@ -115,7 +121,7 @@ settle_kept n used heads base s count sight w fits same link p =
       | inl more ↦
           let e : ℕ = sight.link in
           let at : sight.link ≡ link_at w.next s.done w.last_batch_head = link ∙ p.link in
-          let held : is_among (counted used w) sight.link ≡ true = ap (λ (xs : List ℕ). is_among xs sight.link) all ∙ ap (is_among (links w.next count w.last_batch_head)) at ∙ among_links w.next s.done count w.last_batch_head more in
+          let held : is_among (counted used w) sight.link ≡ true = ap (is_among (counted used w)) link ∙ next_held n used heads count s.done s.cleared w more p in
           let low : sight.link < n = below_among n (counted used w) sight.link p.sound.within held in
           let step : SR1 sight.link ≡ settle_step n sight count s.done = grind (arith, nat_tests) in
           let s' : Sound n used heads (words_after n (SR1 sight.link) w) = sound_clear n used heads w sight.link held p.sound in

@@ -59,7 +59,7 @@ used_fits : (s : RecoveryState) (m : Bytes) → ((t q : ℕ) → m t q < 256) �
 used_fits s m fits = word-lt 2 m s.ring.used.0.number (used_idx_place s.ring) fits
 
 -- where it stands once it has its plan
-planned : (s : RecoveryState) (m : Bytes) (heads : List ℕ) (plan : Option Plan) → ((t q : ℕ) → m t q < 256) → InStart s.region.size (used_idx_word s.ring m) heads s.base plan s.done s.cleared (words_of s.region m)
+pub planned : (s : RecoveryState) (m : Bytes) (heads : List ℕ) (plan : Option Plan) → ((t q : ℕ) → m t q < 256) → InStart s.region.size (used_idx_word s.ring m) heads s.base plan s.done s.cleared (words_of s.region m)
     → InStart s.region.size (used_idx_word s.ring m) heads s.base (Some (plan_or plan (plan_of (used_idx_word s.ring m) (words_of s.region m)))) s.done s.cleared (words_of s.region m)
 planned s m heads None fits p =
     let used : ℕ = used_idx_word s.ring m in

@@ -1,6 +1,6 @@
 -- A start of a split queue over its in-flight region: what its first step finds, and its stores, one a step (vhost-user,
 -- "Inflight I/O tracking").
-use Rattle.std.specs.Prelude.{◌≡◌, ◌≤◌, ℕ, ◌+◌, ◌-◌, ◌==◌, ◌&&◌, Bool, nat_lt, nat_le, if◌then◌else◌, List, Option, Some, None, Result, Ok, Err, ⊤}
+use Rattle.std.specs.Prelude.{◌≡◌, ◌≤◌, ℕ, ◌+◌, ◌-◌, ◌==◌, ◌&&◌, Bool, nat_lt, nat_le, if◌then◌else◌, zero, suc, List, [], ◌∷◌, ◌++◌, map, Option, Some, None, Result, Ok, Err, ⊤}
 use Rattle.vub_base.specs.declared.reading.RegionFault.{RegionFault}
 use Rattle.vub_base.specs.declared.reading.RegionFault.TheVariants.{BadBase}
 use Rattle.vub_base.specs.declared.pending.Pending.{Pending}
@@ -62,6 +62,20 @@ abbrev pub step_of : ℕ → Sight → Plan → ℕ → Option SplitStore
 step_of n sight New done = Some (new_step n sight done)
 step_of n sight (Settles count) done = Some (settle_step n sight count done)
 step_of n sight Settled done = None
+
+-- ---- all stores of a plan in their order, where the batch is of these entries, from last_batch_head on along next
+
+-- an entry each from this one on, so many
+abbrev pub free_stores : ℕ → ℕ → List SplitStore
+free_stores entry zero = []
+free_stores entry (suc count) = SI2 entry ∷ free_stores (entry + 1) count
+
+abbrev pub plan_stores : ℕ → ℕ → List ℕ → Plan → List SplitStore
+plan_stores n used entries New = SI1 ∷ (free_stores 0 n ++ (SI3 used ∷ []))
+plan_stores n used entries (Settles count) = map SR1 entries ++ (SR2 used ∷ [])
+plan_stores n used entries Settled = []
+
+-- ---- the tag of a row
 
 abbrev pub tag_of : SplitStore → Tag
 tag_of SI1 = tags.SI1

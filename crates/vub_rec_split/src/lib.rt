@@ -2,6 +2,7 @@
 //! of a start, and its stores one after another.
 #![tactic(auto)]
 
+pub mod laws;
 mod plan;
 mod recovery;
 

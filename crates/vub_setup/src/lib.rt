@@ -4,4 +4,5 @@
 
 mod setup;
 
-pub use setup::{PackedRegion, QueueSetup, Rings, SplitRegion, region_size};
+pub use setup::{PackedRegion, QueueSetup, Rings, region_size};
+pub use vub_infl_split::SplitRegion;

@@ -2,25 +2,15 @@ ghost use Rattle.std.specs.Prelude.{◌≡◌, ◌<◌, ◌^◌};
 ghost use Rattle.vub_setup.specs.Setups as setups;
 
 use vub_base::Space;
+use vub_infl_split::{SplitRegion, layout};
 use vub_packed::PackedRing;
 use vub_split::SplitRing;
 
-/// The bytes of a split queue's region before its entries, and of each entry.
-const SPLIT_REGION_PART: u64 = 16;
-
-/// The same of a packed queue's region.
+/// The bytes of a packed queue's region before its entries, and of each entry.
 const PACKED_REGION_PART: u64 = 32;
 
-/// Where the region of a split queue lies: its space and place in bytes, a multiple of 8, and how many
+/// Where the region of a packed queue lies: its space and place in bytes, a multiple of 8, and how many
 /// descriptors it has entries for.
-#[derive(Clone, Copy, Debug, PartialEq, Eq)]
-pub struct SplitRegion {
-    pub space: Space,
-    pub place: u64,
-    pub size: u16,
-}
-
-/// Where the region of a packed queue lies.
 #[derive(Clone, Copy, Debug, PartialEq, Eq)]
 pub struct PackedRegion {
     pub space: Space,
@@ -55,10 +45,10 @@ pub fn region_size(packed: bool, size: u16) -> u64
     ensures is { result ≡ setups.region_size packed size }
     ensures fits { result < 2 ^ 32 }
 {
-    let part = if packed {
-        PACKED_REGION_PART
+    let entries = u64::from(size);
+    if packed {
+        PACKED_REGION_PART + PACKED_REGION_PART * entries
     } else {
-        SPLIT_REGION_PART
-    };
-    part + part * u64::from(size)
+        layout::DESC + layout::DESC_SIZE * entries
+    }
 }

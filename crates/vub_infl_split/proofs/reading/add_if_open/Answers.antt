@@ -1,4 +1,4 @@
-use Rattle.std.proofs.Common.{◌≡◌, ◌∷◌, ◌++◌, ◌+◌, [], refl, sym, subst, ap, List}
+use Rattle.std.proofs.Common.{◌+◌, refl, sym, subst, ap, List}
 use Rattle.vub_base.specs.Pending.{PendingState}
 use Rattle.vub_base.specs.declared.pending.Pending.{Pending}
 use Rattle.vub_inflight.specs.Entries.{AreEntries}

@@ -1,8 +1,7 @@
 use Rattle.std.proofs.Common.{◌≡◌, ap, sym, ◌∙◌, arith}
-use Rattle.std.specs.Prelude.{None}
 use Rattle.std.proofs.lemmas.Grind.{common_steps}
 use Rattle.vub_base.specs.Pending.{sorted}
-use Rattle.vub_inflight.specs.Entries.{with_counter, same_counter}
+use Rattle.vub_inflight.specs.Entries.{same_counter}
 use Rattle.vub_inflight.specs.Neighbours.{twins}
 use Rattle.vub_inflight.proofs.Twins.{same_counter_twins}
 use Rattle.vub_infl_split.proofs.reading.bad_counter.Goals as goal

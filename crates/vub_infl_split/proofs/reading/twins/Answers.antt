@@ -1,4 +1,4 @@
-use Rattle.std.proofs.Common.{◌≤◌, ap, ◌∙◌, arith}
+use Rattle.std.proofs.Common.{ap, ◌∙◌, arith}
 use Rattle.std.proofs.lemmas.Grind.{common_steps}
 use Rattle.vub_inflight.specs.Neighbours.{earlier}
 use Rattle.vub_inflight.proofs.Twins.{twins_go_on, twins_done}
