@@ -59,7 +59,8 @@ new_in_place n used sight zero same upto = refl
 new_in_place n used sight (suc d) same upto = elim (cases_lt d n) [
   | inl more ↦
       let step : new_step n sight (suc d) ≡ SI2 d = grind (arith, nat_tests) in
-      ap (λ (x : SplitStore). Some x) step ∙ sym (free_at 0 n d (SI3 used ∷ []) more)
+      let on : d ≡ 0 + d = omega arith in
+      ap (λ (x : SplitStore). Some x) step ∙ ap (λ (j : ℕ). Some (SI2 j)) on ∙ sym (free_at 0 n d (SI3 used ∷ []) more)
   | inr past ↦
       let step : new_step n sight (suc d) ≡ SI3 sight.used = grind (arith, nat_tests) in
       let last : n ≡ d = omega (arith, past, upto) in
@@ -79,7 +80,7 @@ settle_in_place n used heads count done cleared sight w same link p =
       | inr past ↦
           let step : settle_step n sight count done ≡ SR2 sight.used = grind (arith, nat_tests) in
           let last : count ≡ done = omega (arith, past, p.upto) in
-          let long : length (map SR1 (links w.next count w.last_batch_head)) ≡ done = length-map SR1 (links w.next count w.last_batch_head) ∙ length-links w.next count w.last_batch_head ∙ last in
+          let long : length (map SR1 (links w.next count w.last_batch_head)) ≡ done = length-map (links w.next count w.last_batch_head) SR1 ∙ length-links w.next count w.last_batch_head ∙ last in
           subst P all (ap (λ (x : SplitStore). Some x) step ∙ ap (λ (v : ℕ). Some (SR2 v)) same ∙ sym (first_behind (map SR1 (links w.next count w.last_batch_head)) [] (SR2 used) done long))
     ]
 
