@@ -19,8 +19,11 @@ use Rattle.vub_infl_split.specs.Readings.{counted, split_entries}
 use Rattle.vub_rec_split.specs.declared.plan.Plan.{Plan}
 use Rattle.vub_rec_split.specs.declared.plan.Plan.TheVariants.{New, Settles, Settled}
 use Rattle.vub_rec_split.specs.Starts.{RecoveryState, Sight, link_after, settles, plan_of, new_step, settle_step, step_of, moved}
-use Rattle.vub_rec_split.specs.Sound.{Sound, Unmade, Left, InNew, InSettling, IsSettled, InStart}
-use Rattle.vub_rec_split.proofs.SoundLemmas.{reading_clear, reading_note, sound_clear, sound_note, sound_new, sound_entries, unmade_entries, left_reads}
+use Rattle.vub_infl_split.specs.Sound.{Sound}
+use Rattle.vub_infl_split.proofs.ReadingLemmas.{reading_clear, reading_note}
+use Rattle.vub_region_facts.specs.Starts.{Unmade, Left, InNew, InSettling, IsSettled}
+use Rattle.vub_rec_split.specs.Stands.{FollowsBatch, InStart}
+use Rattle.vub_rec_split.proofs.SoundLemmas.{sound_clear, sound_note, sound_new, sound_entries, unmade_entries, left_reads}
 
 -- ---- lists
 
@@ -59,7 +62,7 @@ begins n used heads base w fits (inr s) =
           subst (λ (p : Plan). InStart n used heads base (Some p) 0 None w) plan (record { sound = s; noted = same_index used w.used_idx fits s.used_idx_fits none })
       | inr some ↦
           let plan : Settles (ahead used w.used_idx) ≡ plan_of used w = grind (arith, nat_tests) in
-          subst (λ (p : Plan). InStart n used heads base (Some p) 0 None w) plan (record { sound = s; batch = refl; upto = omega arith; link = refl; clear = λ i held. absurd (let fails : false ≡ true = held in cc) })
+          subst (λ (p : Plan). InStart n used heads base (Some p) 0 None w) plan (record { settling = record { sound = s; batch = refl; upto = omega arith; clear = λ i held. absurd (let fails : false ≡ true = held in cc) }; link = refl })
     ]
 
 -- ---- a later one
@@ -70,9 +73,9 @@ pub record Kept (n used : ℕ) (heads : List ℕ) (base : ℕ) (s : RecoveryStat
   pub entries : split_entries n used w' ≡ split_entries n used w
 
 -- the next link of a batch is one of its entries
-pub next_held : (n used : ℕ) (heads : List ℕ) (count done : ℕ) (cleared : Option ℕ) (w : RegionWords) → done < count → InSettling n used heads count done cleared w → is_among (counted used w) (link_after cleared w) ≡ true
+pub next_held : (n used : ℕ) (heads : List ℕ) (count done : ℕ) (cleared : Option ℕ) (w : RegionWords) → done < count → FollowsBatch n used heads count done cleared w → is_among (counted used w) (link_after cleared w) ≡ true
 next_held n used heads count done cleared w more p =
-    let all : counted used w ≡ links w.next count w.last_batch_head = ap (λ (k : ℕ). links w.next k w.last_batch_head) p.batch in
+    let all : counted used w ≡ links w.next count w.last_batch_head = ap (λ (k : ℕ). links w.next k w.last_batch_head) p.settling.batch in
     ap (λ (xs : List ℕ). is_among xs (link_after cleared w)) all ∙ ap (is_among (links w.next count w.last_batch_head)) p.link ∙ among_links w.next done count w.last_batch_head more
 
 new_kept : (n used : ℕ) (heads : List ℕ) (base : ℕ) (s : RecoveryState) (sight : Sight) (w : RegionWords) → used < 65536 → sight.used ≡ used → InNew n used heads base s.done w
@@ -112,44 +115,46 @@ new_kept n used heads base s sight w fits same p =
       ]
     ]
 
-settle_kept : (n used : ℕ) (heads : List ℕ) (base : ℕ) (s : RecoveryState) (count : ℕ) (sight : Sight) (w : RegionWords) → used < 65536 → sight.used ≡ used → sight.link ≡ link_after s.cleared w → InSettling n used heads count s.done s.cleared w
+settle_kept : (n used : ℕ) (heads : List ℕ) (base : ℕ) (s : RecoveryState) (count : ℕ) (sight : Sight) (w : RegionWords) → used < 65536 → sight.used ≡ used → sight.link ≡ link_after s.cleared w → FollowsBatch n used heads count s.done s.cleared w
     → Kept n used heads base (moved (settle_step n sight count s.done) (record s { plan = Some (Settles count) })) w (words_after n (settle_step n sight count s.done) w)
 settle_kept n used heads base s count sight w fits same link p =
     let P : SplitStore → Type 0 = λ step. Kept n used heads base (moved step (record s { plan = Some (Settles count) })) w (words_after n step w) in
-    let all : counted used w ≡ links w.next count w.last_batch_head = ap (λ (k : ℕ). links w.next k w.last_batch_head) p.batch in
+    let all : counted used w ≡ links w.next count w.last_batch_head = ap (λ (k : ℕ). links w.next k w.last_batch_head) p.settling.batch in
     elim (cases_lt s.done count) [
       | inl more ↦
           let e : ℕ = sight.link in
           let at : sight.link ≡ link_at w.next s.done w.last_batch_head = link ∙ p.link in
           let held : is_among (counted used w) sight.link ≡ true = ap (is_among (counted used w)) link ∙ next_held n used heads count s.done s.cleared w more p in
-          let low : sight.link < n = below_among n (counted used w) sight.link p.sound.within held in
+          let low : sight.link < n = below_among n (counted used w) sight.link p.settling.sound.within held in
           let step : SR1 sight.link ≡ settle_step n sight count s.done = grind (arith, nat_tests) in
-          let s' : Sound n used heads (words_after n (SR1 sight.link) w) = sound_clear n used heads w sight.link held p.sound in
+          let s' : Sound n used heads (words_after n (SR1 sight.link) w) = sound_clear n used heads w sight.link held p.settling.sound in
           let front : links w.next (s.done + 1) w.last_batch_head ≡ links w.next s.done w.last_batch_head ++ sight.link ∷ [] = links_go_on w.next s.done (s.done + 1) sight.link w.last_batch_head refl at in
           subst P step (record {
             in_start = record {
-              sound = s';
-              batch = p.batch;
+              settling = record {
+                sound = s';
+                batch = p.settling.batch;
               upto = omega (arith, more);
-              link = link_goes_on w.next s.done (s.done + 1) sight.link (w.next sight.link) w.last_batch_head refl at refl;
               clear = λ i among.
               let joined : is_among (links w.next s.done w.last_batch_head ++ sight.link ∷ []) i ≡ (is_among (links w.next s.done w.last_batch_head) i || is_among (sight.link ∷ []) i) = is_among_append (links w.next s.done w.last_batch_head) (sight.link ∷ []) i in
               let here : is_among (links w.next s.done w.last_batch_head ++ sight.link ∷ []) i ≡ true = ap (λ (xs : List ℕ). is_among xs i) (sym front) ∙ among in
-              let before : is_among (links w.next s.done w.last_batch_head) i ≡ true → w.inflight i ≡ 0 = p.clear i in
+              let before : is_among (links w.next s.done w.last_batch_head) i ≡ true → w.inflight i ≡ 0 = p.settling.clear i in
               grind (arith, nat_tests);
+              };
+              link = link_goes_on w.next s.done (s.done + 1) sight.link (w.next sight.link) w.last_batch_head refl at refl;
             };
-            entries = sound_entries n used heads (words_after n (SR1 sight.link) w) s' ∙ reading_clear n used w sight.link held ∙ sym (sound_entries n used heads w p.sound);
+            entries = sound_entries n used heads (words_after n (SR1 sight.link) w) s' ∙ reading_clear n used w sight.link held ∙ sym (sound_entries n used heads w p.settling.sound);
           })
       | inr past ↦
           let step : SR2 sight.used ≡ settle_step n sight count s.done = grind (arith, nat_tests) in
-          let last : s.done ≡ count = omega (arith, past, p.upto) in
+          let last : s.done ≡ count = omega (arith, past, p.settling.upto) in
           let clear : (i : ℕ) → is_among (counted used w) i ≡ true → w.inflight i ≡ 0 =
-          λ i held. p.clear i (ap (λ (k : ℕ). is_among (links w.next k w.last_batch_head) i) last ∙ ap (λ (xs : List ℕ). is_among xs i) (sym all) ∙ held) in
-          let s' : Sound n used heads (words_after n (SR2 used) w) = sound_note n used heads w fits clear p.sound in
+          λ i held. p.settling.clear i (ap (λ (k : ℕ). is_among (links w.next k w.last_batch_head) i) last ∙ ap (λ (xs : List ℕ). is_among xs i) (sym all) ∙ held) in
+          let s' : Sound n used heads (words_after n (SR2 used) w) = sound_note n used heads w fits clear p.settling.sound in
           let Q : ℕ → Type 0 = λ v. P (SR2 v) in
           subst P step (subst Q (sym same) (record {
             in_start = record { sound = s'; noted = refl };
-            entries = sound_entries n used heads (words_after n (SR2 used) w) s' ∙ reading_note n used w fits clear ∙ sym (sound_entries n used heads w p.sound);
+            entries = sound_entries n used heads (words_after n (SR2 used) w) s' ∙ reading_note n used w fits clear ∙ sym (sound_entries n used heads w p.settling.sound);
           }))
     ]
 
@@ -198,5 +203,5 @@ step_fits n sight Settled done step fits is = absurd (let fails : ◌≡◌ {A =
 pub start_left : (n used : ℕ) (heads : List ℕ) (base : ℕ) (plan : Option Plan) (done : ℕ) (cleared : Option ℕ) (w : RegionWords) → InStart n used heads base plan done cleared w → Left n used heads base w
 start_left n used heads base None done cleared w p = p.left
 start_left n used heads base (Some New) done cleared w p = inl p.unmade
-start_left n used heads base (Some (Settles count)) done cleared w p = inr p.sound
+start_left n used heads base (Some (Settles count)) done cleared w p = inr p.settling.sound
 start_left n used heads base (Some Settled) done cleared w p = inr p.sound

@@ -17,7 +17,8 @@ use Rattle.vub_infl_split.specs.Readings.{counted}
 use Rattle.vub_rec_split.specs.declared.plan.Plan.{Plan}
 use Rattle.vub_rec_split.specs.declared.plan.Plan.TheVariants.{New, Settles, Settled}
 use Rattle.vub_rec_split.specs.Starts.{RecoveryState, Sight, link_after, new_step, settle_step, step_of, free_stores, plan_stores, unless_fault, fault_in, plan_in, sight_in, due_in}
-use Rattle.vub_rec_split.specs.Sound.{InNew, InSettling, InStart, StandsAt}
+use Rattle.vub_region_facts.specs.Starts.{InNew}
+use Rattle.vub_rec_split.specs.Stands.{FollowsBatch, InStart, StandsAt}
 use Rattle.vub_rec_split.proofs.PlanSteps.{below_among, next_held}
 use Rattle.vub_rec_split.proofs.StandLemmas.{stands_fine, planned}
 
@@ -67,19 +68,19 @@ new_in_place n used sight (suc d) same upto = elim (cases_lt d n) [
       ap (λ (x : SplitStore). Some x) step ∙ ap (λ (v : ℕ). Some (SI3 v)) same ∙ sym (first_behind (free_stores 0 n) [] (SI3 used) d (length_free 0 n ∙ last))
 ]
 
-settle_in_place : (n used : ℕ) (heads : List ℕ) (count done : ℕ) (cleared : Option ℕ) (sight : Sight) (w : RegionWords) → sight.used ≡ used → sight.link ≡ link_after cleared w → InSettling n used heads count done cleared w
+settle_in_place : (n used : ℕ) (heads : List ℕ) (count done : ℕ) (cleared : Option ℕ) (sight : Sight) (w : RegionWords) → sight.used ≡ used → sight.link ≡ link_after cleared w → FollowsBatch n used heads count done cleared w
     → Some (settle_step n sight count done) ≡ slice_get (map SR1 (counted used w) ++ (SR2 used ∷ [])) done
 settle_in_place n used heads count done cleared sight w same link p =
-    let all : links w.next count w.last_batch_head ≡ counted used w = ap (λ (k : ℕ). links w.next k w.last_batch_head) (sym p.batch) in
+    let all : links w.next count w.last_batch_head ≡ counted used w = ap (λ (k : ℕ). links w.next k w.last_batch_head) (sym p.settling.batch) in
     let P : List ℕ → Type 0 = λ xs. Some (settle_step n sight count done) ≡ slice_get (map SR1 xs ++ (SR2 used ∷ [])) done in
     elim (cases_lt done count) [
       | inl more ↦
-          let low : sight.link < n = below_among n (counted used w) sight.link p.sound.within (ap (is_among (counted used w)) link ∙ next_held n used heads count done cleared w more p) in
+          let low : sight.link < n = below_among n (counted used w) sight.link p.settling.sound.within (ap (is_among (counted used w)) link ∙ next_held n used heads count done cleared w more p) in
           let step : settle_step n sight count done ≡ SR1 sight.link = grind (arith, nat_tests) in
           subst P all (ap (λ (x : SplitStore). Some x) step ∙ ap (λ (e : ℕ). Some (SR1 e)) (link ∙ p.link) ∙ sym (link_stored w.next count w.last_batch_head done (SR2 used ∷ []) more))
       | inr past ↦
           let step : settle_step n sight count done ≡ SR2 sight.used = grind (arith, nat_tests) in
-          let last : count ≡ done = omega (arith, past, p.upto) in
+          let last : count ≡ done = omega (arith, past, p.settling.upto) in
           let long : length (map SR1 (links w.next count w.last_batch_head)) ≡ done = length-map (links w.next count w.last_batch_head) SR1 ∙ length-links w.next count w.last_batch_head ∙ last in
           subst P all (ap (λ (x : SplitStore). Some x) step ∙ ap (λ (v : ℕ). Some (SR2 v)) same ∙ sym (first_behind (map SR1 (links w.next count w.last_batch_head)) [] (SR2 used) done long))
     ]

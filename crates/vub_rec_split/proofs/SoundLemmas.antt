@@ -10,7 +10,7 @@ use Rattle.vub_base.specs.declared.pending.Pending.{Pending}
 use Rattle.vub_base.specs.declared.reading.RegionFault.{RegionFault}
 use Rattle.vub_base.specs.declared.reading.RegionFault.TheVariants.{LastCounter, SameCounter}
 use Rattle.vub_base.specs.declared.reading.Reading.{Reading}
-use Rattle.vub_base.specs.declared.reading.Reading.TheVariants.{Uninitialised, Entries}
+use Rattle.vub_base.specs.declared.reading.Reading.TheVariants.{Uninitialised, Entries, Damaged}
 use Rattle.vub_ring.specs.Ring.{ahead}
 use Rattle.vub_device.specs.Past.{is_among}
 use Rattle.vub_device.specs.Places.{are_distinct}
@@ -25,44 +25,15 @@ use Rattle.vub_infl_split.specs.declared.region.SplitStore.TheVariants.{SI3, SR1
 use Rattle.vub_infl_split.specs.Region.{RegionWords}
 use Rattle.vub_infl_split.specs.Stores.{words_after}
 use Rattle.vub_infl_split.specs.Readings.{counted, is_open, one_each, open_by_index, open_entries, bad_counter, last_counter, shared_counter, made_fault, unless_damaged, split_reading, read_list, split_entries}
-use Rattle.vub_infl_split.proofs.ReadingChecks.{counters_left}
+use Rattle.vub_infl_split.proofs.ReadingLemmas.{open_at_rest, reading_clear, reading_note, sound_reads}
 use Rattle.vub_rec_split.specs.Starts.{start_fault}
-use Rattle.vub_rec_split.specs.Sound.{Sound, Unmade, Left}
+use Rattle.vub_infl_split.specs.Sound.{Sound}
+use Rattle.vub_region_facts.specs.Starts.{Unmade, Left}
 
--- ---- what is counted and open where no batch is to be settled
-
-pub ahead_self : (a : ℕ) → a < 65536 → ahead a a ≡ 0
-ahead_self a fits = omega (arith, fits)
-
-pub none_counted : (used : ℕ) (w : RegionWords) → w.used_idx ≡ used → used < 65536 → counted used w ≡ []
+none_counted : (used : ℕ) (w : RegionWords) → w.used_idx ≡ used → used < 65536 → counted used w ≡ []
 none_counted used w same fits =
     let none : ahead used w.used_idx ≡ 0 = omega (arith, same, fits) in
     ap (λ (k : ℕ). links w.next k w.last_batch_head) none
-
-pub open_at_rest : (used : ℕ) (w : RegionWords) (i : ℕ) → w.used_idx ≡ used → used < 65536 → is_open used w i ≡ not (w.inflight i == 0)
-open_at_rest used w i same fits =
-    let none : is_among (counted used w) i ≡ false = ap (λ (xs : List ℕ). is_among xs i) (none_counted used w same fits) in
-    grind (arith, nat_tests)
-
--- ---- what is read after a store
-
--- an entry of the batch is cleared
-pub reading_clear : (n used : ℕ) (w : RegionWords) (i : ℕ) → is_among (counted used w) i ≡ true → open_entries n used (words_after n (SR1 i) w) ≡ open_entries n used w
-reading_clear n used w i held = by_counter_agree w.counter w.counter one_each (is_open used (words_after n (SR1 i) w)) (is_open used w) n
-    (λ j l. elim (cases_eq j i) [
-      | inl same ↦ let at_j : is_among (counted used w) j ≡ true = ap (λ (k : ℕ). is_among (counted used w) k) same ∙ held in grind (arith, nat_tests)
-      | inr apart ↦ grind (arith, nat_tests)
-    ])
-    (λ j l t. refl)
-
--- the batch is noted once its entries are cleared
-pub reading_note : (n used : ℕ) (w : RegionWords) → used < 65536 → ((i : ℕ) → is_among (counted used w) i ≡ true → w.inflight i ≡ 0) → open_entries n used (words_after n (SR2 used) w) ≡ open_entries n used w
-reading_note n used w fits clear = by_counter_agree w.counter w.counter one_each (is_open used (words_after n (SR2 used) w)) (is_open used w) n
-    (λ j l.
-    let rest : is_open used (words_after n (SR2 used) w) j ≡ not (w.inflight j == 0) = open_at_rest used (words_after n (SR2 used) w) j refl fits in
-    let here : is_among (counted used w) j ≡ true → w.inflight j ≡ 0 = clear j in
-    grind (arith, nat_tests))
-    (λ j l t. refl)
 
 -- ---- a sound region
 
@@ -74,14 +45,14 @@ sound_at_rest n used heads w entries version desc_num last noted fits same reads
     let no_way : ahead used w.used_idx ≡ 0 = omega (arith, noted, fits) in
     record {
       version = version;
-      desc_num = desc_num;
+      count = desc_num;
       few = omega (arith, no_way);
       distinct = ap are_distinct none;
       within = subst (λ (xs : List ℕ). AllByRecursion (λ (x : ℕ). x < n) xs) (sym none) tt;
       reads = ap heads_of same ∙ reads;
-      rise = subst (λ (es : List Pending). CountersRise es) (sym same) rise;
+      rising = subst (λ (es : List Pending). CountersRise es) (sym same) rise;
       low = subst (λ (es : List Pending). CountersBelow 18446744073709551615 es) (sym same) low;
-      last_batch_head_fits = last;
+      last_fits = last;
       used_idx_fits = omega (arith, noted, fits);
     }
 
@@ -90,20 +61,20 @@ sound_clear n used heads w i held s =
     let same : open_entries n used (words_after n (SR1 i) w) ≡ open_entries n used w = reading_clear n used w i held in
     record {
       version = s.version;
-      desc_num = s.desc_num;
+      count = s.count;
       few = s.few;
       distinct = s.distinct;
       within = s.within;
       reads = ap heads_of same ∙ s.reads;
-      rise = subst (λ (es : List Pending). CountersRise es) (sym same) s.rise;
+      rising = subst (λ (es : List Pending). CountersRise es) (sym same) s.rising;
       low = subst (λ (es : List Pending). CountersBelow 18446744073709551615 es) (sym same) s.low;
-      last_batch_head_fits = s.last_batch_head_fits;
+      last_fits = s.last_fits;
       used_idx_fits = s.used_idx_fits;
     }
 
 pub sound_note : (n used : ℕ) (heads : List ℕ) (w : RegionWords) → used < 65536 → ((i : ℕ) → is_among (counted used w) i ≡ true → w.inflight i ≡ 0) → Sound n used heads w → Sound n used heads (words_after n (SR2 used) w)
 sound_note n used heads w fits clear s =
-    sound_at_rest n used heads (words_after n (SR2 used) w) (open_entries n used w) s.version s.desc_num s.last_batch_head_fits refl fits (reading_note n used w fits clear) s.reads s.rise s.low
+    sound_at_rest n used heads (words_after n (SR2 used) w) (open_entries n used w) s.version s.count s.last_fits refl fits (reading_note n used w fits clear) s.reads s.rising s.low
 
 -- ---- a new region
 
@@ -122,22 +93,18 @@ sound_new n used w fits freed =
 
 -- ---- what is read
 
-pub sound_fine : (n used : ℕ) (heads : List ℕ) (w : RegionWords) → Sound n used heads w → made_fault n used w ≡ None
-sound_fine n used heads w s =
-    let links_fine : first_bad n [] (counted used w) ≡ None = no_bad n [] (counted used w) s.distinct s.within (λ i held. refl) in
-    let below : CountersBelow 18446744073709551615 (open_by_index n used w) = sorted_all (λ (e : Pending). e.counter < 18446744073709551615) (open_by_index n used w) s.low in
-    let last : with_counter 18446744073709551615 (open_by_index n used w) ≡ None = none_with 18446744073709551615 (open_by_index n used w) below in
-    let twice : same_counter (open_by_index n used w) ≡ None = same_counter_twins w.counter one_each (is_open used w) n ∙ no_twins (open_entries n used w) s.rise in
-    let none_last : last_counter (open_by_index n used w) ≡ None = ap (λ (o : Option ℕ). option_map (λ (i : ℕ). LastCounter i) o) last in
-    let none_shared : shared_counter (open_by_index n used w) ≡ None = ap (λ (o : Option (ℕ × ℕ)). option_map (λ (pair : ℕ × ℕ). SameCounter pair.0 pair.1) o) twice in
-    counters_left n used w s.version s.desc_num s.few links_fine ∙ ap (λ (o : Option RegionFault). option_or o (shared_counter (open_by_index n used w))) none_last ∙ none_shared
-
 pub sound_entries : (n used : ℕ) (heads : List ℕ) (w : RegionWords) → Sound n used heads w → split_entries n used w ≡ open_entries n used w
-sound_entries n used heads w s =
+sound_entries n used heads w s = ap (λ (r : Reading). read_list r (open_entries n used w)) (sound_reads n used heads w s)
+
+fine_unless : (fault : Option RegionFault) → unless_damaged fault ≡ Entries → fault ≡ None
+fine_unless None e = refl
+fine_unless (Some fault) e = absurd (let fails : Damaged fault ≡ Entries = e in cc)
+
+sound_fine : (n used : ℕ) (heads : List ℕ) (w : RegionWords) → Sound n used heads w → made_fault n used w ≡ None
+sound_fine n used heads w s =
     let version : w.version ≡ 1 = s.version in
     let made : split_reading n used w ≡ unless_damaged (made_fault n used w) = grind (arith, nat_tests) in
-    let entries : split_reading n used w ≡ Entries = made ∙ ap unless_damaged (sound_fine n used heads w s) in
-    ap (λ (r : Reading). read_list r (open_entries n used w)) entries
+    fine_unless (made_fault n used w) (sym made ∙ sound_reads n used heads w s)
 
 pub unmade_entries : (n used : ℕ) (w : RegionWords) → w.version ≡ 0 → split_entries n used w ≡ []
 unmade_entries n used w version =

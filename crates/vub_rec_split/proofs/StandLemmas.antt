@@ -24,7 +24,7 @@ use Rattle.vub_rec_split.specs.declared.plan.Plan.TheVariants.{New, Settles, Set
 use Rattle.vub_rec_split.specs.declared.plan.Recovered.{Recovered}
 use Rattle.vub_rec_split.specs.declared.plan.Recovered.TheVariants as recovered
 use Rattle.vub_rec_split.specs.Starts.{RecoveryState, tag_of, answered, answer_in, MakesStep, new_step, settle_step, step_of, unless_fault, fault_in, plan_in, plan_or, plan_of, start_fault, sight_in, due_in, moved, gone_on, state_after, memory_after, entries_in}
-use Rattle.vub_rec_split.specs.Sound.{InStart, IsApart, LeftAt, StandsAt, Keeps}
+use Rattle.vub_rec_split.specs.Stands.{InStart, IsApart, LeftAt, StandsAt, Keeps}
 use Rattle.vub_rec_split.proofs.SoundLemmas.{left_fine, left_reads}
 use Rattle.vub_rec_split.proofs.PlanSteps.{Kept, begins, plan_kept, step_fits, start_left}
 

@@ -4,7 +4,7 @@ ghost use Rattle.vub_shared.specs.Bytes.{Bytes};
 ghost use Rattle.vub_split.specs.Split.{used_idx_word};
 ghost use Rattle.vub_infl_split.specs.Region.{words_of};
 ghost use Rattle.vub_infl_split.specs.Readings.{counted};
-ghost use Rattle.vub_rec_split.specs.Sound.{StandsAt};
+ghost use Rattle.vub_rec_split.specs.Stands.{StandsAt};
 ghost use Rattle.vub_rec_split.specs.Starts.{RecoveryState, due_in, plan_in, plan_stores};
 
 /// Where a recovery finds no more than a life can leave, its next step is the next one of its plan's

@@ -12,7 +12,7 @@ ghost use Rattle.vub_infl_split.specs.Region.{words_of};
 ghost use Rattle.vub_infl_split.specs.Stores.{store_of, NamesEntry};
 ghost use Rattle.vub_rec_split.specs.declared.plan.Found.TheVariants.{Nothing};
 ghost use Rattle.vub_rec_split.specs.declared.plan.Recovered.TheVariants as recovered;
-ghost use Rattle.vub_rec_split.specs.Sound.{LeftAt, StandsAt};
+ghost use Rattle.vub_rec_split.specs.Stands.{LeftAt, StandsAt};
 ghost use Rattle.vub_rec_split.specs.Starts as starts;
 ghost use Rattle.vub_rec_split.specs.Starts.{start_fault, plan_of, plan_in, sight_in, step_of, settle_step, fault_in, due_in, answer_in, state_after, moved, StartLies, PlanFits, StepFits, outcome, MakesStep, entries_in, found_in, FoundFits};
 
