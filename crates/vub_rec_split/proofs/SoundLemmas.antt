@@ -1,5 +1,6 @@
 -- What the stores of a start leave of a sound region, and what is read of it.
-use Rattle.std.proofs.Common.{◌≡◌, ◌≤◌, ◌<◌, ℕ, zero, suc, ◌+◌, true, false, not, List, [], ◌∷◌, refl, ap, sym, ◌∙◌, subst, inl, inr, arith}
+use Rattle.std.proofs.Math.Nat.{min-eq_left}
+use Rattle.std.proofs.Common.{◌≡◌, ◌≤◌, ◌<◌, ℕ, zero, suc, min, ◌+◌, true, false, not, List, [], ◌∷◌, refl, ap, sym, ◌∙◌, subst, inl, inr, arith}
 use Rattle.std.specs.Prelude.{◌&&◌, ◌==◌, Bool, Option, Some, None}
 use Rattle.std.specs.Option.{option_map, option_or}
 use Rattle.std.specs.List.{AllByRecursion}
@@ -14,17 +15,17 @@ use Rattle.vub_base.specs.declared.reading.Reading.TheVariants.{Uninitialised, E
 use Rattle.vub_ring.specs.Ring.{ahead}
 use Rattle.vub_device.specs.Past.{is_among}
 use Rattle.vub_device.specs.Places.{are_distinct}
-use Rattle.vub_inflight.specs.Entries.{heads_of, CountersRise, CountersBelow, with_counter, same_counter}
-use Rattle.vub_inflight.specs.Links.{links, first_bad}
+use Rattle.vub_inflight.specs.Entries.{heads_of, by_counter, CountersRise, CountersBelow}
+use Rattle.vub_inflight.specs.Links.{links, links_within}
 use Rattle.vub_inflight.proofs.Each.{sorted_all}
 use Rattle.vub_inflight.proofs.EntryLemmas.{by_counter_agree}
-use Rattle.vub_inflight.proofs.LinkLemmas.{no_bad}
+use Rattle.vub_inflight.proofs.LinkLemmas.{links_all_within}
 use Rattle.vub_inflight.proofs.CounterLemmas.{none_with}
 use Rattle.vub_inflight.proofs.Twins.{same_counter_twins, no_twins}
 use Rattle.vub_infl_split.specs.declared.region.SplitStore.TheVariants.{SI3, SR1, SR2}
 use Rattle.vub_infl_split.specs.Region.{RegionWords}
 use Rattle.vub_infl_split.specs.Stores.{words_after}
-use Rattle.vub_infl_split.specs.Readings.{counted, is_open, one_each, open_by_index, open_entries, bad_counter, last_counter, shared_counter, made_fault, unless_damaged, split_reading, read_list, split_entries}
+use Rattle.vub_infl_split.specs.Readings.{counted, in_flight_but, counted_within, unchecked_entries, is_open, one_each, open_by_index, open_entries, bad_counter, last_counter, shared_counter, made_fault, unless_damaged, split_reading, read_list, split_entries}
 use Rattle.vub_infl_split.proofs.ReadingLemmas.{open_at_rest, reading_clear, reading_note, sound_reads}
 use Rattle.vub_rec_split.specs.Starts.{start_fault}
 use Rattle.vub_infl_split.specs.Sound.{Sound}
@@ -95,6 +96,14 @@ sound_new n used w fits freed =
 
 pub sound_entries : (n used : ℕ) (heads : List ℕ) (w : RegionWords) → Sound n used heads w → split_entries n used w ≡ open_entries n used w
 sound_entries n used heads w s = ap (λ (r : Reading). read_list r (open_entries n used w)) (sound_reads n used heads w s)
+
+-- with no check its open entries are the same
+pub sound_unchecked : (n used : ℕ) (heads : List ℕ) (w : RegionWords) → Sound n used heads w → unchecked_entries n used w ≡ open_entries n used w
+sound_unchecked n used heads w s =
+    let few : ahead used w.used_idx ≤ n = s.few in
+    let count : min (ahead used w.used_idx) n ≡ ahead used w.used_idx = min-eq_left few in
+    let batch : counted_within n used w ≡ counted used w = ap (λ (k : ℕ). links_within n w.next k w.last_batch_head) count ∙ links_all_within n w.next (ahead used w.used_idx) w.last_batch_head s.within in
+    ap (λ (xs : List ℕ). by_counter w.counter one_each (in_flight_but xs w) n) batch
 
 fine_unless : (fault : Option RegionFault) → unless_damaged fault ≡ Entries → fault ≡ None
 fine_unless None e = refl

@@ -23,9 +23,10 @@ use Rattle.vub_rec_split.specs.declared.plan.Plan.{Plan}
 use Rattle.vub_rec_split.specs.declared.plan.Plan.TheVariants.{New, Settles, Settled}
 use Rattle.vub_rec_split.specs.declared.plan.Recovered.{Recovered}
 use Rattle.vub_rec_split.specs.declared.plan.Recovered.TheVariants as recovered
-use Rattle.vub_rec_split.specs.Starts.{RecoveryState, tag_of, answered, answer_in, MakesStep, new_step, settle_step, step_of, unless_fault, fault_in, plan_in, plan_or, plan_of, start_fault, sight_in, due_in, moved, gone_on, state_after, memory_after, entries_in}
+use Rattle.vub_rec_split.specs.Starts.{RecoveryState, tag_of, answered, answer_in, MakesStep, new_step, settle_step, step_of, unless_fault, fault_in, plan_in, plan_or, plan_of, start_fault, sight_in, due_in, moved, gone_on, state_after, memory_after, entries_in, unchecked_in, Sight}
 use Rattle.vub_rec_split.specs.Stands.{InStart, IsApart, LeftAt, StandsAt, Keeps}
-use Rattle.vub_rec_split.proofs.SoundLemmas.{left_fine, left_reads}
+use Rattle.vub_infl_split.specs.Sound.{Sound}
+use Rattle.vub_rec_split.proofs.SoundLemmas.{left_fine, left_reads, sound_entries, sound_unchecked}
 use Rattle.vub_rec_split.proofs.PlanSteps.{Kept, begins, plan_kept, step_fits, start_left}
 
 -- ---- used.idx
@@ -177,3 +178,27 @@ stands_undamaged s m heads result fault p answers damaged =
     never : (due : Option SplitStore) → recovered.Damaged fault ≢ answered None due
     never None is = let fails : recovered.Damaged fault ≡ recovered.Done = is in cc
     never (Some step) is = let fails : recovered.Damaged fault ≡ recovered.Stored (tag_of step) = is in cc
+
+-- ---- where no store is left
+
+settled_sound : (n used : ℕ) (heads : List ℕ) (base : ℕ) (plan : Plan) (done : ℕ) (cleared : Option ℕ) (sight : Sight) (w : RegionWords) → InStart n used heads base (Some plan) done cleared w → step_of n sight plan done ≡ None → Sound n used heads w
+settled_sound n used heads base New done cleared sight w p none = absurd (let fails : ◌≡◌ {A = Option SplitStore} (Some (new_step n sight done)) None = none in cc)
+settled_sound n used heads base (Settles count) done cleared sight w p none = absurd (let fails : ◌≡◌ {A = Option SplitStore} (Some (settle_step n sight count done)) None = none in cc)
+settled_sound n used heads base Settled done cleared sight w p none = p.sound
+
+none_due : (due : Option SplitStore) → recovered.Done ≡ answered None due → due ≡ None
+none_due None is = refl
+none_due (Some step) is = absurd (let fails : recovered.Done ≡ recovered.Stored (tag_of step) = is in cc)
+
+-- the open entries are those that are read
+pub done_reads : (s : RecoveryState) (m : Bytes) (heads : List ℕ) (result : Recovered) → ((t q : ℕ) → m t q < 256) → StandsAt heads s m → (result ≢ recovered.Failed → result ≡ answer_in s m) → result ≡ recovered.Done → unchecked_in s m ≡ entries_in s m
+done_reads s m heads result fits p answers is_done =
+    let n : ℕ = s.region.size in
+    let used : ℕ = used_idx_word s.ring m in
+    let w : RegionWords = words_of s.region m in
+    let none : fault_in s m ≡ None = stands_fine s m heads p in
+    let fine : result ≢ recovered.Failed = λ failed. let fails : recovered.Done ≡ recovered.Failed = sym is_done ∙ failed in cc in
+    let answer : recovered.Done ≡ answered None (due_in s m) = sym is_done ∙ answers fine ∙ ap (λ (f : Option RegionFault). answered f (due_in s m)) none in
+    let due : step_of n (sight_in s m) (plan_in s m) s.done ≡ None = sym (ap (λ (f : Option RegionFault). unless_fault f (step_of n (sight_in s m) (plan_in s m) s.done)) none) ∙ none_due (due_in s m) answer in
+    let sound : Sound n used heads w = settled_sound n used heads s.base (plan_in s m) s.done s.cleared (sight_in s m) w (planned s m heads s.plan fits p.in_start) due in
+    sound_unchecked n used heads w sound ∙ sym (sound_entries n used heads w sound)

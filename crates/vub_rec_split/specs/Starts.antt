@@ -1,6 +1,6 @@
 -- A start of a split queue over its in-flight region: what its first step finds, and its stores, one a step (vhost-user,
 -- "Inflight I/O tracking").
-use Rattle.std.specs.Prelude.{◌≡◌, ◌≤◌, ℕ, ◌+◌, ◌-◌, ◌==◌, ◌&&◌, Bool, nat_lt, nat_le, if◌then◌else◌, zero, suc, List, [], ◌∷◌, ◌++◌, map, Option, Some, None, Result, Ok, Err, ⊤}
+use Rattle.std.specs.Prelude.{◌≡◌, ◌<◌, ◌≤◌, ℕ, ◌+◌, ◌-◌, ◌==◌, ◌&&◌, Bool, nat_lt, nat_le, if◌then◌else◌, zero, suc, List, [], ◌∷◌, ◌++◌, map, Option, Some, None, Result, Ok, Err, ⊤}
 use Rattle.vub_base.specs.declared.reading.RegionFault.{RegionFault}
 use Rattle.vub_base.specs.declared.reading.RegionFault.TheVariants.{BadBase}
 use Rattle.vub_base.specs.declared.pending.Pending.{Pending}
@@ -18,7 +18,7 @@ use Rattle.vub_infl_split.specs.declared.region.SplitStore.{SplitStore}
 use Rattle.vub_infl_split.specs.declared.region.SplitStore.TheVariants.{SI1, SI2, SI3, SR1, SR2, SF1, SF2, SP3, SP4, SP6, SP7}
 use Rattle.vub_infl_split.specs.Region.{RegionWords, RegionLies, words_of}
 use Rattle.vub_infl_split.specs.Stores.{store_of, NamesEntry}
-use Rattle.vub_infl_split.specs.Readings.{made_fault, split_entries}
+use Rattle.vub_infl_split.specs.Readings.{made_fault, split_entries, unchecked_entries}
 use Rattle.vub_rec_split.specs.declared.plan.Plan.{Plan}
 use Rattle.vub_rec_split.specs.declared.plan.Plan.TheVariants.{New, Settles, Settled}
 use Rattle.vub_rec_split.specs.declared.plan.Found.{Found}
@@ -178,17 +178,26 @@ pub record StartLies (sizes : ℕ → ℕ) (s : RecoveryState) : Type 0 where
   pub region : RegionLies sizes s.region
   pub same_size : s.region.size ≡ s.ring.size
 
--- no batch of more entries than there are is followed
-abbrev pub PlanFits : ℕ → Option Plan → Type 0
-PlanFits n (Some (Settles count)) = count ≤ n
-PlanFits n plan = ⊤
+-- how many stores it makes at most, of a queue of n descriptors
+abbrev pub stores_left : ℕ → Option Plan → ℕ → ℕ
+stores_left n None done = n + 2
+stores_left n (Some New) done = n + 2 - done
+stores_left n (Some (Settles count)) done = count + 1 - done
+stores_left n (Some Settled) done = 0
 
--- a step that isn't the last of its plan has a place for the next one
-abbrev pub StepFits : ℕ → ℕ → SplitStore → Type 0
-StepFits n done SI1 = done ≤ n
-StepFits n done (SI2 i) = done ≤ n
-StepFits n done (SR1 i) = done ≤ n
-StepFits n done step = ⊤
+-- no batch of more entries than there are is followed, and no step is made twice
+abbrev pub PlanFits : ℕ → Option Plan → ℕ → Type 0
+PlanFits n None done = done ≡ 0
+PlanFits n (Some New) done = done ≤ n + 1
+PlanFits n (Some (Settles count)) done = (count ≤ n) × (done ≤ count)
+PlanFits n (Some Settled) done = ⊤
+
+-- a step that isn't the last of its plan leaves another one
+abbrev pub StepFits : ℕ → Plan → ℕ → SplitStore → Type 0
+StepFits n plan done SI1 = 1 < stores_left n (Some plan) done
+StepFits n plan done (SI2 i) = 1 < stores_left n (Some plan) done
+StepFits n plan done (SR1 i) = 1 < stores_left n (Some plan) done
+StepFits n plan done step = 0 < stores_left n (Some plan) done
 
 abbrev pub outcome : Recovered → Result ⊤ ⊤
 outcome Failed = Err tt
@@ -204,9 +213,12 @@ abbrev pub memory_after : SplitRegion → Option SplitStore → Bytes → Bytes
 memory_after region None m = m
 memory_after region (Some step) m = after_store (store_of region step) m
 
--- the open entries as the region says them then
+-- what is read of the region, and what the last step takes from it, with no check
 abbrev pub entries_in : RecoveryState → Bytes → List Pending
 entries_in s m = split_entries s.region.size (used_idx_word s.ring m) (words_of s.region m)
+
+abbrev pub unchecked_in : RecoveryState → Bytes → List Pending
+unchecked_in s m = unchecked_entries s.region.size (used_idx_word s.ring m) (words_of s.region m)
 
 -- ---- what is to be done, before it is done
 
@@ -218,9 +230,15 @@ found None None plan = finds.Nothing
 abbrev pub found_in : RecoveryState → Bytes → Found
 found_in s m = found (fault_in s m) (due_in s m) (plan_in s m)
 
--- over any memory: a store within the region
+-- over any memory: a store within the region, and a plan that makes no more stores than are left
+pub record StoreFits (s : RecoveryState) (plan : Plan) (step : SplitStore) : Type 0 where
+  pub plan_fits : PlanFits s.region.size (Some plan) s.done
+  pub within : NamesEntry s.region.size step
+  pub step_fits : StepFits s.region.size plan s.done step
+  pub no_more : stores_left s.region.size (Some plan) s.done ≤ stores_left s.region.size s.plan s.done
+
 abbrev pub FoundFits : RecoveryState → Found → Type 0
-FoundFits s (finds.Store plan step) = PlanFits s.region.size (Some plan) × NamesEntry s.region.size step × StepFits s.region.size s.done step
+FoundFits s (finds.Store plan step) = StoreFits s plan step
 FoundFits s found = ⊤
 
 -- the plan, or why there is none

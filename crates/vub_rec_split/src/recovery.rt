@@ -10,11 +10,13 @@ ghost use Rattle.vub_inflight.specs.Entries.{AreEntries, heads_of};
 ghost use Rattle.vub_infl_split.specs.declared.region.SplitStore.{SplitStore};
 ghost use Rattle.vub_infl_split.specs.Region.{words_of};
 ghost use Rattle.vub_infl_split.specs.Stores.{store_of, NamesEntry};
+ghost use Rattle.vub_rec_split.specs.declared.plan.Plan.TheVariants.{Settles};
+ghost use Rattle.vub_base.specs.declared.store.Tag.{Tag};
 ghost use Rattle.vub_rec_split.specs.declared.plan.Found.TheVariants.{Nothing};
 ghost use Rattle.vub_rec_split.specs.declared.plan.Recovered.TheVariants as recovered;
 ghost use Rattle.vub_rec_split.specs.Stands.{LeftAt, StandsAt};
 ghost use Rattle.vub_rec_split.specs.Starts as starts;
-ghost use Rattle.vub_rec_split.specs.Starts.{start_fault, plan_of, plan_in, sight_in, step_of, settle_step, fault_in, due_in, answer_in, state_after, moved, StartLies, PlanFits, StepFits, outcome, MakesStep, entries_in, found_in, FoundFits};
+ghost use Rattle.vub_rec_split.specs.Starts.{start_fault, plan_of, plan_in, sight_in, step_of, settle_step, fault_in, due_in, answer_in, state_after, moved, StartLies, PlanFits, StepFits, outcome, MakesStep, stores_left, entries_in, unchecked_in, found_in, FoundFits};
 
 use crate::plan::Found;
 use crate::{Plan, Recovered};
@@ -40,14 +42,14 @@ pub struct SplitRecovery {
 }
 
 impl Model for SplitRecovery {
-    ghost use Rattle.std.specs.Prelude.{◌<◌, ◌≤◌, ◌+◌, IfSome};
+    ghost use Rattle.std.specs.Prelude.{◌<◌, IfSome};
     ghost use Rattle.vub_rec_split.specs.Starts.{RecoveryState, PlanFits};
 
     ghost Value = { RecoveryState };
 
     ghost view = { λ s. record { ring = s.ring; region = s.region; base = s.base; plan = s.plan; done = s.done; cleared = s.cleared } };
 
-    ghost invariant = { λ s. (s.done ≤ s.region.size + 1) × IfSome s.cleared (λ entry. entry < s.region.size) × PlanFits s.region.size s.plan };
+    ghost invariant = { λ s. PlanFits s.region.size s.plan s.done × IfSome s.cleared (λ entry. entry < s.region.size) };
 }
 
 impl SplitRecovery {
@@ -78,17 +80,19 @@ impl SplitRecovery {
         ensures answers { WhereTold (M.told mem.old) (λ m. result ≢ recovered.Failed → result ≡ answer_in self.old m) }
         ensures state { WhereTold (M.told mem.old) (λ m. result ≢ recovered.Failed → self.new ≡ state_after self.old m) }
         ensures stays { result ≡ recovered.Failed → self.new ≡ self.old }
-        ensures list { WhereTold (M.told mem.old) (λ m. result ≡ recovered.Done → list.new.items ≡ entries_in self.old m) }
+        ensures list { WhereTold (M.told mem.old) (λ m. result ≡ recovered.Done → list.new.items ≡ unchecked_in self.old m) }
         ensures empty { result ≢ recovered.Done → list.new.items ≡ [] }
         ensures entries { AreEntries self.old.region.size list.new.items }
         ensures same_room { list.new.room ≡ list.old.room }
         ensures due { WhereTold (M.told mem.old) (λ m. MakesStep M.told M.trail M.names M.handed M.sizes mem.old mem.new result self.old.region (due_in self.old m)) }
+        ensures fewer_stores { (tag : Tag) → result ≡ recovered.Stored tag → stores_left self.old.region.size self.new.plan self.new.done < stores_left self.old.region.size self.old.plan self.old.done }
         ensures one_store { (step : Option SplitStore) × MakesStep M.told M.trail M.names M.handed M.sizes mem.old mem.new result self.old.region step }
         ensures cause { HasCause (M.faults mem.old) (M.faults mem.new) (outcome result) }
         ensures undamaged { (heads : List ℕ) → WhereTold (M.told mem.old) (λ m. StandsAt heads self.old m → (fault : RegionFault) → result ≢ recovered.Damaged fault) }
         ensures stands { (heads : List ℕ) → WhereTold (M.told mem.old) (λ m. StandsAt heads self.old m → result ≢ recovered.Failed → WhereTold (M.told mem.new) (λ m'. StandsAt heads self.new m')) }
         ensures left { (heads : List ℕ) → WhereTold (M.told mem.old) (λ m. StandsAt heads self.old m → WhereTold (M.told mem.new) (λ m'. LeftAt heads self.old m')) }
         ensures same_entries { (heads : List ℕ) → WhereTold (M.told mem.old) (λ m. StandsAt heads self.old m → WhereTold (M.told mem.new) (λ m'. entries_in self.old m' ≡ entries_in self.old m)) }
+        ensures reading { (heads : List ℕ) → WhereTold (M.told mem.old) (λ m. StandsAt heads self.old m → result ≡ recovered.Done → list.new.items ≡ entries_in self.old m) }
         ensures open_heads { (heads : List ℕ) → WhereTold (M.told mem.old) (λ m. StandsAt heads self.old m → result ≡ recovered.Done → heads_of list.new.items ≡ heads) }
     {
         self.go_on(mem, list)
@@ -101,11 +105,12 @@ impl SplitRecovery {
         ensures answers { WhereTold (M.told mem.old) (λ m. result ≢ recovered.Failed → result ≡ answer_in self.old m) }
         ensures state { WhereTold (M.told mem.old) (λ m. result ≢ recovered.Failed → self.new ≡ state_after self.old m) }
         ensures stays { result ≡ recovered.Failed → self.new ≡ self.old }
-        ensures list { WhereTold (M.told mem.old) (λ m. result ≡ recovered.Done → list.new.items ≡ entries_in self.old m) }
+        ensures list { WhereTold (M.told mem.old) (λ m. result ≡ recovered.Done → list.new.items ≡ unchecked_in self.old m) }
         ensures empty { result ≢ recovered.Done → list.new.items ≡ [] }
         ensures entries { AreEntries self.old.region.size list.new.items }
         ensures same_room { list.new.room ≡ list.old.room }
         ensures due { WhereTold (M.told mem.old) (λ m. MakesStep M.told M.trail M.names M.handed M.sizes mem.old mem.new result self.old.region (due_in self.old m)) }
+        ensures fewer_stores { (tag : Tag) → result ≡ recovered.Stored tag → stores_left self.old.region.size self.new.plan self.new.done < stores_left self.old.region.size self.old.plan self.old.done }
         ensures one_store { (step : Option SplitStore) × MakesStep M.told M.trail M.names M.handed M.sizes mem.old mem.new result self.old.region step }
         ensures cause { HasCause (M.faults mem.old) (M.faults mem.new) (outcome result) }
     {
@@ -135,7 +140,7 @@ impl SplitRecovery {
         requires room { self.now.region.size ≤ list.old.room }
         ensures found { IfOk result (λ x. WhereTold (M.told mem.old) (λ m. x ≡ found_in self.now m)) }
         ensures fits { IfOk result (λ x. FoundFits self.now x) }
-        ensures list { IfOk result (λ x. x ≡ Nothing → WhereTold (M.told mem.old) (λ m. list.new.items ≡ entries_in self.now m)) }
+        ensures list { IfOk result (λ x. x ≡ Nothing → WhereTold (M.told mem.old) (λ m. list.new.items ≡ unchecked_in self.now m)) }
         ensures entries { IfOk result (λ x. x ≡ Nothing → AreEntries self.now.region.size list.new.items) }
         ensures same_room { list.new.room ≡ list.old.room }
         ensures only_loads { OnlyLoads M.told M.trail M.names M.handed M.sizes mem.old mem.new }
@@ -163,7 +168,8 @@ impl SplitRecovery {
         requires lies { StartLies (M.sizes mem.old) self.now }
         requires room { self.now.region.size ≤ list.old.room }
         ensures begun { IfOk result (λ x. WhereTold (M.told mem.old) (λ m. x ≡ starts.begun (fault_in self.now m) (plan_in self.now m))) }
-        ensures fits { IfOk result (λ x. IfOk x (λ plan. PlanFits self.now.region.size (Some plan))) }
+        ensures fits { IfOk result (λ x. IfOk x (λ plan. PlanFits self.now.region.size (Some plan) self.now.done)) }
+        ensures no_more { IfOk result (λ x. IfOk x (λ plan. stores_left self.now.region.size (Some plan) self.now.done ≤ stores_left self.now.region.size self.now.plan self.now.done)) }
         ensures same_room { list.new.room ≡ list.old.room }
         ensures only_loads { OnlyLoads M.told M.trail M.names M.handed M.sizes mem.old mem.new }
         ensures cause { HasCause (M.faults mem.old) (M.faults mem.new) result }
@@ -183,7 +189,7 @@ impl SplitRecovery {
         requires lies { StartLies (M.sizes mem.old) self.now }
         requires room { self.now.region.size ≤ list.old.room }
         ensures checked { IfOk result (λ x. WhereTold (M.told mem.old) (λ m. x ≡ starts.begun (start_fault self.now.base self.now.region.size (used_idx_word self.now.ring m) (words_of self.now.region m)) (plan_of (used_idx_word self.now.ring m) (words_of self.now.region m)))) }
-        ensures fits { IfOk result (λ x. IfOk x (λ plan. PlanFits self.now.region.size (Some plan))) }
+        ensures fits { IfOk result (λ x. IfOk x (λ plan. PlanFits self.now.region.size (Some plan) 0)) }
         ensures same_room { list.new.room ≡ list.old.room }
         ensures only_loads { OnlyLoads M.told M.trail M.names M.handed M.sizes mem.old mem.new }
         ensures cause { HasCause (M.faults mem.old) (M.faults mem.new) result }
@@ -205,7 +211,7 @@ impl SplitRecovery {
     fn settles<M: Shared>(&self, mem: &mut M, used: u16) -> Result<Plan, Failed>
         requires lies { StartLies (M.sizes mem.old) self.now }
         ensures plan { IfOk result (λ plan. WhereTold (M.told mem.old) (λ m. ahead used (words_of self.now.region m).used_idx ≤ self.now.region.size → plan ≡ starts.settles (ahead used (words_of self.now.region m).used_idx))) }
-        ensures fits { IfOk result (λ plan. PlanFits self.now.region.size (Some plan)) }
+        ensures fits { IfOk result (λ plan. PlanFits self.now.region.size (Some plan) 0) }
         ensures only_loads { OnlyLoads M.told M.trail M.names M.handed M.sizes mem.old mem.new }
         ensures cause { HasCause (M.faults mem.old) (M.faults mem.new) result }
     {
@@ -220,9 +226,9 @@ impl SplitRecovery {
     /// The next store of a plan.
     fn due<M: Shared>(&self, mem: &mut M, plan: Plan) -> Result<Option<SplitStore>, Failed>
         requires lies { StartLies (M.sizes mem.old) self.now }
-        requires fits { PlanFits self.now.region.size (Some plan) }
+        requires fits { PlanFits self.now.region.size (Some plan) self.now.done }
         ensures due { IfOk result (λ step. WhereTold (M.told mem.old) (λ m. step ≡ step_of self.now.region.size (sight_in self.now m) plan self.now.done)) }
-        ensures within { IfOk result (λ step. IfSome step (λ x. NamesEntry self.now.region.size x × StepFits self.now.region.size self.now.done x)) }
+        ensures within { IfOk result (λ step. IfSome step (λ x. NamesEntry self.now.region.size x × StepFits self.now.region.size plan self.now.done x)) }
         ensures only_loads { OnlyLoads M.told M.trail M.names M.handed M.sizes mem.old mem.new }
         ensures cause { HasCause (M.faults mem.old) (M.faults mem.new) result }
     {
@@ -244,9 +250,9 @@ impl SplitRecovery {
     /// The next store of a plan that settles a batch of so many.
     fn settle_step<M: Shared>(&self, mem: &mut M, count: u16) -> Result<SplitStore, Failed>
         requires lies { StartLies (M.sizes mem.old) self.now }
-        requires fits { count ≤ self.now.region.size }
+        requires fits { PlanFits self.now.region.size (Some (Settles count)) self.now.done }
         ensures step { IfOk result (λ step. WhereTold (M.told mem.old) (λ m. step ≡ settle_step self.now.region.size (sight_in self.now m) count self.now.done)) }
-        ensures within { IfOk result (λ step. NamesEntry self.now.region.size step × StepFits self.now.region.size self.now.done step) }
+        ensures within { IfOk result (λ step. NamesEntry self.now.region.size step × StepFits self.now.region.size (Settles count) self.now.done step) }
         ensures only_loads { OnlyLoads M.told M.trail M.names M.handed M.sizes mem.old mem.new }
         ensures cause { HasCause (M.faults mem.old) (M.faults mem.new) result }
     {
@@ -287,26 +293,27 @@ impl SplitRecovery {
     fn open_entries<M: Shared>(&self, mem: &mut M, list: &mut PendingList) -> Result<(), Failed>
         requires lies { StartLies (M.sizes mem.old) self.now }
         requires room { self.now.region.size ≤ list.old.room }
-        ensures list { IfOk result (λ t. WhereTold (M.told mem.old) (λ m. list.new.items ≡ entries_in self.now m)) }
+        ensures list { IfOk result (λ t. WhereTold (M.told mem.old) (λ m. list.new.items ≡ unchecked_in self.now m)) }
         ensures entries { OnOk result (AreEntries self.now.region.size list.new.items) }
         ensures same_room { list.new.room ≡ list.old.room }
         ensures only_loads { OnlyLoads M.told M.trail M.names M.handed M.sizes mem.old mem.new }
         ensures cause { HasCause (M.faults mem.old) (M.faults mem.new) result }
     {
         let used = self.used(mem)?;
-        self.region.reading(mem, used, list)?;
+        self.region.unchecked_entries(mem, used, list)?;
         Ok(())
     }
 
     /// Makes a store of the plan.
     fn make<M: Shared>(&mut self, mem: &mut M, plan: Plan, step: SplitStore) -> Recovered
         requires lies { StartLies (M.sizes mem.old) self.old }
-        requires plan { PlanFits self.old.region.size (Some plan) }
+        requires plan { PlanFits self.old.region.size (Some plan) self.old.done }
         requires within { NamesEntry self.old.region.size step }
-        requires fits { StepFits self.old.region.size self.old.done step }
+        requires fits { StepFits self.old.region.size plan self.old.done step }
         ensures said { result ≢ recovered.Failed → result ≡ recovered.Stored (starts.tag_of step) }
         ensures state { result ≢ recovered.Failed → self.new ≡ moved step (record self.old { plan = Some plan }) }
         ensures stays { result ≡ recovered.Failed → self.new ≡ self.old }
+        ensures fewer { result ≢ recovered.Failed → stores_left self.old.region.size self.new.plan self.new.done < stores_left self.old.region.size (Some plan) self.old.done }
         ensures store { MakesStore M.told M.trail M.names M.handed M.sizes mem.old mem.new (outcome result) (store_of self.old.region step) }
         ensures cause { HasCause (M.faults mem.old) (M.faults mem.new) (outcome result) }
     {
@@ -322,10 +329,11 @@ impl SplitRecovery {
     /// A store of the plan was made.
     fn note(&mut self, plan: Plan, step: SplitStore)
         requires few { self.old.region.size ≤ 1024 }
-        requires plan { PlanFits self.old.region.size (Some plan) }
+        requires plan { PlanFits self.old.region.size (Some plan) self.old.done }
         requires within { NamesEntry self.old.region.size step }
-        requires fits { StepFits self.old.region.size self.old.done step }
-        ensures { self.new ≡ moved step (record self.old { plan = Some plan }) }
+        requires fits { StepFits self.old.region.size plan self.old.done step }
+        ensures moved { self.new ≡ moved step (record self.old { plan = Some plan }) }
+        ensures fewer { stores_left self.old.region.size self.new.plan self.new.done < stores_left self.old.region.size (Some plan) self.old.done }
     {
         self.plan = Some(plan);
         match step {
