@@ -115,7 +115,8 @@ sound_counters n used heads w s =
     let same : same_counter (open_by_index n used w) ≡ None = same_counter_twins w.counter one_each (is_open used w) n ∙ no_twins (open_entries n used w) s.rising in
     grind arith
 
-sound_undamaged : (n used : ℕ) (heads : List ℕ) (w : RegionWords) → Sound n used heads w → made_fault n used w ≡ None
+-- a sound region has no damage
+pub sound_undamaged : (n used : ℕ) (heads : List ℕ) (w : RegionWords) → Sound n used heads w → made_fault n used w ≡ None
 sound_undamaged n used heads w s =
     let fine : first_bad n [] (counted used w) ≡ None = no_bad n [] (counted used w) s.distinct s.within (λ i held. refl) in
     counters_left n used w s.version s.count s.few fine ∙ sound_counters n used heads w s

@@ -1,7 +1,9 @@
 -- What holds of the in-flight region of a split queue of n descriptors in each phase of a life, before the step in place `done`
 -- (vhost-user, "Inflight I/O tracking").
 use Rattle.std.specs.Prelude.{◌≡◌, ◌<◌, ◌≤◌, ℕ, ◌+◌, ◌-◌, ◌*◌, ◌/◌, ◌%◌, true, List, length, take, reverse, slice_index}
+use Rattle.std.specs.List.{AllByRecursion}
 use Rattle.vub_device.specs.Past.{is_among}
+use Rattle.vub_device.specs.Places.{are_distinct}
 use Rattle.vub_steps.specs.declared.steps.Phase.{Phase}
 use Rattle.vub_steps.specs.declared.steps.Phase.TheVariants as phases
 use Rattle.vub_inflight.specs.Entries.{CountersBelow}
@@ -27,6 +29,12 @@ pub record InFetch (n used head counter done : ℕ) (w : RegionWords) : Type 0 w
   pub given : 0 < done → IsCounted n used head counter w
 
 -- ---- a publication of a batch with these heads
+
+-- distinct entries of the region
+pub record IsBatch (n : ℕ) (batch : List ℕ) : Type 0 where
+  pub few : length batch ≤ n
+  pub distinct : are_distinct batch ≡ true
+  pub within : AllByRecursion (λ (h : ℕ). h < n) batch
 
 -- four steps for each element: its id, its length, its link, and last_batch_head. Then come used.idx, a clear for each, and the note
 abbrev pub index_step : List ℕ → ℕ

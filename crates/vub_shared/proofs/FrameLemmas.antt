@@ -4,7 +4,7 @@ use Rattle.std.specs.Prelude.{Option, Result}
 use Rattle.vub_shared.specs.Bytes.{Bytes}
 use Rattle.vub_shared.specs.Spaces.{Names}
 use Rattle.vub_shared.specs.Stores.{Store, one_store}
-use Rattle.vub_shared.specs.Frames.{KeepsSpaces, OnlyLoads, MakesStore}
+use Rattle.vub_shared.specs.Frames.{OnlyLoads, MakesStore}
 
 pub makes_same : {M T E : Type 0} (told : M → Option Bytes) (trail : M → Option (List Store)) (names : M → Option Names) (handed : M → ℕ → Bool) (sizes : M → ℕ → ℕ) (before now : M) (result : Result T E) (space : ℕ) (place place' : ℕ) (bytes bytes' : List ℕ)
     → place ≡ place' → bytes ≡ bytes' → MakesStore told trail names handed sizes before now result (one_store space place bytes) → MakesStore told trail names handed sizes before now result (one_store space place' bytes')
