@@ -1,6 +1,5 @@
 pub mod LoadLemmas
 pub mod PlanSteps
 pub mod PlanStores
-pub mod SoundLemmas
 pub mod StandLemmas
 pub mod StartLemmas

@@ -1,68 +1,58 @@
 -- Each store of a plan, from what holds of the words of a region to what holds after it.
-use Rattle.std.proofs.Common.{◌≡◌, ◌≤◌, ◌<◌, ◌⊎◌, ℕ, zero, suc, ◌+◌, ◌-◌, ◌^◌, Bool, true, false, List, [], ◌∷◌, ◌++◌, length, refl, ap, sym, ◌∙◌, subst, inl, inr, arith}
-use Rattle.std.specs.Prelude.{◌||◌, ◌&&◌, ◌==◌, nat_lt, Option, Some, None}
-use Rattle.std.specs.List.{AllByRecursion}
+use Rattle.std.proofs.Common.{◌≡◌, ◌≤◌, ◌<◌, ℕ, ◌+◌, ◌-◌, ◌^◌, false, true, List, [], ◌∷◌, refl, ap, sym, ◌∙◌, subst, inl, inr, arith}
+use Rattle.std.specs.Prelude.{◌&&◌, ◌==◌, nat_lt, Option, Some, None}
 use Rattle.std.proofs.lemmas.Bool.Decides.{nat_tests}
 use Rattle.std.proofs.lemmas.Bool.{cases_eq, cases_lt}
 use Rattle.vub_base.specs.declared.pending.Pending.{Pending}
 use Rattle.vub_ring.specs.Ring.{ahead}
 use Rattle.vub_device.specs.Past.{is_among}
-use Rattle.vub_device.proofs.Numbers.{is_among_append}
-use Rattle.vub_inflight.specs.Entries.{heads_of, with_at}
+use Rattle.vub_inflight.specs.Entries.{heads_of}
 use Rattle.vub_inflight.specs.Links.{links}
-use Rattle.vub_inflight.proofs.LinkLemmas.{link_at, link_goes_on, links_go_on}
+use Rattle.vub_inflight.proofs.LinkLemmas.{link_at, link_goes_on}
 use Rattle.vub_infl_split.specs.declared.region.SplitStore.{SplitStore}
 use Rattle.vub_infl_split.specs.declared.region.SplitStore.TheVariants.{SI1, SI2, SI3, SR1, SR2}
 use Rattle.vub_infl_split.specs.Region.{RegionWords}
 use Rattle.vub_infl_split.specs.Stores.{words_after, NamesEntry, ValueFits}
-use Rattle.vub_infl_split.specs.Readings.{counted, split_entries}
+use Rattle.vub_infl_split.specs.Readings.{counted, made_fault, open_entries, split_entries}
+use Rattle.vub_infl_split.specs.Sound.{Sound}
+use Rattle.vub_infl_split.proofs.ReadingLemmas.{reading_clear, reading_note, sound_undamaged}
+use Rattle.vub_region_facts.specs.Starts.{Unmade, Left, InNew, InSettling, IsSettled}
+use Rattle.vub_region_facts.proofs.BatchLemmas.{below_among}
+use Rattle.vub_region_facts.proofs.SoundLemmas.{sound_entries, unmade_entries, left_reads}
+use Rattle.vub_region_facts.proofs.StartLemmas.{new_begins, new_features, new_frees, new_makes, settling_begins, settled_at_once, settling_link, settling_clears, settling_notes}
 use Rattle.vub_rec_split.specs.declared.plan.Plan.{Plan}
 use Rattle.vub_rec_split.specs.declared.plan.Plan.TheVariants.{New, Settles, Settled}
-use Rattle.vub_rec_split.specs.Starts.{RecoveryState, Sight, link_after, settles, plan_of, new_step, settle_step, step_of, moved}
-use Rattle.vub_infl_split.specs.Sound.{Sound}
-use Rattle.vub_infl_split.proofs.ReadingLemmas.{reading_clear, reading_note}
-use Rattle.vub_region_facts.specs.Starts.{Unmade, Left, InNew, InSettling, IsSettled}
+use Rattle.vub_rec_split.specs.Starts.{RecoveryState, Sight, link_after, settles, plan_of, start_fault, new_step, settle_step, step_of, moved}
 use Rattle.vub_rec_split.specs.Stands.{FollowsBatch, InStart}
-use Rattle.vub_rec_split.proofs.SoundLemmas.{sound_clear, sound_note, sound_new, sound_entries, unmade_entries, left_reads}
-
--- ---- lists
-
-pub below_among : (n : ℕ) (xs : List ℕ) (x : ℕ) → AllByRecursion (λ y. y < n) xs → is_among xs x ≡ true → x < n
-below_among n [] x below held = absurd (let fails : false ≡ true = held in cc)
-below_among n (y ∷ xs) x below held = elim (cases_eq y x) [
-  | inl same ↦ let l : y < n = below.0 in omega (arith, l, same)
-  | inr apart ↦ below_among n xs x below.1 (grind (arith, nat_tests))
-]
-
-among_links : (next : ℕ → ℕ) (done count entry : ℕ) → done < count → is_among (links next count entry) (link_at next done entry) ≡ true
-among_links next done zero entry more = absurd (omega (arith, more))
-among_links next zero (suc count) entry more = grind (arith, nat_tests)
-among_links next (suc done) (suc count) entry more = let rest : is_among (links next count (next entry)) (link_at next done (next entry)) ≡ true = among_links next done count (next entry) (omega (arith, more)) in grind (arith, nat_tests)
-
-no_entries : (entries : List Pending) → heads_of entries ≡ [] → entries ≡ []
-no_entries [] none = refl
-no_entries (e ∷ entries) none = absurd (let fails : ◌≡◌ {A = List ℕ} (e.head ∷ heads_of entries) [] = none in cc)
-
-same_index : (a b : ℕ) → a < 65536 → b < 65536 → ahead a b ≡ 0 → b ≡ a
-same_index a b low low' none = omega (arith, low, low', none)
 
 -- ---- the first step
+
+-- the checks find nothing in what a life left
+pub left_fine : (n used : ℕ) (heads : List ℕ) (base : ℕ) (w : RegionWords) → Left n used heads base w → start_fault base n used w ≡ None
+left_fine n used heads base w (inl u) =
+    let version : w.version ≡ 0 = u.version in
+    let same : base ≡ used = u.at_base in
+    grind (arith, nat_tests)
+left_fine n used heads base w (inr s) =
+    let version : w.version ≡ 1 = s.version in
+    let made : start_fault base n used w ≡ made_fault n used w = grind (arith, nat_tests) in
+    made ∙ sound_undamaged n used heads w s
 
 pub begins : (n used : ℕ) (heads : List ℕ) (base : ℕ) (w : RegionWords) → used < 65536 → Left n used heads base w → InStart n used heads base (Some (plan_of used w)) 0 None w
 begins n used heads base w fits (inl u) =
     let version : w.version ≡ 0 = u.version in
     let plan : New ≡ plan_of used w = grind (arith, nat_tests) in
-    subst (λ (p : Plan). InStart n used heads base (Some p) 0 None w) plan (record { unmade = u; upto = omega arith; freed = λ i low. absurd (omega (arith, low)) })
+    subst (λ (p : Plan). InStart n used heads base (Some p) 0 None w) plan (new_begins n used heads base w u)
 begins n used heads base w fits (inr s) =
     let version : w.version ≡ 1 = s.version in
     let made : settles (ahead used w.used_idx) ≡ plan_of used w = grind (arith, nat_tests) in
     elim (cases_eq (ahead used w.used_idx) 0) [
       | inl none ↦
           let plan : Settled ≡ plan_of used w = grind (arith, nat_tests) in
-          subst (λ (p : Plan). InStart n used heads base (Some p) 0 None w) plan (record { sound = s; noted = same_index used w.used_idx fits s.used_idx_fits none })
+          subst (λ (p : Plan). InStart n used heads base (Some p) 0 None w) plan (settled_at_once n used heads w fits none s)
       | inr some ↦
           let plan : Settles (ahead used w.used_idx) ≡ plan_of used w = grind (arith, nat_tests) in
-          subst (λ (p : Plan). InStart n used heads base (Some p) 0 None w) plan (record { settling = record { sound = s; batch = refl; upto = omega arith; clear = λ i held. absurd (let fails : false ≡ true = held in cc) }; link = refl })
+          subst (λ (p : Plan). InStart n used heads base (Some p) 0 None w) plan (record { settling = settling_begins n used heads w s; link = refl })
     ]
 
 -- ---- a later one
@@ -72,89 +62,73 @@ pub record Kept (n used : ℕ) (heads : List ℕ) (base : ℕ) (s : RecoveryStat
   pub in_start : InStart n used heads base s.plan s.done s.cleared w'
   pub entries : split_entries n used w' ≡ split_entries n used w
 
--- the next link of a batch is one of its entries
-pub next_held : (n used : ℕ) (heads : List ℕ) (count done : ℕ) (cleared : Option ℕ) (w : RegionWords) → done < count → FollowsBatch n used heads count done cleared w → is_among (counted used w) (link_after cleared w) ≡ true
-next_held n used heads count done cleared w more p =
-    let all : counted used w ≡ links w.next count w.last_batch_head = ap (λ (k : ℕ). links w.next k w.last_batch_head) p.settling.batch in
-    ap (λ (xs : List ℕ). is_among xs (link_after cleared w)) all ∙ ap (is_among (links w.next count w.last_batch_head)) p.link ∙ among_links w.next done count w.last_batch_head more
+no_entries : (entries : List Pending) → heads_of entries ≡ [] → entries ≡ []
+no_entries [] none = refl
+no_entries (e ∷ entries) none = absurd (let fails : ◌≡◌ {A = List ℕ} (e.head ∷ heads_of entries) [] = none in cc)
 
 new_kept : (n used : ℕ) (heads : List ℕ) (base : ℕ) (s : RecoveryState) (sight : Sight) (w : RegionWords) → used < 65536 → sight.used ≡ used → InNew n used heads base s.done w
     → Kept n used heads base (moved (new_step n sight s.done) (record s { plan = Some New })) w (words_after n (new_step n sight s.done) w)
 new_kept n used heads base s sight w fits same p =
     let P : SplitStore → Type 0 = λ step. Kept n used heads base (moved step (record s { plan = Some New })) w (words_after n step w) in
-    let u : Unmade used heads base w = p.unmade in
-    let done : ℕ = s.done in
+    let unread : split_entries n used w ≡ [] = unmade_entries n used w p.unmade.version in
     elim (cases_eq s.done 0) [
       | inl start ↦
           let step : SI1 ≡ new_step n sight s.done = grind (arith, nat_tests) in
-          subst P step (record { in_start = record { unmade = u; upto = omega (arith, start); freed = λ i low. absurd (omega (arith, low, start)) }; entries = refl })
+          let Q : ℕ → Type 0 = λ d. InNew n used heads base d w → InNew n used heads base (d + 1) w in
+          let goes : Q s.done = subst Q (sym start) (new_features n used heads base w) in
+          subst P step (record { in_start = goes p; entries = refl })
       | inr later ↦ elim (cases_lt n s.done) [
         | inl past ↦
             let step : SI3 sight.used ≡ new_step n sight s.done = grind (arith, nat_tests) in
-            let s' : Sound n used [] (words_after n (SI3 used) w) = sound_new n used w fits (λ i low. p.freed i (omega (arith, low, past))) in
-            let none : heads ≡ [] = u.none in
-            let read : split_entries n used (words_after n (SI3 used) w) ≡ [] = no_entries (split_entries n used (words_after n (SI3 used) w)) (left_reads n used [] base (words_after n (SI3 used) w) (inr s')) in
+            let last : s.done ≡ n + 1 = omega (arith, past, p.upto) in
+            let made : IsSettled n used heads (words_after n (SI3 used) w) = new_makes n used heads base w fits (subst (λ (d : ℕ). InNew n used heads base d w) last p) in
+            let read : heads_of (split_entries n used (words_after n (SI3 used) w)) ≡ [] = left_reads n used heads base (words_after n (SI3 used) w) (inr made.sound) ∙ p.unmade.none in
             let Q : ℕ → Type 0 = λ v. P (SI3 v) in
-            subst P step (subst Q (sym same) (record {
-              in_start = record { sound = subst (λ (hs : List ℕ). Sound n used hs (words_after n (SI3 used) w)) (sym none) s'; noted = refl };
-              entries = read ∙ sym (unmade_entries n used w u.version);
-            }))
+            subst P step (subst Q (sym same) (record { in_start = made; entries = no_entries (split_entries n used (words_after n (SI3 used) w)) read ∙ sym unread }))
         | inr within ↦
             let step : SI2 (s.done - 1) ≡ new_step n sight s.done = grind (arith, nat_tests) in
+            let at : s.done ≡ s.done - 1 + 1 = omega (arith, later) in
+            let on : s.done - 1 + 2 ≡ s.done + 1 = omega (arith, later) in
+            let freed : InNew n used heads base (s.done - 1 + 2) (words_after n (SI2 (s.done - 1)) w) = new_frees n used heads base (s.done - 1) w (omega (arith, later, within)) (subst (λ (d : ℕ). InNew n used heads base d w) at p) in
             subst P step (record {
-              in_start = record {
-                unmade = record { version = u.version; none = u.none; at_base = u.at_base };
-                upto = omega (arith, within);
-                freed = λ i low. elim (cases_eq i (s.done - 1)) [
-                  | inl here ↦ grind (arith, nat_tests)
-                  | inr apart ↦ let old : w.inflight i ≡ 0 = p.freed i (omega (arith, low, apart)) in grind (arith, nat_tests)
-                ];
-              };
-              entries = unmade_entries n used (words_after n (SI2 (s.done - 1)) w) u.version ∙ sym (unmade_entries n used w u.version);
+              in_start = subst (λ (d : ℕ). InNew n used heads base d (words_after n (SI2 (s.done - 1)) w)) on freed;
+              entries = unmade_entries n used (words_after n (SI2 (s.done - 1)) w) p.unmade.version ∙ sym unread;
             })
       ]
     ]
+
+-- the next link of a batch is one of its entries
+pub next_held : (n used : ℕ) (heads : List ℕ) (count done : ℕ) (cleared : Option ℕ) (w : RegionWords) → done < count → FollowsBatch n used heads count done cleared w → is_among (counted used w) (link_after cleared w) ≡ true
+next_held n used heads count done cleared w more p = ap (is_among (counted used w)) p.link ∙ settling_link n used heads count done w more p.settling
 
 settle_kept : (n used : ℕ) (heads : List ℕ) (base : ℕ) (s : RecoveryState) (count : ℕ) (sight : Sight) (w : RegionWords) → used < 65536 → sight.used ≡ used → sight.link ≡ link_after s.cleared w → FollowsBatch n used heads count s.done s.cleared w
     → Kept n used heads base (moved (settle_step n sight count s.done) (record s { plan = Some (Settles count) })) w (words_after n (settle_step n sight count s.done) w)
 settle_kept n used heads base s count sight w fits same link p =
     let P : SplitStore → Type 0 = λ step. Kept n used heads base (moved step (record s { plan = Some (Settles count) })) w (words_after n step w) in
-    let all : counted used w ≡ links w.next count w.last_batch_head = ap (λ (k : ℕ). links w.next k w.last_batch_head) p.settling.batch in
+    let sound : Sound n used heads w = p.settling.sound in
+    let read : split_entries n used w ≡ open_entries n used w = sound_entries n used heads w sound in
     elim (cases_lt s.done count) [
       | inl more ↦
-          let e : ℕ = sight.link in
           let at : sight.link ≡ link_at w.next s.done w.last_batch_head = link ∙ p.link in
           let held : is_among (counted used w) sight.link ≡ true = ap (is_among (counted used w)) link ∙ next_held n used heads count s.done s.cleared w more p in
-          let low : sight.link < n = below_among n (counted used w) sight.link p.settling.sound.within held in
+          let low : sight.link < n = below_among n (counted used w) sight.link sound.within held in
           let step : SR1 sight.link ≡ settle_step n sight count s.done = grind (arith, nat_tests) in
-          let s' : Sound n used heads (words_after n (SR1 sight.link) w) = sound_clear n used heads w sight.link held p.settling.sound in
-          let front : links w.next (s.done + 1) w.last_batch_head ≡ links w.next s.done w.last_batch_head ++ sight.link ∷ [] = links_go_on w.next s.done (s.done + 1) sight.link w.last_batch_head refl at in
+          let clears : InSettling n used heads count (s.done + 1) (words_after n (SR1 sight.link) w) =
+          subst (λ (i : ℕ). InSettling n used heads count (s.done + 1) (words_after n (SR1 i) w)) (sym at) (settling_clears n used heads count s.done w more p.settling) in
           subst P step (record {
-            in_start = record {
-              settling = record {
-                sound = s';
-                batch = p.settling.batch;
-              upto = omega (arith, more);
-              clear = λ i among.
-              let joined : is_among (links w.next s.done w.last_batch_head ++ sight.link ∷ []) i ≡ (is_among (links w.next s.done w.last_batch_head) i || is_among (sight.link ∷ []) i) = is_among_append (links w.next s.done w.last_batch_head) (sight.link ∷ []) i in
-              let here : is_among (links w.next s.done w.last_batch_head ++ sight.link ∷ []) i ≡ true = ap (λ (xs : List ℕ). is_among xs i) (sym front) ∙ among in
-              let before : is_among (links w.next s.done w.last_batch_head) i ≡ true → w.inflight i ≡ 0 = p.settling.clear i in
-              grind (arith, nat_tests);
-              };
-              link = link_goes_on w.next s.done (s.done + 1) sight.link (w.next sight.link) w.last_batch_head refl at refl;
-            };
-            entries = sound_entries n used heads (words_after n (SR1 sight.link) w) s' ∙ reading_clear n used w sight.link held ∙ sym (sound_entries n used heads w p.settling.sound);
+            in_start = record { settling = clears; link = link_goes_on w.next s.done (s.done + 1) sight.link (w.next sight.link) w.last_batch_head refl at refl };
+            entries = sound_entries n used heads (words_after n (SR1 sight.link) w) clears.sound ∙ reading_clear n used w sight.link held ∙ sym read;
           })
       | inr past ↦
           let step : SR2 sight.used ≡ settle_step n sight count s.done = grind (arith, nat_tests) in
           let last : s.done ≡ count = omega (arith, past, p.settling.upto) in
-          let clear : (i : ℕ) → is_among (counted used w) i ≡ true → w.inflight i ≡ 0 =
-          λ i held. p.settling.clear i (ap (λ (k : ℕ). is_among (links w.next k w.last_batch_head) i) last ∙ ap (λ (xs : List ℕ). is_among xs i) (sym all) ∙ held) in
-          let s' : Sound n used heads (words_after n (SR2 used) w) = sound_note n used heads w fits clear p.settling.sound in
+          let all : InSettling n used heads count count w = subst (λ (d : ℕ). InSettling n used heads count d w) last p.settling in
+          let notes : IsSettled n used heads (words_after n (SR2 used) w) = settling_notes n used heads count w fits all in
+          let clear : (i : ℕ) → is_among (counted used w) i ≡ true → w.inflight i ≡ 0 = λ i held. all.clear i (ap (λ (k : ℕ). is_among (links w.next k w.last_batch_head) i) (sym all.batch) ∙ held) in
           let Q : ℕ → Type 0 = λ v. P (SR2 v) in
           subst P step (subst Q (sym same) (record {
-            in_start = record { sound = s'; noted = refl };
-            entries = sound_entries n used heads (words_after n (SR2 used) w) s' ∙ reading_note n used w fits clear ∙ sym (sound_entries n used heads w p.settling.sound);
+            in_start = notes;
+            entries = sound_entries n used heads (words_after n (SR2 used) w) notes.sound ∙ reading_note n used w fits clear ∙ sym read;
           }))
     ]
 

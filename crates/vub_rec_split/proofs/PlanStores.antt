@@ -19,7 +19,8 @@ use Rattle.vub_rec_split.specs.declared.plan.Plan.TheVariants.{New, Settles, Set
 use Rattle.vub_rec_split.specs.Starts.{RecoveryState, Sight, link_after, new_step, settle_step, step_of, free_stores, plan_stores, unless_fault, fault_in, plan_in, sight_in, due_in}
 use Rattle.vub_region_facts.specs.Starts.{InNew}
 use Rattle.vub_rec_split.specs.Stands.{FollowsBatch, InStart, StandsAt}
-use Rattle.vub_rec_split.proofs.PlanSteps.{below_among, next_held}
+use Rattle.vub_region_facts.proofs.BatchLemmas.{below_among}
+use Rattle.vub_rec_split.proofs.PlanSteps.{next_held}
 use Rattle.vub_rec_split.proofs.StandLemmas.{stands_fine, planned}
 
 -- ---- places in a list of stores

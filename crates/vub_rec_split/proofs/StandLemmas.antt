@@ -26,8 +26,9 @@ use Rattle.vub_rec_split.specs.declared.plan.Recovered.TheVariants as recovered
 use Rattle.vub_rec_split.specs.Starts.{RecoveryState, tag_of, answered, answer_in, MakesStep, new_step, settle_step, step_of, unless_fault, fault_in, plan_in, plan_or, plan_of, start_fault, sight_in, due_in, moved, gone_on, state_after, memory_after, entries_in, unchecked_in, Sight}
 use Rattle.vub_rec_split.specs.Stands.{InStart, IsApart, LeftAt, StandsAt, Keeps}
 use Rattle.vub_infl_split.specs.Sound.{Sound}
-use Rattle.vub_rec_split.proofs.SoundLemmas.{left_fine, left_reads, sound_entries, sound_unchecked}
-use Rattle.vub_rec_split.proofs.PlanSteps.{Kept, begins, plan_kept, step_fits, start_left}
+use Rattle.vub_infl_split.proofs.ReadingLemmas.{sound_unchecked}
+use Rattle.vub_region_facts.proofs.SoundLemmas.{sound_entries, left_reads}
+use Rattle.vub_rec_split.proofs.PlanSteps.{Kept, left_fine, begins, plan_kept, step_fits, start_left}
 
 -- ---- used.idx
 

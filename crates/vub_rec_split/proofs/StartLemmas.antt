@@ -1,14 +1,16 @@
 -- What the first step finds.
-use Rattle.std.proofs.Common.{◌≡◌, ℕ, Option, None, Some, refl, ap, sym, ◌∙◌}
+use Rattle.std.proofs.Common.{◌≡◌, ◌≢◌, ℕ, Option, None, Some, refl, ap, sym, ◌∙◌}
 use Rattle.std.specs.Prelude.{Result, Ok, Err}
 use Rattle.vub_base.specs.declared.reading.RegionFault.{RegionFault}
+use Rattle.vub_base.specs.declared.store.Tag.{Tag}
 use Rattle.vub_shared.specs.Bytes.{Bytes}
 use Rattle.vub_infl_split.specs.declared.region.SplitStore.{SplitStore}
 use Rattle.vub_rec_split.specs.declared.plan.Plan.{Plan}
 use Rattle.vub_rec_split.specs.declared.plan.Found.{Found}
 use Rattle.vub_rec_split.specs.declared.plan.Found.TheVariants as finds
+use Rattle.vub_rec_split.specs.declared.plan.Recovered.{Recovered}
 use Rattle.vub_rec_split.specs.declared.plan.Recovered.TheVariants as recovered
-use Rattle.vub_rec_split.specs.Starts.{RecoveryState, begun, unless_fault, step_of, fault_in, plan_in, sight_in, due_in, found, found_in, answered, answer_in, gone_on, state_after, moved, tag_of}
+use Rattle.vub_rec_split.specs.Starts.{RecoveryState, begun, unless_fault, step_of, fault_in, plan_in, sight_in, due_in, found, found_in, answered, answer_in, gone_on, state_after, moved, tag_of, Tells}
 
 begun_fine : (fault : Option RegionFault) (p q : Plan) → ◌≡◌ {A = Result Plan RegionFault} (Ok p) (begun fault q) → (fault ≡ None) × (p ≡ q)
 begun_fine None p q is = (refl, cc)
@@ -59,3 +61,13 @@ store_state s m plan step is =
 
 pub damaged_state : (s : RecoveryState) (m : Bytes) (fault : RegionFault) → finds.Damaged fault ≡ found_in s m → state_after s m ≡ s
 damaged_state s m fault is = ap (λ (f : Option RegionFault). gone_on f (due_in s m) (plan_in s m) s) (found_damaged (fault_in s m) (due_in s m) (plan_in s m) fault is)
+
+-- a store that was made is told by its tag
+pub stored_tells : (result : Recovered) (step : SplitStore) → (result ≢ recovered.Failed → result ≡ recovered.Stored (tag_of step)) → Tells result (Some step)
+stored_tells (recovered.Stored tag) step said = ap (λ (t : Tag). Some t) (sym (tag_is (said (λ e. let fails : recovered.Stored tag ≡ recovered.Failed = e in cc))))
+  where
+    tag_is : {t u : Tag} → recovered.Stored t ≡ recovered.Stored u → t ≡ u
+    tag_is e = cc
+stored_tells recovered.Failed step said = tt
+stored_tells recovered.Done step said = absurd (let fails : recovered.Done ≡ recovered.Stored (tag_of step) = said (λ e. let other : recovered.Done ≡ recovered.Failed = e in cc) in cc)
+stored_tells (recovered.Damaged fault) step said = absurd (let fails : recovered.Damaged fault ≡ recovered.Stored (tag_of step) = said (λ e. let other : recovered.Damaged fault ≡ recovered.Failed = e in cc) in cc)

@@ -1,6 +1,7 @@
 -- A start of a split queue over its in-flight region: what its first step finds, and its stores, one a step (vhost-user,
 -- "Inflight I/O tracking").
 use Rattle.std.specs.Prelude.{◌≡◌, ◌<◌, ◌≤◌, ℕ, ◌+◌, ◌-◌, ◌==◌, ◌&&◌, Bool, nat_lt, nat_le, if◌then◌else◌, zero, suc, List, [], ◌∷◌, ◌++◌, map, Option, Some, None, Result, Ok, Err, ⊤}
+use Rattle.std.specs.Option.{option_map}
 use Rattle.vub_base.specs.declared.reading.RegionFault.{RegionFault}
 use Rattle.vub_base.specs.declared.reading.RegionFault.TheVariants.{BadBase}
 use Rattle.vub_base.specs.declared.pending.Pending.{Pending}
@@ -207,6 +208,17 @@ outcome result = Ok tt
 abbrev pub MakesStep : {M : Type 0} → (M → Option Bytes) → (M → Option (List Store)) → (M → Option Names) → (M → ℕ → Bool) → (M → ℕ → ℕ) → M → M → Recovered → SplitRegion → Option SplitStore → Type 0
 MakesStep told trail names handed sizes before now result region None = OnlyLoads told trail names handed sizes before now
 MakesStep told trail names handed sizes before now result region (Some step) = MakesStore told trail names handed sizes before now (outcome result) (store_of region step)
+
+-- over any memory: what it answers tells its store
+abbrev pub Tells : Recovered → Option SplitStore → Type 0
+Tells (Stored tag) step = option_map tag_of step ≡ Some tag
+Tells Failed step = ⊤
+Tells result step = step ≡ None
+
+pub record MakesOne {M : Type 0} (told : M → Option Bytes) (trail : M → Option (List Store)) (names : M → Option Names) (handed : M → ℕ → Bool) (sizes : M → ℕ → ℕ) (before now : M) (result : Recovered) (region : SplitRegion) : Type 0 where
+  pub step : Option SplitStore
+  pub tells : Tells result step
+  pub makes : MakesStep told trail names handed sizes before now result region step
 
 -- the memory after it
 abbrev pub memory_after : SplitRegion → Option SplitStore → Bytes → Bytes

@@ -7,7 +7,6 @@ ghost use Rattle.vub_ring.specs.Ring.{ahead};
 ghost use Rattle.vub_split.specs.Split.{used_idx_word};
 ghost use Rattle.vub_base.specs.declared.reading.RegionFault.{RegionFault};
 ghost use Rattle.vub_inflight.specs.Entries.{AreEntries, heads_of};
-ghost use Rattle.vub_infl_split.specs.declared.region.SplitStore.{SplitStore};
 ghost use Rattle.vub_infl_split.specs.Region.{words_of};
 ghost use Rattle.vub_infl_split.specs.Stores.{store_of, NamesEntry};
 ghost use Rattle.vub_rec_split.specs.declared.plan.Plan.TheVariants.{Settles};
@@ -16,7 +15,7 @@ ghost use Rattle.vub_rec_split.specs.declared.plan.Found.TheVariants.{Nothing};
 ghost use Rattle.vub_rec_split.specs.declared.plan.Recovered.TheVariants as recovered;
 ghost use Rattle.vub_rec_split.specs.Stands.{LeftAt, StandsAt};
 ghost use Rattle.vub_rec_split.specs.Starts as starts;
-ghost use Rattle.vub_rec_split.specs.Starts.{start_fault, plan_of, plan_in, sight_in, step_of, settle_step, fault_in, due_in, answer_in, state_after, moved, StartLies, PlanFits, StepFits, outcome, MakesStep, stores_left, entries_in, unchecked_in, found_in, FoundFits};
+ghost use Rattle.vub_rec_split.specs.Starts.{start_fault, plan_of, plan_in, sight_in, step_of, settle_step, fault_in, due_in, answer_in, state_after, moved, StartLies, PlanFits, StepFits, outcome, MakesStep, MakesOne, stores_left, entries_in, unchecked_in, found_in, FoundFits};
 
 use crate::plan::Found;
 use crate::{Plan, Recovered};
@@ -86,7 +85,7 @@ impl SplitRecovery {
         ensures same_room { list.new.room ≡ list.old.room }
         ensures due { WhereTold (M.told mem.old) (λ m. MakesStep M.told M.trail M.names M.handed M.sizes mem.old mem.new result self.old.region (due_in self.old m)) }
         ensures fewer_stores { (tag : Tag) → result ≡ recovered.Stored tag → stores_left self.old.region.size self.new.plan self.new.done < stores_left self.old.region.size self.old.plan self.old.done }
-        ensures one_store { (step : Option SplitStore) × MakesStep M.told M.trail M.names M.handed M.sizes mem.old mem.new result self.old.region step }
+        ensures one_store { MakesOne M.told M.trail M.names M.handed M.sizes mem.old mem.new result self.old.region }
         ensures cause { HasCause (M.faults mem.old) (M.faults mem.new) (outcome result) }
         ensures undamaged { (heads : List ℕ) → WhereTold (M.told mem.old) (λ m. StandsAt heads self.old m → (fault : RegionFault) → result ≢ recovered.Damaged fault) }
         ensures stands { (heads : List ℕ) → WhereTold (M.told mem.old) (λ m. StandsAt heads self.old m → result ≢ recovered.Failed → WhereTold (M.told mem.new) (λ m'. StandsAt heads self.new m')) }
@@ -111,7 +110,7 @@ impl SplitRecovery {
         ensures same_room { list.new.room ≡ list.old.room }
         ensures due { WhereTold (M.told mem.old) (λ m. MakesStep M.told M.trail M.names M.handed M.sizes mem.old mem.new result self.old.region (due_in self.old m)) }
         ensures fewer_stores { (tag : Tag) → result ≡ recovered.Stored tag → stores_left self.old.region.size self.new.plan self.new.done < stores_left self.old.region.size self.old.plan self.old.done }
-        ensures one_store { (step : Option SplitStore) × MakesStep M.told M.trail M.names M.handed M.sizes mem.old mem.new result self.old.region step }
+        ensures one_store { MakesOne M.told M.trail M.names M.handed M.sizes mem.old mem.new result self.old.region }
         ensures cause { HasCause (M.faults mem.old) (M.faults mem.new) (outcome result) }
     {
         match self.find(mem, list) {

@@ -3,7 +3,7 @@ use Rattle.vub_infl_split.specs.declared.region.SplitStore.{SplitStore}
 use Rattle.vub_infl_split.specs.Stores.{store_of}
 use Rattle.vub_rec_split.specs.Starts.{outcome, MakesStep}
 use Rattle.vub_rec_split.proofs.LoadLemmas.{loads_before}
-use Rattle.vub_rec_split.proofs.StartLemmas.{store_due, store_answer, store_state, damaged_state}
+use Rattle.vub_rec_split.proofs.StartLemmas.{stored_tells, store_due, store_answer, store_state, damaged_state}
 use Rattle.vub_rec_split.proofs.recovery.SplitRecovery.go_on.Goals as goal
 
 pub returns-in-Ok-Store-clause-answers : goal.returns-in-Ok-Store-clause-answers
@@ -21,8 +21,11 @@ returns-in-Ok-Store-clause-due g c m told =
     (loads_before _ _ _ _ _ _ _ _ (outcome c.make.result) (store_of c.args.self.now.region c.in-Ok-Store.step) c.find.ensures.only_loads c.make.ensures.store)
 
 pub returns-in-Ok-Store-clause-one_store : goal.returns-in-Ok-Store-clause-one_store
-returns-in-Ok-Store-clause-one_store g c =
-    (Some c.in-Ok-Store.step, loads_before _ _ _ _ _ _ _ _ (outcome c.make.result) (store_of c.args.self.now.region c.in-Ok-Store.step) c.find.ensures.only_loads c.make.ensures.store)
+returns-in-Ok-Store-clause-one_store g c = record {
+  step = Some c.in-Ok-Store.step;
+  tells = stored_tells c.make.result c.in-Ok-Store.step c.make.ensures.said;
+  makes = loads_before _ _ _ _ _ _ _ _ (outcome c.make.result) (store_of c.args.self.now.region c.in-Ok-Store.step) c.find.ensures.only_loads c.make.ensures.store;
+}
 
 pub returns-in-Ok-Damaged-clause-state : goal.returns-in-Ok-Damaged-clause-state
 returns-in-Ok-Damaged-clause-state g c m told fine =
