@@ -200,6 +200,12 @@ StepFits n plan done (SI2 i) = 1 < stores_left n (Some plan) done
 StepFits n plan done (SR1 i) = 1 < stores_left n (Some plan) done
 StepFits n plan done step = 0 < stores_left n (Some plan) done
 
+-- over any memory it stays the recovery of its queue
+pub record SameQueue (s s' : RecoveryState) : Type 0 where
+  pub ring : s'.ring ≡ s.ring
+  pub region : s'.region ≡ s.region
+  pub base : s'.base ≡ s.base
+
 abbrev pub outcome : Recovered → Result ⊤ ⊤
 outcome Failed = Err tt
 outcome result = Ok tt

@@ -5,6 +5,8 @@
 pub mod laws;
 mod plan;
 mod recovery;
+#[cfg(test)]
+mod tests;
 
 pub use plan::{Plan, Recovered};
 pub use recovery::SplitRecovery;

@@ -2,7 +2,7 @@
 ghost use Rattle.std.specs.Prelude.{◌≡◌, ◌≢◌, ◌<◌, ◌≤◌, ◌-◌, ℕ, List, Option, Some, None, [], IfOk, IfSome, OnOk};
 ghost use Rattle.vub_base.specs.Causes.{HasCause};
 ghost use Rattle.vub_base.specs.Told.{WhereTold};
-ghost use Rattle.vub_shared.specs.Frames.{OnlyLoads, MakesStore};
+ghost use Rattle.vub_shared.specs.Frames.{OnlyLoads, MakesStore, KeepsSpaces};
 ghost use Rattle.vub_ring.specs.Ring.{ahead};
 ghost use Rattle.vub_split.specs.Split.{used_idx_word};
 ghost use Rattle.vub_base.specs.declared.reading.RegionFault.{RegionFault};
@@ -15,7 +15,7 @@ ghost use Rattle.vub_rec_split.specs.declared.plan.Found.TheVariants.{Nothing};
 ghost use Rattle.vub_rec_split.specs.declared.plan.Recovered.TheVariants as recovered;
 ghost use Rattle.vub_rec_split.specs.Stands.{LeftAt, StandsAt};
 ghost use Rattle.vub_rec_split.specs.Starts as starts;
-ghost use Rattle.vub_rec_split.specs.Starts.{start_fault, plan_of, plan_in, sight_in, step_of, settle_step, fault_in, due_in, answer_in, state_after, moved, StartLies, PlanFits, StepFits, outcome, MakesStep, MakesOne, stores_left, entries_in, unchecked_in, found_in, FoundFits};
+ghost use Rattle.vub_rec_split.specs.Starts.{start_fault, plan_of, plan_in, sight_in, step_of, settle_step, fault_in, due_in, answer_in, state_after, moved, StartLies, PlanFits, StepFits, SameQueue, outcome, MakesStep, MakesOne, stores_left, entries_in, unchecked_in, found_in, FoundFits};
 
 use crate::plan::Found;
 use crate::{Plan, Recovered};
@@ -86,6 +86,9 @@ impl SplitRecovery {
         ensures due { WhereTold (M.told mem.old) (λ m. MakesStep M.told M.trail M.names M.handed M.sizes mem.old mem.new result self.old.region (due_in self.old m)) }
         ensures fewer_stores { (tag : Tag) → result ≡ recovered.Stored tag → stores_left self.old.region.size self.new.plan self.new.done < stores_left self.old.region.size self.old.plan self.old.done }
         ensures one_store { MakesOne M.told M.trail M.names M.handed M.sizes mem.old mem.new result self.old.region }
+        ensures lies { StartLies (M.sizes mem.new) self.new }
+        ensures same_queue { SameQueue self.old self.new }
+        ensures keeps_spaces { KeepsSpaces M.names M.handed M.sizes mem.old mem.new }
         ensures cause { HasCause (M.faults mem.old) (M.faults mem.new) (outcome result) }
         ensures undamaged { (heads : List ℕ) → WhereTold (M.told mem.old) (λ m. StandsAt heads self.old m → (fault : RegionFault) → result ≢ recovered.Damaged fault) }
         ensures stands { (heads : List ℕ) → WhereTold (M.told mem.old) (λ m. StandsAt heads self.old m → result ≢ recovered.Failed → WhereTold (M.told mem.new) (λ m'. StandsAt heads self.new m')) }
@@ -111,6 +114,8 @@ impl SplitRecovery {
         ensures due { WhereTold (M.told mem.old) (λ m. MakesStep M.told M.trail M.names M.handed M.sizes mem.old mem.new result self.old.region (due_in self.old m)) }
         ensures fewer_stores { (tag : Tag) → result ≡ recovered.Stored tag → stores_left self.old.region.size self.new.plan self.new.done < stores_left self.old.region.size self.old.plan self.old.done }
         ensures one_store { MakesOne M.told M.trail M.names M.handed M.sizes mem.old mem.new result self.old.region }
+        ensures same_queue { SameQueue self.old self.new }
+        ensures keeps_spaces { KeepsSpaces M.names M.handed M.sizes mem.old mem.new }
         ensures cause { HasCause (M.faults mem.old) (M.faults mem.new) (outcome result) }
     {
         match self.find(mem, list) {
@@ -312,6 +317,7 @@ impl SplitRecovery {
         ensures said { result ≢ recovered.Failed → result ≡ recovered.Stored (starts.tag_of step) }
         ensures state { result ≢ recovered.Failed → self.new ≡ moved step (record self.old { plan = Some plan }) }
         ensures stays { result ≡ recovered.Failed → self.new ≡ self.old }
+        ensures same_queue { SameQueue self.old self.new }
         ensures fewer { result ≢ recovered.Failed → stores_left self.old.region.size self.new.plan self.new.done < stores_left self.old.region.size (Some plan) self.old.done }
         ensures store { MakesStore M.told M.trail M.names M.handed M.sizes mem.old mem.new (outcome result) (store_of self.old.region step) }
         ensures cause { HasCause (M.faults mem.old) (M.faults mem.new) (outcome result) }

@@ -2,8 +2,12 @@ use Rattle.std.proofs.Common.{◌≡◌, ◌<◌, ◌∙◌, ℕ, ap, sym, List,
 use Rattle.vub_base.specs.declared.pending.Pending.{Pending}
 use Rattle.vub_inflight.specs.Entries.{heads_of}
 use Rattle.vub_rec_split.specs.Starts.{due_in}
+use Rattle.vub_rec_split.proofs.LoadLemmas.{lies_on}
 use Rattle.vub_rec_split.proofs.StandLemmas.{told_moved, told_either, stands_on, left_on, stands_undamaged, stands_reads, done_reads}
 use Rattle.vub_rec_split.proofs.recovery.SplitRecovery.step.Goals as goal
+
+pub returns-clause-lies : goal.returns-clause-lies
+returns-clause-lies g c = lies_on (g.M.Shared.sizes c.args.mem.now) (g.M.Shared.sizes c.go_on.new.mem) c.args.self.now c.go_on.new.self c.go_on.ensures.keeps_spaces.same_sizes c.go_on.ensures.same_queue c.requires.lies
 
 pub returns-clause-undamaged : goal.returns-clause-undamaged
 returns-clause-undamaged g c heads m told stands fault = stands_undamaged c.args.self.now m heads c.go_on.result fault stands (c.go_on.ensures.answers m told)
