@@ -1,5 +1,6 @@
 -- What each store leaves of the open entries of a region.
-use Rattle.std.proofs.Common.{◌≡◌, ◌≢◌, ◌<◌, ℕ, ◌+◌, ◌%◌, Bool, cond, true, false, not, List, [], ◌∷◌, ◌++◌, refl, ap, sym, ◌∙◌, inl, inr, arith}
+use Rattle.std.proofs.Common.{◌≡◌, ◌≢◌, ◌≤◌, ◌<◌, min, ℕ, ◌+◌, ◌%◌, Bool, cond, true, false, not, List, [], ◌∷◌, ◌++◌, refl, ap, sym, ◌∙◌, inl, inr, arith}
+use Rattle.std.proofs.Math.Nat.{min-eq_left}
 use Rattle.std.specs.Prelude.{◌&&◌, ◌==◌, nat_le, Option, Some, None}
 use Rattle.std.specs.List.{AllByRecursion}
 use Rattle.std.specs.Option.{option_map, option_or}
@@ -12,17 +13,17 @@ use Rattle.vub_shared.specs.Bytes.{Bytes, word}
 use Rattle.vub_shared.proofs.BytesLemmas.{word-lt}
 use Rattle.vub_device.specs.Past.{is_among}
 use Rattle.vub_ring.specs.Ring.{ahead}
-use Rattle.vub_inflight.specs.Entries.{with_at, entry_at, without_heads, heads_of, with_counter, same_counter, CountersBelow}
-use Rattle.vub_inflight.specs.Links.{links, first_bad}
+use Rattle.vub_inflight.specs.Entries.{by_counter, with_at, entry_at, without_heads, heads_of, with_counter, same_counter, CountersBelow}
+use Rattle.vub_inflight.specs.Links.{links, links_within, first_bad}
 use Rattle.vub_inflight.specs.Neighbours.{twins}
 use Rattle.vub_inflight.proofs.Each.{all_sorted, sorted_all}
 use Rattle.vub_inflight.proofs.EntryLemmas.{by_counter_agree, by_counter_add, by_counter_without, all_by_index, ordered_sorted}
 use Rattle.vub_inflight.proofs.CounterLemmas.{none_with, none_has}
-use Rattle.vub_inflight.proofs.LinkLemmas.{no_bad, fine_links}
+use Rattle.vub_inflight.proofs.LinkLemmas.{no_bad, fine_links, links_all_within}
 use Rattle.vub_inflight.proofs.Twins.{same_counter_twins, no_twins, rise_without_twins}
 use Rattle.vub_infl_split.specs.declared.region.SplitRegion.{SplitRegion}
 use Rattle.vub_infl_split.specs.Region.{RegionWords, words_of, counter_place}
-use Rattle.vub_infl_split.specs.Readings.{counted, is_open, one_each, open_by_index, open_entries, bad_version, bad_count, bad_used, bad_link, last_counter, bad_counter, made_fault, unless_damaged, split_reading}
+use Rattle.vub_infl_split.specs.Readings.{counted, in_flight_but, counted_within, unchecked_entries, is_open, one_each, open_by_index, open_entries, bad_version, bad_count, bad_used, bad_link, last_counter, bad_counter, made_fault, unless_damaged, split_reading}
 use Rattle.vub_infl_split.specs.Sound.{Sound}
 use Rattle.vub_infl_split.proofs.ReadingChecks.{counters_left}
 
@@ -115,7 +116,8 @@ sound_counters n used heads w s =
     let same : same_counter (open_by_index n used w) ≡ None = same_counter_twins w.counter one_each (is_open used w) n ∙ no_twins (open_entries n used w) s.rising in
     grind arith
 
-sound_undamaged : (n used : ℕ) (heads : List ℕ) (w : RegionWords) → Sound n used heads w → made_fault n used w ≡ None
+-- a sound region has no damage
+pub sound_undamaged : (n used : ℕ) (heads : List ℕ) (w : RegionWords) → Sound n used heads w → made_fault n used w ≡ None
 sound_undamaged n used heads w s =
     let fine : first_bad n [] (counted used w) ≡ None = no_bad n [] (counted used w) s.distinct s.within (λ i held. refl) in
     counters_left n used w s.version s.count s.few fine ∙ sound_counters n used heads w s
@@ -127,6 +129,14 @@ sound_reads n used heads w s =
     let none : made_fault n used w ≡ None = sound_undamaged n used heads w s in
     let zero_no : (w.version == 0) ≡ false = grind (arith, nat_tests) in
     grind arith
+
+-- and with no check its open entries are the same
+pub sound_unchecked : (n used : ℕ) (heads : List ℕ) (w : RegionWords) → Sound n used heads w → unchecked_entries n used w ≡ open_entries n used w
+sound_unchecked n used heads w s =
+    let few : ahead used w.used_idx ≤ n = s.few in
+    let count : min (ahead used w.used_idx) n ≡ ahead used w.used_idx = min-eq_left few in
+    let batch : counted_within n used w ≡ counted used w = ap (λ (k : ℕ). links_within n w.next k w.last_batch_head) count ∙ links_all_within n w.next (ahead used w.used_idx) w.last_batch_head s.within in
+    ap (λ (xs : List ℕ). by_counter w.counter one_each (in_flight_but xs w) n) batch
 
 -- ---- where nothing is wrong
 

@@ -1,5 +1,6 @@
 -- What the region of a split queue of n descriptors says, where used.idx is `used` (vhost-user, "Inflight I/O tracking").
 use Rattle.std.specs.Prelude.{ℕ, ◌==◌, ◌&&◌, Bool, not, nat_le, if◌then◌else◌, List, [], Option, Some, None}
+use Rattle.std.proofs.Common.{min}
 use Rattle.std.specs.Option.{option_map, option_or}
 use Rattle.vub_base.specs.declared.pending.Pending.{Pending}
 use Rattle.vub_base.specs.declared.reading.Reading.{Reading}
@@ -9,7 +10,7 @@ use Rattle.vub_base.specs.declared.reading.RegionFault.TheVariants.{BadVersion, 
 use Rattle.vub_device.specs.Past.{is_among}
 use Rattle.vub_ring.specs.Ring.{ahead}
 use Rattle.vub_inflight.specs.Entries.{by_index, by_counter, with_counter, same_counter}
-use Rattle.vub_inflight.specs.Links.{links, first_bad}
+use Rattle.vub_inflight.specs.Links.{links, links_within, first_bad}
 use Rattle.vub_infl_split.specs.Region.{RegionWords}
 
 -- ---- the open entries
@@ -18,9 +19,13 @@ use Rattle.vub_infl_split.specs.Region.{RegionWords}
 abbrev pub counted : ℕ → RegionWords → List ℕ
 counted used w = links w.next (ahead used w.used_idx) w.last_batch_head
 
--- an entry is in flight, and not in that batch
+-- an entry is in flight, and not in a batch of these
+abbrev pub in_flight_but : List ℕ → RegionWords → ℕ → Bool
+in_flight_but batch w i = not (w.inflight i == 0) && not (is_among batch i)
+
+-- and not in that batch
 abbrev pub is_open : ℕ → RegionWords → ℕ → Bool
-is_open used w i = not (w.inflight i == 0) && not (is_among (counted used w) i)
+is_open used w i = in_flight_but (counted used w) w i
 
 -- an entry of a split queue counts as one descriptor
 abbrev pub one_each : ℕ → ℕ
@@ -32,6 +37,15 @@ open_by_index n used w = by_index w.counter one_each (is_open used w) n
 
 abbrev pub open_entries : ℕ → ℕ → RegionWords → List Pending
 open_entries n used w = by_counter w.counter one_each (is_open used w) n
+
+-- ---- the same of a region that may be damaged
+
+-- the entries of the batch as far as they can be followed: up to a link that is no entry, and no more than there are
+abbrev pub counted_within : ℕ → ℕ → RegionWords → List ℕ
+counted_within n used w = links_within n w.next (min (ahead used w.used_idx) n) w.last_batch_head
+
+abbrev pub unchecked_entries : ℕ → ℕ → RegionWords → List Pending
+unchecked_entries n used w = by_counter w.counter one_each (in_flight_but (counted_within n used w) w) n
 
 -- ---- what is wrong with it
 

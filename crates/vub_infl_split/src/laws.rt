@@ -9,7 +9,7 @@ ghost use Rattle.vub_inflight.specs.Links.{links};
 ghost use Rattle.vub_infl_split.specs.declared.region.SplitRegion.{SplitRegion};
 ghost use Rattle.vub_infl_split.specs.declared.region.SplitStore.{SplitStore};
 ghost use Rattle.vub_infl_split.specs.declared.region.SplitStore.TheVariants.{SF1, SF2, SP3, SP4, SP6, SP7};
-ghost use Rattle.vub_infl_split.specs.Readings.{counted, is_open, one_each, open_entries, split_reading, split_entries};
+ghost use Rattle.vub_infl_split.specs.Readings.{counted, is_open, one_each, open_entries, split_reading, split_entries, unchecked_entries};
 ghost use Rattle.vub_infl_split.specs.Region.{RegionWords, words_of, OffRegion};
 ghost use Rattle.vub_infl_split.specs.Sound.{Sound};
 ghost use Rattle.vub_infl_split.specs.Stores.{store_of, NamesEntry, ValueFits, words_after};
@@ -45,4 +45,5 @@ pub fn a_sound_region_is_read()
         → Sound r.size used (heads_of (split_entries r.size used (words_of r m))) (words_of r m) }
     ensures reads { (n used : ℕ) (heads : List ℕ) (w : RegionWords) → Sound n used heads w → split_reading n used w ≡ Entries }
     ensures heads { (n used : ℕ) (heads : List ℕ) (w : RegionWords) → Sound n used heads w → heads_of (split_entries n used w) ≡ heads }
+    ensures unchecked { (n used : ℕ) (heads : List ℕ) (w : RegionWords) → Sound n used heads w → unchecked_entries n used w ≡ open_entries n used w }
 {}

@@ -8,6 +8,7 @@ mod reading;
 mod region;
 #[cfg(test)]
 mod tests;
+mod unchecked;
 
 pub use region::{SplitRegion, SplitStore};
 pub use vub_base::Reading;

@@ -1,5 +1,5 @@
 //! What a split queue's region says: its open entries, or why it can't be read.
-ghost use Rattle.std.specs.Prelude.{◌≡◌, ◌≢◌, ◌<◌, ◌≤◌, ◌+◌, ◌++◌, ◌∷◌, [], ℕ, Bool, None, Ok, length, not, ◌==◌, ◌&&◌, ◌||◌, false, nat_lt, if◌then◌else◌, IfOk, OnOk};
+ghost use Rattle.std.specs.Prelude.{◌≡◌, ◌≢◌, ◌<◌, ◌≤◌, ◌+◌, ◌++◌, ◌∷◌, [], ℕ, List, Bool, None, Ok, length, not, ◌==◌, ◌&&◌, ◌||◌, false, nat_lt, if◌then◌else◌, IfOk, OnOk};
 ghost use Rattle.std.proofs.Common.{get_or};
 ghost use Rattle.vub_base.specs.Causes.{HasCause};
 ghost use Rattle.vub_base.specs.Pending.{sorted};
@@ -10,7 +10,7 @@ ghost use Rattle.vub_inflight.specs.Entries.{by_index, entry_at, with_counter, A
 ghost use Rattle.vub_inflight.specs.Links.{links, first_bad, AreMarked};
 ghost use Rattle.vub_inflight.specs.Neighbours as neighbours;
 ghost use Rattle.vub_infl_split.specs.Readings as readings;
-ghost use Rattle.vub_infl_split.specs.Readings.{split_reading, split_entries, open_by_index, one_each};
+ghost use Rattle.vub_infl_split.specs.Readings.{split_reading, split_entries, in_flight_but, one_each};
 ghost use Rattle.vub_infl_split.specs.Region.{RegionLies, words_of};
 
 use crate::SplitRegion;
@@ -18,10 +18,10 @@ use vub_base::{Failed, Pending, PendingList, Reading, RegionFault};
 use vub_shared::Shared;
 
 /// The most entries of a region.
-const MOST_ENTRIES: usize = 1024;
+pub(crate) const MOST_ENTRIES: usize = 1024;
 
 /// The links that were met, a mark for each entry.
-type Marks = [bool; MOST_ENTRIES];
+pub(crate) type Marks = [bool; MOST_ENTRIES];
 
 impl SplitRegion {
     /// What the region says where used.idx is `ring_used`. `into` gets the open entries in rising order
@@ -153,7 +153,7 @@ fn is_bad(link: u16, size: u16, met: &Marks) -> bool
 }
 
 /// The entries in flight that aren't counted, in order of index.
-fn gather<M: Shared>(
+pub(crate) fn gather<M: Shared>(
     region: &SplitRegion,
     mem: &mut M,
     counted: &Marks,
@@ -163,7 +163,7 @@ fn gather<M: Shared>(
     requires few { region.now.size ≤ 1024 }
     requires room { region.now.size ≤ into.old.room }
     requires empty { into.old.items ≡ [] }
-    ensures gathered { IfOk result (λ t. WhereTold (M.told mem.old) (λ m. (used : ℕ) → AreMarked counted.now (readings.counted used (words_of region.now m)) → into.new.items ≡ open_by_index region.now.size used (words_of region.now m))) }
+    ensures gathered { IfOk result (λ t. WhereTold (M.told mem.old) (λ m. (batch : List ℕ) → AreMarked counted.now batch → into.new.items ≡ by_index (words_of region.now m).counter one_each (in_flight_but batch (words_of region.now m)) region.now.size)) }
     ensures entries { OnOk result (AreEntries region.now.size into.new.items) }
     ensures same_room { into.new.room ≡ into.old.room }
     ensures only_loads { OnlyLoads M.told M.trail M.names M.handed M.sizes mem.old mem.new }

@@ -4,17 +4,13 @@ use Rattle.std.specs.Prelude.{not, ◌||◌, ◌==◌, nat_lt, Option, Some, Non
 use Rattle.std.specs.List.{AllByRecursion}
 use Rattle.std.proofs.lemmas.Bool.Decides.{nat_tests}
 use Rattle.std.proofs.lemmas.Bool.{cases_eq, cases_Bool}
-use Rattle.std.proofs.lemmas.List.{length-set, get_or-set_same, get_or-set_other}
+use Rattle.std.proofs.lemmas.List.{append_assoc, length-set, get_or-set_same, get_or-set_other}
 use Rattle.vub_device.specs.Past.{is_among}
 use Rattle.vub_device.specs.Places.{are_distinct}
 use Rattle.vub_device.proofs.Numbers.{is_among_append}
 use Rattle.vub_inflight.specs.Entries.{with_at}
-use Rattle.vub_inflight.specs.Links.{links, first_bad, AreMarked}
-
--- the entry after so many links
-abbrev pub link_at : (ℕ → ℕ) → ℕ → ℕ → ℕ
-link_at next zero entry = entry
-link_at next (suc count) entry = link_at next count (next entry)
+use Rattle.vub_inflight.specs.Links.{links, links_within, first_bad, AreMarked}
+pub use Rattle.vub_inflight.specs.Links.{link_at}
 
 link_at-next : (next : ℕ → ℕ) (count entry : ℕ) → link_at next (suc count) entry ≡ next (link_at next count entry)
 link_at-next next zero entry = refl
@@ -130,3 +126,28 @@ fine_links n met (x ∷ xs) none = go (fine_links n (met ++ x ∷ []) xs) (not (
     go : (first_bad n (met ++ x ∷ []) xs ≡ None → FineLinks n (met ++ x ∷ []) xs) → (b : Bool) → (not (nat_lt x n) || is_among met x) ≡ b → cond b (Some x) (first_bad n (met ++ x ∷ []) xs) ≡ None → FineLinks n met (x ∷ xs)
     go rest true is none' = absurd (let fails : ◌≡◌ {A = Option ℕ} (Some x) None = none' in cc)
     go rest false is none' = with_rest (grind arith) (grind arith) (rest none')
+
+-- ---- links that end before one that isn't below n
+
+-- where all are below n they are the links
+pub links_all_within : (n : ℕ) (next : ℕ → ℕ) (count entry : ℕ) → AllByRecursion (λ (i : ℕ). i < n) (links next count entry) → links_within n next count entry ≡ links next count entry
+links_all_within n next zero entry below = refl
+links_all_within n next (suc count) entry below =
+    let rest : links_within n next count (next entry) ≡ links next count (next entry) = links_all_within n next count (next entry) below.1 in
+    let low : entry < n = below.0 in
+    grind (arith, nat_tests)
+
+-- one link more that is below n
+pub within_goes_on : (n : ℕ) (next : ℕ → ℕ) (k k' left left' h h' head : ℕ) (whole : List ℕ) → k' ≡ k + 1 → left ≡ left' + 1 → h ≡ link_at next k head → h' ≡ next h → h < n
+    → links next k head ++ links_within n next left h ≡ whole → links next k' head ++ links_within n next left' h' ≡ whole
+within_goes_on n next k k' left left' h h' head whole more less at to low so_far =
+    let is_suc : left ≡ suc left' = omega (arith, less) in
+    let front : links next k' head ≡ links next k head ++ h ∷ [] = links_go_on next k k' h head more at in
+    let opened : links_within n next (suc left') h ≡ h ∷ links_within n next left' (next h) = grind (arith, nat_tests) in
+    let rest : links_within n next left h ≡ h ∷ links_within n next left' h' = ap (λ (j : ℕ). links_within n next j h) is_suc ∙ opened ∙ ap (λ (j : ℕ). h ∷ links_within n next left' j) (sym to) in
+    ap (λ (xs : List ℕ). xs ++ links_within n next left' h') front ∙ append_assoc (links next k head) (h ∷ []) (links_within n next left' h') ∙ ap (λ (xs : List ℕ). links next k head ++ xs) (sym rest) ∙ so_far
+
+-- one that isn't ends them
+pub within_ends : (n : ℕ) (next : ℕ → ℕ) (left h : ℕ) → n ≤ h → links_within n next left h ≡ []
+within_ends n next zero h out = refl
+within_ends n next (suc left) h out = grind (arith, nat_tests)

@@ -3,7 +3,7 @@ use Rattle.vub_inflight.specs.Entries.{heads_of}
 use Rattle.vub_infl_split.specs.Readings.{open_entries, read_list}
 use Rattle.vub_infl_split.specs.Region.{words_of}
 use Rattle.vub_infl_split.specs.Sound.{Sound}
-use Rattle.vub_infl_split.proofs.ReadingLemmas.{sound_reads, words_fit, entries_sound}
+use Rattle.vub_infl_split.proofs.ReadingLemmas.{sound_reads, sound_unchecked, words_fit, entries_sound}
 use Rattle.vub_infl_split.proofs.laws.a_sound_region_is_read.Goals as goal
 
 pub returns-clause-sound : goal.returns-clause-sound
@@ -16,3 +16,6 @@ returns-clause-reads c n used heads w s = sound_reads n used heads w s
 
 pub returns-clause-heads : goal.returns-clause-heads
 returns-clause-heads c n used heads w s = ap (λ x. heads_of (read_list x (open_entries n used w))) (sound_reads n used heads w s) ∙ s.reads
+
+pub returns-clause-unchecked : goal.returns-clause-unchecked
+returns-clause-unchecked c n used heads w s = sound_unchecked n used heads w s

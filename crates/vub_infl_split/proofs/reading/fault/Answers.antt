@@ -30,7 +30,7 @@ returns-clause-fault g c m told version =
     let few : ahead used w.used_idx ≤ n = omega (arith, batch, c.if-batch-region.false) in
     let bad : first_bad n [] (counted used w) ≡ None = ap (λ (k : ℕ). first_bad n [] (links w.next k w.last_batch_head)) batch ∙ sym (c.in_ok-bad.ensures.bad m told_3) ∙ c.in_default.is in
     let marked = subst (λ (k : ℕ). AreMarked c.walk_links.new.met (links w.next k w.last_batch_head)) (sym batch) (c.in_ok-bad.ensures.met c.in_default.is m told_3) in
-    let gathered = c.in_ok-gather.ensures.gathered m told_4 used marked in
+    let gathered = c.in_ok-gather.ensures.gathered m told_4 (counted used w) marked in
     c.bad_counter.ensures.fault w.counter one_each (is_open used w) n gathered ∙ ap readings.bad_counter gathered ∙ sym (counters_left n used w version count few bad)
 
 pub returns-clause-open : goal.returns-clause-open
@@ -43,7 +43,7 @@ returns-clause-open g c none m told =
     let fits : w.used_idx < 65536 = word-lt 2 m c.args.region.now.space.number (c.args.region.now.place + 14) (g.met.M.Shared.told_fits c.args.mem.now m told) in
     let batch : ahead used w.used_idx ≡ (used + (65536 - c.in_ok-used_idx.used_idx)) % 65536 = ahead_loaded used w.used_idx c.in_ok-used_idx.used_idx fits (c.in_ok-used_idx.ensures.loaded m told_2) in
     let marked = subst (λ (k : ℕ). AreMarked c.walk_links.new.met (links w.next k w.last_batch_head)) (sym batch) (c.in_ok-bad.ensures.met c.in_default.is m told_3) in
-    c.bad_counter.ensures.sorted none ∙ ap sorted (c.in_ok-gather.ensures.gathered m told_4 used marked)
+    c.bad_counter.ensures.sorted none ∙ ap sorted (c.in_ok-gather.ensures.gathered m told_4 (counted used w) marked)
 
 pub returns-clause-entries : goal.returns-clause-entries
 returns-clause-entries g c none = subst (λ (xs : List Pending). AreEntries c.args.region.now.size xs) (sym (c.bad_counter.ensures.sorted none)) (entries_sorted c.args.region.now.size c.gather.new.into.items c.in_ok-gather.ensures.entries)

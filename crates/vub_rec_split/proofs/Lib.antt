@@ -1,0 +1,5 @@
+pub mod LoadLemmas
+pub mod PlanSteps
+pub mod PlanStores
+pub mod StandLemmas
+pub mod StartLemmas
