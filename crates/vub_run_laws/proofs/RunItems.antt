@@ -7,6 +7,7 @@ use Rattle.vub_device.specs.declared.entry.Entry.TheVariants as entries
 use Rattle.vub_device.specs.Legal.{LegalFrom, after}
 use Rattle.vub_report.specs.declared.items.Item.{Item}
 use Rattle.vub_report.specs.declared.items.Item.TheVariants as items
+use Rattle.vub_run.specs.Before.{BeforeEach}
 use Rattle.vub_run.specs.Memory.{Scene, after_item, after_items}
 use Rattle.vub_run.specs.Tracking.{GoesWithNext, AfterEach}
 use Rattle.vub_report.specs.Histories.{entries_of}
@@ -45,6 +46,10 @@ each-append h P s (x ∷ xs) ys p q = (
   ],
   each-append h P (after_item h x s) xs ys p.1 q,
 )
+
+pub before-append : (h : Header1) (P : Scene → Item → Type 0) (s : Scene) (xs ys : List Item) → BeforeEach h P s xs → BeforeEach h P (after_items h xs s) ys → BeforeEach h P s (xs ++ ys)
+before-append h P s [] ys p q = q
+before-append h P s (x ∷ xs) ys p q = (p.0, before-append h P (after_item h x s) xs ys p.1 q)
 
 pub legal-append : (capacity : ℕ) (mode : CacheMode) (past es fs : List Entry) → LegalFrom capacity mode past es → LegalFrom capacity mode (after past es) fs → LegalFrom capacity mode past (es ++ fs)
 legal-append capacity mode past [] fs p q = q
