@@ -19,19 +19,22 @@ pub record IsUncollected (q : ℕ) (s : Scene) (k : ℕ) : Type 0 where
   pub shown : is_among (published s.past q) k ≡ true
   pub kept : is_among (take (collected s.past q) (published s.past q)) k ≡ false
 
--- a store shares no byte with the buffer of such a request, in any queue
-abbrev pub SparesAnswers : Header1 → Scene → Store → Type 0
-SparesAnswers h s st = (q k : ℕ) → q < h.queues → IsUncollected q s k → Apart st.space st.place (length st.bytes) guest_space (buffer_of q k s) buffer_bytes
+-- a store shares no byte with the buffer of such a request of the queue
+abbrev pub SparesAnswers : ℕ → Scene → Store → Type 0
+SparesAnswers q s st = (k : ℕ) → IsUncollected q s k → Apart st.space st.place (length st.bytes) guest_space (buffer_of q k s) buffer_bytes
 
--- an item at the scene before it: where it is a store, and none of a driver, it spares the answers
-abbrev pub IsSparing : Header1 → Scene → Item → Type 0
-IsSparing h s (items.Store tag area place bytes) = tag ≢ G → SparesAnswers h s (one_store (space_of area) place bytes)
-IsSparing h s i = ⊤
+-- an item at the scene before it: where it is a store, and none of a driver, it spares the answers of the queue
+abbrev pub IsSparing : ℕ → Scene → Item → Type 0
+IsSparing q s (items.Store tag area place bytes) = tag ≢ G → SparesAnswers q s (one_store (space_of area) place bytes)
+IsSparing q s i = ⊤
 
--- each store in these records that is none of a driver spares the answers where it is made
+abbrev pub SparesEveryQueue : Header1 → Scene → Item → Type 0
+SparesEveryQueue h s i = (q : ℕ) → q < h.queues → IsSparing q s i
+
+-- each store in these records that is none of a driver spares the answers of each queue where it is made
 abbrev pub SparedFrom : Header1 → Scene → List Record → Type 0
 SparedFrom h s [] = ⊤
-SparedFrom h s (r ∷ rs) = BeforeEach h (IsSparing h) s r.items × SparedFrom h (after_items h r.items s) rs
+SparedFrom h s (r ∷ rs) = BeforeEach h (SparesEveryQueue h) s r.items × SparedFrom h (after_items h r.items s) rs
 
 abbrev pub EveryAnswerIsSpared : Header1 → List Record → Type 0
 EveryAnswerIsSpared h records = SparedFrom h (opening_scene h) records

@@ -1,23 +1,21 @@
 -- What stores elsewhere leave.
-use Rattle.std.proofs.Common.{◌≡◌, ◌≢◌, ◌≤◌, ◌<◌, ◌⊎◌, ℕ, ◌+◌, ◌*◌, true, List, ◌++◌, length, sym, ◌∙◌, subst, inl, inr, arith, []}
+use Rattle.std.proofs.Common.{◌≡◌, ◌≢◌, ◌≤◌, ◌<◌, ◌⊎◌, ℕ, ◌+◌, ◌*◌, true, List, ◌++◌, length, ◌∙◌, inl, inr, arith, []}
 use Rattle.std.specs.Prelude.{slice_index}
 use Rattle.byteorder.specs.Endian.{little_bytes}
 use Rattle.byteorder.specs.Numbers.{length-bytes_low_first}
 use Rattle.std.proofs.lemmas.Bool.{cases_lt}
-use Rattle.vub_base.specs.declared.header.Header1.{Header1}
 use Rattle.vub_base.specs.declared.store.Tag.{Tag}
 use Rattle.vub_base.specs.declared.store.Area.TheVariants.{M}
-use Rattle.vub_shared.specs.Bytes.{Bytes, put, word, Apart}
+use Rattle.vub_shared.specs.Bytes.{Bytes, put, word}
 use Rattle.vub_shared.proofs.BytesLemmas.{put_other, word-put_other}
-use Rattle.vub_driver.specs.Layout.{guest_space, area_place, buffer_bytes, status_place, sectors_place}
+use Rattle.vub_driver.specs.Layout.{area_place, status_place, sectors_place}
 use Rattle.vub_device.specs.declared.entry.Entry.{Entry}
 use Rattle.vub_device.specs.Past.{published, collected, is_among, IsOpen}
 use Rattle.vub_report.specs.declared.items.Item.TheVariants as items
 use Rattle.vub_run.specs.Memory.{Scene}
-use Rattle.vub_run.specs.Moments.{buffer_of}
 use Rattle.vub_run.specs.Spared.{IsUncollected, IsSparing}
 use Rattle.vub_run_laws.proofs.RunNumbers.{not_among-take}
-use Rattle.vub_run_laws.proofs.RunGood.{Known, IsOut, Stored, buffer, IsGood}
+use Rattle.vub_run_laws.proofs.RunGood.{Known, IsOut, Stored, buffer}
 
 -- an open number is offered and not collected
 pub open_out : (q n cap : ℕ) (past : List Entry) (heads : List ℕ) (k : ℕ) → Known q n cap past heads → IsOpen past q k → IsOut q past heads k
@@ -60,16 +58,12 @@ other_buffer q heads k head p bs apart from upto = elim (cases_lt (slice_index h
   | inr more ↦ inl (let above : head < slice_index heads k = omega arith in omega arith)
 ]
 
--- a store off the buffer of each request of the queue that is published and not collected: there is no other queue
-pub off_spares : (q : ℕ) (h : Header1) (s : Scene) (tag : Tag) (p : ℕ) (bs : List ℕ) → IsGood h → q < h.queues → ((k : ℕ) → IsUncollected q s k → OffBuffer q (s.heads q) k p bs) → IsSparing h s (items.Store tag M p bs)
-off_spares q h s tag p bs good low off = λ other r k fits out.
-    let one : q ≡ r = omega (arith, good.queues, low, fits) in
-    let here : IsUncollected q s k = subst (λ (i : ℕ). IsUncollected i s k) (sym one) out in
-    let apart : Apart guest_space p (length bs) guest_space (buffer_of q k s) buffer_bytes = elim (off k here) [
-      | inl below ↦ inr (inr below)
-      | inr above ↦ inr (inl above)
-    ] in
-    subst (λ (i : ℕ). Apart guest_space p (length bs) guest_space (buffer_of i k s) buffer_bytes) one apart
+-- a store off the buffer of each request that is published and not collected
+pub off_spares : (q : ℕ) (s : Scene) (tag : Tag) (p : ℕ) (bs : List ℕ) → ((k : ℕ) → IsUncollected q s k → OffBuffer q (s.heads q) k p bs) → IsSparing q s (items.Store tag M p bs)
+off_spares q s tag p bs off = λ other k out. elim (off k out) [
+  | inl below ↦ inr (inr below)
+  | inr above ↦ inr (inl above)
+]
 
 -- ---- the avail entry that comes next
 

@@ -212,8 +212,8 @@ pub queue_quiet : (q : ℕ) (h : Header1) (batch : List ℕ) (step : Step) (s : 
 queue_quiet q h batch step s = step_quiet q h batch step s
 
 -- and where one is a store it spares the answers that are published and not collected
-pub queue_spares : (q : ℕ) (h : Header1) (batch : List ℕ) (step : Step) (s : Scene) → IsGood h → q < h.queues → BeforeEach h (IsSparing h) s (step_items h q batch step s)
-queue_spares q h batch step s good low = step_spares q h batch step s good low
+pub queue_spares : (q : ℕ) (h : Header1) (batch : List ℕ) (step : Step) (s : Scene) → IsSize h.size → BeforeEach h (IsSparing q) s (step_items h q batch step s)
+queue_spares q h batch step s size = step_spares q h batch step s size
 
 -- ---- the head of an offer
 
