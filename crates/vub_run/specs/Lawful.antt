@@ -15,7 +15,8 @@ use Rattle.vub_schedule.specs.declared.types.Event.TheVariants as events
 use Rattle.vub_report.specs.declared.items.Item.{Item}
 use Rattle.vub_report.specs.declared.items.Item.TheVariants as items
 use Rattle.vub_report.specs.declared.items.Record.{Record}
-use Rattle.vub_run.specs.Memory.{Scene, opening_scene, space_of, after_item, after_items}
+use Rattle.vub_run.specs.Before.{BeforeEach}
+use Rattle.vub_run.specs.Memory.{Scene, opening_scene, space_of, after_items}
 
 -- ---- what the device may use
 
@@ -92,11 +93,6 @@ IsLawfulIn h s st e = ⊥
 abbrev pub IsLawfulItem : Header1 → Event → Scene → Item → Type 0
 IsLawfulItem h e s (items.Store G area place bytes) = IsLawfulIn h s (one_store (space_of area) place bytes) e
 IsLawfulItem h e s i = ⊤
-
--- a fact of each item at the scene before it
-abbrev pub BeforeEach : Header1 → (Scene → Item → Type 0) → Scene → List Item → Type 0
-BeforeEach h P s [] = ⊤
-BeforeEach h P s (i ∷ is) = P s i × BeforeEach h P (after_item h i s) is
 
 -- each store of a driver in these records is lawful where it is made
 abbrev pub LawfulFrom : Header1 → Scene → List Record → Type 0

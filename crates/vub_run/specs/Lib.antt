@@ -1,8 +1,10 @@
+pub mod Before
 pub mod Lawful
 pub mod LegalRuns
 pub mod Memory
 pub mod Moments
 pub mod Run
+pub mod Spared
 pub mod TaskItems
 pub mod Tracking
 pub mod Turns

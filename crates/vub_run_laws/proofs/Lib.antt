@@ -11,6 +11,7 @@ pub mod RingOpening
 pub mod RingQuiet
 pub mod RingRows
 pub mod RingSmall
+pub mod RingSpares
 pub mod RingStores
 pub mod RingTracks
 pub mod RunAsks
@@ -50,6 +51,7 @@ pub mod RunQueues
 pub mod RunQuiet
 pub mod RunServes
 pub mod RunShown
+pub mod RunSpares
 pub mod RunSteps
 pub mod RunTaken
 pub mod RunTracks

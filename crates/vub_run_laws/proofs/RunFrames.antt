@@ -4,11 +4,16 @@ use Rattle.std.specs.Prelude.{slice_index}
 use Rattle.byteorder.specs.Endian.{little_bytes}
 use Rattle.byteorder.specs.Numbers.{length-bytes_low_first}
 use Rattle.std.proofs.lemmas.Bool.{cases_lt}
+use Rattle.vub_base.specs.declared.store.Tag.{Tag}
+use Rattle.vub_base.specs.declared.store.Area.TheVariants.{M}
 use Rattle.vub_shared.specs.Bytes.{Bytes, put, word}
 use Rattle.vub_shared.proofs.BytesLemmas.{put_other, word-put_other}
 use Rattle.vub_driver.specs.Layout.{area_place, status_place, sectors_place}
 use Rattle.vub_device.specs.declared.entry.Entry.{Entry}
 use Rattle.vub_device.specs.Past.{published, collected, is_among, IsOpen}
+use Rattle.vub_report.specs.declared.items.Item.TheVariants as items
+use Rattle.vub_run.specs.Memory.{Scene}
+use Rattle.vub_run.specs.Spared.{IsUncollected, IsSparing}
 use Rattle.vub_run_laws.proofs.RunNumbers.{not_among-take}
 use Rattle.vub_run_laws.proofs.RunGood.{Known, IsOut, Stored, buffer}
 
@@ -51,6 +56,13 @@ pub other_buffer : (q : ℕ) (heads : List ℕ) (k head p : ℕ) (bs : List ℕ)
 other_buffer q heads k head p bs apart from upto = elim (cases_lt (slice_index heads k) head) [
   | inl less ↦ inr (omega arith)
   | inr more ↦ inl (let above : head < slice_index heads k = omega arith in omega arith)
+]
+
+-- a store off the buffer of each request that is published and not collected
+pub off_spares : (q : ℕ) (s : Scene) (tag : Tag) (p : ℕ) (bs : List ℕ) → ((k : ℕ) → IsUncollected q s k → OffBuffer q (s.heads q) k p bs) → IsSparing q s (items.Store tag M p bs)
+off_spares q s tag p bs off = λ other k out. elim (off k out) [
+  | inl below ↦ inr (inr below)
+  | inr above ↦ inr (inl above)
 ]
 
 -- ---- the avail entry that comes next

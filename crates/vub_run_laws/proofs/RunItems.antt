@@ -1,5 +1,5 @@
 -- Items one after another.
-use Rattle.std.proofs.Common.{◌≡◌, ℕ, List, [], ◌∷◌, ◌++◌, refl, ap, ◌∙◌, inl, inr}
+use Rattle.std.proofs.Common.{◌≡◌, ◌<◌, ℕ, List, [], ◌∷◌, ◌++◌, refl, ap, ◌∙◌, inl, inr}
 use Rattle.vub_base.specs.declared.header.Header1.{Header1}
 use Rattle.vub_base.specs.declared.header.CacheMode.{CacheMode}
 use Rattle.vub_device.specs.declared.entry.Entry.{Entry}
@@ -7,6 +7,7 @@ use Rattle.vub_device.specs.declared.entry.Entry.TheVariants as entries
 use Rattle.vub_device.specs.Legal.{LegalFrom, after}
 use Rattle.vub_report.specs.declared.items.Item.{Item}
 use Rattle.vub_report.specs.declared.items.Item.TheVariants as items
+use Rattle.vub_run.specs.Before.{BeforeEach}
 use Rattle.vub_run.specs.Memory.{Scene, after_item, after_items}
 use Rattle.vub_run.specs.Tracking.{GoesWithNext, AfterEach}
 use Rattle.vub_report.specs.Histories.{entries_of}
@@ -45,6 +46,15 @@ each-append h P s (x ∷ xs) ys p q = (
   ],
   each-append h P (after_item h x s) xs ys p.1 q,
 )
+
+pub before-append : (h : Header1) (P : Scene → Item → Type 0) (s : Scene) (xs ys : List Item) → BeforeEach h P s xs → BeforeEach h P (after_items h xs s) ys → BeforeEach h P s (xs ++ ys)
+before-append h P s [] ys p q = q
+before-append h P s (x ∷ xs) ys p q = (p.0, before-append h P (after_item h x s) xs ys p.1 q)
+
+-- what holds of each queue holds of all of them
+pub before_every : (h : Header1) (P : ℕ → Scene → Item → Type 0) (s : Scene) (is : List Item) → ((q : ℕ) → q < h.queues → BeforeEach h (P q) s is) → BeforeEach h (λ x i. (q : ℕ) → q < h.queues → P q x i) s is
+before_every h P s [] all = tt
+before_every h P s (i ∷ is) all = (λ q low. (all q low).0, before_every h P (after_item h i s) is (λ q low. (all q low).1))
 
 pub legal-append : (capacity : ℕ) (mode : CacheMode) (past es fs : List Entry) → LegalFrom capacity mode past es → LegalFrom capacity mode (after past es) fs → LegalFrom capacity mode past (es ++ fs)
 legal-append capacity mode past [] fs p q = q

@@ -19,7 +19,8 @@ use Rattle.vub_schedule.specs.declared.types.Schedule.{Schedule}
 use Rattle.vub_schedule.specs.Spelling.{IsHeader, IsEvent, IsSchedule}
 use Rattle.vub_report.specs.declared.items.Item.{Item}
 use Rattle.vub_report.specs.declared.items.Record.{Record}
-use Rattle.vub_run.specs.Lawful.{IsOutstanding, HasRoom, next_index, IsLawful, IsLawfulItem, BeforeEach, LawfulFrom, EveryStoreIsLawful}
+use Rattle.vub_run.specs.Before.{BeforeEach}
+use Rattle.vub_run.specs.Lawful.{IsOutstanding, HasRoom, next_index, IsLawful, IsLawfulItem, LawfulFrom, EveryStoreIsLawful}
 use Rattle.vub_run.specs.Memory.{Scene}
 use Rattle.vub_run.specs.Moments.{Moment, opening}
 use Rattle.vub_run.specs.Run.{RunTo, Stands, Played, if_ready, guest_items, guest, guest_stores, Plays, RunFrom, Run}

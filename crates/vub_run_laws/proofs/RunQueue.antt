@@ -42,6 +42,9 @@ use Rattle.vub_steps.specs.declared.steps.Step.{Step}
 use Rattle.vub_run.specs.Turns.{step_items}
 use Rattle.vub_run_laws.proofs.RunItems.{AreQuiet}
 use Rattle.vub_run_laws.proofs.RingQuiet.{step_quiet}
+use Rattle.vub_run.specs.Before.{BeforeEach}
+use Rattle.vub_run.specs.Spared.{IsSparing}
+use Rattle.vub_run_laws.proofs.RingSpares.{step_spares}
 
 -- ---- the opening
 
@@ -207,6 +210,10 @@ queue_ahead q h s l good x = some_waits q h s l good x
 -- the items of a step are neither a store of a driver nor an offer
 pub queue_quiet : (q : ℕ) (h : Header1) (batch : List ℕ) (step : Step) (s : Scene) → AreQuiet h (step_items h q batch step s)
 queue_quiet q h batch step s = step_quiet q h batch step s
+
+-- and where one is a store it spares the answers that are published and not collected
+pub queue_spares : (q : ℕ) (h : Header1) (batch : List ℕ) (step : Step) (s : Scene) → IsSize h.size → BeforeEach h (IsSparing q) s (step_items h q batch step s)
+queue_spares q h batch step s size = step_spares q h batch step s size
 
 -- ---- the head of an offer
 

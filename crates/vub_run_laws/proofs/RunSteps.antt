@@ -1,7 +1,8 @@
 -- The steps of a request, by how many were made.
-use Rattle.std.proofs.Common.{◌≡◌, ◌≤◌, ◌<◌, ℕ, zero, suc, ◌+◌, ◌*◌, ◌/◌, Bool, true, List, [], ◌∷◌, ◌++◌, length, refl, ap, ◌∙◌, subst, arith}
+use Rattle.std.proofs.Common.{◌≡◌, ◌≤◌, ◌<◌, ℕ, zero, suc, ◌+◌, ◌*◌, ◌/◌, Bool, true, List, [], ◌∷◌, ◌++◌, length, refl, ap, sym, ◌∙◌, subst, inl, inr, arith}
 use Rattle.std.specs.Prelude.{Option, Some, None, slice_get, slice_range, nat_lt, if◌then◌else◌}
 use Rattle.std.proofs.lemmas.Bool.Decides.{nat_tests}
+use Rattle.std.proofs.lemmas.Bool.{cases_lt}
 use Rattle.vub_base.specs.declared.header.CacheMode.{CacheMode}
 use Rattle.vub_base.specs.declared.header.CacheMode.TheVariants.{Back}
 use Rattle.vub_base.specs.declared.header.Header1.{Header1}
@@ -9,7 +10,7 @@ use Rattle.vub_device.specs.declared.entry.Asked.{Asked}
 use Rattle.vub_device.specs.declared.entry.Asked.TheVariants as asks
 use Rattle.vub_device.specs.declared.entry.SectorValue.{SectorValue}
 use Rattle.vub_device.specs.Requests.{look_at, effect_at, refusal}
-use Rattle.vub_steps.specs.Tasks.{RequestStep, Look, Put, Act, Status, task_steps, unless_refused, disk_steps, look_steps, act_steps}
+use Rattle.vub_steps.specs.Tasks.{RequestStep, Look, Put, Act, Sync, Status, task_steps, unless_refused, disk_steps, look_steps, act_steps}
 use Rattle.vub_run_laws.proofs.RunGood.{IsWideRead, IsWideWrite, IsWide, Progress, IsBegun, IsReadTo, IsWrittenTo}
 
 -- ---- requests
@@ -91,6 +92,39 @@ write_over a zero zero l = absurd (omega arith)
 write_over a zero (suc made) l = refl
 write_over a (suc n) zero l = absurd (omega arith)
 write_over a (suc n) (suc made) l = write_over (a + 1) n made (omega arith)
+
+-- of the sectors of a request at most eight are stored
+pub put_few : (h : Header1) (r : Asked) (made place : ℕ) → h.mode ≡ Back → IsWide h.capacity (Some r) → slice_get (task_steps h r) made ≡ Some (Put place) → place < 8
+put_few h (asks.Read sector c) made place back wide is =
+    let there : slice_get (look_steps 0 c ++ Status ∷ []) made ≡ Some (Put place) = subst (λ (steps : List RequestStep). slice_get steps made ≡ Some (Put place)) (wide_steps h (asks.Read sector c) back wide) is in
+    elim (cases_lt (2 * c) made) [
+      | inl over ↦ absurd (let fails : None ≡ Some (Put place) = sym (read_over 0 c made over) ∙ there in cc)
+      | inr under ↦ go (slice_get (look_steps 0 c ++ Status ∷ []) made) there (read_at 0 c made (omega arith))
+    ]
+  where
+    go : (o : Option RequestStep) → o ≡ Some (Put place) → ReadAt 0 c made o → place < 8
+    go o there (ToLook p within at i) = absurd (let fails : Some (Look (0 + p)) ≡ Some (Put place) = sym i ∙ there in cc)
+    go o there (ToPut p within at i) = let same : 0 + p ≡ place = (let both : Some (Put (0 + p)) ≡ Some (Put place) = sym i ∙ there in cc) in omega (arith, within, wide.few, same)
+    go o there (ToReply at i) = absurd (let fails : Some Status ≡ Some (Put place) = sym i ∙ there in cc)
+put_few h (asks.Write sector bytes) made place back wide is =
+    let there : slice_get (act_steps 0 (length bytes / 512) ++ Status ∷ []) made ≡ Some (Put place) = subst (λ (steps : List RequestStep). slice_get steps made ≡ Some (Put place)) (wide_steps h (asks.Write sector bytes) back wide) is in
+    absurd (elim (cases_lt (length bytes / 512) made) [
+      | inl over ↦ let fails : None ≡ Some (Put place) = sym (write_over 0 (length bytes / 512) made over) ∙ there in cc
+      | inr under ↦ go (slice_get (act_steps 0 (length bytes / 512) ++ Status ∷ []) made) there (write_at 0 (length bytes / 512) made (omega arith))
+    ])
+  where
+    go : (o : Option RequestStep) → o ≡ Some (Put place) → WriteAt 0 (length bytes / 512) made o → ⊥
+    go o there (ToAct within i) = let fails : Some (Act (0 + made)) ≡ Some (Put place) = sym i ∙ there in cc
+    go o there (ToEnd at i) = let fails : Some Status ≡ Some (Put place) = sym i ∙ there in cc
+put_few h asks.Flush made place back wide is = absurd (go made (subst (λ (steps : List RequestStep). slice_get steps made ≡ Some (Put place)) (wide_steps h asks.Flush back wide) is))
+  where
+    go : (i : ℕ) → slice_get (Sync ∷ Status ∷ []) i ≡ Some (Put place) → ⊥
+    go zero there = let fails : Some Sync ≡ Some (Put place) = there in cc
+    go (suc zero) there = let fails : Some Status ≡ Some (Put place) = there in cc
+    go (suc (suc i)) there = let fails : None ≡ Some (Put place) = there in cc
+put_few h asks.Id made place back wide is = absurd wide
+put_few h (asks.Discard parts) made place back wide is = absurd wide
+put_few h (asks.Zero parts) made place back wide is = absurd wide
 
 -- ---- what a step does
 

@@ -20,6 +20,7 @@ ghost use Rattle.vub_report.specs.Entries.{IsEntry};
 ghost use Rattle.vub_report.specs.Histories.{history_of};
 ghost use Rattle.vub_run.specs.Lawful.{IsOutstanding, EveryStoreIsLawful};
 ghost use Rattle.vub_run.specs.LegalRuns.{EveryDrainServes};
+ghost use Rattle.vub_run.specs.Spared.{EveryAnswerIsSpared};
 
 /// The history of every run of a schedule is legal: the device answers each request at most once,
 /// and rightly. Memory tracks it after each item, a store taken together with the offer or the
@@ -40,6 +41,12 @@ pub fn every_entry_is_whole()
 /// requests in flight.
 pub fn every_driver_store_is_lawful()
     ensures { (s : Schedule) (records : List Record) → IsSchedule s → Run s records → EveryStoreIsLawful s.header records }
+{}
+
+/// In every run of a schedule, each store that isn't a driver's leaves the buffer of every request
+/// that is published and not collected as it was, in each queue.
+pub fn every_answer_is_spared()
+    ensures { (s : Schedule) (records : List Record) → IsSchedule s → Run s records → EveryAnswerIsSpared s.header records }
 {}
 
 /// Where a run leads, the descriptors that history keeps of a request that is offered and not
