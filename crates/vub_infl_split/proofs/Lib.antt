@@ -1,3 +1,4 @@
 pub mod ReadingChecks
 pub mod ReadingLemmas
 pub mod WordLemmas
+pub mod PlaceLemmas

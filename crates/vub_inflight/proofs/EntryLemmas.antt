@@ -1,5 +1,5 @@
 -- The open entries by counter, as the entries change.
-use Rattle.std.proofs.Common.{◌≡◌, ◌≢◌, ◌≤◌, ◌<◌, ℕ, zero, suc, Bool, true, false, cond, not, List, [], ◌∷◌, ◌++◌, ◌+◌, length, filter, refl, ap, sym, ◌∙◌, subst, inl, inr, arith}
+use Rattle.std.proofs.Common.{◌≡◌, ◌≢◌, ◌<◌, ℕ, zero, suc, Bool, true, false, cond, not, List, [], ◌∷◌, ◌++◌, ◌+◌, length, filter, refl, ap, sym, ◌∙◌, subst, inl, inr, arith}
 use Rattle.std.specs.Prelude.{◌&&◌, ◌||◌, ◌==◌, nat_lt, ⊤}
 use Rattle.std.specs.List.{AllByRecursion}
 use Rattle.std.proofs.lemmas.Bool.Decides.{nat_tests}
@@ -239,13 +239,6 @@ entries_sorted n xs f = record {
   distinct = distinct_sorted xs ∙ f.distinct;
 }
 
-pub entries_wider : (n m : ℕ) (xs : List Pending) → n ≤ m → AreEntries n xs → AreEntries m xs
-entries_wider n m xs up f = record {
-  few = omega (arith, up, f.few);
-  below = all_weaker (λ e. e.head < n) (λ e. e.head < m) xs (λ e l. omega (arith, up, l)) f.below;
-  distinct = f.distinct;
-}
-
 distinct_push : (xs : List Pending) (e : Pending) → AllByRecursion (λ (x : Pending). x.head < e.head) xs → are_distinct (heads_of xs) ≡ true → are_distinct (heads_of (xs ++ e ∷ [])) ≡ true
 distinct_push [] e below d = refl
 distinct_push (x ∷ xs) e below d =
@@ -264,6 +257,3 @@ entries_push n xs e is f =
       below = all_append (λ x. x.head < n + 1) xs (e ∷ []) (all_weaker (λ x. x.head < n) (λ x. x.head < n + 1) xs (λ x l. omega (arith, l)) f.below) (omega (arith, is), tt);
       distinct = distinct_push xs e (subst (λ (k : ℕ). AllByRecursion (λ (x : Pending). x.head < k) xs) (sym is) f.below) f.distinct;
     }
-
-pub no_entries : (n : ℕ) → AreEntries n []
-no_entries n = record { few = omega arith; below = tt; distinct = refl }

@@ -10,11 +10,7 @@ use Rattle.vub_device.specs.Places.{are_distinct}
 use Rattle.vub_device.proofs.Numbers.{is_among_append}
 use Rattle.vub_inflight.specs.Entries.{with_at}
 use Rattle.vub_inflight.specs.Links.{links, links_within, first_bad, AreMarked}
-
--- the entry after so many links
-abbrev pub link_at : (ℕ → ℕ) → ℕ → ℕ → ℕ
-link_at next zero entry = entry
-link_at next (suc count) entry = link_at next count (next entry)
+pub use Rattle.vub_inflight.specs.Links.{link_at}
 
 link_at-next : (next : ℕ → ℕ) (count entry : ℕ) → link_at next (suc count) entry ≡ next (link_at next count entry)
 link_at-next next zero entry = refl

@@ -13,6 +13,11 @@ abbrev pub links_within : ℕ → (ℕ → ℕ) → ℕ → ℕ → List ℕ
 links_within n next zero entry = []
 links_within n next (suc count) entry = if nat_lt entry n then entry ∷ links_within n next count (next entry) else []
 
+-- the entry after so many links
+abbrev pub link_at : (ℕ → ℕ) → ℕ → ℕ → ℕ
+link_at next zero entry = entry
+link_at next (suc count) entry = link_at next count (next entry)
+
 -- the first that isn't below n or was met before
 abbrev pub first_bad : ℕ → List ℕ → List ℕ → Option ℕ
 first_bad n met [] = None

@@ -9,7 +9,6 @@ use Rattle.vub_device.specs.Past.{is_among, IsDistinct}
 use Rattle.vub_device.specs.Places.{are_distinct}
 use Rattle.vub_device.proofs.Numbers.{is_among_append}
 use Rattle.vub_device.proofs.Distinct.{among_at, distinct_from_test, test_from_distinct}
-use Rattle.vub_inflight.proofs.Each.{all_append}
 
 -- ---- each
 
@@ -23,6 +22,10 @@ below_among n (y ∷ xs) x below held = elim (cases_eq y x) [
   | inr apart ↦ below_among n xs x below.1 (grind (arith, nat_tests))
 ]
 
+pub all_below : (n : ℕ) (xs : List ℕ) → ((x : ℕ) → is_among xs x ≡ true → x < n) → AllByRecursion (λ (x : ℕ). x < n) xs
+all_below n [] below = tt
+all_below n (x ∷ xs) below = (below x (grind (arith, nat_tests)), all_below n xs (λ y held. below y (grind (arith, nat_tests))))
+
 -- ---- turned round
 
 pub among_reverse : (xs : List ℕ) (i : ℕ) → is_among (reverse xs) i ≡ is_among xs i
@@ -32,10 +35,6 @@ among_reverse (x ∷ xs) i =
     let joined : is_among (reverse xs ++ x ∷ []) i ≡ (is_among (reverse xs) i || is_among (x ∷ []) i) = is_among_append (reverse xs) (x ∷ []) i in
     let whole : is_among (reverse (x ∷ xs)) i ≡ is_among (reverse xs ++ x ∷ []) i = ap (λ (ys : List ℕ). is_among ys i) (reverse-append (x ∷ []) xs) in
     grind (arith, nat_tests)
-
-pub below_reverse : (n : ℕ) (xs : List ℕ) → AllByRecursion (λ (x : ℕ). x < n) xs → AllByRecursion (λ (x : ℕ). x < n) (reverse xs)
-below_reverse n [] below = tt
-below_reverse n (x ∷ xs) below = rw (reverse-append (x ∷ []) xs) (all_append (λ (y : ℕ). y < n) (reverse xs) (x ∷ []) (below_reverse n xs below.1) (below.0, tt))
 
 distinct_turned : (xs : List ℕ) → IsDistinct xs → IsDistinct (reverse xs)
 distinct_turned xs distinct i j d before low same =

@@ -17,9 +17,9 @@ use Rattle.vub_infl_split.specs.Stores.{words_after}
 use Rattle.vub_infl_split.specs.Readings.{counted, open_entries}
 use Rattle.vub_infl_split.proofs.ReadingLemmas.{reading_link, reading_last, reading_clear, reading_note}
 use Rattle.vub_region_facts.specs.Starts.{Left, IsNoted, IsSettled}
-use Rattle.vub_region_facts.specs.Phases.{IsCounted, index_step, note_step, IsBatch, IsLinked, IsShown, InPublication, InLife, NotStarted}
-use Rattle.vub_region_facts.proofs.BatchLemmas.{among_get_or, below_among, among_reverse, among_take_more, reverse_take_more, apart_from_first}
-use Rattle.vub_region_facts.proofs.SoundLemmas.{free_head, sound_count, counted_now, sound_accept, below_accept, sound_link, sound_last, sound_show, shown_now, below_show, sound_clear, sound_note}
+use Rattle.vub_region_facts.specs.Phases.{HasCounter, index_step, note_step, IsBatch, IsLinked, IsShown, InPublication, InLife, NotStarted}
+use Rattle.vub_region_facts.proofs.BatchLemmas.{among_get_or, among_reverse, among_take_more, reverse_take_more, apart_from_first}
+use Rattle.vub_region_facts.proofs.SoundLemmas.{free_head, sound_counter, has_counter_now, sound_accept, below_accept, sound_link, sound_last, sound_show, shown_now, below_show, sound_clear, sound_note}
 use Rattle.vub_region_facts.proofs.StartLemmas.{start_left}
 
 -- ---- a life begins and ends
@@ -55,14 +55,14 @@ fetch_begins n used head next counter heads batch w p = record {
 }
 
 -- SF1, for a head that isn't open
-pub fetch_counts : (n used head counter : ℕ) (heads batch : List ℕ) (w : RegionWords) → used < 65536 → head < n → is_among heads head ≡ false → counter < 18446744073709551615 → InLife n used head counter heads batch (phases.Fetch 0) w
+pub fetch_gives_counter : (n used head counter : ℕ) (heads batch : List ℕ) (w : RegionWords) → used < 65536 → head < n → is_among heads head ≡ false → counter < 18446744073709551615 → InLife n used head counter heads batch (phases.Fetch 0) w
     → InLife n used head (counter + 1) heads batch (phases.Fetch 1) (words_after n (SF1 head counter) w)
-fetch_counts n used head counter heads batch w fits within out small p =
+fetch_gives_counter n used head counter heads batch w fits within out small p =
     let noted : IsNoted used w = p.under_way.noted in
     let free : w.inflight head ≡ 0 = free_head n used heads head w within noted fits out p.sound in
-    let c : IsCounted n used head (counter + 1) (words_after n (SF1 head counter) w) = counted_now n used w head counter within noted fits free small p.below in
+    let c : HasCounter n used head (counter + 1) (words_after n (SF1 head counter) w) = has_counter_now n used w head counter within noted fits free small p.below in
     record {
-      sound = sound_count n used heads w head counter noted fits free p.sound;
+      sound = sound_counter n used heads w head counter noted fits free p.sound;
       below = below_weaker (with_at w.counter head counter head) (counter + 1) (open_entries n used (words_after n (SF1 head counter) w)) (omega (arith, c.given)) c.above;
       under_way = record { noted = noted; given = λ some. c };
     }
@@ -72,7 +72,7 @@ pub fetch_accepts : (n used head next counter : ℕ) (heads batch : List ℕ) (w
     → InLife n used next counter (heads ++ head ∷ []) batch phases.Rest (words_after n (SF2 head) w)
 fetch_accepts n used head next counter heads batch w fits p =
     let noted : IsNoted used w = p.under_way.noted in
-    let c : IsCounted n used head counter w = p.under_way.given (omega arith) in
+    let c : HasCounter n used head counter w = p.under_way.given (omega arith) in
     record {
       sound = sound_accept n used heads w head counter noted fits c p.sound;
       below = below_accept n used head counter w noted fits c;
@@ -106,14 +106,14 @@ element_stored used batch e done w more which p =
       noted = λ gt. absurd (omega (arith, low, gt));
     }
 
-pub publication_stores : (n used head counter : ℕ) (heads batch : List ℕ) (e done : ℕ) (w : RegionWords) → e < length batch → (done ≡ 4 * e) ⊎ (done ≡ 4 * e + 1) → InLife n used head counter heads batch (phases.Publish done) w
+pub publication_stores_element : (n used head counter : ℕ) (heads batch : List ℕ) (e done : ℕ) (w : RegionWords) → e < length batch → (done ≡ 4 * e) ⊎ (done ≡ 4 * e + 1) → InLife n used head counter heads batch (phases.Publish done) w
     → InLife n used head counter heads batch (phases.Publish (done + 1)) w
-publication_stores n used head counter heads batch e done w more which p = record { sound = p.sound; below = p.below; under_way = element_stored used batch e done w more which p.under_way }
+publication_stores_element n used head counter heads batch e done w more which p = record { sound = p.sound; below = p.below; under_way = element_stored used batch e done w more which p.under_way }
 
 -- SP3: the link of an element
-pub publication_links : (n used head counter : ℕ) (heads batch : List ℕ) (e : ℕ) (w : RegionWords) → used < 65536 → e < length batch → IsBatch n batch → InLife n used head counter heads batch (phases.Publish (4 * e + 2)) w
+pub publication_stores_link : (n used head counter : ℕ) (heads batch : List ℕ) (e : ℕ) (w : RegionWords) → used < 65536 → e < length batch → IsBatch n batch → InLife n used head counter heads batch (phases.Publish (4 * e + 2)) w
     → InLife n used head counter heads batch (phases.Publish (4 * e + 3)) (words_after n (SP3 (slice_index batch e) w.last_batch_head) w)
-publication_links n used head counter heads batch e w fits more b p =
+publication_stores_link n used head counter heads batch e w fits more b p =
     let entry : ℕ = slice_index batch e in
     let w' : RegionWords = words_after n (SP3 entry w.last_batch_head) w in
     let at : (4 * e + 2) / 4 ≡ e = omega arith in
@@ -134,14 +134,14 @@ publication_links n used head counter heads batch e w fits more b p =
     }
 
 -- SP4: it is last_batch_head
-pub publication_heads : (n used head counter : ℕ) (heads batch : List ℕ) (e : ℕ) (w : RegionWords) → n < 65536 → used < 65536 → e < length batch → IsBatch n batch → InLife n used head counter heads batch (phases.Publish (4 * e + 3)) w
+pub publication_sets_last_batch_head : (n used head counter : ℕ) (heads batch : List ℕ) (e : ℕ) (w : RegionWords) → n < 65536 → used < 65536 → e < length batch → IsBatch n batch → InLife n used head counter heads batch (phases.Publish (4 * e + 3)) w
     → InLife n used head counter heads batch (phases.Publish (4 * e + 4)) (words_after n (SP4 (slice_index batch e)) w)
-publication_heads n used head counter heads batch e w small fits more b p =
+publication_sets_last_batch_head n used head counter heads batch e w small fits more b p =
     let entry : ℕ = slice_index batch e in
     let w' : RegionWords = words_after n (SP4 entry) w in
     let at : (4 * e + 3) / 4 ≡ e = omega arith in
     let at' : (4 * e + 4) / 4 ≡ e + 1 = omega arith in
-    let low : entry < n = below_among n batch entry b.within (among_get_or batch e more) in
+    let low : entry < n = b.below entry (among_get_or batch e more) in
     let old : IsLinked used batch e w = subst (λ (k : ℕ). IsLinked used batch k w) at (p.under_way.linked (omega (arith, more))) in
     let link : w.next entry ≡ w.last_batch_head = subst (λ (k : ℕ). w.next (slice_index batch k) ≡ w.last_batch_head) at (p.under_way.linking (omega (arith, more)) (omega arith)) in
     let first : links w.next (e + 1) entry ≡ entry ∷ links w.next e (w.next entry) = rw add-one refl in
@@ -165,10 +165,10 @@ publication_heads n used head counter heads batch e w small fits more b p =
 pub publication_linked : (used : ℕ) (batch : List ℕ) (w : RegionWords) → InPublication used batch (index_step batch) w → IsLinked used batch (length batch) w
 publication_linked used batch w p = let at : 4 * length batch / 4 ≡ length batch = omega arith in subst (λ (k : ℕ). IsLinked used batch k w) at (p.linked (omega arith))
 
-pub publication_shows : (n used head next counter : ℕ) (heads batch : List ℕ) (w : RegionWords) → n < 65536 → used < 65536 → IsBatch n batch
+pub publication_shows_batch : (n used head next counter : ℕ) (heads batch : List ℕ) (w : RegionWords) → n < 65536 → used < 65536 → IsBatch n batch
     → InLife n used head counter heads batch (phases.Publish (index_step batch)) w
     → InLife n ((used + length batch) % 65536) next counter (filter (λ (h : ℕ). not (is_among batch h)) heads) batch (phases.Publish (index_step batch + 1)) w
-publication_shows n used head next counter heads batch w small fits b p =
+publication_shows_batch n used head next counter heads batch w small fits b p =
     let low : length batch < 65536 = omega (arith, b.few, small) in
     let f : IsLinked used batch (length batch) w = publication_linked used batch w p.under_way in
     let shown : IsShown ((used + length batch) % 65536) batch 0 w = shown_now used batch w fits low f in
@@ -192,9 +192,9 @@ shown_at used batch e w le p =
     subst (λ (k : ℕ). IsShown used batch k w) at (p.shown (omega arith) (omega (arith, le)))
 
 -- SP6: an entry is cleared
-pub publication_clears : (n used head counter : ℕ) (heads batch : List ℕ) (e : ℕ) (w : RegionWords) → e < length batch → InLife n used head counter heads batch (phases.Publish (index_step batch + 1 + e)) w
+pub publication_clears_entry : (n used head counter : ℕ) (heads batch : List ℕ) (e : ℕ) (w : RegionWords) → e < length batch → InLife n used head counter heads batch (phases.Publish (index_step batch + 1 + e)) w
     → InLife n used head counter heads batch (phases.Publish (index_step batch + 1 + (e + 1))) (words_after n (SP6 (slice_index batch e)) w)
-publication_clears n used head counter heads batch e w more p =
+publication_clears_entry n used head counter heads batch e w more p =
     let entry : ℕ = slice_index batch e in
     let w' : RegionWords = words_after n (SP6 entry) w in
     let f : IsShown used batch e w = shown_at used batch e w (omega (arith, more)) p.under_way in
@@ -219,9 +219,9 @@ publication_clears n used head counter heads batch e w more p =
     }
 
 -- SP7: the batch is noted
-pub publication_notes : (n used head counter : ℕ) (heads batch : List ℕ) (w : RegionWords) → used < 65536 → InLife n used head counter heads batch (phases.Publish (note_step batch)) w
+pub publication_notes_batch : (n used head counter : ℕ) (heads batch : List ℕ) (w : RegionWords) → used < 65536 → InLife n used head counter heads batch (phases.Publish (note_step batch)) w
     → InLife n used head counter heads batch (phases.Publish (note_step batch + 1)) (words_after n (SP7 used) w)
-publication_notes n used head counter heads batch w fits p =
+publication_notes_batch n used head counter heads batch w fits p =
     let f : IsShown used batch (length batch) w = shown_at used batch (length batch) w (omega arith) p.under_way in
     let clear : (i : ℕ) → is_among (counted used w) i ≡ true → w.inflight i ≡ 0 = λ i held.
     let turned : is_among (counted used w) i ≡ is_among batch i = ap (λ (xs : List ℕ). is_among xs i) f.linked ∙ among_reverse batch i in
@@ -238,8 +238,8 @@ publication_notes n used head counter heads batch w fits p =
     }
 
 -- a step past the note stores no word of the region
-pub publication_rings : (n used head counter : ℕ) (heads batch : List ℕ) (done : ℕ) (w : RegionWords) → note_step batch < done → InLife n used head counter heads batch (phases.Publish done) w → InLife n used head counter heads batch (phases.Publish (done + 1)) w
-publication_rings n used head counter heads batch done w past p = record {
+pub publication_past_note : (n used head counter : ℕ) (heads batch : List ℕ) (done : ℕ) (w : RegionWords) → note_step batch < done → InLife n used head counter heads batch (phases.Publish done) w → InLife n used head counter heads batch (phases.Publish (done + 1)) w
+publication_past_note n used head counter heads batch done w past p = record {
   sound = p.sound;
   below = p.below;
   under_way = record {

@@ -1,5 +1,5 @@
 -- From the words of a region to memory.
-use Rattle.std.proofs.Common.{◌≡◌, ◌<◌, ℕ, subst, sym}
+use Rattle.std.proofs.Common.{◌<◌, subst, sym}
 use Rattle.vub_shared.specs.Bytes.{Bytes}
 use Rattle.vub_shared.specs.Stores.{Store, after_store}
 use Rattle.vub_infl_split.specs.declared.region.SplitRegion.{SplitRegion}

@@ -1,6 +1,6 @@
 -- What each store of a split queue leaves of a sound region, and what is read of it.
-use Rattle.std.proofs.Common.{◌≡◌, ◌≤◌, ◌<◌, ℕ, zero, suc, ◌+◌, ◌%◌, true, false, not, List, [], ◌∷◌, ◌++◌, length, filter, reverse, refl, ap, sym, ◌∙◌, subst, inl, inr, arith}
-use Rattle.std.specs.Prelude.{◌==◌}
+use Rattle.std.proofs.Common.{◌≡◌, ◌≢◌, ◌≤◌, ◌<◌, ℕ, zero, suc, ◌+◌, ◌%◌, true, false, not, List, [], ◌∷◌, ◌++◌, length, filter, reverse, refl, ap, sym, ◌∙◌, subst, inl, inr, arith}
+use Rattle.std.specs.Prelude.{◌&&◌, ◌==◌, nat_lt}
 use Rattle.std.specs.List.{AllByRecursion}
 use Rattle.std.proofs.lemmas.Bool.Decides.{nat_tests}
 use Rattle.std.proofs.lemmas.List.{map-append, take_all}
@@ -14,7 +14,7 @@ use Rattle.vub_device.specs.Places.{are_distinct}
 use Rattle.vub_inflight.specs.Entries.{entry_at, heads_of, without_heads, CountersBelow, CountersRise}
 use Rattle.vub_inflight.specs.Links.{links}
 use Rattle.vub_inflight.proofs.Each.{all_append, all_filter}
-use Rattle.vub_inflight.proofs.EntryLemmas.{by_counter_all, among_by_counter}
+use Rattle.vub_inflight.proofs.EntryLemmas.{by_counter_all, among_by_counter, distinct_by_counter}
 use Rattle.vub_inflight.proofs.CounterLemmas.{below_weaker, rise_push, rise_without}
 use Rattle.vub_infl_split.specs.declared.region.SplitStore.TheVariants.{SI3, SR1, SR2, SF1, SF2, SP3, SP4}
 use Rattle.vub_infl_split.specs.Region.{RegionWords}
@@ -23,8 +23,8 @@ use Rattle.vub_infl_split.specs.Readings.{counted, is_open, one_each, open_by_in
 use Rattle.vub_infl_split.specs.Sound.{Sound}
 use Rattle.vub_infl_split.proofs.ReadingLemmas.{open_at_rest, counted_shown, reading_count, reading_accept, reading_link, reading_last, reading_show, reading_clear, reading_note, sound_reads}
 use Rattle.vub_region_facts.specs.Starts.{Left, IsNoted}
-use Rattle.vub_region_facts.specs.Phases.{IsCounted, IsBatch, IsLinked, IsShown}
-use Rattle.vub_region_facts.proofs.BatchLemmas.{among_reverse, below_reverse, distinct_reverse}
+use Rattle.vub_region_facts.specs.Phases.{HasCounter, IsBatch, IsLinked, IsShown}
+use Rattle.vub_region_facts.proofs.BatchLemmas.{among_reverse, all_below, distinct_reverse}
 
 -- ---- sound again
 
@@ -89,14 +89,14 @@ free_head n used heads head w within noted fits out s =
     grind (arith, nat_tests)
 
 -- SF1
-pub sound_count : (n used : ℕ) (heads : List ℕ) (w : RegionWords) (head counter : ℕ) → IsNoted used w → used < 65536 → w.inflight head ≡ 0 → Sound n used heads w → Sound n used heads (words_after n (SF1 head counter) w)
-sound_count n used heads w head counter noted fits free s =
+pub sound_counter : (n used : ℕ) (heads : List ℕ) (w : RegionWords) (head counter : ℕ) → IsNoted used w → used < 65536 → w.inflight head ≡ 0 → Sound n used heads w → Sound n used heads (words_after n (SF1 head counter) w)
+sound_counter n used heads w head counter noted fits free s =
     let out : is_open used w head ≡ false = open_at_rest used w head noted fits ∙ grind (arith, nat_tests) in
     sound_same n used heads w (words_after n (SF1 head counter) w) refl refl refl refl refl (reading_count n used w head counter out) s
 
-pub counted_now : (n used : ℕ) (w : RegionWords) (head counter : ℕ) → head < n → IsNoted used w → used < 65536 → w.inflight head ≡ 0 → counter < 18446744073709551615 → CountersBelow counter (open_entries n used w)
-    → IsCounted n used head (counter + 1) (words_after n (SF1 head counter) w)
-counted_now n used w head counter within noted fits free small below =
+pub has_counter_now : (n used : ℕ) (w : RegionWords) (head counter : ℕ) → head < n → IsNoted used w → used < 65536 → w.inflight head ≡ 0 → counter < 18446744073709551615 → CountersBelow counter (open_entries n used w)
+    → HasCounter n used head (counter + 1) (words_after n (SF1 head counter) w)
+has_counter_now n used w head counter within noted fits free small below =
     let out : is_open used w head ≡ false = open_at_rest used w head noted fits ∙ grind (arith, nat_tests) in
     let same : open_entries n used (words_after n (SF1 head counter) w) ≡ open_entries n used w = reading_count n used w head counter out in
     let here : (words_after n (SF1 head counter) w).counter head ≡ counter = grind (arith, nat_tests) in
@@ -109,10 +109,10 @@ counted_now n used w head counter within noted fits free small below =
     }
 
 -- SF2, with which the request is accepted
-accepted_last : (n used head counter : ℕ) (w : RegionWords) → IsNoted used w → used < 65536 → IsCounted n used head counter w → open_entries n used (words_after n (SF2 head) w) ≡ open_entries n used w ++ entry_at w.counter one_each head ∷ []
+accepted_last : (n used head counter : ℕ) (w : RegionWords) → IsNoted used w → used < 65536 → HasCounter n used head counter w → open_entries n used (words_after n (SF2 head) w) ≡ open_entries n used w ++ entry_at w.counter one_each head ∷ []
 accepted_last n used head counter w noted fits c = reading_accept n used w head c.within noted fits c.free (by_counter_all (λ (e : Pending). e.counter < w.counter head) w.counter one_each (is_open used w) n c.above)
 
-pub sound_accept : (n used : ℕ) (heads : List ℕ) (w : RegionWords) (head counter : ℕ) → IsNoted used w → used < 65536 → IsCounted n used head counter w → Sound n used heads w → Sound n used (heads ++ head ∷ []) (words_after n (SF2 head) w)
+pub sound_accept : (n used : ℕ) (heads : List ℕ) (w : RegionWords) (head counter : ℕ) → IsNoted used w → used < 65536 → HasCounter n used head counter w → Sound n used heads w → Sound n used (heads ++ head ∷ []) (words_after n (SF2 head) w)
 sound_accept n used heads w head counter noted fits c s =
     let e : Pending = entry_at w.counter one_each head in
     let old : List Pending = open_entries n used w in
@@ -121,7 +121,7 @@ sound_accept n used heads w head counter noted fits c s =
     (rise_push old e s.rising c.above)
     (all_append (λ (x : Pending). x.counter < 18446744073709551615) old (e ∷ []) s.low (c.low, tt))
 
-pub below_accept : (n used head counter : ℕ) (w : RegionWords) → IsNoted used w → used < 65536 → IsCounted n used head counter w → CountersBelow counter (open_entries n used (words_after n (SF2 head) w))
+pub below_accept : (n used head counter : ℕ) (w : RegionWords) → IsNoted used w → used < 65536 → HasCounter n used head counter w → CountersBelow counter (open_entries n used (words_after n (SF2 head) w))
 below_accept n used head counter w noted fits c =
     let e : Pending = entry_at w.counter one_each head in
     let old : List Pending = open_entries n used w in
@@ -172,7 +172,7 @@ sound_show n used heads batch w small fits b p s =
       count = s.count;
       few = omega (arith, noted, fits, few, small);
       distinct = ap are_distinct shown ∙ distinct_reverse batch b.distinct;
-      within = subst (λ (xs : List ℕ). AllByRecursion (λ (x : ℕ). x < n) xs) (sym shown) (below_reverse n batch b.within);
+      within = subst (λ (xs : List ℕ). AllByRecursion (λ (x : ℕ). x < n) xs) (sym shown) (all_below n (reverse batch) (λ h held. b.below h (sym (among_reverse batch h) ∙ held)));
       reads = ap heads_of left ∙ heads_without batch (open_entries n used w) ∙ ap (filter (λ (h : ℕ). not (is_among batch h))) s.reads;
       rising = subst (λ (es : List Pending). CountersRise es) (sym left) (rise_without batch (open_entries n used w) s.rising);
       low = subst (λ (es : List Pending). CountersBelow 18446744073709551615 es) (sym left) (all_filter (λ (e : Pending). e.counter < 18446744073709551615) (λ (e : Pending). not (is_among batch e.head)) (open_entries n used w) s.low);
@@ -215,3 +215,16 @@ unmade_entries n used w version = ap (λ (x : Reading). read_list x (open_entrie
 pub left_reads : (n used : ℕ) (heads : List ℕ) (base : ℕ) (w : RegionWords) → Left n used heads base w → heads_of (split_entries n used w) ≡ heads
 left_reads n used heads base w (inl u) = ap heads_of (unmade_entries n used w u.version) ∙ sym u.none
 left_reads n used heads base w (inr s) = ap heads_of (sound_entries n used heads w s) ∙ s.reads
+
+-- ---- the open heads
+
+pub left_distinct : (n used : ℕ) (heads : List ℕ) (base : ℕ) (w : RegionWords) → Left n used heads base w → are_distinct heads ≡ true
+left_distinct n used heads base w (inl u) = ap are_distinct u.none
+left_distinct n used heads base w (inr s) = ap are_distinct (sym s.reads) ∙ distinct_by_counter w.counter one_each (is_open used w) n
+
+-- each is an entry in flight
+pub left_open : (n used : ℕ) (heads : List ℕ) (base : ℕ) (w : RegionWords) (h : ℕ) → Left n used heads base w → is_among heads h ≡ true → (h < n) × (w.inflight h ≢ 0)
+left_open n used heads base w h (inl u) held = absurd (let none : is_among heads h ≡ false = ap (λ (hs : List ℕ). is_among hs h) u.none in cc)
+left_open n used heads base w h (inr s) held =
+    let there : (nat_lt h n && is_open used w h) ≡ true = sym (among_by_counter w.counter one_each (is_open used w) n h) ∙ ap (λ (hs : List ℕ). is_among hs h) s.reads ∙ held in
+    (grind (arith, nat_tests), grind (arith, nat_tests))

@@ -8,8 +8,8 @@ use Rattle.vub_device.specs.Past.{is_among}
 use Rattle.vub_device.proofs.Numbers.{is_among_append}
 use Rattle.vub_ring.specs.Ring.{ahead}
 use Rattle.vub_inflight.specs.Entries.{heads_of}
-use Rattle.vub_inflight.specs.Links.{links}
-use Rattle.vub_inflight.proofs.LinkLemmas.{link_at, links_go_on}
+use Rattle.vub_inflight.specs.Links.{links, link_at}
+use Rattle.vub_inflight.proofs.LinkLemmas.{links_go_on}
 use Rattle.vub_infl_split.specs.declared.region.SplitStore.TheVariants.{SI1, SI2, SI3, SR1, SR2}
 use Rattle.vub_infl_split.specs.Region.{RegionWords}
 use Rattle.vub_infl_split.specs.Stores.{words_after}
@@ -90,7 +90,14 @@ settling_notes n used heads count w fits p = record {
   noted = refl;
 }
 
--- ---- cut off between any two stores
+-- ---- it begins, and is cut off between any two stores
+
+pub start_begins : (n used : ℕ) (heads : List ℕ) (base : ℕ) (w : RegionWords) → used < 65536 → Left n used heads base w → InStart n used heads base 0 w
+start_begins n used heads base w fits (inl u) = Makes (new_begins n used heads base w u)
+start_begins n used heads base w fits (inr s) = elim (cases_eq (ahead used w.used_idx) 0) [
+  | inl none ↦ Settled (settled_at_once n used heads w fits none s)
+  | inr some ↦ Settles (ahead used w.used_idx) (settling_begins n used heads w s)
+]
 
 pub start_left : (n used : ℕ) (heads : List ℕ) (base done : ℕ) (w : RegionWords) → InStart n used heads base done w → Left n used heads base w
 start_left n used heads base done w (Makes p) = inl p.unmade

@@ -1,7 +1,6 @@
 -- What holds of the in-flight region of a split queue of n descriptors in each phase of a life, before the step in place `done`
 -- (vhost-user, "Inflight I/O tracking").
 use Rattle.std.specs.Prelude.{◌≡◌, ◌<◌, ◌≤◌, ℕ, ◌+◌, ◌-◌, ◌*◌, ◌/◌, ◌%◌, true, List, length, take, reverse, slice_index}
-use Rattle.std.specs.List.{AllByRecursion}
 use Rattle.vub_device.specs.Past.{is_among}
 use Rattle.vub_device.specs.Places.{are_distinct}
 use Rattle.vub_steps.specs.declared.steps.Phase.{Phase}
@@ -16,7 +15,7 @@ use Rattle.vub_region_facts.specs.Starts.{Left, IsNoted, InStart}
 -- ---- a fetch: the counter, and the entry
 
 -- the entry of this head has the counter that was given last, above all open ones, and isn't in flight
-pub record IsCounted (n used head counter : ℕ) (w : RegionWords) : Type 0 where
+pub record HasCounter (n used head counter : ℕ) (w : RegionWords) : Type 0 where
   pub within : head < n
   pub free : w.inflight head ≡ 0
   pub given : w.counter head + 1 ≡ counter
@@ -26,7 +25,7 @@ pub record IsCounted (n used head counter : ℕ) (w : RegionWords) : Type 0 wher
 
 pub record InFetch (n used head counter done : ℕ) (w : RegionWords) : Type 0 where
   pub noted : IsNoted used w
-  pub given : 0 < done → IsCounted n used head counter w
+  pub given : 0 < done → HasCounter n used head counter w
 
 -- ---- a publication of a batch with these heads
 
@@ -34,7 +33,7 @@ pub record InFetch (n used head counter done : ℕ) (w : RegionWords) : Type 0 w
 pub record IsBatch (n : ℕ) (batch : List ℕ) : Type 0 where
   pub few : length batch ≤ n
   pub distinct : are_distinct batch ≡ true
-  pub within : AllByRecursion (λ (h : ℕ). h < n) batch
+  pub below : (h : ℕ) → is_among batch h ≡ true → h < n
 
 -- four steps for each element: its id, its length, its link, and last_batch_head. Then come used.idx, a clear for each, and the note
 abbrev pub index_step : List ℕ → ℕ

@@ -4,36 +4,36 @@ ghost use Rattle.std.specs.Prelude.{◌≡◌, ◌≢◌, ◌<◌, ◌⊎◌, �
 ghost use Rattle.vub_shared.specs.Bytes.{Bytes};
 ghost use Rattle.vub_shared.specs.Stores.{Store, after_store};
 ghost use Rattle.vub_device.specs.Past.{is_among};
-ghost use Rattle.vub_ring.specs.Ring.{ahead};
+ghost use Rattle.vub_device.specs.Places.{are_distinct};
 ghost use Rattle.vub_steps.specs.declared.steps.Phase.{Phase};
 ghost use Rattle.vub_steps.specs.declared.steps.Phase.TheVariants as phases;
 ghost use Rattle.vub_inflight.specs.Entries.{heads_of, next_counter};
-ghost use Rattle.vub_inflight.proofs.LinkLemmas.{link_at};
+ghost use Rattle.vub_inflight.specs.Links.{link_at};
 ghost use Rattle.vub_infl_split.specs.declared.region.SplitRegion.{SplitRegion};
 ghost use Rattle.vub_infl_split.specs.declared.region.SplitStore.TheVariants.{SI1, SI2, SI3, SR1, SR2, SF1, SF2, SP3, SP4, SP6, SP7};
 ghost use Rattle.vub_infl_split.specs.Readings.{made_fault, open_entries, split_entries};
 ghost use Rattle.vub_infl_split.specs.Region.{words_of, OffRegion};
-ghost use Rattle.vub_infl_split.specs.Sound.{Sound};
 ghost use Rattle.vub_infl_split.specs.Stores.{store_of};
-ghost use Rattle.vub_region_facts.specs.Starts.{Unmade, Left, InNew, InSettling, IsSettled, InStart};
-ghost use Rattle.vub_region_facts.specs.Phases.{index_step, note_step, IsBatch, InLife};
+ghost use Rattle.vub_region_facts.specs.Starts.{Left, InNew, InSettling, IsSettled, InStart};
+ghost use Rattle.vub_region_facts.specs.Phases.{index_step, note_step, IsBatch, InLife, NotStarted};
 
-/// Each store of a start leaves the region to the next one, for the same open requests. A start that
-/// is cut off between any two stores leaves what a life can find.
+/// A start begins with what a life can find. Each store of it leaves the region to the next one, for
+/// the same open requests, and a start that is cut off anywhere leaves what a life can find.
 pub fn a_start_keeps_the_open_requests()
-    ensures begins_new { (r : SplitRegion) (used : ℕ) (heads : List ℕ) (base : ℕ) (m : Bytes) → Unmade used heads base (words_of r m) → InNew r.size used heads base 0 (words_of r m) }
+    ensures begins { (r : SplitRegion) (used : ℕ) (heads : List ℕ) (base : ℕ) (m : Bytes) → used < 65536 → Left r.size used heads base (words_of r m) → InStart r.size used heads base 0 (words_of r m) }
     ensures features { (r : SplitRegion) (used : ℕ) (heads : List ℕ) (base : ℕ) (m : Bytes) → r.size < 65536 → InNew r.size used heads base 0 (words_of r m)
         → InNew r.size used heads base 1 (words_of r (after_store (store_of r SI1) m)) }
     ensures entry { (r : SplitRegion) (used : ℕ) (heads : List ℕ) (base i : ℕ) (m : Bytes) → r.size < 65536 → i < r.size → InNew r.size used heads base (i + 1) (words_of r m)
         → InNew r.size used heads base (i + 2) (words_of r (after_store (store_of r (SI2 i)) m)) }
     ensures header { (r : SplitRegion) (used : ℕ) (heads : List ℕ) (base : ℕ) (m : Bytes) → r.size < 65536 → used < 65536 → InNew r.size used heads base (r.size + 1) (words_of r m)
         → IsSettled r.size used heads (words_of r (after_store (store_of r (SI3 used)) m)) }
-    ensures begins_settling { (r : SplitRegion) (used : ℕ) (heads : List ℕ) (m : Bytes) → Sound r.size used heads (words_of r m) → InSettling r.size used heads (ahead used (words_of r m).used_idx) 0 (words_of r m) }
     ensures clear { (r : SplitRegion) (used : ℕ) (heads : List ℕ) (count done : ℕ) (m : Bytes) → r.size < 65536 → done < count → InSettling r.size used heads count done (words_of r m)
         → InSettling r.size used heads count (done + 1) (words_of r (after_store (store_of r (SR1 (link_at (words_of r m).next done (words_of r m).last_batch_head))) m)) }
     ensures note { (r : SplitRegion) (used : ℕ) (heads : List ℕ) (count : ℕ) (m : Bytes) → r.size < 65536 → used < 65536 → InSettling r.size used heads count count (words_of r m)
         → IsSettled r.size used heads (words_of r (after_store (store_of r (SR2 used)) m)) }
-    ensures cut_off { (r : SplitRegion) (used : ℕ) (heads : List ℕ) (base done : ℕ) (m : Bytes) → InStart r.size used heads base done (words_of r m) → Left r.size used heads base (words_of r m) }
+    ensures elsewhere { (r : SplitRegion) (used : ℕ) (heads : List ℕ) (base : ℕ) (phase : Phase) (m : Bytes) (st : Store) → OffRegion r st → NotStarted r.size used heads base phase (words_of r m)
+        → NotStarted r.size used heads base phase (words_of r (after_store st m)) }
+    ensures cut_off { (r : SplitRegion) (used : ℕ) (heads : List ℕ) (base : ℕ) (phase : Phase) (m : Bytes) → NotStarted r.size used heads base phase (words_of r m) → Left r.size used heads base (words_of r m) }
 {}
 
 /// Each store of a fetch and of a publication leaves the region to the next one. The head that is
@@ -42,7 +42,7 @@ pub fn a_start_keeps_the_open_requests()
 pub fn a_life_keeps_the_open_requests()
     ensures begins { (r : SplitRegion) (used head : ℕ) (heads batch : List ℕ) (m : Bytes) → IsSettled r.size used heads (words_of r m)
         → InLife r.size used head (next_counter (open_entries r.size used (words_of r m))) heads batch phases.Rest (words_of r m) }
-    ensures count { (r : SplitRegion) (used head counter : ℕ) (heads batch : List ℕ) (m : Bytes) → r.size < 65536 → used < 65536 → head < r.size → is_among heads head ≡ false → counter < 18446744073709551615
+    ensures counter { (r : SplitRegion) (used head counter : ℕ) (heads batch : List ℕ) (m : Bytes) → r.size < 65536 → used < 65536 → head < r.size → is_among heads head ≡ false → counter < 18446744073709551615
         → InLife r.size used head counter heads batch (phases.Fetch 0) (words_of r m)
         → InLife r.size used head (counter + 1) heads batch (phases.Fetch 1) (words_of r (after_store (store_of r (SF1 head counter)) m)) }
     ensures accept { (r : SplitRegion) (used head next counter : ℕ) (heads batch : List ℕ) (m : Bytes) → r.size < 65536 → used < 65536 → InLife r.size used head counter heads batch (phases.Fetch 1) (words_of r m)
@@ -70,9 +70,12 @@ pub fn a_life_keeps_the_open_requests()
 {}
 
 /// What a life leaves is read as its open requests, in the order of their acceptance, and without
-/// damage. Where the checks of a start find nothing, the region is such a one.
+/// damage: distinct entries that are in flight. Where the checks of a start find nothing, the region
+/// is such a one.
 pub fn what_a_life_leaves_is_read()
     ensures reads { (r : SplitRegion) (used : ℕ) (heads : List ℕ) (base : ℕ) (m : Bytes) → Left r.size used heads base (words_of r m) → heads_of (split_entries r.size used (words_of r m)) ≡ heads }
+    ensures distinct { (r : SplitRegion) (used : ℕ) (heads : List ℕ) (base : ℕ) (m : Bytes) → Left r.size used heads base (words_of r m) → are_distinct heads ≡ true }
+    ensures in_flight { (r : SplitRegion) (used : ℕ) (heads : List ℕ) (base h : ℕ) (m : Bytes) → Left r.size used heads base (words_of r m) → is_among heads h ≡ true → (h < r.size) × ((words_of r m).inflight h ≢ 0) }
     ensures undamaged { (r : SplitRegion) (used : ℕ) (heads : List ℕ) (base : ℕ) (m : Bytes) → Left r.size used heads base (words_of r m) → (words_of r m).version ≢ 0 → made_fault r.size used (words_of r m) ≡ None }
     ensures at_base { (r : SplitRegion) (used : ℕ) (heads : List ℕ) (base : ℕ) (m : Bytes) → Left r.size used heads base (words_of r m) → (words_of r m).version ≡ 0 → base ≡ used }
     ensures checked { (r : SplitRegion) (used base : ℕ) (m : Bytes) → ((s p : ℕ) → m s p < 256) → ((words_of r m).version ≡ 0 → base ≡ used) → ((words_of r m).version ≢ 0 → made_fault r.size used (words_of r m) ≡ None)

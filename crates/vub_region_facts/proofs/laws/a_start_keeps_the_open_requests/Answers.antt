@@ -2,15 +2,17 @@ use Rattle.std.proofs.Common.{◌<◌, ◌+◌, ℕ}
 use Rattle.vub_infl_split.specs.declared.region.SplitStore.TheVariants.{SI1, SI2, SI3, SR1, SR2}
 use Rattle.vub_infl_split.specs.Region.{RegionWords, words_of}
 use Rattle.vub_infl_split.specs.Readings.{counted}
-use Rattle.vub_inflight.proofs.LinkLemmas.{link_at}
+use Rattle.vub_inflight.specs.Links.{link_at}
 use Rattle.vub_region_facts.specs.Starts.{InNew, InSettling, IsSettled}
+use Rattle.vub_region_facts.specs.Phases.{NotStarted}
 use Rattle.vub_region_facts.proofs.BatchLemmas.{below_among}
-use Rattle.vub_region_facts.proofs.StartLemmas.{new_begins, new_features, new_frees, new_makes, settling_begins, settling_link, settling_clears, settling_notes, start_left}
-use Rattle.vub_region_facts.proofs.MemoryLemmas.{holds_stored}
+use Rattle.vub_region_facts.proofs.StartLemmas.{start_begins, new_features, new_frees, new_makes, settling_link, settling_clears, settling_notes}
+use Rattle.vub_region_facts.proofs.LifeLemmas.{not_started_left}
+use Rattle.vub_region_facts.proofs.MemoryLemmas.{holds_stored, holds_elsewhere}
 use Rattle.vub_region_facts.proofs.laws.a_start_keeps_the_open_requests.Goals as goal
 
-pub returns-clause-begins_new : goal.returns-clause-begins_new
-returns-clause-begins_new c r used heads base m u = new_begins r.size used heads base (words_of r m) u
+pub returns-clause-begins : goal.returns-clause-begins
+returns-clause-begins c r used heads base m fits p = start_begins r.size used heads base (words_of r m) fits p
 
 pub returns-clause-features : goal.returns-clause-features
 returns-clause-features c r used heads base m small p = holds_stored (InNew r.size used heads base 1) r SI1 m small tt tt (new_features r.size used heads base (words_of r m) p)
@@ -20,9 +22,6 @@ returns-clause-entry c r used heads base i m small more p = holds_stored (InNew 
 
 pub returns-clause-header : goal.returns-clause-header
 returns-clause-header c r used heads base m small fits p = holds_stored (IsSettled r.size used heads) r (SI3 used) m small tt fits (new_makes r.size used heads base (words_of r m) fits p)
-
-pub returns-clause-begins_settling : goal.returns-clause-begins_settling
-returns-clause-begins_settling c r used heads m s = settling_begins r.size used heads (words_of r m) s
 
 pub returns-clause-clear : goal.returns-clause-clear
 returns-clause-clear c r used heads count done m small more p =
@@ -34,5 +33,8 @@ returns-clause-clear c r used heads count done m small more p =
 pub returns-clause-note : goal.returns-clause-note
 returns-clause-note c r used heads count m small fits p = holds_stored (IsSettled r.size used heads) r (SR2 used) m small tt fits (settling_notes r.size used heads count (words_of r m) fits p)
 
+pub returns-clause-elsewhere : goal.returns-clause-elsewhere
+returns-clause-elsewhere c r used heads base phase m st off p = holds_elsewhere (NotStarted r.size used heads base phase) r m st off p
+
 pub returns-clause-cut_off : goal.returns-clause-cut_off
-returns-clause-cut_off c r used heads base done m p = start_left r.size used heads base done (words_of r m) p
+returns-clause-cut_off c r used heads base phase m p = not_started_left r.size used heads base phase (words_of r m) p
