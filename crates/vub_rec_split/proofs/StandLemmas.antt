@@ -1,10 +1,9 @@
 -- A step over told memory, from where the recovery stands to where it stands after it.
-use Rattle.std.proofs.Common.{◌≡◌, ◌≢◌, ◌≤◌, ◌<◌, ◌⊎◌, ℕ, ◌+◌, ◌*◌, ◌^◌, Bool, List, [], length, refl, ap, sym, ◌∙◌, subst, inl, inr, arith}
+use Rattle.std.proofs.Common.{◌≡◌, ◌≢◌, ◌<◌, ◌⊎◌, ℕ, ◌^◌, Bool, List, refl, ap, sym, ◌∙◌, subst, inl, inr, arith}
 use Rattle.std.specs.Prelude.{Option, Some, None}
 use Rattle.std.specs.Option.{option_map}
-use Rattle.vub_base.specs.declared.pending.Pending.{Pending}
 use Rattle.vub_base.specs.declared.reading.RegionFault.{RegionFault}
-use Rattle.vub_shared.specs.Bytes.{Bytes, word, put, Apart}
+use Rattle.vub_shared.specs.Bytes.{Bytes}
 use Rattle.vub_shared.specs.Spaces.{Names}
 use Rattle.vub_shared.specs.Stores.{Store, after_store}
 use Rattle.vub_shared.proofs.BytesLemmas.{word-put_other, word-lt}
@@ -12,8 +11,8 @@ use Rattle.vub_split.specs.Split.{used_idx_word, used_idx_place}
 use Rattle.vub_inflight.specs.Entries.{heads_of}
 use Rattle.vub_infl_split.specs.declared.region.SplitRegion.{SplitRegion}
 use Rattle.vub_infl_split.specs.declared.region.SplitStore.{SplitStore}
-use Rattle.vub_infl_split.specs.Region.{RegionWords, words_of, region_size, inflight_place, next_place, counter_place}
-use Rattle.vub_infl_split.specs.Stores.{header_word, store_of, words_after, NamesEntry, ValueFits}
+use Rattle.vub_infl_split.specs.Region.{RegionWords, words_of}
+use Rattle.vub_infl_split.specs.Stores.{store_of, words_after, NamesEntry, ValueFits}
 use Rattle.vub_infl_split.specs.Readings.{split_entries}
 use Rattle.vub_infl_split.proofs.PlaceLemmas.{row_lies_in, apart_from_region}
 use Rattle.vub_infl_split.proofs.WordLemmas.{words_stored}
@@ -21,7 +20,7 @@ use Rattle.vub_rec_split.specs.declared.plan.Plan.{Plan}
 use Rattle.vub_rec_split.specs.declared.plan.Plan.TheVariants.{New, Settles, Settled}
 use Rattle.vub_rec_split.specs.declared.plan.Recovered.{Recovered}
 use Rattle.vub_rec_split.specs.declared.plan.Recovered.TheVariants as recovered
-use Rattle.vub_rec_split.specs.Starts.{RecoveryState, tag_of, answered, answer_in, MakesStep, new_step, settle_step, step_of, unless_fault, fault_in, plan_in, plan_or, plan_of, start_fault, sight_in, due_in, moved, gone_on, state_after, memory_after, entries_in, unchecked_in, Sight}
+use Rattle.vub_rec_split.specs.Starts.{RecoveryState, tag_of, answered, answer_in, MakesStep, new_step, settle_step, step_of, unless_fault, fault_in, plan_in, plan_or, plan_of, sight_in, due_in, moved, gone_on, state_after, memory_after, entries_in, unchecked_in, Sight}
 use Rattle.vub_rec_split.specs.Stands.{InStart, IsApart, LeftAt, StandsAt, Keeps}
 use Rattle.vub_infl_split.specs.Sound.{Sound}
 use Rattle.vub_infl_split.proofs.ReadingLemmas.{sound_unchecked}
