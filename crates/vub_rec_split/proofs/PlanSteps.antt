@@ -1,6 +1,6 @@
 -- Each store of a plan, from what holds of the words of a region to what holds after it.
-use Rattle.std.proofs.Common.{◌≡◌, ◌≤◌, ◌<◌, ℕ, ◌+◌, ◌-◌, ◌^◌, false, true, List, [], ◌∷◌, refl, ap, sym, ◌∙◌, subst, inl, inr, arith}
-use Rattle.std.specs.Prelude.{◌&&◌, ◌==◌, nat_lt, Option, Some, None}
+use Rattle.std.proofs.Common.{◌≡◌, ◌<◌, ℕ, ◌+◌, ◌-◌, ◌^◌, false, true, List, [], ◌∷◌, refl, ap, sym, ◌∙◌, subst, inl, inr, arith}
+use Rattle.std.specs.Prelude.{◌&&◌, nat_lt, Option, Some, None}
 use Rattle.std.proofs.lemmas.Bool.Decides.{nat_tests}
 use Rattle.std.proofs.lemmas.Bool.{cases_eq, cases_lt}
 use Rattle.vub_base.specs.declared.pending.Pending.{Pending}
@@ -16,7 +16,7 @@ use Rattle.vub_infl_split.specs.Stores.{words_after, NamesEntry, ValueFits}
 use Rattle.vub_infl_split.specs.Readings.{counted, made_fault, open_entries, split_entries}
 use Rattle.vub_infl_split.specs.Sound.{Sound}
 use Rattle.vub_infl_split.proofs.ReadingLemmas.{reading_clear, reading_note, sound_undamaged}
-use Rattle.vub_region_facts.specs.Starts.{Unmade, Left, InNew, InSettling, IsSettled}
+use Rattle.vub_region_facts.specs.Starts.{Left, InNew, InSettling, IsSettled}
 use Rattle.vub_region_facts.proofs.BatchLemmas.{below_among}
 use Rattle.vub_region_facts.proofs.SoundLemmas.{sound_entries, unmade_entries, left_reads}
 use Rattle.vub_region_facts.proofs.StartLemmas.{new_begins, new_features, new_frees, new_makes, settling_begins, settled_at_once, settling_link, settling_clears, settling_notes}

@@ -1,6 +1,6 @@
 -- The step that is due stands in its place among the stores of its plan.
-use Rattle.std.proofs.Common.{◌≡◌, ◌≤◌, ◌<◌, ℕ, zero, suc, ◌+◌, ◌-◌, List, [], ◌∷◌, ◌++◌, length, refl, ap, sym, ◌∙◌, subst, inl, inr, arith}
-use Rattle.std.specs.Prelude.{map, slice_get, Option, Some, None}
+use Rattle.std.proofs.Common.{◌≡◌, ◌≤◌, ◌<◌, ℕ, zero, suc, ◌+◌, List, [], ◌∷◌, ◌++◌, length, refl, ap, sym, ◌∙◌, subst, inl, inr, arith}
+use Rattle.std.specs.Prelude.{map, slice_get, Option, Some}
 use Rattle.std.proofs.lemmas.Bool.Decides.{nat_tests}
 use Rattle.std.proofs.lemmas.Bool.{cases_lt}
 use Rattle.std.proofs.lemmas.List.{length-map}
@@ -16,8 +16,7 @@ use Rattle.vub_infl_split.specs.Region.{RegionWords, words_of}
 use Rattle.vub_infl_split.specs.Readings.{counted}
 use Rattle.vub_rec_split.specs.declared.plan.Plan.{Plan}
 use Rattle.vub_rec_split.specs.declared.plan.Plan.TheVariants.{New, Settles, Settled}
-use Rattle.vub_rec_split.specs.Starts.{RecoveryState, Sight, link_after, new_step, settle_step, step_of, free_stores, plan_stores, unless_fault, fault_in, plan_in, sight_in, due_in}
-use Rattle.vub_region_facts.specs.Starts.{InNew}
+use Rattle.vub_rec_split.specs.Starts.{RecoveryState, Sight, link_after, new_step, settle_step, step_of, free_stores, plan_stores, unless_fault, plan_in, sight_in, due_in}
 use Rattle.vub_rec_split.specs.Stands.{FollowsBatch, InStart, StandsAt}
 use Rattle.vub_region_facts.proofs.BatchLemmas.{below_among}
 use Rattle.vub_rec_split.proofs.PlanSteps.{next_held}

@@ -1,12 +1,9 @@
 -- A step over told memory, from where the recovery stands to where it stands after it.
-use Rattle.std.proofs.Common.{◌≡◌, ◌≢◌, ◌≤◌, ◌<◌, ◌⊎◌, ℕ, ◌+◌, ◌*◌, ◌^◌, Bool, List, [], length, refl, ap, sym, ◌∙◌, subst, inl, inr, arith}
+use Rattle.std.proofs.Common.{◌≡◌, ◌≢◌, ◌<◌, ◌⊎◌, ℕ, ◌^◌, Bool, List, refl, ap, sym, ◌∙◌, subst, inl, inr, arith}
 use Rattle.std.specs.Prelude.{Option, Some, None}
 use Rattle.std.specs.Option.{option_map}
-use Rattle.byteorder.specs.Endian.{little_bytes}
-use Rattle.byteorder.specs.Numbers.{length-bytes_low_first}
-use Rattle.vub_base.specs.declared.pending.Pending.{Pending}
 use Rattle.vub_base.specs.declared.reading.RegionFault.{RegionFault}
-use Rattle.vub_shared.specs.Bytes.{Bytes, word, put, Apart}
+use Rattle.vub_shared.specs.Bytes.{Bytes}
 use Rattle.vub_shared.specs.Spaces.{Names}
 use Rattle.vub_shared.specs.Stores.{Store, after_store}
 use Rattle.vub_shared.proofs.BytesLemmas.{word-put_other, word-lt}
@@ -14,16 +11,16 @@ use Rattle.vub_split.specs.Split.{used_idx_word, used_idx_place}
 use Rattle.vub_inflight.specs.Entries.{heads_of}
 use Rattle.vub_infl_split.specs.declared.region.SplitRegion.{SplitRegion}
 use Rattle.vub_infl_split.specs.declared.region.SplitStore.{SplitStore}
-use Rattle.vub_infl_split.specs.declared.region.SplitStore.TheVariants.{SI1, SI2, SI3, SR1, SR2, SF1, SF2, SP3, SP4, SP6, SP7}
-use Rattle.vub_infl_split.specs.Region.{RegionWords, words_of, region_size, inflight_place, next_place, counter_place}
-use Rattle.vub_infl_split.specs.Stores.{header_word, store_of, words_after, NamesEntry, ValueFits}
+use Rattle.vub_infl_split.specs.Region.{RegionWords, words_of}
+use Rattle.vub_infl_split.specs.Stores.{store_of, words_after, NamesEntry, ValueFits}
 use Rattle.vub_infl_split.specs.Readings.{split_entries}
+use Rattle.vub_infl_split.proofs.PlaceLemmas.{row_lies_in, apart_from_region}
 use Rattle.vub_infl_split.proofs.WordLemmas.{words_stored}
 use Rattle.vub_rec_split.specs.declared.plan.Plan.{Plan}
 use Rattle.vub_rec_split.specs.declared.plan.Plan.TheVariants.{New, Settles, Settled}
 use Rattle.vub_rec_split.specs.declared.plan.Recovered.{Recovered}
 use Rattle.vub_rec_split.specs.declared.plan.Recovered.TheVariants as recovered
-use Rattle.vub_rec_split.specs.Starts.{RecoveryState, tag_of, answered, answer_in, MakesStep, new_step, settle_step, step_of, unless_fault, fault_in, plan_in, plan_or, plan_of, start_fault, sight_in, due_in, moved, gone_on, state_after, memory_after, entries_in, unchecked_in, Sight}
+use Rattle.vub_rec_split.specs.Starts.{RecoveryState, tag_of, answered, answer_in, MakesStep, new_step, settle_step, step_of, unless_fault, fault_in, plan_in, plan_or, plan_of, sight_in, due_in, moved, gone_on, state_after, memory_after, entries_in, unchecked_in, Sight}
 use Rattle.vub_rec_split.specs.Stands.{InStart, IsApart, LeftAt, StandsAt, Keeps}
 use Rattle.vub_infl_split.specs.Sound.{Sound}
 use Rattle.vub_infl_split.proofs.ReadingLemmas.{sound_unchecked}
@@ -32,28 +29,11 @@ use Rattle.vub_rec_split.proofs.PlanSteps.{Kept, left_fine, begins, plan_kept, s
 
 -- ---- used.idx
 
--- a number of v bytes that is stored in the region
-aside : (s : RecoveryState) (m : Bytes) (v x o : ℕ) → IsApart s → o + v ≤ region_size s.region.size → word 2 (put m s.region.space.number (s.region.place + o) (little_bytes v x)) s.ring.used.0.number (used_idx_place s.ring) ≡ used_idx_word s.ring m
-aside s m v x o apart within =
-    let parts : Apart s.region.space.number (s.region.place + o) v s.ring.used.0.number (used_idx_place s.ring) 2 = grind arith in
-    word-put_other 2 m s.region.space.number (s.region.place + o) (little_bytes v x) s.ring.used.0.number (used_idx_place s.ring) (rw (length-bytes_low_first 0 v x) parts)
-
+-- no store of a row touches it
 used_stays : (s : RecoveryState) (m : Bytes) (step : SplitStore) → IsApart s → NamesEntry s.region.size step → used_idx_word s.ring (after_store (store_of s.region step) m) ≡ used_idx_word s.ring m
-used_stays s m SI1 apart within =
-    let at_start : s.region.place + 0 ≡ s.region.place = omega arith in
-    let P : ℕ → Type 0 = λ p. word 2 (put m s.region.space.number p (little_bytes 8 0)) s.ring.used.0.number (used_idx_place s.ring) ≡ used_idx_word s.ring m in
-    let there : P (s.region.place + 0) = aside s m 8 0 0 apart (omega arith) in
-    subst P at_start there
-used_stays s m (SI2 i) apart within = aside s m 1 0 (16 + 16 * i) apart (omega (arith, within))
-used_stays s m (SI3 used_idx) apart within = aside s m 8 (header_word s.region.size used_idx) 8 apart (omega arith)
-used_stays s m (SR1 i) apart within = aside s m 1 0 (16 + 16 * i) apart (omega (arith, within))
-used_stays s m (SR2 used_idx) apart within = aside s m 2 used_idx 14 apart (omega arith)
-used_stays s m (SF1 i counter) apart within = aside s m 8 counter (24 + 16 * i) apart (omega (arith, within))
-used_stays s m (SF2 i) apart within = aside s m 1 1 (16 + 16 * i) apart (omega (arith, within))
-used_stays s m (SP3 i next) apart within = aside s m 2 next (22 + 16 * i) apart (omega (arith, within))
-used_stays s m (SP4 head) apart within = aside s m 2 head 12 apart (omega arith)
-used_stays s m (SP6 i) apart within = aside s m 1 0 (16 + 16 * i) apart (omega (arith, within))
-used_stays s m (SP7 used_idx) apart within = aside s m 2 used_idx 14 apart (omega arith)
+used_stays s m step apart within =
+    let st : Store = store_of s.region step in
+    word-put_other 2 m st.space st.place st.bytes s.ring.used.0.number (used_idx_place s.ring) (apart_from_region s.region st s.ring.used.0.number (used_idx_place s.ring) 2 (row_lies_in s.region step within) apart)
 
 -- ---- a step
 

@@ -1,12 +1,11 @@
 -- What the first step finds.
-use Rattle.std.proofs.Common.{◌≡◌, ◌≢◌, ℕ, Option, None, Some, refl, ap, sym, ◌∙◌}
+use Rattle.std.proofs.Common.{◌≡◌, ◌≢◌, Option, None, Some, refl, ap, sym, ◌∙◌}
 use Rattle.std.specs.Prelude.{Result, Ok, Err}
 use Rattle.vub_base.specs.declared.reading.RegionFault.{RegionFault}
 use Rattle.vub_base.specs.declared.store.Tag.{Tag}
 use Rattle.vub_shared.specs.Bytes.{Bytes}
 use Rattle.vub_infl_split.specs.declared.region.SplitStore.{SplitStore}
 use Rattle.vub_rec_split.specs.declared.plan.Plan.{Plan}
-use Rattle.vub_rec_split.specs.declared.plan.Found.{Found}
 use Rattle.vub_rec_split.specs.declared.plan.Found.TheVariants as finds
 use Rattle.vub_rec_split.specs.declared.plan.Recovered.{Recovered}
 use Rattle.vub_rec_split.specs.declared.plan.Recovered.TheVariants as recovered

@@ -3,7 +3,7 @@
 use Rattle.std.specs.Prelude.{◌≡◌, ℕ, List, Option, Some, None}
 use Rattle.vub_shared.specs.Bytes.{Bytes, Apart}
 use Rattle.vub_split.specs.Split.{used_idx_word, used_idx_place}
-use Rattle.vub_inflight.proofs.LinkLemmas.{link_at}
+use Rattle.vub_inflight.specs.Links.{link_at}
 use Rattle.vub_infl_split.specs.Region.{RegionWords, words_of, region_size}
 use Rattle.vub_region_facts.specs.Starts.{Left, InNew, InSettling, IsSettled}
 use Rattle.vub_rec_split.specs.declared.plan.Plan.{Plan}

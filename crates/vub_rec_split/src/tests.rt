@@ -9,7 +9,9 @@ use vub_shared::{MemShared, Shared};
 use vub_split::SplitRing;
 
 const REGION_BYTES: u64 = 80;
+
 const RING_BYTES: u64 = 256;
+
 const USED: u64 = 128;
 
 // The region of a queue of 4 descriptors. Entry 2 was linked last, behind entry 3, and used_idx is 6.
@@ -144,12 +146,18 @@ fn a_damaged_region_is_left(rt: HostRuntime) -> Result<(), Fail> {
     let mut bytes = BATCH;
     bytes[8] = 0;
     let mut new = recovery(&mut memory, region, ring, &bytes, 6, 65542).ok_or("new")?;
-    assert_eq!(rt; step(&mut new, &mut memory, &mut list), damaged(RegionFault::BadBase(65542)));
+    assert_eq!(rt;
+        step(&mut new, &mut memory, &mut list),
+        damaged(RegionFault::BadBase(65542))
+    );
     assert_eq!(rt; memory.image(region), bytes.as_slice());
     bytes = BATCH;
     bytes[54] = 4;
     let mut made = recovery(&mut memory, region, ring, &bytes, 8, 0).ok_or("made")?;
-    assert_eq!(rt; step(&mut made, &mut memory, &mut list), damaged(RegionFault::BadLink(4)));
+    assert_eq!(rt;
+        step(&mut made, &mut memory, &mut list),
+        damaged(RegionFault::BadLink(4))
+    );
     assert_eq!(rt; memory.image(region), bytes.as_slice());
     assert!(rt; list.items().is_empty());
     Ok(())

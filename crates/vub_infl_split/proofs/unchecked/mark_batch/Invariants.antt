@@ -2,7 +2,7 @@ use Rattle.std.proofs.Common.{◌≡◌, ◌-◌, ◌++◌, length}
 use Rattle.vub_base.specs.Told.{WhereTold}
 use Rattle.vub_shared.specs.Frames.{OnlyLoads}
 use Rattle.vub_inflight.specs.Links.{links, links_within, AreMarked}
-use Rattle.vub_inflight.proofs.LinkLemmas.{link_at}
+use Rattle.vub_inflight.specs.Links.{link_at}
 use Rattle.vub_infl_split.specs.Region.{words_of}
 use Rattle.vub_infl_split.proofs.unchecked.mark_batch.Given as goal
 

@@ -1,6 +1,5 @@
-use Rattle.std.proofs.Common.{◌≡◌, ◌∙◌, ap, sym, subst, Option, Some, None}
-use Rattle.std.specs.Prelude.{Result, Ok}
-use Rattle.vub_rec_split.proofs.StartLemmas.{found_step, found_fault}
+use Rattle.std.proofs.Common.{◌≡◌, ◌∙◌, sym, Some, None}
+use Rattle.vub_rec_split.proofs.StartLemmas.{found_step}
 use Rattle.vub_rec_split.proofs.recovery.SplitRecovery.find.Goals as goal
 
 pub returns-in-Some-clause-found : goal.returns-in-Some-clause-found

@@ -1,4 +1,4 @@
-use Rattle.std.proofs.Common.{◌≡◌, ◌<◌, ◌∙◌, ℕ, ap, sym, List, arith}
+use Rattle.std.proofs.Common.{◌<◌, ◌∙◌, ap, List, arith}
 use Rattle.vub_base.specs.declared.pending.Pending.{Pending}
 use Rattle.vub_inflight.specs.Entries.{heads_of}
 use Rattle.vub_rec_split.specs.Starts.{due_in}
