@@ -1,4 +1,4 @@
-use Rattle.std.proofs.Common.{◌≡◌, ◌<◌, ◌∙◌, ◌+◌, ◌-◌, ◌%◌, min, sym, ap, subst, ℕ, false, Some, List, arith}
+use Rattle.std.proofs.Common.{◌≡◌, ◌<◌, ◌∙◌, ◌+◌, ◌-◌, ◌%◌, min, sym, ap, subst, ℕ, false, Some, List}
 use Rattle.std.proofs.lemmas.List.{get_or-replicate}
 use Rattle.vub_base.specs.Pending.{PendingState, sorted}
 use Rattle.vub_base.specs.declared.pending.Pending.{Pending}
