@@ -10,8 +10,8 @@ PROGRAM is the built program, crates/vublk/out/vublk by default. It replays, on 
            32 and then collected
   steps    the same batches, but each step of the device is an event of its own
 
-Each time the output goes to a file, and `sha256sum` runs over that file, each three times in turn; the
-best time of each counts. Prints both, their ratio, which may be at most 2, and how much memory the
+Each time the output goes to a file, and `sha256sum` runs over that file, each five times in turn and on
+one processor; the best time of each counts. Prints both, their ratio, which may be at most 2, and how much memory the
 program took at most beyond the input, which may be 200 MB. Ends with status 1 where one is more.
 
 Where a second program OTHER is given, it runs in the same turns on each schedule that it accepts, and
@@ -27,7 +27,7 @@ import time
 
 ROOT = os.path.dirname(os.path.dirname(os.path.abspath(__file__)))
 LIMIT = 16_777_216
-RUNS = 3
+RUNS = 5
 MOST_RATIO = 2.0
 MOST_MEMORY = 200_000_000
 CAPACITY = 4096
@@ -119,6 +119,7 @@ def measure(name, group, program, other, folder):
 def main():
     program = sys.argv[1] if len(sys.argv) > 1 else os.path.join(ROOT, "crates/vublk/out/vublk")
     other = sys.argv[2] if len(sys.argv) > 2 else None
+    os.sched_setaffinity(0, {max(os.sched_getaffinity(0))})
     with tempfile.TemporaryDirectory() as folder:
         good = [measure(group.__name__, group, program, other, folder) for group in (single, batches, steps)]
     sys.exit(0 if all(good) else 1)

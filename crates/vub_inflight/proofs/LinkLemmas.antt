@@ -1,5 +1,5 @@
 -- Links, and the first bad one.
-use Rattle.std.proofs.Common.{◌≡◌, ◌≤◌, ◌<◌, ℕ, zero, suc, ◌+◌, Bool, true, false, cond, List, [], ◌∷◌, ◌++◌, length, get_or, set, refl, ap, sym, ◌∙◌, inl, inr, arith}
+use Rattle.std.proofs.Common.{◌≡◌, ◌≤◌, ◌<◌, ℕ, zero, suc, ◌+◌, Bool, true, false, cond, List, [], ◌∷◌, ◌++◌, length, get_or, set, refl, ap, sym, subst, ◌∙◌, inl, inr, arith}
 use Rattle.std.specs.Prelude.{not, ◌||◌, ◌==◌, nat_lt, Option, Some, None}
 use Rattle.std.specs.List.{AllByRecursion}
 use Rattle.std.proofs.lemmas.Bool.Decides.{nat_tests}
@@ -9,8 +9,7 @@ use Rattle.vub_device.specs.Past.{is_among}
 use Rattle.vub_device.specs.Places.{are_distinct}
 use Rattle.vub_device.proofs.Numbers.{is_among_append}
 use Rattle.vub_inflight.specs.Entries.{with_at}
-use Rattle.vub_inflight.specs.Links.{links, links_within, first_bad, AreMarked}
-pub use Rattle.vub_inflight.specs.Links.{link_at}
+use Rattle.vub_inflight.specs.Links.{link_at, links, links_within, first_bad, AreMarked}
 
 link_at-next : (next : ℕ → ℕ) (count entry : ℕ) → link_at next (suc count) entry ≡ next (link_at next count entry)
 link_at-next next zero entry = refl
@@ -77,7 +76,7 @@ bad_found n next zero h met some bad = absurd (omega (arith, some))
 bad_found n next (suc left) h met some bad = ap (λ (b : Bool). cond b (Some h) (first_bad n (met ++ h ∷ []) (links next left (next h)))) bad
 
 -- one entry more is marked
-pub marked_more : (marks : List Bool) (entries : List ℕ) (h : ℕ) → h < length marks → AreMarked marks entries → AreMarked (set marks h true) (entries ++ h ∷ [])
+marked_more : (marks : List Bool) (entries : List ℕ) (h : ℕ) → h < length marks → AreMarked marks entries → AreMarked (set marks h true) (entries ++ h ∷ [])
 marked_more marks entries h low marked i l =
     let joined : is_among (entries ++ h ∷ []) i ≡ (is_among entries i || is_among (h ∷ []) i) = is_among_append entries (h ∷ []) i in
     let long : length (set marks h true) ≡ length marks = length-set marks h true in
@@ -91,6 +90,12 @@ marked_more marks entries h low marked i l =
           let old : get_or marks i false ≡ is_among entries i = marked i (omega (arith, l, long)) in
           grind (arith, nat_tests)
     ]
+
+-- the marks of one link more
+pub marks_go_on : (next : ℕ → ℕ) (k k' h head : ℕ) (marks : List Bool) → k' ≡ k + 1 → h ≡ link_at next k head → h < length marks
+    → AreMarked marks (links next k head) → AreMarked (set marks h true) (links next k' head)
+marks_go_on next k k' h head marks more at low marked =
+    subst (λ (entries : List ℕ). AreMarked (set marks h true) entries) (sym (links_go_on next k k' h head more at)) (marked_more marks (links next k head) h low marked)
 
 -- a mark tells whether an entry below 1024 was met
 pub bad_by_mark : (link n : ℕ) (mark met : Bool) → n ≤ 1024 → (link < 1024 → mark ≡ met) → (not (nat_lt link n) || mark) ≡ true → (not (nat_lt link n) || met) ≡ true

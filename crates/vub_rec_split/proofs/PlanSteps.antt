@@ -7,8 +7,8 @@ use Rattle.vub_base.specs.declared.pending.Pending.{Pending}
 use Rattle.vub_ring.specs.Ring.{ahead}
 use Rattle.vub_device.specs.Past.{is_among}
 use Rattle.vub_inflight.specs.Entries.{heads_of}
-use Rattle.vub_inflight.specs.Links.{links}
-use Rattle.vub_inflight.proofs.LinkLemmas.{link_at, link_goes_on}
+use Rattle.vub_inflight.specs.Links.{link_at, links}
+use Rattle.vub_inflight.proofs.LinkLemmas.{link_goes_on}
 use Rattle.vub_infl_split.specs.declared.region.SplitStore.{SplitStore}
 use Rattle.vub_infl_split.specs.declared.region.SplitStore.TheVariants.{SI1, SI2, SI3, SR1, SR2}
 use Rattle.vub_infl_split.specs.Region.{RegionWords}

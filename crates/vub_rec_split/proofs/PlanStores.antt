@@ -8,8 +8,8 @@ use Rattle.vub_base.specs.declared.reading.RegionFault.{RegionFault}
 use Rattle.vub_shared.specs.Bytes.{Bytes}
 use Rattle.vub_split.specs.Split.{used_idx_word}
 use Rattle.vub_device.specs.Past.{is_among}
-use Rattle.vub_inflight.specs.Links.{links}
-use Rattle.vub_inflight.proofs.LinkLemmas.{link_at, length-links}
+use Rattle.vub_inflight.specs.Links.{link_at, links}
+use Rattle.vub_inflight.proofs.LinkLemmas.{length-links}
 use Rattle.vub_infl_split.specs.declared.region.SplitStore.{SplitStore}
 use Rattle.vub_infl_split.specs.declared.region.SplitStore.TheVariants.{SI1, SI2, SI3, SR1, SR2}
 use Rattle.vub_infl_split.specs.Region.{RegionWords, words_of}

@@ -4,7 +4,7 @@ use Rattle.std.proofs.lemmas.Bool.Decides.{nat_tests}
 use Rattle.vub_device.specs.Past.{is_among}
 use Rattle.vub_shared.proofs.FrameLemmas.{loads_twice}
 use Rattle.vub_inflight.specs.Links.{links, links_within, AreMarked}
-use Rattle.vub_inflight.proofs.LinkLemmas.{link_goes_on, links_go_on, marked_more, within_goes_on, within_ends}
+use Rattle.vub_inflight.proofs.LinkLemmas.{link_goes_on, marks_go_on, within_goes_on, within_ends}
 use Rattle.vub_infl_split.specs.Region.{words_of}
 use Rattle.vub_infl_split.proofs.unchecked.mark_batch.Goals as goal
 
@@ -24,10 +24,8 @@ loop-preserved g c =
           link_goes_on w.next c.loop.counter _ c.loop.link c.in_ok-link-2.link w.last_batch_head refl (c.loop.invariant.link m told) to;
       met = λ m told.
           let w = words_of c.args.region.now m in
-          let more : AreMarked (set c.loop.marks c.loop.link true) (links w.next c.loop.counter w.last_batch_head ++ c.loop.link ∷ []) = marked_more c.loop.marks (links w.next c.loop.counter w.last_batch_head) c.loop.link within (c.loop.invariant.met m told) in
-          let list : links w.next (c.loop.counter + 1) w.last_batch_head ≡ links w.next c.loop.counter w.last_batch_head ++ c.loop.link ∷ [] = links_go_on w.next c.loop.counter (c.loop.counter + 1) c.loop.link w.last_batch_head refl (c.loop.invariant.link m told) in
           subst (λ (marks : List Bool). AreMarked marks (links w.next (c.loop.counter + 1) w.last_batch_head)) (sym marked)
-          (subst (λ (entries : List ℕ). AreMarked (set c.loop.marks c.loop.link true) entries) (sym list) more);
+          (marks_go_on w.next c.loop.counter _ c.loop.link w.last_batch_head c.loop.marks refl (c.loop.invariant.link m told) within (c.loop.invariant.met m told));
       whole = λ m told.
           let w = words_of c.args.region.now m in
           let to : c.in_ok-link-2.link ≡ w.next c.loop.link = c.in_ok-link-2.ensures.loaded m (c.loop.invariant.only_loads.same_told ∙ told) in

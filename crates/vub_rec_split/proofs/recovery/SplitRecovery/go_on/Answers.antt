@@ -1,8 +1,8 @@
 use Rattle.std.proofs.Common.{◌∙◌, sym, subst, Option, Some}
+use Rattle.vub_shared.proofs.FrameLemmas.{loads_before}
 use Rattle.vub_infl_split.specs.declared.region.SplitStore.{SplitStore}
 use Rattle.vub_infl_split.specs.Stores.{store_of}
 use Rattle.vub_rec_split.specs.Starts.{outcome, MakesStep}
-use Rattle.vub_rec_split.proofs.LoadLemmas.{loads_before}
 use Rattle.vub_rec_split.proofs.StartLemmas.{stored_tells, store_due, store_answer, store_state, damaged_state}
 use Rattle.vub_rec_split.proofs.recovery.SplitRecovery.go_on.Goals as goal
 
