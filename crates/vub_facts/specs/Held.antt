@@ -2,14 +2,14 @@
 use Rattle.std.specs.Prelude.{◌≡◌, ◌<◌, ℕ, ◌+◌, ◌%◌, Bool, true, not, ◌==◌, ◌&&◌, ◌||◌, List, [], ◌∷◌, ◌++◌, length, take, drop, remove}
 use Rattle.vub_device.specs.Past.{is_among}
 use Rattle.vub_device.specs.Places.{are_distinct}
-use Rattle.vub_steps.specs.declared.steps.Phase.TheVariants as phases
 use Rattle.vub_steps.specs.declared.steps.Step.{Step}
 use Rattle.vub_steps.specs.declared.steps.Step.TheVariants as steps
-use Rattle.vub_facts.specs.Facts.{Side, heads_in, without, Words, side_after}
+use Rattle.vub_facts.specs.Facts.{heads_in, without, Words}
 
 -- the state of a queue, as far as the open heads are concerned
 pub record State : Type 0 where
-  pub side : Side
+  -- head and used length of each request that is being published
+  pub batch : List (ℕ × ℕ)
   -- the index of the avail entry that is fetched next
   pub avail : ℕ
   -- whether each head is accepted and not published
@@ -21,7 +21,7 @@ pub record State : Type 0 where
 
 -- the heads that are in a batch or completed
 abbrev pub busy : State → List ℕ
-busy s = heads_in (s.side.batch ++ s.completed)
+busy s = heads_in (s.batch ++ s.completed)
 
 -- the heads that aren't completed are those that are open and not busy, in order, and what is busy is open
 pub record Splits (heads busy unfinished : List ℕ) : Type 0 where
@@ -42,20 +42,13 @@ pub record Held (n : ℕ) (heads : List ℕ) (w : Words) (s : State) : Type 0 wh
 
 -- a step of a phase, where this head is fetched next
 abbrev pub state_after : Step → ℕ → State → State
-state_after steps.Accept head s = record s { side = side_after steps.Accept s.side; avail = (s.avail + 1) % 65536; taken = λ d. (head == d) || s.taken d; unfinished = s.unfinished ++ head ∷ [] }
-state_after steps.Index head s = record s { side = side_after steps.Index s.side; taken = λ d. s.taken d && not (is_among (heads_in s.side.batch) d) }
-state_after step head s = record s { side = side_after step s.side }
-
--- the begin of a start and of a fetch
-abbrev pub start_begun : State → State
-start_begun s = record s { side = record s.side { phase = phases.Start 0 } }
-
-abbrev pub fetch_begun : State → State
-fetch_begun s = record s { side = record s.side { phase = phases.Fetch 0 } }
+state_after steps.Accept head s = record s { avail = (s.avail + 1) % 65536; taken = λ d. (head == d) || s.taken d; unfinished = s.unfinished ++ head ∷ [] }
+state_after steps.Index head s = record s { batch = []; taken = λ d. s.taken d && not (is_among (heads_in s.batch) d) }
+state_after step head s = s
 
 -- the begin of a publication, whose batch has the first completed requests, at most so many
 abbrev pub publication_begun : ℕ → State → State
-publication_begun most s = record s { side = record s.side { phase = phases.Publish 0; batch = take most s.completed }; completed = drop most s.completed }
+publication_begun most s = record s { batch = take most s.completed; completed = drop most s.completed }
 
 -- the request in this place is completed with this used length
 abbrev pub completed_at : ℕ → ℕ → ℕ → State → State

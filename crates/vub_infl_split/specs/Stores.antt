@@ -1,6 +1,8 @@
 -- The store of each row of the step table into the region of a split queue, and what it makes of the words.
 use Rattle.std.specs.Prelude.{◌<◌, ℕ, ◌+◌, ◌*◌, ◌^◌, ⊤}
 use Rattle.byteorder.specs.Endian.{little_bytes}
+use Rattle.vub_base.specs.declared.store.Tag.{Tag}
+use Rattle.vub_base.specs.declared.store.Tag.TheVariants as tags
 use Rattle.vub_shared.specs.Stores.{Store, one_store}
 use Rattle.vub_inflight.specs.Entries.{with_at}
 use Rattle.vub_infl_split.specs.declared.region.SplitRegion.{SplitRegion}
@@ -28,6 +30,20 @@ store_of r (SP3 i next) = put_word r (next_place r i) 2 next
 store_of r (SP4 head) = put_word r (r.place + 12) 2 head
 store_of r (SP6 i) = put_word r (inflight_place r i) 1 0
 store_of r (SP7 used_idx) = put_word r (r.place + 14) 2 used_idx
+
+-- the tag of its row
+abbrev pub tag_of : SplitStore → Tag
+tag_of SI1 = tags.SI1
+tag_of (SI2 i) = tags.SI2
+tag_of (SI3 used_idx) = tags.SI3
+tag_of (SR1 i) = tags.SR1
+tag_of (SR2 used_idx) = tags.SR2
+tag_of (SF1 i counter) = tags.SF1
+tag_of (SF2 i) = tags.SF2
+tag_of (SP3 i next) = tags.SP3
+tag_of (SP4 head) = tags.SP4
+tag_of (SP6 i) = tags.SP6
+tag_of (SP7 used_idx) = tags.SP7
 
 -- the entry that it names is one of n
 abbrev pub NamesEntry : ℕ → SplitStore → Type 0

@@ -9,7 +9,7 @@ use crate::layout::{
     DESC, DESC_COUNTER, DESC_INFLIGHT, DESC_NEXT, DESC_NUM, DESC_SIZE, FEATURES, LAST_BATCH_HEAD,
     USED_IDX, VERSION,
 };
-use vub_base::{Failed, Space};
+use vub_base::{Failed, Space, Tag};
 use vub_shared::{Shared, load_u8, load_u16, load_u64};
 
 /// Where the region of a split queue lies: its space and place in bytes, a multiple of 8, and how many
@@ -48,6 +48,29 @@ pub enum SplitStore {
     SP6(u16),
     /// A publication notes used_idx.
     SP7(u16),
+}
+
+impl SplitStore {
+    ghost use Rattle.vub_infl_split.specs.Stores.{tag_of};
+
+    /// The tag of its row.
+    pub fn tag(self) -> Tag
+        ensures { result ≡ tag_of self }
+    {
+        match self {
+            SplitStore::SI1 => Tag::SI1,
+            SplitStore::SI2(_) => Tag::SI2,
+            SplitStore::SI3(_) => Tag::SI3,
+            SplitStore::SR1(_) => Tag::SR1,
+            SplitStore::SR2(_) => Tag::SR2,
+            SplitStore::SF1(..) => Tag::SF1,
+            SplitStore::SF2(_) => Tag::SF2,
+            SplitStore::SP3(..) => Tag::SP3,
+            SplitStore::SP4(_) => Tag::SP4,
+            SplitStore::SP6(_) => Tag::SP6,
+            SplitStore::SP7(_) => Tag::SP7,
+        }
+    }
 }
 
 impl SplitRegion {

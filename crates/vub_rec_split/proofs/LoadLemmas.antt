@@ -1,5 +1,5 @@
 -- A recovery in the spaces that a call leaves.
-use Rattle.std.proofs.Common.{◌≡◌, ℕ, ap, sym, subst}
+use Rattle.std.proofs.Common.{◌≡◌, ℕ, ◌∙◌, ap, sym, subst}
 use mathlib.Core.Path.{fun_ext}
 use Rattle.vub_split.specs.declared.split.SplitRing.{SplitRing}
 use Rattle.vub_split.specs.Split.{RingLies}

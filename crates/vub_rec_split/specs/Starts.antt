@@ -5,8 +5,6 @@ use Rattle.std.specs.Option.{option_map}
 use Rattle.vub_base.specs.declared.reading.RegionFault.{RegionFault}
 use Rattle.vub_base.specs.declared.reading.RegionFault.TheVariants.{BadBase}
 use Rattle.vub_base.specs.declared.pending.Pending.{Pending}
-use Rattle.vub_base.specs.declared.store.Tag.{Tag}
-use Rattle.vub_base.specs.declared.store.Tag.TheVariants as tags
 use Rattle.vub_shared.specs.Bytes.{Bytes}
 use Rattle.vub_shared.specs.Spaces.{Names}
 use Rattle.vub_shared.specs.Stores.{Store, after_store}
@@ -18,10 +16,11 @@ use Rattle.vub_infl_split.specs.declared.region.SplitRegion.{SplitRegion}
 use Rattle.vub_infl_split.specs.declared.region.SplitStore.{SplitStore}
 use Rattle.vub_infl_split.specs.declared.region.SplitStore.TheVariants.{SI1, SI2, SI3, SR1, SR2, SF1, SF2, SP3, SP4, SP6, SP7}
 use Rattle.vub_infl_split.specs.Region.{RegionWords, RegionLies, words_of}
-use Rattle.vub_infl_split.specs.Stores.{store_of, NamesEntry}
+use Rattle.vub_infl_split.specs.Stores.{store_of, tag_of, NamesEntry}
 use Rattle.vub_infl_split.specs.Readings.{made_fault, split_entries, unchecked_entries}
-use Rattle.vub_rec_split.specs.declared.plan.Plan.{Plan}
-use Rattle.vub_rec_split.specs.declared.plan.Plan.TheVariants.{New, Settles, Settled}
+use Rattle.vub_steps.specs.declared.steps.Plan.{Plan}
+use Rattle.vub_steps.specs.declared.steps.Plan.TheVariants.{New, Settles, Settled}
+use Rattle.vub_steps.specs.Plans.{plan_of}
 use Rattle.vub_rec_split.specs.declared.plan.Found.{Found}
 use Rattle.vub_rec_split.specs.declared.plan.Found.TheVariants as finds
 use Rattle.vub_rec_split.specs.declared.plan.Recovered.{Recovered}
@@ -36,13 +35,6 @@ bad_base base used = if base == used then None else Some (BadBase base)
 -- the first cause for which a queue of n descriptors can't start
 abbrev pub start_fault : ℕ → ℕ → ℕ → RegionWords → Option RegionFault
 start_fault base n used w = if w.version == 0 then bad_base base used else made_fault n used w
-
--- a batch of so many is settled; there is nothing to settle where none is there
-abbrev pub settles : ℕ → Plan
-settles count = if count == 0 then Settled else Settles count
-
-abbrev pub plan_of : ℕ → RegionWords → Plan
-plan_of used w = if w.version == 0 then New else settles (ahead used w.used_idx)
 
 -- ---- the step in place `done` of a plan
 
@@ -63,33 +55,6 @@ abbrev pub step_of : ℕ → Sight → Plan → ℕ → Option SplitStore
 step_of n sight New done = Some (new_step n sight done)
 step_of n sight (Settles count) done = Some (settle_step n sight count done)
 step_of n sight Settled done = None
-
--- ---- all stores of a plan in their order, where the batch is of these entries, from last_batch_head on along next
-
--- an entry each from this one on, so many
-abbrev pub free_stores : ℕ → ℕ → List SplitStore
-free_stores entry zero = []
-free_stores entry (suc count) = SI2 entry ∷ free_stores (entry + 1) count
-
-abbrev pub plan_stores : ℕ → ℕ → List ℕ → Plan → List SplitStore
-plan_stores n used entries New = SI1 ∷ (free_stores 0 n ++ (SI3 used ∷ []))
-plan_stores n used entries (Settles count) = map SR1 entries ++ (SR2 used ∷ [])
-plan_stores n used entries Settled = []
-
--- ---- the tag of a row
-
-abbrev pub tag_of : SplitStore → Tag
-tag_of SI1 = tags.SI1
-tag_of (SI2 i) = tags.SI2
-tag_of (SI3 used_idx) = tags.SI3
-tag_of (SR1 i) = tags.SR1
-tag_of (SR2 used_idx) = tags.SR2
-tag_of (SF1 i counter) = tags.SF1
-tag_of (SF2 i) = tags.SF2
-tag_of (SP3 i next) = tags.SP3
-tag_of (SP4 head) = tags.SP4
-tag_of (SP6 i) = tags.SP6
-tag_of (SP7 used_idx) = tags.SP7
 
 -- ---- a recovery
 

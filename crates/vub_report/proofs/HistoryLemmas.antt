@@ -8,4 +8,5 @@ pub entries-append : (xs ys : List Item) → entries_of (xs ++ ys) ≡ entries_o
 entries-append [] ys = refl
 entries-append (items.Made e ∷ xs) ys = ap (λ es. e ∷ es) (entries-append xs ys)
 entries-append (items.Store tag area place bytes ∷ xs) ys = entries-append xs ys
+entries-append (items.Bell q ∷ xs) ys = entries-append xs ys
 entries-append (items.Idle ∷ xs) ys = entries-append xs ys

@@ -15,7 +15,7 @@ use Rattle.vub_device.specs.declared.entry.Entry.{Entry}
 use Rattle.vub_device.specs.declared.entry.Entry.TheVariants as entries
 use Rattle.vub_schedule.specs.Spelling.{line, hex_pair, commas, part_text, event_line, header_text}
 use Rattle.vub_report.specs.declared.items.Item.{Item}
-use Rattle.vub_report.specs.declared.items.Item.TheVariants.{Store, Made, Idle}
+use Rattle.vub_report.specs.declared.items.Item.TheVariants.{Store, Made, Bell, Idle}
 use Rattle.vub_report.specs.declared.items.Record.{Record}
 
 -- ---- bytes
@@ -172,6 +172,7 @@ entries_spelling entries = flat_map entry_line entries
 abbrev pub item_text : Item → List ℕ
 item_text (Store tag area place bytes) = codes ". " ++ tag_text tag ++ 32 ∷ (area_text area ++ 32 ∷ (place_text place ++ 32 ∷ bytes_text bytes))
 item_text (Made entry) = codes "! " ++ entry_text entry
+item_text (Bell q) = codes "+ bell " ++ decimal q
 item_text Idle = codes "- idle"
 
 unfoldable pub item_line : Item → List ℕ

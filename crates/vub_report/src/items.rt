@@ -17,6 +17,8 @@ pub enum Item {
     },
     /// An entry of the history, made by the store or the disk call before it.
     Made(Entry),
+    /// The bell of this queue was rung.
+    Bell(u16),
     /// Nothing: the event wasn't ready.
     Idle,
 }

@@ -372,6 +372,10 @@ fn put_item(alloc: Global, out: &mut Vec<u8>, item: &Item) -> Result<(), Memory>
             put_text(out, b"! ")?;
             put_entry(out, entry)?;
         }
+        Item::Bell(queue) => {
+            put_text(out, b"+ bell ")?;
+            put_number(out, u64::from(*queue))?;
+        }
         Item::Idle => put_text(out, b"- idle")?,
     }
     put_text(out, b"\n")

@@ -74,6 +74,7 @@ after_entry h e s = record s { past = e ∷ s.past }
 abbrev pub after_item : Header1 → Item → Scene → Scene
 after_item h (items.Store tag area place bytes) s = record s { memory = after_store (one_store (space_of area) place bytes) s.memory }
 after_item h (items.Made e) s = after_entry h e s
+after_item h (items.Bell q) s = s
 after_item h items.Idle s = s
 
 abbrev pub after_items : Header1 → List Item → Scene → Scene

@@ -1,11 +1,15 @@
 -- Where a run stands: memory and history, the drivers, and what the device has under way.
-use Rattle.std.specs.Prelude.{ℕ, ◌+◌, Bool, false, not, List, [], ◌++◌, length, map, filter, slice_index}
+use Rattle.std.specs.Prelude.{ℕ, ◌+◌, ◌*◌, Bool, true, false, not, List, [], ◌++◌, length, map, filter, slice_index}
 use Rattle.vub_base.specs.declared.header.Header1.{Header1}
 use Rattle.vub_steps.specs.declared.steps.Phase.{Phase}
 use Rattle.vub_steps.specs.declared.steps.Phase.TheVariants.{Rest}
+use Rattle.vub_steps.specs.declared.steps.Plan.{Plan}
+use Rattle.vub_steps.specs.declared.steps.Plan.TheVariants.{New}
 use Rattle.vub_steps.specs.declared.readiness.Standing.{Standing}
-use Rattle.vub_ring.specs.Ring.{ahead, avail_idx}
-use Rattle.vub_driver.specs.Layout.{ring_of, area_place, buffer_place}
+use Rattle.vub_ring.specs.Ring.{ahead, avail_idx, used_idx}
+use Rattle.vub_infl_split.specs.declared.region.SplitRegion.{SplitRegion}
+use Rattle.vub_infl_split.specs.Region.{RegionWords, region_size, words_of}
+use Rattle.vub_driver.specs.Layout.{inflight_space, ring_of, area_place, buffer_place}
 use Rattle.vub_driver.specs.Drivers.{Driver, new_driver}
 use Rattle.vub_device.specs.declared.entry.Entry.{Entry}
 use Rattle.vub_device.specs.Past.{accepted, open_numbers, is_among, started}
@@ -15,7 +19,11 @@ use Rattle.vub_run.specs.Memory.{Scene, opening_scene}
 pub record Lane : Type 0 where
   pub driver : Driver
   pub attached : Bool
+  -- it has a bell
+  pub bell : Bool
   pub phase : Phase
+  -- what its start found
+  pub plan : Plan
   -- the requests that are being published, in order
   pub batch : List ℕ
   -- those whose status stands and that are in no batch, in the order in which they were completed
@@ -33,13 +41,30 @@ pub record Moment : Type 0 where
 
 -- the lane of a queue at the begin of a life: the device knows nothing of it
 abbrev pub fresh : Lane → Lane
-fresh l = record { driver = l.driver; attached = false; phase = Rest; batch = []; completed = []; made = λ k. 0 }
+fresh l = record { driver = l.driver; attached = false; bell = false; phase = Rest; plan = New; batch = []; completed = []; made = λ k. 0 }
 
 abbrev pub opening_lane : Header1 → Lane
-opening_lane h = record { driver = new_driver h.base; attached = false; phase = Rest; batch = []; completed = []; made = λ k. 0 }
+opening_lane h = record { driver = new_driver h.base; attached = false; bell = false; phase = Rest; plan = New; batch = []; completed = []; made = λ k. 0 }
+
+-- the queue is attached, with its bell
+abbrev pub attached : Lane → Lane
+attached l = record l { attached = true; bell = true }
 
 abbrev pub opening : Header1 → Moment
 opening h = record { scene = opening_scene h; lives = false; joined = false; lanes = λ q. opening_lane h }
+
+-- ---- the words of a queue
+
+-- its part of the in-flight region, where each queue has so many places
+abbrev pub region_of : ℕ → ℕ → SplitRegion
+region_of q size = record { space = record { number = inflight_space }; place = q * region_size size; size = size }
+
+-- used.idx
+abbrev pub used_in : Header1 → ℕ → Scene → ℕ
+used_in h q s = used_idx (ring_of q h.size) s.memory
+
+abbrev pub region_in : Header1 → ℕ → Scene → RegionWords
+region_in h q s = words_of (region_of q h.size) s.memory
 
 -- ---- what a queue's readiness depends on
 

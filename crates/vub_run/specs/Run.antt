@@ -24,7 +24,7 @@ use Rattle.vub_report.specs.declared.items.Item.TheVariants as items
 use Rattle.vub_report.specs.declared.items.Record.{Record}
 use Rattle.vub_device.specs.Requests.{request_of}
 use Rattle.vub_run.specs.Memory.{with_at, after_items}
-use Rattle.vub_run.specs.Moments.{Lane, Moment, opening, fresh, standing}
+use Rattle.vub_run.specs.Moments.{Lane, Moment, opening, fresh, attached, standing}
 use Rattle.vub_run.specs.Turns.{turned}
 
 -- items, and where they lead
@@ -93,7 +93,7 @@ boot m = if_ready (not m.lives) (played [] (record m { lives = true; joined = fa
 
 -- every queue is attached, and nothing is said
 abbrev pub join : Moment → Played
-join m = if_ready (m.lives && not m.joined) (played [] (record m { joined = true; lanes = λ q. record (m.lanes q) { attached = true } })) m
+join m = if_ready (m.lives && not m.joined) (played [] (record m { joined = true; lanes = λ q. attached (m.lanes q) })) m
 
 -- ---- turns
 

@@ -1,18 +1,17 @@
 -- The turns of the device on one queue: the row of the step table for each, and the lane after it.
 use Rattle.std.specs.Prelude.{ℕ, ◌+◌, ◌*◌, Bool, true, false, ◌==◌, if◌then◌else◌, List, [], ◌∷◌, ◌++◌, length, map, take, drop, slice_get, slice_index, Option, Some, None}
 use Rattle.vub_base.specs.declared.header.Header1.{Header1}
-use Rattle.vub_base.specs.declared.store.Area.TheVariants.{M}
 use Rattle.vub_shared.specs.Bytes.{Bytes, bytes_from}
-use Rattle.vub_steps.specs.declared.steps.Course.{Course}
 use Rattle.vub_steps.specs.declared.steps.Phase.{Phase}
 use Rattle.vub_steps.specs.declared.steps.Phase.TheVariants as phases
 use Rattle.vub_steps.specs.declared.steps.Step.{Step}
 use Rattle.vub_steps.specs.declared.steps.Step.TheVariants as steps
 use Rattle.vub_steps.specs.declared.readiness.Turn.{Turn}
 use Rattle.vub_steps.specs.declared.readiness.Turn.TheVariants as turns
-use Rattle.vub_ring.specs.Ring.{used_idx}
-use Rattle.vub_steps.specs.Rows.{Row, row_of}
-use Rattle.vub_steps.specs.Steps.{next_step, after_step}
+use Rattle.vub_inflight.specs.Links.{link_at}
+use Rattle.vub_steps.specs.Plans.{plan_of}
+use Rattle.vub_steps.specs.Rows.{Row, Sight, row_of}
+use Rattle.vub_steps.specs.Steps.{Course, done_of, next_step, after_step}
 use Rattle.vub_driver.specs.Layout.{guest_space, ring_of, status_place, sectors_place}
 use Rattle.vub_device.specs.declared.entry.Answered.{Answered}
 use Rattle.vub_device.specs.declared.entry.Asked.{Asked}
@@ -22,7 +21,7 @@ use Rattle.vub_device.specs.Past.{asked, accepted, open_numbers}
 use Rattle.vub_report.specs.declared.items.Item.{Item}
 use Rattle.vub_report.specs.declared.items.Item.TheVariants as items
 use Rattle.vub_run.specs.Memory.{Scene, with_at, after_items}
-use Rattle.vub_run.specs.Moments.{Lane, Moment, unfinished, buffer_of}
+use Rattle.vub_run.specs.Moments.{Lane, Moment, region_of, used_in, region_in, unfinished, buffer_of}
 use Rattle.vub_steps.specs.Tasks.{RequestStep, Status, task_steps, status_of, used_len}
 use Rattle.vub_run.specs.TaskItems.{task_items}
 
@@ -64,20 +63,37 @@ abbrev pub is_rest : Phase → Bool
 is_rest phases.Rest = true
 is_rest p = false
 
--- the lane in which a turn begins its phase. A batch has the first completed requests
-abbrev pub begun : Turn → Lane → Lane
-begun turns.Start l = record l { phase = phases.Start 0 }
-begun turns.Fetch l = record l { phase = phases.Fetch 0 }
-begun (turns.Publish most) l = record l { phase = phases.Publish 0; batch = take most l.completed; completed = drop most l.completed }
-begun (turns.Work place) l = l
+-- the lane in which a turn begins its phase. A start finds its plan in memory; a batch has the first completed requests
+abbrev pub begun : Header1 → ℕ → Scene → Turn → Lane → Lane
+begun h q s turns.Start l = record l { phase = phases.Start 0; plan = plan_of (used_in h q s) (region_in h q s) }
+begun h q s turns.Fetch l = record l { phase = phases.Fetch 0 }
+begun h q s (turns.Publish most) l = record l { phase = phases.Publish 0; batch = take most l.completed; completed = drop most l.completed }
+begun h q s (turns.Work place) l = l
 
 -- a phase that is under way goes on
-abbrev pub under_way : Turn → Lane → Lane
-under_way t l = if is_rest l.phase then begun t l else l
+abbrev pub under_way : Header1 → ℕ → Scene → Turn → Lane → Lane
+under_way h q s t l = if is_rest l.phase then begun h q s t l else l
+
+-- what determines the steps of a queue's phases
+abbrev pub course_of : Header1 → Lane → Course
+course_of h l = record { size = h.size; plan = l.plan; bell = l.bell; batch = length l.batch }
+
+-- what a step sees: its place in a start is the place of its link
+abbrev pub sight_of : Header1 → ℕ → Scene → Lane → Sight
+sight_of h q s l = record {
+  used = used_in h q s;
+  link = link_at (region_in h q s).next (done_of l.phase) (region_in h q s).last_batch_head;
+  batch = map (element_of h q s) l.batch;
+}
 
 abbrev pub row_items : Option Row → List Item
 row_items None = []
-row_items (Some x) = items.Store x.tag M x.store.place x.store.bytes ∷ []
+row_items (Some x) = items.Store x.tag x.area x.store.place x.store.bytes ∷ []
+
+-- a bell that is rung
+abbrev pub bell_items : ℕ → Step → List Item
+bell_items q steps.Bell = items.Bell q ∷ []
+bell_items q step = []
 
 -- the entry that a step makes. The answers are those that stand in memory after the step's store
 abbrev pub entry_items : ℕ → List ℕ → Step → Scene → List Item
@@ -86,16 +102,13 @@ entry_items q batch steps.Accept s = items.Made (entries.Accept q (accepted s.pa
 entry_items q batch steps.Index s = items.Made (entries.Publish q (map (answer_at q s) batch)) ∷ []
 entry_items q batch step s = []
 
-abbrev pub step_stores : Header1 → ℕ → List ℕ → Step → Scene → List Item
-step_stores h q batch step s = row_items (row_of (ring_of q h.size) (used_idx (ring_of q h.size) s.memory) (map (element_of h q s) batch) step)
+-- its store, or its bell
+abbrev pub step_stores : Header1 → ℕ → Lane → Step → Scene → List Item
+step_stores h q l step s = row_items (row_of (ring_of q h.size) (region_of q h.size) (sight_of h q s l) step) ++ bell_items q step
 
--- the items of a step: its store, and the entry that it makes
-abbrev pub step_items : Header1 → ℕ → List ℕ → Step → Scene → List Item
-step_items h q batch step s = step_stores h q batch step s ++ entry_items q batch step (after_items h (step_stores h q batch step s) s)
-
--- what determines the steps of a queue's phases
-abbrev pub course_of : Header1 → Lane → Course
-course_of h l = record { size = h.size; batch = length l.batch }
+-- the items of a step: its store or its bell, and the entry that it makes
+abbrev pub step_items : Header1 → ℕ → Lane → Step → Scene → List Item
+step_items h q l step s = step_stores h q l step s ++ entry_items q l.batch step (after_items h (step_stores h q l step s) s)
 
 -- the phase goes on, and nothing is left of the batch at its end
 abbrev pub with_phase : Phase → Lane → Lane
@@ -103,7 +116,7 @@ with_phase p l = record l { phase = p; batch = if is_rest p then [] else l.batch
 
 abbrev pub phase_turn : Header1 → ℕ → Scene → Lane → Option Step → Turned
 phase_turn h q s l None = nothing l
-phase_turn h q s l (Some step) = record { items = step_items h q l.batch step s; lane = with_phase (after_step (course_of h l) l.phase) l }
+phase_turn h q s l (Some step) = record { items = step_items h q l step s; lane = with_phase (after_step (course_of h l) l.phase) l }
 
 -- ---- work
 
@@ -131,4 +144,4 @@ phase_goes_on h q s l = phase_turn h q s l (next_step (course_of h l) l.phase)
 -- the row of the step table for a turn that is ready
 abbrev pub turned : Header1 → ℕ → Turn → Moment → Turned
 turned h q (turns.Work place) m = work_turn h q m.scene (m.lanes q) (slice_get (unfinished q m) place)
-turned h q t m = phase_goes_on h q m.scene (under_way t (m.lanes q))
+turned h q t m = phase_goes_on h q m.scene (under_way h q m.scene t (m.lanes q))

@@ -1,20 +1,25 @@
--- The definitions, tried on publications and on the turns of a queue.
+-- The definitions, tried on starts, on publications and on the turns of a queue.
 use Rattle.std.specs.Prelude.{◌≡◌, ℕ, true, [], ◌∷◌, map, Some, refl}
 use Rattle.vub_base.specs.declared.store.Tag.TheVariants.{SP1, SP2, SP5}
 use Rattle.vub_steps.specs.declared.steps.Phase.TheVariants as phases
-use Rattle.vub_steps.specs.declared.steps.Step.TheVariants.{Id, Len, Index}
+use Rattle.vub_steps.specs.declared.steps.Step.TheVariants.{Features, Free, Open, Bell, Start, Id, Len, Index}
+use Rattle.vub_steps.specs.declared.steps.Plan.TheVariants.{New}
 use Rattle.vub_steps.specs.declared.readiness.Standing.{Standing}
 use Rattle.vub_steps.specs.declared.readiness.Turn.TheVariants.{Fetch, Publish}
 use Rattle.vub_ring.specs.Ring.{Ring}
-use Rattle.vub_steps.specs.Rows.{row, row_of}
-use Rattle.vub_steps.specs.Steps.{publish_steps}
+use Rattle.vub_steps.specs.Rows.{row, ring_row}
+use Rattle.vub_steps.specs.Steps.{start_steps, publish_steps}
 use Rattle.vub_steps.specs.Readiness.{any_turn}
 
 abbrev small_ring : Ring
 small_ring = record { space = 0; desc = 0; avail = 4096; used = 8192; size = 4 }
 
+-- a queue of two descriptors makes its region, rings its bell and is started
+pub first_start : start_steps 2 New true ≡ Features ∷ Free 0 ∷ Free 1 ∷ Open ∷ Bell ∷ Start ∷ []
+first_start = refl
+
 -- a request of head 0 and used length 1 is published at used.idx 0: id, length, index
-pub one_element : map (row_of small_ring 0 ((0, 1) ∷ [])) (publish_steps 1) ≡
+pub one_element : map (ring_row small_ring 0 ((0, 1) ∷ [])) (publish_steps 1) ≡
     Some (row small_ring SP1 8196 (0 ∷ 0 ∷ 0 ∷ 0 ∷ []))
     ∷ Some (row small_ring SP2 8200 (1 ∷ 0 ∷ 0 ∷ 0 ∷ []))
     ∷ Some (row small_ring SP5 8194 (1 ∷ 0 ∷ []))

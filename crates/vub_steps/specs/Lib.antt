@@ -1,3 +1,4 @@
+pub mod Plans
 pub mod Readiness
 pub mod Rows
 pub mod Steps

@@ -1,24 +1,61 @@
--- The store of each step, with its tag (VIRTIO 1.2, 2.7.8).
+-- The store of each step, with its tag (VIRTIO 1.2, 2.7.8; vhost-user, "Inflight I/O tracking").
 use Rattle.std.specs.Prelude.{ℕ, ◌+◌, ◌%◌, List, length, slice_get, Option, Some, None, option_map}
 use Rattle.byteorder.specs.Endian.{little_bytes}
+use Rattle.vub_base.specs.declared.store.Area.{Area}
+use Rattle.vub_base.specs.declared.store.Area.TheVariants.{M, I}
 use Rattle.vub_base.specs.declared.store.Tag.{Tag}
 use Rattle.vub_base.specs.declared.store.Tag.TheVariants.{SP1, SP2, SP5}
 use Rattle.vub_shared.specs.Stores.{Store, one_store}
 use Rattle.vub_ring.specs.Ring.{Ring, used_idx_place, used_id_place, used_len_place}
+use Rattle.vub_infl_split.specs.declared.region.SplitRegion.{SplitRegion}
+use Rattle.vub_infl_split.specs.declared.region.SplitStore.{SplitStore}
+use Rattle.vub_infl_split.specs.declared.region.SplitStore.TheVariants.{SI1, SI2, SI3, SR1, SR2}
+use Rattle.vub_infl_split.specs.Stores.{store_of, tag_of}
 use Rattle.vub_steps.specs.declared.steps.Step.{Step}
-use Rattle.vub_steps.specs.declared.steps.Step.TheVariants.{Start, Accept, Id, Len, Index}
+use Rattle.vub_steps.specs.declared.steps.Step.TheVariants.{Features, Free, Open, Settle, SettleEnd, Bell, Start, Accept, Id, Len, Index}
 
 pub record Row : Type 0 where
   pub tag : Tag
+  pub area : Area
   pub store : Store
 
-abbrev pub row : Ring → Tag → ℕ → List ℕ → Row
-row r tag place bytes = record { tag = tag; store = one_store r.space place bytes }
+-- what a step sees: used.idx, the entry that is linked next of a batch that is settled, and id and length of each element of
+-- the batch that is published
+pub record Sight : Type 0 where
+  pub used : ℕ
+  pub link : ℕ
+  pub batch : List (ℕ × ℕ)
 
--- the store of a step, where used.idx is `used` and the batch has these elements of id and length
-abbrev pub row_of : Ring → ℕ → List (ℕ × ℕ) → Step → Option Row
-row_of r used batch Start = None
-row_of r used batch Accept = None
-row_of r used batch (Id e) = option_map (λ (x : ℕ × ℕ). row r SP1 (used_id_place r (used + e)) (little_bytes 4 x.0)) (slice_get batch e)
-row_of r used batch (Len e) = option_map (λ (x : ℕ × ℕ). row r SP2 (used_len_place r (used + e)) (little_bytes 4 x.1)) (slice_get batch e)
-row_of r used batch Index = Some (row r SP5 (used_idx_place r) (little_bytes 2 ((used + length batch) % 65536)))
+-- ---- the in-flight region
+
+-- the store of a step of a start, where used.idx is `used` and that entry is linked next
+abbrev pub region_step : ℕ → ℕ → Step → Option SplitStore
+region_step used link Features = Some SI1
+region_step used link (Free i) = Some (SI2 i)
+region_step used link Open = Some (SI3 used)
+region_step used link (Settle place) = Some (SR1 link)
+region_step used link SettleEnd = Some (SR2 used)
+region_step used link step = None
+
+abbrev pub region_row : SplitRegion → SplitStore → Row
+region_row g x = record { tag = tag_of x; area = I; store = store_of g x }
+
+-- ---- the used ring
+
+abbrev pub row : Ring → Tag → ℕ → List ℕ → Row
+row r tag place bytes = record { tag = tag; area = M; store = one_store r.space place bytes }
+
+-- the store of a step of a publication
+abbrev pub ring_row : Ring → ℕ → List (ℕ × ℕ) → Step → Option Row
+ring_row r used batch (Id e) = option_map (λ (x : ℕ × ℕ). row r SP1 (used_id_place r (used + e)) (little_bytes 4 x.0)) (slice_get batch e)
+ring_row r used batch (Len e) = option_map (λ (x : ℕ × ℕ). row r SP2 (used_len_place r (used + e)) (little_bytes 4 x.1)) (slice_get batch e)
+ring_row r used batch Index = Some (row r SP5 (used_idx_place r) (little_bytes 2 ((used + length batch) % 65536)))
+ring_row r used batch step = None
+
+-- ---- any step; none where it makes no store
+
+abbrev pub row_of : Ring → SplitRegion → Sight → Step → Option Row
+row_of r g s (Id e) = ring_row r s.used s.batch (Id e)
+row_of r g s (Len e) = ring_row r s.used s.batch (Len e)
+row_of r g s Index = ring_row r s.used s.batch Index
+row_of r g s step = option_map (region_row g) (region_step s.used s.link step)

@@ -1,13 +1,38 @@
 -- The steps of each phase of a queue, in their order.
-use Rattle.std.specs.Prelude.{ℕ, zero, suc, ◌+◌, nat_lt, if◌then◌else◌, List, [], ◌∷◌, ◌++◌, length, slice_get, Option}
-use Rattle.vub_steps.specs.declared.steps.Course.{Course}
+use Rattle.std.specs.Prelude.{ℕ, zero, suc, ◌+◌, nat_lt, Bool, if◌then◌else◌, List, [], ◌∷◌, ◌++◌, length, slice_get, Option}
 use Rattle.vub_steps.specs.declared.steps.Phase.{Phase}
 use Rattle.vub_steps.specs.declared.steps.Phase.TheVariants as phases
+use Rattle.vub_steps.specs.declared.steps.Plan.{Plan}
+use Rattle.vub_steps.specs.declared.steps.Plan.TheVariants as plans
 use Rattle.vub_steps.specs.declared.steps.Step.{Step}
 use Rattle.vub_steps.specs.declared.steps.Step.TheVariants as steps
 
-abbrev pub start_steps : List Step
-start_steps = steps.Start ∷ []
+-- ---- a start of a queue of n descriptors
+
+-- an entry each from this one on, so many
+abbrev pub free_steps : ℕ → ℕ → List Step
+free_steps entry zero = []
+free_steps entry (suc count) = steps.Free entry ∷ free_steps (entry + 1) count
+
+-- a link each from this place on, so many
+abbrev pub settle_steps : ℕ → ℕ → List Step
+settle_steps place zero = []
+settle_steps place (suc count) = steps.Settle place ∷ settle_steps (place + 1) count
+
+-- what it stores
+abbrev pub plan_steps : ℕ → Plan → List Step
+plan_steps n plans.New = steps.Features ∷ (free_steps 0 n ++ (steps.Open ∷ []))
+plan_steps n (plans.Settles count) = settle_steps 0 count ++ (steps.SettleEnd ∷ [])
+plan_steps n plans.Settled = []
+
+-- the bell, where the queue has one
+abbrev pub bell_steps : Bool → List Step
+bell_steps bell = if bell then steps.Bell ∷ [] else []
+
+abbrev pub start_steps : ℕ → Plan → Bool → List Step
+start_steps n plan bell = plan_steps n plan ++ (bell_steps bell ++ (steps.Start ∷ []))
+
+-- ---- a fetch and a publication
 
 abbrev pub fetch_steps : List Step
 fetch_steps = steps.Accept ∷ []
@@ -21,13 +46,25 @@ element_steps element (suc count) = steps.Id element ∷ steps.Len element ∷ e
 abbrev pub publish_steps : ℕ → List Step
 publish_steps batch = element_steps 0 batch ++ steps.Index ∷ []
 
+-- of a queue that runs, whose batch has so many requests
+abbrev pub running_steps : ℕ → Phase → List Step
+running_steps batch (phases.Fetch done) = fetch_steps
+running_steps batch (phases.Publish done) = publish_steps batch
+running_steps batch phase = []
+
 -- ---- any phase
 
+-- what determines the steps of each phase of a queue: its descriptors, what its start found, whether it has a bell, and the
+-- number of requests in its batch
+pub record Course : Type 0 where
+  pub size : ℕ
+  pub plan : Plan
+  pub bell : Bool
+  pub batch : ℕ
+
 abbrev pub steps_of : Course → Phase → List Step
-steps_of course phases.Rest = []
-steps_of course (phases.Start done) = start_steps
-steps_of course (phases.Fetch done) = fetch_steps
-steps_of course (phases.Publish done) = publish_steps course.batch
+steps_of course (phases.Start done) = start_steps course.size course.plan course.bell
+steps_of course phase = running_steps course.batch phase
 
 -- how many of its steps were made
 abbrev pub done_of : Phase → ℕ
@@ -43,9 +80,16 @@ at_step (phases.Start before) done = phases.Start done
 at_step (phases.Fetch before) done = phases.Fetch done
 at_step (phases.Publish before) done = phases.Publish done
 
-abbrev pub next_step : Course → Phase → Option Step
-next_step course phase = slice_get (steps_of course phase) (done_of phase)
+-- the next one of these steps
+abbrev pub next_of : List Step → Phase → Option Step
+next_of list phase = slice_get list (done_of phase)
 
--- the phase after its next step: at rest after the last one
+-- the phase after it: at rest after the last one
+abbrev pub after_of : List Step → Phase → Phase
+after_of list phase = if nat_lt (done_of phase + 1) (length list) then at_step phase (done_of phase + 1) else phases.Rest
+
+abbrev pub next_step : Course → Phase → Option Step
+next_step course phase = next_of (steps_of course phase) phase
+
 abbrev pub after_step : Course → Phase → Phase
-after_step course phase = if nat_lt (done_of phase + 1) (length (steps_of course phase)) then at_step phase (done_of phase + 1) else phases.Rest
+after_step course phase = after_of (steps_of course phase) phase

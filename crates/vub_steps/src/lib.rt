@@ -8,4 +8,4 @@ mod steps;
 mod tests;
 
 pub use readiness::{Choice, Standing, Turn, is_ready};
-pub use steps::{Course, Phase, Step, after_step, next_step};
+pub use steps::{Phase, Plan, Step, after_running, next_running};

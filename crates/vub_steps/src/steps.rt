@@ -1,5 +1,5 @@
 ghost use Rattle.std.specs.Prelude.{◌≡◌, ◌<◌, ◌^◌, ◌-◌, length, slice_get};
-ghost use Rattle.vub_steps.specs.Steps.{publish_steps, steps_of, done_of, at_step, next_step, after_step};
+ghost use Rattle.vub_steps.specs.Steps.{publish_steps, running_steps, done_of, at_step, next_of, after_of};
 
 /// What the device has under way on a queue, and how many of its steps were made.
 #[derive(Clone, Copy, Debug, PartialEq, Eq)]
@@ -10,18 +10,33 @@ pub enum Phase {
     Publish(u32),
 }
 
-/// What determines the steps of each phase of a queue.
+/// What a start found at its first step, and so which stores it makes.
 #[derive(Clone, Copy, Debug, PartialEq, Eq)]
-pub struct Course {
-    /// The places of the queue.
-    pub size: u16,
-    /// The requests in the batch.
-    pub batch: u16,
+pub enum Plan {
+    /// A region that was never made: it is initialised.
+    New,
+    /// A batch of so many entries that is in the used ring and not noted: they are cleared along
+    /// their links, and used_idx is noted.
+    Settles(u16),
+    /// No store is left.
+    Settled,
 }
 
 /// One step of a phase. The elements of a batch are counted from 0.
 #[derive(Clone, Copy, Debug, PartialEq, Eq)]
 pub enum Step {
+    /// Stores the features of a new in-flight region.
+    Features,
+    /// Clears this entry of a new region.
+    Free(u32),
+    /// Stores the header of a new region.
+    Open,
+    /// Clears the entry in this place of the batch that is settled, along its links.
+    Settle(u32),
+    /// Notes used.idx in the region, with which that batch is settled.
+    SettleEnd,
+    /// Rings the bell of the queue. Makes no store.
+    Bell,
     /// The queue is started. Makes no store.
     Start,
     /// The request that waits longest is accepted. Makes no store.
@@ -34,15 +49,15 @@ pub enum Step {
     Index,
 }
 
-/// The next step of a phase; none at rest.
-pub fn next_step(course: &Course, phase: Phase) -> Option<Step>
-    ensures { result ≡ next_step course.now phase }
+/// The next step of a fetch or a publication, whose batch has so many requests; none at rest and in a
+/// start.
+pub fn next_running(batch: u16, phase: Phase) -> Option<Step>
+    ensures { result ≡ next_of (running_steps batch phase) phase }
 {
     match phase {
-        Phase::Rest => None,
-        Phase::Start(done) => if done == 0 { Some(Step::Start) } else { None },
+        Phase::Rest | Phase::Start(_) => None,
         Phase::Fetch(done) => if done == 0 { Some(Step::Accept) } else { None },
-        Phase::Publish(done) => publish_step(u32::from(course.batch), done),
+        Phase::Publish(done) => publish_step(u32::from(batch), done),
     }
 }
 
@@ -88,23 +103,23 @@ fn at_step(phase: Phase, done: u32) -> Phase
     }
 }
 
-/// How many steps of a phase come after its first one.
+/// How many steps of a fetch or a publication come after its first one.
 #[tactic(auto, using(crate::proofs::StepLemmas::length_publish))]
-fn later_steps(course: &Course, phase: Phase) -> u32
-    ensures { result ≡ length (steps_of course.now phase) - 1 }
+fn later_steps(batch: u16, phase: Phase) -> u32
+    ensures { result ≡ length (running_steps batch phase) - 1 }
 {
     match phase {
         Phase::Rest | Phase::Start(_) | Phase::Fetch(_) => 0,
-        Phase::Publish(_) => 2 * u32::from(course.batch),
+        Phase::Publish(_) => 2 * u32::from(batch),
     }
 }
 
-/// The phase after its next step: at rest after the last one.
-pub fn after_step(course: &Course, phase: Phase) -> Phase
-    ensures { result ≡ after_step course.now phase }
+/// The phase after the next step of a fetch or a publication: at rest after the last one.
+pub fn after_running(batch: u16, phase: Phase) -> Phase
+    ensures { result ≡ after_of (running_steps batch phase) phase }
 {
     let done = done_of(phase);
-    if done < later_steps(course, phase) {
+    if done < later_steps(batch, phase) {
         at_step(phase, done + 1)
     } else {
         Phase::Rest

@@ -1,4 +1,4 @@
-use crate::{Choice, Course, Phase, Standing, Step, Turn, after_step, is_ready, next_step};
+use crate::{Choice, Phase, Standing, Step, Turn, after_running, is_ready, next_running};
 use std::test::Fail;
 
 const WAITING: Standing = Standing {
@@ -9,17 +9,15 @@ const WAITING: Standing = Standing {
     completed: 1,
 };
 
-const ONE: Course = Course { size: 4, batch: 1 };
-
 #[test]
 fn a_batch_of_one_is_published_in_three_steps(rt: HostRuntime) -> Result<(), Fail> {
     let first = Phase::Publish(0);
-    let second = after_step(&ONE, first);
-    let third = after_step(&ONE, second);
-    assert_eq!(rt; next_step(&ONE, first), Some(Step::Id(0)));
-    assert_eq!(rt; next_step(&ONE, second), Some(Step::Len(0)));
-    assert_eq!(rt; next_step(&ONE, third), Some(Step::Index));
-    assert_eq!(rt; after_step(&ONE, third), Phase::Rest);
+    let second = after_running(1, first);
+    let third = after_running(1, second);
+    assert_eq!(rt; next_running(1, first), Some(Step::Id(0)));
+    assert_eq!(rt; next_running(1, second), Some(Step::Len(0)));
+    assert_eq!(rt; next_running(1, third), Some(Step::Index));
+    assert_eq!(rt; after_running(1, third), Phase::Rest);
     Ok(())
 }
 
