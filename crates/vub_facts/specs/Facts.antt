@@ -1,6 +1,6 @@
 -- What holds of the words of a queue in each phase, wherever it lies. The open requests are known by their heads, in the
 -- order in which they were accepted: no history, no number of a request and no driver occurs in it.
-use Rattle.std.specs.Prelude.{◌≡◌, ◌<◌, ◌≤◌, ℕ, ◌+◌, ◌*◌, ◌%◌, Bool, true, false, not, List, [], ◌∷◌, ◌++◌, length, map, filter, get_or, Option, Some, None, ⊥}
+use Rattle.std.specs.Prelude.{◌≡◌, ◌<◌, ◌≤◌, ℕ, ◌+◌, ◌*◌, ◌%◌, Bool, true, false, not, List, [], ◌∷◌, ◌++◌, length, map, filter, get_or, Option, Some, None}
 use Rattle.vub_shared.specs.Bytes.{Bytes, Apart}
 use Rattle.vub_shared.specs.Stores.{Store, after_store}
 use Rattle.vub_ring.specs.Ring.{Ring, ahead}

@@ -20,9 +20,10 @@ use Rattle.vub_region_facts.specs.Starts.{Left, InNew, InSettling, IsSettled}
 use Rattle.vub_region_facts.proofs.BatchLemmas.{below_among}
 use Rattle.vub_region_facts.proofs.SoundLemmas.{sound_entries, unmade_entries, left_reads}
 use Rattle.vub_region_facts.proofs.StartLemmas.{new_begins, new_features, new_frees, new_makes, settling_begins, settled_at_once, settling_link, settling_clears, settling_notes}
-use Rattle.vub_rec_split.specs.declared.plan.Plan.{Plan}
-use Rattle.vub_rec_split.specs.declared.plan.Plan.TheVariants.{New, Settles, Settled}
-use Rattle.vub_rec_split.specs.Starts.{RecoveryState, Sight, link_after, settles, plan_of, start_fault, new_step, settle_step, step_of, moved}
+use Rattle.vub_steps.specs.declared.steps.Plan.{Plan}
+use Rattle.vub_steps.specs.declared.steps.Plan.TheVariants.{New, Settles, Settled}
+use Rattle.vub_steps.specs.Plans.{settles, plan_of}
+use Rattle.vub_rec_split.specs.Starts.{RecoveryState, Sight, link_after, start_fault, new_step, settle_step, step_of, moved}
 use Rattle.vub_rec_split.specs.Stands.{FollowsBatch, InStart}
 
 -- ---- the first step

@@ -12,15 +12,16 @@ use Rattle.vub_inflight.specs.Entries.{heads_of}
 use Rattle.vub_infl_split.specs.declared.region.SplitRegion.{SplitRegion}
 use Rattle.vub_infl_split.specs.declared.region.SplitStore.{SplitStore}
 use Rattle.vub_infl_split.specs.Region.{RegionWords, words_of}
-use Rattle.vub_infl_split.specs.Stores.{store_of, words_after, NamesEntry, ValueFits}
+use Rattle.vub_infl_split.specs.Stores.{tag_of, store_of, words_after, NamesEntry, ValueFits}
 use Rattle.vub_infl_split.specs.Readings.{split_entries}
 use Rattle.vub_infl_split.proofs.PlaceLemmas.{row_lies_in, apart_from_region}
 use Rattle.vub_infl_split.proofs.WordLemmas.{words_stored}
-use Rattle.vub_rec_split.specs.declared.plan.Plan.{Plan}
-use Rattle.vub_rec_split.specs.declared.plan.Plan.TheVariants.{New, Settles, Settled}
+use Rattle.vub_steps.specs.declared.steps.Plan.{Plan}
+use Rattle.vub_steps.specs.declared.steps.Plan.TheVariants.{New, Settles, Settled}
 use Rattle.vub_rec_split.specs.declared.plan.Recovered.{Recovered}
 use Rattle.vub_rec_split.specs.declared.plan.Recovered.TheVariants as recovered
-use Rattle.vub_rec_split.specs.Starts.{RecoveryState, tag_of, answered, answer_in, MakesStep, new_step, settle_step, step_of, unless_fault, fault_in, plan_in, plan_or, plan_of, sight_in, due_in, moved, gone_on, state_after, memory_after, entries_in, unchecked_in, Sight}
+use Rattle.vub_steps.specs.Plans.{plan_of}
+use Rattle.vub_rec_split.specs.Starts.{RecoveryState, answered, answer_in, MakesStep, new_step, settle_step, step_of, unless_fault, fault_in, plan_in, plan_or, sight_in, due_in, moved, gone_on, state_after, memory_after, entries_in, unchecked_in, Sight}
 use Rattle.vub_rec_split.specs.Stands.{InStart, IsApart, LeftAt, StandsAt, Keeps}
 use Rattle.vub_infl_split.specs.Sound.{Sound}
 use Rattle.vub_infl_split.proofs.ReadingLemmas.{sound_unchecked}

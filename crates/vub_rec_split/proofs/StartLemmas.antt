@@ -5,11 +5,12 @@ use Rattle.vub_base.specs.declared.reading.RegionFault.{RegionFault}
 use Rattle.vub_base.specs.declared.store.Tag.{Tag}
 use Rattle.vub_shared.specs.Bytes.{Bytes}
 use Rattle.vub_infl_split.specs.declared.region.SplitStore.{SplitStore}
-use Rattle.vub_rec_split.specs.declared.plan.Plan.{Plan}
+use Rattle.vub_steps.specs.declared.steps.Plan.{Plan}
 use Rattle.vub_rec_split.specs.declared.plan.Found.TheVariants as finds
 use Rattle.vub_rec_split.specs.declared.plan.Recovered.{Recovered}
 use Rattle.vub_rec_split.specs.declared.plan.Recovered.TheVariants as recovered
-use Rattle.vub_rec_split.specs.Starts.{RecoveryState, begun, unless_fault, step_of, fault_in, plan_in, sight_in, due_in, found, found_in, answered, answer_in, gone_on, state_after, moved, tag_of, Tells}
+use Rattle.vub_infl_split.specs.Stores.{tag_of}
+use Rattle.vub_rec_split.specs.Starts.{RecoveryState, begun, unless_fault, step_of, fault_in, plan_in, sight_in, due_in, found, found_in, answered, answer_in, gone_on, state_after, moved, Tells}
 
 begun_fine : (fault : Option RegionFault) (p q : Plan) → ◌≡◌ {A = Result Plan RegionFault} (Ok p) (begun fault q) → (fault ≡ None) × (p ≡ q)
 begun_fine None p q is = (refl, cc)

@@ -6,8 +6,8 @@ use Rattle.vub_split.specs.Split.{used_idx_word, used_idx_place}
 use Rattle.vub_inflight.specs.Links.{link_at}
 use Rattle.vub_infl_split.specs.Region.{RegionWords, words_of, region_size}
 use Rattle.vub_region_facts.specs.Starts.{Left, InNew, InSettling, IsSettled}
-use Rattle.vub_rec_split.specs.declared.plan.Plan.{Plan}
-use Rattle.vub_rec_split.specs.declared.plan.Plan.TheVariants.{New, Settles, Settled}
+use Rattle.vub_steps.specs.declared.steps.Plan.{Plan}
+use Rattle.vub_steps.specs.declared.steps.Plan.TheVariants.{New, Settles, Settled}
 use Rattle.vub_rec_split.specs.Starts.{RecoveryState, link_after, entries_in}
 
 -- ---- in a start, before step `done` of its plan

@@ -8,5 +8,6 @@ mod recovery;
 #[cfg(test)]
 mod tests;
 
-pub use plan::{Plan, Recovered};
+pub use plan::Recovered;
 pub use recovery::SplitRecovery;
+pub use vub_steps::Plan;

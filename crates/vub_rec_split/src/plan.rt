@@ -1,18 +1,7 @@
 //! What a start finds, and what its steps answer.
 use vub_base::{RegionFault, Tag};
 use vub_infl_split::SplitStore;
-
-/// What a start found at its first step, and so which stores it makes.
-#[derive(Clone, Copy, Debug, PartialEq, Eq)]
-pub enum Plan {
-    /// A region that was never made: it is initialised.
-    New,
-    /// A batch of so many entries that is in the used ring and not noted: they are cleared along
-    /// their links, and used_idx is noted.
-    Settles(u16),
-    /// No store is left.
-    Settled,
-}
+use vub_steps::Plan;
 
 /// What a step of a recovery was.
 #[derive(Clone, Copy, Debug, PartialEq, Eq)]

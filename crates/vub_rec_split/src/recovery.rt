@@ -8,14 +8,16 @@ ghost use Rattle.vub_split.specs.Split.{used_idx_word};
 ghost use Rattle.vub_base.specs.declared.reading.RegionFault.{RegionFault};
 ghost use Rattle.vub_inflight.specs.Entries.{AreEntries, heads_of};
 ghost use Rattle.vub_infl_split.specs.Region.{words_of};
-ghost use Rattle.vub_infl_split.specs.Stores.{store_of, NamesEntry};
-ghost use Rattle.vub_rec_split.specs.declared.plan.Plan.TheVariants.{Settles};
+ghost use Rattle.vub_infl_split.specs.Stores.{store_of, tag_of, NamesEntry};
+ghost use Rattle.vub_steps.specs.declared.steps.Plan.TheVariants.{Settles};
 ghost use Rattle.vub_base.specs.declared.store.Tag.{Tag};
 ghost use Rattle.vub_rec_split.specs.declared.plan.Found.TheVariants.{Nothing};
 ghost use Rattle.vub_rec_split.specs.declared.plan.Recovered.TheVariants as recovered;
 ghost use Rattle.vub_rec_split.specs.Stands.{LeftAt, StandsAt};
 ghost use Rattle.vub_rec_split.specs.Starts as starts;
-ghost use Rattle.vub_rec_split.specs.Starts.{start_fault, plan_of, plan_in, sight_in, step_of, settle_step, fault_in, due_in, answer_in, state_after, moved, StartLies, PlanFits, StepFits, SameQueue, outcome, MakesStep, MakesOne, stores_left, entries_in, unchecked_in, found_in, FoundFits};
+ghost use Rattle.vub_steps.specs.Plans as plans;
+ghost use Rattle.vub_steps.specs.Plans.{plan_of};
+ghost use Rattle.vub_rec_split.specs.Starts.{start_fault, plan_in, sight_in, step_of, settle_step, fault_in, due_in, answer_in, state_after, moved, StartLies, PlanFits, StepFits, SameQueue, outcome, MakesStep, MakesOne, stores_left, entries_in, unchecked_in, found_in, FoundFits};
 
 use crate::plan::Found;
 use crate::{Plan, Recovered};
@@ -214,7 +216,7 @@ impl SplitRecovery {
     /// there are.
     fn settles<M: Shared>(&self, mem: &mut M, used: u16) -> Result<Plan, Failed>
         requires lies { StartLies (M.sizes mem.old) self.now }
-        ensures plan { IfOk result (λ plan. WhereTold (M.told mem.old) (λ m. ahead used (words_of self.now.region m).used_idx ≤ self.now.region.size → plan ≡ starts.settles (ahead used (words_of self.now.region m).used_idx))) }
+        ensures plan { IfOk result (λ plan. WhereTold (M.told mem.old) (λ m. ahead used (words_of self.now.region m).used_idx ≤ self.now.region.size → plan ≡ plans.settles (ahead used (words_of self.now.region m).used_idx))) }
         ensures fits { IfOk result (λ plan. PlanFits self.now.region.size (Some plan) 0) }
         ensures only_loads { OnlyLoads M.told M.trail M.names M.handed M.sizes mem.old mem.new }
         ensures cause { HasCause (M.faults mem.old) (M.faults mem.new) result }
@@ -314,7 +316,7 @@ impl SplitRecovery {
         requires plan { PlanFits self.old.region.size (Some plan) self.old.done }
         requires within { NamesEntry self.old.region.size step }
         requires fits { StepFits self.old.region.size plan self.old.done step }
-        ensures said { result ≢ recovered.Failed → result ≡ recovered.Stored (starts.tag_of step) }
+        ensures said { result ≢ recovered.Failed → result ≡ recovered.Stored (tag_of step) }
         ensures state { result ≢ recovered.Failed → self.new ≡ moved step (record self.old { plan = Some plan }) }
         ensures stays { result ≡ recovered.Failed → self.new ≡ self.old }
         ensures same_queue { SameQueue self.old self.new }
@@ -325,7 +327,7 @@ impl SplitRecovery {
         match self.region.store(mem, step) {
             Ok(()) => {
                 self.note(plan, step);
-                Recovered::Stored(tag_of(step))
+                Recovered::Stored(step.tag())
             }
             Err(_) => Recovered::Failed,
         }
@@ -349,24 +351,5 @@ impl SplitRecovery {
             }
             _ => self.plan = Some(Plan::Settled),
         }
-    }
-}
-
-/// The tag of a row.
-fn tag_of(step: SplitStore) -> Tag
-    ensures { result ≡ starts.tag_of step }
-{
-    match step {
-        SplitStore::SI1 => Tag::SI1,
-        SplitStore::SI2(_) => Tag::SI2,
-        SplitStore::SI3(_) => Tag::SI3,
-        SplitStore::SR1(_) => Tag::SR1,
-        SplitStore::SR2(_) => Tag::SR2,
-        SplitStore::SF1(..) => Tag::SF1,
-        SplitStore::SF2(_) => Tag::SF2,
-        SplitStore::SP3(..) => Tag::SP3,
-        SplitStore::SP4(_) => Tag::SP4,
-        SplitStore::SP6(_) => Tag::SP6,
-        SplitStore::SP7(_) => Tag::SP7,
     }
 }

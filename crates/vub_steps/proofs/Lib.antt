@@ -1,3 +1,4 @@
 pub mod Examples
 pub mod ReadinessLemmas
+pub mod StartLemmas
 pub mod StepLemmas

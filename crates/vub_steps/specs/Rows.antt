@@ -37,6 +37,10 @@ region_step used link (Settle place) = Some (SR1 link)
 region_step used link SettleEnd = Some (SR2 used)
 region_step used link step = None
 
+abbrev pub region_step_at : ℕ → ℕ → Option Step → Option SplitStore
+region_step_at used link None = None
+region_step_at used link (Some step) = region_step used link step
+
 abbrev pub region_row : SplitRegion → SplitStore → Row
 region_row g x = record { tag = tag_of x; area = I; store = store_of g x }
 
