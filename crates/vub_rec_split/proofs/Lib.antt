@@ -1,4 +1,5 @@
 pub mod LoadLemmas
+pub mod PlaceLemmas
 pub mod PlanSteps
 pub mod PlanStores
 pub mod StandLemmas

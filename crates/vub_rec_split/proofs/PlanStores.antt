@@ -25,7 +25,7 @@ use Rattle.vub_rec_split.proofs.StandLemmas.{stands_fine, planned}
 
 -- ---- the step in place `done`
 
-new_in_place : (n : ℕ) (sight : Sight) (done : ℕ) → done ≤ n + 1 → Some (new_step n sight done) ≡ region_step_at sight.used sight.link (slice_get (plan_steps n New) done)
+pub new_in_place : (n : ℕ) (sight : Sight) (done : ℕ) → done ≤ n + 1 → Some (new_step n sight done) ≡ region_step_at sight.used sight.link (slice_get (plan_steps n New) done)
 new_in_place n sight zero upto = refl
 new_in_place n sight (suc d) upto = elim (cases_lt d n) [
   | inl more ↦
@@ -38,7 +38,7 @@ new_in_place n sight (suc d) upto = elim (cases_lt d n) [
       ap (λ (x : SplitStore). Some x) step ∙ ap (region_step_at sight.used sight.link) (sym (first_behind (free_steps 0 n) [] steps.Open d (length_free 0 n ∙ last)))
 ]
 
-settle_in_place : (n used : ℕ) (heads : List ℕ) (count done : ℕ) (cleared : Option ℕ) (sight : Sight) (w : RegionWords) → sight.link ≡ link_after cleared w → FollowsBatch n used heads count done cleared w
+pub settle_in_place : (n used : ℕ) (heads : List ℕ) (count done : ℕ) (cleared : Option ℕ) (sight : Sight) (w : RegionWords) → sight.link ≡ link_after cleared w → FollowsBatch n used heads count done cleared w
     → Some (settle_step n sight count done) ≡ region_step_at sight.used sight.link (slice_get (plan_steps n (Settles count)) done)
 settle_in_place n used heads count done cleared sight w link p =
     elim (cases_lt done count) [

@@ -7,6 +7,7 @@ use Rattle.vub_base.specs.declared.pending.Pending.{Pending}
 use Rattle.vub_device.specs.Past.{is_among}
 use Rattle.vub_steps.specs.declared.steps.Phase.{Phase}
 use Rattle.vub_steps.specs.declared.steps.Phase.TheVariants as phases
+use Rattle.vub_steps.specs.declared.steps.Plan.{Plan}
 use Rattle.vub_inflight.specs.Entries.{with_at, next_counter, CountersBelow}
 use Rattle.vub_inflight.specs.Links.{links}
 use Rattle.vub_inflight.proofs.CounterLemmas.{below_weaker, below_next}
@@ -32,11 +33,11 @@ life_begins n used head heads batch w p = record { sound = p.sound; below = belo
 pub life_left : (n used head counter base : ℕ) (heads batch : List ℕ) (phase : Phase) (w : RegionWords) → InLife n used head counter heads batch phase w → Left n used heads base w
 life_left n used head counter base heads batch phase w p = inr p.sound
 
-pub not_started_left : (n used : ℕ) (heads : List ℕ) (base : ℕ) (phase : Phase) (w : RegionWords) → NotStarted n used heads base phase w → Left n used heads base w
-not_started_left n used heads base phases.Rest w p = p
-not_started_left n used heads base (phases.Start done) w p = start_left n used heads base done w p
-not_started_left n used heads base (phases.Fetch done) w p = p
-not_started_left n used heads base (phases.Publish done) w p = p
+pub not_started_left : (n used : ℕ) (heads : List ℕ) (base : ℕ) (plan : Plan) (phase : Phase) (w : RegionWords) → NotStarted n used heads base plan phase w → Left n used heads base w
+not_started_left n used heads base plan phases.Rest w p = p
+not_started_left n used heads base plan (phases.Start done) w p = start_left n used heads base plan done w p
+not_started_left n used heads base plan (phases.Fetch done) w p = p
+not_started_left n used heads base plan (phases.Publish done) w p = p
 
 -- the head that is fetched next matters to a fetch alone
 pub other_head : (n used head next counter : ℕ) (heads batch : List ℕ) (phase : Phase) (w : RegionWords) → ((done : ℕ) → phase ≢ phases.Fetch done) → InLife n used head counter heads batch phase w → InLife n used next counter heads batch phase w

@@ -1,8 +1,8 @@
 -- Store by store through a start, and what it leaves where it is cut off.
-use Rattle.std.proofs.Common.{◌≡◌, ◌≢◌, ◌<◌, ℕ, zero, suc, ◌+◌, true, false, List, [], ◌∷◌, ◌++◌, refl, ap, sym, ◌∙◌, subst, inl, inr, arith}
+use Rattle.std.proofs.Common.{◌≡◌, ◌≢◌, ◌≤◌, ◌<◌, ℕ, zero, suc, ◌+◌, true, false, List, [], ◌∷◌, ◌++◌, length, refl, ap, sym, ◌∙◌, subst, inl, inr, arith}
 use Rattle.std.specs.Prelude.{◌||◌, None}
 use Rattle.std.proofs.lemmas.Bool.Decides.{nat_tests}
-use Rattle.std.proofs.lemmas.Bool.{cases_eq}
+use Rattle.std.proofs.lemmas.Bool.{cases_eq, cases_lt}
 use Rattle.vub_base.specs.declared.pending.Pending.{Pending}
 use Rattle.vub_device.specs.Past.{is_among}
 use Rattle.vub_device.proofs.Numbers.{is_among_append}
@@ -16,7 +16,12 @@ use Rattle.vub_infl_split.specs.Stores.{words_after}
 use Rattle.vub_infl_split.specs.Readings.{counted, open_entries, made_fault, split_entries}
 use Rattle.vub_infl_split.specs.Sound.{Sound}
 use Rattle.vub_infl_split.proofs.ReadingLemmas.{WordsFit, sound_undamaged, undamaged_sound}
-use Rattle.vub_region_facts.specs.Starts.{Unmade, Left, InNew, InSettling, IsSettled, InStart, Makes, Settles, Settled}
+use Rattle.vub_steps.specs.declared.steps.Plan.{Plan}
+use Rattle.vub_steps.specs.declared.steps.Plan.TheVariants.{New, Settles, Settled}
+use Rattle.vub_steps.specs.Plans.{settles, plan_of}
+use Rattle.vub_steps.specs.Steps.{plan_steps}
+use Rattle.vub_steps.proofs.StartLemmas.{length_new, length_settles}
+use Rattle.vub_region_facts.specs.Starts.{Unmade, Left, InNew, InSettling, IsSettled, InPlan, InStart}
 use Rattle.vub_region_facts.proofs.SoundLemmas.{sound_new, sound_clear, sound_note, sound_entries, unmade_entries}
 
 -- ---- a new region
@@ -92,17 +97,38 @@ settling_notes n used heads count w fits p = record {
 
 -- ---- it begins, and is cut off between any two stores
 
-pub start_begins : (n used : ℕ) (heads : List ℕ) (base : ℕ) (w : RegionWords) → used < 65536 → Left n used heads base w → InStart n used heads base 0 w
-start_begins n used heads base w fits (inl u) = Makes (new_begins n used heads base w u)
-start_begins n used heads base w fits (inr s) = elim (cases_eq (ahead used w.used_idx) 0) [
-  | inl none ↦ Settled (settled_at_once n used heads w fits none s)
-  | inr some ↦ Settles (ahead used w.used_idx) (settling_begins n used heads w s)
-]
+-- no store of a plan is left at once, but of the one with none
+none_settled : (n used : ℕ) (heads : List ℕ) (plan : Plan) (w : RegionWords) → 0 < length (plan_steps n plan) → length (plan_steps n plan) ≤ 0 → IsSettled n used heads w
+none_settled n used heads plan w some none = absurd (omega (arith, some, none))
 
-pub start_left : (n used : ℕ) (heads : List ℕ) (base done : ℕ) (w : RegionWords) → InStart n used heads base done w → Left n used heads base w
-start_left n used heads base done w (Makes p) = inl p.unmade
-start_left n used heads base done w (Settles count p) = inr p.sound
-start_left n used heads base done w (Settled p) = inr p.sound
+pub start_begins : (n used : ℕ) (heads : List ℕ) (base : ℕ) (w : RegionWords) → used < 65536 → Left n used heads base w → InStart n used heads base (plan_of used w) 0 w
+start_begins n used heads base w fits (inl u) =
+    let version : w.version ≡ 0 = u.version in
+    let plan : New ≡ plan_of used w = grind (arith, nat_tests) in
+    subst (λ (p : Plan). InStart n used heads base p 0 w) plan (record { stores = λ some. new_begins n used heads base w u; settled = none_settled n used heads New w (omega (arith, length_new n)) })
+start_begins n used heads base w fits (inr s) =
+    let version : w.version ≡ 1 = s.version in
+    let made : settles (ahead used w.used_idx) ≡ plan_of used w = grind (arith, nat_tests) in
+    elim (cases_eq (ahead used w.used_idx) 0) [
+      | inl none ↦
+          let plan : Settled ≡ plan_of used w = grind (arith, nat_tests) in
+          subst (λ (p : Plan). InStart n used heads base p 0 w) plan (record { stores = λ some. absurd (omega (arith, some)); settled = λ all. settled_at_once n used heads w fits none s })
+      | inr some ↦
+          let count : ℕ = ahead used w.used_idx in
+          let plan : Settles count ≡ plan_of used w = grind (arith, nat_tests) in
+          subst (λ (p : Plan). InStart n used heads base p 0 w) plan (record { stores = λ more. settling_begins n used heads w s; settled = none_settled n used heads (Settles count) w (omega (arith, length_settles n count)) })
+    ]
+
+plan_left : (n used : ℕ) (heads : List ℕ) (base : ℕ) (plan : Plan) (done : ℕ) (w : RegionWords) → InPlan n used heads base plan done w → Left n used heads base w
+plan_left n used heads base New done w p = inl p.unmade
+plan_left n used heads base (Settles count) done w p = inr p.sound
+plan_left n used heads base Settled done w p = absurd p
+
+pub start_left : (n used : ℕ) (heads : List ℕ) (base : ℕ) (plan : Plan) (done : ℕ) (w : RegionWords) → InStart n used heads base plan done w → Left n used heads base w
+start_left n used heads base plan done w p = elim (cases_lt done (length (plan_steps n plan))) [
+  | inl more ↦ plan_left n used heads base plan done w (p.stores more)
+  | inr all ↦ let q : IsSettled n used heads w = p.settled (omega (arith, all)) in inr q.sound
+]
 
 -- ---- the checks of a start
 

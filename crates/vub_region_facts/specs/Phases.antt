@@ -5,6 +5,7 @@ use Rattle.vub_device.specs.Past.{is_among}
 use Rattle.vub_device.specs.Places.{are_distinct}
 use Rattle.vub_steps.specs.declared.steps.Phase.{Phase}
 use Rattle.vub_steps.specs.declared.steps.Phase.TheVariants as phases
+use Rattle.vub_steps.specs.declared.steps.Plan.{Plan}
 use Rattle.vub_inflight.specs.Entries.{CountersBelow}
 use Rattle.vub_inflight.specs.Links.{links}
 use Rattle.vub_infl_split.specs.Region.{RegionWords}
@@ -73,7 +74,7 @@ pub record InLife (n used head counter : ℕ) (heads batch : List ℕ) (phase : 
   pub below : CountersBelow counter (open_entries n used w)
   pub under_way : InPhase n used head counter batch phase w
 
--- one that isn't
-abbrev pub NotStarted : ℕ → ℕ → List ℕ → ℕ → Phase → RegionWords → Type 0
-NotStarted n used heads base (phases.Start done) w = InStart n used heads base done w
-NotStarted n used heads base phase w = Left n used heads base w
+-- one that isn't, whose start has this plan
+abbrev pub NotStarted : ℕ → ℕ → List ℕ → ℕ → Plan → Phase → RegionWords → Type 0
+NotStarted n used heads base plan (phases.Start done) w = InStart n used heads base plan done w
+NotStarted n used heads base plan phase w = Left n used heads base w

@@ -1,12 +1,15 @@
 -- What a life of a split queue of n descriptors finds in its in-flight region, and what holds of the region between two stores
 -- of its start, where used.idx is `used` and the open requests have these heads, in the order in which they were accepted
 -- (vhost-user, "Inflight I/O tracking").
-use Rattle.std.specs.Prelude.{◌≡◌, ◌<◌, ◌≤◌, ◌⊎◌, ℕ, ◌+◌, true, List, []}
+use Rattle.std.specs.Prelude.{◌≡◌, ◌<◌, ◌≤◌, ◌⊎◌, ℕ, ◌+◌, true, List, [], length}
 use Rattle.vub_device.specs.Past.{is_among}
 use Rattle.vub_ring.specs.Ring.{ahead}
 use Rattle.vub_inflight.specs.Links.{links}
 use Rattle.vub_infl_split.specs.Region.{RegionWords}
 use Rattle.vub_infl_split.specs.Sound.{Sound}
+use Rattle.vub_steps.specs.declared.steps.Plan.{Plan}
+use Rattle.vub_steps.specs.declared.steps.Plan.TheVariants.{New, Settles, Settled}
+use Rattle.vub_steps.specs.Steps.{plan_steps}
 
 -- ---- what any life finds
 
@@ -43,8 +46,13 @@ pub record IsSettled (n used : ℕ) (heads : List ℕ) (w : RegionWords) : Type 
   pub sound : Sound n used heads w
   pub noted : IsNoted used w
 
--- one of the three
-pub data InStart (n used : ℕ) (heads : List ℕ) (base done : ℕ) (w : RegionWords) : Type 0 where
-  Makes : InNew n used heads base done w → InStart n used heads base done w
-  Settles : (count : ℕ) → InSettling n used heads count done w → InStart n used heads base done w
-  Settled : IsSettled n used heads w → InStart n used heads base done w
+-- a store of its plan is left
+abbrev pub InPlan : ℕ → ℕ → List ℕ → ℕ → Plan → ℕ → RegionWords → Type 0
+InPlan n used heads base New done w = InNew n used heads base done w
+InPlan n used heads base (Settles count) done w = InSettling n used heads count done w
+InPlan n used heads base Settled done w = ⊥
+
+-- a start with this plan, of which so many steps were made
+pub record InStart (n used : ℕ) (heads : List ℕ) (base : ℕ) (plan : Plan) (done : ℕ) (w : RegionWords) : Type 0 where
+  pub stores : done < length (plan_steps n plan) → InPlan n used heads base plan done w
+  pub settled : length (plan_steps n plan) ≤ done → IsSettled n used heads w

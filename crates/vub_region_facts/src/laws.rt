@@ -7,6 +7,8 @@ ghost use Rattle.vub_device.specs.Past.{is_among};
 ghost use Rattle.vub_device.specs.Places.{are_distinct};
 ghost use Rattle.vub_steps.specs.declared.steps.Phase.{Phase};
 ghost use Rattle.vub_steps.specs.declared.steps.Phase.TheVariants as phases;
+ghost use Rattle.vub_steps.specs.declared.steps.Plan.{Plan};
+ghost use Rattle.vub_steps.specs.Plans.{plan_of};
 ghost use Rattle.vub_inflight.specs.Entries.{heads_of, next_counter};
 ghost use Rattle.vub_inflight.specs.Links.{link_at};
 ghost use Rattle.vub_infl_split.specs.declared.region.SplitRegion.{SplitRegion};
@@ -20,7 +22,7 @@ ghost use Rattle.vub_region_facts.specs.Phases.{index_step, note_step, IsBatch, 
 /// A start begins with what a life can find. Each store of it leaves the region to the next one, for
 /// the same open requests, and a start that is cut off anywhere leaves what a life can find.
 pub fn a_start_keeps_the_open_requests()
-    ensures begins { (r : SplitRegion) (used : ℕ) (heads : List ℕ) (base : ℕ) (m : Bytes) → used < 65536 → Left r.size used heads base (words_of r m) → InStart r.size used heads base 0 (words_of r m) }
+    ensures begins { (r : SplitRegion) (used : ℕ) (heads : List ℕ) (base : ℕ) (m : Bytes) → used < 65536 → Left r.size used heads base (words_of r m) → InStart r.size used heads base (plan_of used (words_of r m)) 0 (words_of r m) }
     ensures features { (r : SplitRegion) (used : ℕ) (heads : List ℕ) (base : ℕ) (m : Bytes) → r.size < 65536 → InNew r.size used heads base 0 (words_of r m)
         → InNew r.size used heads base 1 (words_of r (after_store (store_of r SI1) m)) }
     ensures entry { (r : SplitRegion) (used : ℕ) (heads : List ℕ) (base i : ℕ) (m : Bytes) → r.size < 65536 → i < r.size → InNew r.size used heads base (i + 1) (words_of r m)
@@ -31,9 +33,9 @@ pub fn a_start_keeps_the_open_requests()
         → InSettling r.size used heads count (done + 1) (words_of r (after_store (store_of r (SR1 (link_at (words_of r m).next done (words_of r m).last_batch_head))) m)) }
     ensures note { (r : SplitRegion) (used : ℕ) (heads : List ℕ) (count : ℕ) (m : Bytes) → r.size < 65536 → used < 65536 → InSettling r.size used heads count count (words_of r m)
         → IsSettled r.size used heads (words_of r (after_store (store_of r (SR2 used)) m)) }
-    ensures elsewhere { (r : SplitRegion) (used : ℕ) (heads : List ℕ) (base : ℕ) (phase : Phase) (m : Bytes) (st : Store) → OffRegion r st → NotStarted r.size used heads base phase (words_of r m)
-        → NotStarted r.size used heads base phase (words_of r (after_store st m)) }
-    ensures cut_off { (r : SplitRegion) (used : ℕ) (heads : List ℕ) (base : ℕ) (phase : Phase) (m : Bytes) → NotStarted r.size used heads base phase (words_of r m) → Left r.size used heads base (words_of r m) }
+    ensures elsewhere { (r : SplitRegion) (used : ℕ) (heads : List ℕ) (base : ℕ) (plan : Plan) (phase : Phase) (m : Bytes) (st : Store) → OffRegion r st → NotStarted r.size used heads base plan phase (words_of r m)
+        → NotStarted r.size used heads base plan phase (words_of r (after_store st m)) }
+    ensures cut_off { (r : SplitRegion) (used : ℕ) (heads : List ℕ) (base : ℕ) (plan : Plan) (phase : Phase) (m : Bytes) → NotStarted r.size used heads base plan phase (words_of r m) → Left r.size used heads base (words_of r m) }
 {}
 
 /// Each store of a fetch and of a publication leaves the region to the next one. The head that is

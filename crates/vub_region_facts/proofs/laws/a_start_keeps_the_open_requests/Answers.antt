@@ -34,7 +34,7 @@ pub returns-clause-note : goal.returns-clause-note
 returns-clause-note c r used heads count m small fits p = holds_stored (IsSettled r.size used heads) r (SR2 used) m small tt fits (settling_notes r.size used heads count (words_of r m) fits p)
 
 pub returns-clause-elsewhere : goal.returns-clause-elsewhere
-returns-clause-elsewhere c r used heads base phase m st off p = holds_elsewhere (NotStarted r.size used heads base phase) r m st off p
+returns-clause-elsewhere c r used heads base plan phase m st off p = holds_elsewhere (NotStarted r.size used heads base plan phase) r m st off p
 
 pub returns-clause-cut_off : goal.returns-clause-cut_off
-returns-clause-cut_off c r used heads base phase m p = not_started_left r.size used heads base phase (words_of r m) p
+returns-clause-cut_off c r used heads base plan phase m p = not_started_left r.size used heads base plan phase (words_of r m) p
