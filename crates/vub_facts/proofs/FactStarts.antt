@@ -21,6 +21,10 @@ use Rattle.vub_steps.specs.Steps.{free_steps, settle_steps, plan_steps, bell_ste
 use Rattle.vub_steps.proofs.StartLemmas.{before, behind, first_behind, free_at, length_free, settle_at, length_settle, length_new, length_settles}
 use Rattle.vub_facts.specs.Facts.{Side, Words, InStart, NotStarted, Facts, IsStarting, bells, IsDue, side_after}
 
+-- a queue isn't both started and not
+pub runs_on : {A : Type 0} (started : Bool) → started ≡ true → started ≡ false → A
+runs_on started on off = absurd (let fails : true ≡ false = sym on ∙ off in cc)
+
 -- ---- it begins
 
 begins : (n used : ℕ) (heads : List ℕ) (base : ℕ) (w : RegionWords) → used < 65536 → Left n used heads base w → InStart n used heads base (plan_of used w) 0 w
@@ -195,9 +199,6 @@ start_due n x done step off is next =
 
 -- ---- the phase after it
 
-on_time : {A : Type 0} (x : Side) → x.started ≡ false → x.started ≡ true → A
-on_time x off on = absurd (let fails : false ≡ true = sym off ∙ on in cc)
-
 -- a step is left
 goes_on : (list : List Step) (phase : Phase) (done : ℕ) → phase ≡ phases.Start done → done + 1 < length list → after_of list phase ≡ at_step phase (done_of phase + 1)
 goes_on list phase done is more =
@@ -222,10 +223,10 @@ after_due n x steps.Bell off due =
     let one : bells x.bell ≡ 1 = ap bells due.1 in
     goes_on (start_steps n x.plan x.bell) x.phase (length (plan_steps n x.plan)) due.0.place (omega (arith, start_long n x.plan x.bell, one))
 after_due n x steps.Start off due = ends (start_steps n x.plan x.bell) x.phase (length (plan_steps n x.plan) + bells x.bell) due.place (start_long n x.plan x.bell)
-after_due n x steps.Accept off due = on_time x off due.0
-after_due n x (steps.Id e) off due = on_time x off due.0
-after_due n x (steps.Len e) off due = on_time x off due.0
-after_due n x steps.Index off due = on_time x off due.0
+after_due n x steps.Accept off due = runs_on x.started due.0 off
+after_due n x (steps.Id e) off due = runs_on x.started due.0 off
+after_due n x (steps.Len e) off due = runs_on x.started due.0 off
+after_due n x steps.Index off due = runs_on x.started due.0 off
 
 pub start_after : (n : ℕ) (x : Side) (done : ℕ) (step : Step) → x.started ≡ false → x.phase ≡ phases.Start done → next_of (start_steps n x.plan x.bell) x.phase ≡ Some step → after_of (start_steps n x.plan x.bell) x.phase ≡ (side_after step x).phase
 start_after n x done step off is next = after_due n x step off (start_due n x done step off is next)

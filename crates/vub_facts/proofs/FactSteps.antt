@@ -15,7 +15,7 @@ use Rattle.vub_steps.specs.declared.steps.Step.TheVariants as steps
 use Rattle.vub_steps.specs.Steps.{plan_steps}
 use Rattle.vub_steps.specs.Rows.{Sight}
 use Rattle.vub_facts.specs.Facts.{Side, Lies, Words, head_next, InBatch, IsBuilt, BatchFacts, Facts, IsDue, sight, side_after, heads_after, words_after}
-use Rattle.vub_facts.proofs.FactStarts.{starting, starting_is, features_kept, free_kept, open_kept, settle_kept, settle_end_kept, bell_kept}
+use Rattle.vub_facts.proofs.FactStarts.{runs_on, starting, starting_is, features_kept, free_kept, open_kept, settle_kept, settle_end_kept, bell_kept}
 
 -- ---- a queue that is started
 
@@ -24,10 +24,6 @@ going x phase = record x { started = true; phase = phase }
 
 pub going_is : (x : Side) (p : Phase) → x.started ≡ true → x.phase ≡ p → going x p ≡ x
 going_is x p on is = ap (λ (b : Bool). record x { started = b; phase = p }) (sym on) ∙ ap (λ (q : Phase). record x { phase = q }) (sym is)
-
--- what is said of one that isn't
-runs_on : {A : Type 0} (b : Bool) → b ≡ true → b ≡ false → A
-runs_on b on off = absurd (let fails : true ≡ false = sym on ∙ off in cc)
 
 -- ---- begins
 
