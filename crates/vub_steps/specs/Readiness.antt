@@ -19,7 +19,7 @@ is_publication p = false
 -- a queue is started once; a fetch and a publication exclude each other; work goes on beside both
 abbrev pub is_ready : Standing → Turn → Bool
 is_ready s Start = not s.started
-is_ready s Fetch = s.started && not (is_publication s.phase) && (is_fetch s.phase || nat_lt 0 s.waiting)
+is_ready s Fetch = s.started && not (is_publication s.phase) && (is_fetch s.phase || (s.counts && nat_lt 0 s.waiting))
 is_ready s (Work place) = s.started && nat_lt place s.unfinished
 is_ready s (Publish most) = s.started && not (is_fetch s.phase) && (is_publication s.phase || (nat_lt 0 most && nat_lt 0 s.completed))
 

@@ -9,21 +9,25 @@ use Rattle.vub_shared.specs.Stores.{Store, one_store}
 use Rattle.vub_ring.specs.Ring.{Ring, used_idx_place, used_id_place, used_len_place}
 use Rattle.vub_infl_split.specs.declared.region.SplitRegion.{SplitRegion}
 use Rattle.vub_infl_split.specs.declared.region.SplitStore.{SplitStore}
-use Rattle.vub_infl_split.specs.declared.region.SplitStore.TheVariants.{SI1, SI2, SI3, SR1, SR2}
+use Rattle.vub_infl_split.specs.declared.region.SplitStore.TheVariants.{SI1, SI2, SI3, SR1, SR2, SF1, SF2, SP3, SP4, SP6, SP7}
 use Rattle.vub_infl_split.specs.Stores.{store_of, tag_of}
 use Rattle.vub_steps.specs.declared.steps.Step.{Step}
-use Rattle.vub_steps.specs.declared.steps.Step.TheVariants.{Features, Free, Open, Settle, SettleEnd, Bell, Start, Accept, Id, Len, Index}
+use Rattle.vub_steps.specs.declared.steps.Step.TheVariants.{Features, Free, Open, Settle, SettleEnd, Count, Accept, Id, Len, Link, Head, Index, Clear, Note}
 
 pub record Row : Type 0 where
   pub tag : Tag
   pub area : Area
   pub store : Store
 
--- what a step sees: used.idx, the entry that is linked next of a batch that is settled, and id and length of each element of
--- the batch that is published
+-- what a step sees: used.idx, and last_batch_head of the in-flight region; the entry that is linked next of a batch that is
+-- settled; the head that is fetched, and the counter that it gets; and id and length of each element of the batch that is
+-- published
 pub record Sight : Type 0 where
   pub used : ℕ
+  pub last_batch_head : ℕ
   pub link : ℕ
+  pub head : ℕ
+  pub counter : ℕ
   pub batch : List (ℕ × ℕ)
 
 -- ---- the in-flight region
@@ -40,6 +44,16 @@ region_step used link step = None
 abbrev pub region_step_at : ℕ → ℕ → Option Step → Option SplitStore
 region_step_at used link None = None
 region_step_at used link (Some step) = region_step used link step
+
+-- the store of a step of a fetch and of a publication
+abbrev pub running_step : Sight → Step → Option SplitStore
+running_step s Count = Some (SF1 s.head s.counter)
+running_step s Accept = Some (SF2 s.head)
+running_step s (Link e) = option_map (λ (x : ℕ × ℕ). SP3 x.0 s.last_batch_head) (slice_get s.batch e)
+running_step s (Head e) = option_map (λ (x : ℕ × ℕ). SP4 x.0) (slice_get s.batch e)
+running_step s (Clear e) = option_map (λ (x : ℕ × ℕ). SP6 x.0) (slice_get s.batch e)
+running_step s Note = Some (SP7 s.used)
+running_step s step = None
 
 abbrev pub region_row : SplitRegion → SplitStore → Row
 region_row g x = record { tag = tag_of x; area = I; store = store_of g x }
@@ -59,7 +73,12 @@ ring_row r used batch step = None
 -- ---- any step; none where it makes no store
 
 abbrev pub row_of : Ring → SplitRegion → Sight → Step → Option Row
+row_of r g s Features = option_map (region_row g) (region_step s.used s.link Features)
+row_of r g s (Free i) = option_map (region_row g) (region_step s.used s.link (Free i))
+row_of r g s Open = option_map (region_row g) (region_step s.used s.link Open)
+row_of r g s (Settle place) = option_map (region_row g) (region_step s.used s.link (Settle place))
+row_of r g s SettleEnd = option_map (region_row g) (region_step s.used s.link SettleEnd)
 row_of r g s (Id e) = ring_row r s.used s.batch (Id e)
 row_of r g s (Len e) = ring_row r s.used s.batch (Len e)
 row_of r g s Index = ring_row r s.used s.batch Index
-row_of r g s step = option_map (region_row g) (region_step s.used s.link step)
+row_of r g s step = option_map (region_row g) (running_step s step)

@@ -1,5 +1,5 @@
 -- The steps of each phase of a queue, in their order.
-use Rattle.std.specs.Prelude.{ℕ, zero, suc, ◌+◌, nat_lt, Bool, if◌then◌else◌, List, [], ◌∷◌, ◌++◌, length, slice_get, Option}
+use Rattle.std.specs.Prelude.{ℕ, zero, suc, ◌+◌, ◌==◌, ◌&&◌, nat_lt, Bool, if◌then◌else◌, List, [], ◌∷◌, ◌++◌, length, slice_get, Option, Some, None}
 use Rattle.vub_steps.specs.declared.steps.Phase.{Phase}
 use Rattle.vub_steps.specs.declared.steps.Phase.TheVariants as phases
 use Rattle.vub_steps.specs.declared.steps.Plan.{Plan}
@@ -35,22 +35,31 @@ start_steps n plan bell = plan_steps n plan ++ (bell_steps bell ++ (steps.Start 
 -- ---- a fetch and a publication
 
 abbrev pub fetch_steps : List Step
-fetch_steps = steps.Accept ∷ []
+fetch_steps = steps.Count ∷ steps.Accept ∷ []
 
--- id and length of each of so many elements from this one on
+-- id, length, link and last_batch_head of each of so many elements from this one on
 abbrev pub element_steps : ℕ → ℕ → List Step
 element_steps element zero = []
-element_steps element (suc count) = steps.Id element ∷ steps.Len element ∷ element_steps (element + 1) count
+element_steps element (suc count) = steps.Id element ∷ steps.Len element ∷ steps.Link element ∷ steps.Head element ∷ element_steps (element + 1) count
 
--- the publication of a batch of so many requests
-abbrev pub publish_steps : ℕ → List Step
-publish_steps batch = element_steps 0 batch ++ steps.Index ∷ []
+-- the entry of each of so many elements from this one on
+abbrev pub clear_steps : ℕ → ℕ → List Step
+clear_steps element zero = []
+clear_steps element (suc count) = steps.Clear element ∷ clear_steps (element + 1) count
+
+-- behind the elements: the batch is shown, its entries are cleared, and it is noted
+abbrev pub show_steps : ℕ → Bool → List Step
+show_steps batch bell = steps.Index ∷ (clear_steps 0 batch ++ (steps.Note ∷ bell_steps bell))
+
+-- the publication of a batch of so many requests, of a queue that may have a bell
+abbrev pub publish_steps : ℕ → Bool → List Step
+publish_steps batch bell = element_steps 0 batch ++ show_steps batch bell
 
 -- of a queue that runs, whose batch has so many requests
-abbrev pub running_steps : ℕ → Phase → List Step
-running_steps batch (phases.Fetch done) = fetch_steps
-running_steps batch (phases.Publish done) = publish_steps batch
-running_steps batch phase = []
+abbrev pub running_steps : ℕ → Bool → Phase → List Step
+running_steps batch bell (phases.Fetch done) = fetch_steps
+running_steps batch bell (phases.Publish done) = publish_steps batch bell
+running_steps batch bell phase = []
 
 -- ---- any phase
 
@@ -64,7 +73,7 @@ pub record Course : Type 0 where
 
 abbrev pub steps_of : Course → Phase → List Step
 steps_of course (phases.Start done) = start_steps course.size course.plan course.bell
-steps_of course phase = running_steps course.batch phase
+steps_of course phase = running_steps course.batch course.bell phase
 
 -- how many of its steps were made
 abbrev pub done_of : Phase → ℕ
@@ -93,3 +102,18 @@ next_step course phase = next_of (steps_of course phase) phase
 
 abbrev pub after_step : Course → Phase → Phase
 after_step course phase = after_of (steps_of course phase) phase
+
+-- ---- the steps of a publication by their place, as they are computed
+
+-- of the four of an element
+abbrev pub element_step : ℕ → ℕ → Step
+element_step zero element = steps.Id element
+element_step (suc zero) element = steps.Len element
+element_step (suc (suc zero)) element = steps.Link element
+element_step (suc (suc (suc place))) element = steps.Head element
+
+-- behind those of the elements
+abbrev pub shown_step : ℕ → Bool → ℕ → Option Step
+shown_step batch bell zero = Some steps.Index
+shown_step batch bell (suc place) =
+    if nat_lt place batch then Some (steps.Clear place) else if place == batch then Some steps.Note else if bell && (place == batch + 1) then Some steps.Bell else None

@@ -27,6 +27,8 @@ pub struct Standing {
     pub phase: Phase,
     /// How many requests wait from the avail position on.
     pub waiting: u16,
+    /// A counter is left for one more.
+    pub counts: bool,
     /// How many are accepted and not completed.
     pub unfinished: u16,
     /// How many are completed and not taken into a batch.
@@ -41,7 +43,11 @@ pub fn is_ready(standing: &Standing, turn: Turn) -> bool
     let publishing = matches!(standing.phase, Phase::Publish(_));
     match turn {
         Turn::Start => !standing.started,
-        Turn::Fetch => standing.started && !publishing && (fetching || standing.waiting > 0),
+        Turn::Fetch => {
+            standing.started
+                && !publishing
+                && (fetching || (standing.counts && standing.waiting > 0))
+        }
         Turn::Work(place) => standing.started && place < standing.unfinished,
         Turn::Publish(most) => {
             standing.started && !fetching && (publishing || (most > 0 && standing.completed > 0))
