@@ -1,5 +1,6 @@
 -- The store of each step, with its tag (VIRTIO 1.2, 2.7.8; vhost-user, "Inflight I/O tracking").
 use Rattle.std.specs.Prelude.{ℕ, ◌+◌, ◌%◌, List, length, slice_get, Option, Some, None, option_map}
+use Rattle.std.specs.Option.{option_or}
 use Rattle.byteorder.specs.Endian.{little_bytes}
 use Rattle.vub_base.specs.declared.store.Area.{Area}
 use Rattle.vub_base.specs.declared.store.Area.TheVariants.{M, I}
@@ -55,6 +56,10 @@ running_step s (Clear e) = option_map (λ (x : ℕ × ℕ). SP6 x.0) (slice_get 
 running_step s Note = Some (SP7 s.used)
 running_step s step = None
 
+-- the store of any step into the region
+abbrev pub region_store : Sight → Step → Option SplitStore
+region_store s step = option_or (region_step s.used s.link step) (running_step s step)
+
 abbrev pub region_row : SplitRegion → SplitStore → Row
 region_row g x = record { tag = tag_of x; area = I; store = store_of g x }
 
@@ -73,12 +78,4 @@ ring_row r used batch step = None
 -- ---- any step; none where it makes no store
 
 abbrev pub row_of : Ring → SplitRegion → Sight → Step → Option Row
-row_of r g s Features = option_map (region_row g) (region_step s.used s.link Features)
-row_of r g s (Free i) = option_map (region_row g) (region_step s.used s.link (Free i))
-row_of r g s Open = option_map (region_row g) (region_step s.used s.link Open)
-row_of r g s (Settle place) = option_map (region_row g) (region_step s.used s.link (Settle place))
-row_of r g s SettleEnd = option_map (region_row g) (region_step s.used s.link SettleEnd)
-row_of r g s (Id e) = ring_row r s.used s.batch (Id e)
-row_of r g s (Len e) = ring_row r s.used s.batch (Len e)
-row_of r g s Index = ring_row r s.used s.batch Index
-row_of r g s step = option_map (region_row g) (running_step s step)
+row_of r g s step = option_or (ring_row r s.used s.batch step) (option_map (region_row g) (region_store s step))
