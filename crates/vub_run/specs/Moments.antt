@@ -1,18 +1,18 @@
 -- Where a run stands: memory and history, the drivers, and what the device has under way.
-use Rattle.std.specs.Prelude.{ℕ, ◌+◌, ◌*◌, Bool, true, false, not, List, [], ◌++◌, length, map, filter, slice_index}
+use Rattle.std.specs.Prelude.{ℕ, ◌+◌, ◌*◌, Bool, true, false, not, nat_lt, List, [], ◌++◌, length, map, filter, slice_index}
 use Rattle.vub_base.specs.declared.header.Header1.{Header1}
 use Rattle.vub_steps.specs.declared.steps.Phase.{Phase}
 use Rattle.vub_steps.specs.declared.steps.Phase.TheVariants.{Rest}
 use Rattle.vub_steps.specs.declared.steps.Plan.{Plan}
 use Rattle.vub_steps.specs.declared.steps.Plan.TheVariants.{New}
 use Rattle.vub_steps.specs.declared.readiness.Standing.{Standing}
-use Rattle.vub_ring.specs.Ring.{ahead, avail_idx, used_idx}
+use Rattle.vub_ring.specs.Ring.{ahead, avail_idx, used_idx, head_at}
 use Rattle.vub_infl_split.specs.declared.region.SplitRegion.{SplitRegion}
 use Rattle.vub_infl_split.specs.Region.{RegionWords, region_size, words_of}
 use Rattle.vub_driver.specs.Layout.{inflight_space, ring_of, area_place, buffer_place}
 use Rattle.vub_driver.specs.Drivers.{Driver, new_driver}
 use Rattle.vub_device.specs.declared.entry.Entry.{Entry}
-use Rattle.vub_device.specs.Past.{accepted, open_numbers, is_among, started}
+use Rattle.vub_device.specs.Past.{open_numbers, is_among, started}
 use Rattle.vub_run.specs.Memory.{Scene, opening_scene}
 
 -- one queue: its driver, and the device's side of it in this life
@@ -24,6 +24,8 @@ pub record Lane : Type 0 where
   pub phase : Phase
   -- what its start found
   pub plan : Plan
+  -- the counter of the request that is accepted next
+  pub counter : ℕ
   -- the requests that are being published, in order
   pub batch : List ℕ
   -- those whose status stands and that are in no batch, in the order in which they were completed
@@ -41,10 +43,10 @@ pub record Moment : Type 0 where
 
 -- the lane of a queue at the begin of a life: the device knows nothing of it
 abbrev pub fresh : Lane → Lane
-fresh l = record { driver = l.driver; attached = false; bell = false; phase = Rest; plan = New; batch = []; completed = []; made = λ k. 0 }
+fresh l = record { driver = l.driver; attached = false; bell = false; phase = Rest; plan = New; counter = 0; batch = []; completed = []; made = λ k. 0 }
 
 abbrev pub opening_lane : Header1 → Lane
-opening_lane h = record { driver = new_driver h.base; attached = false; bell = false; phase = Rest; plan = New; batch = []; completed = []; made = λ k. 0 }
+opening_lane h = record { driver = new_driver h.base; attached = false; bell = false; phase = Rest; plan = New; counter = 0; batch = []; completed = []; made = λ k. 0 }
 
 -- the queue is attached, with its bell
 abbrev pub attached : Lane → Lane
@@ -68,10 +70,13 @@ region_in h q s = words_of (region_of q h.size) s.memory
 
 -- ---- what a queue's readiness depends on
 
--- the index of the avail entry that is fetched next. It is the base advanced by the number of accepted requests until a
--- region of requests in flight is kept
+-- the index of the avail entry that is fetched next: used.idx advanced by the number of open requests
 abbrev pub avail_position : Header1 → ℕ → Scene → ℕ
-avail_position h q s = h.base + accepted s.past q
+avail_position h q s = used_in h q s + length (open_numbers s.past q)
+
+-- the head in that entry
+abbrev pub next_head : Header1 → ℕ → Scene → ℕ
+next_head h q s = head_at (ring_of q h.size) s.memory (avail_position h q s)
 
 -- the accepted requests that aren't completed in this life, rising
 abbrev pub unfinished : ℕ → Moment → List ℕ
@@ -82,6 +87,7 @@ standing h q m = record {
   started = started m.scene.past q;
   phase = (m.lanes q).phase;
   waiting = ahead (avail_idx (ring_of q h.size) m.scene.memory) (avail_position h q m.scene);
+  counts = nat_lt (m.lanes q).counter 18446744073709551615;
   unfinished = length (unfinished q m);
   completed = length (m.lanes q).completed;
 }

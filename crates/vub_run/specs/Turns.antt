@@ -8,7 +8,9 @@ use Rattle.vub_steps.specs.declared.steps.Step.{Step}
 use Rattle.vub_steps.specs.declared.steps.Step.TheVariants as steps
 use Rattle.vub_steps.specs.declared.readiness.Turn.{Turn}
 use Rattle.vub_steps.specs.declared.readiness.Turn.TheVariants as turns
+use Rattle.vub_inflight.specs.Entries.{next_counter}
 use Rattle.vub_inflight.specs.Links.{link_at}
+use Rattle.vub_infl_split.specs.Readings.{open_entries}
 use Rattle.vub_steps.specs.Plans.{plan_of}
 use Rattle.vub_steps.specs.Rows.{Row, Sight, row_of}
 use Rattle.vub_steps.specs.Steps.{Course, done_of, next_step, after_step}
@@ -21,7 +23,7 @@ use Rattle.vub_device.specs.Past.{asked, accepted, open_numbers}
 use Rattle.vub_report.specs.declared.items.Item.{Item}
 use Rattle.vub_report.specs.declared.items.Item.TheVariants as items
 use Rattle.vub_run.specs.Memory.{Scene, with_at, after_items}
-use Rattle.vub_run.specs.Moments.{Lane, Moment, region_of, used_in, region_in, unfinished, buffer_of}
+use Rattle.vub_run.specs.Moments.{Lane, Moment, region_of, used_in, region_in, next_head, unfinished, buffer_of}
 use Rattle.vub_steps.specs.Tasks.{RequestStep, Status, task_steps, status_of, used_len}
 use Rattle.vub_run.specs.TaskItems.{task_items}
 
@@ -82,7 +84,10 @@ course_of h l = record { size = h.size; plan = l.plan; bell = l.bell; batch = le
 abbrev pub sight_of : Header1 → ℕ → Scene → Lane → Sight
 sight_of h q s l = record {
   used = used_in h q s;
+  last_batch_head = (region_in h q s).last_batch_head;
   link = link_at (region_in h q s).next (done_of l.phase) (region_in h q s).last_batch_head;
+  head = next_head h q s;
+  counter = l.counter;
   batch = map (element_of h q s) l.batch;
 }
 
@@ -114,9 +119,19 @@ step_items h q l step s = step_stores h q l step s ++ entry_items q l.batch step
 abbrev pub with_phase : Phase → Lane → Lane
 with_phase p l = record l { phase = p; batch = if is_rest p then [] else l.batch }
 
+-- the counter after a start, where this is one more than the greatest one open; it rises where it is stored
+abbrev pub counted : ℕ → Step → Lane → Lane
+counted next steps.Start l = record l { counter = next }
+counted next steps.Count l = record l { counter = l.counter + 1 }
+counted next step l = l
+
+-- one more than the greatest counter that is open, or 0
+abbrev pub next_counter_in : Header1 → ℕ → Scene → ℕ
+next_counter_in h q s = next_counter (open_entries h.size (used_in h q s) (region_in h q s))
+
 abbrev pub phase_turn : Header1 → ℕ → Scene → Lane → Option Step → Turned
 phase_turn h q s l None = nothing l
-phase_turn h q s l (Some step) = record { items = step_items h q l step s; lane = with_phase (after_step (course_of h l) l.phase) l }
+phase_turn h q s l (Some step) = record { items = step_items h q l step s; lane = with_phase (after_step (course_of h l) l.phase) (counted (next_counter_in h q s) step l) }
 
 -- ---- work
 
