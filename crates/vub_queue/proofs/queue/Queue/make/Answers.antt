@@ -3,7 +3,7 @@ use Rattle.std.specs.Prelude.{Some, slice_get}
 use Rattle.vub_steps.specs.Readiness.{is_ready}
 use Rattle.vub_steps.specs.declared.readiness.Turn.TheVariants.{Work}
 use Rattle.vub_queue.specs.QueueState.{QueueState, state_of, standing_at, publishes, under_way, WorksTask}
-use Rattle.vub_queue.proofs.StableLemmas.{stable_started, stable_fetched, stable_published}
+use Rattle.vub_queue.proofs.StableLemmas.{stable_starting, stable_fetched, stable_published}
 use Rattle.vub_queue.proofs.queue.Queue.make.Goals as goal
 
 work_place : (a b : ℕ) → Work a ≡ Work b → a ≡ b
@@ -24,7 +24,7 @@ pub returns-in-Publish-clause-lies : goal.returns-in-Publish-clause-lies
 returns-in-Publish-clause-lies g c = c.publish.ensures.lies (g.M.Shared.sizes c.args.mem.now) (g.D.Disk.capacity c.args.disk.now) c.requires.lies
 
 pub returns-in-Start-clause-stable : goal.returns-in-Start-clause-stable
-returns-in-Start-clause-stable g c = stable_started c.start.result (state_of c.args.self.now) (g.D.Disk.stable c.args.disk.now) (g.D.Disk.values c.args.disk.now) c.start.ensures.said
+returns-in-Start-clause-stable g c = stable_starting c.start.result (g.D.Disk.stable c.args.disk.now) (g.D.Disk.values c.args.disk.now) c.start.ensures.starting
 
 pub returns-in-Fetch-clause-stable : goal.returns-in-Fetch-clause-stable
 returns-in-Fetch-clause-stable g c = stable_fetched (g.M.Shared.told c.args.mem.now) c.fetch.result (state_of c.args.self.now) (state_of c.fetch.new.self) (g.D.Disk.stable c.args.disk.now) (g.D.Disk.values c.args.disk.now) c.fetch.ensures.fetches

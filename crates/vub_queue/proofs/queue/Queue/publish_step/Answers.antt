@@ -1,8 +1,7 @@
 use Rattle.std.proofs.Common.{refl, sym, ap, ◌∙◌}
-use Rattle.vub_steps.specs.declared.steps.Course.{Course}
-use Rattle.vub_steps.specs.Steps.{next_step}
+use Rattle.vub_steps.specs.Steps.{next_of}
 use Rattle.vub_queue.proofs.QueueLemmas.{no_store, publication_stores, makes_store, course_fits}
-use Rattle.vub_queue.specs.QueueState.{state_of, course_in}
+use Rattle.vub_queue.specs.QueueState.{state_of, steps_in}
 use Rattle.vub_queue.proofs.queue.Queue.publish_step.Goals as goal
 
 pub unreachable-requires : goal.unreachable-requires
