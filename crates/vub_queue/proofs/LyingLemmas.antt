@@ -13,9 +13,12 @@ use Rattle.vub_task.specs.declared.task.Task.{Task}
 use Rattle.vub_task.specs.declared.task.TaskStep as made
 use Rattle.vub_task.specs.declared.task.TaskStep.TheVariants as answers
 use Rattle.vub_task.specs.TaskState.{TaskLies, fresh_task, head_in, IfFaulted, OwesFailure}
+use Rattle.vub_rec_split.specs.Starts.{RecoveryState, StartLies, SameQueue}
+use Rattle.vub_rec_split.proofs.LoadLemmas.{lies_on}
+use Rattle.vub_queue.specs.declared.queue.QueueSetup.{QueueSetup}
 use Rattle.vub_queue.specs.declared.queue.Stepped.{Stepped}
 use Rattle.vub_queue.specs.declared.queue.Stepped.TheVariants as says
-use Rattle.vub_queue.specs.QueueState.{QueueState, steps_in, TaskFits, TasksFit, QueueLies, KeepsLying, Moves, moved, begun, under_way, with_phase, accepted, worked, concluded, halted, said, OwesAt, Owes, disk_outcome}
+use Rattle.vub_queue.specs.QueueState.{QueueState, new_recovery, steps_in, TaskFits, TasksFit, QueueLies, KeepsLying, Moves, moved, begun, under_way, with_phase, accepted, worked, concluded, halted, said, OwesAt, Owes, disk_outcome}
 
 pub lies_with : (old new : ℕ → ℕ) (before after : ℕ) (s : QueueState) → ((x : ℕ) → new x ≡ old x) → after ≡ before → QueueLies old before s → QueueLies new after s
 lies_with old new before after s sizes capacity h =
@@ -53,11 +56,22 @@ task_with old new before after task sizes capacity h =
     let equal : new ≡ old = fun_ext sizes in
     subst (λ (k : ℕ). TaskLies old k task) capacity (subst (λ (f : ℕ → ℕ). TaskLies f after task) equal h)
 
--- another state with the same ring and the same tasks
-pub same_tasks : (s t : QueueState) → t.ring ≡ s.ring → t.unfinished ≡ s.unfinished → KeepsLying s t
-same_tasks s t ring tasks sizes capacity h = record {
+-- another state with the same ring, region and tasks
+pub lies_started : (s t : QueueState) → SameQueue s.recovery t.recovery → t.ring ≡ s.ring → t.unfinished ≡ s.unfinished → KeepsLying s t
+lies_started s t same ring tasks sizes capacity h = record {
   ring = subst (RingLies sizes) (sym ring) h.ring;
+  start = lies_on sizes sizes s.recovery t.recovery (λ i. refl) same h.start;
+  same_ring = same.ring ∙ h.same_ring ∙ sym ring;
   tasks = subst (λ (r : SplitRing). TasksFit sizes capacity r t.unfinished) (sym ring) (subst (TasksFit sizes capacity s.ring) (sym tasks) h.tasks);
+}
+
+-- a queue that was set up
+pub lies_new : (sizes : ℕ → ℕ) (capacity : ℕ) (setup : QueueSetup) (s : QueueState) → s.ring ≡ setup.ring → s.recovery ≡ new_recovery setup → s.unfinished ≡ [] → StartLies sizes (new_recovery setup) → QueueLies sizes capacity s
+lies_new sizes capacity setup s ring recovery tasks h = record {
+  ring = subst (RingLies sizes) (sym ring) h.ring;
+  start = subst (StartLies sizes) (sym recovery) h;
+  same_ring = ap (λ (k : RecoveryState). k.ring) recovery ∙ sym ring;
+  tasks = subst (TasksFit sizes capacity s.ring) (sym tasks) tt;
 }
 
 pub lies_accepted : (head : ℕ) (s t : QueueState) → head < s.ring.size → t ≡ accepted head s → KeepsLying s t

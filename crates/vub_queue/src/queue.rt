@@ -286,6 +286,7 @@ impl Queue {
     fn end_start<B: Bell>(&mut self, bell: &mut B) -> Stepped
         ensures ring { ring_in self.new ≡ ring_in self.old }
         ensures ends { Ends result (state_of self.old) (state_of self.new) }
+        ensures lies { KeepsLying (state_of self.old) (state_of self.new) }
         ensures rings { RingsAt (state_of self.old).index result (B.told bell.old) (B.told bell.new) }
         ensures bell_cause { HasCause (B.faults bell.old) (B.faults bell.new) (bell_outcome result) }
     {
@@ -633,7 +634,14 @@ impl Queue {
             Some(Step::Id(element)) => self.store_id(element, mem),
             Some(Step::Len(element)) => self.store_len(element, mem),
             Some(Step::Index) => self.show(mem),
-            Some(_) => unreachable!(),
+            Some(Step::Features) => unreachable!(),
+            Some(Step::Free(_)) => unreachable!(),
+            Some(Step::Open) => unreachable!(),
+            Some(Step::Settle(_)) => unreachable!(),
+            Some(Step::SettleEnd) => unreachable!(),
+            Some(Step::Bell) => unreachable!(),
+            Some(Step::Start) => unreachable!(),
+            Some(Step::Accept) => unreachable!(),
             None => unreachable!(),
         }
     }
