@@ -11,7 +11,7 @@ use Rattle.vub_infl_split.specs.declared.region.SplitStore.{SplitStore}
 use Rattle.vub_infl_split.specs.Region.{RegionWords, OffRegion, region_size}
 use Rattle.vub_infl_split.specs.Region as region
 use Rattle.vub_infl_split.specs.Stores as region_stores
-use Rattle.vub_region_facts.specs.Starts.{Left, InNew, InSettling, IsSettled}
+use Rattle.vub_region_facts.specs.Phases.{NotStarted}
 use Rattle.vub_device.specs.Past.{is_among}
 use Rattle.vub_device.specs.Places.{are_distinct}
 use Rattle.vub_steps.specs.declared.steps.Phase.{Phase}
@@ -73,22 +73,6 @@ abbrev pub head_next : List ℕ → Words → ℕ
 head_next heads w = w.ring.heads (w.ring.used + length heads)
 
 -- ---- the facts
-
--- a store of a start is left
-abbrev pub InPlan : ℕ → ℕ → List ℕ → ℕ → Plan → ℕ → RegionWords → Type 0
-InPlan n used heads base plans.New done w = InNew n used heads base done w
-InPlan n used heads base (plans.Settles count) done w = InSettling n used heads count done w
-InPlan n used heads base plans.Settled done w = ⊥
-
--- a start with this plan, of which so many steps were made
-pub record InStart (n used : ℕ) (heads : List ℕ) (base : ℕ) (plan : Plan) (done : ℕ) (w : RegionWords) : Type 0 where
-  pub stores : done < length (plan_steps n plan) → InPlan n used heads base plan done w
-  pub settled : length (plan_steps n plan) ≤ done → IsSettled n used heads w
-
--- a queue that isn't started
-abbrev pub NotStarted : ℕ → ℕ → List ℕ → ℕ → Plan → Phase → RegionWords → Type 0
-NotStarted n used heads base plan (phases.Start done) w = InStart n used heads base plan done w
-NotStarted n used heads base plan phase w = Left n used heads base w
 
 -- something waits at the avail position
 pub record InFetching (heads : List ℕ) (batch : List (ℕ × ℕ)) (w : Words) : Type 0 where
