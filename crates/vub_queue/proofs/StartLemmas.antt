@@ -11,13 +11,12 @@ use Rattle.vub_infl_split.specs.declared.region.SplitRegion.{SplitRegion}
 use Rattle.vub_infl_split.specs.declared.region.SplitStore.{SplitStore}
 use Rattle.vub_infl_split.specs.Stores.{store_of}
 use Rattle.vub_rec_split.specs.declared.plan.Recovered.{Recovered}
-use Rattle.vub_rec_split.specs.declared.plan.Recovered.TheVariants as recovered
-use Rattle.vub_rec_split.specs.Starts.{RecoveryState, MakesStep, MakesOne, due_in, answer_in, outcome as recovered_outcome}
+use Rattle.vub_rec_split.specs.Starts.{MakesStep, MakesOne, due_in, outcome as recovered_outcome}
 use Rattle.vub_steps.specs.Rows.{Row}
 use Rattle.vub_task.specs.TaskState.{GainsOne}
 use Rattle.vub_queue.specs.declared.queue.Stepped.{Stepped}
 use Rattle.vub_queue.specs.declared.queue.Stepped.TheVariants as says
-use Rattle.vub_queue.specs.QueueState.{QueueState, outcome, has_rung, bell_outcome, StoresStep, TrailsStep, StoresStart, TrailsStart, start_due, RingsAt, Fetches, Works, Publishes, Moves, next_row}
+use Rattle.vub_queue.specs.QueueState.{QueueState, outcome, has_rung, bell_outcome, StoresStep, TrailsStep, StoresStart, TrailsStart, RingsAt, Fetches, Works, Publishes, Moves, next_row}
 
 -- ---- stores
 
@@ -48,9 +47,10 @@ module _ {M : Type 0} (told : M → Option Bytes) (trail : M → Option (List St
   start_stores x y s resting same makes m now_told = subst (StoresStep (told before) (told now) x s.recovery.region) (sym (due_by s m s.started resting)) (stores_step x y s.recovery.region (due_in s.recovery m) same (makes m now_told))
 
   pub start_trails : (x : Stepped) (y : Recovered) (s : QueueState) → s.started ≡ false → recovered_outcome y ≡ outcome x → MakesOne told trail names handed sizes before now y s.recovery.region → WhereTold (told before) (λ m. MakesStep told trail names handed sizes before now y s.recovery.region (due_in s.recovery m)) → TrailsStart (told before) (trail before) (trail now) x s
-  start_trails x y s resting same one makes =
-      (gains_step y s.recovery.region one.step one.makes,
-       λ m now_told. subst (TrailsStep (trail before) (trail now) x s.recovery.region) (sym (due_by s m s.started resting)) (trails_step x y s.recovery.region (due_in s.recovery m) same (makes m now_told)))
+  start_trails x y s resting same one makes = (
+    gains_step y s.recovery.region one.step one.makes,
+    λ m now_told. subst (TrailsStep (trail before) (trail now) x s.recovery.region) (sym (due_by s m s.started resting)) (trails_step x y s.recovery.region (due_in s.recovery m) same (makes m now_told)),
+  )
 
 -- ---- a turn that doesn't ring
 
