@@ -1,6 +1,6 @@
 -- What the steps of a queue make stable: a flush alone does.
 use Rattle.std.proofs.Common.{◌≡◌, ℕ, refl, subst, sym}
-use Rattle.std.specs.Prelude.{Bool, true, false, if◌then◌else◌, Option}
+use Rattle.std.specs.Prelude.{Bool, true, false, Option}
 use Rattle.vub_shared.specs.Bytes.{Bytes}
 use Rattle.vub_disk.specs.Values.{Values}
 use Rattle.vub_steps.specs.Rows.{Row}

@@ -1,5 +1,5 @@
 -- What the steps of a start store, what they leave, and what the bell tells.
-use Rattle.std.proofs.Common.{◌≡◌, ℕ, List, inl, inr, refl, ap, sym, subst, arith}
+use Rattle.std.proofs.Common.{◌≡◌, ℕ, List, inl, inr, refl, ap, sym, ◌∙◌, subst, arith}
 use Rattle.std.specs.Prelude.{Bool, true, false, if◌then◌else◌, Option, Some, None, Result, Ok, Err}
 use Rattle.vub_base.specs.Causes.{HasCause}
 use Rattle.vub_base.specs.Told.{WhereTold}
@@ -11,13 +11,12 @@ use Rattle.vub_infl_split.specs.declared.region.SplitRegion.{SplitRegion}
 use Rattle.vub_infl_split.specs.declared.region.SplitStore.{SplitStore}
 use Rattle.vub_infl_split.specs.Stores.{store_of}
 use Rattle.vub_rec_split.specs.declared.plan.Recovered.{Recovered}
-use Rattle.vub_rec_split.specs.declared.plan.Recovered.TheVariants as recovered
-use Rattle.vub_rec_split.specs.Starts.{RecoveryState, MakesStep, MakesOne, due_in, answer_in, outcome as recovered_outcome}
+use Rattle.vub_rec_split.specs.Starts.{MakesStep, MakesOne, due_in, outcome as recovered_outcome}
 use Rattle.vub_steps.specs.Rows.{Row}
 use Rattle.vub_task.specs.TaskState.{GainsOne}
 use Rattle.vub_queue.specs.declared.queue.Stepped.{Stepped}
 use Rattle.vub_queue.specs.declared.queue.Stepped.TheVariants as says
-use Rattle.vub_queue.specs.QueueState.{QueueState, outcome, bell_outcome, StoresStep, TrailsStep, StoresStart, TrailsStart, start_due, RingsAt, Fetches, Works, Publishes, Moves, next_row}
+use Rattle.vub_queue.specs.QueueState.{QueueState, outcome, has_rung, bell_outcome, StoresStep, TrailsStep, StoresStart, TrailsStart, RingsAt, Fetches, Works, Publishes, Moves, next_row}
 
 -- ---- stores
 
@@ -48,19 +47,14 @@ module _ {M : Type 0} (told : M → Option Bytes) (trail : M → Option (List St
   start_stores x y s resting same makes m now_told = subst (StoresStep (told before) (told now) x s.recovery.region) (sym (due_by s m s.started resting)) (stores_step x y s.recovery.region (due_in s.recovery m) same (makes m now_told))
 
   pub start_trails : (x : Stepped) (y : Recovered) (s : QueueState) → s.started ≡ false → recovered_outcome y ≡ outcome x → MakesOne told trail names handed sizes before now y s.recovery.region → WhereTold (told before) (λ m. MakesStep told trail names handed sizes before now y s.recovery.region (due_in s.recovery m)) → TrailsStart (told before) (trail before) (trail now) x s
-  start_trails x y s resting same one makes =
-      (gains_step y s.recovery.region one.step one.makes,
-       λ m now_told. subst (TrailsStep (trail before) (trail now) x s.recovery.region) (sym (due_by s m s.started resting)) (trails_step x y s.recovery.region (due_in s.recovery m) same (makes m now_told)))
+  start_trails x y s resting same one makes = (
+    gains_step y s.recovery.region one.step one.makes,
+    λ m now_told. subst (TrailsStep (trail before) (trail now) x s.recovery.region) (sym (due_by s m s.started resting)) (trails_step x y s.recovery.region (due_in s.recovery m) same (makes m now_told)),
+  )
 
 -- ---- a turn that doesn't ring
 
--- whether it says nothing of the bell
-abbrev pub is_silent : Stepped → Bool
-is_silent says.Belled = false
-is_silent says.BellFault = false
-is_silent x = true
-
-pub silent_rings : (index : ℕ) (x : Stepped) (bell : Option BellState) → is_silent x ≡ true → RingsAt index x bell bell
+pub silent_rings : (index : ℕ) (x : Stepped) (bell : Option BellState) → has_rung x ≡ false → RingsAt index x bell bell
 silent_rings index says.Idle bell is = refl
 silent_rings index (says.Stored tag) bell is = refl
 silent_rings index (says.Accepted head) bell is = refl
@@ -77,7 +71,7 @@ silent_rings index says.BellFault bell is = absurd (cc is)
 silent_rings index (says.Broken fault) bell is = refl
 silent_rings index (says.Damaged fault) bell is = refl
 
-silent_outcome : (x : Stepped) → is_silent x ≡ true → bell_outcome x ≡ Ok tt
+silent_outcome : (x : Stepped) → has_rung x ≡ false → bell_outcome x ≡ Ok tt
 silent_outcome says.Idle is = refl
 silent_outcome (says.Stored tag) is = refl
 silent_outcome (says.Accepted head) is = refl
@@ -94,10 +88,10 @@ silent_outcome says.BellFault is = absurd (cc is)
 silent_outcome (says.Broken fault) is = refl
 silent_outcome (says.Damaged fault) is = refl
 
-pub silent_cause : (faults : ℕ) (x : Stepped) → is_silent x ≡ true → HasCause faults faults (bell_outcome x)
+pub silent_cause : (faults : ℕ) (x : Stepped) → has_rung x ≡ false → HasCause faults faults (bell_outcome x)
 silent_cause faults x is = subst (λ (z : Result (Unit {0}) (Unit {0})). HasCause faults faults z) (sym (silent_outcome x is)) (record { later = omega arith; failed = tt; quiet = refl })
 
-pub silent_fetched : (told : Option Bytes) (x : Stepped) (s t : QueueState) → Fetches told x s t → is_silent x ≡ true
+pub silent_fetched : (told : Option Bytes) (x : Stepped) (s t : QueueState) → Fetches told x s t → has_rung x ≡ false
 silent_fetched told says.Idle s t h = refl
 silent_fetched told (says.Stored tag) s t h = refl
 silent_fetched told (says.Accepted head) s t h = refl
@@ -114,7 +108,7 @@ silent_fetched told says.BellFault s t h = absurd h
 silent_fetched told (says.Broken fault) s t h = refl
 silent_fetched told (says.Damaged fault) s t h = refl
 
-pub silent_worked : (place : ℕ) (x : Stepped) (s t : QueueState) → Works place x s t → is_silent x ≡ true
+pub silent_worked : (place : ℕ) (x : Stepped) (s t : QueueState) → Works place x s t → has_rung x ≡ false
 silent_worked place says.Idle s t h = refl
 silent_worked place (says.Stored tag) s t h = refl
 silent_worked place (says.Accepted head) s t h = refl
@@ -131,7 +125,7 @@ silent_worked place says.BellFault s t h = absurd h
 silent_worked place (says.Broken fault) s t h = refl
 silent_worked place (says.Damaged fault) s t h = refl
 
-silent_moved : (x : Stepped) (o : Option Row) (s t : QueueState) → Moves x o s t → is_silent x ≡ true
+silent_moved : (x : Stepped) (o : Option Row) (s t : QueueState) → Moves x o s t → has_rung x ≡ false
 silent_moved says.Idle o s t h = refl
 silent_moved (says.Stored tag) o s t h = refl
 silent_moved (says.Accepted head) o s t h = refl
@@ -148,6 +142,9 @@ silent_moved says.BellFault o s t h = absurd h
 silent_moved (says.Broken fault) o s t h = refl
 silent_moved (says.Damaged fault) o s t h = refl
 
-pub silent_published : (ready : Bool) (x : Stepped) (s u t : QueueState) → Publishes ready x s u t → is_silent x ≡ true
-silent_published false x s u t h = ap is_silent h.0
+pub silent_published : (ready : Bool) (x : Stepped) (s u t : QueueState) → Publishes ready x s u t → has_rung x ≡ false
+silent_published false x s u t h = ap has_rung h.0
 silent_published true x s u t h = silent_moved x (next_row u) u t h
+
+pub rung_absurd : (x : Stepped) (P : Type 0) → has_rung x ≡ false → has_rung x ≡ true → P
+rung_absurd x P silent rung = absurd (cc (sym silent ∙ rung))

@@ -233,6 +233,12 @@ RingsAt index says.Belled before after = Rings {T = Unit {0}} {E = Unit {0}} bef
 RingsAt index says.BellFault before after = Rings {T = Unit {0}} {E = Unit {0}} before after (Err tt) index
 RingsAt index x before after = after ≡ before
 
+-- whether a turn rang, or failed to
+abbrev pub has_rung : Stepped → Bool
+has_rung says.Belled = true
+has_rung says.BellFault = true
+has_rung x = false
+
 -- whether the bell failed in a turn
 abbrev pub bell_outcome : Stepped → Result (Unit {0}) (Unit {0})
 bell_outcome says.BellFault = Err tt

@@ -2,7 +2,7 @@ use Rattle.vub_queue.proofs.QueueLemmas.{count_is, batch_fits, fits_after}
 use Rattle.std.proofs.Common.{subst, sym, ap, ◌∙◌, ◌≡◌, ℕ, true, length}
 use Rattle.vub_queue.specs.QueueParts.{phase_fits}
 use Rattle.vub_queue.specs.declared.queue.Queue.{Queue}
-use Rattle.vub_queue.specs.QueueState.{state_of, steps_in, with_phase, moved}
+use Rattle.vub_queue.specs.QueueState.{state_of, steps_in}
 use Rattle.vub_steps.specs.Steps.{running_steps, after_of}
 use Rattle.vub_steps.specs.declared.steps.Phase.{Phase}
 use Rattle.vub_queue.proofs.queue.Queue.advance.Goals as goal
