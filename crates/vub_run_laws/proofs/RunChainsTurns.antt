@@ -210,7 +210,7 @@ put_gentle q h s l k sector c place good x is_open is_k low =
           let is_r : r ≡ asks.Read sector c = cc in
           let here : p ≡ sectors_place (buffer_at q (slice_index (s.heads q) j)) + 512 * place = ap (λ (i : ℕ). sectors_place (buffer q (s.heads q) i) + 512 * place) (sym same) in
           subst (λ (o : Asked). Spares q (slice_index (s.heads q) j) body status o p bs) (sym is_r) (own_read q (slice_index (s.heads q) j) body status sector c p bs (omega arith) (omega arith) (omega arith) (omega (arith, here)))
-      | inr apart ↦ buffer_spares q h.capacity (slice_index (s.heads q) j) body status (slice_index (s.heads q) k) r p bs (omega arith) (omega arith) (omega arith) simple (λ same. apart (heads_apart q h s l.driver l.batch l.phase j k x.queue out out_k same)) (omega arith) (omega arith)
+      | inr apart ↦ buffer_spares q h.capacity (slice_index (s.heads q) j) body status (slice_index (s.heads q) k) r p bs (omega arith) (omega arith) (omega arith) simple (λ same. apart (heads_apart q h s l.driver l.bell l.plan l.batch l.phase j k x.queue out out_k same)) (omega arith) (omega arith)
     ])
 
 status_gentle : (q : ℕ) (h : Header1) (s : Scene) (l : Lane) (k byte : ℕ) → IsGood h → Holds q h s l → IsOpen s.past q k → IsGentle q h.size s (stored_at (status_place (buffer q (s.heads q) k)) (byte ∷ []) s)
@@ -221,7 +221,7 @@ status_gentle q h s l k byte good x is_open =
     store_gentle q h s l p (byte ∷ []) x (omega arith) (offered_away q s k p (byte ∷ []) out_k (omega arith) (omega arith)) (λ j body status r out fh fb fs is simple. elim (cases_eq j k) [
       | inl same ↦
           subst (λ (i : ℕ). Spares q (slice_index (s.heads q) j) body status r (status_place (buffer q (s.heads q) i)) (byte ∷ [])) same (own_status q h.capacity (slice_index (s.heads q) j) body status r byte (omega arith) (omega arith) (omega arith) simple)
-      | inr apart ↦ buffer_spares q h.capacity (slice_index (s.heads q) j) body status (slice_index (s.heads q) k) r p (byte ∷ []) (omega arith) (omega arith) (omega arith) simple (λ same. apart (heads_apart q h s l.driver l.batch l.phase j k x.queue out out_k same)) (omega arith) (omega arith)
+      | inr apart ↦ buffer_spares q h.capacity (slice_index (s.heads q) j) body status (slice_index (s.heads q) k) r p (byte ∷ []) (omega arith) (omega arith) (omega arith) simple (λ same. apart (heads_apart q h s l.driver l.bell l.plan l.batch l.phase j k x.queue out out_k same)) (omega arith) (omega arith)
     ])
 
 look_gentle : (q n : ℕ) (s : Scene) (k sector : ℕ) (v : List ℕ) → IsGentle q n s (record s { past = entries.Look q k sector v ∷ s.past })
@@ -292,10 +292,10 @@ work_gentle q h m place plain good = go (slice_get (unfinished q m) place) refl
         request_gentle q h m.scene l k plain good.holds (record { taken = opened.0; unpublished = opened.1 })
 
 pub turn_gentle : (q : ℕ) (h : Header1) (t : Turn) (m : Moment) → IsPlain h → Good q h m → IsGentle q h.size m.scene (after_items h (turned h q t m).items m.scene)
-turn_gentle q h turns.Start m plain good = phase_gentle q h m.scene (m.lanes q) (under_way turns.Start (m.lanes q)) (next_step (course_of h (under_way turns.Start (m.lanes q))) (under_way turns.Start (m.lanes q)).phase) plain.good good.holds
-turn_gentle q h turns.Fetch m plain good = phase_gentle q h m.scene (m.lanes q) (under_way turns.Fetch (m.lanes q)) (next_step (course_of h (under_way turns.Fetch (m.lanes q))) (under_way turns.Fetch (m.lanes q)).phase) plain.good good.holds
+turn_gentle q h turns.Start m plain good = phase_gentle q h m.scene (m.lanes q) (under_way h q m.scene turns.Start (m.lanes q)) (next_step (course_of h (under_way h q m.scene turns.Start (m.lanes q))) (under_way h q m.scene turns.Start (m.lanes q)).phase) plain.good good.holds
+turn_gentle q h turns.Fetch m plain good = phase_gentle q h m.scene (m.lanes q) (under_way h q m.scene turns.Fetch (m.lanes q)) (next_step (course_of h (under_way h q m.scene turns.Fetch (m.lanes q))) (under_way h q m.scene turns.Fetch (m.lanes q)).phase) plain.good good.holds
 turn_gentle q h (turns.Publish most) m plain good =
-    phase_gentle q h m.scene (m.lanes q) (under_way (turns.Publish most) (m.lanes q)) (next_step (course_of h (under_way (turns.Publish most) (m.lanes q))) (under_way (turns.Publish most) (m.lanes q)).phase) plain.good good.holds
+    phase_gentle q h m.scene (m.lanes q) (under_way h q m.scene (turns.Publish most) (m.lanes q)) (next_step (course_of h (under_way h q m.scene (turns.Publish most) (m.lanes q))) (under_way h q m.scene (turns.Publish most) (m.lanes q)).phase) plain.good good.holds
 turn_gentle q h (turns.Work place) m plain good = work_gentle q h m place plain good
 
 -- ---- the driver isn't the device's
@@ -331,7 +331,7 @@ goes_on_driver : (q : ℕ) (h : Header1) (s : Scene) (l : Lane) → (phase_goes_
 goes_on_driver q h s l = phase_driver q h s l (next_step (course_of h l) l.phase)
 
 pub turn_driver : (q : ℕ) (h : Header1) (t : Turn) (m : Moment) → (turned h q t m).lane.driver ≡ (m.lanes q).driver
-turn_driver q h turns.Start m = goes_on_driver q h m.scene (under_way turns.Start (m.lanes q)) ∙ under_driver turns.Start (m.lanes q) (is_rest (m.lanes q).phase)
-turn_driver q h turns.Fetch m = goes_on_driver q h m.scene (under_way turns.Fetch (m.lanes q)) ∙ under_driver turns.Fetch (m.lanes q) (is_rest (m.lanes q).phase)
-turn_driver q h (turns.Publish most) m = goes_on_driver q h m.scene (under_way (turns.Publish most) (m.lanes q)) ∙ under_driver (turns.Publish most) (m.lanes q) (is_rest (m.lanes q).phase)
+turn_driver q h turns.Start m = goes_on_driver q h m.scene (under_way h q m.scene turns.Start (m.lanes q)) ∙ under_driver turns.Start (m.lanes q) (is_rest (m.lanes q).phase)
+turn_driver q h turns.Fetch m = goes_on_driver q h m.scene (under_way h q m.scene turns.Fetch (m.lanes q)) ∙ under_driver turns.Fetch (m.lanes q) (is_rest (m.lanes q).phase)
+turn_driver q h (turns.Publish most) m = goes_on_driver q h m.scene (under_way h q m.scene (turns.Publish most) (m.lanes q)) ∙ under_driver (turns.Publish most) (m.lanes q) (is_rest (m.lanes q).phase)
 turn_driver q h (turns.Work place) m = work_driver q h m.scene (m.lanes q) (slice_get (unfinished q m) place)

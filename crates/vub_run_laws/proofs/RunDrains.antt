@@ -65,8 +65,8 @@ work_stays q h s l (Some k) = request_stays q h s l k (asked s.past q k)
 phase_goes_stays : (q : ℕ) (h : Header1) (s : Scene) (l : Lane) → (phase_goes_on h q s l).lane.attached ≡ l.attached
 phase_goes_stays q h s l = phase_stays q h s l (next_step (course_of h l) l.phase)
 
-under_stays : (q : ℕ) (h : Header1) (t : Turn) (m : Moment) → (phase_goes_on h q m.scene (under_way t (m.lanes q))).lane.attached ≡ (m.lanes q).attached
-under_stays q h t m = phase_goes_stays q h m.scene (under_way t (m.lanes q)) ∙ under_way_stays t (m.lanes q) (is_rest (m.lanes q).phase)
+under_stays : (q : ℕ) (h : Header1) (t : Turn) (m : Moment) → (phase_goes_on h q m.scene (under_way h q m.scene t (m.lanes q))).lane.attached ≡ (m.lanes q).attached
+under_stays q h t m = phase_goes_stays q h m.scene (under_way h q m.scene t (m.lanes q)) ∙ under_way_stays t (m.lanes q) (is_rest (m.lanes q).phase)
 
 pub turned_stays : (q : ℕ) (h : Header1) (t : Turn) (m : Moment) → (turned h q t m).lane.attached ≡ (m.lanes q).attached
 turned_stays q h turns.Start m = under_stays q h turns.Start m

@@ -242,9 +242,9 @@ goes_makes : (q : ℕ) (h : Header1) (s : Scene) (l : Lane) → Makes (phase_goe
 goes_makes q h s l = phase_makes q h s l (next_step (course_of h l) l.phase)
 
 turned_makes : (q : ℕ) (h : Header1) (t : Turn) (m : Moment) → AreLong m.scene.past → Makes (turned h q t m).items
-turned_makes q h turns.Start m long = goes_makes q h m.scene (under_way turns.Start (m.lanes q))
-turned_makes q h turns.Fetch m long = goes_makes q h m.scene (under_way turns.Fetch (m.lanes q))
-turned_makes q h (turns.Publish most) m long = goes_makes q h m.scene (under_way (turns.Publish most) (m.lanes q))
+turned_makes q h turns.Start m long = goes_makes q h m.scene (under_way h q m.scene turns.Start (m.lanes q))
+turned_makes q h turns.Fetch m long = goes_makes q h m.scene (under_way h q m.scene turns.Fetch (m.lanes q))
+turned_makes q h (turns.Publish most) m long = goes_makes q h m.scene (under_way h q m.scene (turns.Publish most) (m.lanes q))
 turned_makes q h (turns.Work place) m long = work_makes q h m.scene (m.lanes q) (slice_get (unfinished q m) place) long
 
 turn_makes : (q : ℕ) (h : Header1) (t : Turn) (m : Moment) → Good q h m → Makes (one_turn h q t m).items
@@ -281,7 +281,7 @@ boot_makes : (m : Moment) → Makes (boot m).items
 boot_makes m = tested (not m.lives) (played [] (record m { lives = true; joined = false; lanes = λ q. fresh (m.lanes q) })) m tt
 
 join_makes : (m : Moment) → Makes (join m).items
-join_makes m = tested (m.lives && not m.joined) (played [] (record m { joined = true; lanes = λ q. record (m.lanes q) { attached = true } })) m tt
+join_makes m = tested (m.lives && not m.joined) (played [] (record m { joined = true; lanes = λ q. attached (m.lanes q) })) m tt
 
 pub event_enters : (q : ℕ) (h : Header1) (m : Moment) (e : Event) (is : List Item) (next : Moment) → IsPlain h → Good q h m → IsOn q e → IsEvent h e → Plays h m e is next → Enters q m.scene.past is
 event_enters q h m (events.Ask p shape a) is next plain good on fits plays =

@@ -203,7 +203,7 @@ boot_right q h m plain good = tested q h m (not m.lives) (played [] (record m { 
           known = good.holds.known;
           worked = fresh_worked q m.scene.past (m.lanes q) stopped (phase_at q h m.scene (m.lanes q) good.holds) good.holds.worked;
           stored = record { sectors = λ k i is_open kept read. absurd (omega (arith, kept.put)); status = λ k held. absurd (let fails : false ≡ true = held in cc) };
-          queue = queue_rests q h m.scene (m.lanes q).driver (m.lanes q).batch (m.lanes q).phase good.holds.queue;
+          queue = queue_rests q h m.scene (m.lanes q).driver (m.lanes q).bell (m.lanes q).plan (m.lanes q).batch (m.lanes q).phase good.holds.queue;
         };
         asleep = λ e. absurd (let fails : true ≡ false = e in cc);
         idle = good.idle;
@@ -214,7 +214,7 @@ boot_right q h m plain good = tested q h m (not m.lives) (played [] (record m { 
     })
 
 join_right : (q : ℕ) (h : Header1) (m : Moment) → IsPlain h → Good q h m → Leads q h m (join m)
-join_right q h m plain good = tested q h m (m.lives && not m.joined) (played [] (record m { joined = true; lanes = λ q. record (m.lanes q) { attached = true } })) plain good (λ ready. record {
+join_right q h m plain good = tested q h m (m.lives && not m.joined) (played [] (record m { joined = true; lanes = λ q. attached (m.lanes q) })) plain good (λ ready. record {
   good = record {
     holds = record { known = good.holds.known; worked = good.holds.worked; stored = good.holds.stored; queue = good.holds.queue };
     asleep = λ dead. absurd (grind (arith, nat_tests));

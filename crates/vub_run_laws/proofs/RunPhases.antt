@@ -71,11 +71,11 @@ start_holds q h s l list stopped x = let rest : l.phase ≡ phases.Rest = (x.wor
     sectors = λ k i is_open kept read. absurd (let zero_made : l.made k ≡ 0 = (x.worked.quiet stopped).1.1 k in omega (arith, kept.put));
     status = x.stored.status;
   };
-  queue = queue_entry q h s (entries.Start q list ∷ s.past) l.driver l.batch l.phase (record { accepts = omega arith; shows = refl; collects = omega arith; asks = λ j. refl }) refl (started_own s.past q list) rest
+  queue = queue_entry q h s (entries.Start q list ∷ s.past) l.driver l.bell l.plan l.batch l.phase (record { accepts = omega arith; shows = refl; collects = omega arith; asks = λ j. refl }) refl (started_own s.past q list) rest
       (subst (λ (p : Phase). PhaseIs l.batch p) rest (phase_at q h s l x)) x.queue;
 }
 
-pub start_fine : (q : ℕ) (h : Header1) (s : Scene) (l : Lane) → IsGood h → started s.past q ≡ false → Holds q h s (resting l) → Fine q h s (resting l) (phase_goes_on h q s (under_way turns.Start (resting l)))
+pub start_fine : (q : ℕ) (h : Header1) (s : Scene) (l : Lane) → IsGood h → started s.past q ≡ false → Holds q h s (resting l) → Fine q h s (resting l) (phase_goes_on h q s (under_way h q s turns.Start (resting l)))
 start_fine q h s l good stopped x =
     let list : List ℕ = open_numbers s.past q in
     let holds : Holds q h (record s { past = entries.Start q list ∷ s.past }) (resting l) = start_holds q h s (resting l) list stopped x in
@@ -145,11 +145,11 @@ accept_holds q h s l k run rest more x = record {
     }) kept read;
     status = x.stored.status;
   };
-  queue = queue_entry q h s (entries.Accept q k ∷ s.past) l.driver l.batch l.phase (record { accepts = omega (arith, accepted_own s.past q k); shows = refl; collects = omega arith; asks = λ j. refl }) refl run rest
+  queue = queue_entry q h s (entries.Accept q k ∷ s.past) l.driver l.bell l.plan l.batch l.phase (record { accepts = omega (arith, accepted_own s.past q k); shows = refl; collects = omega arith; asks = λ j. refl }) refl run rest
       (subst (λ (p : Phase). PhaseIs l.batch p) rest (phase_at q h s l x)) x.queue;
 }
 
-pub fetch_fine : (q : ℕ) (h : Header1) (s : Scene) (l : Lane) → IsGood h → started s.past q ≡ true → accepted s.past q < length (s.heads q) → Holds q h s (resting l) → Fine q h s (resting l) (phase_goes_on h q s (under_way turns.Fetch (resting l)))
+pub fetch_fine : (q : ℕ) (h : Header1) (s : Scene) (l : Lane) → IsGood h → started s.past q ≡ true → accepted s.past q < length (s.heads q) → Holds q h s (resting l) → Fine q h s (resting l) (phase_goes_on h q s (under_way h q s turns.Fetch (resting l)))
 fetch_fine q h s l good run more x =
     let k : ℕ = accepted s.past q in
     let holds : Holds q h (record s { past = entries.Accept q k ∷ s.past }) (resting l) = accept_holds q h s (resting l) k run refl more x in

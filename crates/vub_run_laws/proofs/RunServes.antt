@@ -74,7 +74,7 @@ event_attaches q h m (events.Collect p) is next plain good on fits plays =
 event_attaches q h m events.Boot is next plain good on fits plays =
     tested_is (λ js n. is_on q n ≡ attached_after events.Boot js (is_on q m)) (not m.lives) (played [] (record m { lives = true; joined = false; lanes = λ q. fresh (m.lanes q) })) m is next plays refl refl
 event_attaches q h m events.Join is next plain good on fits plays =
-    tested_is (λ js n. is_on q n ≡ attached_after events.Join js (is_on q m)) (m.lives && not m.joined) (played [] (record m { joined = true; lanes = λ q. record (m.lanes q) { attached = true } })) m is next plays refl refl
+    tested_is (λ js n. is_on q n ≡ attached_after events.Join js (is_on q m)) (m.lives && not m.joined) (played [] (record m { joined = true; lanes = λ q. attached (m.lanes q) })) m is next plays refl refl
 event_attaches q h m (events.Start p) is next plain good on fits plays =
     let here : Plays h m (events.Start q) is next = subst (λ (p : ℕ). Plays h m (events.Start p) is next) on plays in
     made_stays q m is next (single h q turns.Start m) here (single_stays q h m turns.Start)

@@ -36,7 +36,7 @@ use Rattle.vub_run_laws.proofs.RunGuests.{holds_track}
 use Rattle.vub_run_laws.proofs.RunPhases.{resting}
 use Rattle.vub_run_laws.proofs.RunWork.{Fine}
 use Rattle.vub_run_laws.proofs.RunElements.{batch_room, one_on, worked_on}
-use Rattle.vub_run_laws.proofs.RunPublications.{publishing, IsUnderWay, in_batch, batch_open, all_map, good_map, good_append, answer_right}
+use Rattle.vub_run_laws.proofs.RunPublications.{IsUnderWay, in_batch, batch_open, all_map, good_map, good_append, answer_right}
 
 shown_stored : (q : ℕ) (h : Header1) (p : ℕ) (bs : List ℕ) (s : Scene) (l : Lane) (done : ℕ) → IsUnderWay q h s l done → ((k : ℕ) → OffBuffer q (s.heads q) k p bs) → Stored q s.past (s.heads q) (stored_at p bs s).memory l.batch l.completed l.made
 shown_stored q h p bs s l done u off = stored_elsewhere q s.past (s.heads q) s.memory p bs l.batch l.completed l.made u.holds.worked.opens (λ k is_open. off k) u.holds.stored

@@ -20,7 +20,7 @@ use Rattle.vub_run_laws.proofs.RunHolds.{Holds}
 use Rattle.vub_run_laws.proofs.RunWork.{Fine, request_fine}
 use Rattle.vub_run_laws.proofs.RunPhases.{resting, rest_is, start_fine, fetch_fine, taking, taking_holds, taking_effort}
 use Rattle.vub_run_laws.proofs.RunQueue.{queue_ahead, phase_at}
-use Rattle.vub_run_laws.proofs.RunPublications.{publishing}
+use Rattle.vub_run_laws.proofs.RunHolds.{publishing}
 use Rattle.vub_run_laws.proofs.RunShown.{publication_fine}
 
 -- a header of this grammar
@@ -52,7 +52,7 @@ start_due q h m plain good ready =
     let batch : l.batch ≡ [] = subst (λ (p : Phase). PhaseIs l.batch p) quiet.0 (phase_at q h m.scene (m.lanes q) good.holds) in
     let same : resting l ≡ l = rest_is l quiet.0 batch in
     let at_rest : Holds q h m.scene (resting l) = subst (λ (x : Lane). Holds q h m.scene x) (sym same) good.holds in
-    subst (λ (x : Lane). Fine q h m.scene x (phase_goes_on h q m.scene (under_way turns.Start x))) same (start_fine q h m.scene l plain.good stopped at_rest)
+    subst (λ (x : Lane). Fine q h m.scene x (phase_goes_on h q m.scene (under_way h q m.scene turns.Start x))) same (start_fine q h m.scene l plain.good stopped at_rest)
 
 fetch_due : (q : ℕ) (h : Header1) (m : Moment) → IsPlain h → Good q h m → is_ready (standing h q m) turns.Fetch ≡ true → Fine q h m.scene (m.lanes q) (turned h q turns.Fetch m)
 fetch_due q h m plain good ready =
@@ -65,7 +65,7 @@ fetch_due q h m plain good ready =
           let no_fetch : is_fetch l.phase ≡ false = ap is_fetch rest.0 in
           let some : 0 < (standing h q m).waiting = grind (arith, nat_tests) in
           let more : accepted m.scene.past q < length (m.scene.heads q) = omega (arith, some, queue_ahead q h m.scene l plain.good good.holds) in
-          subst (λ (x : Lane). Fine q h m.scene x (phase_goes_on h q m.scene (under_way turns.Fetch x))) same (fetch_fine q h m.scene l plain.good run more at_rest)
+          subst (λ (x : Lane). Fine q h m.scene x (phase_goes_on h q m.scene (under_way h q m.scene turns.Fetch x))) same (fetch_fine q h m.scene l plain.good run more at_rest)
       | inr shows ↦
           let publishes : is_publication l.phase ≡ true = ap is_publication shows.1 in
           absurd (grind (arith, nat_tests))
@@ -82,9 +82,9 @@ publish_due q h m most plain good ready =
           let quiet : is_publication l.phase ≡ false = ap is_publication rest.0 in
           let some : 0 < most = grind (arith, nat_tests) in
           let any : 0 < length l.completed = grind (arith, nat_tests) in
-          let from_there : Fine q h m.scene (taking most l) (phase_goes_on h q m.scene (under_way (turns.Publish most) (resting l))) =
+          let from_there : Fine q h m.scene (taking most l) (phase_goes_on h q m.scene (under_way h q m.scene (turns.Publish most) (resting l))) =
           publication_fine q h m.scene (taking most l) 0 (record { good = plain.good; back = plain.back; started = run; holds = taking_holds q h m.scene l most some any run at_rest }) in
-          let begins : Fine q h m.scene (resting l) (phase_goes_on h q m.scene (under_way (turns.Publish most) (resting l))) = record {
+          let begins : Fine q h m.scene (resting l) (phase_goes_on h q m.scene (under_way h q m.scene (turns.Publish most) (resting l))) = record {
             each = from_there.each;
             holds = from_there.holds;
             legal = from_there.legal;
@@ -92,14 +92,14 @@ publish_due q h m most plain good ready =
             collects = from_there.collects;
             falls = below_all from_there.falls (taking_effort q m.scene.past (length (m.scene.heads q)) most l some any);
           } in
-          subst (λ (x : Lane). Fine q h m.scene x (phase_goes_on h q m.scene (under_way (turns.Publish most) x))) same begins
+          subst (λ (x : Lane). Fine q h m.scene x (phase_goes_on h q m.scene (under_way h q m.scene (turns.Publish most) x))) same begins
       | inr shows ↦
           let done : ℕ = shows.0 in
           let same : publishing done l ≡ l = ap (λ (p : Phase). record l { phase = p }) (sym shows.1) in
           let under : Holds q h m.scene (publishing done l) = subst (λ (x : Lane). Holds q h m.scene x) (sym same) good.holds in
-          let goes_on : Fine q h m.scene (publishing done l) (phase_goes_on h q m.scene (under_way (turns.Publish most) (publishing done l))) =
+          let goes_on : Fine q h m.scene (publishing done l) (phase_goes_on h q m.scene (under_way h q m.scene (turns.Publish most) (publishing done l))) =
           publication_fine q h m.scene l done (record { good = plain.good; back = plain.back; started = run; holds = under }) in
-          subst (λ (x : Lane). Fine q h m.scene x (phase_goes_on h q m.scene (under_way (turns.Publish most) x))) same goes_on
+          subst (λ (x : Lane). Fine q h m.scene x (phase_goes_on h q m.scene (under_way h q m.scene (turns.Publish most) x))) same goes_on
     ]
 
 work_due : (q : ℕ) (h : Header1) (m : Moment) (place : ℕ) → IsPlain h → Good q h m → is_ready (standing h q m) (turns.Work place) ≡ true → Fine q h m.scene (m.lanes q) (turned h q (turns.Work place) m)

@@ -247,7 +247,7 @@ look_holds q h s l k sector c p place v x low at long = record {
   known = look_known q h.size h.capacity s.past (s.heads q) k place v x.left.holds.known;
   worked = look_worked q h s l k sector c p place v x low at long;
   stored = step_stored q s.past (entries.Look q k place v ∷ s.past) (s.heads q) s.memory l.batch l.completed l.made k (look_follows q s.past k place v x.left.started) (look_seen q h s l k sector c p place v x low at) x.left.holds.stored;
-  queue = queue_same q h s (entries.Look q k place v ∷ s.past) l.driver l.batch l.phase refl refl refl refl (λ j. refl) x.left.holds.queue;
+  queue = queue_same q h s (entries.Look q k place v ∷ s.past) l.driver l.bell l.plan l.batch l.phase refl refl refl refl (λ j. refl) x.left.holds.queue;
 }
 
 look_fine : (q : ℕ) (h : Header1) (s : Scene) (l : Lane) (k sector c p : ℕ) → IsReading q h s l k sector c → p < c → l.made k ≡ 2 * p → Fine q h s l (task_turn h q s l k (asks.Read sector c) (Some (Look p)))
@@ -337,7 +337,7 @@ act_holds q h s l k sector place bytes v x low long = record {
   known = act_known q h.size h.capacity s.past (s.heads q) k place v long x.left.holds.known;
   worked = act_worked q h s l k sector place bytes v x low;
   stored = step_stored q s.past (entries.Act q k place v ∷ s.past) (s.heads q) s.memory l.batch l.completed l.made k (act_follows q s.past k place v x.left.started) (seen_never q s.past (entries.Act q k place v ∷ s.past) l.made k (write_never sector bytes (asked s.past q k) x.is)) x.left.holds.stored;
-  queue = queue_same q h s (entries.Act q k place v ∷ s.past) l.driver l.batch l.phase refl refl refl refl (λ j. refl) x.left.holds.queue;
+  queue = queue_same q h s (entries.Act q k place v ∷ s.past) l.driver l.bell l.plan l.batch l.phase refl refl refl refl (λ j. refl) x.left.holds.queue;
 }
 
 -- a sector of some bytes
@@ -422,7 +422,7 @@ sync_holds q h s l k x is none = record {
   known = sync_known q h.size h.capacity s.past (s.heads q) k x.holds.known;
   worked = sync_worked q h s l k x is none;
   stored = step_stored q s.past (entries.Sync q k ∷ s.past) (s.heads q) s.memory l.batch l.completed l.made k (sync_follows q s.past k x.started) (seen_never q s.past (entries.Sync q k ∷ s.past) l.made k (flush_never (asked s.past q k) is)) x.holds.stored;
-  queue = queue_same q h s (entries.Sync q k ∷ s.past) l.driver l.batch l.phase refl refl refl refl (λ j. refl) x.holds.queue;
+  queue = queue_same q h s (entries.Sync q k ∷ s.past) l.driver l.bell l.plan l.batch l.phase refl refl refl refl (λ j. refl) x.holds.queue;
 }
 
 sync_fine : (q : ℕ) (h : Header1) (s : Scene) (l : Lane) (k : ℕ) → IsLeft q h s l k → asked s.past q k ≡ Some asks.Flush → l.made k ≡ 0 → Fine q h s l (task_turn h q s l k asks.Flush (Some Sync))
@@ -447,7 +447,7 @@ sync_fine q h s l k x is none =
 
 pub other_open : (q : ℕ) (h : Header1) (s : Scene) (l : Lane) (k j : ℕ) → IsLeft q h s l k → IsOpen s.past q j → j ≢ k → slice_index (s.heads q) j ≢ slice_index (s.heads q) k
 other_open q h s l k j x is_open apart same =
-    apart (heads_apart q h s l.driver l.batch l.phase j k x.holds.queue (open_out q h.size h.capacity s.past (s.heads q) j x.holds.known is_open) (open_out q h.size h.capacity s.past (s.heads q) k x.holds.known x.is_open) same)
+    apart (heads_apart q h s l.driver l.bell l.plan l.batch l.phase j k x.holds.queue (open_out q h.size h.capacity s.past (s.heads q) j x.holds.known is_open) (open_out q h.size h.capacity s.past (s.heads q) k x.holds.known x.is_open) same)
 
 -- a store into the buffer of one request leaves those of the others
 off_other : (q : ℕ) (h : Header1) (s : Scene) (l : Lane) (k j p : ℕ) (bs : List ℕ) → IsLeft q h s l k → IsOpen s.past q j → j ≢ k → buffer q (s.heads q) k ≤ p → p + length bs ≤ buffer q (s.heads q) k + 8192 → OffBuffer q (s.heads q) j p bs
@@ -510,7 +510,7 @@ put_holds q h s l k sector c p x low at =
         status = λ j held.
             status_elsewhere q (s.heads q) j s.memory place bs (off_other q h s l k j place bs x.left (x.left.holds.worked.opens j held) (among_apart (l.completed ++ l.batch) j k held x.left.left) (omega arith) (omega arith)) ∙ x.left.holds.stored.status j held;
       };
-      queue = queue_elsewhere q h s place bs l.driver l.batch l.phase x.left.good.size (inr (omega arith)) x.left.holds.queue;
+      queue = queue_elsewhere q h s place bs l.driver l.bell l.plan l.batch l.phase x.left.good.size (inr (omega arith)) x.left.holds.queue;
     }
 
 put_fine : (q : ℕ) (h : Header1) (s : Scene) (l : Lane) (k sector c p : ℕ) → IsReading q h s l k sector c → p < c → l.made k ≡ 2 * p + 1 → Fine q h s l (task_turn h q s l k (asks.Read sector c) (Some (Put p)))
@@ -640,7 +640,7 @@ status_holds q h s l k p x whole half at = record {
           status_elsewhere q (s.heads q) j s.memory p (0 ∷ []) (off_other q h s l k j p (0 ∷ []) x (x.holds.worked.opens j old) (among_apart (l.completed ++ l.batch) j k old x.left) (omega arith) (omega arith)) ∙ x.holds.stored.status j old
     ];
   };
-  queue = queue_elsewhere q h s p (0 ∷ []) l.driver l.batch l.phase x.good.size (inr (omega arith)) x.holds.queue;
+  queue = queue_elsewhere q h s p (0 ∷ []) l.driver l.bell l.plan l.batch l.phase x.good.size (inr (omega arith)) x.holds.queue;
 }
 
 status_fine : (q : ℕ) (h : Header1) (s : Scene) (l : Lane) (k : ℕ) (r : Asked) → IsLeft q h s l k → refusal h.capacity h.mode r ≡ None → IsFull (l.made k) (asked s.past q k) → (IsRead (asked s.past q k) → (l.made k + 1) / 2 ≡ l.made k / 2) → l.made k ≤ 16
