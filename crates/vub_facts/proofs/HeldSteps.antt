@@ -10,8 +10,9 @@ use Rattle.vub_device.specs.Places.{are_distinct}
 use Rattle.vub_device.proofs.Numbers.{is_among_append}
 use Rattle.vub_steps.specs.declared.steps.Step.{Step}
 use Rattle.vub_steps.specs.declared.steps.Step.TheVariants as steps
+use Rattle.vub_steps.specs.Rows.{Sight}
 use Rattle.vub_facts.specs.Facts.{heads_in, without, Words, InBatch, head_next, heads_after, words_after}
-use Rattle.vub_facts.specs.Held.{State, busy, Splits, Held, state_after, start_begun, fetch_begun, publication_begun, completed_at}
+use Rattle.vub_facts.specs.Held.{State, busy, Splits, Held, state_after, publication_begun, completed_at}
 use Rattle.vub_facts.proofs.HeadLemmas.{among_without, among_get, few_below, remove_is_without, Parts, distinct_parts, distinct_push, distinct_without, without_both, without_push, length_without}
 
 -- ---- words of which used.idx is the same
@@ -31,20 +32,14 @@ held_like n heads w s t avail taken unfinished same x = record {
 
 -- ---- begins
 
-pub held_start_begun : (n : ℕ) (heads : List ℕ) (w : Words) (s : State) → Held n heads w s → Held n heads w (start_begun s)
-held_start_begun n heads w s x = record { distinct = x.distinct; below = x.below; avail = x.avail; taken = x.taken; splits = x.splits }
-
-pub held_fetch_begun : (n : ℕ) (heads : List ℕ) (w : Words) (s : State) → Held n heads w s → Held n heads w (fetch_begun s)
-held_fetch_begun n heads w s x = record { distinct = x.distinct; below = x.below; avail = x.avail; taken = x.taken; splits = x.splits }
-
 -- the same heads are busy
-pub held_publication_begun : (n : ℕ) (heads : List ℕ) (w : Words) (most : ℕ) (s : State) → s.side.batch ≡ [] → Held n heads w s → Held n heads w (publication_begun most s)
+pub held_publication_begun : (n : ℕ) (heads : List ℕ) (w : Words) (most : ℕ) (s : State) → s.batch ≡ [] → Held n heads w s → Held n heads w (publication_begun most s)
 held_publication_begun n heads w most s none x =
     let same : busy s ≡ busy (publication_begun most s) = ap (λ (xs : List (ℕ × ℕ)). heads_in (xs ++ s.completed)) none ∙ ap heads_in (sym (take-append-drop most s.completed)) in
     record { distinct = x.distinct; below = x.below; avail = x.avail; taken = x.taken; splits = subst (λ (hs : List ℕ). Splits heads hs s.unfinished) same x.splits }
 
 -- what begins is a batch
-pub batch_begins : (n : ℕ) (heads : List ℕ) (w : Words) (most : ℕ) (s : State) → s.side.batch ≡ [] → 0 < length (take most s.completed) → Held n heads w s → InBatch n heads (take most s.completed) 0
+pub batch_begins : (n : ℕ) (heads : List ℕ) (w : Words) (most : ℕ) (s : State) → s.batch ≡ [] → 0 < length (take most s.completed) → Held n heads w s → InBatch n heads (take most s.completed) 0
 batch_begins n heads w most s none some x =
     let batch : List ℕ = heads_in (take most s.completed) in
     let later : List ℕ = heads_in (drop most s.completed) in
@@ -87,7 +82,7 @@ held_completed n heads w place h len s at x = record {
   below = x.below;
   avail = x.avail;
   taken = x.taken;
-  splits = subst (λ (hs : List ℕ). Splits heads hs (remove s.unfinished place)) (busy_more s.side.batch s.completed h len) (splits_complete heads (busy s) s.unfinished place h x.distinct at x.splits);
+  splits = subst (λ (hs : List ℕ). Splits heads hs (remove s.unfinished place)) (busy_more s.batch s.completed h len) (splits_complete heads (busy s) s.unfinished place h x.distinct at x.splits);
 }
 
 -- ---- a fetch
@@ -144,20 +139,20 @@ splits_show heads batch completed unfinished s =
       left = s.left ∙ sym (without_both batch completed heads);
     }
 
-pub held_index : (r : Ring) (heads : List ℕ) (w : Words) (s : State) (h : ℕ) → w.ring.used < 65536 → Held r.size heads w s
-    → Held r.size (without (heads_in s.side.batch) heads) (words_after r s.side.batch steps.Index w) (state_after steps.Index h s)
-held_index r heads w s h fits x =
-    let batch : List ℕ = heads_in s.side.batch in
+pub held_index : (r : Ring) (heads : List ℕ) (z : Sight) (w : Words) (s : State) (h : ℕ) → w.ring.used < 65536 → z.batch ≡ s.batch → Held r.size heads w s
+    → Held r.size (without (heads_in s.batch) heads) (words_after r z steps.Index w) (state_after steps.Index h s)
+held_index r heads z w s h fits seen x =
+    let batch : List ℕ = heads_in s.batch in
     let completed : List ℕ = heads_in s.completed in
-    let long : length batch ≡ length s.side.batch = length-map s.side.batch (λ (y : ℕ × ℕ). y.0) in
-    let split : Splits heads (batch ++ completed) s.unfinished = subst (λ (hs : List ℕ). Splits heads hs s.unfinished) (map-append (λ (y : ℕ × ℕ). y.0) s.side.batch s.completed) x.splits in
+    let long : length batch ≡ length s.batch = length-map s.batch (λ (y : ℕ × ℕ). y.0) in
+    let split : Splits heads (batch ++ completed) s.unfinished = subst (λ (hs : List ℕ). Splits heads hs s.unfinished) (map-append (λ (y : ℕ × ℕ). y.0) s.batch s.completed) x.splits in
     let parts : Parts batch completed = distinct_parts batch completed split.once in
     let opens : (d : ℕ) → is_among batch d ≡ true → is_among heads d ≡ true = λ d held. split.opens d (let joined : is_among (batch ++ completed) d ≡ (is_among batch d || is_among completed d) = is_among_append batch completed d in grind (arith, nat_tests)) in
     let fewer : length (without batch heads) + length batch ≡ length heads = length_without batch heads x.distinct parts.first opens in
     record {
       distinct = distinct_without batch heads x.distinct;
       below = λ d held. x.below d (let kept : is_among (without batch heads) d ≡ (is_among heads d && not (is_among batch d)) = among_without batch heads d in grind (arith, nat_tests));
-      avail = omega (arith, x.avail, fewer, long);
+      avail = omega (arith, x.avail, fewer, long, ap (λ (xs : List (ℕ × ℕ)). length xs) seen);
       taken = λ d low. ap (λ (b : Bool). b && not (is_among batch d)) (x.taken d low) ∙ sym (among_without batch heads d);
       splits = splits_show heads batch completed s.unfinished split;
     }
@@ -169,10 +164,16 @@ abbrev pub Finds : Step → ℕ → ℕ → State → Type 0
 Finds steps.Accept n head s = (head < n) × (s.taken head ≡ false)
 Finds step n head s = Unit {0}
 
-pub held_step : (r : Ring) (heads : List ℕ) (step : Step) (w : Words) (s : State) → w.ring.used < 65536 → Finds step r.size (head_next heads w) s → Held r.size heads w s
-    → Held r.size (heads_after step (head_next heads w) s.side.batch heads) (words_after r s.side.batch step w) (state_after step (head_next heads w) s)
-held_step r heads steps.Start w s fits finds x = record { distinct = x.distinct; below = x.below; avail = x.avail; taken = x.taken; splits = x.splits }
-held_step r heads steps.Accept w s fits finds x = held_accept r heads w s (head_next heads w) finds.0 finds.1 x
-held_step r heads (steps.Id e) w s fits finds x = record { distinct = x.distinct; below = x.below; avail = x.avail; taken = x.taken; splits = x.splits }
-held_step r heads (steps.Len e) w s fits finds x = record { distinct = x.distinct; below = x.below; avail = x.avail; taken = x.taken; splits = x.splits }
-held_step r heads steps.Index w s fits finds x = held_index r heads w s (head_next heads w) fits x
+pub held_step : (r : Ring) (heads : List ℕ) (step : Step) (z : Sight) (w : Words) (s : State) → w.ring.used < 65536 → z.batch ≡ s.batch → Finds step r.size (head_next heads w) s → Held r.size heads w s
+    → Held r.size (heads_after step (head_next heads w) s.batch heads) (words_after r z step w) (state_after step (head_next heads w) s)
+held_step r heads steps.Features z w s fits seen finds x = held_words r.size heads (words_after r z steps.Features w) w s refl x
+held_step r heads (steps.Free i) z w s fits seen finds x = held_words r.size heads (words_after r z (steps.Free i) w) w s refl x
+held_step r heads steps.Open z w s fits seen finds x = held_words r.size heads (words_after r z steps.Open w) w s refl x
+held_step r heads (steps.Settle i) z w s fits seen finds x = held_words r.size heads (words_after r z (steps.Settle i) w) w s refl x
+held_step r heads steps.SettleEnd z w s fits seen finds x = held_words r.size heads (words_after r z steps.SettleEnd w) w s refl x
+held_step r heads steps.Bell z w s fits seen finds x = x
+held_step r heads steps.Start z w s fits seen finds x = x
+held_step r heads steps.Accept z w s fits seen finds x = held_accept r heads w s (head_next heads w) finds.0 finds.1 x
+held_step r heads (steps.Id e) z w s fits seen finds x = held_words r.size heads (words_after r z (steps.Id e) w) w s refl x
+held_step r heads (steps.Len e) z w s fits seen finds x = held_words r.size heads (words_after r z (steps.Len e) w) w s refl x
+held_step r heads steps.Index z w s fits seen finds x = held_index r heads z w s (head_next heads w) fits seen x

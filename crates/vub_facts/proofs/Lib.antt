@@ -1,3 +1,4 @@
+pub mod FactStarts
 pub mod FactSteps
 pub mod FactWords
 pub mod HeadLemmas
