@@ -21,6 +21,7 @@ use Rattle.vub_run_laws.proofs.RunGood.{IsPlainAsk, IsSize}
 use Rattle.vub_base.specs.declared.header.Header1.{Header1}
 use Rattle.vub_base.specs.declared.request.Shape.TheVariants.{Direct}
 use Rattle.vub_steps.specs.declared.steps.Phase.{Phase}
+use Rattle.vub_steps.specs.declared.steps.Plan.{Plan}
 use Rattle.vub_run.specs.Memory.{Scene}
 
 -- below n, and nobody's
@@ -154,4 +155,5 @@ ask_facts q h s v bell plan batch phase a size plain ready x =
       ringed = x.ringed;
       driven = ask_driven q h.size h.capacity h.base s.past (s.heads q) a v (chosen h.size a v) size.small plain (omega (arith, many, needed.0)) (omega (arith, many, needed.1)) all x.driven;
       words = x.words;
+      start = x.start;
     }

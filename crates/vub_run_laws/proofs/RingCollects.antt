@@ -140,4 +140,5 @@ taken_facts q h s l x k t =
       ringed = ringed_entries q h.size h.base s.past past' (s.heads q) s.memory leaves t.holds.queue.ringed;
       driven = taken_driven q h s l x k t;
       words = words_same q h s past' l.bell l.plan l.batch l.phase refl refl leaves.shows leaves.asks t.holds.queue.words;
+      start = t.holds.queue.start;
     }

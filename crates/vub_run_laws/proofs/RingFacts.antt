@@ -31,6 +31,7 @@ use Rattle.vub_infl_split.specs.Region.{RegionWords, words_of}
 use Rattle.vub_region_facts.specs.Starts.{Left}
 use Rattle.vub_facts.specs.Facts as facts
 use Rattle.vub_facts.specs.Facts.{Side, heads_in, Lies, Elsewhere, Words, words_at, NotStarted, InBatch, Facts, sight, words_after}
+use Rattle.vub_facts.proofs.FactStarts.{start_long}
 use Rattle.vub_facts.proofs.FactWords.{facts_off, facts_beside, id_words, len_words}
 use Rattle.vub_facts.proofs.FactSteps.{publication_begins, step_keeps}
 use Rattle.vub_facts.proofs.HeadLemmas.{number_of, among_map, few_below}
@@ -133,6 +134,21 @@ facts_entry q h s past' v bell plan batch phase leaves same words start x = reco
   words = words;
   start = start;
 }
+
+-- a bell changes nothing of the words, and a start has no fewer steps left with one
+pub words_attached : (q : ℕ) (h : Header1) (s : Scene) (bell : Bool) (plan : Plan) (batch : List ℕ) (phase : Phase) → WordsAt q h s bell plan batch phase → WordsAt q h s true plan batch phase
+words_attached q h s bell plan batch phase f = record { used_fits = f.used_fits; not_started = f.not_started; batch = f.batch }
+
+pub start_attached : (runs : Bool) (n : ℕ) (bell : Bool) (plan : Plan) (phase : Phase) → StartIs runs n bell plan phase → StartIs runs n true plan phase
+start_attached runs n true plan phase x = x
+start_attached runs n false plan phases.Rest x = x
+start_attached runs n false plan (phases.Start done) x = record {
+  stopped = x.stopped;
+  left = omega (arith, x.left, start_long n plan true, start_long n plan false);
+  few = x.few;
+}
+start_attached runs n false plan (phases.Fetch done) x = x
+start_attached runs n false plan (phases.Publish done) x = x
 
 -- ---- at rest
 

@@ -1,5 +1,5 @@
 -- What holds of a split ring and of its driver at every moment of a run.
-use Rattle.std.proofs.Common.{◌≡◌, ◌≢◌, ◌≤◌, ◌<◌, ℕ, ◌⊎◌, ◌+◌, ◌*◌, ◌%◌, List, [], ◌∷◌, ◌++◌, length, map}
+use Rattle.std.proofs.Common.{◌≡◌, ◌≢◌, ◌≤◌, ◌<◌, ℕ, ◌⊎◌, ◌+◌, ◌*◌, ◌%◌, Bool, List, [], ◌∷◌, ◌++◌, length, map}
 use Rattle.std.specs.Prelude.{Option, Some, None, slice_index, ⊤}
 use Rattle.std.specs.List.{AllByRecursion}
 use Rattle.byteorder.specs.Endian.{little_bytes}
@@ -15,10 +15,12 @@ use Rattle.vub_device.specs.Past.{started, accepted, published, collected}
 use Rattle.vub_device.specs.Requests.{request_of}
 use Rattle.vub_device.specs.declared.entry.Entry.{Entry}
 use Rattle.vub_run.specs.Memory.{Scene}
-use Rattle.vub_run.specs.Moments.{Moment, open_heads}
+use Rattle.vub_infl_split.specs.declared.region.SplitRegion.{SplitRegion}
+use Rattle.vub_steps.specs.declared.steps.Plan.{Plan}
+use Rattle.vub_run.specs.Moments.{Moment, region_of, open_heads}
 use Rattle.vub_run.specs.Turns.{element_of}
 use Rattle.vub_facts.specs.Facts.{Side, Facts, words_at}
-use Rattle.vub_run_laws.proofs.RunGood.{IsWide, IsOut, spot}
+use Rattle.vub_run_laws.proofs.RunGood.{IsWide, IsOut, StartIs, spot}
 
 abbrev pub the_ring : ℕ → ℕ → Ring
 the_ring q n = ring_of q n

@@ -1,5 +1,5 @@
 -- The driver's stores of a request, each one, on a split ring.
-use Rattle.std.proofs.Common.{◌≡◌, ◌≤◌, ◌<◌, ℕ, ◌+◌, ◌*◌, ◌%◌, true, List, [], ◌∷◌, ◌++◌, length, ap, sym, ◌∙◌, subst, inl, inr, arith}
+use Rattle.std.proofs.Common.{◌≡◌, ◌≤◌, ◌<◌, ℕ, ◌+◌, ◌*◌, ◌%◌, true, List, [], ◌∷◌, ◌++◌, length, ap, sym, ◌∙◌, subst, inl, inr, arith, Bool}
 use Rattle.std.specs.List.{AllByRecursion}
 use Rattle.std.proofs.lemmas.List.{length-append}
 use Rattle.byteorder.specs.Endian.{little_bytes}
@@ -7,6 +7,7 @@ use Rattle.vub_base.specs.declared.header.Header1.{Header1}
 use Rattle.vub_shared.specs.Bytes.{Bytes, put}
 use Rattle.vub_shared.specs.Stores.{Store, one_store}
 use Rattle.vub_steps.specs.declared.steps.Phase.{Phase}
+use Rattle.vub_steps.specs.declared.steps.Plan.{Plan}
 use Rattle.vub_ring.specs.Ring.{avail_entry_place, avail_idx_place, last_head}
 use Rattle.vub_driver.specs.Layout.{area_place}
 use Rattle.vub_driver.specs.Drivers.{Driver, Waiting}
@@ -58,7 +59,7 @@ entry_before q h s v w bell plan batch phase all left size known between waits i
     let below : p + length bs ≤ area_place q + 8192 = omega arith in
     let ring = ringed_entry q h.size h.capacity h.base s.past (s.heads q) s.memory p w.head size known room at (omega (arith, waits.below)) x.ringed in record {
       off = λ k out. below_buffers q (s.heads q) k p bs (omega arith);
-      queue = record { ringed = ring.0; driven = x.driven; words = words_below q h s p bs bell plan batch phase size between below x.words };
+      queue = record { ringed = ring.0; driven = x.driven; words = words_below q h s p bs bell plan batch phase size between below x.words; start = x.start };
       waits = record { wide = waits.wide; below = waits.below; mine = waits.mine; apart = waits.apart; plan = inr is };
       last = λ one. ring.1;
     }
@@ -102,6 +103,7 @@ index_last q h s v w bell plan batch phase left size known between taken waits s
       ringed = subst (λ (hs : List ℕ). Ringed q h.size h.base past' hs m) own ringed;
       driven = subst (λ (hs : List ℕ). Driven q h.size h.capacity h.base past' hs (offered_by v)) own (offer_driven q h.size h.capacity h.base s.past (s.heads q) v (record w { left = left }) r x.driven waits);
       words = subst (λ (hs : List ℕ). OfferedWords q h s r m bell plan batch phase hs) own (words_offer q h s r w.head m bell plan batch phase known taken words);
+      start = x.start;
     } in record {
       off = λ k. below_buffers q (s.heads q) k p bs (omega arith);
       room = offer_room q h.size h.capacity h.base s.past (s.heads q) v (record w { left = left }) known x.driven waits;

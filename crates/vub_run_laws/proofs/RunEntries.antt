@@ -37,10 +37,10 @@ use Rattle.vub_report.specs.Entries.{IsRequest, IsEntry}
 use Rattle.vub_report.specs.Histories.{entries_of, history_of}
 use Rattle.vub_report.proofs.HistoryLemmas.{entries-append}
 use Rattle.vub_run.specs.Memory.{Scene, after_items}
-use Rattle.vub_run.specs.Moments.{Lane, Moment, fresh, unfinished}
+use Rattle.vub_run.specs.Moments.{Lane, Moment, fresh, attached, unfinished}
 use Rattle.vub_run.specs.Run.{Played, played, if_ready, ask, guest, guest_items, guest_stores, take_first, collect, boot, join, one_turn, is_due, then_played, turns as many_turns, single, up_to, any_choice, drain_choice, Drains, Plays, RunFrom, RunTo}
 use Rattle.vub_run.specs.TaskItems.{look_items, act_items}
-use Rattle.vub_run.specs.Turns.{course_of, turned, row_items, entry_items, step_stores, phase_turn, phase_goes_on, under_way, work_turn, request_turn, task_turn}
+use Rattle.vub_run.specs.Turns.{course_of, turned, row_items, bell_items, entry_items, step_stores, phase_turn, phase_goes_on, under_way, work_turn, request_turn, task_turn}
 use Rattle.vub_run_laws.proofs.Runs.{plain_header}
 use Rattle.vub_run_laws.proofs.RunEvents.{Right, turn_right}
 use Rattle.vub_run_laws.proofs.RunGood.{IsWide}
@@ -164,11 +164,30 @@ taken_makes q h (x ∷ xs) m = (tt, tt)
 
 -- ---- the device
 
-row_makes : (o : Option Row) → entries_of (row_items o) ≡ []
-row_makes None = refl
-row_makes (Some x) = refl
+row_makes : (o : Option Row) → Makes (row_items o)
+row_makes None = tt
+row_makes (Some x) = tt
+
+bell_makes : (q : ℕ) (step : Step) → Makes (bell_items q step)
+bell_makes q steps.Bell = tt
+bell_makes q steps.Features = tt
+bell_makes q (steps.Free i) = tt
+bell_makes q steps.Open = tt
+bell_makes q (steps.Settle i) = tt
+bell_makes q steps.SettleEnd = tt
+bell_makes q steps.Start = tt
+bell_makes q steps.Accept = tt
+bell_makes q (steps.Id e) = tt
+bell_makes q (steps.Len e) = tt
+bell_makes q steps.Index = tt
 
 step_makes : (q : ℕ) (batch : List ℕ) (step : Step) (s : Scene) → Makes (entry_items q batch step s)
+step_makes q batch steps.Features s = tt
+step_makes q batch (steps.Free i) s = tt
+step_makes q batch steps.Open s = tt
+step_makes q batch (steps.Settle i) s = tt
+step_makes q batch steps.SettleEnd s = tt
+step_makes q batch steps.Bell s = tt
 step_makes q batch steps.Start s = (tt, tt)
 step_makes q batch steps.Accept s = (tt, tt)
 step_makes q batch (steps.Id e) s = tt
@@ -178,8 +197,8 @@ step_makes q batch steps.Index s = (tt, tt)
 phase_makes : (q : ℕ) (h : Header1) (s : Scene) (l : Lane) (o : Option Step) → Makes (phase_turn h q s l o).items
 phase_makes q h s l None = tt
 phase_makes q h s l (Some step) =
-    let stores : List Item = step_stores h q l.batch step s in
-    makes-append stores (entry_items q l.batch step (after_items h stores s)) (subst AreMade (sym (row_makes _)) tt) (step_makes q l.batch step (after_items h stores s))
+    let stores : List Item = step_stores h q l step s in
+    makes-append stores (entry_items q l.batch step (after_items h stores s)) (makes-append (row_items _) (bell_items q step) (row_makes _) (bell_makes q step)) (step_makes q l.batch step (after_items h stores s))
 
 zeros_long : length zeros ≡ 512
 unfolding zeros

@@ -8,7 +8,7 @@ use Rattle.vub_shared.specs.Bytes.{Bytes, put}
 use Rattle.vub_steps.specs.declared.steps.Phase.{Phase}
 use Rattle.vub_steps.specs.declared.steps.Phase.TheVariants as phases
 use Rattle.vub_steps.specs.declared.steps.Plan.{Plan}
-use Rattle.vub_steps.specs.Steps.{start_steps}
+use Rattle.vub_steps.specs.Steps.{plan_steps, start_steps}
 use Rattle.vub_driver.specs.Layout.{area_place, buffer_place, status_place, sectors_place}
 use Rattle.vub_device.specs.declared.entry.Answered.{Answered}
 use Rattle.vub_device.specs.declared.entry.Asked.{Asked}
@@ -126,11 +126,11 @@ PhaseIs n bell plan batch (phases.Start done) = (batch ≡ []) × (done < length
 PhaseIs n bell plan batch (phases.Publish done) = (0 < length batch) × (done < 2 * length batch + 1)
 PhaseIs n bell plan batch phase = ⊥
 
--- a start of which so many steps were made: the queue isn't started, a step is left, and there are never many
+-- a start of which so many steps were made: the queue isn't started, a step is left, and it has a store for each entry and two more at most
 pub record InStart (runs : Bool) (n : ℕ) (bell : Bool) (plan : Plan) (done : ℕ) : Type 0 where
   pub stopped : runs ≡ false
   pub left : done < length (start_steps n plan bell)
-  pub few : length (start_steps n plan bell) ≤ n + 4
+  pub few : length (plan_steps n plan) ≤ n + 2
 
 -- what is known of a start that is under way
 abbrev pub StartIs : Bool → ℕ → Bool → Plan → Phase → Type 0

@@ -24,7 +24,7 @@ use Rattle.vub_run.specs.Memory.{Scene}
 use Rattle.vub_run.specs.Moments.{Lane}
 use Rattle.vub_run.specs.Turns.{answer_at, answer_len}
 use Rattle.vub_run_laws.proofs.RunGood.{IsWide, IsReadTo, IsWrittenTo, IsFull, Worked, Stored, IsRead, buffer, IsGood}
-use Rattle.vub_run_laws.proofs.RunHolds.{Holds}
+use Rattle.vub_run_laws.proofs.RunHolds.{Holds, publishing}
 use Rattle.vub_run_laws.proofs.RunSteps.{wide_some, wide_served, looks_end, effects_end, read_to, written_to, flushed_to}
 
 -- a publication under way

@@ -1,10 +1,11 @@
 -- What is known of a queue, and what each step of the driver and of the device leaves of it.
-use Rattle.std.proofs.Common.{◌≡◌, ◌<◌, ℕ, ◌+◌, ◌*◌, true, List, [], ◌∷◌, ◌++◌, length, ap, sym, ◌∙◌, subst, arith, ◌%◌, ◌≤◌}
+use Rattle.std.proofs.Common.{◌≡◌, ◌<◌, ℕ, ◌+◌, ◌*◌, true, false, List, [], ◌∷◌, ◌++◌, length, ap, sym, ◌∙◌, subst, arith, ◌%◌, ◌≤◌, Bool}
 use Rattle.std.specs.Prelude.{Option, Some, None, slice_index, slice_get}
 use Rattle.vub_base.specs.declared.header.Header1.{Header1}
 use Rattle.vub_shared.specs.Bytes.{Bytes, put}
 use Rattle.vub_shared.specs.Stores.{Store}
 use Rattle.vub_steps.specs.declared.steps.Phase.{Phase}
+use Rattle.vub_steps.specs.declared.steps.Plan.{Plan}
 use Rattle.vub_steps.specs.declared.steps.Phase.TheVariants as phases
 use Rattle.vub_steps.specs.Steps.{publish_steps}
 use Rattle.vub_ring.specs.Ring.{used_idx, ahead, avail_idx, head_at, seen}
@@ -15,19 +16,21 @@ use Rattle.vub_device.specs.declared.entry.Entry.{Entry}
 use Rattle.vub_device.specs.Past.{started, accepted, asked, published, collected, is_among, IsOpen}
 use Rattle.vub_device.specs.Places.{are_distinct}
 use Rattle.vub_run.specs.Memory.{Scene, opening_scene, shown_head, after_entry}
-use Rattle.vub_run.specs.Moments.{Moment, Lane, opening_lane}
+use Rattle.vub_run.specs.Moments.{Moment, Lane, opening_lane, used_in, region_in}
+use Rattle.vub_steps.specs.Plans.{plan_of}
+use Rattle.vub_run_laws.proofs.RingStarts.{start_facts, next_start}
 use Rattle.vub_run.specs.Tracking.{Tracks}
 use Rattle.vub_run_laws.proofs.RingGood.{the_ring, QueueFacts, IsWaiting, WaitsWell, EntryWell, EntryStands, LastStands}
-use Rattle.vub_run_laws.proofs.RunGood.{IsSize, Known, BetweenTurns, IsOut, LeavesQueue, IsGood, IsPlainAsk}
+use Rattle.vub_run_laws.proofs.RunGood.{IsSize, Known, StartIs, BetweenTurns, IsOut, LeavesQueue, IsGood, IsPlainAsk}
 use Rattle.vub_run_laws.proofs.RingFrames.{OffRings}
 use Rattle.vub_run_laws.proofs.RingHeads.{left_shows}
 use Rattle.vub_run_laws.proofs.RunChainsStores.{put_all}
 use Rattle.vub_run_laws.proofs.RunOwn.{at_own}
-use Rattle.vub_run_laws.proofs.RunHolds.{StoresBefore, StoresLast, IsPublishing, NextRow, Holds}
+use Rattle.vub_run_laws.proofs.RunHolds.{StoresBefore, StoresLast, IsPublishing, NextRow, steps_in, NextStart, Holds}
 use Rattle.vub_run_laws.proofs.RingRows.{next_row}
 use Rattle.vub_run_laws.proofs.RingTracks.{tracks, some_waits}
 use Rattle.vub_run_laws.proofs.RingStores.{stores_before, stores_last, some_left}
-use Rattle.vub_run_laws.proofs.RingFacts.{words_same, words_rest, words_rest_at, words_rests, words_begin, batch_begins_at, facts_entry, facts_elsewhere}
+use Rattle.vub_run_laws.proofs.RingFacts.{words_same, words_attached, start_attached, words_rest, words_rest_at, words_rests, words_begin, batch_begins_at, facts_entry, facts_elsewhere}
 pub use Rattle.vub_run_laws.proofs.RingFacts.{phase_at}
 use Rattle.vub_base.specs.declared.request.Ask.{Ask}
 use Rattle.vub_base.specs.declared.request.Shape.TheVariants.{Direct}
@@ -48,7 +51,7 @@ use Rattle.vub_run_laws.proofs.RingSpares.{step_spares}
 
 -- ---- the opening
 
-pub queue_opens : (q : ℕ) (h : Header1) → h.base < 65536 → q < h.queues → QueueFacts q h (opening_scene h) (opening_lane h).driver [] phases.Rest
+pub queue_opens : (q : ℕ) (h : Header1) → h.base < 65536 → q < h.queues → QueueFacts q h (opening_scene h) (opening_lane h).driver (opening_lane h).bell (opening_lane h).plan [] phases.Rest
 queue_opens q h fits low = open_facts q h fits low
 
 -- ---- an entry
@@ -57,13 +60,14 @@ queue_opens q h fits low = open_facts q h fits low
 pub queue_entry : (q : ℕ) (h : Header1) (s : Scene) (past' : List Entry) (v : Driver) (bell : Bool) (plan : Plan) (batch : List ℕ) (phase : Phase) → LeavesQueue q s.past past' → collected past' q ≡ collected s.past q → started past' q ≡ true → phase ≡ phases.Rest → batch ≡ []
     → QueueFacts q h s v bell plan batch phase → QueueFacts q h (record s { past = past' }) v bell plan batch phase
 queue_entry q h s past' v bell plan batch phase leaves same run rest none x =
-    facts_entry q h s past' v bell plan batch phase leaves same (words_rest_at q h (record s { past = past' }) bell plan batch phase rest none (words_rest q h (record s { past = past' }) run x.words.used_fits)) x
+    facts_entry q h s past' v bell plan batch phase leaves same (words_rest_at q h (record s { past = past' }) bell plan batch phase rest none (words_rest q h (record s { past = past' }) bell plan run x.words.used_fits))
+    (subst (λ (p : Phase). StartIs (started past' q) h.size bell plan p) (sym rest) tt) x
 
 -- one that starts and accepts nothing either, whatever is under way
 pub queue_same : (q : ℕ) (h : Header1) (s : Scene) (past' : List Entry) (v : Driver) (bell : Bool) (plan : Plan) (batch : List ℕ) (phase : Phase) → started past' q ≡ started s.past q → accepted past' q ≡ accepted s.past q → published past' q ≡ published s.past q → collected past' q ≡ collected s.past q
     → ((k : ℕ) → asked past' q k ≡ asked s.past q k) → QueueFacts q h s v bell plan batch phase → QueueFacts q h (record s { past = past' }) v bell plan batch phase
 queue_same q h s past' v bell plan batch phase runs accepts shows collects asks x =
-    facts_entry q h s past' v bell plan batch phase (record { accepts = omega (arith, accepts); shows = shows; collects = omega (arith, collects); asks = asks }) collects (words_same q h s past' bell plan batch phase runs accepts shows asks x.words) x
+    facts_entry q h s past' v bell plan batch phase (record { accepts = omega (arith, accepts); shows = shows; collects = omega (arith, collects); asks = asks }) collects (words_same q h s past' bell plan batch phase runs accepts shows asks x.words) (subst (λ (b : Bool). StartIs b h.size bell plan phase) (sym runs) x.start) x
 
 -- what the driver sees of the used elements that it hasn't collected
 abbrev pub sees : ℕ → Header1 → Scene → List (ℕ × ℕ)
@@ -94,21 +98,42 @@ queue_shown q h s l position head good holds at shown = shown_seen q h s l posit
 -- ---- phases
 
 -- nothing is under way any more
-pub queue_rests : (q : ℕ) (h : Header1) (s : Scene) (v : Driver) (bell : Bool) (plan : Plan) (batch : List ℕ) (phase : Phase) → QueueFacts q h s v bell plan batch phase → QueueFacts q h s v [] phases.Rest
-queue_rests q h s v bell plan batch phase x = record { ringed = x.ringed; driven = x.driven; words = words_rests q h s bell plan batch phase x.words }
+pub queue_rests : (q : ℕ) (h : Header1) (s : Scene) (v : Driver) (bell bell' : Bool) (plan plan' : Plan) (batch : List ℕ) (phase : Phase) → QueueFacts q h s v bell plan batch phase → QueueFacts q h s v bell' plan' [] phases.Rest
+queue_rests q h s v bell bell' plan plan' batch phase x = record { ringed = x.ringed; driven = x.driven; words = words_rests q h s bell bell' plan plan' batch phase x.words; start = tt }
+
+-- it gets a bell
+pub queue_attached : (q : ℕ) (h : Header1) (s : Scene) (v : Driver) (bell : Bool) (plan : Plan) (batch : List ℕ) (phase : Phase) → QueueFacts q h s v bell plan batch phase → QueueFacts q h s v true plan batch phase
+queue_attached q h s v bell plan batch phase x = record { ringed = x.ringed; driven = x.driven; words = words_attached q h s bell plan batch phase x.words; start = start_attached (started s.past q) h.size bell plan phase x.start }
+
+-- ---- a start
+
+-- it begins, by the plan that it finds in memory
+pub queue_start_begins : (q : ℕ) (h : Header1) (s : Scene) (v : Driver) (bell : Bool) (plan : Plan) → started s.past q ≡ false → QueueFacts q h s v bell plan [] phases.Rest → QueueFacts q h s v bell (plan_of (used_in h q s) (region_in h q s)) [] (phases.Start 0)
+queue_start_begins q h s v bell plan stopped x = start_facts q h s v bell plan stopped x
+
+-- while it is under way a step of it is left, and the queue isn't started
+pub queue_start : (q : ℕ) (h : Header1) (s : Scene) (l : Lane) → Holds q h s l → StartIs (started s.past q) h.size l.bell l.plan l.phase
+queue_start q h s l x = x.queue.start
+
+-- its next step: a store into the in-flight region, the bell, or the last one, with its entry
+pub queue_start_step : (q : ℕ) (h : Header1) (s : Scene) (l : Lane) (done : ℕ) → IsSize h.size → QueueFacts q h s l.driver l.bell l.plan [] (phases.Start done) → NextStart q h s l done (slice_get (steps_in h l) done)
+queue_start_step q h s l done size x = next_start q h s l done size x
+
+-- ---- a publication
 
 -- a batch of open numbers begins: none of its elements stands yet
-pub queue_begins : (q : ℕ) (h : Header1) (s : Scene) (v : Driver) (batch : List ℕ) (before : List ℕ) (phase : Phase) → Known q h.size h.capacity s.past (s.heads q) → 0 < length batch → are_distinct batch ≡ true → ((k : ℕ) → is_among batch k ≡ true → IsOpen s.past q k)
-    → QueueFacts q h s v before phase → QueueFacts q h s v batch (phases.Publish 0)
-queue_begins q h s v batch before phase known some distinct opens x = record {
+pub queue_begins : (q : ℕ) (h : Header1) (s : Scene) (v : Driver) (bell : Bool) (plan : Plan) (batch : List ℕ) (before : List ℕ) (phase : Phase) → started s.past q ≡ true → Known q h.size h.capacity s.past (s.heads q) → 0 < length batch → are_distinct batch ≡ true → ((k : ℕ) → is_among batch k ≡ true → IsOpen s.past q k)
+    → QueueFacts q h s v bell plan before phase → QueueFacts q h s v bell plan batch (phases.Publish 0)
+queue_begins q h s v bell plan batch before phase run known some distinct opens x = record {
   ringed = x.ringed;
   driven = x.driven;
-  words = words_begin q h s batch before phase (batch_begins_at q h s v batch known x.driven some distinct opens) x.words;
+  words = words_begin q h s bell plan batch before phase run (batch_begins_at q h s v batch known x.driven some distinct opens) x.words;
+  start = tt;
 }
 
 -- the next row of a publication: it leaves the elements hidden, or it shows them, with the publication
-pub queue_row : (q : ℕ) (h : Header1) (s : Scene) (v : Driver) (batch : List ℕ) (done : ℕ) → IsPublishing q h s v batch done → done < 2 * length batch + 1 → NextRow q h s v batch done (slice_get (publish_steps (length batch)) done)
-queue_row q h s v batch done x low = next_row q h s v batch done x low
+pub queue_row : (q : ℕ) (h : Header1) (s : Scene) (l : Lane) (done : ℕ) → IsPublishing q h s l done → done < 2 * length l.batch + 1 → NextRow q h s l done (slice_get (publish_steps (length l.batch)) done)
+queue_row q h s l done x low = next_row q h s l done x low
 
 -- ---- the driver
 
@@ -149,6 +174,7 @@ queue_waits q h s v bell plan batch phase w left waits x = record {
     waits = record { wide = waits.wide; below = waits.below; mine = waits.mine; apart = waits.apart; plan = waits.plan };
   };
   words = x.words;
+  start = x.start;
 }
 
 -- a store of a request before its last one
@@ -208,12 +234,12 @@ pub queue_ahead : (q : ℕ) (h : Header1) (s : Scene) (l : Lane) → IsGood h �
 queue_ahead q h s l good x = some_waits q h s l good x
 
 -- the items of a step are neither a store of a driver nor an offer
-pub queue_quiet : (q : ℕ) (h : Header1) (batch : List ℕ) (step : Step) (s : Scene) → AreQuiet h (step_items h q batch step s)
-queue_quiet q h batch step s = step_quiet q h batch step s
+pub queue_quiet : (q : ℕ) (h : Header1) (l : Lane) (step : Step) (s : Scene) → AreQuiet h (step_items h q l step s)
+queue_quiet q h l step s = step_quiet q h l step s
 
 -- and where one is a store it spares the answers that are published and not collected
-pub queue_spares : (q : ℕ) (h : Header1) (batch : List ℕ) (step : Step) (s : Scene) → IsSize h.size → BeforeEach h (IsSparing q) s (step_items h q batch step s)
-queue_spares q h batch step s size = step_spares q h batch step s size
+pub queue_spares : (q : ℕ) (h : Header1) (l : Lane) (step : Step) (s : Scene) → IsSize h.size → BeforeEach h (IsSparing q) s (step_items h q l step s)
+queue_spares q h l step s size = step_spares q h l step s size
 
 -- ---- the head of an offer
 

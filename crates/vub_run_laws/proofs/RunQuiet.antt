@@ -20,7 +20,7 @@ use Rattle.vub_report.specs.declared.items.Item.TheVariants as items
 use Rattle.vub_run.specs.Before.{BeforeEach}
 use Rattle.vub_run.specs.Lawful.{IsLawfulItem}
 use Rattle.vub_run.specs.Memory.{Scene, after_item, after_items}
-use Rattle.vub_run.specs.Moments.{Lane, Moment, fresh, unfinished}
+use Rattle.vub_run.specs.Moments.{Lane, Moment, fresh, attached, unfinished}
 use Rattle.vub_run.specs.Run.{Played, played, if_ready, ask, take_first, collect, boot, join, one_turn, is_due, then_played, turns as many_turns, single, up_to, any_choice, drain_choice, Drains, Plays}
 use Rattle.vub_run.specs.TaskItems.{look_items, act_items}
 use Rattle.vub_run.specs.Turns.{course_of, turned, phase_turn, phase_goes_on, under_way, work_turn, request_turn, task_turn}
@@ -40,7 +40,7 @@ quiet_kept h s (i ∷ is) all = quiet_kept h (after_item h i s) is all.1 ∙ all
 
 phase_quiet : (q : ℕ) (h : Header1) (s : Scene) (l : Lane) (o : Option Step) → AreQuiet h (phase_turn h q s l o).items
 phase_quiet q h s l None = tt
-phase_quiet q h s l (Some step) = queue_quiet q h l.batch step s
+phase_quiet q h s l (Some step) = queue_quiet q h l step s
 
 look_quiet : (q : ℕ) (h : Header1) (k : ℕ) (past : List Entry) (o : Option ℕ) → AreQuiet h (look_items q k past o)
 look_quiet q h k past None = tt

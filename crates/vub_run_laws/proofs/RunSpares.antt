@@ -28,7 +28,7 @@ use Rattle.vub_report.specs.declared.items.Item.TheVariants as items
 use Rattle.vub_report.specs.declared.items.Record.{Record}
 use Rattle.vub_run.specs.Before.{BeforeEach}
 use Rattle.vub_run.specs.Memory.{Scene, after_item}
-use Rattle.vub_run.specs.Moments.{Lane, Moment, opening, fresh, unfinished}
+use Rattle.vub_run.specs.Moments.{Lane, Moment, opening, fresh, attached, unfinished}
 use Rattle.vub_run.specs.Run.{Played, played, if_ready, ask, guest_items, guest_stores, guest, take_first, collect, boot, join, one_turn, is_due, then_played, turns as many_turns, single, up_to, any_choice, drain_choice, Drains, Plays, RunFrom, Run}
 use Rattle.vub_run.specs.Spared.{IsSparing, SparedFrom, EveryAnswerIsSpared}
 use Rattle.vub_run.specs.TaskItems.{look_items, act_items}
@@ -56,7 +56,7 @@ AreSparing q h s is = BeforeEach h (IsSparing q) s is
 
 phase_spares : (q : ℕ) (h : Header1) (s : Scene) (l : Lane) (o : Option Step) → IsGood h → AreSparing q h s (phase_turn h q s l o).items
 phase_spares q h s l None good = tt
-phase_spares q h s l (Some step) good = queue_spares q h l.batch step s good.size
+phase_spares q h s l (Some step) good = queue_spares q h l step s good.size
 
 goes_spares : (q : ℕ) (h : Header1) (s : Scene) (l : Lane) → IsGood h → AreSparing q h s (phase_goes_on h q s l).items
 goes_spares q h s l good = phase_spares q h s l (next_step (course_of h l) l.phase) good

@@ -60,9 +60,9 @@ pub record Fine (q : ℕ) (h : Header1) (s : Scene) (l : Lane) (t : Turned) : Ty
   pub each : AfterEach h (Tracks h q) s t.items
   pub holds : Holds q h (after_items h t.items s) t.lane
   pub legal : LegalFrom h.capacity h.mode s.past (entries_of t.items)
-  pub runs : started (after_items h t.items s).past q ≡ true
+  pub idle : started (after_items h t.items s).past q ≡ false → (started s.past q ≡ false) × (accepted (after_items h t.items s).past q ≡ accepted s.past q)
   pub collects : collected (after_items h t.items s).past q ≡ collected s.past q
-  pub falls : effort q (after_items h t.items s).past (length ((after_items h t.items s).heads q)) t.lane + 1 ≤ effort q s.past (length (s.heads q)) l
+  pub falls : effort q h.size (after_items h t.items s).past (length ((after_items h t.items s).heads q)) t.lane + 1 ≤ effort q h.size s.past (length (s.heads q)) l
 
 -- a request that is worked on
 pub record IsLeft (q : ℕ) (h : Header1) (s : Scene) (l : Lane) (k : ℕ) : Type 0 where
@@ -80,7 +80,7 @@ at_work q h s l k r x is served = record { started = x.started; is_open = x.is_o
 abbrev one_more : ℕ → Lane → Lane
 one_more k l = record l { made = with_at l.made k (l.made k + 1) }
 
-one_more_falls : (q : ℕ) (h : Header1) (s : Scene) (l : Lane) (k : ℕ) → IsLeft q h s l k → l.made k ≤ 16 → effort q s.past (length (s.heads q)) (one_more k l) + 1 ≤ effort q s.past (length (s.heads q)) l
+one_more_falls : (q : ℕ) (h : Header1) (s : Scene) (l : Lane) (k : ℕ) → IsLeft q h s l k → l.made k ≤ 16 → effort q h.size s.past (length (s.heads q)) (one_more k l) + 1 ≤ effort q h.size s.past (length (s.heads q)) l
 one_more_falls q h s l k x small = omega (arith, step_falls (published s.past q) (l.completed ++ l.batch) l.made (accepted s.past q) k x.is_open.taken x.is_open.unpublished x.left small)
 
 look_known : (q n cap : ℕ) (past : List Entry) (heads : List ℕ) (k s : ℕ) (v : List ℕ) → Known q n cap past heads → Known q n cap (entries.Look q k s v ∷ past) heads
@@ -268,7 +268,7 @@ look_fine q h s l k sector c p x low at =
       each = (inr (holds_track q h (record s { past = entries.Look q k (sector + p) v ∷ s.past }) (one_more k l) x.left.good holds), tt);
       holds = holds;
       legal = (may, tt);
-      runs = x.left.started;
+      idle = λ stopped. absurd (let fails : true ≡ false = sym x.left.started ∙ stopped in cc);
       collects = refl;
       falls = one_more_falls q h s l k x.left (omega (arith, at, low, x.wide.few));
     } in
@@ -368,7 +368,7 @@ act_fine q h s l k sector p bytes x at low =
       each = (inr (holds_track q h (record s { past = entries.Act q k (sector + p) v ∷ s.past }) (one_more k l) x.left.good holds), tt);
       holds = holds;
       legal = (may, tt);
-      runs = x.left.started;
+      idle = λ stopped. absurd (let fails : true ≡ false = sym x.left.started ∙ stopped in cc);
       collects = refl;
       falls = one_more_falls q h s l k x.left (omega (arith, at, low, x.wide.few));
     } in
@@ -438,7 +438,7 @@ sync_fine q h s l k x is none =
       each = (inr (holds_track q h (record s { past = entries.Sync q k ∷ s.past }) (one_more k l) x.good holds), tt);
       holds = holds;
       legal = (may, tt);
-      runs = x.started;
+      idle = λ stopped. absurd (let fails : true ≡ false = sym x.started ∙ stopped in cc);
       collects = refl;
       falls = one_more_falls q h s l k x (omega arith);
     }
@@ -520,7 +520,7 @@ put_fine q h s l k sector c p x low at =
       each = (inr (holds_track q h (stored_at (sectors_place (buffer q (s.heads q) k) + 512 * p) (slice_range (bytes_read s.past q k) (512 * p) (512 * p + 512)) s) (one_more k l) x.left.good holds), tt);
       holds = holds;
       legal = tt;
-      runs = x.left.started;
+      idle = λ stopped. absurd (let fails : true ≡ false = sym x.left.started ∙ stopped in cc);
       collects = refl;
       falls = one_more_falls q h s l k x.left (omega (arith, at, low, x.wide.few));
     }
@@ -653,7 +653,7 @@ status_fine q h s l k r x served whole half small =
       each = (inr (holds_track q h (stored_at p (0 ∷ []) s) (finished k l) x.good holds), tt);
       holds = holds;
       legal = tt;
-      runs = x.started;
+      idle = λ stopped. absurd (let fails : true ≡ false = sym x.started ∙ stopped in cc);
       collects = refl;
       falls = omega (arith, length-append l.completed (k ∷ []), status_falls (published s.past q) l.completed l.batch l.made (accepted s.past q) k x.is_open.taken x.is_open.unpublished x.left small);
     } in
