@@ -298,10 +298,10 @@ words_len q h s bell plan batch done e i x size run inside at place is fits f =
     let now : words_at r g (put s.memory 0 (used_len_place r i) (little_bytes 4 x)) ≡ words_after r (sight side (words_at r g s.memory)) (steps.Len e) (words_at r g s.memory) =
     ap (λ (p : ℕ). words_at r g (put s.memory 0 p (little_bytes 4 x))) (sym there) ∙ len_words r g (sight side (words_at r g s.memory)) e x s.memory (lies_ring q h.size size) named fits in
     let before : Facts h.size heads h.base (side_of q h s bell plan batch (phases.Publish (2 * e + 1))) (words_at r g s.memory) = subst (λ (d : ℕ). Facts h.size heads h.base (side_of q h s bell plan batch (phases.Publish d)) (words_at r g s.memory)) at f in
-    let after : Facts h.size heads h.base (side_of q h s bell plan batch (phases.Publish (2 * e + 2))) (words_after r (sight side (words_at r g s.memory)) (steps.Len e) (words_at r g s.memory)) =
+    let after : Facts h.size heads h.base (side_of q h s bell plan batch (phases.Publish (2 * e + 1 + 1))) (words_after r (sight side (words_at r g s.memory)) (steps.Len e) (words_at r g s.memory)) =
     step_keeps r g heads h.base (steps.Len e) (side_of q h s bell plan batch (phases.Publish (2 * e + 1))) (words_at r g s.memory) (lies_ring q h.size size) (run, (refl, omega (arith, inside, length-map batch (element_of h q s)))) before in
-    subst (λ (d : ℕ). Facts h.size heads h.base (side_of q h s bell plan batch (phases.Publish d)) (words_at r g (put s.memory 0 (used_len_place r i) (little_bytes 4 x)))) (let next : 2 * e + 2 ≡ done + 1 = omega (arith, at) in next)
-    (subst (λ (w : Words). Facts h.size heads h.base (side_of q h s bell plan batch (phases.Publish (2 * e + 2))) w) (sym now) after)
+    subst (λ (d : ℕ). Facts h.size heads h.base (side_of q h s bell plan batch (phases.Publish d)) (words_at r g (put s.memory 0 (used_len_place r i) (little_bytes 4 x)))) (let next : 2 * e + 1 + 1 ≡ done + 1 = omega (arith, at) in next)
+    (subst (λ (w : Words). Facts h.size heads h.base (side_of q h s bell plan batch (phases.Publish (2 * e + 1 + 1))) w) (sym now) after)
 
 -- where all steps but that of used.idx were made each element of the batch stands
 pub words_element : (q : ℕ) (h : Header1) (s : Scene) (bell : Bool) (plan : Plan) (batch : List ℕ) (done e i : ℕ) → done ≡ 2 * length batch → e < length batch → entry_of (the_ring q h.size) (used_idx (the_ring q h.size) s.memory + e) ≡ entry_of (the_ring q h.size) i

@@ -1,5 +1,5 @@
 -- Where every split ring begins.
-use Rattle.std.proofs.Common.{◌≡◌, ◌<◌, ℕ, zero, suc, List, [], length, refl, sym, ◌∙◌, subst, inl, arith, inr}
+use Rattle.std.proofs.Common.{◌+◌, ◌≡◌, ◌<◌, ℕ, zero, suc, List, [], length, refl, sym, ◌∙◌, subst, inl, arith, inr}
 use Rattle.std.proofs.lemmas.Bool.{cases_lt}
 use Rattle.byteorder.specs.Endian.{little_bytes}
 use Rattle.vub_base.specs.declared.header.Header1.{Header1}

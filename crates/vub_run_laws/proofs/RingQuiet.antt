@@ -1,5 +1,5 @@
 -- The items of a step are neither a store of a driver nor an offer, on a split ring.
-use Rattle.std.proofs.Common.{ℕ, ◌+◌, List, [], ◌++◌, refl, map}
+use Rattle.std.proofs.Common.{ℕ, ◌+◌, [], ◌++◌, refl, map}
 use Rattle.std.specs.Prelude.{Option, Some, None, slice_get, option_map}
 use Rattle.byteorder.specs.Endian.{little_bytes}
 use Rattle.vub_base.specs.declared.header.Header1.{Header1}

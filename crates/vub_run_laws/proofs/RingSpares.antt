@@ -34,7 +34,7 @@ note_spares : (q : ℕ) (s : Scene) (tag : Tag) (st : Store) → IsSparing q s (
 note_spares q s tag st = λ other k out. inl (λ e. omega (arith, e))
 
 -- the row of an element of a batch, if there is one
-element_spares : (q : ℕ) (h : Header1) (s : Scene) (f : ℕ × ℕ → Row) (o : Option (ℕ × ℕ)) → ((x : ℕ × ℕ) → IsSparing q s (items.Store (f x).tag M (f x).store.place (f x).store.bytes)) → BeforeEach h (IsSparing q) s ((row_items (option_map f o) ++ []) ++ [])
+element_spares : (q : ℕ) (h : Header1) (s : Scene) (f : ℕ × ℕ → Row) (o : Option (ℕ × ℕ)) → ((x : ℕ × ℕ) → IsSparing q s (items.Store (f x).tag (f x).area (f x).store.place (f x).store.bytes)) → BeforeEach h (IsSparing q) s ((row_items (option_map f o) ++ []) ++ [])
 element_spares q h s f None each = tt
 element_spares q h s f (Some x) each = (each x, tt)
 

@@ -1,13 +1,12 @@
 -- A start of a queue, step by step, on a split ring and its in-flight region.
-use Rattle.std.proofs.Common.{◌≡◌, ◌≢◌, ◌≤◌, ◌<◌, ℕ, ◌+◌, ◌*◌, Bool, true, false, List, [], ◌∷◌, length, refl, ap, sym, ◌∙◌, subst, inl, inr, arith}
-use Rattle.std.specs.Prelude.{Option, Some, None, slice_get, slice_index}
-use Rattle.std.proofs.lemmas.Bool.{cases_Bool, cases_lt, cases_eq}
+use Rattle.std.proofs.Common.{◌≡◌, ◌≤◌, ◌<◌, ℕ, ◌+◌, Bool, true, false, List, [], ◌∷◌, length, refl, ap, sym, ◌∙◌, subst, inl, inr, arith}
+use Rattle.std.specs.Prelude.{Some, slice_get}
+use Rattle.std.proofs.lemmas.Bool.{cases_lt, cases_eq}
 use Rattle.std.proofs.lemmas.Bool.Decides.{nat_tests}
 use Rattle.vub_base.specs.declared.header.Header1.{Header1}
 use Rattle.vub_base.specs.declared.store.Area.TheVariants.{I}
 use Rattle.vub_shared.specs.Bytes.{Bytes, put, word}
 use Rattle.vub_shared.proofs.BytesLemmas.{word-put_other}
-use Rattle.vub_steps.specs.declared.steps.Phase.{Phase}
 use Rattle.vub_steps.specs.declared.steps.Phase.TheVariants as phases
 use Rattle.vub_steps.specs.declared.steps.Plan.{Plan}
 use Rattle.vub_steps.specs.declared.steps.Plan.TheVariants as plans
@@ -17,8 +16,7 @@ use Rattle.vub_steps.specs.Plans.{settles, plan_of}
 use Rattle.vub_steps.specs.Rows.{row_of}
 use Rattle.vub_steps.specs.Steps.{plan_steps, after_of}
 use Rattle.vub_steps.proofs.StartLemmas.{length_new, length_settles}
-use Rattle.vub_ring.specs.Ring.{ahead, avail_idx, avail_idx_place, avail_entry_place, used_idx, used_idx_place, used_id_place, used_len_place, head_at, element_at}
-use Rattle.vub_infl_split.specs.declared.region.SplitRegion.{SplitRegion}
+use Rattle.vub_ring.specs.Ring.{ahead, avail_idx_place, avail_entry_place, used_idx_place, used_id_place, used_len_place}
 use Rattle.vub_infl_split.specs.declared.region.SplitStore.{SplitStore}
 use Rattle.vub_infl_split.specs.declared.region.SplitStore.TheVariants.{SI1, SI2, SI3, SR1, SR2}
 use Rattle.vub_infl_split.specs.Region.{RegionWords}

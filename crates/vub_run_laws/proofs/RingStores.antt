@@ -31,7 +31,7 @@ use Rattle.vub_run_laws.proofs.RunHolds.{StoresLast, StoresBefore}
 
 harmless_before : (q : ℕ) (h : Header1) (s : Scene) (v : Driver) (w : Waiting) (bell : Bool) (plan : Plan) (batch : List ℕ) (phase : Phase) (st : Store) (all left : List Store) → IsSize h.size → IsWaiting q h.size h.capacity s.past (s.heads q) v (record w { left = all })
     → IsHarmless q w.head st → IsPlan q h.size v.avail_idx w.head left → QueueFacts q h s v bell plan batch phase → StoresBefore q h s v w bell plan batch phase st left
-harmless_before q h s v w bell plan batch phase st all left size waits harmless plan x =
+harmless_before q h s v w bell plan batch phase st all left size waits harmless ready x =
     let off : OffRings q st.place st.bytes = elim harmless.lies [
       | inl low ↦ inl low.1
       | inr high ↦ inr (omega (arith, high.0))
@@ -41,8 +41,8 @@ harmless_before q h s v w bell plan batch phase st all left size waits harmless 
         | inr high ↦ other_buffer q (s.heads q) k w.head st.place st.bytes (waits.apart k out) high.0 high.1
       ];
       queue = facts_elsewhere q h s st.place st.bytes v bell plan batch phase size off x;
-      waits = record { wide = waits.wide; below = waits.below; mine = waits.mine; apart = waits.apart; plan = inl plan };
-      last = λ one. absurd (omega (arith, one, ap length plan.whole, length-append plan.first (offer_stores (the_ring q h.size) v.avail_idx w.head)));
+      waits = record { wide = waits.wide; below = waits.below; mine = waits.mine; apart = waits.apart; plan = inl ready };
+      last = λ one. absurd (omega (arith, one, ap length ready.whole, length-append ready.first (offer_stores (the_ring q h.size) v.avail_idx w.head)));
     }
 
 entry_before : (q : ℕ) (h : Header1) (s : Scene) (v : Driver) (w : Waiting) (bell : Bool) (plan : Plan) (batch : List ℕ) (phase : Phase) (all left : List Store) → IsSize h.size → Known q h.size h.capacity s.past (s.heads q) → BetweenTurns phase → IsWaiting q h.size h.capacity s.past (s.heads q) v (record w { left = all })

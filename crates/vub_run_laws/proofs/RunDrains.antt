@@ -23,7 +23,6 @@ use Rattle.vub_steps.specs.Tasks.{RequestStep, Look, Put, Act, Sync, Status, tas
 use Rattle.vub_run.specs.Turns.{course_of, is_rest, turned, phase_turn, phase_goes_on, under_way, begun, work_turn, request_turn, task_turn}
 use Rattle.vub_run_laws.proofs.RunNumbers.{filter_none}
 use Rattle.vub_run_laws.proofs.RunOwn.{at_own}
-use Rattle.vub_run_laws.proofs.RunQueue.{phase_at}
 use Rattle.vub_run_laws.proofs.RunGood.{Known}
 use Rattle.vub_run_laws.proofs.RunWork.{Fine}
 use Rattle.vub_run_laws.proofs.RunQueue.{queue_ahead}

@@ -10,7 +10,6 @@ use Rattle.vub_steps.specs.declared.steps.Plan.{Plan}
 use Rattle.vub_steps.specs.Steps.{plan_steps, start_steps}
 use Rattle.vub_facts.specs.Facts.{bells}
 use Rattle.vub_facts.proofs.FactStarts.{start_long}
-use Rattle.vub_run_laws.proofs.RunGood.{StartIs}
 use Rattle.vub_device.specs.declared.entry.Entry.{Entry}
 use Rattle.vub_device.specs.Past.{accepted, published, is_among, started}
 use Rattle.vub_device.proofs.Numbers.{is_among_append}
