@@ -29,8 +29,9 @@ use Rattle.vub_steps.specs.Steps.{plan_steps}
 use Rattle.vub_infl_split.specs.declared.region.SplitRegion.{SplitRegion}
 use Rattle.vub_infl_split.specs.Region.{RegionWords, words_of}
 use Rattle.vub_region_facts.specs.Starts.{Left}
-use Rattle.vub_facts.specs.Facts as facts
-use Rattle.vub_facts.specs.Facts.{Side, heads_in, Lies, Elsewhere, Words, words_at, NotStarted, InBatch, Facts, sight, words_after}
+use Rattle.vub_region_facts.specs.Phases.{NotStarted}
+use Rattle.vub_region_facts.specs.Starts as starts
+use Rattle.vub_facts.specs.Facts.{Side, heads_in, Lies, Elsewhere, Words, words_at, InBatch, Facts, sight, words_after}
 use Rattle.vub_facts.proofs.FactStarts.{start_long}
 use Rattle.vub_facts.proofs.FactWords.{facts_off, facts_beside, id_words, len_words}
 use Rattle.vub_facts.proofs.FactSteps.{publication_begins, step_keeps}
@@ -160,7 +161,7 @@ pub words_rest_at : (q : ℕ) (h : Header1) (s : Scene) (bell : Bool) (plan : Pl
 words_rest_at q h s bell plan batch phase rest none f = subst (λ (p : Phase). WordsAt q h s bell plan batch p) (sym rest) (subst (λ (ks : List ℕ). WordsAt q h s bell plan ks phases.Rest) (sym none) f)
 
 -- a life that is cut off in a start leaves what a life can
-start_leaves : (n used : ℕ) (heads : List ℕ) (base done : ℕ) (plan : Plan) (w : RegionWords) → facts.InStart n used heads base plan done w → Left n used heads base w
+start_leaves : (n used : ℕ) (heads : List ℕ) (base done : ℕ) (plan : Plan) (w : RegionWords) → starts.InStart n used heads base plan done w → Left n used heads base w
 start_leaves n used heads base done plans.New w x = elim (cases_lt done (length (plan_steps n plans.New))) [
   | inl more ↦ inl (x.stores more).unmade
   | inr none ↦ inr (x.settled none).sound
