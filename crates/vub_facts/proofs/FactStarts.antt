@@ -9,7 +9,7 @@ use Rattle.vub_infl_split.specs.declared.region.SplitStore.TheVariants.{SI1, SI2
 use Rattle.vub_infl_split.specs.Region.{RegionWords}
 use Rattle.vub_infl_split.specs.Stores.{words_after}
 use Rattle.vub_region_facts.specs.Starts.{Left, InNew}
-use Rattle.vub_region_facts.proofs.StartLemmas.{new_begins, new_features, new_frees, new_makes, settling_begins, settled_at_once, settling_clears, settling_notes}
+use Rattle.vub_region_facts.proofs.StartLemmas.{start_begins as region_start_begins, new_begins, new_features, new_frees, new_makes, settling_begins, settled_at_once, settling_clears, settling_notes}
 use Rattle.vub_steps.specs.declared.steps.Phase.{Phase}
 use Rattle.vub_steps.specs.declared.steps.Phase.TheVariants as phases
 use Rattle.vub_steps.specs.declared.steps.Plan.{Plan}
@@ -19,7 +19,9 @@ use Rattle.vub_steps.specs.declared.steps.Step.TheVariants as steps
 use Rattle.vub_steps.specs.Plans.{settles, plan_of}
 use Rattle.vub_steps.specs.Steps.{free_steps, settle_steps, plan_steps, bell_steps, start_steps, done_of, at_step, next_of, after_of}
 use Rattle.vub_steps.proofs.StartLemmas.{before, behind, first_behind, free_at, length_free, settle_at, length_settle, length_new, length_settles}
-use Rattle.vub_facts.specs.Facts.{Side, Words, InStart, NotStarted, Facts, IsStarting, bells, IsDue, side_after}
+use Rattle.vub_region_facts.specs.Starts.{InStart}
+use Rattle.vub_region_facts.specs.Phases.{NotStarted}
+use Rattle.vub_facts.specs.Facts.{Side, Words, Facts, IsStarting, bells, IsDue, side_after}
 
 -- a queue isn't both started and not
 pub runs_on : {A : Type 0} (started : Bool) → started ≡ true → started ≡ false → A
@@ -27,27 +29,10 @@ runs_on started on off = absurd (let fails : true ≡ false = sym on ∙ off in 
 
 -- ---- it begins
 
-begins : (n used : ℕ) (heads : List ℕ) (base : ℕ) (w : RegionWords) → used < 65536 → Left n used heads base w → InStart n used heads base (plan_of used w) 0 w
-begins n used heads base w fits (inl u) =
-    let version : w.version ≡ 0 = u.version in
-    let plan : plans.New ≡ plan_of used w = grind (arith, nat_tests) in
-    subst (λ (p : Plan). InStart n used heads base p 0 w) plan (record { stores = λ more. new_begins n used heads base w u; settled = λ none. absurd (omega (arith, none, length_new n)) })
-begins n used heads base w fits (inr s) =
-    let version : w.version ≡ 1 = s.version in
-    let made : settles (ahead used w.used_idx) ≡ plan_of used w = grind (arith, nat_tests) in
-    elim (cases_eq (ahead used w.used_idx) 0) [
-      | inl none ↦
-          let plan : plans.Settled ≡ plan_of used w = grind (arith, nat_tests) in
-          subst (λ (p : Plan). InStart n used heads base p 0 w) plan (record { stores = λ more. absurd (omega (arith, more)); settled = λ all. settled_at_once n used heads w fits none s })
-      | inr some ↦
-          let plan : plans.Settles (ahead used w.used_idx) ≡ plan_of used w = grind (arith, nat_tests) in
-          subst (λ (p : Plan). InStart n used heads base p 0 w) plan (record { stores = λ more. settling_begins n used heads w s; settled = λ none. absurd (omega (arith, none, length_settles n (ahead used w.used_idx))) })
-    ]
-
 pub start_begins : (n : ℕ) (heads : List ℕ) (base : ℕ) (x : Side) (w : Words) → x.started ≡ false → x.batch ≡ [] → x.phase ≡ phases.Rest → Facts n heads base x w → Facts n heads base (record x { phase = phases.Start 0; plan = plan_of w.ring.used w.region }) w
 start_begins n heads base x w off none rest f = record {
   used_fits = f.used_fits;
-  not_started = λ stopped. begins n w.ring.used heads base w.region f.used_fits (subst (λ (p : Phase). NotStarted n w.ring.used heads base x.plan p w.region) rest (f.not_started off));
+  not_started = λ stopped. region_start_begins n w.ring.used heads base w.region f.used_fits (subst (λ (p : Phase). NotStarted n w.ring.used heads base x.plan p w.region) rest (f.not_started off));
   batch = none;
 }
 

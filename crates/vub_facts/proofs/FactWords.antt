@@ -36,7 +36,9 @@ use Rattle.vub_steps.specs.declared.steps.Step.TheVariants as steps
 use Rattle.vub_steps.specs.Steps.{done_of}
 use Rattle.vub_steps.specs.Rows.{Row, Sight, row, row_of}
 use Rattle.vub_steps.proofs.StartLemmas.{length_settles}
-use Rattle.vub_facts.specs.Facts.{Side, Lies, Elsewhere, Words, words_at, InStart, NotStarted, Facts, IsDue, with_element, with_stored, words_after, sight, after_row, ElementsFit}
+use Rattle.vub_region_facts.specs.Starts.{InStart}
+use Rattle.vub_region_facts.specs.Phases.{NotStarted}
+use Rattle.vub_facts.specs.Facts.{Side, Lies, Elsewhere, Words, words_at, Facts, IsDue, with_element, with_stored, words_after, sight, after_row, ElementsFit}
 use Rattle.vub_facts.proofs.FactSteps.{avail_changes}
 
 -- ---- a store of another queue, or of a request at work

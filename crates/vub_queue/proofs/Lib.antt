@@ -1,4 +1,5 @@
 pub mod QueueLemmas
 pub mod LyingLemmas
 pub mod StableLemmas
+pub mod StartLemmas
 pub mod TaskLemmas

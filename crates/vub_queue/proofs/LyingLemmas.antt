@@ -7,15 +7,18 @@ use Rattle.vub_split.specs.declared.split.SplitRing.{SplitRing}
 use Rattle.vub_steps.specs.declared.steps.Phase.{Phase}
 use Rattle.vub_steps.specs.declared.steps.Phase.TheVariants.{Rest, Start, Fetch, Publish}
 use Rattle.vub_steps.specs.Rows.{Row}
-use Rattle.vub_steps.specs.Steps.{after_step}
+use Rattle.vub_steps.specs.Steps.{after_of}
 use Rattle.vub_steps.specs.Readiness.{is_publication}
 use Rattle.vub_task.specs.declared.task.Task.{Task}
 use Rattle.vub_task.specs.declared.task.TaskStep as made
 use Rattle.vub_task.specs.declared.task.TaskStep.TheVariants as answers
 use Rattle.vub_task.specs.TaskState.{TaskLies, fresh_task, head_in, IfFaulted, OwesFailure}
+use Rattle.vub_rec_split.specs.Starts.{RecoveryState, StartLies, SameQueue}
+use Rattle.vub_rec_split.proofs.LoadLemmas.{lies_on}
+use Rattle.vub_queue.specs.declared.queue.QueueSetup.{QueueSetup}
 use Rattle.vub_queue.specs.declared.queue.Stepped.{Stepped}
 use Rattle.vub_queue.specs.declared.queue.Stepped.TheVariants as says
-use Rattle.vub_queue.specs.QueueState.{QueueState, course_in, TaskFits, TasksFit, QueueLies, KeepsLying, Moves, moved, begun, under_way, with_phase, accepted, worked, concluded, halted, said, OwesAt, Owes, disk_outcome}
+use Rattle.vub_queue.specs.QueueState.{QueueState, new_recovery, steps_in, TaskFits, TasksFit, QueueLies, KeepsLying, Moves, moved, begun, under_way, with_phase, accepted, worked, concluded, halted, said, OwesAt, Owes, disk_outcome}
 
 pub lies_with : (old new : ℕ → ℕ) (before after : ℕ) (s : QueueState) → ((x : ℕ) → new x ≡ old x) → after ≡ before → QueueLies old before s → QueueLies new after s
 lies_with old new before after s sizes capacity h =
@@ -53,23 +56,36 @@ task_with old new before after task sizes capacity h =
     let equal : new ≡ old = fun_ext sizes in
     subst (λ (k : ℕ). TaskLies old k task) capacity (subst (λ (f : ℕ → ℕ). TaskLies f after task) equal h)
 
--- another state with the same ring and the same tasks
-pub same_tasks : (s t : QueueState) → t.ring ≡ s.ring → t.unfinished ≡ s.unfinished → KeepsLying s t
-same_tasks s t ring tasks sizes capacity h = record {
+-- another state with the same ring, region and tasks
+pub lies_started : (s t : QueueState) → SameQueue s.recovery t.recovery → t.ring ≡ s.ring → t.unfinished ≡ s.unfinished → KeepsLying s t
+lies_started s t same ring tasks sizes capacity h = record {
   ring = subst (RingLies sizes) (sym ring) h.ring;
+  start = lies_on sizes sizes s.recovery t.recovery (λ i. refl) same h.start;
+  same_ring = same.ring ∙ h.same_ring ∙ sym ring;
   tasks = subst (λ (r : SplitRing). TasksFit sizes capacity r t.unfinished) (sym ring) (subst (TasksFit sizes capacity s.ring) (sym tasks) h.tasks);
+}
+
+-- a queue that was set up
+pub lies_new : (sizes : ℕ → ℕ) (capacity : ℕ) (setup : QueueSetup) (s : QueueState) → s.ring ≡ setup.ring → s.recovery ≡ new_recovery setup → s.unfinished ≡ [] → StartLies sizes (new_recovery setup) → QueueLies sizes capacity s
+lies_new sizes capacity setup s ring recovery tasks h = record {
+  ring = subst (RingLies sizes) (sym ring) h.ring;
+  start = subst (StartLies sizes) (sym recovery) h;
+  same_ring = ap (λ (k : RecoveryState). k.ring) recovery ∙ sym ring;
+  tasks = subst (TasksFit sizes capacity s.ring) (sym tasks) tt;
 }
 
 pub lies_accepted : (head : ℕ) (s t : QueueState) → head < s.ring.size → t ≡ accepted head s → KeepsLying s t
 lies_accepted head s t below is sizes capacity h =
     subst (QueueLies sizes capacity) (sym is) (record {
       ring = h.ring;
+      start = h.start;
+      same_ring = h.same_ring;
       tasks = fit_append sizes capacity s.ring s.unfinished (fresh_task head ∷ []) h.tasks ((tt, below), tt);
     })
 
 pub lies_worked : (sizes : ℕ → ℕ) (capacity place : ℕ) (task : Task) (sector : List ℕ) (s t : QueueState) → TaskFits sizes capacity s.ring task → t ≡ worked place task sector s → QueueLies sizes capacity s → QueueLies sizes capacity t
 lies_worked sizes capacity place task sector s t fits is h =
-    subst (QueueLies sizes capacity) (sym is) (record { ring = h.ring; tasks = fit_set sizes capacity s.ring s.unfinished place task fits h.tasks })
+    subst (QueueLies sizes capacity) (sym is) (record { ring = h.ring; start = h.start; same_ring = h.same_ring; tasks = fit_set sizes capacity s.ring s.unfinished place task fits h.tasks })
 
 concluded_lies : (place head : ℕ) (step : made.TaskStep) (s : QueueState) → KeepsLying s (concluded place head step s)
 concluded_lies place head (answers.Stored tag) s sizes capacity h = h
@@ -79,7 +95,7 @@ concluded_lies place head answers.Synced s sizes capacity h = h
 concluded_lies place head answers.Faulted s sizes capacity h = h
 concluded_lies place head (answers.Broken fault) s sizes capacity h = h
 concluded_lies place head answers.Failed s sizes capacity h = h
-concluded_lies place head (answers.Done status len) s sizes capacity h = record { ring = h.ring; tasks = fit_append sizes capacity s.ring (take place s.unfinished) (drop (suc place) s.unfinished) (fit_take sizes capacity s.ring place s.unfinished h.tasks) (fit_drop sizes capacity s.ring (suc place) s.unfinished h.tasks) }
+concluded_lies place head (answers.Done status len) s sizes capacity h = record { ring = h.ring; start = h.start; same_ring = h.same_ring; tasks = fit_append sizes capacity s.ring (take place s.unfinished) (drop (suc place) s.unfinished) (fit_take sizes capacity s.ring place s.unfinished h.tasks) (fit_drop sizes capacity s.ring (suc place) s.unfinished h.tasks) }
 
 pub lies_concluded : (place head : ℕ) (step : made.TaskStep) (s t : QueueState) → t ≡ concluded place head step s → KeepsLying s t
 lies_concluded place head step s t is sizes capacity h = subst (QueueLies sizes capacity) (sym is) (concluded_lies place head step s sizes capacity h)
@@ -94,9 +110,12 @@ halted_lies (says.Synced head) s sizes capacity h = h
 halted_lies (says.Faulted head) s sizes capacity h = h
 halted_lies (says.Completed head) s sizes capacity h = h
 halted_lies says.Published s sizes capacity h = h
+halted_lies says.Belled s sizes capacity h = h
 halted_lies says.Started s sizes capacity h = h
-halted_lies says.SharedFault s sizes capacity h = record { ring = h.ring; tasks = h.tasks }
-halted_lies (says.Broken fault) s sizes capacity h = record { ring = h.ring; tasks = h.tasks }
+halted_lies says.SharedFault s sizes capacity h = record { ring = h.ring; start = h.start; same_ring = h.same_ring; tasks = h.tasks }
+halted_lies (says.Broken fault) s sizes capacity h = record { ring = h.ring; start = h.start; same_ring = h.same_ring; tasks = h.tasks }
+halted_lies (says.Damaged fault) s sizes capacity h = record { ring = h.ring; start = h.start; same_ring = h.same_ring; tasks = h.tasks }
+halted_lies says.BellFault s sizes capacity h = record { ring = h.ring; start = h.start; same_ring = h.same_ring; tasks = h.tasks }
 
 pub lies_halted : (x : Stepped) (s t : QueueState) → t ≡ halted x s → KeepsLying s t
 lies_halted x s t is sizes capacity h = subst (QueueLies sizes capacity) (sym is) (halted_lies x s sizes capacity h)
@@ -139,7 +158,10 @@ owes_nothing (says.Synced head) t h = tt
 owes_nothing (says.Faulted head) t h = absurd (cc h)
 owes_nothing (says.Completed head) t h = tt
 owes_nothing says.Published t h = tt
+owes_nothing says.Belled t h = tt
 owes_nothing says.Started t h = tt
+owes_nothing says.BellFault t h = tt
+owes_nothing (says.Damaged fault) t h = tt
 owes_nothing says.SharedFault t h = tt
 owes_nothing (says.Broken fault) t h = tt
 
@@ -153,20 +175,23 @@ owes_halted (says.Synced head) u t h is = tt
 owes_halted (says.Faulted head) u t h is = subst (Owes (says.Faulted head)) (sym is) h
 owes_halted (says.Completed head) u t h is = tt
 owes_halted says.Published u t h is = tt
+owes_halted says.Belled u t h is = tt
 owes_halted says.Started u t h is = tt
+owes_halted says.BellFault u t h is = tt
+owes_halted (says.Damaged fault) u t h is = tt
 owes_halted says.SharedFault u t h is = tt
 owes_halted (says.Broken fault) u t h is = tt
 
 -- ---- a publication
 
 phase_tasks : (p : Phase) (s : QueueState) → KeepsLying s (with_phase p s)
-phase_tasks Rest s sizes capacity h = record { ring = h.ring; tasks = h.tasks }
-phase_tasks (Start k) s sizes capacity h = record { ring = h.ring; tasks = h.tasks }
-phase_tasks (Fetch k) s sizes capacity h = record { ring = h.ring; tasks = h.tasks }
-phase_tasks (Publish k) s sizes capacity h = record { ring = h.ring; tasks = h.tasks }
+phase_tasks Rest s sizes capacity h = record { ring = h.ring; start = h.start; same_ring = h.same_ring; tasks = h.tasks }
+phase_tasks (Start k) s sizes capacity h = record { ring = h.ring; start = h.start; same_ring = h.same_ring; tasks = h.tasks }
+phase_tasks (Fetch k) s sizes capacity h = record { ring = h.ring; start = h.start; same_ring = h.same_ring; tasks = h.tasks }
+phase_tasks (Publish k) s sizes capacity h = record { ring = h.ring; start = h.start; same_ring = h.same_ring; tasks = h.tasks }
 
 moved_lies : (s t : QueueState) → t ≡ moved s → KeepsLying s t
-moved_lies s t is sizes capacity h = subst (QueueLies sizes capacity) (sym is) (phase_tasks (after_step (course_in s) s.phase) s sizes capacity h)
+moved_lies s t is sizes capacity h = subst (QueueLies sizes capacity) (sym is) (phase_tasks (after_of (steps_in s) s.phase) s sizes capacity h)
 
 pub moves_lies : (x : Stepped) (o : Option Row) (s t : QueueState) → Moves x o s t → KeepsLying s t
 moves_lies (says.Stored tag) (Some y) s t h = moved_lies s t h.1
@@ -181,13 +206,16 @@ moves_lies (says.Synced head) o s t h = absurd h
 moves_lies (says.Faulted head) o s t h = absurd h
 moves_lies (says.Completed head) o s t h = absurd h
 moves_lies says.Published None s t h = absurd h
+moves_lies says.Belled o s t h = absurd h
 moves_lies says.Started o s t h = absurd h
+moves_lies says.BellFault o s t h = absurd h
+moves_lies (says.Damaged fault) o s t h = absurd h
 moves_lies says.SharedFault None s t h = absurd h
 moves_lies (says.Broken fault) o s t h = absurd h
 
 under_way_by : (t : Bool) (most : ℕ) (s : QueueState) → KeepsLying s (if t then s else begun most s)
 under_way_by true most s sizes capacity h = h
-under_way_by false most s sizes capacity h = record { ring = h.ring; tasks = h.tasks }
+under_way_by false most s sizes capacity h = record { ring = h.ring; start = h.start; same_ring = h.same_ring; tasks = h.tasks }
 
 pub under_way_lies : (most : ℕ) (s t : QueueState) → t ≡ under_way most s → KeepsLying s t
 under_way_lies most s t is sizes capacity h = subst (QueueLies sizes capacity) (sym is) (under_way_by (is_publication s.phase) most s sizes capacity h)

@@ -10,14 +10,13 @@ use Rattle.vub_base.specs.declared.store.Tag.TheVariants.{SP1, SP2, SP5}
 use Rattle.vub_base.specs.Told.{WhereTold}
 use Rattle.vub_shared.specs.Bytes.{Bytes}
 use Rattle.vub_shared.specs.Stores.{Store, Stores, Trails}
-use Rattle.vub_steps.specs.declared.steps.Course.{Course}
 use Rattle.vub_steps.specs.declared.steps.Phase.{Phase}
 use Rattle.vub_steps.specs.declared.steps.Phase.TheVariants.{Rest, Start, Fetch, Publish}
 use Rattle.vub_steps.specs.declared.steps.Step.{Step}
 use Rattle.vub_steps.specs.declared.steps.Step.TheVariants.{Id, Len, Index}
 use Rattle.vub_ring.specs.Ring.{used_idx_place, used_id_place, used_len_place}
 use Rattle.vub_steps.specs.Rows.{Row, row}
-use Rattle.vub_steps.specs.Steps.{element_steps, publish_steps, next_step, after_step}
+use Rattle.vub_steps.specs.Steps.{element_steps, publish_steps, running_steps, next_of, after_of}
 use Rattle.vub_steps.specs.Readiness.{is_publication, is_fetch}
 use Rattle.vub_task.specs.declared.task.Task.{Task}
 use Rattle.vub_task.specs.declared.task.TaskStep as made
@@ -29,7 +28,7 @@ use Rattle.vub_queue.specs.declared.queue.Stepped.{Stepped}
 use Rattle.vub_queue.specs.declared.queue.Stepped.TheVariants as says
 use Rattle.vub_queue.specs.QueueParts.{element, is_taken, taken_count, without_heads, heads_below, phase_fits}
 use Rattle.vub_split.specs.Split.{used_side}
-use Rattle.vub_queue.specs.QueueState.{QueueState, state_of, course_in, row_at, next_row, Moves, StoresRow, TrailsRow, outcome, publishes, Unless, worked, done_at, Works, StepsAt, StepsOut, WorksOut, IfStepped, Advances, concluded, said, sector_at, IsDue, Rests, halted}
+use Rattle.vub_queue.specs.QueueState.{QueueState, state_of, steps_in, row_at, next_row, Moves, StoresRow, TrailsRow, outcome, publishes, Unless, worked, done_at, Works, StepsAt, StepsOut, WorksOut, IfStepped, Advances, concluded, said, sector_at, IsDue, Rests, halted}
 use Rattle.vub_task.specs.TaskState.{Making, IfMade, HasMade, LooksAt, answer_in, answer_to, memory_after, values_after, store_in, with_maybe, head_in}
 use Rattle.vub_steps.specs.Tasks as Tasks
 use Rattle.vub_task.proofs.ArmLemmas.{next_still}
@@ -111,8 +110,8 @@ length_batch n xs few = length-map (take n xs) element ∙ length-take-le n xs f
 pub count_is : (q : Queue) → length (state_of q).batch ≡ q.batch
 count_is q = length_batch q.batch q.completed.items (omega (arith, q.batched))
 
-pub course_fits : (q : Queue) → phase_fits q.phase (course_in (state_of q)).batch q.started ≡ true
-course_fits q = ap (λ (n : ℕ). phase_fits q.phase n q.started) (count_is q) ∙ q.fits
+pub batch_fits : (q : Queue) → phase_fits q.phase (length (state_of q).batch) q.started ≡ true
+batch_fits q = ap (λ (n : ℕ). phase_fits q.phase n q.started) (count_is q) ∙ q.fits
 
 -- the first elements, at most so many
 pub first_elements : (xs : List Completed) (n most : ℕ) → n ≡ min most (length xs) → map element (take n xs) ≡ take most (map element xs)
@@ -159,41 +158,41 @@ index_steps e (suc count) (suc zero) is = grind arith
 index_steps e (suc count) (suc (suc i)) is = omega (arith, index_steps (e + 1) count i is)
 
 -- the phase goes on before the last step
-goes_on : (c : Course) (done : ℕ) → done < 2 * c.batch → is_publication (after_step c (Publish done)) ≡ true
-goes_on c done early =
-    let more : nat_lt (done + 1) (length (publish_steps c.batch)) ≡ true = grind (arith, nat_tests, length_publish c.batch) in
+goes_on : (n : ℕ) (done : ℕ) → done < 2 * n → is_publication (after_of (publish_steps n) (Publish done)) ≡ true
+goes_on n done early =
+    let more : nat_lt (done + 1) (length (publish_steps n)) ≡ true = grind (arith, nat_tests, length_publish n) in
     ap (λ (t : Bool). is_publication (if t then Publish (done + 1) else Rest)) more
 
-pub id_within : (c : Course) (p : Phase) (e : ℕ) → next_step c p ≡ Some (Id e) → (e < c.batch) × (is_publication (after_step c p) ≡ true)
-id_within c Rest e is = grind arith
-id_within c (Start zero) e is = grind arith
-id_within c (Start (suc done)) e is = grind arith
-id_within c (Fetch zero) e is = grind arith
-id_within c (Fetch (suc done)) e is = grind arith
-id_within c (Publish done) e is =
-    let h : (e < 0 + c.batch) × (done < 2 * c.batch) = id_steps 0 c.batch done e is in
-    (omega (arith, h.0), goes_on c done h.1)
+pub id_within : (n : ℕ) (p : Phase) (e : ℕ) → next_of (running_steps n p) p ≡ Some (Id e) → (e < n) × (is_publication (after_of (running_steps n p) p) ≡ true)
+id_within n Rest e is = grind arith
+id_within n (Start zero) e is = grind arith
+id_within n (Start (suc done)) e is = grind arith
+id_within n (Fetch zero) e is = grind arith
+id_within n (Fetch (suc done)) e is = grind arith
+id_within n (Publish done) e is =
+    let h : (e < 0 + n) × (done < 2 * n) = id_steps 0 n done e is in
+    (omega (arith, h.0), goes_on n done h.1)
 
-pub len_within : (c : Course) (p : Phase) (e : ℕ) → next_step c p ≡ Some (Len e) → (e < c.batch) × (is_publication (after_step c p) ≡ true)
-len_within c Rest e is = grind arith
-len_within c (Start zero) e is = grind arith
-len_within c (Start (suc done)) e is = grind arith
-len_within c (Fetch zero) e is = grind arith
-len_within c (Fetch (suc done)) e is = grind arith
-len_within c (Publish done) e is =
-    let h : (e < 0 + c.batch) × (done < 2 * c.batch) = len_steps 0 c.batch done e is in
-    (omega (arith, h.0), goes_on c done h.1)
+pub len_within : (n : ℕ) (p : Phase) (e : ℕ) → next_of (running_steps n p) p ≡ Some (Len e) → (e < n) × (is_publication (after_of (running_steps n p) p) ≡ true)
+len_within n Rest e is = grind arith
+len_within n (Start zero) e is = grind arith
+len_within n (Start (suc done)) e is = grind arith
+len_within n (Fetch zero) e is = grind arith
+len_within n (Fetch (suc done)) e is = grind arith
+len_within n (Publish done) e is =
+    let h : (e < 0 + n) × (done < 2 * n) = len_steps 0 n done e is in
+    (omega (arith, h.0), goes_on n done h.1)
 
 -- the last step ends the phase
-pub index_ends : (c : Course) (p : Phase) → next_step c p ≡ Some Index → after_step c p ≡ Rest
-index_ends c Rest is = grind arith
-index_ends c (Start zero) is = grind arith
-index_ends c (Start (suc done)) is = grind arith
-index_ends c (Fetch zero) is = grind arith
-index_ends c (Fetch (suc done)) is = grind arith
-index_ends c (Publish done) is =
-    let last : done ≡ 2 * c.batch = index_steps 0 c.batch done is in
-    let ends : nat_lt (done + 1) (length (publish_steps c.batch)) ≡ false = grind (arith, nat_tests, length_publish c.batch) in
+pub index_ends : (n : ℕ) (p : Phase) → next_of (running_steps n p) p ≡ Some Index → after_of (running_steps n p) p ≡ Rest
+index_ends n Rest is = grind arith
+index_ends n (Start zero) is = grind arith
+index_ends n (Start (suc done)) is = grind arith
+index_ends n (Fetch zero) is = grind arith
+index_ends n (Fetch (suc done)) is = grind arith
+index_ends n (Publish done) is =
+    let last : done ≡ 2 * n = index_steps 0 n done is in
+    let ends : nat_lt (done + 1) (length (publish_steps n)) ≡ false = grind (arith, nat_tests, length_publish n) in
     ap (λ (t : Bool). if t then Publish (done + 1) else Rest) ends
 
 -- a publication that goes on is within its steps
@@ -203,11 +202,11 @@ fits_if true done n started is more goes =
     ap (λ (t : Bool). t && started) within ∙ is
 fits_if false done n started is more goes = grind arith
 
-pub fits_after : (p : Phase) (c : Course) (started : Bool) → started ≡ true → phase_fits p c.batch started ≡ true → is_publication (after_step c p) ≡ true → phase_fits (after_step c p) c.batch started ≡ true
-fits_after Rest c started is fits goes = grind arith
-fits_after (Start done) c started is fits goes = grind arith
-fits_after (Fetch done) c started is fits goes = grind arith
-fits_after (Publish done) c started is fits goes = fits_if (nat_lt (done + 1) (length (publish_steps c.batch))) done c.batch started is refl goes
+pub fits_after : (p : Phase) (n : ℕ) (started : Bool) → started ≡ true → phase_fits p n started ≡ true → is_publication (after_of (running_steps n p) p) ≡ true → phase_fits (after_of (running_steps n p) p) n started ≡ true
+fits_after Rest n started is fits goes = grind arith
+fits_after (Start done) n started is fits goes = grind arith
+fits_after (Fetch done) n started is fits goes = grind arith
+fits_after (Publish done) n started is fits goes = fits_if (nat_lt (done + 1) (length (publish_steps n))) done n started is refl goes
 
 abbrev pub makes_store : Step → Bool
 makes_store (Id e) = true
@@ -228,13 +227,13 @@ steps_store e (suc count) (suc zero) within = refl
 steps_store e (suc count) (suc (suc i)) within = steps_store (e + 1) count i (omega arith)
 
 -- each step of a publication makes a store
-pub publication_stores : (p : Phase) (c : Course) (started : Bool) → phase_fits p c.batch started ≡ true → is_publication p ≡ true → is_store (next_step c p) ≡ true
-publication_stores Rest c started fits goes = grind arith
-publication_stores (Start done) c started fits goes = grind arith
-publication_stores (Fetch done) c started fits goes = grind arith
-publication_stores (Publish done) c started fits goes =
-    let within : nat_le done (2 * c.batch) ≡ true = both_first (nat_le done (2 * c.batch)) started fits in
-    steps_store 0 c.batch done (grind (arith, nat_tests))
+pub publication_stores : (p : Phase) (n : ℕ) (started : Bool) → phase_fits p n started ≡ true → is_publication p ≡ true → is_store (next_of (running_steps n p) p) ≡ true
+publication_stores Rest n started fits goes = grind arith
+publication_stores (Start done) n started fits goes = grind arith
+publication_stores (Fetch done) n started fits goes = grind arith
+publication_stores (Publish done) n started fits goes =
+    let within : nat_le done (2 * n) ≡ true = both_first (nat_le done (2 * n)) started fits in
+    steps_store 0 n done (grind (arith, nat_tests))
 
 pub no_store : (o next : Option Step) → next ≡ o → is_store o ≡ false → is_store next ≡ true → ⊥
 no_store o next is none some =
@@ -243,15 +242,15 @@ no_store o next is none some =
 
 -- ---- rows
 
-pub row_of_id : (s : QueueState) (e : ℕ) (x : ℕ × ℕ) → next_step (course_in s) s.phase ≡ Some (Id e) → slice_get s.batch e ≡ Some x
+pub row_of_id : (s : QueueState) (e : ℕ) (x : ℕ × ℕ) → next_of (steps_in s) s.phase ≡ Some (Id e) → slice_get s.batch e ≡ Some x
     → next_row s ≡ Some (row (used_side s.ring) SP1 (used_id_place (used_side s.ring) (s.next_used + e)) (little_bytes 4 x.0))
 row_of_id s e x next got = ap (row_at s) next ∙ ap (option_map (λ (y : ℕ × ℕ). row (used_side s.ring) SP1 (used_id_place (used_side s.ring) (s.next_used + e)) (little_bytes 4 y.0))) got
 
-pub row_of_len : (s : QueueState) (e : ℕ) (x : ℕ × ℕ) → next_step (course_in s) s.phase ≡ Some (Len e) → slice_get s.batch e ≡ Some x
+pub row_of_len : (s : QueueState) (e : ℕ) (x : ℕ × ℕ) → next_of (steps_in s) s.phase ≡ Some (Len e) → slice_get s.batch e ≡ Some x
     → next_row s ≡ Some (row (used_side s.ring) SP2 (used_len_place (used_side s.ring) (s.next_used + e)) (little_bytes 4 x.1))
 row_of_len s e x next got = ap (row_at s) next ∙ ap (option_map (λ (y : ℕ × ℕ). row (used_side s.ring) SP2 (used_len_place (used_side s.ring) (s.next_used + e)) (little_bytes 4 y.1))) got
 
-pub row_of_index : (s : QueueState) → next_step (course_in s) s.phase ≡ Some Index
+pub row_of_index : (s : QueueState) → next_of (steps_in s) s.phase ≡ Some Index
     → next_row s ≡ Some (row (used_side s.ring) SP5 (used_idx_place (used_side s.ring)) (little_bytes 2 ((s.next_used + length s.batch) % 65536)))
 row_of_index s next = ap (row_at s) next
 
@@ -473,6 +472,9 @@ stepped_map P Q (says.Synced head) f h = f h
 stepped_map P Q (says.Faulted head) f h = h
 stepped_map P Q (says.Completed head) f h = f h
 stepped_map P Q says.Published f h = f h
+stepped_map P Q says.Belled f h = f h
 stepped_map P Q says.Started f h = f h
 stepped_map P Q says.SharedFault f h = h
 stepped_map P Q (says.Broken fault) f h = f h
+stepped_map P Q (says.Damaged fault) f h = f h
+stepped_map P Q says.BellFault f h = f h

@@ -1,6 +1,6 @@
 -- What the steps of a queue make stable: a flush alone does.
 use Rattle.std.proofs.Common.{◌≡◌, ℕ, refl, subst, sym}
-use Rattle.std.specs.Prelude.{Bool, true, false, if◌then◌else◌, Option}
+use Rattle.std.specs.Prelude.{Bool, true, false, Option}
 use Rattle.vub_shared.specs.Bytes.{Bytes}
 use Rattle.vub_disk.specs.Values.{Values}
 use Rattle.vub_steps.specs.Rows.{Row}
@@ -9,14 +9,24 @@ use Rattle.vub_task.specs.declared.task.TaskStep.TheVariants as answers
 use Rattle.vub_task.specs.TaskState as TaskState
 use Rattle.vub_queue.specs.declared.queue.Stepped.{Stepped}
 use Rattle.vub_queue.specs.declared.queue.Stepped.TheVariants as says
-use Rattle.vub_queue.specs.QueueState.{QueueState, StableAfter, Fetches, Publishes, Moves, said, started_from, next_row}
+use Rattle.vub_queue.specs.QueueState.{QueueState, StableAfter, Fetches, Publishes, Moves, said, is_starting, next_row}
 
-stable_started_by : (started : Bool) (stable values : Option Values) → StableAfter (if started then says.Idle else says.Started) stable values stable
-stable_started_by true stable values = refl
-stable_started_by false stable values = refl
-
-pub stable_started : (x : Stepped) (s : QueueState) (stable values : Option Values) → x ≡ started_from s → StableAfter x stable values stable
-stable_started x s stable values is = subst (λ (y : Stepped). StableAfter y stable values stable) (sym is) (stable_started_by s.started stable values)
+pub stable_starting : (x : Stepped) (stable values : Option Values) → is_starting x ≡ true → StableAfter x stable values stable
+stable_starting says.Idle stable values is = refl
+stable_starting (says.Stored tag) stable values is = refl
+stable_starting (says.Accepted head) stable values is = refl
+stable_starting (says.Looked head sector) stable values is = refl
+stable_starting (says.Acted head sector) stable values is = refl
+stable_starting (says.Synced head) stable values is = absurd (cc is)
+stable_starting (says.Faulted head) stable values is = refl
+stable_starting (says.Completed head) stable values is = refl
+stable_starting says.Published stable values is = refl
+stable_starting says.Belled stable values is = refl
+stable_starting says.Started stable values is = refl
+stable_starting says.SharedFault stable values is = refl
+stable_starting says.BellFault stable values is = refl
+stable_starting (says.Broken fault) stable values is = refl
+stable_starting (says.Damaged fault) stable values is = refl
 
 pub stable_fetched : (told : Option Bytes) (x : Stepped) (s t : QueueState) (stable values : Option Values) → Fetches told x s t → StableAfter x stable values stable
 stable_fetched told says.Idle s t stable values h = refl
@@ -28,7 +38,10 @@ stable_fetched told (says.Synced head) s t stable values h = absurd h
 stable_fetched told (says.Faulted head) s t stable values h = refl
 stable_fetched told (says.Completed head) s t stable values h = refl
 stable_fetched told says.Published s t stable values h = refl
+stable_fetched told says.Belled s t stable values h = refl
 stable_fetched told says.Started s t stable values h = refl
+stable_fetched told says.BellFault s t stable values h = refl
+stable_fetched told (says.Damaged fault) s t stable values h = refl
 stable_fetched told says.SharedFault s t stable values h = refl
 stable_fetched told (says.Broken fault) s t stable values h = refl
 
@@ -42,7 +55,10 @@ stable_moved (says.Synced head) o s t stable values h = absurd h
 stable_moved (says.Faulted head) o s t stable values h = refl
 stable_moved (says.Completed head) o s t stable values h = refl
 stable_moved says.Published o s t stable values h = refl
+stable_moved says.Belled o s t stable values h = refl
 stable_moved says.Started o s t stable values h = refl
+stable_moved says.BellFault o s t stable values h = refl
+stable_moved (says.Damaged fault) o s t stable values h = refl
 stable_moved says.SharedFault o s t stable values h = refl
 stable_moved (says.Broken fault) o s t stable values h = refl
 

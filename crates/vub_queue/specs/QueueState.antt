@@ -1,15 +1,15 @@
 -- The state of the device's side of one queue, and what its own steps make of it.
-use Rattle.std.specs.Prelude.{◌≡◌, ◌⊎◌, ◌<◌, ◌≤◌, ℕ, ◌+◌, ◌%◌, Bool, true, false, not, if◌then◌else◌, List, [], ◌∷◌, ◌++◌, length, map, take, drop, set, replicate, remove, slice_get, get_or, Option, Some, None, option_map, Result, Ok, Err, ⊤}
+use Rattle.std.specs.Prelude.{◌≡◌, ◌⊎◌, ◌<◌, ◌≤◌, ℕ, ◌+◌, ◌%◌, Bool, true, false, not, ◌&&◌, if◌then◌else◌, List, [], ◌∷◌, ◌++◌, length, map, take, drop, set, replicate, remove, slice_get, get_or, Option, Some, None, option_map, Result, Ok, Err, ⊤}
 use Rattle.vub_base.specs.declared.ring_fault.RingFault.{RingFault}
 use Rattle.vub_base.specs.declared.ring_fault.RingFault.TheVariants as faults
 use Rattle.vub_base.specs.declared.store.Tag.TheVariants.{SP5}
 use Rattle.vub_base.specs.Told.{WhereTold}
+use Rattle.vub_base.specs.Bells.{BellState, Rings}
 use Rattle.vub_shared.specs.Bytes.{Bytes}
 use Rattle.vub_shared.specs.Stores.{Store, Stores, Trails}
 use Rattle.vub_shared.specs.Spaces.{Names}
 use Rattle.vub_shared.specs.Frames.{KeepsSpaces}
 use Rattle.vub_disk.specs.Values.{Values}
-use Rattle.vub_steps.specs.declared.steps.Course.{Course}
 use Rattle.vub_steps.specs.declared.steps.Phase.{Phase}
 use Rattle.vub_steps.specs.declared.steps.Phase.TheVariants as phases
 use Rattle.vub_steps.specs.declared.steps.Step.{Step}
@@ -17,10 +17,16 @@ use Rattle.vub_steps.specs.declared.readiness.Standing.{Standing}
 use Rattle.vub_steps.specs.declared.readiness.Turn.{Turn}
 use Rattle.vub_steps.specs.declared.readiness.Turn.TheVariants.{Start, Fetch, Work, Publish}
 use Rattle.vub_ring.specs.Ring.{ahead}
-use Rattle.vub_steps.specs.Rows.{Row, row_of}
-use Rattle.vub_steps.specs.Steps.{next_step, after_step}
+use Rattle.vub_steps.specs.Rows.{Row, ring_row}
+use Rattle.vub_steps.specs.Steps.{running_steps, next_of, after_of}
 use Rattle.vub_steps.specs.Readiness.{is_ready, is_publication}
 use Rattle.vub_split.specs.declared.split.SplitRing.{SplitRing}
+use Rattle.vub_infl_split.specs.declared.region.SplitRegion.{SplitRegion}
+use Rattle.vub_infl_split.specs.declared.region.SplitStore.{SplitStore}
+use Rattle.vub_infl_split.specs.Stores.{store_of}
+use Rattle.vub_rec_split.specs.declared.plan.Recovered.{Recovered}
+use Rattle.vub_rec_split.specs.declared.plan.Recovered.TheVariants as recovered
+use Rattle.vub_rec_split.specs.Starts.{RecoveryState, StartLies, answer_in, due_in, state_after}
 use Rattle.vub_split.specs.Split.{RingLies, avail_idx_word, head_word, used_side}
 use Rattle.vub_task.specs.declared.task.Task.{Task}
 use Rattle.vub_task.specs.declared.task.Work.TheVariants as work
@@ -28,16 +34,25 @@ use Rattle.vub_task.specs.declared.task.TaskStep as made
 use Rattle.vub_task.specs.declared.task.TaskStep.TheVariants as answers
 use Rattle.vub_steps.specs.Tasks as Tasks
 use Rattle.vub_steps.specs.Tasks.{Status, status_of, used_len}
-use Rattle.vub_task.specs.TaskState.{Making, IsNext, IsReady, HasMade, LooksAt, GainsOne, fresh_task, answer_in, memory_after, values_after, store_in, with_maybe, head_in, is_begun, IfFaulted, TaskLies, OwesFailure, Begins, Worked}
+use Rattle.vub_task.specs.TaskState.{Making, IsNext, IsReady, HasMade, LooksAt, GainsOne, fresh_task, answer_in as task_answer, memory_after, values_after, store_in, with_maybe, head_in, is_begun, IfFaulted, TaskLies, OwesFailure, Begins, Worked}
 use Rattle.vub_queue.specs.QueueParts.{element, is_taken, without_heads}
+use Rattle.vub_queue.specs.declared.queue.NoHead.{NoHead}
+use Rattle.vub_queue.specs.declared.queue.NoHead.TheVariants as misses
 use Rattle.vub_queue.specs.declared.queue.Stop.{Stop}
 use Rattle.vub_queue.specs.declared.queue.Stop.TheVariants as stops
 use Rattle.vub_queue.specs.declared.queue.Stepped.{Stepped}
 use Rattle.vub_queue.specs.declared.queue.Stepped.TheVariants as says
+use Rattle.vub_queue.specs.declared.queue.QueueSetup.{QueueSetup}
 use Rattle.vub_queue.specs.declared.queue.Queue.{Queue}
 
 pub record QueueState : Type 0 where
+  pub index : ℕ
   pub ring : SplitRing
+  -- whether the driver is told of what was published, and whether the bell of its start was rung
+  pub bell : Bool
+  pub rung : Bool
+  -- its start over its in-flight region
+  pub recovery : RecoveryState
   pub started : Bool
   pub stopped : Option Stop
   -- the index of the avail entry that is fetched next
@@ -58,7 +73,11 @@ pub record QueueState : Type 0 where
 
 abbrev pub state_of : Queue → QueueState
 state_of q = record {
+  index = q.index;
   ring = q.ring;
+  bell = q.bell;
+  rung = q.rung;
+  recovery = q.recovery;
   started = q.started;
   stopped = q.stopped;
   next_avail = q.next_avail;
@@ -71,26 +90,34 @@ state_of q = record {
   sectors = q.sectors.items;
 }
 
--- a queue that isn't started, whose rings begin at this index; nothing is said of its sectors
-abbrev pub new_state : SplitRing → ℕ → List (List ℕ) → QueueState
-new_state ring base sectors = record {
-  ring = ring;
+-- a start that hasn't begun
+abbrev pub new_recovery : QueueSetup → RecoveryState
+new_recovery setup = record { ring = setup.ring; region = setup.region; base = setup.base; plan = None; done = 0; cleared = None }
+
+-- a queue that isn't started, as it is set up; nothing is said of its sectors
+abbrev pub new_state : QueueSetup → List (List ℕ) → QueueState
+new_state setup sectors = record {
+  index = setup.index;
+  ring = setup.ring;
+  bell = setup.bell;
+  rung = false;
+  recovery = new_recovery setup;
   started = false;
   stopped = None;
-  next_avail = base;
-  next_used = base;
+  next_avail = setup.base;
+  next_used = setup.base;
   unfinished = [];
   completed = [];
   batch = [];
   phase = phases.Rest;
-  taken = replicate ring.size false;
+  taken = replicate setup.ring.size false;
   sectors = sectors;
 }
 
-pub record IsNew (ring : SplitRing) (base : ℕ) (s : QueueState) : Type 0 where
+pub record IsNew (setup : QueueSetup) (s : QueueState) : Type 0 where
   pub sectors : List (List ℕ)
-  pub is : s ≡ new_state ring base sectors
-  pub buffers : length sectors ≡ ring.size
+  pub is : s ≡ new_state setup sectors
+  pub buffers : length sectors ≡ setup.ring.size
 
 -- ---- where a queue lies
 
@@ -102,9 +129,11 @@ abbrev pub TasksFit : (ℕ → ℕ) → ℕ → SplitRing → List Task → Type
 TasksFit sizes capacity r [] = ⊤
 TasksFit sizes capacity r (task ∷ tasks) = TaskFits sizes capacity r task × TasksFit sizes capacity r tasks
 
--- its ring lies in its space, and so do the tasks of the requests that aren't completed
+-- its ring and its in-flight region lie in their spaces, and so do the tasks of the requests that aren't completed
 pub record QueueLies (sizes : ℕ → ℕ) (capacity : ℕ) (s : QueueState) : Type 0 where
   pub ring : RingLies sizes s.ring
+  pub start : StartLies sizes s.recovery
+  pub same_ring : s.recovery.ring ≡ s.ring
   pub tasks : TasksFit sizes capacity s.ring s.unfinished
 
 -- what lies before lies after
@@ -121,10 +150,99 @@ waiting s m = ahead (avail_idx_word s.ring m) s.next_avail
 abbrev pub standing_at : QueueState → ℕ → Standing
 standing_at s waiting = record { started = s.started; phase = s.phase; waiting = waiting; unfinished = length s.unfinished; completed = length s.completed }
 
+-- whether the shared memory failed in a turn
+abbrev pub outcome : Stepped → Result (Unit {0}) (Unit {0})
+outcome says.SharedFault = Err tt
+outcome x = Ok tt
+
 -- ---- the start
 
-abbrev pub started_from : QueueState → Stepped
-started_from s = if s.started then says.Idle else says.Started
+-- whether a bell is left to ring
+abbrev pub rings_next : QueueState → Bool
+rings_next s = s.bell && not s.rung
+
+-- what a start says, where its recovery answers so: once no store is left, it rings or is made
+abbrev pub start_said : Bool → Recovered → Stepped
+start_said rings (recovered.Stored tag) = says.Stored tag
+start_said rings recovered.Done = if rings then says.Belled else says.Started
+start_said rings (recovered.Damaged fault) = says.Damaged fault
+start_said rings recovered.Failed = says.SharedFault
+
+-- the bell was rung, or the queue is started
+abbrev pub ended : Bool → QueueState → QueueState
+ended rings s = if rings then record s { rung = true } else record s { started = true }
+
+abbrev pub start_state : Recovered → QueueState → QueueState
+start_state recovered.Done s = ended (rings_next s) s
+start_state answer s = s
+
+-- the end of a start rings, or starts the queue; a bell that failed leaves all
+abbrev pub Ends : Stepped → QueueState → QueueState → Type 0
+Ends says.BellFault s t = t ≡ s
+Ends x s t = (x ≡ start_said (rings_next s) recovered.Done) × (t ≡ ended (rings_next s) s)
+
+-- whether a start says this
+abbrev pub is_starting : Stepped → Bool
+is_starting says.Idle = true
+is_starting (says.Stored tag) = true
+is_starting says.Belled = true
+is_starting says.Started = true
+is_starting says.SharedFault = true
+is_starting says.BellFault = true
+is_starting (says.Damaged fault) = true
+is_starting x = false
+
+-- the queue after the next step of its start, where its recovery answers so and is then this one
+abbrev pub start_after : Recovered → RecoveryState → QueueState → QueueState
+start_after answer recovery s = start_state answer (record s { recovery = recovery })
+
+abbrev pub StartsIf : Bool → Option Bytes → Stepped → QueueState → QueueState → Type 0
+StartsIf true told x s t = (x ≡ says.Idle) × (t ≡ s)
+StartsIf false told x s t = WhereTold told (λ m. (x ≡ start_said (rings_next s) (answer_in s.recovery m)) × (t ≡ start_after (answer_in s.recovery m) (state_after s.recovery m) s))
+
+-- what a step of a start says, and the queue before and after it: it makes the next store of its recovery; once none is left it
+-- rings the bell of a queue that has one, and then the queue is started
+abbrev pub Starts : Option Bytes → Stepped → QueueState → QueueState → Type 0
+Starts told x s t = StartsIf s.started told x s t
+
+-- the store that is due in a start, if one is left
+abbrev pub start_due : QueueState → Bytes → Option SplitStore
+start_due s m = if s.started then None else due_in s.recovery m
+
+-- the told bytes, and the told list of stores, before and after it
+abbrev pub StoresStep : Option Bytes → Option Bytes → Stepped → SplitRegion → Option SplitStore → Type 0
+StoresStep before after x region None = after ≡ before
+StoresStep before after x region (Some step) = Stores before after (outcome x) (store_of region step)
+
+abbrev pub TrailsStep : Option (List Store) → Option (List Store) → Stepped → SplitRegion → Option SplitStore → Type 0
+TrailsStep before after x region None = after ≡ before
+TrailsStep before after x region (Some step) = Trails before after (outcome x) (store_of region step)
+
+abbrev pub StoresStart : Option Bytes → Option Bytes → Stepped → QueueState → Type 0
+StoresStart before after x s = WhereTold before (λ m. StoresStep before after x s.recovery.region (start_due s m))
+
+-- whatever is told of the bytes, the list grows by one at most
+abbrev pub TrailsStart : Option Bytes → Option (List Store) → Option (List Store) → Stepped → QueueState → Type 0
+TrailsStart told before after x s = GainsOne before after × WhereTold told (λ m. TrailsStep before after x s.recovery.region (start_due s m))
+
+-- ---- the bell
+
+-- what a bell tells before and after a turn of the queue of this index: only a turn that says so has rung
+abbrev pub RingsAt : ℕ → Stepped → Option BellState → Option BellState → Type 0
+RingsAt index says.Belled before after = Rings {T = Unit {0}} {E = Unit {0}} before after (Ok tt) index
+RingsAt index says.BellFault before after = Rings {T = Unit {0}} {E = Unit {0}} before after (Err tt) index
+RingsAt index x before after = after ≡ before
+
+-- whether a turn rang, or failed to
+abbrev pub has_rung : Stepped → Bool
+has_rung says.Belled = true
+has_rung says.BellFault = true
+has_rung x = false
+
+-- whether the bell failed in a turn
+abbrev pub bell_outcome : Stepped → Result (Unit {0}) (Unit {0})
+bell_outcome says.BellFault = Err tt
+bell_outcome x = Ok tt
 
 -- ---- a fetch
 
@@ -145,19 +263,19 @@ abbrev pub Breaks : QueueState → Bytes → RingFault → Type 0
 Breaks s m fault = (1 ≤ waiting s m) × BreaksBy s m fault
 
 -- what stands at the avail index: no head, a head that is free, or a break of a rule
-abbrev pub Finds : QueueState → Bytes → Result (Option ℕ) Stop → Type 0
+abbrev pub Finds : QueueState → Bytes → Result (Option ℕ) NoHead → Type 0
 Finds s m (Ok None) = waiting s m ≡ 0
 Finds s m (Ok (Some head)) = SomeWait s m × (head ≡ head_word s.ring m s.next_avail) × (head < s.ring.size) × (is_taken s.taken head ≡ false)
-Finds s m (Err (stops.Broken fault)) = Breaks s m fault
-Finds s m (Err stops.Shared) = ⊤
+Finds s m (Err (misses.Broken fault)) = Breaks s m fault
+Finds s m (Err misses.Shared) = ⊤
 
 -- a head that is found lies in the table and is free
-abbrev pub IsFree : QueueState → Result (Option ℕ) Stop → Type 0
+abbrev pub IsFree : QueueState → Result (Option ℕ) NoHead → Type 0
 IsFree s (Ok (Some head)) = (head < s.ring.size) × (is_taken s.taken head ≡ false)
 IsFree s x = ⊤
 
-abbrev pub found_outcome : Result (Option ℕ) Stop → Result (Unit {0}) (Unit {0})
-found_outcome (Err stops.Shared) = Err tt
+abbrev pub found_outcome : Result (Option ℕ) NoHead → Result (Unit {0}) (Unit {0})
+found_outcome (Err misses.Shared) = Err tt
 found_outcome x = Ok tt
 
 -- the request of a head is accepted
@@ -188,15 +306,15 @@ under_way most s = if is_publication s.phase then s else begun most s
 
 abbrev pub row_at : QueueState → Option Step → Option Row
 row_at s None = None
-row_at s (Some step) = row_of (used_side s.ring) s.next_used s.batch step
+row_at s (Some step) = ring_row (used_side s.ring) s.next_used s.batch step
 
--- what determines the steps of its phases
-abbrev pub course_in : QueueState → Course
-course_in s = record { size = s.ring.size; batch = length s.batch }
+-- the steps of a fetch or a publication that is under way
+abbrev pub steps_in : QueueState → List Step
+steps_in s = running_steps (length s.batch) s.phase
 
 -- the row of the next step of the publication
 abbrev pub next_row : QueueState → Option Row
-next_row s = row_at s (next_step (course_in s) s.phase)
+next_row s = row_at s (next_of (steps_in s) s.phase)
 
 -- after the last step the batch is shown, and its heads are free
 abbrev pub with_phase : Phase → QueueState → QueueState
@@ -205,7 +323,7 @@ with_phase p s = record s { phase = p }
 
 -- the queue after the next step of its publication
 abbrev pub moved : QueueState → QueueState
-moved s = with_phase (after_step (course_in s) s.phase) s
+moved s = with_phase (after_of (steps_in s) s.phase) s
 
 -- what a step with this row says, and the queue before and after it
 abbrev pub Moves : Stepped → Option Row → QueueState → QueueState → Type 0
@@ -213,10 +331,6 @@ Moves (says.Stored tag) (Some x) s t = (tag ≡ x.tag) × (t ≡ moved s) × (is
 Moves says.Published (Some x) s t = (SP5 ≡ x.tag) × (t ≡ moved s) × (t.phase ≡ phases.Rest)
 Moves says.SharedFault (Some x) s t = t ≡ s
 Moves x y s t = ⊥
-
-abbrev pub outcome : Stepped → Result (Unit {0}) (Unit {0})
-outcome says.SharedFault = Err tt
-outcome x = Ok tt
 
 -- the told bytes, and the told list of stores, before and after a step with this row
 abbrev pub StoresRow : Option Bytes → Option Bytes → Stepped → Option Row → Type 0
@@ -262,6 +376,8 @@ done_at place head len sector s = record s { unfinished = remove s.unfinished pl
 -- a step of the request in this place changes nothing here but its task and its sector, and the one that stores its
 -- status moves it to the completed ones
 abbrev pub Works : ℕ → Stepped → QueueState → QueueState → Type 0
+Works place says.Belled s t = ⊥
+Works place says.BellFault s t = ⊥
 Works place (says.Completed head) s t = (len : ℕ) × (sector : List ℕ) × (t ≡ done_at place head len sector s)
 Works place x s t = (t ≡ s) ⊎ ((task : Task) × (sector : List ℕ) × (t ≡ worked place task sector s))
 
@@ -325,7 +441,7 @@ due_store s task n = store_in s.ring n (sector_at s (head_in task))
 
 -- what the step that is due makes before its end is noted, where neither memory nor disk fails
 pub record StepsOut (place : ℕ) (task : Task) (n : Making) (m : Bytes) (told : Option Bytes) (trail trail_after : Option (List Store)) (v v_after : Option Values) (x : Option (ℕ × made.TaskStep)) (s t : QueueState) : Type 0 where
-  pub says : x ≡ Some (head_in task, answer_in n)
+  pub says : x ≡ Some (head_in task, task_answer n)
   pub next : Task
   pub sector : List ℕ
   pub head : head_in next ≡ head_in task
@@ -339,7 +455,7 @@ pub record StepsOut (place : ℕ) (task : Task) (n : Making) (m : Bytes) (told :
 -- what the step that is due makes, where neither memory nor disk fails: of the told bytes, which were m, of the told list
 -- of stores and of the disk's told values, before and after it, and of the queue
 pub record WorksOut (place : ℕ) (task : Task) (n : Making) (m : Bytes) (told : Option Bytes) (trail trail_after : Option (List Store)) (v v_after : Option Values) (x : Stepped) (s t : QueueState) : Type 0 where
-  pub says : x ≡ said (head_in task) (answer_in n)
+  pub says : x ≡ said (head_in task) (task_answer n)
   pub leaves : HasWorked v place task n s t
   pub stores : told ≡ Some (memory_after s.ring n (sector_at s (head_in task)) m)
   pub trails : trail_after ≡ option_map (with_maybe (due_store s task n)) trail
@@ -389,6 +505,7 @@ is_idle x = false
 
 abbrev pub is_fault : Stepped → Bool
 is_fault says.SharedFault = true
+is_fault says.BellFault = true
 is_fault x = false
 
 -- where a test fails
@@ -398,26 +515,28 @@ Unless false P = P
 
 -- what a turn of the step table does of the queue
 abbrev pub DoesOf : Turn → Option Bytes → Stepped → QueueState → QueueState → Type 0
-DoesOf Start told x s t = (x ≡ started_from s) × (t ≡ record s { started = true })
+DoesOf Start told x s t = Starts told x s t
 DoesOf Fetch told x s t = Fetches told x s t
 DoesOf (Work place) told x s t = Works place x s t
 DoesOf (Publish most) told x s t = Publishes (publishes most s) x s (under_way most s) t
 
--- the same, unless the shared memory failed, which stops the queue
+-- the same, unless the shared memory or the bell failed, which stops the queue
 abbrev pub Does : Turn → Option Bytes → Stepped → QueueState → QueueState → Type 0
 Does turn told x s t = Unless (is_fault x) (DoesOf turn told x s t)
 
--- the told bytes before and after it: only a publication stores, beside work on a request
+-- the told bytes before and after it: only a start and a publication store, beside work on a request
 abbrev pub DoesStore : Turn → Option Bytes → Option Bytes → Stepped → QueueState → Type 0
+DoesStore Start before after x s = StoresStart before after x s
 DoesStore (Work place) before after x s = ⊤
 DoesStore (Publish most) before after x s = StoresRow before after x (publish_row most s)
 DoesStore turn before after x s = after ≡ before
 
--- the told list of stores before and after it
-abbrev pub DoesTrail : Turn → Option (List Store) → Option (List Store) → Stepped → QueueState → Type 0
-DoesTrail (Work place) before after x s = GainsOne before after
-DoesTrail (Publish most) before after x s = TrailsRow before after x (publish_row most s)
-DoesTrail turn before after x s = after ≡ before
+-- the told list of stores before and after it, where these bytes were told
+abbrev pub DoesTrail : Turn → Option Bytes → Option (List Store) → Option (List Store) → Stepped → QueueState → Type 0
+DoesTrail Start told before after x s = TrailsStart told before after x s
+DoesTrail (Work place) told before after x s = GainsOne before after
+DoesTrail (Publish most) told before after x s = TrailsRow before after x (publish_row most s)
+DoesTrail turn told before after x s = after ≡ before
 
 -- the told values of the disk before and after it: only work on a request changes them
 abbrev pub DoesDisk : Turn → Option Values → Option Values → Type 0
@@ -434,10 +553,12 @@ abbrev pub disk_outcome : Stepped → Result (Unit {0}) (Unit {0})
 disk_outcome (says.Faulted head) = Err tt
 disk_outcome x = Ok tt
 
--- a fault of the ring or of the shared memory stops the queue
+-- a fault of the ring, of the in-flight region, of the shared memory or of the bell stops the queue
 abbrev pub halted : Stepped → QueueState → QueueState
 halted (says.Broken fault) s = record s { stopped = Some (stops.Broken fault) }
+halted (says.Damaged fault) s = record s { stopped = Some (stops.Damaged fault) }
 halted says.SharedFault s = record s { stopped = Some stops.Shared }
+halted says.BellFault s = record s { stopped = Some stops.Bell }
 halted x s = s
 
 -- what a turn does of a queue that isn't stopped

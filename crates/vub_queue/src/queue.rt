@@ -5,16 +5,28 @@ ghost use Rattle.vub_queue.specs.QueueParts.{element, is_taken, taken_count, wit
 
 use std::alloc::Global;
 use vub_base::standard::SECTOR_SIZE;
-use vub_base::{Failed, Memory, RingFault, Tag};
+use vub_base::{Bell, Failed, Memory, PendingList, RegionFault, RingFault, Tag};
 use vub_disk::Disk;
+use vub_infl_split::SplitRegion;
+use vub_rec_split::{Recovered, SplitRecovery};
 use vub_shared::Shared;
 use vub_split::SplitRing;
-use vub_steps::{Choice, Course, Phase, Standing, Step, Turn, after_step, is_ready, next_step};
+use vub_steps::{Choice, Phase, Standing, Step, Turn, after_running, is_ready, next_running};
 use vub_task::{Task, TaskStep};
 
 /// Why a queue stopped.
 #[derive(Clone, Copy, Debug, PartialEq, Eq)]
 pub enum Stop {
+    Broken(RingFault),
+    /// The in-flight region can't be read.
+    Damaged(RegionFault),
+    Shared,
+    Bell,
+}
+
+/// Why no head is found in the avail ring.
+#[derive(Clone, Copy, Debug, PartialEq, Eq)]
+enum NoHead {
     Broken(RingFault),
     Shared,
 }
@@ -35,10 +47,16 @@ pub enum Stepped {
     Completed(u16),
     /// The store of used.idx, which shows the batch.
     Published,
+    /// The bell of a start was rung.
+    Belled,
     Started,
     /// The shared memory failed.
     SharedFault,
+    /// The bell failed.
+    BellFault,
     Broken(RingFault),
+    /// A start found that the in-flight region can't be read.
+    Damaged(RegionFault),
 }
 
 /// A request whose status stands.
@@ -54,14 +72,25 @@ struct Completed {
 pub struct QueueSetup {
     pub index: u16,
     pub ring: SplitRing,
+    /// Of the same size as the ring.
+    pub region: SplitRegion,
     /// The index at which the rings begin.
     pub base: u16,
+    /// Whether the driver is told of what was published.
+    pub bell: bool,
 }
 
 /// The device's side of one queue.
-#[derive(Debug, Drop)]
+#[derive(Drop)]
 pub struct Queue {
+    index: u16,
     ring: SplitRing,
+    bell: bool,
+    // The bell of the start was rung.
+    rung: bool,
+    // The start over the in-flight region, and the requests that it finds open.
+    recovery: SplitRecovery,
+    pending: PendingList,
     started: bool,
     stopped: Option<Stop>,
     // The index of the avail entry that is fetched next.
@@ -81,6 +110,7 @@ pub struct Queue {
     // Whether each head is accepted and not published.
     taken: Vec<bool>,
     ghost few: { ring.size ≤ 1024 },
+    ghost listed: { recovery.region.size ≤ pending.room },
     ghost heads: { length taken.items ≡ ring.size },
     ghost buffers: { length sectors.items ≡ ring.size },
     ghost room: { ring.size ≤ vec_capacity unfinished },
@@ -148,24 +178,31 @@ impl Queue {
     ghost use Rattle.vub_steps.specs.declared.readiness.Turn.{Turn};
     ghost use Rattle.vub_steps.specs.declared.readiness.Turn.TheVariants.{Fetch, Work};
     ghost use Rattle.std.specs.Prelude.{not, ◌==◌, ◌↔◌, IsTrue, option_map, is_some, Ok, remove, ◌++◌, ◌∷◌, []};
-    ghost use Rattle.vub_steps.specs.Steps.{next_step, after_step};
+    ghost use Rattle.vub_steps.specs.Steps.{next_of, after_of};
+    ghost use Rattle.vub_steps.specs.declared.readiness.Turn.TheVariants.{Start};
+    ghost use Rattle.vub_rec_split.specs.Starts.{StartLies};
     ghost use Rattle.vub_queue.specs.declared.queue.Stepped.TheVariants.{Idle};
     ghost use Rattle.vub_steps.specs.declared.readiness.Choice.TheVariants.{Only};
     ghost use Rattle.vub_steps.specs.declared.steps.Phase.TheVariants.{Rest};
     ghost use Rattle.vub_steps.specs.declared.steps.Step.TheVariants.{Id, Len, Index};
     ghost use Rattle.vub_queue.specs.Queue.{ring_in};
-    ghost use Rattle.vub_queue.specs.QueueState.{QueueState, QueueLies, KeepsLying, Owes, OwesAt, state_of, IsNew, started_from, said, concluded, StepsAt, IsDue, IfStepped, StepsOut, WorksOut, StepsTask, WorksTask, Rests, disk_outcome, standing_at, waiting, IsFree, Finds, Fetches, accepted, may_fetch, begun, under_way, course_in, next_row, moved, with_phase, Moves, outcome, found_outcome, MakesRow, publishes, publish_row, Publishes, is_idle, is_fault, Unless, Works, Does, DoesStore, DoesTrail, DoesDisk, StableAfter, halted, Turns};
+    ghost use Rattle.vub_queue.specs.QueueState.{QueueState, QueueLies, KeepsLying, Owes, OwesAt, state_of, IsNew, new_recovery, Ends, is_starting, StoresStart, TrailsStart, RingsAt, has_rung, bell_outcome, said, concluded, StepsAt, IsDue, IfStepped, StepsOut, WorksOut, StepsTask, WorksTask, Rests, disk_outcome, standing_at, waiting, IsFree, Finds, Fetches, accepted, may_fetch, begun, under_way, steps_in, next_row, moved, with_phase, Moves, outcome, found_outcome, MakesRow, publishes, publish_row, Publishes, is_idle, is_fault, Unless, Works, Does, DoesStore, DoesTrail, DoesDisk, StableAfter, halted, Turns};
 
     /// A queue that isn't started. All memory that it needs is reserved here.
     pub fn new(alloc: Global, setup: &QueueSetup) -> Result<Queue, Memory>
         requires { setup.now.ring.size ≤ 1024 }
         ensures ring { IfOk result (λ q. ring_in q ≡ setup.now.ring) }
-        ensures state { IfOk result (λ q. IsNew setup.now.ring setup.now.base (state_of q)) }
-        ensures lies { IfOk result (λ q. (sizes : ℕ → ℕ) → (capacity : ℕ) → RingLies sizes setup.now.ring → QueueLies sizes capacity (state_of q)) }
+        ensures state { IfOk result (λ q. IsNew setup.now (state_of q)) }
+        ensures lies { IfOk result (λ q. (sizes : ℕ → ℕ) → (capacity : ℕ) → StartLies sizes (new_recovery setup.now) → QueueLies sizes capacity (state_of q)) }
     {
         let size = usize::from(setup.ring.size);
         Ok(Queue {
+            index: setup.index,
             ring: setup.ring,
+            bell: setup.bell,
+            rung: false,
+            recovery: SplitRecovery::new(setup.ring, setup.region, u32::from(setup.base)),
+            pending: PendingList::new(alloc, usize::from(setup.region.size))?,
             started: false,
             stopped: None,
             next_avail: setup.base,
@@ -186,21 +223,18 @@ impl Queue {
         matches!(self.phase, Phase::Publish(_))
     }
 
-    /// What determines the steps of its phases.
-    fn course(&self) -> Course
-        ensures { result ≡ course_in (state_of self.now) }
+    /// The next step of the fetch or the publication under way.
+    fn next_step(&self) -> Option<Step>
+        ensures { result ≡ next_of (steps_in (state_of self.now)) self.now.phase }
     {
-        Course {
-            size: self.ring.size,
-            batch: self.batch,
-        }
+        next_running(self.batch, self.phase)
     }
 
     /// Whether the next store shows the batch.
     pub fn shows_next(&self) -> bool
-        ensures { IsTrue result ↔ (next_step (course_in (state_of self.now)) (state_of self.now).phase ≡ Some Index) }
+        ensures { IsTrue result ↔ (next_of (steps_in (state_of self.now)) (state_of self.now).phase ≡ Some Index) }
     {
-        next_step(&self.course(), self.phase) == Some(Step::Index)
+        self.next_step() == Some(Step::Index)
     }
 
     /// How many requests the batch under way has.
@@ -248,18 +282,67 @@ impl Queue {
         }
     }
 
-    fn start(&mut self) -> Stepped
+    /// Ends a start that has made its stores: rings its bell, and is started by the turn after it.
+    fn end_start<B: Bell>(&mut self, bell: &mut B) -> Stepped
         ensures ring { ring_in self.new ≡ ring_in self.old }
-        ensures said { result ≡ started_from (state_of self.old) }
-        ensures state { state_of self.new ≡ record (state_of self.old) { started = true } }
+        ensures ends { Ends result (state_of self.old) (state_of self.new) }
         ensures lies { KeepsLying (state_of self.old) (state_of self.new) }
-        ensures no_disk { disk_outcome result ≡ Ok tt }
+        ensures rings { RingsAt (state_of self.old).index result (B.told bell.old) (B.told bell.new) }
+        ensures bell_cause { HasCause (B.faults bell.old) (B.faults bell.new) (bell_outcome result) }
+    {
+        if !self.bell || self.rung {
+            self.started = true;
+            return Stepped::Started;
+        }
+        match bell.ring(self.index) {
+            Ok(()) => {
+                self.rung = true;
+                Stepped::Belled
+            }
+            Err(_) => Stepped::BellFault,
+        }
+    }
+
+    /// Makes the next step of the start of a queue that isn't started.
+    fn start_step<M: Shared, B: Bell>(&mut self, mem: &mut M, bell: &mut B) -> Stepped
+        requires lies { StartLies (M.sizes mem.old) (state_of self.old).recovery }
+        requires resting { self.old.started ≡ false }
+        ensures ring { ring_in self.new ≡ ring_in self.old }
+        ensures does { Does Start (M.told mem.old) result (state_of self.old) (state_of self.new) }
+        ensures stores { StoresStart (M.told mem.old) (M.told mem.new) result (state_of self.old) }
+        ensures trails { TrailsStart (M.told mem.old) (M.trail mem.old) (M.trail mem.new) result (state_of self.old) }
+        ensures starting { is_starting result ≡ true }
+        ensures lies { KeepsLying (state_of self.old) (state_of self.new) }
+        ensures cause { HasCause (M.faults mem.old) (M.faults mem.new) (outcome result) }
+        ensures rings { RingsAt (state_of self.old).index result (B.told bell.old) (B.told bell.new) }
+        ensures bell_cause { HasCause (B.faults bell.old) (B.faults bell.new) (bell_outcome result) }
+        ensures keeps_spaces { KeepsSpaces M.names M.handed M.sizes mem.old mem.new }
+    {
+        match self.recovery.step(mem, &mut self.pending) {
+            Recovered::Stored(tag) => Stepped::Stored(tag),
+            Recovered::Done => self.end_start(bell),
+            Recovered::Damaged(fault) => Stepped::Damaged(fault),
+            Recovered::Failed => Stepped::SharedFault,
+        }
+    }
+
+    fn start<M: Shared, B: Bell>(&mut self, mem: &mut M, bell: &mut B) -> Stepped
+        requires { StartLies (M.sizes mem.old) (state_of self.old).recovery }
+        ensures ring { ring_in self.new ≡ ring_in self.old }
+        ensures does { Does Start (M.told mem.old) result (state_of self.old) (state_of self.new) }
+        ensures stores { StoresStart (M.told mem.old) (M.told mem.new) result (state_of self.old) }
+        ensures trails { TrailsStart (M.told mem.old) (M.trail mem.old) (M.trail mem.new) result (state_of self.old) }
+        ensures starting { is_starting result ≡ true }
+        ensures lies { KeepsLying (state_of self.old) (state_of self.new) }
+        ensures cause { HasCause (M.faults mem.old) (M.faults mem.new) (outcome result) }
+        ensures rings { RingsAt (state_of self.old).index result (B.told bell.old) (B.told bell.new) }
+        ensures bell_cause { HasCause (B.faults bell.old) (B.faults bell.new) (bell_outcome result) }
+        ensures keeps_spaces { KeepsSpaces M.names M.handed M.sizes mem.old mem.new }
     {
         if self.started {
             return Stepped::Idle;
         }
-        self.started = true;
-        Stepped::Started
+        self.start_step(mem, bell)
     }
 
     /// How many requests wait in the avail ring.
@@ -274,7 +357,7 @@ impl Queue {
     }
 
     /// The head that waits at the avail position, if one does.
-    fn next_head<M: Shared>(&self, mem: &mut M) -> Result<Option<u16>, Stop>
+    fn next_head<M: Shared>(&self, mem: &mut M) -> Result<Option<u16>, NoHead>
         requires { RingLies (M.sizes mem.old) (ring_in self.now) }
         ensures free { IsFree (state_of self.now) result }
         ensures found { WhereTold (M.told mem.old) (λ m. Finds (state_of self.now) m result) }
@@ -284,22 +367,22 @@ impl Queue {
         // avail.idx is loaded before the entry that it announces (VIRTIO 1.2, 2.7.13.3.1): in the other
         // order the entry could be an old one.
         let Ok(waiting) = self.waiting(mem) else {
-            return Err(Stop::Shared);
+            return Err(NoHead::Shared);
         };
         if waiting == 0 {
             return Ok(None);
         }
         if waiting > self.ring.size {
-            return Err(Stop::Broken(RingFault::Jump(waiting)));
+            return Err(NoHead::Broken(RingFault::Jump(waiting)));
         }
         let Ok(head) = self.ring.head_at(mem, self.next_avail) else {
-            return Err(Stop::Shared);
+            return Err(NoHead::Shared);
         };
         if head >= self.ring.size {
-            return Err(Stop::Broken(RingFault::BadHead(head)));
+            return Err(NoHead::Broken(RingFault::BadHead(head)));
         }
         if is_taken(&self.taken, head) {
-            return Err(Stop::Broken(RingFault::Twice(head)));
+            return Err(NoHead::Broken(RingFault::Twice(head)));
         }
         Ok(Some(head))
     }
@@ -335,8 +418,8 @@ impl Queue {
                 self.accept(head);
                 Stepped::Accepted(head)
             }
-            Err(Stop::Shared) => Stepped::SharedFault,
-            Err(Stop::Broken(fault)) => Stepped::Broken(fault),
+            Err(NoHead::Shared) => Stepped::SharedFault,
+            Err(NoHead::Broken(fault)) => Stepped::Broken(fault),
         }
     }
 
@@ -468,18 +551,18 @@ impl Queue {
 
     /// The next step of the publication was made, and not its last.
     fn advance(&mut self)
-        requires goes { is_publication (after_step (course_in (state_of self.old)) self.old.phase) ≡ true }
+        requires goes { is_publication (after_of (steps_in (state_of self.old)) self.old.phase) ≡ true }
         requires started { self.old.started ≡ true }
         ensures ring { ring_in self.new ≡ ring_in self.old }
         ensures state { state_of self.new ≡ moved (state_of self.old) }
         ensures goes { is_publication self.new.phase ≡ true }
     {
-        self.phase = after_step(&self.course(), self.phase);
+        self.phase = after_running(self.batch, self.phase);
     }
 
     fn store_id<M: Shared>(&mut self, element: u32, mem: &mut M) -> Stepped
         requires lies { RingLies (M.sizes mem.old) (ring_in self.old) }
-        requires next { next_step (course_in (state_of self.old)) self.old.phase ≡ Some (Id element) }
+        requires next { next_of (steps_in (state_of self.old)) self.old.phase ≡ Some (Id element) }
         ensures ring { ring_in self.new ≡ ring_in self.old }
         ensures moves { Moves result (next_row (state_of self.old)) (state_of self.old) (state_of self.new) }
         ensures makes_row { MakesRow M.told M.trail M.names M.handed M.sizes mem.old mem.new result (next_row (state_of self.old)) }
@@ -500,7 +583,7 @@ impl Queue {
 
     fn store_len<M: Shared>(&mut self, element: u32, mem: &mut M) -> Stepped
         requires lies { RingLies (M.sizes mem.old) (ring_in self.old) }
-        requires next { next_step (course_in (state_of self.old)) self.old.phase ≡ Some (Len element) }
+        requires next { next_of (steps_in (state_of self.old)) self.old.phase ≡ Some (Len element) }
         ensures ring { ring_in self.new ≡ ring_in self.old }
         ensures moves { Moves result (next_row (state_of self.old)) (state_of self.old) (state_of self.new) }
         ensures makes_row { MakesRow M.told M.trail M.names M.handed M.sizes mem.old mem.new result (next_row (state_of self.old)) }
@@ -520,7 +603,7 @@ impl Queue {
 
     fn show<M: Shared>(&mut self, mem: &mut M) -> Stepped
         requires lies { RingLies (M.sizes mem.old) (ring_in self.old) }
-        requires next { next_step (course_in (state_of self.old)) self.old.phase ≡ Some Index }
+        requires next { next_of (steps_in (state_of self.old)) self.old.phase ≡ Some Index }
         ensures ring { ring_in self.new ≡ ring_in self.old }
         ensures moves { Moves result (next_row (state_of self.old)) (state_of self.old) (state_of self.new) }
         ensures makes_row { MakesRow M.told M.trail M.names M.handed M.sizes mem.old mem.new result (next_row (state_of self.old)) }
@@ -547,10 +630,16 @@ impl Queue {
         ensures cause { HasCause (M.faults mem.old) (M.faults mem.new) (outcome result) }
         ensures no_disk { disk_outcome result ≡ Ok tt }
     {
-        match next_step(&self.course(), self.phase) {
+        match self.next_step() {
             Some(Step::Id(element)) => self.store_id(element, mem),
             Some(Step::Len(element)) => self.store_len(element, mem),
             Some(Step::Index) => self.show(mem),
+            Some(Step::Features) => unreachable!(),
+            Some(Step::Free(_)) => unreachable!(),
+            Some(Step::Open) => unreachable!(),
+            Some(Step::Settle(_)) => unreachable!(),
+            Some(Step::SettleEnd) => unreachable!(),
+            Some(Step::Bell) => unreachable!(),
             Some(Step::Start) => unreachable!(),
             Some(Step::Accept) => unreachable!(),
             None => unreachable!(),
@@ -587,52 +676,70 @@ impl Queue {
     }
 
     /// Makes a step of this turn, if it is ready.
-    fn make<M: Shared, D: Disk>(&mut self, turn: Turn, mem: &mut M, disk: &mut D) -> Stepped
+    fn make<M: Shared, D: Disk, B: Bell>(
+        &mut self,
+        turn: Turn,
+        mem: &mut M,
+        disk: &mut D,
+        bell: &mut B,
+    ) -> Stepped
         requires lies { QueueLies (M.sizes mem.old) (D.capacity disk.old) (state_of self.old) }
         ensures lies { QueueLies (M.sizes mem.old) (D.capacity disk.old) (state_of self.new) }
         ensures failed { Owes result (state_of self.new) }
         ensures ring { ring_in self.new ≡ ring_in self.old }
         ensures does { Does turn (M.told mem.old) result (state_of self.old) (state_of self.new) }
         ensures stores { DoesStore turn (M.told mem.old) (M.told mem.new) result (state_of self.old) }
-        ensures trails { DoesTrail turn (M.trail mem.old) (M.trail mem.new) result (state_of self.old) }
+        ensures trails { DoesTrail turn (M.told mem.old) (M.trail mem.old) (M.trail mem.new) result (state_of self.old) }
         ensures values { DoesDisk turn (D.values disk.old) (D.values disk.new) }
         ensures made { (place : ℕ) (task : Task) (n : Making) → WhereTold (M.told mem.old) (λ m. turn ≡ Work place → IsDue (D.capacity disk.old) (M.sizes mem.old) (state_of self.old) m place task n → IfStepped result (WorksOut place task n m (M.told mem.new) (M.trail mem.old) (M.trail mem.new) (D.values disk.old) (D.values disk.new) result (state_of self.old) (state_of self.new))) }
         ensures task { (place : ℕ) (task : Task) → turn ≡ Work place → (state_of self.old).started ≡ true → slice_get (state_of self.old).unfinished place ≡ Some task → WorksTask (M.sizes mem.old) (D.capacity disk.old) place task (M.told mem.old) (M.told mem.new) (M.trail mem.old) (M.trail mem.new) (D.values disk.old) (D.values disk.new) result (state_of self.old) (state_of self.new) }
         ensures rests { (waiting place : ℕ) → turn ≡ Work place → is_ready (standing_at (state_of self.old) waiting) (Work place) ≡ false → Rests (M.told mem.old) (M.told mem.new) (M.trail mem.old) (M.trail mem.new) (D.values disk.old) (D.values disk.new) result (state_of self.old) (state_of self.new) }
         ensures cause { HasCause (M.faults mem.old) (M.faults mem.new) (outcome result) }
         ensures disk_cause { HasCause (D.faults disk.old) (D.faults disk.new) (disk_outcome result) }
+        ensures rings { RingsAt (state_of self.old).index result (B.told bell.old) (B.told bell.new) }
+        ensures start_rings { has_rung result ≡ true → turn ≡ Start }
+        ensures bell_cause { HasCause (B.faults bell.old) (B.faults bell.new) (bell_outcome result) }
         ensures stable { StableAfter result (D.stable disk.old) (D.values disk.new) (D.stable disk.new) }
         ensures keeps_spaces { KeepsSpaces M.names M.handed M.sizes mem.old mem.new }
         ensures capacity { D.capacity disk.new ≡ D.capacity disk.old }
     {
         match turn {
-            Turn::Start => self.start(),
+            Turn::Start => self.start(mem, bell),
             Turn::Fetch => self.fetch(mem),
             Turn::Work(place) => self.work(place, mem, disk),
             Turn::Publish(most) => self.publish(most, mem),
         }
     }
 
-    fn step_of<M: Shared, D: Disk>(&mut self, choice: Choice, mem: &mut M, disk: &mut D) -> Stepped
+    fn step_of<M: Shared, D: Disk, B: Bell>(
+        &mut self,
+        choice: Choice,
+        mem: &mut M,
+        disk: &mut D,
+        bell: &mut B,
+    ) -> Stepped
         requires lies { QueueLies (M.sizes mem.old) (D.capacity disk.old) (state_of self.old) }
         ensures lies { QueueLies (M.sizes mem.old) (D.capacity disk.old) (state_of self.new) }
         ensures failed { Owes result (state_of self.new) }
         ensures ring { ring_in self.new ≡ ring_in self.old }
         ensures does { WhereTold (M.told mem.old) (λ m. Does (chosen self.old.ring.size choice (standing_at (state_of self.old) (waiting (state_of self.old) m))) (M.told mem.old) result (state_of self.old) (state_of self.new)) }
         ensures stores { WhereTold (M.told mem.old) (λ m. DoesStore (chosen self.old.ring.size choice (standing_at (state_of self.old) (waiting (state_of self.old) m))) (M.told mem.old) (M.told mem.new) result (state_of self.old)) }
-        ensures trails { WhereTold (M.told mem.old) (λ m. DoesTrail (chosen self.old.ring.size choice (standing_at (state_of self.old) (waiting (state_of self.old) m))) (M.trail mem.old) (M.trail mem.new) result (state_of self.old)) }
+        ensures trails { WhereTold (M.told mem.old) (λ m. DoesTrail (chosen self.old.ring.size choice (standing_at (state_of self.old) (waiting (state_of self.old) m))) (M.told mem.old) (M.trail mem.old) (M.trail mem.new) result (state_of self.old)) }
         ensures values { WhereTold (M.told mem.old) (λ m. DoesDisk (chosen self.old.ring.size choice (standing_at (state_of self.old) (waiting (state_of self.old) m))) (D.values disk.old) (D.values disk.new)) }
         ensures made { (place : ℕ) (task : Task) (n : Making) → WhereTold (M.told mem.old) (λ m. chosen self.old.ring.size choice (standing_at (state_of self.old) (waiting (state_of self.old) m)) ≡ Work place → IsDue (D.capacity disk.old) (M.sizes mem.old) (state_of self.old) m place task n → IfStepped result (WorksOut place task n m (M.told mem.new) (M.trail mem.old) (M.trail mem.new) (D.values disk.old) (D.values disk.new) result (state_of self.old) (state_of self.new))) }
         ensures task { (place : ℕ) (task : Task) → WhereTold (M.told mem.old) (λ m. chosen self.old.ring.size choice (standing_at (state_of self.old) (waiting (state_of self.old) m)) ≡ Work place → (state_of self.old).started ≡ true → slice_get (state_of self.old).unfinished place ≡ Some task → Unless (is_fault result) (WorksTask (M.sizes mem.old) (D.capacity disk.old) place task (M.told mem.old) (M.told mem.new) (M.trail mem.old) (M.trail mem.new) (D.values disk.old) (D.values disk.new) result (state_of self.old) (state_of self.new))) }
         ensures rests { (waiting place : ℕ) → choice ≡ Only (Work place) → is_ready (standing_at (state_of self.old) waiting) (Work place) ≡ false → Rests (M.told mem.old) (M.told mem.new) (M.trail mem.old) (M.trail mem.new) (D.values disk.old) (D.values disk.new) result (state_of self.old) (state_of self.new) }
         ensures cause { HasCause (M.faults mem.old) (M.faults mem.new) (outcome result) }
         ensures disk_cause { HasCause (D.faults disk.old) (D.faults disk.new) (disk_outcome result) }
+        ensures rings { RingsAt (state_of self.old).index result (B.told bell.old) (B.told bell.new) }
+        ensures start_rings { WhereTold (M.told mem.old) (λ m. has_rung result ≡ true → chosen self.old.ring.size choice (standing_at (state_of self.old) (waiting (state_of self.old) m)) ≡ Start) }
+        ensures bell_cause { HasCause (B.faults bell.old) (B.faults bell.new) (bell_outcome result) }
         ensures stable { StableAfter result (D.stable disk.old) (D.values disk.new) (D.stable disk.new) }
         ensures keeps_spaces { KeepsSpaces M.names M.handed M.sizes mem.old mem.new }
         ensures capacity { D.capacity disk.new ≡ D.capacity disk.old }
     {
         match self.next_turn(choice, mem) {
-            Ok(turn) => self.make(turn, mem, disk),
+            Ok(turn) => self.make(turn, mem, disk, bell),
             Err(Failed) => Stepped::SharedFault,
         }
     }
@@ -644,7 +751,9 @@ impl Queue {
     {
         match stepped {
             Stepped::Broken(fault) => self.stopped = Some(Stop::Broken(fault)),
+            Stepped::Damaged(fault) => self.stopped = Some(Stop::Damaged(fault)),
             Stepped::SharedFault => self.stopped = Some(Stop::Shared),
+            Stepped::BellFault => self.stopped = Some(Stop::Bell),
             Stepped::Idle
             | Stepped::Stored(_)
             | Stepped::Accepted(_)
@@ -654,28 +763,38 @@ impl Queue {
             | Stepped::Faulted(_)
             | Stepped::Completed(_)
             | Stepped::Published
+            | Stepped::Belled
             | Stepped::Started => {}
         }
     }
 
     /// Makes the next step of the turn that is chosen, and is `Idle` where it isn't ready. A fault of shared
-    /// memory, or a ring that breaks a rule, stops the queue: later turns are `Idle`. A disk fault
-    /// stops nothing. Takes no memory.
-    pub fn turn<M: Shared, D: Disk>(&mut self, choice: Choice, mem: &mut M, disk: &mut D) -> Stepped
+    /// memory or of the bell, a ring that breaks a rule, or an in-flight region that can't be read
+    /// stops the queue: later turns are `Idle`. A disk fault stops nothing. Takes no memory.
+    pub fn turn<M: Shared, D: Disk, B: Bell>(
+        &mut self,
+        choice: Choice,
+        mem: &mut M,
+        disk: &mut D,
+        bell: &mut B,
+    ) -> Stepped
         requires { QueueLies (M.sizes mem.old) (D.capacity disk.old) (state_of self.old) }
         ensures lies { QueueLies (M.sizes mem.new) (D.capacity disk.new) (state_of self.new) }
         ensures failed { Owes result (state_of self.new) }
         ensures ring { ring_in self.new ≡ ring_in self.old }
-        ensures stopped { is_some (state_of self.old).stopped ≡ true → (result ≡ Idle) × (state_of self.new ≡ state_of self.old) × (M.told mem.new ≡ M.told mem.old) × (M.trail mem.new ≡ M.trail mem.old) × (D.values disk.new ≡ D.values disk.old) }
+        ensures stopped { is_some (state_of self.old).stopped ≡ true → (result ≡ Idle) × (state_of self.new ≡ state_of self.old) × (M.told mem.new ≡ M.told mem.old) × (M.trail mem.new ≡ M.trail mem.old) × (D.values disk.new ≡ D.values disk.old) × (B.told bell.new ≡ B.told bell.old) }
         ensures does { is_some (state_of self.old).stopped ≡ false → WhereTold (M.told mem.old) (λ m. Turns (chosen (ring_in self.old).size choice (standing_at (state_of self.old) (waiting (state_of self.old) m))) (M.told mem.old) result (state_of self.old) (state_of self.new)) }
         ensures stores { is_some (state_of self.old).stopped ≡ false → WhereTold (M.told mem.old) (λ m. DoesStore (chosen (ring_in self.old).size choice (standing_at (state_of self.old) (waiting (state_of self.old) m))) (M.told mem.old) (M.told mem.new) result (state_of self.old)) }
-        ensures trails { is_some (state_of self.old).stopped ≡ false → WhereTold (M.told mem.old) (λ m. DoesTrail (chosen (ring_in self.old).size choice (standing_at (state_of self.old) (waiting (state_of self.old) m))) (M.trail mem.old) (M.trail mem.new) result (state_of self.old)) }
+        ensures trails { is_some (state_of self.old).stopped ≡ false → WhereTold (M.told mem.old) (λ m. DoesTrail (chosen (ring_in self.old).size choice (standing_at (state_of self.old) (waiting (state_of self.old) m))) (M.told mem.old) (M.trail mem.old) (M.trail mem.new) result (state_of self.old)) }
         ensures values { is_some (state_of self.old).stopped ≡ false → WhereTold (M.told mem.old) (λ m. DoesDisk (chosen (ring_in self.old).size choice (standing_at (state_of self.old) (waiting (state_of self.old) m))) (D.values disk.old) (D.values disk.new)) }
         ensures made { (place : ℕ) (task : Task) (n : Making) → is_some (state_of self.old).stopped ≡ false → WhereTold (M.told mem.old) (λ m. chosen (ring_in self.old).size choice (standing_at (state_of self.old) (waiting (state_of self.old) m)) ≡ Work place → IsDue (D.capacity disk.old) (M.sizes mem.old) (state_of self.old) m place task n → IfStepped result (WorksOut place task n m (M.told mem.new) (M.trail mem.old) (M.trail mem.new) (D.values disk.old) (D.values disk.new) result (state_of self.old) (state_of self.new))) }
         ensures task { (place : ℕ) (task : Task) → is_some (state_of self.old).stopped ≡ false → WhereTold (M.told mem.old) (λ m. chosen (ring_in self.old).size choice (standing_at (state_of self.old) (waiting (state_of self.old) m)) ≡ Work place → (state_of self.old).started ≡ true → slice_get (state_of self.old).unfinished place ≡ Some task → Unless (is_fault result) ((u : QueueState) × (state_of self.new ≡ halted result u) × WorksTask (M.sizes mem.old) (D.capacity disk.old) place task (M.told mem.old) (M.told mem.new) (M.trail mem.old) (M.trail mem.new) (D.values disk.old) (D.values disk.new) result (state_of self.old) u)) }
         ensures rests { (waiting place : ℕ) → is_some (state_of self.old).stopped ≡ false → choice ≡ Only (Work place) → is_ready (standing_at (state_of self.old) waiting) (Work place) ≡ false → Rests (M.told mem.old) (M.told mem.new) (M.trail mem.old) (M.trail mem.new) (D.values disk.old) (D.values disk.new) result (state_of self.old) (state_of self.new) }
         ensures cause { HasCause (M.faults mem.old) (M.faults mem.new) (outcome result) }
         ensures disk_cause { HasCause (D.faults disk.old) (D.faults disk.new) (disk_outcome result) }
+        ensures rings { RingsAt (state_of self.old).index result (B.told bell.old) (B.told bell.new) }
+        ensures start_rings { WhereTold (M.told mem.old) (λ m. has_rung result ≡ true → chosen (ring_in self.old).size choice (standing_at (state_of self.old) (waiting (state_of self.old) m)) ≡ Start) }
+        ensures bell_cause { HasCause (B.faults bell.old) (B.faults bell.new) (bell_outcome result) }
         ensures stable { StableAfter result (D.stable disk.old) (D.values disk.new) (D.stable disk.new) }
         ensures keeps_spaces { KeepsSpaces M.names M.handed M.sizes mem.old mem.new }
         ensures capacity { D.capacity disk.new ≡ D.capacity disk.old }
@@ -683,7 +802,7 @@ impl Queue {
         if self.stopped.is_some() {
             return Stepped::Idle;
         }
-        let stepped = self.step_of(choice, mem, disk);
+        let stepped = self.step_of(choice, mem, disk, bell);
         self.halt(stepped);
         stepped
     }

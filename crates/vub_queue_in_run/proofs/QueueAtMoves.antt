@@ -8,11 +8,9 @@ use Rattle.std.proofs.lemmas.Simd.{map-map}
 use Rattle.std.proofs.lemmas.List.Elements.{filter-append}
 use Rattle.std.proofs.lemmas.Option.{slice_get_within}
 use Rattle.vub_base.specs.declared.header.Header1.{Header1}
-use Rattle.vub_steps.specs.declared.steps.Course.{Course}
 use Rattle.vub_steps.specs.declared.steps.Phase.{Phase}
 use Rattle.vub_steps.specs.declared.steps.Phase.TheVariants as phases
-use Rattle.vub_steps.specs.Readiness.{is_publication}
-use Rattle.vub_steps.specs.Steps.{after_step}
+use Rattle.vub_steps.specs.Steps.{publish_steps, running_steps, after_of}
 use Rattle.vub_driver.specs.Layout.{area_place, buffer_place}
 use Rattle.vub_device.specs.declared.entry.Answered.{Answered}
 use Rattle.vub_device.specs.declared.entry.Asked.{Asked}
@@ -29,7 +27,7 @@ use Rattle.vub_queue.specs.QueueParts.{is_taken}
 use Rattle.vub_queue.specs.QueueState as states
 use Rattle.vub_queue.specs.QueueState.{QueueState}
 use Rattle.vub_queue_in_run.specs.QueueAt.{LiesAs, spot_of, left_of, TaskAt, QueueAt, KeepsHeads}
-use Rattle.vub_queue_in_run.proofs.QueueHeld.{words_kept, keeps_new, keeps_started, keeps_accepted, keeps_begun, keeps_phase, keeps_shown}
+use Rattle.vub_queue_in_run.proofs.QueueHeld.{words_kept, keeps_new, keeps_accepted, keeps_begun, keeps_shown}
 use Rattle.vub_facts.specs.Facts.{heads_in, without}
 use Rattle.vub_facts.proofs.HeadLemmas.{without_map, number_of, among_get}
 use Rattle.vub_run.specs.Moments.{open_heads}
@@ -149,7 +147,7 @@ none_among q past completed batch k none held =
 
 -- a new queue stands where no request was accepted
 pub at_new : (q : ℕ) (h : Header1) (setup : QueueSetup) (past : List Entry) (heads : List ℕ) (made : ℕ → ℕ) (state : QueueState) → h.base < 65536 → length (published past q) ≤ accepted past q → accepted past q ≡ 0 → started past q ≡ false
-    → setup.base ≡ h.base → states.IsNew setup.ring setup.base state → QueueAt q h setup past heads phases.Rest [] [] made state
+    → setup.base ≡ h.base → states.IsNew setup state → QueueAt q h setup past heads phases.Rest [] [] made state
 at_new q h setup past heads made state small fewer none stopped base new = subst (λ (t : QueueState). QueueAt q h setup past heads phases.Rest [] [] made t) (sym new.is) (record {
   ring = refl;
   runs = refl;
@@ -158,7 +156,7 @@ at_new q h setup past heads made state small fewer none stopped base new = subst
   phase = refl;
   batch = refl;
   completed = refl;
-  keeps = subst (λ (hs : List ℕ). KeepsHeads setup.ring.size hs (states.new_state setup.ring setup.base new.sectors)) (sym (ap (λ (n : ℕ). map (slice_index heads) (missing_below (published past q) n)) none)) (keeps_new setup.ring setup.base new.sectors (omega (arith, base, small)));
+  keeps = subst (λ (hs : List ℕ). KeepsHeads setup.ring.size hs (states.new_state setup new.sectors)) (sym (ap (λ (n : ℕ). map (slice_index heads) (missing_below (published past q) n)) none)) (keeps_new setup new.sectors (omega (arith, base, small)));
   tasks = λ i k task there is. absurd (none_among q past [] [] k none (among_get (left_of q past [] []) i k there));
   buffers = new.buffers;
   places = length-replicate setup.ring.size false;
@@ -305,36 +303,21 @@ at_begin q h setup past heads completed made state most x =
 
 -- ---- a step of a publication
 
--- the phase of a queue goes on
-pub goes_to : (p : Phase) (state : QueueState) → is_publication p ≡ true → states.with_phase p state ≡ record state { phase = p }
-goes_to phases.Rest state goes = absurd (let fails : false ≡ true = goes in cc)
-goes_to (phases.Start done) state goes = refl
-goes_to (phases.Fetch done) state goes = refl
-goes_to (phases.Publish done) state goes = refl
+-- the steps of a publication go on by the queue's batch as by the lane's
+pub batch_long : (q : ℕ) (h : Header1) (setup : QueueSetup) (past : List Entry) (heads : List ℕ) (phase : Phase) (batch completed : List ℕ) (made : ℕ → ℕ) (state : QueueState) → QueueAt q h setup past heads phase batch completed made state → length state.batch ≡ length batch
+batch_long q h setup past heads phase batch completed made state x = ap (λ (ks : List (ℕ × ℕ)). length ks) x.batch ∙ length-map batch (spot_of q h past heads)
 
-abbrev course_with : ℕ → ℕ → Course
-course_with size batch = record { size = size; batch = batch }
+pub moved_is : (q : ℕ) (h : Header1) (setup : QueueSetup) (past : List Entry) (heads : List ℕ) (done : ℕ) (batch completed : List ℕ) (made : ℕ → ℕ) (state : QueueState) → QueueAt q h setup past heads (phases.Publish done) batch completed made state
+    → states.moved state ≡ states.with_phase (after_of (publish_steps (length batch)) (phases.Publish done)) state
+moved_is q h setup past heads done batch completed made state x =
+    ap (λ (n : ℕ). states.with_phase (after_of (running_steps n state.phase) state.phase) state) (batch_long q h setup past heads (phases.Publish done) batch completed made state x)
+    ∙ ap (λ (p : Phase). states.with_phase (after_of (running_steps (length batch) p) p) state) x.phase
 
--- the queue's course is that of the header and the batch
-pub course_same : (q : ℕ) (h : Header1) (setup : QueueSetup) (past : List Entry) (heads : List ℕ) (phase : Phase) (batch completed : List ℕ) (made : ℕ → ℕ) (state : QueueState) → LiesAs q setup h.size → QueueAt q h setup past heads phase batch completed made state
-    → states.course_in state ≡ course_with h.size (length batch)
-course_same q h setup past heads phase batch completed made state main x =
-    let many : length state.batch ≡ length batch = ap (λ (ks : List (ℕ × ℕ)). length ks) x.batch ∙ length-map batch (spot_of q h past heads) in
-    let size : state.ring.size ≡ h.size = ap (λ (ring : SplitRing). ring.size) x.ring ∙ main.size in
-    ap (λ (n : ℕ). course_with n (length state.batch)) size ∙ ap (course_with h.size) many
-
-pub moved_is : (q : ℕ) (h : Header1) (setup : QueueSetup) (past : List Entry) (heads : List ℕ) (phase : Phase) (batch completed : List ℕ) (made : ℕ → ℕ) (state : QueueState) → LiesAs q setup h.size → QueueAt q h setup past heads phase batch completed made state
-    → states.moved state ≡ states.with_phase (after_step (course_with h.size (length batch)) phase) state
-moved_is q h setup past heads phase batch completed made state main x =
-    ap (λ (c : Course). states.with_phase (after_step c state.phase) state) (course_same q h setup past heads phase batch completed made state main x)
-    ∙ ap (λ (p : Phase). states.with_phase (after_step (course_with h.size (length batch)) p) state) x.phase
-
-pub at_row : (q : ℕ) (h : Header1) (setup : QueueSetup) (past : List Entry) (heads : List ℕ) (phase : Phase) (batch completed : List ℕ) (made : ℕ → ℕ) (state : QueueState) → LiesAs q setup h.size → QueueAt q h setup past heads phase batch completed made state
-    → is_publication (after_step (course_with h.size (length batch)) phase) ≡ true → QueueAt q h setup past heads (after_step (course_with h.size (length batch)) phase) batch completed made (states.moved state)
-at_row q h setup past heads phase batch completed made state main x goes =
-    let p : Phase = after_step (course_with h.size (length batch)) phase in
-    let same : states.moved state ≡ record state { phase = p } = moved_is q h setup past heads phase batch completed made state main x ∙ goes_to p state goes in
-    subst (λ (t : QueueState). QueueAt q h setup past heads p batch completed made t) (sym same) (record {
+pub at_row : (q : ℕ) (h : Header1) (setup : QueueSetup) (past : List Entry) (heads : List ℕ) (done : ℕ) (batch completed : List ℕ) (made : ℕ → ℕ) (state : QueueState) → QueueAt q h setup past heads (phases.Publish done) batch completed made state
+    → (next : ℕ) → after_of (publish_steps (length batch)) (phases.Publish done) ≡ phases.Publish next → QueueAt q h setup past heads (phases.Publish next) batch completed made (states.moved state)
+at_row q h setup past heads done batch completed made state x next goes =
+    let same : states.moved state ≡ record state { phase = phases.Publish next } = moved_is q h setup past heads done batch completed made state x ∙ ap (λ (p : Phase). states.with_phase p state) goes in
+    subst (λ (t : QueueState). QueueAt q h setup past heads (phases.Publish next) batch completed made t) (sym same) (record {
       ring = x.ring;
       runs = x.runs;
       started = x.started;
@@ -342,7 +325,7 @@ at_row q h setup past heads phase batch completed made state main x goes =
       phase = refl;
       batch = x.batch;
       completed = x.completed;
-      keeps = keeps_phase setup.ring.size (open_heads q past heads) p state x.keeps;
+      keeps = x.keeps;
       tasks = x.tasks;
       buffers = x.buffers;
       places = x.places;
@@ -387,18 +370,18 @@ left_shown q past completed batch list is =
     ∙ ap (λ (ks : List ℕ). filter (λ k. not (is_among (completed ++ []) k)) (missing_below (published past q ++ ks) (accepted past q))) is
     ∙ show_filter (published past q) completed batch (accepted past q)
 
-pub at_show : (q : ℕ) (h : Header1) (setup : QueueSetup) (past : List Entry) (heads : List ℕ) (phase : Phase) (batch completed : List ℕ) (made : ℕ → ℕ) (state : QueueState) (list : List Answered)
-    → after_step (course_with h.size (length batch)) phase ≡ phases.Rest → numbers list ≡ batch → ((k : ℕ) → is_among batch k ≡ true → IsOpen past q k) → LiesAs q setup h.size → QueueAt q h setup past heads phase batch completed made state
+pub at_show : (q : ℕ) (h : Header1) (setup : QueueSetup) (past : List Entry) (heads : List ℕ) (done : ℕ) (batch completed : List ℕ) (made : ℕ → ℕ) (state : QueueState) (list : List Answered)
+    → after_of (publish_steps (length batch)) (phases.Publish done) ≡ phases.Rest → numbers list ≡ batch → ((k : ℕ) → is_among batch k ≡ true → IsOpen past q k) → QueueAt q h setup past heads (phases.Publish done) batch completed made state
     → QueueAt q h setup (entries.Publish q list ∷ past) heads phases.Rest [] completed made (states.moved state)
-at_show q h setup past heads phase batch completed made state list ends is opens main x =
+at_show q h setup past heads done batch completed made state list ends is opens x =
     let past' : List Entry = entries.Publish q list ∷ past in
-    let many : length state.batch ≡ length batch = ap (λ (ks : List (ℕ × ℕ)). length ks) x.batch ∙ length-map batch (spot_of q h past heads) in
-    let moved : states.moved state ≡ states.with_phase phases.Rest state = moved_is q h setup past heads phase batch completed made state main x ∙ ap (λ (p : Phase). states.with_phase p state) ends in
+    let many : length state.batch ≡ length batch = batch_long q h setup past heads (phases.Publish done) batch completed made state x in
+    let moved : states.moved state ≡ states.with_phase phases.Rest state = moved_is q h setup past heads done batch completed made state x ∙ ap (λ (p : Phase). states.with_phase p state) ends in
     let same : left_of q past' completed [] ≡ left_of q past completed batch = left_shown q past completed batch list is in
     let shown : length (published past' q) ≡ length (published past q) + length batch = ap (λ (ks : List ℕ). length ks) (published_own past q list) ∙ length-append (published past q) (numbers list) ∙ ap (λ (ks : List ℕ). length (published past q) + length ks) is in
     let batch_heads : map (slice_index heads) batch ≡ heads_in state.batch = sym (ap heads_in x.batch ∙ heads_of_spots q h past heads batch) in
     let leave : open_heads q past' heads ≡ without (heads_in state.batch) (open_heads q past heads) =
-    heads_publish q past heads list batch is (heads_distinct q h setup past heads phase batch completed made state x) (λ k held. let o : IsOpen past q k = opens k held in among-missing (published past q) (accepted past q) k o.taken o.unpublished)
+    heads_publish q past heads list batch is (heads_distinct q h setup past heads (phases.Publish done) batch completed made state x) (λ k held. let o : IsOpen past q k = opens k held in among-missing (published past q) (accepted past q) k o.taken o.unpublished)
     ∙ ap (λ (hs : List ℕ). without hs (open_heads q past heads)) batch_heads in
     subst (λ (t : QueueState). QueueAt q h setup past' heads phases.Rest [] completed made t) (sym moved) (record {
       ring = x.ring;

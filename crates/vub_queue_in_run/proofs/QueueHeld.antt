@@ -6,10 +6,10 @@ use Rattle.std.proofs.lemmas.Bool.Decides.{nat_tests}
 use Rattle.std.proofs.lemmas.List.{length-set, map-append, get_or-replicate, get_or-set_same, get_or-set_other}
 use Rattle.std.proofs.lemmas.Option.{slice_get-map}
 use Rattle.vub_device.specs.Past.{is_among}
-use Rattle.vub_steps.specs.declared.steps.Phase.{Phase}
 use Rattle.vub_steps.specs.declared.steps.Phase.TheVariants as phases
 use Rattle.vub_steps.specs.declared.steps.Step.TheVariants as steps
-use Rattle.vub_split.specs.declared.split.SplitRing.{SplitRing}
+use Rattle.vub_steps.specs.Rows.{Sight}
+use Rattle.vub_queue.specs.declared.queue.QueueSetup.{QueueSetup}
 use Rattle.vub_ring.specs.Ring.{Ring}
 use Rattle.vub_task.specs.declared.task.Task.{Task}
 use Rattle.vub_task.specs.TaskState.{head_in, fresh_task}
@@ -25,19 +25,19 @@ use Rattle.vub_queue_in_run.specs.QueueAt.{held_in, KeepsHeads}
 
 -- the used.idx that the queue keeps, with any words beside it
 abbrev pub words_kept : QueueState → Words
-words_kept s = record { ring = record { avail = 0; heads = λ i. 0; used = s.next_used; elements = λ i. (0, 0) } }
+words_kept s = record {
+  ring = record { avail = 0; heads = λ i. 0; used = s.next_used; elements = λ i. (0, 0) };
+  region = record { version = 0; desc_num = 0; last_batch_head = 0; used_idx = 0; inflight = λ i. 0; next = λ i. 0; counter = λ i. 0 };
+}
 
-pub keeps_new : (r : SplitRing) (base : ℕ) (sectors : List (List ℕ)) → base < 65536 → KeepsHeads r.size [] (states.new_state r base sectors)
-keeps_new r base sectors small w at = record {
+pub keeps_new : (setup : QueueSetup) (sectors : List (List ℕ)) → setup.base < 65536 → KeepsHeads setup.ring.size [] (states.new_state setup sectors)
+keeps_new setup sectors small w at = record {
   distinct = refl;
   below = λ h held. absurd (let fails : false ≡ true = held in cc);
   avail = omega (arith, at, small);
-  taken = λ d low. get_or-replicate r.size d false true low;
+  taken = λ d low. get_or-replicate setup.ring.size d false true low;
   splits = record { once = refl; opens = λ h held. held; left = refl };
 }
-
-pub keeps_started : (n : ℕ) (heads : List ℕ) (s : QueueState) → KeepsHeads n heads s → KeepsHeads n heads (record s { started = true })
-keeps_started n heads s x w at = let y : Held n heads w (held_in s) = x w at in record { distinct = y.distinct; below = y.below; avail = y.avail; taken = y.taken; splits = y.splits }
 
 -- ---- a fetch
 
@@ -65,9 +65,6 @@ keeps_begun n heads most s none x w at =
     let z = held_publication_begun n heads w most (held_in s) none y in
     record { distinct = z.distinct; below = z.below; avail = z.avail; taken = z.taken; splits = z.splits }
 
-pub keeps_phase : (n : ℕ) (heads : List ℕ) (p : Phase) (s : QueueState) → KeepsHeads n heads s → KeepsHeads n heads (record s { phase = p })
-keeps_phase n heads p s x w at = let y : Held n heads w (held_in s) = x w at in record { distinct = y.distinct; below = y.below; avail = y.avail; taken = y.taken; splits = y.splits }
-
 taken_less : (xs : List (ℕ × ℕ)) (taken : List Bool) (d : ℕ) → d < length taken → is_taken (without_heads xs taken) d ≡ (is_taken taken d && not (is_among (heads_in xs) d))
 taken_less [] taken d low = grind (arith, nat_tests)
 taken_less (x ∷ xs) taken d low =
@@ -84,11 +81,12 @@ taken_less (x ∷ xs) taken d low =
 
 pub keeps_shown : (r : Ring) (heads : List ℕ) (s : QueueState) → s.next_used < 65536 → length s.taken ≡ r.size → KeepsHeads r.size heads s → KeepsHeads r.size (without (heads_in s.batch) heads) (states.with_phase phases.Rest s)
 keeps_shown r heads s fits places x w at =
-    let v : Words = record { ring = record w.ring { used = s.next_used } } in
+    let v : Words = record w { ring = record w.ring { used = s.next_used } } in
+    let z : Sight = record { used = s.next_used; link = 0; batch = s.batch } in
     let left : List ℕ = without (heads_in s.batch) heads in
-    let shown : Held r.size left (words_after r s.batch steps.Index v) (state_after steps.Index 0 (held_in s)) = held_index r heads v (held_in s) 0 fits (x v refl) in
+    let shown : Held r.size left (words_after r z steps.Index v) (state_after steps.Index 0 (held_in s)) = held_index r heads z v (held_in s) 0 fits refl (x v refl) in
     held_like r.size left w (state_after steps.Index 0 (held_in s)) (held_in (states.with_phase phases.Rest s)) refl (λ d low. taken_less s.batch s.taken d (omega (arith, low, places))) refl refl
-    (held_words r.size left w (words_after r s.batch steps.Index v) (state_after steps.Index 0 (held_in s)) at shown)
+    (held_words r.size left w (words_after r z steps.Index v) (state_after steps.Index 0 (held_in s)) at shown)
 
 -- ---- work
 

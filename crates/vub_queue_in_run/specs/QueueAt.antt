@@ -1,7 +1,12 @@
 -- The device's side of a queue stands at a moment of a run.
-use Rattle.std.specs.Prelude.{◌≡◌, ◌<◌, ℕ, ◌+◌, ◌*◌, ◌%◌, true, not, List, ◌++◌, length, map, filter, slice_get, slice_index, slice_range, get_or, [], Some, None}
+use Rattle.std.specs.Prelude.{◌≡◌, ◌<◌, ℕ, ◌+◌, ◌*◌, ◌%◌, Bool, true, false, not, nat_lt, List, ◌++◌, length, map, filter, slice_get, slice_index, slice_range, get_or, [], Some, None}
 use Rattle.vub_base.specs.declared.header.Header1.{Header1}
 use Rattle.vub_steps.specs.declared.steps.Phase.{Phase}
+use Rattle.vub_steps.specs.declared.steps.Phase.TheVariants as phases
+use Rattle.vub_steps.specs.declared.steps.Plan.{Plan}
+use Rattle.vub_steps.specs.Steps.{plan_steps}
+use Rattle.vub_infl_split.specs.Region.{RegionWords, RegionLies}
+use Rattle.vub_rec_split.specs.Places.{IsFresh, IsAt}
 use Rattle.vub_driver.specs.Layout.{area_place, buffer_place}
 use Rattle.vub_device.specs.declared.entry.Asked.{Asked}
 use Rattle.vub_device.specs.declared.entry.Entry.{Entry}
@@ -9,7 +14,7 @@ use Rattle.vub_disk.specs.Values.{Values}
 use Rattle.vub_device.specs.Crash.{value}
 use Rattle.vub_device.specs.Past.{asked, published, open_numbers, is_among, started, bytes_read}
 use Rattle.vub_steps.specs.Tasks.{Put, task_steps}
-use Rattle.vub_run.specs.Moments.{Moment, open_heads}
+use Rattle.vub_run.specs.Moments.{Moment, region_of, region_in, open_heads}
 use Rattle.vub_run.specs.Turns.{len_of}
 use Rattle.vub_queue.specs.QueueParts.{is_taken}
 use Rattle.vub_queue.specs.QueueState.{QueueState, QueueLies, IsNew, state_of}
@@ -27,7 +32,7 @@ use Rattle.vub_facts.specs.Held.{State, Held}
 -- its state, as far as the open heads are concerned
 abbrev pub held_in : QueueState → State
 held_in s = record {
-  side = record { started = s.started; phase = s.phase; batch = s.batch };
+  batch = s.batch;
   avail = s.next_avail;
   taken = is_taken s.taken;
   unfinished = map head_in s.unfinished;
@@ -53,12 +58,17 @@ pub record TaskAt (q : ℕ) (h : Header1) (setup : QueueSetup) (past : List Entr
   pub head : head_in task ≡ slice_index heads k
   pub stands : (request : Asked) → asked past q k ≡ Some request → IsTaskAt h setup.ring (buffer_place (area_place q) (slice_index heads k)) request made task
 
+-- the phase that a queue keeps: of a start its recovery keeps the place
+abbrev pub kept_phase : Phase → Phase
+kept_phase (phases.Start done) = phases.Rest
+kept_phase phase = phase
+
 pub record QueueAt (q : ℕ) (h : Header1) (setup : QueueSetup) (past : List Entry) (heads : List ℕ) (at_phase : Phase) (in_batch ready : List ℕ) (made : ℕ → ℕ) (state : QueueState) : Type 0 where
   pub ring : state.ring ≡ setup.ring
   pub runs : state.stopped ≡ None
   pub started : state.started ≡ started past q
   pub used : state.next_used ≡ (h.base + length (published past q)) % 65536
-  pub phase : state.phase ≡ at_phase
+  pub phase : state.phase ≡ kept_phase at_phase
   pub batch : state.batch ≡ map (spot_of q h past heads) in_batch
   pub completed : state.completed ≡ map (spot_of q h past heads) ready
   pub keeps : KeepsHeads setup.ring.size (open_heads q past heads) state
@@ -70,15 +80,36 @@ pub record QueueAt (q : ℕ) (h : Header1) (setup : QueueSetup) (past : List Ent
   pub sectors : (k place : ℕ) (request : Asked) → is_among (left_of q past ready in_batch) k ≡ true → asked past q k ≡ Some request → slice_get (task_steps h request) (made k) ≡ Some (Put place)
       → get_or state.sectors (slice_index heads k) [] ≡ slice_range (bytes_read past q k) (512 * place) (512 * place + 512)
 
+-- ---- its start
+
+-- so many steps of a start with this plan were made, on a queue of n descriptors whose region has these words
+pub record StartingAt (n : ℕ) (plan : Plan) (done : ℕ) (w : RegionWords) (state : QueueState) : Type 0 where
+  pub recovery : IsAt plan done w state.recovery
+  pub rung : state.rung ≡ nat_lt (length (plan_steps n plan)) done
+
+abbrev pub StartsAt : ℕ → Plan → Phase → RegionWords → QueueState → Type 0
+StartsAt n plan (phases.Start done) w state = StartingAt n plan done w state
+StartsAt n plan phase w state = IsFresh state.recovery × (state.rung ≡ false)
+
+-- of queue q, which has this bell and plan; the words of its region matter until it is started
+pub record StartAt (q : ℕ) (h : Header1) (setup : QueueSetup) (runs has_bell : Bool) (plan : Plan) (phase : Phase) (w : RegionWords) (state : QueueState) : Type 0 where
+  pub index : state.index ≡ q
+  pub bell : state.bell ≡ has_bell
+  pub ring : state.recovery.ring ≡ setup.ring
+  pub region : state.recovery.region ≡ setup.region
+  pub base : state.recovery.base ≡ h.base
+  pub begun : runs ≡ false → StartsAt h.size plan phase w state
+
 -- ---- at a moment
 
 -- the queue stands where its lane of the moment does
-abbrev pub QueueStands : ℕ → Header1 → QueueSetup → Moment → QueueState → Type 0
-QueueStands q h setup m state = QueueAt q h setup m.scene.past (m.scene.heads q) (m.lanes q).phase (m.lanes q).batch (m.lanes q).completed (m.lanes q).made state
+pub record QueueStands (q : ℕ) (h : Header1) (setup : QueueSetup) (m : Moment) (state : QueueState) : Type 0 where
+  pub at : QueueAt q h setup m.scene.past (m.scene.heads q) (m.lanes q).phase (m.lanes q).batch (m.lanes q).completed (m.lanes q).made state
+  pub start : StartAt q h setup (started m.scene.past q) (m.lanes q).bell (m.lanes q).plan (m.lanes q).phase (region_in h q m.scene) state
 
 -- ---- the set-up of a queue
 
--- its rings have n places and lie in guest memory as those of queue q do
+-- its rings have n places and lie in guest memory as those of queue q do, and its region in the in-flight region
 pub record LiesAs (q : ℕ) (setup : QueueSetup) (n : ℕ) : Type 0 where
   pub desc_space : setup.ring.desc.0.number ≡ 0
   pub avail_space : setup.ring.avail.0.number ≡ 0
@@ -87,10 +118,14 @@ pub record LiesAs (q : ℕ) (setup : QueueSetup) (n : ℕ) : Type 0 where
   pub avail : setup.ring.avail.1 ≡ area_place q + 4096
   pub used : setup.ring.used.1 ≡ area_place q + 8192
   pub size : setup.ring.size ≡ n
+  pub region : setup.region ≡ region_of q n
+  pub index : setup.index ≡ q
 
--- its rings lie in shared memory, whose spaces have these sizes
-abbrev pub SetupLies : (ℕ → ℕ) → QueueSetup → Type 0
-SetupLies sizes setup = RingLies sizes setup.ring
+-- its rings and its part of the in-flight region lie in shared memory, whose spaces have these sizes
+pub record SetupLies (sizes : ℕ → ℕ) (setup : QueueSetup) : Type 0 where
+  pub ring : RingLies sizes setup.ring
+  pub region : RegionLies sizes setup.region
+  pub same_size : setup.region.size ≡ setup.ring.size
 
 -- a queue is on the rings of the set-up
 abbrev pub IsOn : QueueSetup → Queue → Type 0
@@ -99,7 +134,7 @@ IsOn setup queue = ring_in queue ≡ setup.ring
 -- it isn't started
 pub record IsNewQueue (setup : QueueSetup) (queue : Queue) : Type 0 where
   pub ring : IsOn setup queue
-  pub state : IsNew setup.ring setup.base (state_of queue)
+  pub state : IsNew setup (state_of queue)
   pub lies : (sizes : ℕ → ℕ) (capacity : ℕ) → SetupLies sizes setup → QueueLies sizes capacity (state_of queue)
 
 -- ---- the disk

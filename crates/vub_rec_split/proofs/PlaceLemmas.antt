@@ -1,5 +1,5 @@
 -- From one place in the steps of a plan to the next one.
-use Rattle.std.proofs.Common.{◌≡◌, ◌≤◌, ◌<◌, ℕ, ◌+◌, ◌-◌, List, length, refl, ap, sym, ◌∙◌, subst, inl, inr, arith}
+use Rattle.std.proofs.Common.{◌≡◌, ◌≤◌, ◌<◌, ℕ, ◌+◌, ◌-◌, ◌^◌, List, length, refl, ap, sym, ◌∙◌, subst, inl, inr, arith}
 use Rattle.std.specs.Prelude.{slice_get, Option, Some, None}
 use Rattle.std.proofs.lemmas.Bool.Decides.{nat_tests}
 use Rattle.std.proofs.lemmas.Bool.{cases_eq, cases_lt}
@@ -11,7 +11,7 @@ use Rattle.vub_inflight.proofs.LinkLemmas.{link_goes_on}
 use Rattle.vub_infl_split.specs.declared.region.SplitStore.{SplitStore}
 use Rattle.vub_infl_split.specs.declared.region.SplitStore.TheVariants.{SI1, SI2, SI3, SR1, SR2}
 use Rattle.vub_infl_split.specs.Region.{RegionWords, words_of}
-use Rattle.vub_infl_split.specs.Stores.{words_after}
+use Rattle.vub_infl_split.specs.Stores.{words_after, NamesEntry, ValueFits}
 use Rattle.vub_region_facts.specs.Starts.{Left, InPlan, IsSettled}
 use Rattle.vub_region_facts.specs.Starts as starts
 use Rattle.vub_steps.specs.declared.steps.Plan.{Plan}
@@ -28,6 +28,7 @@ use Rattle.vub_infl_split.specs.Stores.{tag_of}
 use Rattle.vub_rec_split.specs.Starts.{RecoveryState, Sight, link_after, new_step, settle_step, step_of, unless_fault, answered, gone_on, fault_in, plan_in, sight_in, due_in, answer_in, state_after, moved}
 use Rattle.vub_rec_split.specs.Stands.{InStart, IsApart, StandsAt}
 use Rattle.vub_rec_split.specs.Places.{IsFresh, FollowsLinks, InPlace, IsAt}
+use Rattle.vub_rec_split.proofs.PlanSteps.{step_fits}
 use Rattle.vub_rec_split.proofs.PlanStores.{new_in_place, settle_in_place}
 use Rattle.vub_rec_split.proofs.StandLemmas.{stands_fine}
 
@@ -158,6 +159,38 @@ at_due heads r m plan place at facts more = due ∙ ap (λ (d : ℕ). step_of n 
         settle_in_place n used heads count place r.cleared sight w refl (record { settling = f; link = y.link }) ∙ ap (λ (l : ℕ). region_step_at used l (slice_get (plan_steps n (Settles count)) place)) link
     go Settled y f low = absurd f
 
+-- and there is one, within the region, whose value fits its word
+pub record HasStore (r : RecoveryState) (m : Bytes) (plan : Plan) (place : ℕ) : Type 0 where
+  pub store : SplitStore
+  pub due : due_in r m ≡ Some store
+  pub next : region_step_at (used_idx_word r.ring m) (link_in r m place) (slice_get (plan_steps r.region.size plan) place) ≡ Some store
+  pub within : NamesEntry r.region.size store
+  pub fits : ValueFits store
+
+pub at_store : (heads : List ℕ) (r : RecoveryState) (m : Bytes) (plan : Plan) (place : ℕ) → used_idx_word r.ring m < 256 ^ 2 → IsAt plan place (words r m) r → starts.InStart r.region.size (used_idx_word r.ring m) heads r.base plan place (words r m)
+    → place < length (plan_steps r.region.size plan) → HasStore r m plan place
+at_store heads r m plan place small at facts more =
+    let in_place : due_in r m ≡ region_step_at (used_idx_word r.ring m) (link_in r m place) (slice_get (plan_steps r.region.size plan) place) = at_due heads r m plan place at facts more in
+    let some = some_step plan (facts.stores more) in
+    let due : due_in r m ≡ Some some.0 = step_is ∙ some.1 in
+    let fits = step_fits r.region.size (sight_in r m) plan place some.0 small some.1 in
+    record { store = some.0; due = due; next = sym in_place ∙ due; within = fits.0; fits = fits.1 }
+  where
+    x : InPlace plan place (words r m) r
+    x = at.stores more
+
+    step_is : due_in r m ≡ step_of r.region.size (sight_in r m) plan place
+    step_is = go r.plan x.plan_is ∙ ap (step_of r.region.size (sight_in r m) plan) x.done_is
+      where
+        go : (o : Option Plan) → o ≡ Some plan → due_in (record r { plan = o }) m ≡ step_of r.region.size (sight_in r m) plan r.done
+        go None e = absurd (cc)
+        go (Some p) e = let same : p ≡ plan = cc in ap (λ (y : Plan). step_of r.region.size (sight_in r m) y r.done) same
+
+    some_step : (p : Plan) → InPlan r.region.size (used_idx_word r.ring m) heads r.base p place (words r m) → (y : SplitStore) × (step_of r.region.size (sight_in r m) p place ≡ Some y)
+    some_step New f = (new_step r.region.size (sight_in r m) place, refl)
+    some_step (Settles count) f = (settle_step r.region.size (sight_in r m) count place, refl)
+    some_step Settled f = absurd f
+
 -- after it comes the next place
 new_goes : (n place : ℕ) (sight : Sight) (w w' : RegionWords) (r : RecoveryState) → r.region.size ≡ n → place < n + 2 → InPlace New place w r → IsAt New (place + 1) w' (moved (new_step n sight place) r)
 new_goes n place sight w w' r size low x = elim (cases_eq place 0) [
@@ -256,3 +289,10 @@ at_end r m is = go r.plan is
     go : (o : Option Plan) → o ≡ Some Settled → EndsStores (record r { plan = o }) m
     go None e = absurd (cc)
     go (Some p) e = let same : Settled ≡ p = cc in subst (λ (y : Plan). EndsStores (record r { plan = Some y }) m) same (record { due = refl; answers = refl; stays = refl })
+
+-- a start that has begun has its plan
+pub at_planned : (r : RecoveryState) (m : Bytes) (plan : Plan) (place : ℕ) → IsAt plan place (words r m) r → planned r m ≡ r
+at_planned r m plan place at = elim (cases_lt place (length (plan_steps r.region.size plan))) [
+  | inl more ↦ planned_is r m plan (at.stores more).plan_is
+  | inr all ↦ planned_is r m Settled (at.settled (omega (arith, all)))
+]

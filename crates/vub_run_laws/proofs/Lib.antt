@@ -12,6 +12,7 @@ pub mod RingQuiet
 pub mod RingRows
 pub mod RingSmall
 pub mod RingSpares
+pub mod RingStarts
 pub mod RingStores
 pub mod RingTracks
 pub mod RunAsks

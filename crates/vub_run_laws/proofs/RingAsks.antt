@@ -21,6 +21,7 @@ use Rattle.vub_run_laws.proofs.RunGood.{IsPlainAsk, IsSize}
 use Rattle.vub_base.specs.declared.header.Header1.{Header1}
 use Rattle.vub_base.specs.declared.request.Shape.TheVariants.{Direct}
 use Rattle.vub_steps.specs.declared.steps.Phase.{Phase}
+use Rattle.vub_steps.specs.declared.steps.Plan.{Plan}
 use Rattle.vub_run.specs.Memory.{Scene}
 
 -- below n, and nobody's
@@ -144,8 +145,8 @@ ask_driven q n cap base past heads a v (head ∷ ds) small plain some few all d 
   };
 }
 
-pub ask_facts : (q : ℕ) (h : Header1) (s : Scene) (v : Driver) (batch : List ℕ) (phase : Phase) (a : Ask) → IsSize h.size → IsPlainAsk h.capacity a → can_take h.size Direct a v ≡ true → QueueFacts q h s v batch phase → QueueFacts q h s (after_ask (the_ring q h.size) a v) batch phase
-ask_facts q h s v batch phase a size plain ready x =
+pub ask_facts : (q : ℕ) (h : Header1) (s : Scene) (v : Driver) (bell : Bool) (plan : Plan) (batch : List ℕ) (phase : Phase) (a : Ask) → IsSize h.size → IsPlainAsk h.capacity a → can_take h.size Direct a v ≡ true → QueueFacts q h s v bell plan batch phase → QueueFacts q h s (after_ask (the_ring q h.size) a v) bell plan batch phase
+ask_facts q h s v bell plan batch phase a size plain ready x =
     let free : List ℕ = free_descriptors h.size v in
     let enough : descriptors_needed a ≤ length free = grind (arith, nat_tests) in
     let many : length (chosen h.size a v) ≡ descriptors_needed a = length-take-le (descriptors_needed a) free enough in
@@ -154,4 +155,5 @@ ask_facts q h s v batch phase a size plain ready x =
       ringed = x.ringed;
       driven = ask_driven q h.size h.capacity h.base s.past (s.heads q) a v (chosen h.size a v) size.small plain (omega (arith, many, needed.0)) (omega (arith, many, needed.1)) all x.driven;
       words = x.words;
+      start = x.start;
     }

@@ -2,7 +2,7 @@
 use Rattle.std.proofs.Common.{◌≡◌, ◌≤◌, ◌<◌, ℕ, zero, suc, ◌+◌, ◌*◌, Bool, true, false, List, [], ◌∷◌, ◌++◌, length, map, take, get_or, refl, ap, sym, ◌∙◌, subst, inl, inr, arith}
 use Rattle.std.specs.Prelude.{Option, slice_index}
 use Rattle.byteorder.specs.Endian.{little_bytes}
-use Rattle.std.proofs.lemmas.Bool.{cases_Bool}
+use Rattle.std.proofs.lemmas.Bool.{cases_Bool, cases_lt}
 use Rattle.std.proofs.lemmas.Bool.Decides.{nat_tests}
 use Rattle.std.proofs.lemmas.List.{length-map}
 use Rattle.std.proofs.lemmas.Simd.{map-map}
@@ -23,29 +23,41 @@ use Rattle.vub_device.specs.Places.{are_distinct}
 use Rattle.vub_run.specs.Memory.{Scene}
 use Rattle.vub_run.specs.Moments.{Lane, open_heads}
 use Rattle.vub_run.specs.Turns.{element_of, len_of}
-use Rattle.vub_facts.specs.Facts.{Side, heads_in, Lies, Elsewhere, Words, words_at, InBatch, Facts, words_after}
+use Rattle.vub_steps.specs.declared.steps.Plan.{Plan}
+use Rattle.vub_steps.specs.declared.steps.Plan.TheVariants as plans
+use Rattle.vub_steps.specs.Steps.{plan_steps}
+use Rattle.vub_infl_split.specs.declared.region.SplitRegion.{SplitRegion}
+use Rattle.vub_infl_split.specs.Region.{RegionWords, words_of}
+use Rattle.vub_region_facts.specs.Starts.{Left}
+use Rattle.vub_region_facts.specs.Phases.{NotStarted}
+use Rattle.vub_region_facts.specs.Starts as starts
+use Rattle.vub_facts.specs.Facts.{Side, heads_in, Lies, Elsewhere, Words, words_at, InBatch, Facts, sight, words_after}
+use Rattle.vub_facts.proofs.FactStarts.{start_long}
 use Rattle.vub_facts.proofs.FactWords.{facts_off, facts_beside, id_words, len_words}
 use Rattle.vub_facts.proofs.FactSteps.{publication_begins, step_keeps}
 use Rattle.vub_facts.proofs.HeadLemmas.{number_of, among_map, few_below}
 use Rattle.vub_run_laws.proofs.RunNumbers.{missing-among, among-missing}
-use Rattle.vub_run_laws.proofs.RunGood.{IsSize, Known, IsOut, PhaseIs, RestsOrPublishes, LeavesQueue, stored_at}
-use Rattle.vub_run_laws.proofs.RingGood.{the_ring, side_of, WordsAt, Driven, QueueFacts}
+use Rattle.vub_run_laws.proofs.RunGood.{IsSize, Known, IsOut, PhaseIs, StartIs, BetweenTurns, LeavesQueue, stored_at}
+use Rattle.vub_run_laws.proofs.RingGood.{the_ring, the_region, side_of, WordsAt, Driven, QueueFacts}
 use Rattle.vub_run_laws.proofs.RunHolds.{Holds}
 use Rattle.vub_run_laws.proofs.RunFrames.{open_out}
 use Rattle.vub_run_laws.proofs.RingFrames.{OffRings, ringed_elsewhere}
 use Rattle.vub_run_laws.proofs.RingEntries.{ringed_entries, driven_same}
 use Rattle.vub_run_laws.proofs.RunOffers.{same_head, same_asked}
 
--- where the rings of the layout lie
-pub lies_ring : (q n : ℕ) → IsSize n → Lies (the_ring q n)
+-- where rings and region of the layout lie: in two spaces
+pub lies_ring : (q n : ℕ) → IsSize n → Lies (the_ring q n) (the_region q n)
 lies_ring q n size = record {
   size = record { some = size.some; few = omega (arith, size.small); laps = size.laps };
+  same_size = refl;
   fits = record { some = size.some; apart = inr (inr (omega (arith, size.small))) };
+  off_avail = inl (λ e. omega (arith, e));
+  off_used = inl (λ e. omega (arith, e));
 }
 
 -- what is under way between two turns
-pub phase_at : (q : ℕ) (h : Header1) (s : Scene) (l : Lane) → Holds q h s l → PhaseIs l.batch l.phase
-phase_at q h s l x = go l.phase x.worked.between x.queue.words
+pub phase_at : (q : ℕ) (h : Header1) (s : Scene) (l : Lane) → Holds q h s l → PhaseIs h.size l.bell l.plan l.batch l.phase
+phase_at q h s l x = go l.phase x.worked.between x.queue.words x.queue.start
   where
     long : length (map (element_of h q s) l.batch) ≡ length l.batch
     long = length-map l.batch (element_of h q s)
@@ -54,11 +66,11 @@ phase_at q h s l x = go l.phase x.worked.between x.queue.words
     none [] e = refl
     none (k ∷ ks) e = absurd (cc)
 
-    go : (p : Phase) → RestsOrPublishes p → WordsAt q h s l.batch p → PhaseIs l.batch p
-    go phases.Rest between f = none l.batch f.batch
-    go (phases.Publish done) between f = (omega (arith, f.batch.0.some, long), omega (arith, f.batch.0.left, long))
-    go (phases.Start done) between f = absurd between
-    go (phases.Fetch done) between f = absurd between
+    go : (p : Phase) → BetweenTurns p → WordsAt q h s l.bell l.plan l.batch p → StartIs (started s.past q) h.size l.bell l.plan p → PhaseIs h.size l.bell l.plan l.batch p
+    go phases.Rest between f start = none l.batch f.batch
+    go (phases.Publish done) between f start = (omega (arith, f.batch.0.some, long), omega (arith, f.batch.0.left, long))
+    go (phases.Start done) between f start = (none l.batch f.batch, start.left)
+    go (phases.Fetch done) between f start = absurd between
 
 -- ---- another history
 
@@ -72,31 +84,31 @@ map_alike f g (x ∷ xs) same =
     let here : f x ≡ g x = same x (grind (arith, nat_tests)) in
     cc
 
-side_are : (b b' : Bool) (p : Phase) (xs xs' : List (ℕ × ℕ)) → b ≡ b' → xs ≡ xs' → ◌≡◌ {A = Side} (record { started = b; phase = p; batch = xs }) (record { started = b'; phase = p; batch = xs' })
-side_are b b' p xs xs' e f = cc
+side_are : (b b' bell : Bool) (p : Phase) (plan : Plan) (xs xs' : List (ℕ × ℕ)) → b ≡ b' → xs ≡ xs' → ◌≡◌ {A = Side} (record { started = b; bell = bell; phase = p; plan = plan; batch = xs }) (record { started = b'; bell = bell; phase = p; plan = plan; batch = xs' })
+side_are b b' bell p plan xs xs' e f = cc
 
 -- an entry that accepts and shows nothing, and starts nothing
-pub words_same : (q : ℕ) (h : Header1) (s : Scene) (past' : List Entry) (batch : List ℕ) (phase : Phase) → started past' q ≡ started s.past q → accepted past' q ≡ accepted s.past q → published past' q ≡ published s.past q
-    → ((k : ℕ) → asked past' q k ≡ asked s.past q k) → WordsAt q h s batch phase → WordsAt q h (record s { past = past' }) batch phase
-words_same q h s past' batch phase runs accepts shows asks f =
+pub words_same : (q : ℕ) (h : Header1) (s : Scene) (past' : List Entry) (bell : Bool) (plan : Plan) (batch : List ℕ) (phase : Phase) → started past' q ≡ started s.past q → accepted past' q ≡ accepted s.past q → published past' q ≡ published s.past q
+    → ((k : ℕ) → asked past' q k ≡ asked s.past q k) → WordsAt q h s bell plan batch phase → WordsAt q h (record s { past = past' }) bell plan batch phase
+words_same q h s past' bell plan batch phase runs accepts shows asks f =
     let heads : List ℕ = s.heads q in
     let same : open_heads q s.past heads ≡ open_heads q past' heads =
     ap (λ (ps : List ℕ). map (slice_index heads) (missing_below ps (accepted s.past q))) (sym shows) ∙ ap (λ (n : ℕ). map (slice_index heads) (missing_below (published past' q) n)) (sym accepts) in
     let elements : map (element_of h q s) batch ≡ map (element_of h q (record s { past = past' })) batch =
     map_alike (element_of h q s) (element_of h q (record s { past = past' })) batch (λ k held. ap (λ (o : Option Asked). (slice_index heads k, len_of h o)) (sym (asks k))) in
-    facts_are h.size h.base (open_heads q s.past heads) (open_heads q past' heads) (side_of q h s batch phase) (side_of q h (record s { past = past' }) batch phase) (words_at (the_ring q h.size) s.memory) same
-    (side_are (started s.past q) (started past' q) phase (map (element_of h q s) batch) (map (element_of h q (record s { past = past' })) batch) (sym runs) elements) f
+    facts_are h.size h.base (open_heads q s.past heads) (open_heads q past' heads) (side_of q h s bell plan batch phase) (side_of q h (record s { past = past' }) bell plan batch phase) (words_at (the_ring q h.size) (the_region q h.size) s.memory) same
+    (side_are (started s.past q) (started past' q) bell phase plan (map (element_of h q s) batch) (map (element_of h q (record s { past = past' })) batch) (sym runs) elements) f
 
 -- the facts of the words, where the requests of the queue were offered under these heads
-abbrev pub OfferedWords : ℕ → Header1 → Scene → Asked → Bytes → List ℕ → Phase → List ℕ → Type 0
-OfferedWords q h s r m batch phase hs =
-    Facts h.size (open_heads q (entries.Offer q r ∷ s.past) hs) h.base (record { started = started s.past q; phase = phase; batch = map (λ k. (slice_index hs k, len_of h (asked (entries.Offer q r ∷ s.past) q k))) batch }) (words_at (the_ring q h.size) m)
+abbrev pub OfferedWords : ℕ → Header1 → Scene → Asked → Bytes → Bool → Plan → List ℕ → Phase → List ℕ → Type 0
+OfferedWords q h s r m bell plan batch phase hs =
+    Facts h.size (open_heads q (entries.Offer q r ∷ s.past) hs) h.base (record { started = started s.past q; bell = bell; phase = phase; plan = plan; batch = map (λ k. (slice_index hs k, len_of h (asked (entries.Offer q r ∷ s.past) q k))) batch }) (words_at (the_ring q h.size) (the_region q h.size) m)
 
 -- an offer: what was accepted before keeps its head and its request
-pub words_offer : (q : ℕ) (h : Header1) (s : Scene) (r : Asked) (x : ℕ) (m : Bytes) (batch : List ℕ) (phase : Phase) → Known q h.size h.capacity s.past (s.heads q) → ((k : ℕ) → is_among batch k ≡ true → k < accepted s.past q)
-    → WordsAt q h (record s { memory = m }) batch phase
-    → OfferedWords q h s r m batch phase (s.heads q ++ x ∷ [])
-words_offer q h s r x m batch phase known low f =
+pub words_offer : (q : ℕ) (h : Header1) (s : Scene) (r : Asked) (x : ℕ) (m : Bytes) (bell : Bool) (plan : Plan) (batch : List ℕ) (phase : Phase) → Known q h.size h.capacity s.past (s.heads q) → ((k : ℕ) → is_among batch k ≡ true → k < accepted s.past q)
+    → WordsAt q h (record s { memory = m }) bell plan batch phase
+    → OfferedWords q h s r m bell plan batch phase (s.heads q ++ x ∷ [])
+words_offer q h s r x m bell plan batch phase known low f =
     let heads : List ℕ = s.heads q in
     let heads' : List ℕ = heads ++ x ∷ [] in
     let past' : List Entry = entries.Offer q r ∷ s.past in
@@ -108,33 +120,71 @@ words_offer q h s r x m batch phase known low f =
     let elements : map (element_of h q s) batch ≡ map element' batch =
     map_alike (element_of h q s) element' batch (λ k held.
     ap (λ (d : ℕ). (d, len_of h (asked s.past q k))) (head_is k (low k held)) ∙ ap (λ (o : Option Asked). (slice_index heads' k, len_of h o)) (asks_is k (low k held))) in
-    facts_are h.size h.base (open_heads q s.past heads) (open_heads q past' heads') _ _ (words_at (the_ring q h.size) m) same
-    (side_are (started s.past q) (started s.past q) phase (map (element_of h q s) batch) (map element' batch) refl elements) f
+    facts_are h.size h.base (open_heads q s.past heads) (open_heads q past' heads') _ _ (words_at (the_ring q h.size) (the_region q h.size) m) same
+    (side_are (started s.past q) (started s.past q) bell phase plan (map (element_of h q s) batch) (map element' batch) refl elements) f
 
 -- an entry that offers, shows and collects nothing, with what it leaves of the words
-pub facts_entry : (q : ℕ) (h : Header1) (s : Scene) (past' : List Entry) (v : Driver) (batch : List ℕ) (phase : Phase) → LeavesQueue q s.past past' → collected past' q ≡ collected s.past q → WordsAt q h (record s { past = past' }) batch phase
-    → QueueFacts q h s v batch phase → QueueFacts q h (record s { past = past' }) v batch phase
-facts_entry q h s past' v batch phase leaves same words x = record {
+pub facts_entry : (q : ℕ) (h : Header1) (s : Scene) (past' : List Entry) (v : Driver) (bell : Bool) (plan : Plan) (batch : List ℕ) (phase : Phase) → LeavesQueue q s.past past' → collected past' q ≡ collected s.past q → WordsAt q h (record s { past = past' }) bell plan batch phase
+    → StartIs (started past' q) h.size bell plan phase → QueueFacts q h s v bell plan batch phase → QueueFacts q h (record s { past = past' }) v bell plan batch phase
+facts_entry q h s past' v bell plan batch phase leaves same words start x = record {
   ringed = ringed_entries q h.size h.base s.past past' (s.heads q) s.memory leaves x.ringed;
   driven = driven_same q h.size h.capacity h.base s.past past' (s.heads q) v (λ j o. record {
     below = o.below;
     kept = ap (λ (ks : List ℕ). is_among (take (collected s.past q) ks) j) (sym leaves.shows) ∙ ap (λ (many : ℕ). is_among (take many (published past' q)) j) (sym same) ∙ o.kept;
   }) x.driven;
   words = words;
+  start = start;
 }
+
+-- a bell changes nothing of the words, and a start has no fewer steps left with one
+pub words_attached : (q : ℕ) (h : Header1) (s : Scene) (bell : Bool) (plan : Plan) (batch : List ℕ) (phase : Phase) → WordsAt q h s bell plan batch phase → WordsAt q h s true plan batch phase
+words_attached q h s bell plan batch phase f = record { used_fits = f.used_fits; not_started = f.not_started; batch = f.batch }
+
+pub start_attached : (runs : Bool) (n : ℕ) (bell : Bool) (plan : Plan) (phase : Phase) → StartIs runs n bell plan phase → StartIs runs n true plan phase
+start_attached runs n true plan phase x = x
+start_attached runs n false plan phases.Rest x = x
+start_attached runs n false plan (phases.Start done) x = record {
+  stopped = x.stopped;
+  left = omega (arith, x.left, start_long n plan true, start_long n plan false);
+  few = x.few;
+}
+start_attached runs n false plan (phases.Fetch done) x = x
+start_attached runs n false plan (phases.Publish done) x = x
 
 -- ---- at rest
 
 -- a queue that runs and has nothing under way
-pub words_rest : (q : ℕ) (h : Header1) (s : Scene) → started s.past q ≡ true → used_idx (the_ring q h.size) s.memory < 65536 → WordsAt q h s [] phases.Rest
-words_rest q h s run fits = record { used_fits = fits; untouched = λ stopped. absurd (let fails : true ≡ false = sym run ∙ stopped in cc); batch = refl }
+pub words_rest : (q : ℕ) (h : Header1) (s : Scene) (bell : Bool) (plan : Plan) → started s.past q ≡ true → used_idx (the_ring q h.size) s.memory < 65536 → WordsAt q h s bell plan [] phases.Rest
+words_rest q h s bell plan run fits = record { used_fits = fits; not_started = λ stopped. absurd (let fails : true ≡ false = sym run ∙ stopped in cc); batch = refl }
 
-pub words_rest_at : (q : ℕ) (h : Header1) (s : Scene) (batch : List ℕ) (phase : Phase) → phase ≡ phases.Rest → batch ≡ [] → WordsAt q h s [] phases.Rest → WordsAt q h s batch phase
-words_rest_at q h s batch phase rest none f = subst (λ (p : Phase). WordsAt q h s batch p) (sym rest) (subst (λ (ks : List ℕ). WordsAt q h s ks phases.Rest) (sym none) f)
+pub words_rest_at : (q : ℕ) (h : Header1) (s : Scene) (bell : Bool) (plan : Plan) (batch : List ℕ) (phase : Phase) → phase ≡ phases.Rest → batch ≡ [] → WordsAt q h s bell plan [] phases.Rest → WordsAt q h s bell plan batch phase
+words_rest_at q h s bell plan batch phase rest none f = subst (λ (p : Phase). WordsAt q h s bell plan batch p) (sym rest) (subst (λ (ks : List ℕ). WordsAt q h s bell plan ks phases.Rest) (sym none) f)
+
+-- a life that is cut off in a start leaves what a life can
+start_leaves : (n used : ℕ) (heads : List ℕ) (base done : ℕ) (plan : Plan) (w : RegionWords) → starts.InStart n used heads base plan done w → Left n used heads base w
+start_leaves n used heads base done plans.New w x = elim (cases_lt done (length (plan_steps n plans.New))) [
+  | inl more ↦ inl (x.stores more).unmade
+  | inr none ↦ inr (x.settled none).sound
+]
+start_leaves n used heads base done (plans.Settles count) w x = elim (cases_lt done (length (plan_steps n (plans.Settles count)))) [
+  | inl more ↦ inr (x.stores more).sound
+  | inr none ↦ inr (x.settled none).sound
+]
+start_leaves n used heads base done plans.Settled w x = inr (x.settled (omega arith)).sound
+
+life_leaves : (n used : ℕ) (heads : List ℕ) (base : ℕ) (plan : Plan) (phase : Phase) (w : RegionWords) → NotStarted n used heads base plan phase w → Left n used heads base w
+life_leaves n used heads base plan phases.Rest w x = x
+life_leaves n used heads base plan (phases.Start done) w x = start_leaves n used heads base done plan w x
+life_leaves n used heads base plan (phases.Fetch done) w x = x
+life_leaves n used heads base plan (phases.Publish done) w x = x
 
 -- whatever was under way
-pub words_rests : (q : ℕ) (h : Header1) (s : Scene) (batch : List ℕ) (phase : Phase) → WordsAt q h s batch phase → WordsAt q h s [] phases.Rest
-words_rests q h s batch phase f = record { used_fits = f.used_fits; untouched = f.untouched; batch = refl }
+pub words_rests : (q : ℕ) (h : Header1) (s : Scene) (bell bell' : Bool) (plan plan' : Plan) (batch : List ℕ) (phase : Phase) → WordsAt q h s bell plan batch phase → WordsAt q h s bell' plan' [] phases.Rest
+words_rests q h s bell bell' plan plan' batch phase f = record {
+  used_fits = f.used_fits;
+  not_started = λ stopped. life_leaves h.size (used_idx (the_ring q h.size) s.memory) (open_heads q s.past (s.heads q)) h.base plan phase (words_of (the_region q h.size) s.memory) (f.not_started stopped);
+  batch = refl;
+}
 
 -- ---- a batch begins
 
@@ -182,32 +232,33 @@ batch_begins_at q h s v batch known driven some distinct opens =
       opens = λ le d held. open_too d (ap (λ (hs : List ℕ). is_among hs d) (sym same) ∙ held);
     }
 
-pub words_begin : (q : ℕ) (h : Header1) (s : Scene) (batch before : List ℕ) (phase : Phase) → InBatch h.size (open_heads q s.past (s.heads q)) (map (element_of h q s) batch) 0 → WordsAt q h s before phase → WordsAt q h s batch (phases.Publish 0)
-words_begin q h s batch before phase b f = publication_begins h.size (open_heads q s.past (s.heads q)) h.base (side_of q h s before phase) (map (element_of h q s) batch) (words_at (the_ring q h.size) s.memory) b f
+pub words_begin : (q : ℕ) (h : Header1) (s : Scene) (bell : Bool) (plan : Plan) (batch before : List ℕ) (phase : Phase) → started s.past q ≡ true → InBatch h.size (open_heads q s.past (s.heads q)) (map (element_of h q s) batch) 0 → WordsAt q h s bell plan before phase → WordsAt q h s bell plan batch (phases.Publish 0)
+words_begin q h s bell plan batch before phase run b f = publication_begins h.size (open_heads q s.past (s.heads q)) h.base (side_of q h s bell plan before phase) (map (element_of h q s) batch) (words_at (the_ring q h.size) (the_region q h.size) s.memory) run b f
 
 -- ---- a store
 
 -- off the rings
-pub words_elsewhere_at : (q : ℕ) (h : Header1) (s : Scene) (p : ℕ) (bs batch : List ℕ) (phase : Phase) → IsSize h.size → OffRings q p bs → WordsAt q h s batch phase → WordsAt q h (record s { memory = put s.memory 0 p bs }) batch phase
-words_elsewhere_at q h s p bs batch phase size off f =
-    facts_off (the_ring q h.size) (open_heads q s.past (s.heads q)) h.base (side_of q h s batch phase) s.memory (one_store 0 p bs) (lies_ring q h.size size) (go off) f
+pub words_elsewhere_at : (q : ℕ) (h : Header1) (s : Scene) (p : ℕ) (bs : List ℕ) (bell : Bool) (plan : Plan) (batch : List ℕ) (phase : Phase) → IsSize h.size → OffRings q p bs → WordsAt q h s bell plan batch phase → WordsAt q h (record s { memory = put s.memory 0 p bs }) bell plan batch phase
+words_elsewhere_at q h s p bs bell plan batch phase size off f =
+    facts_off (the_ring q h.size) (the_region q h.size) (open_heads q s.past (s.heads q)) h.base (side_of q h s bell plan batch phase) s.memory (one_store 0 p bs) (lies_ring q h.size size) (go off) f
   where
-    go : OffRings q p bs → Elsewhere (the_ring q h.size) (one_store 0 p bs)
-    go (inl below) = record { avail = inr (inr (omega (arith, below))); used = inr (inr (omega (arith, below))) }
-    go (inr above) = record { avail = inr (inl (omega (arith, above, size.small))); used = inr (inl (omega (arith, above, size.small))) }
+    go : OffRings q p bs → Elsewhere (the_ring q h.size) (the_region q h.size) (one_store 0 p bs)
+    go (inl below) = record { avail = inr (inr (omega (arith, below))); used = inr (inr (omega (arith, below))); region = inl (λ e. omega (arith, e)) }
+    go (inr above) = record { avail = inr (inl (omega (arith, above, size.small))); used = inr (inl (omega (arith, above, size.small))); region = inl (λ e. omega (arith, e)) }
 
-pub facts_elsewhere : (q : ℕ) (h : Header1) (s : Scene) (p : ℕ) (bs : List ℕ) (v : Driver) (batch : List ℕ) (phase : Phase) → IsSize h.size → OffRings q p bs → QueueFacts q h s v batch phase → QueueFacts q h (stored_at p bs s) v batch phase
-facts_elsewhere q h s p bs v batch phase size off x = record {
+pub facts_elsewhere : (q : ℕ) (h : Header1) (s : Scene) (p : ℕ) (bs : List ℕ) (v : Driver) (bell : Bool) (plan : Plan) (batch : List ℕ) (phase : Phase) → IsSize h.size → OffRings q p bs → QueueFacts q h s v bell plan batch phase → QueueFacts q h (stored_at p bs s) v bell plan batch phase
+facts_elsewhere q h s p bs v bell plan batch phase size off x = record {
   ringed = ringed_elsewhere q h.size h.base s.past (s.heads q) s.memory p bs size off x.ringed;
   driven = x.driven;
-  words = words_elsewhere_at q h s p bs batch phase size off x.words;
+  words = words_elsewhere_at q h s p bs bell plan batch phase size off x.words;
+  start = x.start;
 }
 
 -- below the used ring, where no fetch is under way
-pub words_below : (q : ℕ) (h : Header1) (s : Scene) (p : ℕ) (bs batch : List ℕ) (phase : Phase) → IsSize h.size → RestsOrPublishes phase → p + length bs ≤ area_place q + 8192 → WordsAt q h s batch phase → WordsAt q h (record s { memory = put s.memory 0 p bs }) batch phase
-words_below q h s p bs batch phase size at low f =
-    facts_beside (the_ring q h.size) (open_heads q s.past (s.heads q)) h.base (side_of q h s batch phase) s.memory (one_store 0 p bs) (lies_ring q h.size size) (inr (inr (omega (arith, low))))
-    (λ done fetching. absurd (subst RestsOrPublishes fetching at)) f
+pub words_below : (q : ℕ) (h : Header1) (s : Scene) (p : ℕ) (bs : List ℕ) (bell : Bool) (plan : Plan) (batch : List ℕ) (phase : Phase) → IsSize h.size → BetweenTurns phase → p + length bs ≤ area_place q + 8192 → WordsAt q h s bell plan batch phase → WordsAt q h (record s { memory = put s.memory 0 p bs }) bell plan batch phase
+words_below q h s p bs bell plan batch phase size at low f =
+    facts_beside (the_ring q h.size) (the_region q h.size) (open_heads q s.past (s.heads q)) h.base (side_of q h s bell plan batch phase) s.memory (one_store 0 p bs) (lies_ring q h.size size) (inr (inr (omega (arith, low)))) (inl (λ e. omega (arith, e)))
+    (λ done fetching. absurd (subst BetweenTurns fetching at)) f
 
 -- ---- the elements of a batch
 
@@ -217,42 +268,46 @@ element_map f (x ∷ xs) zero l = refl
 element_map f (x ∷ xs) (suc e) l = element_map f xs e (omega arith)
 
 -- id and length of the next element
-pub words_id : (q : ℕ) (h : Header1) (s : Scene) (batch : List ℕ) (done e i x : ℕ) → IsSize h.size → started s.past q ≡ true → e < length batch → done ≡ 2 * e → entry_of (the_ring q h.size) (used_idx (the_ring q h.size) s.memory + e) ≡ entry_of (the_ring q h.size) i
-    → x ≡ (element_of h q s (slice_index batch e)).0 → x < 4294967296 → WordsAt q h s batch (phases.Publish done) → WordsAt q h (record s { memory = put s.memory 0 (used_id_place (the_ring q h.size) i) (little_bytes 4 x) }) batch (phases.Publish (done + 1))
-words_id q h s batch done e i x size run inside at place is fits f =
+pub words_id : (q : ℕ) (h : Header1) (s : Scene) (bell : Bool) (plan : Plan) (batch : List ℕ) (done e i x : ℕ) → IsSize h.size → started s.past q ≡ true → e < length batch → done ≡ 2 * e → entry_of (the_ring q h.size) (used_idx (the_ring q h.size) s.memory + e) ≡ entry_of (the_ring q h.size) i
+    → x ≡ (element_of h q s (slice_index batch e)).0 → x < 4294967296 → WordsAt q h s bell plan batch (phases.Publish done) → WordsAt q h (record s { memory = put s.memory 0 (used_id_place (the_ring q h.size) i) (little_bytes 4 x) }) bell plan batch (phases.Publish (done + 1))
+words_id q h s bell plan batch done e i x size run inside at place is fits f =
     let r : Ring = the_ring q h.size in
+    let g : SplitRegion = the_region q h.size in
     let heads : List ℕ = open_heads q s.past (s.heads q) in
     let elements : List (ℕ × ℕ) = map (element_of h q s) batch in
+    let side : Side = side_of q h s bell plan batch (phases.Publish (2 * e)) in
     let named : x ≡ (get_or elements e (0, 0)).0 = is ∙ sym (ap (λ (y : ℕ × ℕ). y.0) (element_map (element_of h q s) batch e inside)) in
     let there : used_id_place r (used_idx r s.memory + e) ≡ used_id_place r i = ap (λ (y : ℕ). area_place q + 8192 + (4 + 8 * y)) place in
-    let now : words_at r (put s.memory 0 (used_id_place r i) (little_bytes 4 x)) ≡ words_after r elements (steps.Id e) (words_at r s.memory) =
-    ap (λ (p : ℕ). words_at r (put s.memory 0 p (little_bytes 4 x))) (sym there) ∙ id_words r elements e x s.memory (lies_ring q h.size size) named fits in
-    let before : Facts h.size heads h.base (side_of q h s batch (phases.Publish (2 * e))) (words_at r s.memory) = subst (λ (d : ℕ). Facts h.size heads h.base (side_of q h s batch (phases.Publish d)) (words_at r s.memory)) at f in
-    let after : Facts h.size heads h.base (side_of q h s batch (phases.Publish (2 * e + 1))) (words_after r elements (steps.Id e) (words_at r s.memory)) =
-    step_keeps r heads h.base (steps.Id e) (side_of q h s batch (phases.Publish (2 * e))) (words_at r s.memory) (lies_ring q h.size size) (run, (refl, omega (arith, inside, length-map batch (element_of h q s)))) before in
-    subst (λ (d : ℕ). Facts h.size heads h.base (side_of q h s batch (phases.Publish d)) (words_at r (put s.memory 0 (used_id_place r i) (little_bytes 4 x)))) (let next : 2 * e + 1 ≡ done + 1 = omega (arith, at) in next)
-    (subst (λ (w : Words). Facts h.size heads h.base (side_of q h s batch (phases.Publish (2 * e + 1))) w) (sym now) after)
+    let now : words_at r g (put s.memory 0 (used_id_place r i) (little_bytes 4 x)) ≡ words_after r (sight side (words_at r g s.memory)) (steps.Id e) (words_at r g s.memory) =
+    ap (λ (p : ℕ). words_at r g (put s.memory 0 p (little_bytes 4 x))) (sym there) ∙ id_words r g (sight side (words_at r g s.memory)) e x s.memory (lies_ring q h.size size) named fits in
+    let before : Facts h.size heads h.base (side_of q h s bell plan batch (phases.Publish (2 * e))) (words_at r g s.memory) = subst (λ (d : ℕ). Facts h.size heads h.base (side_of q h s bell plan batch (phases.Publish d)) (words_at r g s.memory)) at f in
+    let after : Facts h.size heads h.base (side_of q h s bell plan batch (phases.Publish (2 * e + 1))) (words_after r (sight side (words_at r g s.memory)) (steps.Id e) (words_at r g s.memory)) =
+    step_keeps r g heads h.base (steps.Id e) (side_of q h s bell plan batch (phases.Publish (2 * e))) (words_at r g s.memory) (lies_ring q h.size size) (run, (refl, omega (arith, inside, length-map batch (element_of h q s)))) before in
+    subst (λ (d : ℕ). Facts h.size heads h.base (side_of q h s bell plan batch (phases.Publish d)) (words_at r g (put s.memory 0 (used_id_place r i) (little_bytes 4 x)))) (let next : 2 * e + 1 ≡ done + 1 = omega (arith, at) in next)
+    (subst (λ (w : Words). Facts h.size heads h.base (side_of q h s bell plan batch (phases.Publish (2 * e + 1))) w) (sym now) after)
 
-pub words_len : (q : ℕ) (h : Header1) (s : Scene) (batch : List ℕ) (done e i x : ℕ) → IsSize h.size → started s.past q ≡ true → e < length batch → done ≡ 2 * e + 1 → entry_of (the_ring q h.size) (used_idx (the_ring q h.size) s.memory + e) ≡ entry_of (the_ring q h.size) i
-    → x ≡ (element_of h q s (slice_index batch e)).1 → x < 4294967296 → WordsAt q h s batch (phases.Publish done) → WordsAt q h (record s { memory = put s.memory 0 (used_len_place (the_ring q h.size) i) (little_bytes 4 x) }) batch (phases.Publish (done + 1))
-words_len q h s batch done e i x size run inside at place is fits f =
+pub words_len : (q : ℕ) (h : Header1) (s : Scene) (bell : Bool) (plan : Plan) (batch : List ℕ) (done e i x : ℕ) → IsSize h.size → started s.past q ≡ true → e < length batch → done ≡ 2 * e + 1 → entry_of (the_ring q h.size) (used_idx (the_ring q h.size) s.memory + e) ≡ entry_of (the_ring q h.size) i
+    → x ≡ (element_of h q s (slice_index batch e)).1 → x < 4294967296 → WordsAt q h s bell plan batch (phases.Publish done) → WordsAt q h (record s { memory = put s.memory 0 (used_len_place (the_ring q h.size) i) (little_bytes 4 x) }) bell plan batch (phases.Publish (done + 1))
+words_len q h s bell plan batch done e i x size run inside at place is fits f =
     let r : Ring = the_ring q h.size in
+    let g : SplitRegion = the_region q h.size in
     let heads : List ℕ = open_heads q s.past (s.heads q) in
     let elements : List (ℕ × ℕ) = map (element_of h q s) batch in
+    let side : Side = side_of q h s bell plan batch (phases.Publish (2 * e + 1)) in
     let named : x ≡ (get_or elements e (0, 0)).1 = is ∙ sym (ap (λ (y : ℕ × ℕ). y.1) (element_map (element_of h q s) batch e inside)) in
     let there : used_len_place r (used_idx r s.memory + e) ≡ used_len_place r i = ap (λ (y : ℕ). area_place q + 8192 + (8 + 8 * y)) place in
-    let now : words_at r (put s.memory 0 (used_len_place r i) (little_bytes 4 x)) ≡ words_after r elements (steps.Len e) (words_at r s.memory) =
-    ap (λ (p : ℕ). words_at r (put s.memory 0 p (little_bytes 4 x))) (sym there) ∙ len_words r elements e x s.memory (lies_ring q h.size size) named fits in
-    let before : Facts h.size heads h.base (side_of q h s batch (phases.Publish (2 * e + 1))) (words_at r s.memory) = subst (λ (d : ℕ). Facts h.size heads h.base (side_of q h s batch (phases.Publish d)) (words_at r s.memory)) at f in
-    let after : Facts h.size heads h.base (side_of q h s batch (phases.Publish (2 * e + 2))) (words_after r elements (steps.Len e) (words_at r s.memory)) =
-    step_keeps r heads h.base (steps.Len e) (side_of q h s batch (phases.Publish (2 * e + 1))) (words_at r s.memory) (lies_ring q h.size size) (run, (refl, omega (arith, inside, length-map batch (element_of h q s)))) before in
-    subst (λ (d : ℕ). Facts h.size heads h.base (side_of q h s batch (phases.Publish d)) (words_at r (put s.memory 0 (used_len_place r i) (little_bytes 4 x)))) (let next : 2 * e + 2 ≡ done + 1 = omega (arith, at) in next)
-    (subst (λ (w : Words). Facts h.size heads h.base (side_of q h s batch (phases.Publish (2 * e + 2))) w) (sym now) after)
+    let now : words_at r g (put s.memory 0 (used_len_place r i) (little_bytes 4 x)) ≡ words_after r (sight side (words_at r g s.memory)) (steps.Len e) (words_at r g s.memory) =
+    ap (λ (p : ℕ). words_at r g (put s.memory 0 p (little_bytes 4 x))) (sym there) ∙ len_words r g (sight side (words_at r g s.memory)) e x s.memory (lies_ring q h.size size) named fits in
+    let before : Facts h.size heads h.base (side_of q h s bell plan batch (phases.Publish (2 * e + 1))) (words_at r g s.memory) = subst (λ (d : ℕ). Facts h.size heads h.base (side_of q h s bell plan batch (phases.Publish d)) (words_at r g s.memory)) at f in
+    let after : Facts h.size heads h.base (side_of q h s bell plan batch (phases.Publish (2 * e + 1 + 1))) (words_after r (sight side (words_at r g s.memory)) (steps.Len e) (words_at r g s.memory)) =
+    step_keeps r g heads h.base (steps.Len e) (side_of q h s bell plan batch (phases.Publish (2 * e + 1))) (words_at r g s.memory) (lies_ring q h.size size) (run, (refl, omega (arith, inside, length-map batch (element_of h q s)))) before in
+    subst (λ (d : ℕ). Facts h.size heads h.base (side_of q h s bell plan batch (phases.Publish d)) (words_at r g (put s.memory 0 (used_len_place r i) (little_bytes 4 x)))) (let next : 2 * e + 1 + 1 ≡ done + 1 = omega (arith, at) in next)
+    (subst (λ (w : Words). Facts h.size heads h.base (side_of q h s bell plan batch (phases.Publish (2 * e + 1 + 1))) w) (sym now) after)
 
 -- where all steps but that of used.idx were made each element of the batch stands
-pub words_element : (q : ℕ) (h : Header1) (s : Scene) (batch : List ℕ) (done e i : ℕ) → done ≡ 2 * length batch → e < length batch → entry_of (the_ring q h.size) (used_idx (the_ring q h.size) s.memory + e) ≡ entry_of (the_ring q h.size) i
-    → WordsAt q h s batch (phases.Publish done) → element_at (the_ring q h.size) s.memory i ≡ element_of h q s (slice_index batch e)
-words_element q h s batch done e i whole inside place f =
+pub words_element : (q : ℕ) (h : Header1) (s : Scene) (bell : Bool) (plan : Plan) (batch : List ℕ) (done e i : ℕ) → done ≡ 2 * length batch → e < length batch → entry_of (the_ring q h.size) (used_idx (the_ring q h.size) s.memory + e) ≡ entry_of (the_ring q h.size) i
+    → WordsAt q h s bell plan batch (phases.Publish done) → element_at (the_ring q h.size) s.memory i ≡ element_of h q s (slice_index batch e)
+words_element q h s bell plan batch done e i whole inside place f =
     let r : Ring = the_ring q h.size in
     let long : length (map (element_of h q s) batch) ≡ length batch = length-map batch (element_of h q s) in
     let low : e < length (map (element_of h q s) batch) = omega (arith, inside, long) in

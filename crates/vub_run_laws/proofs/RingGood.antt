@@ -1,5 +1,5 @@
 -- What holds of a split ring and of its driver at every moment of a run.
-use Rattle.std.proofs.Common.{◌≡◌, ◌≢◌, ◌≤◌, ◌<◌, ℕ, ◌⊎◌, ◌+◌, ◌*◌, ◌%◌, List, [], ◌∷◌, ◌++◌, length, map}
+use Rattle.std.proofs.Common.{◌≡◌, ◌≢◌, ◌≤◌, ◌<◌, ℕ, ◌⊎◌, ◌+◌, ◌*◌, ◌%◌, Bool, List, [], ◌∷◌, ◌++◌, length, map}
 use Rattle.std.specs.Prelude.{Option, Some, None, slice_index, ⊤}
 use Rattle.std.specs.List.{AllByRecursion}
 use Rattle.byteorder.specs.Endian.{little_bytes}
@@ -15,10 +15,12 @@ use Rattle.vub_device.specs.Past.{started, accepted, published, collected}
 use Rattle.vub_device.specs.Requests.{request_of}
 use Rattle.vub_device.specs.declared.entry.Entry.{Entry}
 use Rattle.vub_run.specs.Memory.{Scene}
-use Rattle.vub_run.specs.Moments.{Moment, open_heads}
+use Rattle.vub_infl_split.specs.declared.region.SplitRegion.{SplitRegion}
+use Rattle.vub_steps.specs.declared.steps.Plan.{Plan}
+use Rattle.vub_run.specs.Moments.{Moment, region_of, open_heads}
 use Rattle.vub_run.specs.Turns.{element_of}
 use Rattle.vub_facts.specs.Facts.{Side, Facts, words_at}
-use Rattle.vub_run_laws.proofs.RunGood.{IsWide, IsOut, spot}
+use Rattle.vub_run_laws.proofs.RunGood.{IsWide, IsOut, StartIs, spot}
 
 abbrev pub the_ring : ℕ → ℕ → Ring
 the_ring q n = ring_of q n
@@ -76,19 +78,23 @@ abbrev pub EntryWell : ℕ → ℕ → ℕ → Bytes → Option Waiting → Type
 EntryWell q n index m None = ⊤
 EntryWell q n index m (Some w) = length w.left ≡ 1 → head_at (the_ring q n) m index ≡ w.head
 
+abbrev pub the_region : ℕ → ℕ → SplitRegion
+the_region q n = region_of q n
+
 -- what a queue has under way
-abbrev pub side_of : ℕ → Header1 → Scene → List ℕ → Phase → Side
-side_of q h s batch phase = record { started = started s.past q; phase = phase; batch = map (element_of h q s) batch }
+abbrev pub side_of : ℕ → Header1 → Scene → Bool → Plan → List ℕ → Phase → Side
+side_of q h s bell plan batch phase = record { started = started s.past q; bell = bell; phase = phase; plan = plan; batch = map (element_of h q s) batch }
 
 -- the facts of its words, for the heads of its open requests
-abbrev pub WordsAt : ℕ → Header1 → Scene → List ℕ → Phase → Type 0
-WordsAt q h s batch phase = Facts h.size (open_heads q s.past (s.heads q)) h.base (side_of q h s batch phase) (words_at (the_ring q h.size) s.memory)
+abbrev pub WordsAt : ℕ → Header1 → Scene → Bool → Plan → List ℕ → Phase → Type 0
+WordsAt q h s bell plan batch phase = Facts h.size (open_heads q s.past (s.heads q)) h.base (side_of q h s bell plan batch phase) (words_at (the_ring q h.size) (the_region q h.size) s.memory)
 
--- the ring, the slots of the driver, and the words of what is under way
-pub record QueueFacts (q : ℕ) (h : Header1) (s : Scene) (v : Driver) (batch : List ℕ) (phase : Phase) : Type 0 where
+-- the ring, the slots of the driver, the words of what is under way, and its start
+pub record QueueFacts (q : ℕ) (h : Header1) (s : Scene) (v : Driver) (bell : Bool) (plan : Plan) (batch : List ℕ) (phase : Phase) : Type 0 where
   pub ringed : Ringed q h.size h.base s.past (s.heads q) s.memory
   pub driven : Driven q h.size h.capacity h.base s.past (s.heads q) v
-  pub words : WordsAt q h s batch phase
+  pub words : WordsAt q h s bell plan batch phase
+  pub start : StartIs (started s.past q) h.size bell plan phase
 
 -- where the last store alone is left of a request, those before it stand
 abbrev pub LastStands : ℕ → Header1 → Scene → Waiting → Type 0

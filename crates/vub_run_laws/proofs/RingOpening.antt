@@ -1,14 +1,16 @@
 -- Where every split ring begins.
-use Rattle.std.proofs.Common.{◌≡◌, ◌<◌, ℕ, zero, suc, List, [], length, refl, sym, ◌∙◌, subst, inl, arith, inr}
+use Rattle.std.proofs.Common.{◌+◌, ◌≡◌, ◌<◌, ℕ, zero, suc, List, [], length, refl, sym, ◌∙◌, subst, inl, arith, inr}
 use Rattle.std.proofs.lemmas.Bool.{cases_lt}
 use Rattle.byteorder.specs.Endian.{little_bytes}
 use Rattle.vub_base.specs.declared.header.Header1.{Header1}
-use Rattle.vub_shared.specs.Bytes.{Bytes, put}
-use Rattle.vub_shared.proofs.BytesLemmas.{word-put_same}
+use Rattle.vub_shared.specs.Bytes.{Bytes, put, word}
+use Rattle.vub_shared.proofs.BytesLemmas.{word-put_same, put_other}
 use Rattle.vub_ring.specs.Ring.{avail_idx, avail_idx_place, used_idx_place, used_idx}
 use Rattle.vub_run.specs.Memory.{opening_memory, opened, opening_scene}
-use Rattle.vub_run_laws.proofs.RingGood.{Ringed, the_ring, QueueFacts}
+use Rattle.vub_run_laws.proofs.RingGood.{Ringed, the_ring, the_region, QueueFacts}
 use Rattle.vub_run_laws.proofs.RunFrames.{keeps, length_little, none_out}
+use Rattle.vub_infl_split.specs.Region.{words_of}
+use Rattle.vub_region_facts.specs.Starts.{Unmade}
 use Rattle.vub_run.specs.Moments.{opening_lane}
 use Rattle.vub_steps.specs.declared.steps.Phase.TheVariants as phases
 
@@ -46,7 +48,27 @@ open_ringed q h fits low =
       used_at = λ i from upto. absurd (omega arith);
     }
 
-pub open_facts : (q : ℕ) (h : Header1) → h.base < 65536 → q < h.queues → QueueFacts q h (opening_scene h) (opening_lane h).driver [] phases.Rest
+-- all else is zero bytes: so are those of the in-flight region
+open_zero : (h : Header1) (count p : ℕ) → opened h count 1 p ≡ 0
+open_zero h zero p = refl
+open_zero h (suc count) p =
+    let bs : List ℕ = little_bytes 2 h.base in
+    let first : Bytes = put (opened h count) 0 (avail_idx_place (the_ring count h.size)) bs in
+    put_other first 0 (used_idx_place (the_ring count h.size)) bs 1 p (inl (λ e. omega (arith, e))) ∙ put_other (opened h count) 0 (avail_idx_place (the_ring count h.size)) bs 1 p (inl (λ e. omega (arith, e))) ∙ open_zero h count p
+
+zero_word : (w : ℕ) (m : Bytes) (p : ℕ) → ((i : ℕ) → m 1 i ≡ 0) → word w m 1 p ≡ 0
+unfolding word
+zero_word zero m p none = refl
+zero_word (suc w) m p none = omega (arith, none p, zero_word w m (p + 1) none)
+
+open_unmade : (q : ℕ) (h : Header1) → h.base < 65536 → q < h.queues → Unmade (used_idx (the_ring q h.size) (opening_memory h)) [] h.base (words_of (the_region q h.size) (opening_memory h))
+open_unmade q h fits low = record {
+  version = zero_word 2 (opening_memory h) ((the_region q h.size).place + 8) (open_zero h h.queues);
+  none = refl;
+  at_base = sym (open_words h q h.queues fits low).1;
+}
+
+pub open_facts : (q : ℕ) (h : Header1) → h.base < 65536 → q < h.queues → QueueFacts q h (opening_scene h) (opening_lane h).driver (opening_lane h).bell (opening_lane h).plan [] phases.Rest
 open_facts q h fits low = record {
   ringed = open_ringed q h fits low;
   driven = record {
@@ -56,5 +78,6 @@ open_facts q h fits low = record {
     apart = λ j k out_j out_k same. absurd (none_out q j out_j);
     waits = tt;
   };
-  words = record { used_fits = omega (arith, (open_words h q h.queues fits low).1, fits); untouched = λ stopped. record { none = refl; at = (open_words h q h.queues fits low).1 }; batch = refl };
+  words = record { used_fits = omega (arith, (open_words h q h.queues fits low).1, fits); not_started = λ stopped. inl (open_unmade q h fits low); batch = refl };
+  start = tt;
 }

@@ -34,5 +34,5 @@ ask_holds q h s l a good plain ready x = record {
   known = x.known;
   worked = x.worked;
   stored = x.stored;
-  queue = queue_ask q h s l.driver l.batch l.phase a good.size plain ready x.queue;
+  queue = queue_ask q h s l.driver l.bell l.plan l.batch l.phase a good.size plain ready x.queue;
 }

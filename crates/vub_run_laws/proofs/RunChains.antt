@@ -5,7 +5,7 @@ use Rattle.byteorder.specs.Endian.{little_from, little_bytes}
 use Rattle.byteorder.specs.Numbers.{little_from-cons, little_number-reads_back}
 use Rattle.std.proofs.lemmas.List.{append-nil, append_assoc, length-append}
 use Rattle.vub_shared.specs.Bytes.{Bytes, put, word, bytes_from}
-use Rattle.vub_shared.proofs.BytesLemmas.{word-put_inside, bytes_from-put_other}
+use Rattle.vub_shared.proofs.BytesLemmas.{word-put_other, word-put_inside, bytes_from-put_other}
 use Rattle.vub_driver.specs.Layout.{area_place, buffer_place, status_place}
 use Rattle.vub_driver.specs.Requests.{Piece, readable_piece, writable_piece, write_flag, descriptor_bytes}
 use Rattle.vub_device.specs.declared.entry.Asked.{Asked}
@@ -92,6 +92,31 @@ chain_kept q m head body status request p bs s h = record {
   none = h.none;
   last = desc_kept q m status (desc_of (writable_piece (status_place (buffer_at q head)) 1) None) p bs s.last h.last;
   front = front_kept m (buffer_at q head) request p bs s.header s.handed h.front;
+}
+
+-- a store into another space leaves all of it
+word_stays : (w : ℕ) (m : Bytes) (p : ℕ) (bs : List ℕ) (a : ℕ) → word w (put m 1 p bs) 0 a ≡ word w m 0 a
+word_stays w m p bs a = word-put_other w m 1 p bs 0 a (inl (λ e. omega (arith, e)))
+
+desc_stays : (q : ℕ) (m : Bytes) (d : ℕ) (x : Desc) (p : ℕ) (bs : List ℕ) → HasDesc q m d x → HasDesc q (put m 1 p bs) d x
+desc_stays q m d x p bs h = record {
+  addr = word_stays 8 m p bs (table_place q d) ∙ h.addr;
+  len = word_stays 4 m p bs (table_place q d + 8) ∙ h.len;
+  flags = word_stays 2 m p bs (table_place q d + 12) ∙ h.flags;
+  next = word_stays 2 m p bs (table_place q d + 14) ∙ h.next;
+}
+
+pub chain_stays : (q : ℕ) (m : Bytes) (head body status : ℕ) (request : Asked) (p : ℕ) (bs : List ℕ) → HasChain q m head body status request → HasChain q (put m 1 p bs) head body status request
+chain_stays q m head body status request p bs h = record {
+  first = desc_stays q m head (desc_of (readable_piece (buffer_at q head) 16) (Some body)) p bs h.first;
+  middle = λ some. desc_stays q m body (desc_of (data_of (buffer_at q head) request) (Some status)) p bs (h.middle some);
+  none = h.none;
+  last = desc_stays q m status (desc_of (writable_piece (status_place (buffer_at q head)) 1) None) p bs h.last;
+  front = record {
+    kind = word_stays 4 m p bs (buffer_at q head) ∙ h.front.kind;
+    sector = word_stays 8 m p bs (buffer_at q head + 8) ∙ h.front.sector;
+    handed = bytes_from-put_other (length (handed_bytes request)) m 1 p bs 0 (data_start (buffer_at q head) request) (inl (λ e. omega (arith, e))) ∙ h.front.handed;
+  };
 }
 
 -- ---- words of what was stored

@@ -11,11 +11,11 @@ use Rattle.vub_device.specs.Past.{asked}
 use Rattle.vub_run.specs.Memory.{Scene}
 use Rattle.vub_run.specs.Moments.{Lane}
 use Rattle.vub_run_laws.proofs.RunGood.{IsWide, IsOut, IsGood, stored_at}
-use Rattle.vub_run_laws.proofs.RunHolds.{Holds}
+use Rattle.vub_run_laws.proofs.RunHolds.{Holds, noted_at}
 use Rattle.vub_run_laws.proofs.RunFrames.{other_buffer}
-use Rattle.vub_run_laws.proofs.RunChains.{buffer_at, HasChain, Spares, chain_kept}
+use Rattle.vub_run_laws.proofs.RunChains.{buffer_at, HasChain, Spares, chain_kept, chain_stays}
 use Rattle.vub_run_laws.proofs.RunChainsStores.{handed_fits}
-use Rattle.vub_run_laws.proofs.RunChainsMade.{Stand, stand_kept, Serves, serving_off}
+use Rattle.vub_run_laws.proofs.RunChainsMade.{Stand, stand_kept, stand_stays, Serves, serving_off}
 use Rattle.vub_run_laws.proofs.RunQueue.{head_below}
 
 -- a head under which no request is offered and not collected
@@ -48,8 +48,18 @@ store_gentle q h s l p bs x above away spares = record {
   out = λ k o. o;
   chain = λ k body status r out fb fs is held.
       let simple : IsWide h.capacity (Some r) = subst (λ (o : Option Asked). IsWide h.capacity o) is (x.known.wide k out.below) in
-      chain_kept q s.memory (slice_index (s.heads q) k) body status r p bs (spares k body status r out (head_below q h s l.driver l.batch l.phase k x.queue out) fb fs is simple) held;
+      chain_kept q s.memory (slice_index (s.heads q) k) body status r p bs (spares k body status r out (head_below q h s l.driver l.bell l.plan l.batch l.phase k x.queue out) fb fs is simple) held;
   made = λ head sts unused serve stand. stand_kept sts s.memory p bs (serving_off q head sts p bs above (away head unused) serve) stand;
+}
+
+-- a store into another space leaves everything
+pub note_gentle : (q n : ℕ) (s : Scene) (st : Store) → IsGentle q n s (noted_at st.place st.bytes s)
+note_gentle q n s st = record {
+  heads = refl;
+  same = λ k. refl;
+  out = λ k o. o;
+  chain = λ k body status r out fb fs is held. chain_stays q s.memory (slice_index (s.heads q) k) body status r st.place st.bytes held;
+  made = λ head sts unused serve stand. stand_stays sts s.memory st.place st.bytes stand;
 }
 
 -- between table and buffers

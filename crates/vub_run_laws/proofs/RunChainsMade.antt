@@ -1,10 +1,10 @@
 -- Split chains. Stores of a request that were made stand in memory, until others reach their places.
-use Rattle.std.proofs.Common.{◌≡◌, ◌≤◌, ◌<◌, ◌⊎◌, ℕ, ◌+◌, ◌*◌, ◌%◌, List, [], ◌∷◌, ◌++◌, length, refl, ap, sym, ◌∙◌, inl, inr, arith}
+use Rattle.std.proofs.Common.{◌≡◌, ◌≢◌, ◌≤◌, ◌<◌, ◌⊎◌, ℕ, ◌+◌, ◌*◌, ◌%◌, List, [], ◌∷◌, ◌++◌, length, refl, ap, sym, ◌∙◌, subst, inl, inr, arith}
 use Rattle.std.specs.Prelude.{Option, Some, ◌==◌, ◌&&◌, nat_le, nat_lt}
 use Rattle.std.specs.List.{AllByRecursion}
 use Rattle.byteorder.specs.Endian.{little_bytes}
 use mathlib.Core.Path.{fun_ext}
-use Rattle.std.proofs.lemmas.Bool.{cases_lt, cases_Bool}
+use Rattle.std.proofs.lemmas.Bool.{cases_lt, cases_eq, cases_Bool}
 use Rattle.std.proofs.lemmas.Bool.Decides.{nat_tests}
 use Rattle.std.proofs.lemmas.List.{append-nil, append_assoc}
 use Rattle.vub_base.specs.declared.request.Ask.{Ask}
@@ -118,6 +118,29 @@ stand_kept sts m q bs off stand = fun_ext (λ s. fun_ext (λ p. at s p))
         | inl within ↦ put_all_off sts now s p (within_off sts q (length bs) p (omega arith) within off)
         | inr above ↦ other s p (put_other m 0 q bs s p (inr (inr (omega arith))))
       ]
+    ]
+
+-- stores into guest memory leave each other space
+put_all_far : (sts : List Store) (m : Bytes) (s p : ℕ) → s ≢ 0 → put_all sts m s p ≡ m s p
+put_all_far [] m s p far = refl
+put_all_far (st ∷ sts) m s p far = put_all_far sts (put m 0 st.place st.bytes) s p far ∙ put_other m 0 st.place st.bytes s p (inl far)
+
+-- and a store into another space leaves them
+pub stand_stays : (sts : List Store) (m : Bytes) (q : ℕ) (bs : List ℕ) → Stand sts m → Stand sts (put m 1 q bs)
+stand_stays sts m q bs stand = fun_ext (λ s. fun_ext (λ p. at s p))
+  where
+    now : Bytes
+    now = put m 1 q bs
+
+    guest : (p : ℕ) → put_all sts now 0 p ≡ now 0 p
+    guest p =
+        let same : now 0 p ≡ m 0 p = put_other m 1 q bs 0 p (inl (λ e. omega (arith, e))) in
+        put_all_at sts now m 0 p same ∙ ap (λ (x : Bytes). x 0 p) stand ∙ sym same
+
+    at : (s p : ℕ) → put_all sts now s p ≡ now s p
+    at s p = elim (cases_eq s 0) [
+      | inl zero_space ↦ subst (λ (t : ℕ). put_all sts now t p ≡ now t p) (sym zero_space) (guest p)
+      | inr far ↦ put_all_far sts now s p far
     ]
 
 -- ---- where the stores of a request are

@@ -26,17 +26,19 @@ use Rattle.vub_device.specs.declared.entry.Entry.{Entry}
 use Rattle.vub_device.specs.declared.entry.Entry.TheVariants as entries
 use Rattle.vub_device.specs.Past.{asked, accepted, published, collected, is_among, IsOpen, open_numbers, bytes_read, numbers}
 use Rattle.vub_run.specs.Memory.{Scene, after_items}
-use Rattle.vub_run.specs.Moments.{Lane, Moment, unfinished}
+use Rattle.vub_run.specs.Moments.{Lane, Moment, unfinished, used_in}
 use Rattle.vub_device.specs.declared.entry.SectorValue.{SectorValue}
 use Rattle.vub_device.specs.Crash.{value}
 use Rattle.vub_device.specs.Requests.{look_at, effect_at}
 use Rattle.vub_steps.specs.Tasks.{RequestStep, Look, Put, Act, Sync, Status, task_steps, disk_steps, look_steps, act_steps, status_of}
 use Rattle.vub_run.specs.TaskItems.{look_items, act_items}
-use Rattle.vub_run.specs.Turns.{course_of, turned, work_turn, request_turn, task_turn, phase_turn, phase_goes_on, under_way, begun, is_rest, step_items, row_items, element_of, answer_at}
+use Rattle.vub_run.specs.Turns.{course_of, turned, work_turn, request_turn, task_turn, phase_turn, phase_goes_on, under_way, begun, is_rest, step_items, row_items, element_of, answer_at, sight_of}
 use Rattle.vub_run_laws.proofs.RunOwn.{published_own}
 use Rattle.vub_run_laws.proofs.RunNumbers.{among_filter, missing-among}
 use Rattle.vub_facts.proofs.HeadLemmas.{among_get}
-use Rattle.vub_run_laws.proofs.RingGood.{the_ring, IsWaiting, WaitsWell}
+use Rattle.vub_run_laws.proofs.RingGood.{the_ring, IsWaiting, WaitsWell, the_region}
+use Rattle.vub_infl_split.specs.declared.region.SplitStore.TheVariants as region
+use Rattle.vub_infl_split.specs.Stores.{store_of}
 use Rattle.vub_run_laws.proofs.RunGood.{IsSize, IsWide, IsOut, buffer, IsGood, stored_at}
 use Rattle.vub_run_laws.proofs.RunHolds.{Holds}
 use Rattle.vub_run_laws.proofs.RingFrames.{entry_small}
@@ -47,7 +49,7 @@ use Rattle.vub_run_laws.proofs.RunTurns.{IsPlain, Good}
 use Rattle.vub_run_laws.proofs.RunChains.{buffer_at, chain_of, HasChain, Spares}
 use Rattle.vub_run_laws.proofs.RunChainsStores.{handed_fits}
 use Rattle.vub_run_laws.proofs.RunChainsMade.{Stand, all_first, IsMine, AreMine, stores_mine, all_serve}
-use Rattle.vub_run_laws.proofs.RunChainsGentle.{IsGentle, gentle_none, store_gentle, buffer_spares, offered_away, ring_gentle}
+use Rattle.vub_run_laws.proofs.RunChainsGentle.{IsGentle, gentle_none, note_gentle, store_gentle, buffer_spares, offered_away, ring_gentle}
 use Rattle.vub_run_laws.proofs.RunQueue.{heads_apart}
 
 -- the chain of an offered request stands in memory, and its descriptors belong to its head
@@ -149,37 +151,43 @@ publish_gentle q n s list shown = record {
   made = λ head sts unused serve stand. stand;
 }
 
-step_gentle : (q : ℕ) (h : Header1) (s : Scene) (l : Lane) (batch : List ℕ) (step : Step) → IsGood h → Holds q h s l → IsGentle q h.size s (after_items h (step_items h q batch step s) s)
-step_gentle q h s l batch steps.Start good x = record { heads = refl; same = λ k. refl; out = λ k o. record { below = o.below; kept = o.kept }; chain = λ k body status r out fb fs is c. c; made = λ head sts unused serve stand. stand }
-step_gentle q h s l batch steps.Accept good x = record { heads = refl; same = λ k. refl; out = λ k o. record { below = o.below; kept = o.kept }; chain = λ k body status r out fb fs is c. c; made = λ head sts unused serve stand. stand }
-step_gentle q h s l batch (steps.Id e) good x = go (slice_get (map (element_of h q s) batch) e)
+step_gentle : (q : ℕ) (h : Header1) (s : Scene) (l l' : Lane) (step : Step) → IsGood h → Holds q h s l → IsGentle q h.size s (after_items h (step_items h q l' step s) s)
+step_gentle q h s l l' steps.Features good x = note_gentle q h.size s (store_of (the_region q h.size) region.SI1)
+step_gentle q h s l l' (steps.Free i) good x = note_gentle q h.size s (store_of (the_region q h.size) (region.SI2 i))
+step_gentle q h s l l' steps.Open good x = note_gentle q h.size s (store_of (the_region q h.size) (region.SI3 (used_in h q s)))
+step_gentle q h s l l' (steps.Settle i) good x = note_gentle q h.size s (store_of (the_region q h.size) (region.SR1 (sight_of h q s l').link))
+step_gentle q h s l l' steps.SettleEnd good x = note_gentle q h.size s (store_of (the_region q h.size) (region.SR2 (used_in h q s)))
+step_gentle q h s l l' steps.Bell good x = gentle_none q h.size s
+step_gentle q h s l l' steps.Start good x = record { heads = refl; same = λ k. refl; out = λ k o. record { below = o.below; kept = o.kept }; chain = λ k body status r out fb fs is c. c; made = λ head sts unused serve stand. stand }
+step_gentle q h s l l' steps.Accept good x = record { heads = refl; same = λ k. refl; out = λ k o. record { below = o.below; kept = o.kept }; chain = λ k body status r out fb fs is c. c; made = λ head sts unused serve stand. stand }
+step_gentle q h s l l' (steps.Id e) good x = go (slice_get (map (element_of h q s) l'.batch) e)
   where
     i : ℕ
     i = used_idx (the_ring q h.size) s.memory + e
 
-    go : (o : Option (ℕ × ℕ)) → IsGentle q h.size s (after_items h (row_items (option_map (λ (y : ℕ × ℕ). row (the_ring q h.size) SP1 (used_id_place (the_ring q h.size) i) (little_bytes 4 y.0)) o) ++ []) s)
+    go : (o : Option (ℕ × ℕ)) → IsGentle q h.size s (after_items h ((row_items (option_map (λ (y : ℕ × ℕ). row (the_ring q h.size) SP1 (used_id_place (the_ring q h.size) i) (little_bytes 4 y.0)) o) ++ []) ++ []) s)
     go None = gentle_none q h.size s
     go (Some y) = let low = entry_small h.size i good.size in ring_gentle q h s l (used_id_place (the_ring q h.size) i) (little_bytes 4 y.0) good x (omega arith) (omega (arith, length_little 4 y.0))
-step_gentle q h s l batch (steps.Len e) good x = go (slice_get (map (element_of h q s) batch) e)
+step_gentle q h s l l' (steps.Len e) good x = go (slice_get (map (element_of h q s) l'.batch) e)
   where
     i : ℕ
     i = used_idx (the_ring q h.size) s.memory + e
 
-    go : (o : Option (ℕ × ℕ)) → IsGentle q h.size s (after_items h (row_items (option_map (λ (y : ℕ × ℕ). row (the_ring q h.size) SP2 (used_len_place (the_ring q h.size) i) (little_bytes 4 y.1)) o) ++ []) s)
+    go : (o : Option (ℕ × ℕ)) → IsGentle q h.size s (after_items h ((row_items (option_map (λ (y : ℕ × ℕ). row (the_ring q h.size) SP2 (used_len_place (the_ring q h.size) i) (little_bytes 4 y.1)) o) ++ []) ++ []) s)
     go None = gentle_none q h.size s
     go (Some y) = let low = entry_small h.size i good.size in ring_gentle q h s l (used_len_place (the_ring q h.size) i) (little_bytes 4 y.1) good x (omega arith) (omega (arith, length_little 4 y.1))
-step_gentle q h s l batch steps.Index good x =
-    let v : ℕ = (used_idx (the_ring q h.size) s.memory + length (map (element_of h q s) batch)) % 65536 in
+step_gentle q h s l l' steps.Index good x =
+    let v : ℕ = (used_idx (the_ring q h.size) s.memory + length (map (element_of h q s) l'.batch)) % 65536 in
     let p : ℕ = used_idx_place (the_ring q h.size) in
     let bs : List ℕ = little_bytes 2 v in
     let s' : Scene = stored_at p bs s in
     let ring : IsGentle q h.size s s' = ring_gentle q h s l p bs good x (omega arith) (omega (arith, length_little 2 v)) in
-    let shows = publish_gentle q h.size s (map (answer_at q s') batch) x.known.shown in
+    let shows = publish_gentle q h.size s (map (answer_at q s') l'.batch) x.known.shown in
     record { heads = refl; same = λ k. refl; out = shows.out; chain = ring.chain; made = ring.made }
 
 phase_gentle : (q : ℕ) (h : Header1) (s : Scene) (l l' : Lane) (o : Option Step) → IsGood h → Holds q h s l → IsGentle q h.size s (after_items h (phase_turn h q s l' o).items s)
 phase_gentle q h s l l' None good x = gentle_none q h.size s
-phase_gentle q h s l l' (Some step) good x = step_gentle q h s l l'.batch step good x
+phase_gentle q h s l l' (Some step) good x = step_gentle q h s l l' step good x
 
 -- ---- work
 
@@ -210,7 +218,7 @@ put_gentle q h s l k sector c place good x is_open is_k low =
           let is_r : r ≡ asks.Read sector c = cc in
           let here : p ≡ sectors_place (buffer_at q (slice_index (s.heads q) j)) + 512 * place = ap (λ (i : ℕ). sectors_place (buffer q (s.heads q) i) + 512 * place) (sym same) in
           subst (λ (o : Asked). Spares q (slice_index (s.heads q) j) body status o p bs) (sym is_r) (own_read q (slice_index (s.heads q) j) body status sector c p bs (omega arith) (omega arith) (omega arith) (omega (arith, here)))
-      | inr apart ↦ buffer_spares q h.capacity (slice_index (s.heads q) j) body status (slice_index (s.heads q) k) r p bs (omega arith) (omega arith) (omega arith) simple (λ same. apart (heads_apart q h s l.driver l.batch l.phase j k x.queue out out_k same)) (omega arith) (omega arith)
+      | inr apart ↦ buffer_spares q h.capacity (slice_index (s.heads q) j) body status (slice_index (s.heads q) k) r p bs (omega arith) (omega arith) (omega arith) simple (λ same. apart (heads_apart q h s l.driver l.bell l.plan l.batch l.phase j k x.queue out out_k same)) (omega arith) (omega arith)
     ])
 
 status_gentle : (q : ℕ) (h : Header1) (s : Scene) (l : Lane) (k byte : ℕ) → IsGood h → Holds q h s l → IsOpen s.past q k → IsGentle q h.size s (stored_at (status_place (buffer q (s.heads q) k)) (byte ∷ []) s)
@@ -221,7 +229,7 @@ status_gentle q h s l k byte good x is_open =
     store_gentle q h s l p (byte ∷ []) x (omega arith) (offered_away q s k p (byte ∷ []) out_k (omega arith) (omega arith)) (λ j body status r out fh fb fs is simple. elim (cases_eq j k) [
       | inl same ↦
           subst (λ (i : ℕ). Spares q (slice_index (s.heads q) j) body status r (status_place (buffer q (s.heads q) i)) (byte ∷ [])) same (own_status q h.capacity (slice_index (s.heads q) j) body status r byte (omega arith) (omega arith) (omega arith) simple)
-      | inr apart ↦ buffer_spares q h.capacity (slice_index (s.heads q) j) body status (slice_index (s.heads q) k) r p (byte ∷ []) (omega arith) (omega arith) (omega arith) simple (λ same. apart (heads_apart q h s l.driver l.batch l.phase j k x.queue out out_k same)) (omega arith) (omega arith)
+      | inr apart ↦ buffer_spares q h.capacity (slice_index (s.heads q) j) body status (slice_index (s.heads q) k) r p (byte ∷ []) (omega arith) (omega arith) (omega arith) simple (λ same. apart (heads_apart q h s l.driver l.bell l.plan l.batch l.phase j k x.queue out out_k same)) (omega arith) (omega arith)
     ])
 
 look_gentle : (q n : ℕ) (s : Scene) (k sector : ℕ) (v : List ℕ) → IsGentle q n s (record s { past = entries.Look q k sector v ∷ s.past })
@@ -292,20 +300,20 @@ work_gentle q h m place plain good = go (slice_get (unfinished q m) place) refl
         request_gentle q h m.scene l k plain good.holds (record { taken = opened.0; unpublished = opened.1 })
 
 pub turn_gentle : (q : ℕ) (h : Header1) (t : Turn) (m : Moment) → IsPlain h → Good q h m → IsGentle q h.size m.scene (after_items h (turned h q t m).items m.scene)
-turn_gentle q h turns.Start m plain good = phase_gentle q h m.scene (m.lanes q) (under_way turns.Start (m.lanes q)) (next_step (course_of h (under_way turns.Start (m.lanes q))) (under_way turns.Start (m.lanes q)).phase) plain.good good.holds
-turn_gentle q h turns.Fetch m plain good = phase_gentle q h m.scene (m.lanes q) (under_way turns.Fetch (m.lanes q)) (next_step (course_of h (under_way turns.Fetch (m.lanes q))) (under_way turns.Fetch (m.lanes q)).phase) plain.good good.holds
+turn_gentle q h turns.Start m plain good = phase_gentle q h m.scene (m.lanes q) (under_way h q m.scene turns.Start (m.lanes q)) (next_step (course_of h (under_way h q m.scene turns.Start (m.lanes q))) (under_way h q m.scene turns.Start (m.lanes q)).phase) plain.good good.holds
+turn_gentle q h turns.Fetch m plain good = phase_gentle q h m.scene (m.lanes q) (under_way h q m.scene turns.Fetch (m.lanes q)) (next_step (course_of h (under_way h q m.scene turns.Fetch (m.lanes q))) (under_way h q m.scene turns.Fetch (m.lanes q)).phase) plain.good good.holds
 turn_gentle q h (turns.Publish most) m plain good =
-    phase_gentle q h m.scene (m.lanes q) (under_way (turns.Publish most) (m.lanes q)) (next_step (course_of h (under_way (turns.Publish most) (m.lanes q))) (under_way (turns.Publish most) (m.lanes q)).phase) plain.good good.holds
+    phase_gentle q h m.scene (m.lanes q) (under_way h q m.scene (turns.Publish most) (m.lanes q)) (next_step (course_of h (under_way h q m.scene (turns.Publish most) (m.lanes q))) (under_way h q m.scene (turns.Publish most) (m.lanes q)).phase) plain.good good.holds
 turn_gentle q h (turns.Work place) m plain good = work_gentle q h m place plain good
 
 -- ---- the driver isn't the device's
 
-under_driver : (t : Turn) (l : Lane) (b : Bool) → (cond {A = Lane} b (begun t l) l).driver ≡ l.driver
-under_driver turns.Start l true = refl
-under_driver turns.Fetch l true = refl
-under_driver (turns.Publish most) l true = refl
-under_driver (turns.Work place) l true = refl
-under_driver t l false = refl
+under_driver : (h : Header1) (q : ℕ) (s : Scene) (t : Turn) (l : Lane) (b : Bool) → (cond {A = Lane} b (begun h q s t l) l).driver ≡ l.driver
+under_driver h q s turns.Start l true = refl
+under_driver h q s turns.Fetch l true = refl
+under_driver h q s (turns.Publish most) l true = refl
+under_driver h q s (turns.Work place) l true = refl
+under_driver h q s t l false = refl
 
 phase_driver : (q : ℕ) (h : Header1) (s : Scene) (l : Lane) (o : Option Step) → (phase_turn h q s l o).lane.driver ≡ l.driver
 phase_driver q h s l None = refl
@@ -331,7 +339,7 @@ goes_on_driver : (q : ℕ) (h : Header1) (s : Scene) (l : Lane) → (phase_goes_
 goes_on_driver q h s l = phase_driver q h s l (next_step (course_of h l) l.phase)
 
 pub turn_driver : (q : ℕ) (h : Header1) (t : Turn) (m : Moment) → (turned h q t m).lane.driver ≡ (m.lanes q).driver
-turn_driver q h turns.Start m = goes_on_driver q h m.scene (under_way turns.Start (m.lanes q)) ∙ under_driver turns.Start (m.lanes q) (is_rest (m.lanes q).phase)
-turn_driver q h turns.Fetch m = goes_on_driver q h m.scene (under_way turns.Fetch (m.lanes q)) ∙ under_driver turns.Fetch (m.lanes q) (is_rest (m.lanes q).phase)
-turn_driver q h (turns.Publish most) m = goes_on_driver q h m.scene (under_way (turns.Publish most) (m.lanes q)) ∙ under_driver (turns.Publish most) (m.lanes q) (is_rest (m.lanes q).phase)
+turn_driver q h turns.Start m = goes_on_driver q h m.scene (under_way h q m.scene turns.Start (m.lanes q)) ∙ under_driver h q m.scene turns.Start (m.lanes q) (is_rest (m.lanes q).phase)
+turn_driver q h turns.Fetch m = goes_on_driver q h m.scene (under_way h q m.scene turns.Fetch (m.lanes q)) ∙ under_driver h q m.scene turns.Fetch (m.lanes q) (is_rest (m.lanes q).phase)
+turn_driver q h (turns.Publish most) m = goes_on_driver q h m.scene (under_way h q m.scene (turns.Publish most) (m.lanes q)) ∙ under_driver h q m.scene (turns.Publish most) (m.lanes q) (is_rest (m.lanes q).phase)
 turn_driver q h (turns.Work place) m = work_driver q h m.scene (m.lanes q) (slice_get (unfinished q m) place)

@@ -23,11 +23,10 @@ use Rattle.vub_steps.specs.Tasks.{RequestStep, Look, Put, Act, Sync, Status, tas
 use Rattle.vub_run.specs.Turns.{course_of, is_rest, turned, phase_turn, phase_goes_on, under_way, begun, work_turn, request_turn, task_turn}
 use Rattle.vub_run_laws.proofs.RunNumbers.{filter_none}
 use Rattle.vub_run_laws.proofs.RunOwn.{at_own}
-use Rattle.vub_run_laws.proofs.RunQueue.{phase_at}
 use Rattle.vub_run_laws.proofs.RunGood.{Known}
 use Rattle.vub_run_laws.proofs.RunWork.{Fine}
 use Rattle.vub_run_laws.proofs.RunQueue.{queue_ahead}
-use Rattle.vub_run_laws.proofs.RunTurns.{IsPlain, Good, phase_cases, turn_fine}
+use Rattle.vub_run_laws.proofs.RunTurns.{IsPlain, Good, running_cases, turn_fine}
 use Rattle.vub_run_laws.proofs.RunEvents.{Right, turn_right, drain_right}
 
 -- ---- what turns leave
@@ -36,15 +35,15 @@ phase_stays : (q : ℕ) (h : Header1) (s : Scene) (l : Lane) (o : Option Step) �
 phase_stays q h s l None = refl
 phase_stays q h s l (Some step) = refl
 
-begun_stays : (t : Turn) (l : Lane) → (begun t l).attached ≡ l.attached
-begun_stays turns.Start l = refl
-begun_stays turns.Fetch l = refl
-begun_stays (turns.Publish most) l = refl
-begun_stays (turns.Work place) l = refl
+begun_stays : (h : Header1) (q : ℕ) (s : Scene) (t : Turn) (l : Lane) → (begun h q s t l).attached ≡ l.attached
+begun_stays h q s turns.Start l = refl
+begun_stays h q s turns.Fetch l = refl
+begun_stays h q s (turns.Publish most) l = refl
+begun_stays h q s (turns.Work place) l = refl
 
-under_way_stays : (t : Turn) (l : Lane) (b : Bool) → (cond {A = Lane} b (begun t l) l).attached ≡ l.attached
-under_way_stays t l true = begun_stays t l
-under_way_stays t l false = refl
+under_way_stays : (h : Header1) (q : ℕ) (s : Scene) (t : Turn) (l : Lane) (b : Bool) → (cond {A = Lane} b (begun h q s t l) l).attached ≡ l.attached
+under_way_stays h q s t l true = begun_stays h q s t l
+under_way_stays h q s t l false = refl
 
 task_stays : (q : ℕ) (h : Header1) (s : Scene) (l : Lane) (k : ℕ) (r : Asked) (o : Option RequestStep) → (task_turn h q s l k r o).lane.attached ≡ l.attached
 task_stays q h s l k r None = refl
@@ -65,8 +64,8 @@ work_stays q h s l (Some k) = request_stays q h s l k (asked s.past q k)
 phase_goes_stays : (q : ℕ) (h : Header1) (s : Scene) (l : Lane) → (phase_goes_on h q s l).lane.attached ≡ l.attached
 phase_goes_stays q h s l = phase_stays q h s l (next_step (course_of h l) l.phase)
 
-under_stays : (q : ℕ) (h : Header1) (t : Turn) (m : Moment) → (phase_goes_on h q m.scene (under_way t (m.lanes q))).lane.attached ≡ (m.lanes q).attached
-under_stays q h t m = phase_goes_stays q h m.scene (under_way t (m.lanes q)) ∙ under_way_stays t (m.lanes q) (is_rest (m.lanes q).phase)
+under_stays : (q : ℕ) (h : Header1) (t : Turn) (m : Moment) → (phase_goes_on h q m.scene (under_way h q m.scene t (m.lanes q))).lane.attached ≡ (m.lanes q).attached
+under_stays q h t m = phase_goes_stays q h m.scene (under_way h q m.scene t (m.lanes q)) ∙ under_way_stays h q m.scene t (m.lanes q) (is_rest (m.lanes q).phase)
 
 pub turned_stays : (q : ℕ) (h : Header1) (t : Turn) (m : Moment) → (turned h q t m).lane.attached ≡ (m.lanes q).attached
 turned_stays q h turns.Start m = under_stays q h turns.Start m
@@ -118,7 +117,7 @@ none_left q h n plain good run rest batch works unready =
 at_rest : (q : ℕ) (h : Header1) (n : Moment) → Good q h n → started n.scene.past q ≡ true → is_ready (standing h q n) (turns.Publish h.size) ≡ false → ((n.lanes q).phase ≡ phases.Rest) × ((n.lanes q).batch ≡ [])
 at_rest q h n good run unready =
     let l : Lane = n.lanes q in
-    elim (phase_cases l.batch l.phase (phase_at q h n.scene (n.lanes q) good.holds)) [
+    elim (running_cases q h n.scene l run good.holds) [
       | inr shows ↦
           let publishes : is_publication l.phase ≡ true = ap is_publication shows.1 in
           let fetches : is_fetch l.phase ≡ false = ap is_fetch shows.1 in

@@ -1,11 +1,15 @@
 -- How much is left to do for a queue: a number that falls with each turn.
-use Rattle.std.proofs.Common.{◌≡◌, ◌≢◌, ◌≤◌, ◌<◌, ℕ, zero, suc, ◌+◌, ◌-◌, ◌*◌, false, List, [], ◌∷◌, ◌++◌, length, ap, sym, ◌∙◌, inl, inr, arith}
+use Rattle.std.proofs.Common.{◌≡◌, ◌≢◌, ◌≤◌, ◌<◌, ℕ, zero, suc, ◌+◌, ◌-◌, ◌*◌, Bool, true, false, List, [], ◌∷◌, ◌++◌, length, ap, sym, ◌∙◌, inl, inr, arith}
 use Rattle.std.specs.Prelude.{if◌then◌else◌, ◌||◌}
 use Rattle.std.proofs.lemmas.Bool.Decides.{nat_tests}
 use Rattle.std.proofs.lemmas.Bool.{cases_eq, cases_Bool}
 use Rattle.std.proofs.lemmas.List.{append-nil}
 use Rattle.vub_steps.specs.declared.steps.Phase.{Phase}
 use Rattle.vub_steps.specs.declared.steps.Phase.TheVariants as phases
+use Rattle.vub_steps.specs.declared.steps.Plan.{Plan}
+use Rattle.vub_steps.specs.Steps.{plan_steps, start_steps}
+use Rattle.vub_facts.specs.Facts.{bells}
+use Rattle.vub_facts.proofs.FactStarts.{start_long}
 use Rattle.vub_device.specs.declared.entry.Entry.{Entry}
 use Rattle.vub_device.specs.Past.{accepted, published, is_among, started}
 use Rattle.vub_device.proofs.Numbers.{is_among_append}
@@ -25,9 +29,22 @@ abbrev pub phase_left : List ℕ → Phase → ℕ
 phase_left batch (phases.Publish done) = 2 * length batch + 1 - done
 phase_left batch phase = 0
 
-abbrev pub effort : ℕ → List Entry → ℕ → Lane → ℕ
-effort q past offered l =
-    (if started past q then 0 else 1) + 21 * (offered - accepted past q) + sum_below (weight (published past q) (l.completed ++ l.batch) l.made) (accepted past q) + 3 * length l.completed + phase_left l.batch l.phase
+-- the steps that are left of a start of a queue of n descriptors, or that one can have which isn't begun
+abbrev pub steps_left : ℕ → Bool → Plan → Phase → ℕ
+steps_left n bell plan (phases.Start done) = length (start_steps n plan bell) - done
+steps_left n bell plan phase = n + 4
+
+abbrev pub effort : ℕ → ℕ → List Entry → ℕ → Lane → ℕ
+effort q n past offered l =
+    (if started past q then 0 else steps_left n l.bell l.plan l.phase) + 21 * (offered - accepted past q) + sum_below (weight (published past q) (l.completed ++ l.batch) l.made) (accepted past q) + 3 * length l.completed + phase_left l.batch l.phase
+
+few_bells : (bell : Bool) → bells bell ≤ 1
+few_bells true = omega arith
+few_bells false = omega arith
+
+-- a start has a step for each descriptor and four more at most
+pub start_short : (n : ℕ) (bell : Bool) (plan : Plan) → length (plan_steps n plan) ≤ n + 2 → length (start_steps n plan bell) ≤ n + 4
+start_short n bell plan few = omega (arith, start_long n plan bell, few_bells bell, few)
 
 pub sum_more : (f : ℕ → ℕ) (a : ℕ) → sum_below f (a + 1) ≡ sum_below f a + f a
 sum_more f a = let next : a + 1 ≡ suc a = omega arith in ap (sum_below f) next

@@ -1,5 +1,5 @@
 -- What the elements of a batch are, and what is known of the work while they are stored.
-use Rattle.std.proofs.Common.{◌≡◌, ◌≤◌, ◌<◌, ℕ, zero, suc, ◌+◌, ◌^◌, true, List, [], ◌∷◌, ◌++◌, length, map, refl, ap, sym, ◌∙◌, inl, inr, arith}
+use Rattle.std.proofs.Common.{◌≡◌, ◌≤◌, ◌<◌, ℕ, zero, suc, ◌+◌, ◌^◌, true, List, [], ◌∷◌, ◌++◌, length, map, refl, ap, ◌∙◌, inl, inr, arith}
 use Rattle.std.specs.Prelude.{Option, Some, None, slice_index, slice_get, ◌||◌, unwrap_or}
 use Rattle.std.proofs.lemmas.Bool.Decides.{nat_tests}
 use Rattle.std.proofs.lemmas.Bool.{cases_Bool, or_right}
@@ -66,6 +66,6 @@ worked_on q past batch completed made phase done is w =
       progress = w.progress;
       full = w.full;
       pending = w.pending;
-      quiet = λ stopped. absurd (let fails : phases.Publish done ≡ phases.Rest = sym is ∙ (w.quiet stopped).0 in cc);
+      quiet = w.quiet;
       between = tt;
     }

@@ -8,6 +8,7 @@ use Rattle.vub_base.specs.declared.header.Header1.{Header1}
 use Rattle.vub_steps.specs.declared.readiness.Turn.{Turn}
 use Rattle.vub_steps.specs.declared.steps.Phase.{Phase}
 use Rattle.vub_steps.specs.declared.steps.Phase.TheVariants as phases
+use Rattle.vub_steps.specs.declared.steps.Plan.{Plan}
 use Rattle.vub_steps.specs.Readiness.{is_ready}
 use Rattle.vub_device.specs.declared.entry.Entry.{Entry}
 use Rattle.vub_device.specs.Past.{accepted, published, collected, is_among, missing_below, open_numbers, started}
@@ -21,20 +22,21 @@ use Rattle.vub_run.specs.Run.{Played, played, one_turn, is_due, then_played, tur
 use Rattle.vub_run_laws.proofs.RunNumbers.{missing-among, distinct_join}
 use Rattle.vub_facts.proofs.HeadLemmas.{distinct_push, few_below}
 use Rattle.vub_run_laws.proofs.RunOwn.{at_own}
-use Rattle.vub_run_laws.proofs.RunGood.{Known, Worked}
-use Rattle.vub_run_laws.proofs.RunEfforts.{weight, sum_below, phase_left, effort, weight_small}
+use Rattle.vub_run_laws.proofs.RunGood.{Known, StartIs, Worked}
+use Rattle.vub_run_laws.proofs.RunEfforts.{weight, sum_below, phase_left, steps_left, effort, start_short, weight_small}
+use Rattle.vub_run_laws.proofs.RunQueue.{queue_start}
 use Rattle.vub_run_laws.proofs.RunTurns.{IsPlain, Good, turn_fine}
 
 -- what is left to do at a moment
-abbrev pub effort_at : ℕ → Moment → ℕ
-effort_at q m = effort q m.scene.past (length (m.scene.heads q)) (m.lanes q)
+abbrev pub effort_at : ℕ → Header1 → Moment → ℕ
+effort_at q h m = effort q h.size m.scene.past (length (m.scene.heads q)) (m.lanes q)
 
 -- a due turn leaves less
-pub turn_falls : (q : ℕ) (h : Header1) (t : Turn) (m : Moment) → IsPlain h → Good q h m → is_due h q t m ≡ true → effort_at q (one_turn h q t m).next + 1 ≤ effort_at q m
+pub turn_falls : (q : ℕ) (h : Header1) (t : Turn) (m : Moment) → IsPlain h → Good q h m → is_due h q t m ≡ true → effort_at q h (one_turn h q t m).next + 1 ≤ effort_at q h m
 turn_falls q h t m plain good due =
     let ready : is_ready (standing h q m) t ≡ true = grind (arith, nat_tests) in
-    let left : Lane → ℕ = λ l. effort q (one_turn h q t m).next.scene.past (length ((one_turn h q t m).next.scene.heads q)) l in
-    subst (λ (l : Lane). left l + 1 ≤ effort_at q m) (sym (at_own m.lanes q (turned h q t m).lane)) (turn_fine q h t m plain good ready).falls
+    let left : Lane → ℕ = λ l. effort q h.size (one_turn h q t m).next.scene.past (length ((one_turn h q t m).next.scene.heads q)) l in
+    subst (λ (l : Lane). left l + 1 ≤ effort_at q h m) (sym (at_own m.lanes q (turned h q t m).lane)) (turn_fine q h t m plain good ready).falls
 
 -- ---- how much there is
 
@@ -98,12 +100,16 @@ phase_few batch (phases.Start done) = omega arith
 phase_few batch (phases.Fetch done) = omega arith
 phase_few batch (phases.Publish done) = omega arith
 
-pub start_few : (b : Bool) → cond {A = ℕ} b 0 1 ≤ 1
-start_few true = omega arith
-start_few false = omega arith
+-- and so is a start
+pub start_few : (b : Bool) (n : ℕ) (bell : Bool) (plan : Plan) (phase : Phase) → StartIs b n bell plan phase → cond {A = ℕ} b 0 (steps_left n bell plan phase) ≤ n + 4
+start_few true n bell plan phase is = omega arith
+start_few false n bell plan phases.Rest is = omega arith
+start_few false n bell plan (phases.Start done) is = omega (arith, start_short n bell plan is.few)
+start_few false n bell plan (phases.Fetch done) is = omega arith
+start_few false n bell plan (phases.Publish done) is = omega arith
 
 -- there is never much to do
-pub effort_small : (q : ℕ) (h : Header1) (m : Moment) → IsPlain h → Good q h m → effort_at q m ≤ 2000
+pub effort_small : (q : ℕ) (h : Header1) (m : Moment) → IsPlain h → Good q h m → effort_at q h m ≤ 2000
 effort_small q h m plain good =
     let s : Scene = m.scene in
     let l : Lane = m.lanes q in
@@ -116,7 +122,7 @@ effort_small q h m plain good =
     let dones = done_few q h.size h.capacity s.past (s.heads q) l.phase l.batch l.completed l.made known good.holds.worked in
     let sum = sum_few (published s.past q) (l.completed ++ l.batch) l.made (accepted s.past q) in
     let stores = phase_few l.batch l.phase in
-    let begins = start_few (started s.past q) in
+    let begins = start_few (started s.past q) h.size l.bell l.plan l.phase (queue_start q h s l good.holds) in
     omega (arith, opens, dones, sum, stores, begins)
 
 -- ---- one more turn at the end

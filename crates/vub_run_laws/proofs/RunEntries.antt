@@ -37,10 +37,10 @@ use Rattle.vub_report.specs.Entries.{IsRequest, IsEntry}
 use Rattle.vub_report.specs.Histories.{entries_of, history_of}
 use Rattle.vub_report.proofs.HistoryLemmas.{entries-append}
 use Rattle.vub_run.specs.Memory.{Scene, after_items}
-use Rattle.vub_run.specs.Moments.{Lane, Moment, fresh, unfinished}
+use Rattle.vub_run.specs.Moments.{Lane, Moment, fresh, attached, unfinished}
 use Rattle.vub_run.specs.Run.{Played, played, if_ready, ask, guest, guest_items, guest_stores, take_first, collect, boot, join, one_turn, is_due, then_played, turns as many_turns, single, up_to, any_choice, drain_choice, Drains, Plays, RunFrom, RunTo}
 use Rattle.vub_run.specs.TaskItems.{look_items, act_items}
-use Rattle.vub_run.specs.Turns.{course_of, turned, row_items, entry_items, step_stores, phase_turn, phase_goes_on, under_way, work_turn, request_turn, task_turn}
+use Rattle.vub_run.specs.Turns.{course_of, turned, row_items, bell_items, entry_items, step_stores, phase_turn, phase_goes_on, under_way, work_turn, request_turn, task_turn}
 use Rattle.vub_run_laws.proofs.Runs.{plain_header}
 use Rattle.vub_run_laws.proofs.RunEvents.{Right, turn_right}
 use Rattle.vub_run_laws.proofs.RunGood.{IsWide}
@@ -164,11 +164,30 @@ taken_makes q h (x ∷ xs) m = (tt, tt)
 
 -- ---- the device
 
-row_makes : (o : Option Row) → entries_of (row_items o) ≡ []
-row_makes None = refl
-row_makes (Some x) = refl
+row_makes : (o : Option Row) → Makes (row_items o)
+row_makes None = tt
+row_makes (Some x) = tt
+
+bell_makes : (q : ℕ) (step : Step) → Makes (bell_items q step)
+bell_makes q steps.Bell = tt
+bell_makes q steps.Features = tt
+bell_makes q (steps.Free i) = tt
+bell_makes q steps.Open = tt
+bell_makes q (steps.Settle i) = tt
+bell_makes q steps.SettleEnd = tt
+bell_makes q steps.Start = tt
+bell_makes q steps.Accept = tt
+bell_makes q (steps.Id e) = tt
+bell_makes q (steps.Len e) = tt
+bell_makes q steps.Index = tt
 
 step_makes : (q : ℕ) (batch : List ℕ) (step : Step) (s : Scene) → Makes (entry_items q batch step s)
+step_makes q batch steps.Features s = tt
+step_makes q batch (steps.Free i) s = tt
+step_makes q batch steps.Open s = tt
+step_makes q batch (steps.Settle i) s = tt
+step_makes q batch steps.SettleEnd s = tt
+step_makes q batch steps.Bell s = tt
 step_makes q batch steps.Start s = (tt, tt)
 step_makes q batch steps.Accept s = (tt, tt)
 step_makes q batch (steps.Id e) s = tt
@@ -178,8 +197,8 @@ step_makes q batch steps.Index s = (tt, tt)
 phase_makes : (q : ℕ) (h : Header1) (s : Scene) (l : Lane) (o : Option Step) → Makes (phase_turn h q s l o).items
 phase_makes q h s l None = tt
 phase_makes q h s l (Some step) =
-    let stores : List Item = step_stores h q l.batch step s in
-    makes-append stores (entry_items q l.batch step (after_items h stores s)) (subst AreMade (sym (row_makes _)) tt) (step_makes q l.batch step (after_items h stores s))
+    let stores : List Item = step_stores h q l step s in
+    makes-append stores (entry_items q l.batch step (after_items h stores s)) (makes-append (row_items _) (bell_items q step) (row_makes _) (bell_makes q step)) (step_makes q l.batch step (after_items h stores s))
 
 zeros_long : length zeros ≡ 512
 unfolding zeros
@@ -242,9 +261,9 @@ goes_makes : (q : ℕ) (h : Header1) (s : Scene) (l : Lane) → Makes (phase_goe
 goes_makes q h s l = phase_makes q h s l (next_step (course_of h l) l.phase)
 
 turned_makes : (q : ℕ) (h : Header1) (t : Turn) (m : Moment) → AreLong m.scene.past → Makes (turned h q t m).items
-turned_makes q h turns.Start m long = goes_makes q h m.scene (under_way turns.Start (m.lanes q))
-turned_makes q h turns.Fetch m long = goes_makes q h m.scene (under_way turns.Fetch (m.lanes q))
-turned_makes q h (turns.Publish most) m long = goes_makes q h m.scene (under_way (turns.Publish most) (m.lanes q))
+turned_makes q h turns.Start m long = goes_makes q h m.scene (under_way h q m.scene turns.Start (m.lanes q))
+turned_makes q h turns.Fetch m long = goes_makes q h m.scene (under_way h q m.scene turns.Fetch (m.lanes q))
+turned_makes q h (turns.Publish most) m long = goes_makes q h m.scene (under_way h q m.scene (turns.Publish most) (m.lanes q))
 turned_makes q h (turns.Work place) m long = work_makes q h m.scene (m.lanes q) (slice_get (unfinished q m) place) long
 
 turn_makes : (q : ℕ) (h : Header1) (t : Turn) (m : Moment) → Good q h m → Makes (one_turn h q t m).items
@@ -281,7 +300,7 @@ boot_makes : (m : Moment) → Makes (boot m).items
 boot_makes m = tested (not m.lives) (played [] (record m { lives = true; joined = false; lanes = λ q. fresh (m.lanes q) })) m tt
 
 join_makes : (m : Moment) → Makes (join m).items
-join_makes m = tested (m.lives && not m.joined) (played [] (record m { joined = true; lanes = λ q. record (m.lanes q) { attached = true } })) m tt
+join_makes m = tested (m.lives && not m.joined) (played [] (record m { joined = true; lanes = λ q. attached (m.lanes q) })) m tt
 
 pub event_enters : (q : ℕ) (h : Header1) (m : Moment) (e : Event) (is : List Item) (next : Moment) → IsPlain h → Good q h m → IsOn q e → IsEvent h e → Plays h m e is next → Enters q m.scene.past is
 event_enters q h m (events.Ask p shape a) is next plain good on fits plays =

@@ -13,8 +13,8 @@ use Rattle.vub_base.specs.declared.request.Shape.TheVariants.{Direct}
 use Rattle.vub_shared.specs.Stores.{Store}
 use Rattle.vub_steps.specs.declared.readiness.Turn.{Turn}
 use Rattle.vub_steps.specs.declared.readiness.Turn.TheVariants.{Start, Fetch, Work, Publish}
-use Rattle.vub_steps.specs.declared.steps.Phase.{Phase}
 use Rattle.vub_steps.specs.declared.steps.Phase.TheVariants as phases
+use Rattle.vub_steps.specs.declared.steps.Plan.TheVariants.{New}
 use Rattle.vub_steps.specs.Readiness.{is_ready}
 use Rattle.vub_driver.specs.Drivers.{Driver, Waiting, can_take, with_left, without_owner}
 use Rattle.vub_device.specs.declared.entry.Asked.{Asked}
@@ -28,14 +28,14 @@ use Rattle.vub_schedule.specs.Spelling.{IsAsk, IsEvent}
 use Rattle.vub_report.specs.declared.items.Item.{Item}
 use Rattle.vub_report.specs.declared.items.Item.TheVariants as items
 use Rattle.vub_run.specs.Memory.{Scene, with_at, after_items}
-use Rattle.vub_run.specs.Moments.{Lane, Moment, fresh, standing}
+use Rattle.vub_run.specs.Moments.{Lane, Moment, fresh, attached, standing}
 use Rattle.vub_run.specs.Run.{Played, played, if_ready, with_lane, comes_about, with_driver, ask, guest, guest_items, guest_stores, take_first, collect, boot, join, one_turn, is_due, then_played, turns, single, up_to, any_choice, drain_choice, Drains, Plays}
 use Rattle.vub_device.specs.Requests.{request_of}
 use Rattle.vub_run.specs.Tracking.{Tracks, AfterEach}
 use Rattle.vub_report.specs.Histories.{entries_of}
 use Rattle.vub_run.specs.Turns.{turned}
-use Rattle.vub_run_laws.proofs.RunQueue.{phase_at, queue_rests, queue_left, queue_stands, queue_first, queue_free, takes, sees}
-use Rattle.vub_run_laws.proofs.RunGood.{IsPending, PhaseIs, Worked}
+use Rattle.vub_run_laws.proofs.RunQueue.{queue_rests, queue_attached, queue_left, queue_stands, queue_first, queue_free, takes, sees}
+use Rattle.vub_run_laws.proofs.RunGood.{IsPending, Worked}
 use Rattle.vub_run_laws.proofs.RunHolds.{Holds, EntryStands}
 use Rattle.vub_run_laws.proofs.RunGuests.{holds_track, offered, Offered, guest_holds, Unoffered, part_holds, left_waits, rest_waits, waits_well}
 use Rattle.vub_run_laws.proofs.RunWork.{Fine}
@@ -181,15 +181,15 @@ collect_right q h m plain good = go (sees q h m.scene) refl
 
 -- ---- lives
 
-fresh_worked : (q : ℕ) (past : List Entry) (l : Lane) → started past q ≡ false → PhaseIs l.batch l.phase → Worked q past l.phase l.batch l.completed l.made → Worked q past phases.Rest [] [] (λ k. 0)
-fresh_worked q past l stopped at w =
+fresh_worked : (q : ℕ) (past : List Entry) (l : Lane) → started past q ≡ false → Worked q past l.phase l.batch l.completed l.made → Worked q past phases.Rest [] [] (λ k. 0)
+fresh_worked q past l stopped w =
     let none : (k : ℕ) → l.made k ≡ 0 = (w.quiet stopped).1.1 in record {
       distinct = refl;
       opens = λ k held. absurd (let fails : false ≡ true = held in cc);
       untouched = λ k high. refl;
       progress = λ k. record { fresh = λ e. (w.progress k).fresh (none k); begun = λ some. absurd (omega arith) };
       full = λ k held. absurd (let fails : false ≡ true = held in cc);
-      pending = λ k is_open out. subst (λ (c : ℕ). IsPending c (asked past q k)) (none k) (w.pending k is_open (ap (λ (xs : List ℕ). is_among (xs ++ l.batch) k) (w.quiet stopped).1.0 ∙ ap (λ (xs : List ℕ). is_among xs k) (subst (λ (p : Phase). PhaseIs l.batch p) (w.quiet stopped).0 at)));
+      pending = λ k is_open out. subst (λ (c : ℕ). IsPending c (asked past q k)) (none k) (w.pending k is_open (ap (λ (xs : List ℕ). is_among (xs ++ l.batch) k) (w.quiet stopped).1.0 ∙ ap (λ (xs : List ℕ). is_among xs k) (w.quiet stopped).0));
       quiet = λ e. (refl, (refl, λ k. refl));
       between = tt;
     }
@@ -201,9 +201,9 @@ boot_right q h m plain good = tested q h m (not m.lives) (played [] (record m { 
       good = record {
         holds = record {
           known = good.holds.known;
-          worked = fresh_worked q m.scene.past (m.lanes q) stopped (phase_at q h m.scene (m.lanes q) good.holds) good.holds.worked;
+          worked = fresh_worked q m.scene.past (m.lanes q) stopped good.holds.worked;
           stored = record { sectors = λ k i is_open kept read. absurd (omega (arith, kept.put)); status = λ k held. absurd (let fails : false ≡ true = held in cc) };
-          queue = queue_rests q h m.scene (m.lanes q).driver (m.lanes q).batch (m.lanes q).phase good.holds.queue;
+          queue = queue_rests q h m.scene (m.lanes q).driver (m.lanes q).bell false (m.lanes q).plan New (m.lanes q).batch (m.lanes q).phase good.holds.queue;
         };
         asleep = λ e. absurd (let fails : true ≡ false = e in cc);
         idle = good.idle;
@@ -214,9 +214,9 @@ boot_right q h m plain good = tested q h m (not m.lives) (played [] (record m { 
     })
 
 join_right : (q : ℕ) (h : Header1) (m : Moment) → IsPlain h → Good q h m → Leads q h m (join m)
-join_right q h m plain good = tested q h m (m.lives && not m.joined) (played [] (record m { joined = true; lanes = λ q. record (m.lanes q) { attached = true } })) plain good (λ ready. record {
+join_right q h m plain good = tested q h m (m.lives && not m.joined) (played [] (record m { joined = true; lanes = λ q. attached (m.lanes q) })) plain good (λ ready. record {
   good = record {
-    holds = record { known = good.holds.known; worked = good.holds.worked; stored = good.holds.stored; queue = good.holds.queue };
+    holds = record { known = good.holds.known; worked = good.holds.worked; stored = good.holds.stored; queue = queue_attached q h m.scene (m.lanes q).driver (m.lanes q).bell (m.lanes q).plan (m.lanes q).batch (m.lanes q).phase good.holds.queue };
     asleep = λ dead. absurd (grind (arith, nat_tests));
     idle = good.idle;
   };
@@ -230,11 +230,11 @@ join_right q h m plain good = tested q h m (m.lives && not m.joined) (played [] 
 pub turn_right : (q : ℕ) (h : Header1) (t : Turn) (m : Moment) → IsPlain h → Good q h m → is_due h q t m ≡ true → Leads q h m (one_turn h q t m)
 turn_right q h t m plain good due =
     let ready : is_ready (standing h q m) t ≡ true = grind (arith, nat_tests) in
-    let attached : (m.lanes q).attached ≡ true = grind (arith, nat_tests) in
+    let joined : (m.lanes q).attached ≡ true = grind (arith, nat_tests) in
     let fine : Fine q h m.scene (m.lanes q) (turned h q t m) = turn_fine q h t m plain good ready in record {
       good = lane_good q h (record m { scene = after_items h (turned h q t m).items m.scene }) (turned h q t m).lane fine.holds
-          (λ dead. absurd (let fails : true ≡ false = sym attached ∙ (good.asleep dead).0 in cc))
-          (λ stopped. absurd (let fails : true ≡ false = sym fine.runs ∙ stopped in cc));
+          (λ dead. absurd (let fails : true ≡ false = sym joined ∙ (good.asleep dead).0 in cc))
+          (λ stopped. (fine.idle stopped).1 ∙ good.idle (fine.idle stopped).0);
       each = fine.each;
       scene = refl;
       legal = fine.legal;

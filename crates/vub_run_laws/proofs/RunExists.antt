@@ -22,7 +22,7 @@ use Rattle.vub_run_laws.proofs.Runs.{plain_header}
 use Rattle.vub_run_laws.proofs.RunsLegal.{some_queue, IsHeld, opening_held, held_next}
 
 -- turns end
-pub turns_end : (q fuel : ℕ) (choose : Moment → Turn) (h : Header1) (m : Moment) → IsPlain h → Good q h m → effort_at q m ≤ fuel
+pub turns_end : (q fuel : ℕ) (choose : Moment → Turn) (h : Header1) (m : Moment) → IsPlain h → Good q h m → effort_at q h m ≤ fuel
     → (count : ℕ) × (is_due h q (choose (turns count choose h q m).next) (turns count choose h q m).next ≡ false)
 turns_end q zero choose h m plain good small = go (is_due h q (choose m) m) refl
   where
@@ -32,7 +32,7 @@ turns_end q zero choose h m plain good small = go (is_due h q (choose m) m) refl
 turns_end q (suc fuel) choose h m plain good small = go (is_due h q (choose m) m) refl (λ good' small'. turns_end q fuel choose h (one_turn h q (choose m) m).next plain good' small')
   where
     go : (b : Bool) → is_due h q (choose m) m ≡ b
-        → (Good q h (one_turn h q (choose m) m).next → effort_at q (one_turn h q (choose m) m).next ≤ fuel
+        → (Good q h (one_turn h q (choose m) m).next → effort_at q h (one_turn h q (choose m) m).next ≤ fuel
         → (count : ℕ) × (is_due h q (choose (turns count choose h q (one_turn h q (choose m) m).next).next) (turns count choose h q (one_turn h q (choose m) m).next).next ≡ false))
         → (count : ℕ) × (is_due h q (choose (turns count choose h q m).next) (turns count choose h q m).next ≡ false)
     go false is rest = (0, is)
@@ -54,7 +54,7 @@ drain_plays q h m choose plain good = go (is_due h q (choose m) m) refl
     go : (b : Bool) → is_due h q (choose m) m ≡ b → (is : List Item) × (next : Moment) × Drains h q m choose is next
     go false is = (items.Idle ∷ [], m, inl (is, refl))
     go true is =
-        let ends = turns_end q (effort_at q m) choose h m plain good (omega arith) in
+        let ends = turns_end q (effort_at q h m) choose h m plain good (omega arith) in
         ((turns ends.0 choose h q m).items, (turns ends.0 choose h q m).next, inr (is, record { count = ends.0; made = refl; ends = ends.1 }))
 
 pub event_plays : (q : ℕ) (h : Header1) (m : Moment) (e : Event) → IsPlain h → Good q h m → IsOn q e → IsEvent h e → Outcome h m e

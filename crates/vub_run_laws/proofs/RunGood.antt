@@ -7,6 +7,8 @@ use Rattle.vub_base.specs.declared.header.Header1.{Header1}
 use Rattle.vub_shared.specs.Bytes.{Bytes, put}
 use Rattle.vub_steps.specs.declared.steps.Phase.{Phase}
 use Rattle.vub_steps.specs.declared.steps.Phase.TheVariants as phases
+use Rattle.vub_steps.specs.declared.steps.Plan.{Plan}
+use Rattle.vub_steps.specs.Steps.{plan_steps, start_steps}
 use Rattle.vub_driver.specs.Layout.{area_place, buffer_place, status_place, sectors_place}
 use Rattle.vub_device.specs.declared.entry.Answered.{Answered}
 use Rattle.vub_device.specs.declared.entry.Asked.{Asked}
@@ -112,17 +114,28 @@ IsPending made (Some (asks.Write s bytes)) = made ≤ length bytes / 512
 IsPending made (Some asks.Flush) = made ≤ 1
 IsPending made r = ⊤
 
--- between turns a queue is at rest or publishes
-abbrev pub RestsOrPublishes : Phase → Type 0
-RestsOrPublishes phases.Rest = ⊤
-RestsOrPublishes (phases.Publish done) = ⊤
-RestsOrPublishes phase = ⊥
+-- between turns a queue is at rest, in a start or in a publication
+abbrev pub BetweenTurns : Phase → Type 0
+BetweenTurns (phases.Fetch done) = ⊥
+BetweenTurns phase = ⊤
 
--- and its batch goes with that
-abbrev pub PhaseIs : List ℕ → Phase → Type 0
-PhaseIs batch phases.Rest = batch ≡ []
-PhaseIs batch (phases.Publish done) = (0 < length batch) × (done < 2 * length batch + 1)
-PhaseIs batch phase = ⊥
+-- and its batch goes with that; of a start a step is left
+abbrev pub PhaseIs : ℕ → Bool → Plan → List ℕ → Phase → Type 0
+PhaseIs n bell plan batch phases.Rest = batch ≡ []
+PhaseIs n bell plan batch (phases.Start done) = (batch ≡ []) × (done < length (start_steps n plan bell))
+PhaseIs n bell plan batch (phases.Publish done) = (0 < length batch) × (done < 2 * length batch + 1)
+PhaseIs n bell plan batch phase = ⊥
+
+-- a start of which so many steps were made: the queue isn't started, a step is left, and it has a store for each entry and two more at most
+pub record InStart (runs : Bool) (n : ℕ) (bell : Bool) (plan : Plan) (done : ℕ) : Type 0 where
+  pub stopped : runs ≡ false
+  pub left : done < length (start_steps n plan bell)
+  pub few : length (plan_steps n plan) ≤ n + 2
+
+-- what is known of a start that is under way
+abbrev pub StartIs : Bool → ℕ → Bool → Plan → Phase → Type 0
+StartIs runs n bell plan (phases.Start done) = InStart runs n bell plan done
+StartIs runs n bell plan phase = ⊤
 
 pub record Worked (q : ℕ) (past : List Entry) (phase : Phase) (batch completed : List ℕ) (made : ℕ → ℕ) : Type 0 where
   pub distinct : are_distinct (completed ++ batch) ≡ true
@@ -131,8 +144,8 @@ pub record Worked (q : ℕ) (past : List Entry) (phase : Phase) (batch completed
   pub progress : (k : ℕ) → Progress (made k) (looks past q k) (acts past q k) (bytes_read past q k) (synced past q k) (asked past q k)
   pub full : (k : ℕ) → is_among (completed ++ batch) k ≡ true → IsFull (made k) (asked past q k)
   pub pending : (k : ℕ) → IsOpen past q k → is_among (completed ++ batch) k ≡ false → IsPending (made k) (asked past q k)
-  pub quiet : started past q ≡ false → (phase ≡ phases.Rest) × ((completed ≡ []) × ((k : ℕ) → made k ≡ 0))
-  pub between : RestsOrPublishes phase
+  pub quiet : started past q ≡ false → (batch ≡ []) × ((completed ≡ []) × ((k : ℕ) → made k ≡ 0))
+  pub between : BetweenTurns phase
 
 -- ---- what stands in buffers
 

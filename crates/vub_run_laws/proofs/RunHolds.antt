@@ -1,21 +1,23 @@
 -- What holds of a queue at every moment of a run: history, work, what stands in buffers, and the queue itself; what each
 -- store of a request and each row of a publication leaves of it.
-use Rattle.std.proofs.Common.{◌≡◌, ◌≤◌, ◌<◌, ℕ, ◌+◌, ◌*◌, true, false, List, [], ◌∷◌, ◌++◌, length, map}
+use Rattle.std.proofs.Common.{◌≡◌, ◌≤◌, ◌<◌, ℕ, ◌+◌, ◌*◌, Bool, true, false, List, [], ◌∷◌, ◌++◌, length, map}
 use Rattle.std.specs.Prelude.{Option, Some, nat_lt}
 use Rattle.vub_base.specs.declared.header.CacheMode.TheVariants.{Back}
 use Rattle.vub_base.specs.declared.header.Header1.{Header1}
 use Rattle.vub_base.specs.declared.store.Tag.{Tag}
-use Rattle.vub_base.specs.declared.store.Area.TheVariants.{M}
+use Rattle.vub_base.specs.declared.store.Area.TheVariants.{M, I}
+use Rattle.vub_shared.specs.Bytes.{put}
 use Rattle.vub_shared.specs.Stores.{Store}
 use Rattle.vub_steps.specs.declared.steps.Phase.{Phase}
 use Rattle.vub_steps.specs.declared.steps.Phase.TheVariants as phases
+use Rattle.vub_steps.specs.declared.steps.Plan.{Plan}
 use Rattle.vub_steps.specs.declared.steps.Step.{Step}
-use Rattle.vub_steps.specs.Steps.{publish_steps}
+use Rattle.vub_steps.specs.Steps.{start_steps, publish_steps}
 use Rattle.vub_driver.specs.Drivers.{Driver, Waiting}
 use Rattle.vub_device.specs.declared.entry.Answered.{Answered}
 use Rattle.vub_device.specs.declared.entry.Entry.{Entry}
 use Rattle.vub_device.specs.declared.entry.Entry.TheVariants as entries
-use Rattle.vub_device.specs.Past.{started, accepted, published, collected, is_among}
+use Rattle.vub_device.specs.Past.{started, accepted, published, collected, is_among, open_numbers}
 use Rattle.vub_device.specs.Requests.{request_of}
 use Rattle.vub_report.specs.declared.items.Item.TheVariants as items
 use Rattle.vub_run.specs.Memory.{Scene, after_item}
@@ -30,14 +32,14 @@ pub record Holds (q : ℕ) (h : Header1) (s : Scene) (l : Lane) : Type 0 where
   pub known : Known q h.size h.capacity s.past (s.heads q)
   pub worked : Worked q s.past l.phase l.batch l.completed l.made
   pub stored : Stored q s.past (s.heads q) s.memory l.batch l.completed l.made
-  pub queue : QueueFacts q h s l.driver l.batch l.phase
+  pub queue : QueueFacts q h s l.driver l.bell l.plan l.batch l.phase
 
 -- ---- the driver's stores
 
 -- what a store of a request leaves, where these are left: the buffers of what is offered, the queue, and the request
-pub record StoresBefore (q : ℕ) (h : Header1) (s : Scene) (v : Driver) (w : Waiting) (batch : List ℕ) (phase : Phase) (st : Store) (left : List Store) : Type 0 where
+pub record StoresBefore (q : ℕ) (h : Header1) (s : Scene) (v : Driver) (w : Waiting) (bell : Bool) (plan : Plan) (batch : List ℕ) (phase : Phase) (st : Store) (left : List Store) : Type 0 where
   pub off : (k : ℕ) → IsOut q s.past (s.heads q) k → OffBuffer q (s.heads q) k st.place st.bytes
-  pub queue : QueueFacts q h (stored_at st.place st.bytes s) v batch phase
+  pub queue : QueueFacts q h (stored_at st.place st.bytes s) v bell plan batch phase
   pub waits : IsWaiting q h.size h.capacity s.past (s.heads q) v (record w { left = left })
   pub last : LastStands q h (stored_at st.place st.bytes s) (record w { left = left })
 
@@ -46,33 +48,37 @@ abbrev pub offered_scene : ℕ → Header1 → Waiting → Store → Scene → S
 offered_scene q h w st s = after_item h (items.Made (entries.Offer q (request_of w.ask))) (stored_at st.place st.bytes s)
 
 -- what the last store of a request leaves, with its offer
-pub record StoresLast (q : ℕ) (h : Header1) (s : Scene) (v : Driver) (w : Waiting) (batch : List ℕ) (phase : Phase) (st : Store) : Type 0 where
+pub record StoresLast (q : ℕ) (h : Header1) (s : Scene) (v : Driver) (w : Waiting) (bell : Bool) (plan : Plan) (batch : List ℕ) (phase : Phase) (st : Store) : Type 0 where
   pub off : (k : ℕ) → OffBuffer q (s.heads q) k st.place st.bytes
   pub room : length (s.heads q) < h.size + collected s.past q
   pub heads : (offered_scene q h w st s).heads q ≡ s.heads q ++ w.head ∷ []
-  pub queue : QueueFacts q h (offered_scene q h w st s) (offered_by v) batch phase
+  pub queue : QueueFacts q h (offered_scene q h w st s) (offered_by v) bell plan batch phase
 
 -- ---- the rows of a publication
 
+-- the lane with so many stores of its publication made
+abbrev pub publishing : ℕ → Lane → Lane
+publishing done l = record l { phase = phases.Publish done }
+
 -- a publication under way, as far as its rows need it
-pub record IsPublishing (q : ℕ) (h : Header1) (s : Scene) (v : Driver) (batch : List ℕ) (done : ℕ) : Type 0 where
+pub record IsPublishing (q : ℕ) (h : Header1) (s : Scene) (l : Lane) (done : ℕ) : Type 0 where
   pub size : IsSize h.size
   pub back : h.mode ≡ Back
   pub started : started s.past q ≡ true
   pub known : Known q h.size h.capacity s.past (s.heads q)
-  pub room : length (published s.past q) + length batch ≤ accepted s.past q
-  pub out : (k : ℕ) → is_among batch k ≡ true → IsOut q s.past (s.heads q) k
-  pub queue : QueueFacts q h s v batch (phases.Publish done)
+  pub room : length (published s.past q) + length l.batch ≤ accepted s.past q
+  pub out : (k : ℕ) → is_among l.batch k ≡ true → IsOut q s.past (s.heads q) k
+  pub queue : QueueFacts q h s l.driver l.bell l.plan l.batch (phases.Publish done)
 
 -- the store of a step that leaves elements hidden
-pub record RowBefore (q : ℕ) (h : Header1) (s : Scene) (v : Driver) (batch : List ℕ) (done : ℕ) (step : Step) : Type 0 where
-  pub more : done + 1 < 2 * length batch + 1
+pub record RowBefore (q : ℕ) (h : Header1) (s : Scene) (l : Lane) (done : ℕ) (step : Step) : Type 0 where
+  pub more : done + 1 < 2 * length l.batch + 1
   pub tag : Tag
   pub place : ℕ
   pub bytes : List ℕ
-  pub stores : step_items h q batch step s ≡ items.Store tag M place bytes ∷ []
+  pub stores : step_items h q (publishing done l) step s ≡ items.Store tag M place bytes ∷ []
   pub off : (k : ℕ) → OffBuffer q (s.heads q) k place bytes
-  pub queue : QueueFacts q h (stored_at place bytes s) v batch (phases.Publish (done + 1))
+  pub queue : QueueFacts q h (stored_at place bytes s) l.driver l.bell l.plan l.batch (phases.Publish (done + 1))
 
 -- the answers of a batch, as they stand after a store
 abbrev pub shown_list : ℕ → ℕ → List ℕ → Scene → List ℕ → List Answered
@@ -82,15 +88,56 @@ abbrev pub shown_past : ℕ → ℕ → List ℕ → Scene → List ℕ → List
 shown_past q place bytes s batch = entries.Publish q (shown_list q place bytes s batch) ∷ s.past
 
 -- the store of a step that shows the elements, with its publication
-pub record RowShows (q : ℕ) (h : Header1) (s : Scene) (v : Driver) (batch : List ℕ) (step : Step) : Type 0 where
+pub record RowShows (q : ℕ) (h : Header1) (s : Scene) (l : Lane) (done : ℕ) (step : Step) : Type 0 where
   pub tag : Tag
   pub place : ℕ
   pub bytes : List ℕ
-  pub stores : step_items h q batch step s ≡ items.Store tag M place bytes ∷ items.Made (entries.Publish q (shown_list q place bytes s batch)) ∷ []
+  pub stores : step_items h q (publishing done l) step s ≡ items.Store tag M place bytes ∷ items.Made (entries.Publish q (shown_list q place bytes s l.batch)) ∷ []
   pub off : (k : ℕ) → OffBuffer q (s.heads q) k place bytes
-  pub queue : QueueFacts q h (record (stored_at place bytes s) { past = shown_past q place bytes s batch }) v [] phases.Rest
+  pub queue : QueueFacts q h (record (stored_at place bytes s) { past = shown_past q place bytes s l.batch }) l.driver l.bell l.plan [] phases.Rest
 
 -- the step after so many of a publication, with its row
-pub data NextRow : ℕ → Header1 → Scene → Driver → List ℕ → ℕ → Option Step → Type 0 where
-  Before : {q done : ℕ} {h : Header1} {s : Scene} {v : Driver} {batch : List ℕ} {o : Option Step} → (step : Step) → o ≡ Some step → nat_lt (done + 1) (length (publish_steps (length batch))) ≡ true → RowBefore q h s v batch done step → NextRow q h s v batch done o
-  Shows : {q done : ℕ} {h : Header1} {s : Scene} {v : Driver} {batch : List ℕ} {o : Option Step} → (step : Step) → o ≡ Some step → nat_lt (done + 1) (length (publish_steps (length batch))) ≡ false → RowShows q h s v batch step → NextRow q h s v batch done o
+pub data NextRow : ℕ → Header1 → Scene → Lane → ℕ → Option Step → Type 0 where
+  Before : {q done : ℕ} {h : Header1} {s : Scene} {l : Lane} {o : Option Step} → (step : Step) → o ≡ Some step → nat_lt (done + 1) (length (publish_steps (length l.batch))) ≡ true → RowBefore q h s l done step → NextRow q h s l done o
+  Shows : {q done : ℕ} {h : Header1} {s : Scene} {l : Lane} {o : Option Step} → (step : Step) → o ≡ Some step → nat_lt (done + 1) (length (publish_steps (length l.batch))) ≡ false → RowShows q h s l done step → NextRow q h s l done o
+
+-- ---- the steps of a start
+
+-- the lane with so many steps of its start made
+abbrev pub starting : ℕ → Lane → Lane
+starting done l = record l { phase = phases.Start done; batch = [] }
+
+-- the steps of its start
+abbrev pub steps_in : Header1 → Lane → List Step
+steps_in h l = start_steps h.size l.plan l.bell
+
+-- the scene after a store into the in-flight region
+abbrev pub noted_at : ℕ → List ℕ → Scene → Scene
+noted_at p bs s = record s { memory = put s.memory 1 p bs }
+
+-- a step with a store
+pub record StartStores (q : ℕ) (h : Header1) (s : Scene) (l : Lane) (done : ℕ) (step : Step) : Type 0 where
+  pub more : done + 1 < length (steps_in h l)
+  pub tag : Tag
+  pub place : ℕ
+  pub bytes : List ℕ
+  pub stores : step_items h q (starting done l) step s ≡ items.Store tag I place bytes ∷ []
+  pub queue : QueueFacts q h (noted_at place bytes s) l.driver l.bell l.plan [] (phases.Start (done + 1))
+
+-- the step that rings the bell
+pub record StartRings (q : ℕ) (h : Header1) (s : Scene) (l : Lane) (done : ℕ) (step : Step) : Type 0 where
+  pub more : done + 1 < length (steps_in h l)
+  pub rings : step_items h q (starting done l) step s ≡ items.Bell q ∷ []
+  pub queue : QueueFacts q h s l.driver l.bell l.plan [] (phases.Start (done + 1))
+
+-- the last step, with its entry
+pub record StartEnds (q : ℕ) (h : Header1) (s : Scene) (l : Lane) (done : ℕ) (step : Step) : Type 0 where
+  pub none : length (steps_in h l) ≤ done + 1
+  pub starts : step_items h q (starting done l) step s ≡ items.Made (entries.Start q (open_numbers s.past q)) ∷ []
+  pub queue : QueueFacts q h (record s { past = entries.Start q (open_numbers s.past q) ∷ s.past }) l.driver l.bell l.plan [] phases.Rest
+
+-- the step after so many of a start, with what it leaves
+pub data NextStart : ℕ → Header1 → Scene → Lane → ℕ → Option Step → Type 0 where
+  Stores : {q done : ℕ} {h : Header1} {s : Scene} {l : Lane} {o : Option Step} → (step : Step) → o ≡ Some step → StartStores q h s l done step → NextStart q h s l done o
+  Rings : {q done : ℕ} {h : Header1} {s : Scene} {l : Lane} {o : Option Step} → (step : Step) → o ≡ Some step → StartRings q h s l done step → NextStart q h s l done o
+  Ends : {q done : ℕ} {h : Header1} {s : Scene} {l : Lane} {o : Option Step} → (step : Step) → o ≡ Some step → StartEnds q h s l done step → NextStart q h s l done o

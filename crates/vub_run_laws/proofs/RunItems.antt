@@ -29,8 +29,10 @@ goes_on-append (items.Store tag area place bytes) (items.Made (entries.Start q l
 goes_on-append (items.Store tag area place bytes) (items.Made (entries.Collect q k) ∷ is) js g = absurd g
 goes_on-append (items.Store tag area place bytes) (items.Made (entries.Power image) ∷ is) js g = absurd g
 goes_on-append (items.Store tag area place bytes) (items.Store t a p b ∷ is) js g = absurd g
+goes_on-append (items.Store tag area place bytes) (items.Bell q ∷ is) js g = absurd g
 goes_on-append (items.Store tag area place bytes) (items.Idle ∷ is) js g = absurd g
 goes_on-append (items.Made e) is js g = absurd g
+goes_on-append (items.Bell q) is js g = absurd g
 goes_on-append items.Idle is js g = absurd g
 
 pub after-append : (h : Header1) (xs ys : List Item) (s : Scene) → after_items h (xs ++ ys) s ≡ after_items h ys (after_items h xs s)
@@ -78,6 +80,7 @@ pub past_after : (h : Header1) (is : List Item) (s : Scene) → (after_items h i
 past_after h [] s = refl
 past_after h (items.Made e ∷ is) s = past_after h is (after_item h (items.Made e) s) ∙ ap (λ (past : List Entry). after past (entries_of is)) (entry_past h e s)
 past_after h (items.Store tag area place bytes ∷ is) s = past_after h is (after_item h (items.Store tag area place bytes) s)
+past_after h (items.Bell q ∷ is) s = past_after h is s
 past_after h (items.Idle ∷ is) s = past_after h is s
 
 -- neither a store of a driver nor an offer

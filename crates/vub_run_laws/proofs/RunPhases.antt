@@ -1,6 +1,12 @@
--- Start and fetch keep what holds, and so does the begin of a publication.
+-- The steps of a start and a fetch keep what holds, and so does the begin of a publication.
 use Rattle.std.proofs.Common.{◌≡◌, ◌≤◌, ◌<◌, ℕ, true, false, List, [], ◌∷◌, ◌++◌, length, take, drop, refl, ap, sym, ◌∙◌, subst, inl, inr, arith, Bool}
-use Rattle.std.specs.Prelude.{Option, Some, None, ◌||◌, if◌then◌else◌}
+use Rattle.std.specs.Prelude.{Option, Some, None, ◌+◌, ◌-◌, ◌||◌, if◌then◌else◌, nat_lt, slice_get}
+use Rattle.vub_base.specs.declared.store.Area.TheVariants.{I}
+use Rattle.vub_shared.proofs.BytesLemmas.{put_other}
+use Rattle.vub_steps.specs.declared.steps.Step.{Step}
+use Rattle.vub_driver.specs.Layout.{status_place, sectors_place}
+use Rattle.vub_report.specs.declared.items.Item.{Item}
+use Rattle.vub_report.specs.declared.items.Item.TheVariants as items
 use Rattle.std.proofs.lemmas.Bool.Decides.{nat_tests}
 use Rattle.std.proofs.lemmas.Bool.{cases_lt, cases_Bool, or_right}
 use Rattle.std.proofs.lemmas.List.{length-drop, append-nil, length-take, take-append-drop}
@@ -18,16 +24,16 @@ use Rattle.vub_device.specs.Places.{are_distinct}
 use Rattle.vub_device.proofs.Numbers.{is_among_append}
 use Rattle.vub_run.specs.Memory.{Scene}
 use Rattle.vub_run.specs.Moments.{Lane}
-use Rattle.vub_run.specs.Turns.{under_way, phase_goes_on}
+use Rattle.vub_run.specs.Turns.{Turned, step_items, phase_turn, with_phase, begun, under_way, phase_goes_on}
 use Rattle.vub_run_laws.proofs.RunOwn.{accepted_own, started_own, looks_start, acts_start, bytes_start, synced_start, faulted_start}
 use Rattle.vub_run_laws.proofs.RunNumbers.{distinct_join}
 use Rattle.vub_facts.proofs.HeadLemmas.{distinct_parts}
-use Rattle.vub_run_laws.proofs.RunGood.{IsPending, PhaseIs, Worked, IsGood}
-use Rattle.vub_run_laws.proofs.RunHolds.{Holds}
-use Rattle.vub_run_laws.proofs.RunEfforts.{weight, effort, sum_below, sum_more, weight_small, sum_moved}
+use Rattle.vub_run_laws.proofs.RunGood.{IsPending, PhaseIs, StartIs, BetweenTurns, Worked, IsGood, buffer}
+use Rattle.vub_run_laws.proofs.RunHolds.{Holds, QueueFacts, starting, steps_in, noted_at, StartStores, StartRings, StartEnds, NextStart, Stores, Rings, Ends}
+use Rattle.vub_run_laws.proofs.RunEfforts.{weight, steps_left, effort, start_short, sum_below, sum_more, weight_small, sum_moved}
 use Rattle.vub_run_laws.proofs.RunGuests.{holds_track}
 use Rattle.vub_run_laws.proofs.RunWork.{Fine}
-use Rattle.vub_run_laws.proofs.RunQueue.{phase_at, queue_entry, queue_begins}
+use Rattle.vub_run_laws.proofs.RunQueue.{phase_at, queue_entry, queue_begins, queue_start, queue_start_begins, queue_start_step}
 
 -- the lane at rest
 abbrev pub resting : Lane → Lane
@@ -36,10 +42,47 @@ resting l = record l { phase = phases.Rest; batch = [] }
 pub rest_is : (l : Lane) → l.phase ≡ phases.Rest → l.batch ≡ [] → resting l ≡ l
 rest_is l phase batch = ap (λ (p : Phase). record l { phase = p; batch = [] }) (sym phase) ∙ ap (λ (b : List ℕ). record l { batch = b }) (sym batch)
 
+-- the lane in a start
+pub start_is : (done : ℕ) (l : Lane) → l.phase ≡ phases.Start done → l.batch ≡ [] → starting done l ≡ l
+start_is done l phase batch = ap (λ (p : Phase). record l { phase = p; batch = [] }) (sym phase) ∙ ap (λ (b : List ℕ). record l { batch = b }) (sym batch)
+
 -- ---- start
 
-start_worked : (q : ℕ) (past : List Entry) (list batch completed : List ℕ) (made : ℕ → ℕ) (phase : Phase) → started past q ≡ false → Worked q past phase batch completed made → Worked q (entries.Start q list ∷ past) phase batch completed made
-start_worked q past list batch completed made phase stopped w =
+-- a step before the last one: whatever is at rest but the phase is as it was
+moving_worked : (q : ℕ) (past : List Entry) (completed : List ℕ) (made : ℕ → ℕ) (phase phase' : Phase) → BetweenTurns phase' → Worked q past phase [] completed made → Worked q past phase' [] completed made
+moving_worked q past completed made phase phase' between w = record {
+  distinct = w.distinct;
+  opens = w.opens;
+  untouched = w.untouched;
+  progress = w.progress;
+  full = w.full;
+  pending = w.pending;
+  quiet = w.quiet;
+  between = between;
+}
+
+moving_holds : (q : ℕ) (h : Header1) (s : Scene) (l : Lane) (done : ℕ) → Holds q h s (starting done l) → QueueFacts q h s l.driver l.bell l.plan [] (phases.Start (done + 1)) → Holds q h s (starting (done + 1) l)
+moving_holds q h s l done x queue = record {
+  known = x.known;
+  worked = moving_worked q s.past l.completed l.made (phases.Start done) (phases.Start (done + 1)) tt x.worked;
+  stored = x.stored;
+  queue = queue;
+}
+
+-- a store into the region leaves guest memory, and so what stands in buffers
+noted_holds : (q : ℕ) (h : Header1) (s : Scene) (l : Lane) (done p : ℕ) (bs : List ℕ) → Holds q h s (starting done l) → QueueFacts q h (noted_at p bs s) l.driver l.bell l.plan [] (phases.Start (done + 1)) → Holds q h (noted_at p bs s) (starting (done + 1) l)
+noted_holds q h s l done p bs x queue = record {
+  known = x.known;
+  worked = moving_worked q s.past l.completed l.made (phases.Start done) (phases.Start (done + 1)) tt x.worked;
+  stored = record {
+    sectors = λ k i is_open kept read. put_other s.memory 1 p bs 0 (sectors_place (buffer q (s.heads q) k) + i) (inl (λ e. omega (arith, e))) ∙ x.stored.sectors k i is_open kept read;
+    status = λ k held. put_other s.memory 1 p bs 0 (status_place (buffer q (s.heads q) k)) (inl (λ e. omega (arith, e))) ∙ x.stored.status k held;
+  };
+  queue = queue;
+}
+
+start_worked : (q : ℕ) (past : List Entry) (list completed : List ℕ) (made : ℕ → ℕ) (phase : Phase) → started past q ≡ false → Worked q past phase [] completed made → Worked q (entries.Start q list ∷ past) phases.Rest [] completed made
+start_worked q past list completed made phase stopped w =
     let none : (k : ℕ) → made k ≡ 0 = (w.quiet stopped).1.1 in record {
       distinct = w.distinct;
       opens = λ j held. record { taken = (w.opens j held).taken; unpublished = (w.opens j held).unpublished };
@@ -48,11 +91,12 @@ start_worked q past list batch completed made phase stopped w =
       full = w.full;
       pending = λ j is_open out. w.pending j (record { taken = is_open.taken; unpublished = is_open.unpublished }) out;
       quiet = λ stops. absurd (let fails : true ≡ false = sym (started_own past q list) ∙ stops in cc);
-      between = w.between;
+      between = tt;
     }
 
-start_holds : (q : ℕ) (h : Header1) (s : Scene) (l : Lane) (list : List ℕ) → started s.past q ≡ false → Holds q h s l → Holds q h (record s { past = entries.Start q list ∷ s.past }) l
-start_holds q h s l list stopped x = let rest : l.phase ≡ phases.Rest = (x.worked.quiet stopped).0 in record {
+start_holds : (q : ℕ) (h : Header1) (s : Scene) (l : Lane) (list : List ℕ) (done : ℕ) → started s.past q ≡ false → Holds q h s (starting done l) → QueueFacts q h (record s { past = entries.Start q list ∷ s.past }) l.driver l.bell l.plan [] phases.Rest
+    → Holds q h (record s { past = entries.Start q list ∷ s.past }) (resting l)
+start_holds q h s l list done stopped x queue = record {
   known = record {
     offers_are = x.known.offers_are;
     offered = x.known.offered;
@@ -66,31 +110,115 @@ start_holds q h s l list stopped x = let rest : l.phase ≡ phases.Rest = (x.wor
     unfaulted = λ k. faulted_start s.past q list k;
     values = x.known.values;
   };
-  worked = start_worked q s.past list l.batch l.completed l.made l.phase stopped x.worked;
+  worked = start_worked q s.past list l.completed l.made (phases.Start done) stopped x.worked;
   stored = record {
     sectors = λ k i is_open kept read. absurd (let zero_made : l.made k ≡ 0 = (x.worked.quiet stopped).1.1 k in omega (arith, kept.put));
     status = x.stored.status;
   };
-  queue = queue_entry q h s (entries.Start q list ∷ s.past) l.driver l.batch l.phase (record { accepts = omega arith; shows = refl; collects = omega arith; asks = λ j. refl }) refl (started_own s.past q list) rest
-      (subst (λ (p : Phase). PhaseIs l.batch p) rest (phase_at q h s l x)) x.queue;
+  queue = queue;
 }
 
-pub start_fine : (q : ℕ) (h : Header1) (s : Scene) (l : Lane) → IsGood h → started s.past q ≡ false → Holds q h s (resting l) → Fine q h s (resting l) (phase_goes_on h q s (under_way turns.Start (resting l)))
-start_fine q h s l good stopped x =
+-- what is left of a queue that isn't started, and of one that is
+abbrev left_of : ℕ → Lane → Bool → ℕ
+left_of n l runs = if runs then 0 else steps_left n l.bell l.plan l.phase
+
+-- the turn of a step of a start, where more or none is left after it
+abbrev start_turn : List Item → ℕ → Lane → Bool → Turned
+start_turn is done l more = record { items = is; lane = with_phase (if more then phases.Start (done + 1) else phases.Rest) (starting done l) }
+
+abbrev StartFine : ℕ → Header1 → Scene → Lane → ℕ → Turned → Type 0
+StartFine q h s l done t = Fine q h s (starting done l) t
+
+stores_fine : (q : ℕ) (h : Header1) (s : Scene) (l : Lane) (done : ℕ) (step : Step) → IsGood h → started s.past q ≡ false → Holds q h s (starting done l) → StartStores q h s l done step → StartFine q h s l done (phase_turn h q s (starting done l) (Some step))
+stores_fine q h s l done step good stopped x y =
+    let holds : Holds q h (noted_at y.place y.bytes s) (starting (done + 1) l) = noted_holds q h s l done y.place y.bytes x y.queue in
+    let more : nat_lt (done + 1) (length (steps_in h l)) ≡ true = let low : done + 1 < length (steps_in h l) = y.more in grind (arith, nat_tests) in
+    let before : left_of h.size (starting done l) (started s.past q) ≡ length (steps_in h l) - done = ap (left_of h.size (starting done l)) stopped in
+    let after : left_of h.size (starting (done + 1) l) (started s.past q) ≡ length (steps_in h l) - (done + 1) = ap (left_of h.size (starting (done + 1) l)) stopped in
+    let fine : StartFine q h s l done (start_turn (items.Store y.tag I y.place y.bytes ∷ []) done l true) = record {
+      each = (inr (holds_track q h (noted_at y.place y.bytes s) (starting (done + 1) l) good holds), tt);
+      holds = holds;
+      legal = tt;
+      idle = λ stops. (stops, refl);
+      collects = refl;
+      falls = omega (arith, before, after, y.more);
+    } in
+    let one : StartFine q h s l done (start_turn (step_items h q (starting done l) step s) done l true) = subst (λ (is : List Item). StartFine q h s l done (start_turn is done l true)) (sym y.stores) fine in
+    subst (λ (b : Bool). StartFine q h s l done (start_turn (step_items h q (starting done l) step s) done l b)) (sym more) one
+
+rings_fine : (q : ℕ) (h : Header1) (s : Scene) (l : Lane) (done : ℕ) (step : Step) → IsGood h → started s.past q ≡ false → Holds q h s (starting done l) → StartRings q h s l done step → StartFine q h s l done (phase_turn h q s (starting done l) (Some step))
+rings_fine q h s l done step good stopped x y =
+    let holds : Holds q h s (starting (done + 1) l) = moving_holds q h s l done x y.queue in
+    let more : nat_lt (done + 1) (length (steps_in h l)) ≡ true = let low : done + 1 < length (steps_in h l) = y.more in grind (arith, nat_tests) in
+    let before : left_of h.size (starting done l) (started s.past q) ≡ length (steps_in h l) - done = ap (left_of h.size (starting done l)) stopped in
+    let after : left_of h.size (starting (done + 1) l) (started s.past q) ≡ length (steps_in h l) - (done + 1) = ap (left_of h.size (starting (done + 1) l)) stopped in
+    let fine : StartFine q h s l done (start_turn (items.Bell q ∷ []) done l true) = record {
+      each = (inr (holds_track q h s (starting (done + 1) l) good holds), tt);
+      holds = holds;
+      legal = tt;
+      idle = λ stops. (stops, refl);
+      collects = refl;
+      falls = omega (arith, before, after, y.more);
+    } in
+    let one : StartFine q h s l done (start_turn (step_items h q (starting done l) step s) done l true) = subst (λ (is : List Item). StartFine q h s l done (start_turn is done l true)) (sym y.rings) fine in
+    subst (λ (b : Bool). StartFine q h s l done (start_turn (step_items h q (starting done l) step s) done l b)) (sym more) one
+
+ends_fine : (q : ℕ) (h : Header1) (s : Scene) (l : Lane) (done : ℕ) (step : Step) → IsGood h → started s.past q ≡ false → done < length (steps_in h l) → Holds q h s (starting done l) → StartEnds q h s l done step → StartFine q h s l done (phase_turn h q s (starting done l) (Some step))
+ends_fine q h s l done step good stopped low x y =
     let list : List ℕ = open_numbers s.past q in
-    let holds : Holds q h (record s { past = entries.Start q list ∷ s.past }) (resting l) = start_holds q h s (resting l) list stopped x in
+    let holds : Holds q h (record s { past = entries.Start q list ∷ s.past }) (resting l) = start_holds q h s l list done stopped x y.queue in
     let may : MayStart s.past q list = record { stopped = stopped; resubmits = refl } in
-    record {
+    let none : nat_lt (done + 1) (length (steps_in h l)) ≡ false = let all : length (steps_in h l) ≤ done + 1 = y.none in grind (arith, nat_tests) in
+    let before : left_of h.size (starting done l) (started s.past q) ≡ length (steps_in h l) - done = ap (left_of h.size (starting done l)) stopped in
+    let after : left_of h.size (resting l) (started (entries.Start q list ∷ s.past) q) ≡ 0 = ap (left_of h.size (resting l)) (started_own s.past q list) in
+    let fine : StartFine q h s l done (start_turn (items.Made (entries.Start q list) ∷ []) done l false) = record {
       each = (inr (holds_track q h (record s { past = entries.Start q list ∷ s.past }) (resting l) good holds), tt);
       holds = holds;
       legal = (may, tt);
-      runs = started_own s.past q list;
+      idle = λ stops. absurd (let fails : true ≡ false = sym (started_own s.past q list) ∙ stops in cc);
       collects = refl;
-      falls =
-          let left : Bool → ℕ = λ runs. if runs then 0 else 1 in
-          let one : left (started s.past q) ≡ 1 = ap left stopped in
-          let none : left (started (entries.Start q list ∷ s.past) q) ≡ 0 = ap left (started_own s.past q list) in
-          omega (arith, one, none);
+      falls = omega (arith, before, after, low);
+    } in
+    let one : StartFine q h s l done (start_turn (step_items h q (starting done l) step s) done l false) = subst (λ (is : List Item). StartFine q h s l done (start_turn is done l false)) (sym y.starts) fine in
+    subst (λ (b : Bool). StartFine q h s l done (start_turn (step_items h q (starting done l) step s) done l b)) (sym none) one
+
+-- the next step of a start that is under way
+pub start_goes_on : (q : ℕ) (h : Header1) (s : Scene) (l : Lane) (done : ℕ) → IsGood h → started s.past q ≡ false → done < length (steps_in h l) → Holds q h s (starting done l) → StartFine q h s l done (phase_goes_on h q s (starting done l))
+start_goes_on q h s l done good stopped low x = go (slice_get (steps_in h l) done) (queue_start_step q h s l done good.size x.queue)
+  where
+    go : (o : Option Step) → NextStart q h s l done o → StartFine q h s l done (phase_turn h q s (starting done l) o)
+    go o (Stores step is y) = subst (λ (p : Option Step). StartFine q h s l done (phase_turn h q s (starting done l) p)) (sym is) (stores_fine q h s l done step good stopped x y)
+    go o (Rings step is y) = subst (λ (p : Option Step). StartFine q h s l done (phase_turn h q s (starting done l) p)) (sym is) (rings_fine q h s l done step good stopped x y)
+    go o (Ends step is y) = subst (λ (p : Option Step). StartFine q h s l done (phase_turn h q s (starting done l) p)) (sym is) (ends_fine q h s l done step good stopped low x y)
+
+-- the lane in which a start begins
+abbrev planned : ℕ → Header1 → Scene → Lane → Lane
+planned q h s l = begun h q s turns.Start (resting l)
+
+planned_holds : (q : ℕ) (h : Header1) (s : Scene) (l : Lane) → started s.past q ≡ false → Holds q h s (resting l) → Holds q h s (starting 0 (planned q h s l))
+planned_holds q h s l stopped x = record {
+  known = x.known;
+  worked = moving_worked q s.past l.completed l.made phases.Rest (phases.Start 0) tt x.worked;
+  stored = x.stored;
+  queue = queue_start_begins q h s l.driver l.bell l.plan stopped x.queue;
+}
+
+-- a start begins with its first step
+pub start_fine : (q : ℕ) (h : Header1) (s : Scene) (l : Lane) → IsGood h → started s.past q ≡ false → Holds q h s (resting l) → Fine q h s (resting l) (phase_goes_on h q s (under_way h q s turns.Start (resting l)))
+start_fine q h s l good stopped x =
+    let l' : Lane = planned q h s l in
+    let begins : Holds q h s (starting 0 l') = planned_holds q h s l stopped x in
+    let start : StartIs (started s.past q) h.size l'.bell l'.plan (phases.Start 0) = queue_start q h s (starting 0 l') begins in
+    let from_there : StartFine q h s l' 0 (phase_goes_on h q s (starting 0 l')) = start_goes_on q h s l' 0 good stopped start.left begins in
+    let before : left_of h.size (resting l) (started s.past q) ≡ h.size + 4 = ap (left_of h.size (resting l)) stopped in
+    let after : left_of h.size (starting 0 l') (started s.past q) ≡ length (steps_in h l') - 0 = ap (left_of h.size (starting 0 l')) stopped in
+    record {
+      each = from_there.each;
+      holds = from_there.holds;
+      legal = from_there.legal;
+      idle = from_there.idle;
+      collects = from_there.collects;
+      falls = omega (arith, from_there.falls, before, after, start_short h.size l'.bell l'.plan start.few);
     }
 
 -- ---- fetch
@@ -145,11 +273,11 @@ accept_holds q h s l k run rest more x = record {
     }) kept read;
     status = x.stored.status;
   };
-  queue = queue_entry q h s (entries.Accept q k ∷ s.past) l.driver l.batch l.phase (record { accepts = omega (arith, accepted_own s.past q k); shows = refl; collects = omega arith; asks = λ j. refl }) refl run rest
-      (subst (λ (p : Phase). PhaseIs l.batch p) rest (phase_at q h s l x)) x.queue;
+  queue = queue_entry q h s (entries.Accept q k ∷ s.past) l.driver l.bell l.plan l.batch l.phase (record { accepts = omega (arith, accepted_own s.past q k); shows = refl; collects = omega arith; asks = λ j. refl }) refl run rest
+      (subst (λ (p : Phase). PhaseIs h.size l.bell l.plan l.batch p) rest (phase_at q h s l x)) x.queue;
 }
 
-pub fetch_fine : (q : ℕ) (h : Header1) (s : Scene) (l : Lane) → IsGood h → started s.past q ≡ true → accepted s.past q < length (s.heads q) → Holds q h s (resting l) → Fine q h s (resting l) (phase_goes_on h q s (under_way turns.Fetch (resting l)))
+pub fetch_fine : (q : ℕ) (h : Header1) (s : Scene) (l : Lane) → IsGood h → started s.past q ≡ true → accepted s.past q < length (s.heads q) → Holds q h s (resting l) → Fine q h s (resting l) (phase_goes_on h q s (under_way h q s turns.Fetch (resting l)))
 fetch_fine q h s l good run more x =
     let k : ℕ = accepted s.past q in
     let holds : Holds q h (record s { past = entries.Accept q k ∷ s.past }) (resting l) = accept_holds q h s (resting l) k run refl more x in
@@ -158,7 +286,7 @@ fetch_fine q h s l good run more x =
       each = (inr (holds_track q h (record s { past = entries.Accept q k ∷ s.past }) (resting l) good holds), tt);
       holds = holds;
       legal = (may, tt);
-      runs = run;
+      idle = λ stopped. absurd (let fails : true ≡ false = sym run ∙ stopped in cc);
       collects = refl;
       falls =
           let w : ℕ → ℕ = weight (published s.past q) (l.completed ++ []) l.made in
@@ -206,11 +334,11 @@ taking_holds q h s l most some any run x =
         sectors = x.stored.sectors;
         status = λ k held. x.stored.status k (same k held);
       };
-      queue = queue_begins q h s l.driver (take most l.completed) [] phases.Rest x.known (omega (arith, some, any, length-take most l.completed)) (distinct_parts (drop most l.completed) (take most l.completed) (swap_distinct most l.completed x.worked.distinct)).second (λ k held.
+      queue = queue_begins q h s l.driver l.bell l.plan (take most l.completed) [] phases.Rest run x.known (omega (arith, some, any, length-take most l.completed)) (distinct_parts (drop most l.completed) (take most l.completed) (swap_distinct most l.completed x.worked.distinct)).second (λ k held.
           x.worked.opens k (same k (is_among_append (drop most l.completed) (take most l.completed) k ∙ or_right (is_among (drop most l.completed) k) (is_among (take most l.completed) k) held))) x.queue;
     }
 
 -- and what is left to do grows by no more than the store that follows
-pub taking_effort : (q : ℕ) (past : List Entry) (offered most : ℕ) (l : Lane) → 0 < most → 0 < length l.completed → effort q past offered (taking most l) ≤ effort q past offered (resting l)
-taking_effort q past offered most l some any =
+pub taking_effort : (q n : ℕ) (past : List Entry) (offered most : ℕ) (l : Lane) → 0 < most → 0 < length l.completed → effort q n past offered (taking most l) ≤ effort q n past offered (resting l)
+taking_effort q n past offered most l some any =
     omega (arith, length-take most l.completed, length-drop most l.completed, sum_moved (published past q) (l.completed ++ []) (drop most l.completed ++ take most l.completed) l.made (accepted past q) (swap_among most l.completed))

@@ -24,12 +24,8 @@ use Rattle.vub_run.specs.Memory.{Scene}
 use Rattle.vub_run.specs.Moments.{Lane}
 use Rattle.vub_run.specs.Turns.{answer_at, answer_len}
 use Rattle.vub_run_laws.proofs.RunGood.{IsWide, IsReadTo, IsWrittenTo, IsFull, Worked, Stored, IsRead, buffer, IsGood}
-use Rattle.vub_run_laws.proofs.RunHolds.{Holds}
+use Rattle.vub_run_laws.proofs.RunHolds.{Holds, publishing}
 use Rattle.vub_run_laws.proofs.RunSteps.{wide_some, wide_served, looks_end, effects_end, read_to, written_to, flushed_to}
-
--- the lane with so many stores of its publication made
-abbrev pub publishing : ℕ → Lane → Lane
-publishing done l = record l { phase = phases.Publish done }
 
 -- a publication under way
 pub record IsUnderWay (q : ℕ) (h : Header1) (s : Scene) (l : Lane) (done : ℕ) : Type 0 where

@@ -20,7 +20,7 @@ use Rattle.vub_report.specs.declared.items.Item.TheVariants as items
 use Rattle.vub_run.specs.Before.{BeforeEach}
 use Rattle.vub_run.specs.Lawful.{IsLawfulItem}
 use Rattle.vub_run.specs.Memory.{Scene, after_item, after_items}
-use Rattle.vub_run.specs.Moments.{Lane, Moment, fresh, unfinished}
+use Rattle.vub_run.specs.Moments.{Lane, Moment, fresh, attached, unfinished}
 use Rattle.vub_run.specs.Run.{Played, played, if_ready, ask, take_first, collect, boot, join, one_turn, is_due, then_played, turns as many_turns, single, up_to, any_choice, drain_choice, Drains, Plays}
 use Rattle.vub_run.specs.TaskItems.{look_items, act_items}
 use Rattle.vub_run.specs.Turns.{course_of, turned, phase_turn, phase_goes_on, under_way, work_turn, request_turn, task_turn}
@@ -40,7 +40,7 @@ quiet_kept h s (i ∷ is) all = quiet_kept h (after_item h i s) is all.1 ∙ all
 
 phase_quiet : (q : ℕ) (h : Header1) (s : Scene) (l : Lane) (o : Option Step) → AreQuiet h (phase_turn h q s l o).items
 phase_quiet q h s l None = tt
-phase_quiet q h s l (Some step) = queue_quiet q h l.batch step s
+phase_quiet q h s l (Some step) = queue_quiet q h l step s
 
 look_quiet : (q : ℕ) (h : Header1) (k : ℕ) (past : List Entry) (o : Option ℕ) → AreQuiet h (look_items q k past o)
 look_quiet q h k past None = tt
@@ -70,9 +70,9 @@ goes_quiet : (q : ℕ) (h : Header1) (s : Scene) (l : Lane) → AreQuiet h (phas
 goes_quiet q h s l = phase_quiet q h s l (next_step (course_of h l) l.phase)
 
 pub turned_quiet : (q : ℕ) (h : Header1) (t : Turn) (m : Moment) → AreQuiet h (turned h q t m).items
-turned_quiet q h turns.Start m = goes_quiet q h m.scene (under_way turns.Start (m.lanes q))
-turned_quiet q h turns.Fetch m = goes_quiet q h m.scene (under_way turns.Fetch (m.lanes q))
-turned_quiet q h (turns.Publish most) m = goes_quiet q h m.scene (under_way (turns.Publish most) (m.lanes q))
+turned_quiet q h turns.Start m = goes_quiet q h m.scene (under_way h q m.scene turns.Start (m.lanes q))
+turned_quiet q h turns.Fetch m = goes_quiet q h m.scene (under_way h q m.scene turns.Fetch (m.lanes q))
+turned_quiet q h (turns.Publish most) m = goes_quiet q h m.scene (under_way h q m.scene (turns.Publish most) (m.lanes q))
 turned_quiet q h (turns.Work place) m = work_quiet q h m.scene (m.lanes q) (slice_get (unfinished q m) place)
 
 turns_quiet : (q count : ℕ) (choose : Moment → Turn) (h : Header1) (m : Moment) → AreQuiet h (many_turns count choose h q m).items
@@ -111,7 +111,7 @@ boot_quiet : (h : Header1) (m : Moment) → AreQuiet h (boot m).items
 boot_quiet h m = tested h (not m.lives) (played [] (record m { lives = true; joined = false; lanes = λ q. fresh (m.lanes q) })) m tt
 
 join_quiet : (h : Header1) (m : Moment) → AreQuiet h (join m).items
-join_quiet h m = tested h (m.lives && not m.joined) (played [] (record m { joined = true; lanes = λ q. record (m.lanes q) { attached = true } })) m tt
+join_quiet h m = tested h (m.lives && not m.joined) (played [] (record m { joined = true; lanes = λ q. attached (m.lanes q) })) m tt
 
 -- the event is one of the driver's stores
 abbrev pub IsGuest : Event → Type 0

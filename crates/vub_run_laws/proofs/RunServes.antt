@@ -14,7 +14,7 @@ use Rattle.vub_schedule.specs.Spelling.{IsHeader, IsEvent}
 use Rattle.vub_report.specs.declared.items.Item.{Item}
 use Rattle.vub_report.specs.declared.items.Record.{Record}
 use Rattle.vub_run.specs.LegalRuns.{past_of, attached_after, attached_from, IsServed, EveryDrainServes, IsLegalRun}
-use Rattle.vub_run.specs.Moments.{Lane, Moment, opening, fresh}
+use Rattle.vub_run.specs.Moments.{Lane, Moment, opening, fresh, attached}
 use Rattle.vub_run.specs.Run.{Played, played, if_ready, ask, guest, guest_stores, take_first, collect, one_turn, is_due, turns as many_turns, single, up_to, any_choice, drain_choice, Drains, Plays, RunFrom, RunTo, Stands}
 use Rattle.vub_run_laws.proofs.RunOwn.{at_own}
 use Rattle.vub_run_laws.proofs.RunEntries.{run_enters}
@@ -74,7 +74,7 @@ event_attaches q h m (events.Collect p) is next plain good on fits plays =
 event_attaches q h m events.Boot is next plain good on fits plays =
     tested_is (λ js n. is_on q n ≡ attached_after events.Boot js (is_on q m)) (not m.lives) (played [] (record m { lives = true; joined = false; lanes = λ q. fresh (m.lanes q) })) m is next plays refl refl
 event_attaches q h m events.Join is next plain good on fits plays =
-    tested_is (λ js n. is_on q n ≡ attached_after events.Join js (is_on q m)) (m.lives && not m.joined) (played [] (record m { joined = true; lanes = λ q. record (m.lanes q) { attached = true } })) m is next plays refl refl
+    tested_is (λ js n. is_on q n ≡ attached_after events.Join js (is_on q m)) (m.lives && not m.joined) (played [] (record m { joined = true; lanes = λ q. attached (m.lanes q) })) m is next plays refl refl
 event_attaches q h m (events.Start p) is next plain good on fits plays =
     let here : Plays h m (events.Start q) is next = subst (λ (p : ℕ). Plays h m (events.Start p) is next) on plays in
     made_stays q m is next (single h q turns.Start m) here (single_stays q h m turns.Start)

@@ -28,7 +28,7 @@ use Rattle.vub_run_laws.proofs.RunNumbers.{distinct_join}
 use Rattle.vub_facts.proofs.HeadLemmas.{distinct_parts}
 use Rattle.vub_run_laws.proofs.RunTracks.{numbers_answers}
 use Rattle.vub_run_laws.proofs.RunGood.{Known, Worked, Stored, stored_at}
-use Rattle.vub_run_laws.proofs.RunHolds.{Holds, IsPublishing, RowBefore, shown_list, shown_past, RowShows, NextRow, Before, Shows, QueueFacts}
+use Rattle.vub_run_laws.proofs.RunHolds.{Holds, publishing, IsPublishing, RowBefore, shown_list, shown_past, RowShows, NextRow, Before, Shows, QueueFacts}
 use Rattle.vub_run_laws.proofs.RunQueue.{phase_at, queue_row}
 use Rattle.vub_run_laws.proofs.RunEfforts.{shown_falls}
 use Rattle.vub_run_laws.proofs.RunFrames.{open_out, OffBuffer, stored_elsewhere}
@@ -36,7 +36,7 @@ use Rattle.vub_run_laws.proofs.RunGuests.{holds_track}
 use Rattle.vub_run_laws.proofs.RunPhases.{resting}
 use Rattle.vub_run_laws.proofs.RunWork.{Fine}
 use Rattle.vub_run_laws.proofs.RunElements.{batch_room, one_on, worked_on}
-use Rattle.vub_run_laws.proofs.RunPublications.{publishing, IsUnderWay, in_batch, batch_open, all_map, good_map, good_append, answer_right}
+use Rattle.vub_run_laws.proofs.RunPublications.{IsUnderWay, in_batch, batch_open, all_map, good_map, good_append, answer_right}
 
 shown_stored : (q : ℕ) (h : Header1) (p : ℕ) (bs : List ℕ) (s : Scene) (l : Lane) (done : ℕ) → IsUnderWay q h s l done → ((k : ℕ) → OffBuffer q (s.heads q) k p bs) → Stored q s.past (s.heads q) (stored_at p bs s).memory l.batch l.completed l.made
 shown_stored q h p bs s l done u off = stored_elsewhere q s.past (s.heads q) s.memory p bs l.batch l.completed l.made u.holds.worked.opens (λ k is_open. off k) u.holds.stored
@@ -114,7 +114,7 @@ still_open q h p bs s l k is_open = record {
 }
 
 shown_holds : (q : ℕ) (h : Header1) (p : ℕ) (bs : List ℕ) (s : Scene) (l : Lane) (done : ℕ) → IsUnderWay q h s l done → ((k : ℕ) → OffBuffer q (s.heads q) k p bs)
-    → QueueFacts q h (record (stored_at p bs s) { past = shown_past q p bs s l.batch }) l.driver [] phases.Rest → Holds q h (record (stored_at p bs s) { past = shown_past q p bs s l.batch }) (resting l)
+    → QueueFacts q h (record (stored_at p bs s) { past = shown_past q p bs s l.batch }) l.driver l.bell l.plan [] phases.Rest → Holds q h (record (stored_at p bs s) { past = shown_past q p bs s l.batch }) (resting l)
 shown_holds q h p bs s l done u off queue =
     let st = shown_stored q h p bs s l done u off in record {
       known = shown_known q h p bs s l done u off;
@@ -146,7 +146,7 @@ shown_legal q h p bs s l done u off =
 abbrev row_turn : List Item → ℕ → Lane → Bool → Turned
 row_turn is done l more = record { items = is; lane = with_phase (if more then phases.Publish (done + 1) else phases.Rest) (publishing done l) }
 
-before_holds : (q : ℕ) (h : Header1) (s : Scene) (l : Lane) (done : ℕ) (step : Step) → IsUnderWay q h s l done → (x : RowBefore q h s l.driver l.batch done step) → Holds q h (stored_at x.place x.bytes s) (one_on done l)
+before_holds : (q : ℕ) (h : Header1) (s : Scene) (l : Lane) (done : ℕ) (step : Step) → IsUnderWay q h s l done → (x : RowBefore q h s l done step) → Holds q h (stored_at x.place x.bytes s) (one_on done l)
 before_holds q h s l done step u x = record {
   known = u.holds.known;
   worked = worked_on q s.past l.batch l.completed l.made (phases.Publish done) done refl u.holds.worked;
@@ -155,7 +155,7 @@ before_holds q h s l done step u x = record {
 }
 
 -- a row that leaves the elements hidden
-before_fine : (q : ℕ) (h : Header1) (s : Scene) (l : Lane) (done : ℕ) (step : Step) → IsUnderWay q h s l done → nat_lt (done + 1) (length (publish_steps (length l.batch))) ≡ true → RowBefore q h s l.driver l.batch done step
+before_fine : (q : ℕ) (h : Header1) (s : Scene) (l : Lane) (done : ℕ) (step : Step) → IsUnderWay q h s l done → nat_lt (done + 1) (length (publish_steps (length l.batch))) ≡ true → RowBefore q h s l done step
     → Fine q h s (publishing done l) (phase_turn h q s (publishing done l) (Some step))
 before_fine q h s l done step u more x =
     let holds = before_holds q h s l done step u x in
@@ -164,15 +164,15 @@ before_fine q h s l done step u more x =
       each = (inr (holds_track q h (stored_at x.place x.bytes s) (one_on done l) u.good holds), tt);
       holds = holds;
       legal = tt;
-      runs = u.started;
+      idle = λ stopped. absurd (let fails : true ≡ false = sym u.started ∙ stopped in cc);
       collects = refl;
       falls = omega arith;
     } in
-    let one : Fine q h s (publishing done l) (row_turn (step_items h q l.batch step s) done l true) = subst (λ (is : List Item). Fine q h s (publishing done l) (row_turn is done l true)) (sym x.stores) fine in
-    subst (λ (b : Bool). Fine q h s (publishing done l) (row_turn (step_items h q l.batch step s) done l b)) (sym more) one
+    let one : Fine q h s (publishing done l) (row_turn (step_items h q (publishing done l) step s) done l true) = subst (λ (is : List Item). Fine q h s (publishing done l) (row_turn is done l true)) (sym x.stores) fine in
+    subst (λ (b : Bool). Fine q h s (publishing done l) (row_turn (step_items h q (publishing done l) step s) done l b)) (sym more) one
 
 -- the row that shows them, with its publication
-shows_fine : (q : ℕ) (h : Header1) (s : Scene) (l : Lane) (done : ℕ) (step : Step) → IsUnderWay q h s l done → nat_lt (done + 1) (length (publish_steps (length l.batch))) ≡ false → RowShows q h s l.driver l.batch step
+shows_fine : (q : ℕ) (h : Header1) (s : Scene) (l : Lane) (done : ℕ) (step : Step) → IsUnderWay q h s l done → nat_lt (done + 1) (length (publish_steps (length l.batch))) ≡ false → RowShows q h s l done step
     → Fine q h s (publishing done l) (phase_turn h q s (publishing done l) (Some step))
 shows_fine q h s l done step u none x =
     let holds = shown_holds q h x.place x.bytes s l done u x.off x.queue in
@@ -181,12 +181,12 @@ shows_fine q h s l done step u none x =
       each = (inl tt, (inr (holds_track q h (record (stored_at x.place x.bytes s) { past = shown_past q x.place x.bytes s l.batch }) (resting l) u.good holds), tt));
       holds = holds;
       legal = (shown_legal q h x.place x.bytes s l done u x.off, tt);
-      runs = u.started;
+      idle = λ stopped. absurd (let fails : true ≡ false = sym u.started ∙ stopped in cc);
       collects = refl;
       falls = omega (arith, some.0, some.1, shown_falls (published s.past q) (published (shown_past q x.place x.bytes s l.batch) q) l.completed l.batch l.made (accepted s.past q) (shown_published q h x.place x.bytes s l));
     } in
-    let one : Fine q h s (publishing done l) (row_turn (step_items h q l.batch step s) done l false) = subst (λ (is : List Item). Fine q h s (publishing done l) (row_turn is done l false)) (sym x.stores) fine in
-    subst (λ (b : Bool). Fine q h s (publishing done l) (row_turn (step_items h q l.batch step s) done l b)) (sym none) one
+    let one : Fine q h s (publishing done l) (row_turn (step_items h q (publishing done l) step s) done l false) = subst (λ (is : List Item). Fine q h s (publishing done l) (row_turn is done l false)) (sym x.stores) fine in
+    subst (λ (b : Bool). Fine q h s (publishing done l) (row_turn (step_items h q (publishing done l) step s) done l b)) (sym none) one
 
 -- the next store of a publication, and at its end the publication
 pub publication_fine : (q : ℕ) (h : Header1) (s : Scene) (l : Lane) (done : ℕ) → IsUnderWay q h s l done → Fine q h s (publishing done l) (phase_goes_on h q s (publishing done l))
@@ -194,7 +194,7 @@ publication_fine q h s l done u =
     let w : Worked q s.past (phases.Publish done) l.batch l.completed l.made = u.holds.worked in
     let some : (0 < length l.batch) × (done < 2 * length l.batch + 1) = phase_at q h s (publishing done l) u.holds in
     let room = batch_room q s.past (phases.Publish done) l.batch l.completed l.made h.size h.capacity (s.heads q) u.holds.known w in
-    let way : IsPublishing q h s l.driver l.batch done = record {
+    let way : IsPublishing q h s l done = record {
       size = u.good.size;
       back = u.back;
       started = u.started;
@@ -203,8 +203,8 @@ publication_fine q h s l done u =
       out = λ k held. open_out q h.size h.capacity s.past (s.heads q) k u.holds.known (batch_open q h s l done k u held);
       queue = u.holds.queue;
     } in
-    go (slice_get (publish_steps (length l.batch)) done) (queue_row q h s l.driver l.batch done way some.1)
+    go (slice_get (publish_steps (length l.batch)) done) (queue_row q h s l done way some.1)
   where
-    go : (o : Option Step) → NextRow q h s l.driver l.batch done o → Fine q h s (publishing done l) (phase_turn h q s (publishing done l) o)
+    go : (o : Option Step) → NextRow q h s l done o → Fine q h s (publishing done l) (phase_turn h q s (publishing done l) o)
     go o (Before step is more x) = subst (λ (y : Option Step). Fine q h s (publishing done l) (phase_turn h q s (publishing done l) y)) (sym is) (before_fine q h s l done step u more x)
     go o (Shows step is none x) = subst (λ (y : Option Step). Fine q h s (publishing done l) (phase_turn h q s (publishing done l) y)) (sym is) (shows_fine q h s l done step u none x)

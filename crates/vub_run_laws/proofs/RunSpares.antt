@@ -28,7 +28,7 @@ use Rattle.vub_report.specs.declared.items.Item.TheVariants as items
 use Rattle.vub_report.specs.declared.items.Record.{Record}
 use Rattle.vub_run.specs.Before.{BeforeEach}
 use Rattle.vub_run.specs.Memory.{Scene, after_item}
-use Rattle.vub_run.specs.Moments.{Lane, Moment, opening, fresh, unfinished}
+use Rattle.vub_run.specs.Moments.{Lane, Moment, opening, fresh, attached, unfinished}
 use Rattle.vub_run.specs.Run.{Played, played, if_ready, ask, guest_items, guest_stores, guest, take_first, collect, boot, join, one_turn, is_due, then_played, turns as many_turns, single, up_to, any_choice, drain_choice, Drains, Plays, RunFrom, Run}
 use Rattle.vub_run.specs.Spared.{IsSparing, SparedFrom, EveryAnswerIsSpared}
 use Rattle.vub_run.specs.TaskItems.{look_items, act_items}
@@ -56,7 +56,7 @@ AreSparing q h s is = BeforeEach h (IsSparing q) s is
 
 phase_spares : (q : ℕ) (h : Header1) (s : Scene) (l : Lane) (o : Option Step) → IsGood h → AreSparing q h s (phase_turn h q s l o).items
 phase_spares q h s l None good = tt
-phase_spares q h s l (Some step) good = queue_spares q h l.batch step s good.size
+phase_spares q h s l (Some step) good = queue_spares q h l step s good.size
 
 goes_spares : (q : ℕ) (h : Header1) (s : Scene) (l : Lane) → IsGood h → AreSparing q h s (phase_goes_on h q s l).items
 goes_spares q h s l good = phase_spares q h s l (next_step (course_of h l) l.phase) good
@@ -69,7 +69,7 @@ open_spares q h s l k tag p bs x is_open from upto = off_spares q s tag p bs (λ
     let out_j : IsOut q s.past (s.heads q) j = record { below = omega (arith, x.known.below j out.shown, x.known.offered); kept = out.kept } in
     let out_k : IsOut q s.past (s.heads q) k = open_out q h.size h.capacity s.past (s.heads q) k x.known is_open in
     let other : j ≢ k = among_apart (published s.past q) j k out.shown is_open.unpublished in
-    other_buffer q (s.heads q) j (slice_index (s.heads q) k) p bs (λ same. other (heads_apart q h s l.driver l.batch l.phase j k x.queue out_j out_k same)) (omega arith) (omega arith))
+    other_buffer q (s.heads q) j (slice_index (s.heads q) k) p bs (λ same. other (heads_apart q h s l.driver l.bell l.plan l.batch l.phase j k x.queue out_j out_k same)) (omega arith) (omega arith))
 
 look_spares : (q : ℕ) (h : Header1) (s : Scene) (k : ℕ) (o : Option ℕ) → AreSparing q h s (look_items q k s.past o)
 look_spares q h s k None = tt
@@ -112,9 +112,9 @@ work_spares q h m place plain good = go (slice_get (unfinished q m) place) refl
 -- ---- turns
 
 turn_spares : (q : ℕ) (h : Header1) (t : Turn) (m : Moment) → IsPlain h → Good q h m → AreSparing q h m.scene (turned h q t m).items
-turn_spares q h turns.Start m plain good = goes_spares q h m.scene (under_way turns.Start (m.lanes q)) plain.good
-turn_spares q h turns.Fetch m plain good = goes_spares q h m.scene (under_way turns.Fetch (m.lanes q)) plain.good
-turn_spares q h (turns.Publish most) m plain good = goes_spares q h m.scene (under_way (turns.Publish most) (m.lanes q)) plain.good
+turn_spares q h turns.Start m plain good = goes_spares q h m.scene (under_way h q m.scene turns.Start (m.lanes q)) plain.good
+turn_spares q h turns.Fetch m plain good = goes_spares q h m.scene (under_way h q m.scene turns.Fetch (m.lanes q)) plain.good
+turn_spares q h (turns.Publish most) m plain good = goes_spares q h m.scene (under_way h q m.scene (turns.Publish most) (m.lanes q)) plain.good
 turn_spares q h (turns.Work place) m plain good = work_spares q h m place plain good
 
 turns_spare : (q count : ℕ) (choose : Moment → Turn) (h : Header1) (m : Moment) → IsPlain h → Good q h m → AreSparing q h m.scene (many_turns count choose h q m).items
@@ -173,7 +173,7 @@ event_spares q h m (events.Collect p) is next plain good on plays =
     let here : Plays h m (events.Collect q) is next = subst (λ (p : ℕ). Plays h m (events.Collect p) is next) on plays in
     made_spares q h m is next (collect h q m) here (taken_spares q h _ m)
 event_spares q h m events.Boot is next plain good on plays = made_spares q h m is next (boot m) plays (tested q h (not m.lives) (played [] (record m { lives = true; joined = false; lanes = λ q. fresh (m.lanes q) })) m tt)
-event_spares q h m events.Join is next plain good on plays = made_spares q h m is next (join m) plays (tested q h (m.lives && not m.joined) (played [] (record m { joined = true; lanes = λ q. record (m.lanes q) { attached = true } })) m tt)
+event_spares q h m events.Join is next plain good on plays = made_spares q h m is next (join m) plays (tested q h (m.lives && not m.joined) (played [] (record m { joined = true; lanes = λ q. attached (m.lanes q) })) m tt)
 event_spares q h m (events.Start p) is next plain good on plays =
     let here : Plays h m (events.Start q) is next = subst (λ (p : ℕ). Plays h m (events.Start p) is next) on plays in
     made_spares q h m is next (single h q turns.Start m) here (single_spares q h turns.Start m plain good)

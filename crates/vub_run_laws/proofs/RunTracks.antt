@@ -75,8 +75,10 @@ goes (items.Store tag area place bytes) (items.Made e ∷ is) = of_entry e
     of_entry (entries.Power image) = inr (λ x. x)
     of_entry entries.Kill = inr (λ x. x)
 goes (items.Store tag area place bytes) (items.Store tag' area' place' bytes' ∷ is) = inr (λ x. x)
+goes (items.Store tag area place bytes) (items.Bell q ∷ is) = inr (λ x. x)
 goes (items.Store tag area place bytes) (items.Idle ∷ is) = inr (λ x. x)
 goes (items.Made e) is = inr (λ x. x)
+goes (items.Bell q) is = inr (λ x. x)
 goes items.Idle is = inr (λ x. x)
 
 -- what holds of each queue after each item holds of every queue after it

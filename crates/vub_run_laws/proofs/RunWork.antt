@@ -60,9 +60,9 @@ pub record Fine (q : ℕ) (h : Header1) (s : Scene) (l : Lane) (t : Turned) : Ty
   pub each : AfterEach h (Tracks h q) s t.items
   pub holds : Holds q h (after_items h t.items s) t.lane
   pub legal : LegalFrom h.capacity h.mode s.past (entries_of t.items)
-  pub runs : started (after_items h t.items s).past q ≡ true
+  pub idle : started (after_items h t.items s).past q ≡ false → (started s.past q ≡ false) × (accepted (after_items h t.items s).past q ≡ accepted s.past q)
   pub collects : collected (after_items h t.items s).past q ≡ collected s.past q
-  pub falls : effort q (after_items h t.items s).past (length ((after_items h t.items s).heads q)) t.lane + 1 ≤ effort q s.past (length (s.heads q)) l
+  pub falls : effort q h.size (after_items h t.items s).past (length ((after_items h t.items s).heads q)) t.lane + 1 ≤ effort q h.size s.past (length (s.heads q)) l
 
 -- a request that is worked on
 pub record IsLeft (q : ℕ) (h : Header1) (s : Scene) (l : Lane) (k : ℕ) : Type 0 where
@@ -80,7 +80,7 @@ at_work q h s l k r x is served = record { started = x.started; is_open = x.is_o
 abbrev one_more : ℕ → Lane → Lane
 one_more k l = record l { made = with_at l.made k (l.made k + 1) }
 
-one_more_falls : (q : ℕ) (h : Header1) (s : Scene) (l : Lane) (k : ℕ) → IsLeft q h s l k → l.made k ≤ 16 → effort q s.past (length (s.heads q)) (one_more k l) + 1 ≤ effort q s.past (length (s.heads q)) l
+one_more_falls : (q : ℕ) (h : Header1) (s : Scene) (l : Lane) (k : ℕ) → IsLeft q h s l k → l.made k ≤ 16 → effort q h.size s.past (length (s.heads q)) (one_more k l) + 1 ≤ effort q h.size s.past (length (s.heads q)) l
 one_more_falls q h s l k x small = omega (arith, step_falls (published s.past q) (l.completed ++ l.batch) l.made (accepted s.past q) k x.is_open.taken x.is_open.unpublished x.left small)
 
 look_known : (q n cap : ℕ) (past : List Entry) (heads : List ℕ) (k s : ℕ) (v : List ℕ) → Known q n cap past heads → Known q n cap (entries.Look q k s v ∷ past) heads
@@ -247,7 +247,7 @@ look_holds q h s l k sector c p place v x low at long = record {
   known = look_known q h.size h.capacity s.past (s.heads q) k place v x.left.holds.known;
   worked = look_worked q h s l k sector c p place v x low at long;
   stored = step_stored q s.past (entries.Look q k place v ∷ s.past) (s.heads q) s.memory l.batch l.completed l.made k (look_follows q s.past k place v x.left.started) (look_seen q h s l k sector c p place v x low at) x.left.holds.stored;
-  queue = queue_same q h s (entries.Look q k place v ∷ s.past) l.driver l.batch l.phase refl refl refl refl (λ j. refl) x.left.holds.queue;
+  queue = queue_same q h s (entries.Look q k place v ∷ s.past) l.driver l.bell l.plan l.batch l.phase refl refl refl refl (λ j. refl) x.left.holds.queue;
 }
 
 look_fine : (q : ℕ) (h : Header1) (s : Scene) (l : Lane) (k sector c p : ℕ) → IsReading q h s l k sector c → p < c → l.made k ≡ 2 * p → Fine q h s l (task_turn h q s l k (asks.Read sector c) (Some (Look p)))
@@ -268,7 +268,7 @@ look_fine q h s l k sector c p x low at =
       each = (inr (holds_track q h (record s { past = entries.Look q k (sector + p) v ∷ s.past }) (one_more k l) x.left.good holds), tt);
       holds = holds;
       legal = (may, tt);
-      runs = x.left.started;
+      idle = λ stopped. absurd (let fails : true ≡ false = sym x.left.started ∙ stopped in cc);
       collects = refl;
       falls = one_more_falls q h s l k x.left (omega (arith, at, low, x.wide.few));
     } in
@@ -337,7 +337,7 @@ act_holds q h s l k sector place bytes v x low long = record {
   known = act_known q h.size h.capacity s.past (s.heads q) k place v long x.left.holds.known;
   worked = act_worked q h s l k sector place bytes v x low;
   stored = step_stored q s.past (entries.Act q k place v ∷ s.past) (s.heads q) s.memory l.batch l.completed l.made k (act_follows q s.past k place v x.left.started) (seen_never q s.past (entries.Act q k place v ∷ s.past) l.made k (write_never sector bytes (asked s.past q k) x.is)) x.left.holds.stored;
-  queue = queue_same q h s (entries.Act q k place v ∷ s.past) l.driver l.batch l.phase refl refl refl refl (λ j. refl) x.left.holds.queue;
+  queue = queue_same q h s (entries.Act q k place v ∷ s.past) l.driver l.bell l.plan l.batch l.phase refl refl refl refl (λ j. refl) x.left.holds.queue;
 }
 
 -- a sector of some bytes
@@ -368,7 +368,7 @@ act_fine q h s l k sector p bytes x at low =
       each = (inr (holds_track q h (record s { past = entries.Act q k (sector + p) v ∷ s.past }) (one_more k l) x.left.good holds), tt);
       holds = holds;
       legal = (may, tt);
-      runs = x.left.started;
+      idle = λ stopped. absurd (let fails : true ≡ false = sym x.left.started ∙ stopped in cc);
       collects = refl;
       falls = one_more_falls q h s l k x.left (omega (arith, at, low, x.wide.few));
     } in
@@ -422,7 +422,7 @@ sync_holds q h s l k x is none = record {
   known = sync_known q h.size h.capacity s.past (s.heads q) k x.holds.known;
   worked = sync_worked q h s l k x is none;
   stored = step_stored q s.past (entries.Sync q k ∷ s.past) (s.heads q) s.memory l.batch l.completed l.made k (sync_follows q s.past k x.started) (seen_never q s.past (entries.Sync q k ∷ s.past) l.made k (flush_never (asked s.past q k) is)) x.holds.stored;
-  queue = queue_same q h s (entries.Sync q k ∷ s.past) l.driver l.batch l.phase refl refl refl refl (λ j. refl) x.holds.queue;
+  queue = queue_same q h s (entries.Sync q k ∷ s.past) l.driver l.bell l.plan l.batch l.phase refl refl refl refl (λ j. refl) x.holds.queue;
 }
 
 sync_fine : (q : ℕ) (h : Header1) (s : Scene) (l : Lane) (k : ℕ) → IsLeft q h s l k → asked s.past q k ≡ Some asks.Flush → l.made k ≡ 0 → Fine q h s l (task_turn h q s l k asks.Flush (Some Sync))
@@ -438,7 +438,7 @@ sync_fine q h s l k x is none =
       each = (inr (holds_track q h (record s { past = entries.Sync q k ∷ s.past }) (one_more k l) x.good holds), tt);
       holds = holds;
       legal = (may, tt);
-      runs = x.started;
+      idle = λ stopped. absurd (let fails : true ≡ false = sym x.started ∙ stopped in cc);
       collects = refl;
       falls = one_more_falls q h s l k x (omega arith);
     }
@@ -447,7 +447,7 @@ sync_fine q h s l k x is none =
 
 pub other_open : (q : ℕ) (h : Header1) (s : Scene) (l : Lane) (k j : ℕ) → IsLeft q h s l k → IsOpen s.past q j → j ≢ k → slice_index (s.heads q) j ≢ slice_index (s.heads q) k
 other_open q h s l k j x is_open apart same =
-    apart (heads_apart q h s l.driver l.batch l.phase j k x.holds.queue (open_out q h.size h.capacity s.past (s.heads q) j x.holds.known is_open) (open_out q h.size h.capacity s.past (s.heads q) k x.holds.known x.is_open) same)
+    apart (heads_apart q h s l.driver l.bell l.plan l.batch l.phase j k x.holds.queue (open_out q h.size h.capacity s.past (s.heads q) j x.holds.known is_open) (open_out q h.size h.capacity s.past (s.heads q) k x.holds.known x.is_open) same)
 
 -- a store into the buffer of one request leaves those of the others
 off_other : (q : ℕ) (h : Header1) (s : Scene) (l : Lane) (k j p : ℕ) (bs : List ℕ) → IsLeft q h s l k → IsOpen s.past q j → j ≢ k → buffer q (s.heads q) k ≤ p → p + length bs ≤ buffer q (s.heads q) k + 8192 → OffBuffer q (s.heads q) j p bs
@@ -510,7 +510,7 @@ put_holds q h s l k sector c p x low at =
         status = λ j held.
             status_elsewhere q (s.heads q) j s.memory place bs (off_other q h s l k j place bs x.left (x.left.holds.worked.opens j held) (among_apart (l.completed ++ l.batch) j k held x.left.left) (omega arith) (omega arith)) ∙ x.left.holds.stored.status j held;
       };
-      queue = queue_elsewhere q h s place bs l.driver l.batch l.phase x.left.good.size (inr (omega arith)) x.left.holds.queue;
+      queue = queue_elsewhere q h s place bs l.driver l.bell l.plan l.batch l.phase x.left.good.size (inr (omega arith)) x.left.holds.queue;
     }
 
 put_fine : (q : ℕ) (h : Header1) (s : Scene) (l : Lane) (k sector c p : ℕ) → IsReading q h s l k sector c → p < c → l.made k ≡ 2 * p + 1 → Fine q h s l (task_turn h q s l k (asks.Read sector c) (Some (Put p)))
@@ -520,7 +520,7 @@ put_fine q h s l k sector c p x low at =
       each = (inr (holds_track q h (stored_at (sectors_place (buffer q (s.heads q) k) + 512 * p) (slice_range (bytes_read s.past q k) (512 * p) (512 * p + 512)) s) (one_more k l) x.left.good holds), tt);
       holds = holds;
       legal = tt;
-      runs = x.left.started;
+      idle = λ stopped. absurd (let fails : true ≡ false = sym x.left.started ∙ stopped in cc);
       collects = refl;
       falls = one_more_falls q h s l k x.left (omega (arith, at, low, x.wide.few));
     }
@@ -640,7 +640,7 @@ status_holds q h s l k p x whole half at = record {
           status_elsewhere q (s.heads q) j s.memory p (0 ∷ []) (off_other q h s l k j p (0 ∷ []) x (x.holds.worked.opens j old) (among_apart (l.completed ++ l.batch) j k old x.left) (omega arith) (omega arith)) ∙ x.holds.stored.status j old
     ];
   };
-  queue = queue_elsewhere q h s p (0 ∷ []) l.driver l.batch l.phase x.good.size (inr (omega arith)) x.holds.queue;
+  queue = queue_elsewhere q h s p (0 ∷ []) l.driver l.bell l.plan l.batch l.phase x.good.size (inr (omega arith)) x.holds.queue;
 }
 
 status_fine : (q : ℕ) (h : Header1) (s : Scene) (l : Lane) (k : ℕ) (r : Asked) → IsLeft q h s l k → refusal h.capacity h.mode r ≡ None → IsFull (l.made k) (asked s.past q k) → (IsRead (asked s.past q k) → (l.made k + 1) / 2 ≡ l.made k / 2) → l.made k ≤ 16
@@ -653,7 +653,7 @@ status_fine q h s l k r x served whole half small =
       each = (inr (holds_track q h (stored_at p (0 ∷ []) s) (finished k l) x.good holds), tt);
       holds = holds;
       legal = tt;
-      runs = x.started;
+      idle = λ stopped. absurd (let fails : true ≡ false = sym x.started ∙ stopped in cc);
       collects = refl;
       falls = omega (arith, length-append l.completed (k ∷ []), status_falls (published s.past q) l.completed l.batch l.made (accepted s.past q) k x.is_open.taken x.is_open.unpublished x.left small);
     } in

@@ -1,17 +1,17 @@
 use Rattle.std.proofs.Common.{◌≡◌, ℕ, ◌+◌, refl, ap, sym, ◌∙◌, arith}
-use Rattle.std.specs.Prelude.{Some, slice_get}
+use Rattle.std.specs.Prelude.{length, Some, slice_get}
 use Rattle.byteorder.specs.Endian.{little_bytes}
 use Rattle.vub_base.specs.declared.store.Tag.TheVariants.{SP1}
 use Rattle.vub_steps.specs.declared.steps.Step.TheVariants.{Id}
 use Rattle.vub_ring.specs.Ring.{used_id_place}
 use Rattle.vub_steps.specs.Rows.{Row, row}
-use Rattle.vub_steps.specs.Steps.{next_step}
+use Rattle.vub_steps.specs.Steps.{next_of}
 use Rattle.vub_queue.specs.declared.queue.Queue.{Queue}
 use Rattle.vub_queue.specs.declared.queue.Completed.{Completed}
 use Rattle.vub_queue.specs.declared.queue.Stepped.TheVariants as says
 use Rattle.vub_queue.specs.QueueParts.{element}
 use Rattle.vub_split.specs.Split.{used_side}
-use Rattle.vub_queue.specs.QueueState.{state_of, course_in, next_row}
+use Rattle.vub_queue.specs.QueueState.{state_of, steps_in, next_row}
 use Rattle.vub_queue.proofs.QueueLemmas.{id_within, count_fits, count_is, row_of_id, failed_row, failed_trail, made_row, made_trail, moves_if}
 use Rattle.vub_queue.proofs.queue.Queue.store_id.Goals as goal
 
@@ -19,22 +19,22 @@ use Rattle.vub_queue.proofs.queue.Queue.store_id.Goals as goal
 abbrev row_here : Queue → ℕ → ℕ → Row
 row_here q e id = row (used_side q.ring) SP1 (used_id_place (used_side q.ring) (q.next_used + e)) (little_bytes 4 id)
 
-row_is : (q : Queue) (e : ℕ) (x : Completed) (id : ℕ) → id ≡ x.head → next_step (course_in (state_of q)) q.phase ≡ Some (Id e) → slice_get (state_of q).batch e ≡ Some (element x) → next_row (state_of q) ≡ Some (row_here q e id)
+row_is : (q : Queue) (e : ℕ) (x : Completed) (id : ℕ) → id ≡ x.head → next_of (steps_in (state_of q)) q.phase ≡ Some (Id e) → slice_get (state_of q).batch e ≡ Some (element x) → next_row (state_of q) ≡ Some (row_here q e id)
 row_is q e x id same next got =
     row_of_id (state_of q) e (element x) next got ∙ ap (λ v. Some (row_here q e v)) (sym same)
 
 pub batch_element-completed-requires : goal.batch_element-completed-requires
 batch_element-completed-requires g c =
     let q = c.args.self.now in
-    omega (arith, (id_within (course_in (state_of q)) q.phase c.args.element c.requires.next).0, count_is q)
+    omega (arith, (id_within (length (state_of q).batch) q.phase c.args.element c.requires.next).0, count_is q)
 
 pub overflow_cast-index : goal.overflow_cast-index
 overflow_cast-index g c =
     let q = c.args.self.now in
-    omega (arith, (id_within (course_in (state_of q)) q.phase c.args.element c.requires.next).0, count_is q, q.batched, q.counted, count_fits q.taken.items, q.heads, q.few)
+    omega (arith, (id_within (length (state_of q).batch) q.phase c.args.element c.requires.next).0, count_is q, q.batched, q.counted, count_fits q.taken.items, q.heads, q.few)
 
 pub advance-requires-clause-goes : goal.advance-requires-clause-goes
-advance-requires-clause-goes g c = (id_within (course_in (state_of c.args.self.now)) c.args.self.now.phase c.args.element c.requires.next).1
+advance-requires-clause-goes g c = (id_within (length (state_of c.args.self.now).batch) c.args.self.now.phase c.args.element c.requires.next).1
 
 pub returns-in-Err-clause-moves : goal.returns-in-Err-clause-moves
 returns-in-Err-clause-moves g c =
