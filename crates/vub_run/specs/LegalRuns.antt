@@ -1,5 +1,5 @@
 -- The records of a run, and what is true of them.
-use Rattle.std.specs.Prelude.{◌≡◌, ℕ, Bool, true, false, List, [], ◌∷◌, ◌++◌}
+use Rattle.std.specs.Prelude.{◌≡◌, ◌<◌, ℕ, ◌+◌, Bool, true, false, List, [], ◌∷◌, ◌++◌, length}
 use Rattle.std.specs.List.{AllByRecursion}
 use Rattle.vub_base.specs.declared.header.Header1.{Header1}
 use Rattle.vub_device.specs.declared.entry.Entry.{Entry}
@@ -11,7 +11,7 @@ use Rattle.vub_report.specs.declared.items.Item.{Item}
 use Rattle.vub_report.specs.declared.items.Record.{Record}
 use Rattle.vub_report.specs.Entries.{IsEntry}
 use Rattle.vub_report.specs.Histories.{history_of}
-use Rattle.vub_run.specs.Moments.{opening}
+use Rattle.vub_run.specs.Moments.{opening, last_counter}
 use Rattle.vub_run.specs.Run.{RunFrom}
 use Rattle.vub_run.specs.Tracking.{TracksAlways}
 
@@ -44,10 +44,11 @@ pub record IsServed (q : ℕ) (rs : List Record) : Type 0 where
   pub none_open : open_numbers (past_of rs) q ≡ []
   pub all_accepted : accepted (past_of rs) q ≡ offers (past_of rs) q
 
--- each drain of an attached queue serves it: so it is after the records up to and with that of the drain
+-- Each drain of an attached queue serves it: so it is after the records up to and with that of the drain. A counter is left
+-- for each request, since fewer events came before than there are counters.
 abbrev pub EveryDrainServes : List Record → Type 0
 EveryDrainServes rs = (before : List Record) (r : Record) (later : List Record) (q : ℕ)
-    → rs ≡ before ++ r ∷ later → r.event ≡ Drain q → are_attached before ≡ true → IsServed q (before ++ r ∷ [])
+    → rs ≡ before ++ r ∷ later → r.event ≡ Drain q → are_attached before ≡ true → length before + 1 < last_counter → IsServed q (before ++ r ∷ [])
 
 -- ---- runs
 

@@ -82,12 +82,16 @@ next_head h q s = head_at (ring_of q h.size) s.memory (avail_position h q s)
 abbrev pub unfinished : ℕ → Moment → List ℕ
 unfinished q m = filter (λ k. not (is_among ((m.lanes q).completed ++ (m.lanes q).batch) k)) (open_numbers m.scene.past q)
 
+-- the counter that leaves none for one more
+abbrev pub last_counter : ℕ
+last_counter = 18446744073709551615
+
 abbrev pub standing : Header1 → ℕ → Moment → Standing
 standing h q m = record {
   started = started m.scene.past q;
   phase = (m.lanes q).phase;
   waiting = ahead (avail_idx (ring_of q h.size) m.scene.memory) (avail_position h q m.scene);
-  counts = nat_lt (m.lanes q).counter 18446744073709551615;
+  counts = nat_lt (m.lanes q).counter last_counter;
   unfinished = length (unfinished q m);
   completed = length (m.lanes q).completed;
 }
