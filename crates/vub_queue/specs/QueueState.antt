@@ -1,8 +1,8 @@
 -- The state of the device's side of one queue, and what its own steps make of it.
-use Rattle.std.specs.Prelude.{◌≡◌, ◌⊎◌, ◌<◌, ◌≤◌, ℕ, ◌+◌, ◌%◌, Bool, true, false, not, ◌&&◌, if◌then◌else◌, List, [], ◌∷◌, ◌++◌, length, map, take, drop, set, replicate, remove, slice_get, get_or, Option, Some, None, option_map, Result, Ok, Err, ⊤}
+use Rattle.std.specs.Prelude.{◌≡◌, ◌⊎◌, ◌<◌, ◌≤◌, ℕ, ◌+◌, ◌%◌, Bool, true, false, not, ◌&&◌, if◌then◌else◌, List, [], ◌∷◌, ◌++◌, length, map, take, drop, set, replicate, remove, slice_get, get_or, nat_lt, is_some, Option, Some, None, option_map, Result, Ok, Err, ⊤}
 use Rattle.vub_base.specs.declared.ring_fault.RingFault.{RingFault}
 use Rattle.vub_base.specs.declared.ring_fault.RingFault.TheVariants as faults
-use Rattle.vub_base.specs.declared.store.Tag.TheVariants.{SP5}
+use Rattle.vub_base.specs.declared.pending.Pending.{Pending}
 use Rattle.vub_base.specs.Told.{WhereTold}
 use Rattle.vub_base.specs.Bells.{BellState, Rings}
 use Rattle.vub_shared.specs.Bytes.{Bytes}
@@ -13,21 +13,24 @@ use Rattle.vub_disk.specs.Values.{Values}
 use Rattle.vub_steps.specs.declared.steps.Phase.{Phase}
 use Rattle.vub_steps.specs.declared.steps.Phase.TheVariants as phases
 use Rattle.vub_steps.specs.declared.steps.Step.{Step}
+use Rattle.vub_steps.specs.declared.steps.Step.TheVariants as steps
 use Rattle.vub_steps.specs.declared.readiness.Standing.{Standing}
 use Rattle.vub_steps.specs.declared.readiness.Turn.{Turn}
 use Rattle.vub_steps.specs.declared.readiness.Turn.TheVariants.{Start, Fetch, Work, Publish}
 use Rattle.vub_ring.specs.Ring.{ahead}
-use Rattle.vub_steps.specs.Rows.{Row, ring_row}
+use Rattle.vub_steps.specs.Rows.{Row, Sight, row_of, region_row}
 use Rattle.vub_steps.specs.Steps.{running_steps, next_of, after_of}
-use Rattle.vub_steps.specs.Readiness.{is_ready, is_publication}
+use Rattle.vub_steps.specs.Readiness.{is_ready, any_turn, is_fetch, is_publication}
 use Rattle.vub_split.specs.declared.split.SplitRing.{SplitRing}
 use Rattle.vub_infl_split.specs.declared.region.SplitRegion.{SplitRegion}
 use Rattle.vub_infl_split.specs.declared.region.SplitStore.{SplitStore}
+use Rattle.vub_infl_split.specs.Region.{words_of}
 use Rattle.vub_infl_split.specs.Stores.{store_of}
+use Rattle.vub_inflight.specs.Entries.{next_counter}
 use Rattle.vub_rec_split.specs.declared.plan.Recovered.{Recovered}
 use Rattle.vub_rec_split.specs.declared.plan.Recovered.TheVariants as recovered
-use Rattle.vub_rec_split.specs.Starts.{RecoveryState, StartLies, answer_in, due_in, state_after}
-use Rattle.vub_split.specs.Split.{RingLies, avail_idx_word, head_word, used_side}
+use Rattle.vub_rec_split.specs.Starts.{RecoveryState, StartLies, sight_in, answer_in, due_in, state_after, unchecked_in}
+use Rattle.vub_split.specs.Split.{RingLies, avail_idx_word, used_idx_word, head_word, used_side}
 use Rattle.vub_task.specs.declared.task.Task.{Task}
 use Rattle.vub_task.specs.declared.task.Work.TheVariants as work
 use Rattle.vub_task.specs.declared.task.TaskStep as made
@@ -57,8 +60,10 @@ pub record QueueState : Type 0 where
   pub stopped : Option Stop
   -- the index of the avail entry that is fetched next
   pub next_avail : ℕ
-  -- used.idx as it stands in the ring
-  pub next_used : ℕ
+  -- the counter of the request that is accepted next
+  pub counter : ℕ
+  -- the head of a fetch between its two steps
+  pub fetching : Option ℕ
   -- the requests that aren't completed, in the order in which they were accepted
   pub unfinished : List Task
   -- head and used length of those that are completed and in no batch, in the order in which they were completed
@@ -66,7 +71,7 @@ pub record QueueState : Type 0 where
   -- and of those that are being published
   pub batch : List (ℕ × ℕ)
   pub phase : Phase
-  -- whether each head is accepted and not published
+  -- whether each head is accepted and not shown in the used ring
   pub taken : List Bool
   -- the sector on its way for each head
   pub sectors : List (List ℕ)
@@ -81,7 +86,8 @@ state_of q = record {
   started = q.started;
   stopped = q.stopped;
   next_avail = q.next_avail;
-  next_used = q.next_used;
+  counter = q.counter;
+  fetching = q.fetching;
   unfinished = q.unfinished.items;
   completed = map element (drop q.batch q.completed.items);
   batch = map element (take q.batch q.completed.items);
@@ -105,7 +111,8 @@ new_state setup sectors = record {
   started = false;
   stopped = None;
   next_avail = setup.base;
-  next_used = setup.base;
+  counter = 0;
+  fetching = None;
   unfinished = [];
   completed = [];
   batch = [];
@@ -146,9 +153,26 @@ KeepsLying s t = (sizes : ℕ → ℕ) (capacity : ℕ) → QueueLies sizes capa
 abbrev pub waiting : QueueState → Bytes → ℕ
 waiting s m = ahead (avail_idx_word s.ring m) s.next_avail
 
+-- no request gets this counter: none would be left for the next one
+abbrev pub last_counter : ℕ
+last_counter = 18446744073709551615
+
 -- what its readiness depends on, where so many requests wait
 abbrev pub standing_at : QueueState → ℕ → Standing
-standing_at s waiting = record { started = s.started; phase = s.phase; waiting = waiting; unfinished = length s.unfinished; completed = length s.completed }
+standing_at s waiting = record { started = s.started; phase = s.phase; waiting = waiting; counts = nat_lt s.counter last_counter; unfinished = length s.unfinished; completed = length s.completed }
+
+-- whether a turn of any kind would make a step, where so many requests wait
+abbrev pub is_ready_at : QueueState → ℕ → Bool
+is_ready_at s waiting = not (is_some s.stopped) && is_ready (standing_at s waiting) (any_turn s.ring.size (standing_at s waiting))
+
+-- whether a turn says that it called the disk, or completed a request
+abbrev pub is_work : Stepped → Bool
+is_work (says.Looked head sector) = true
+is_work (says.Acted head sector) = true
+is_work (says.Synced head) = true
+is_work (says.Faulted head) = true
+is_work (says.Completed head) = true
+is_work x = false
 
 -- whether the shared memory failed in a turn
 abbrev pub outcome : Stepped → Result (Unit {0}) (Unit {0})
@@ -168,18 +192,18 @@ start_said rings recovered.Done = if rings then says.Belled else says.Started
 start_said rings (recovered.Damaged fault) = says.Damaged fault
 start_said rings recovered.Failed = says.SharedFault
 
--- the bell was rung, or the queue is started
-abbrev pub ended : Bool → QueueState → QueueState
-ended rings s = if rings then record s { rung = true } else record s { started = true }
+-- the bell was rung, or the queue is started, whose requests are counted on from these open ones
+abbrev pub ended : Bool → List Pending → QueueState → QueueState
+ended rings list s = if rings then record s { rung = true } else record s { started = true; counter = next_counter list }
 
-abbrev pub start_state : Recovered → QueueState → QueueState
-start_state recovered.Done s = ended (rings_next s) s
-start_state answer s = s
+abbrev pub start_state : Recovered → List Pending → QueueState → QueueState
+start_state recovered.Done list s = ended (rings_next s) list s
+start_state answer list s = s
 
 -- the end of a start rings, or starts the queue; a bell that failed leaves all
-abbrev pub Ends : Stepped → QueueState → QueueState → Type 0
-Ends says.BellFault s t = t ≡ s
-Ends x s t = (x ≡ start_said (rings_next s) recovered.Done) × (t ≡ ended (rings_next s) s)
+abbrev pub Ends : List Pending → Stepped → QueueState → QueueState → Type 0
+Ends list says.BellFault s t = t ≡ s
+Ends list x s t = (x ≡ start_said (rings_next s) recovered.Done) × (t ≡ ended (rings_next s) list s)
 
 -- whether a start says this
 abbrev pub is_starting : Stepped → Bool
@@ -192,13 +216,13 @@ is_starting says.BellFault = true
 is_starting (says.Damaged fault) = true
 is_starting x = false
 
--- the queue after the next step of its start, where its recovery answers so and is then this one
-abbrev pub start_after : Recovered → RecoveryState → QueueState → QueueState
-start_after answer recovery s = start_state answer (record s { recovery = recovery })
+-- the queue after the next step of its start, where its recovery answers so, is then this one, and finds these open
+abbrev pub start_after : Recovered → RecoveryState → List Pending → QueueState → QueueState
+start_after answer recovery list s = start_state answer list (record s { recovery = recovery })
 
 abbrev pub StartsIf : Bool → Option Bytes → Stepped → QueueState → QueueState → Type 0
 StartsIf true told x s t = (x ≡ says.Idle) × (t ≡ s)
-StartsIf false told x s t = WhereTold told (λ m. (x ≡ start_said (rings_next s) (answer_in s.recovery m)) × (t ≡ start_after (answer_in s.recovery m) (state_after s.recovery m) s))
+StartsIf false told x s t = WhereTold told (λ m. (x ≡ start_said (rings_next s) (answer_in s.recovery m)) × (t ≡ start_after (answer_in s.recovery m) (state_after s.recovery m) (unchecked_in s.recovery m) s))
 
 -- what a step of a start says, and the queue before and after it: it makes the next store of its recovery; once none is left it
 -- rings the bell of a queue that has one, and then the queue is started
@@ -239,10 +263,112 @@ has_rung says.Belled = true
 has_rung says.BellFault = true
 has_rung x = false
 
+-- whether it may
+abbrev pub may_ring : Turn → Bool
+may_ring Start = true
+may_ring (Publish most) = true
+may_ring turn = false
+
 -- whether the bell failed in a turn
 abbrev pub bell_outcome : Stepped → Result (Unit {0}) (Unit {0})
 bell_outcome says.BellFault = Err tt
 bell_outcome x = Ok tt
+
+-- ---- the steps of a fetch and of a publication
+
+-- those of the phase that is under way
+abbrev pub steps_in : QueueState → List Step
+steps_in s = running_steps (length s.batch) s.bell s.phase
+
+-- the next one
+abbrev pub step_in : QueueState → Option Step
+step_in s = next_of (steps_in s) s.phase
+
+-- the head that a fetch keeps, and before its first step the one that stands at the avail index
+abbrev pub kept_or : Option ℕ → ℕ → ℕ
+kept_or None head = head
+kept_or (Some kept) head = kept
+
+-- what its next step sees
+abbrev pub seen_by : QueueState → Bytes → Sight
+seen_by s m = record {
+  used = used_idx_word s.ring m;
+  last_batch_head = (words_of s.recovery.region m).last_batch_head;
+  link = (sight_in s.recovery m).link;
+  head = kept_or s.fetching (head_word s.ring m s.next_avail);
+  counter = s.counter;
+  batch = s.batch;
+}
+
+-- the row of a step
+abbrev pub row_at : QueueState → Bytes → Option Step → Option Row
+row_at s m None = None
+row_at s m (Some step) = row_of (used_side s.ring) s.recovery.region (seen_by s m) step
+
+abbrev pub next_row : QueueState → Bytes → Option Row
+next_row s m = row_at s m (step_in s)
+
+abbrev pub row_said : Option Row → Stepped
+row_said None = says.Idle
+row_said (Some x) = says.Stored x.tag
+
+-- what a step with this row says, where this head is fetched and nothing fails
+abbrev pub step_said : ℕ → Option Row → Step → Stepped
+step_said head row steps.Accept = says.Accepted head
+step_said head row steps.Index = says.Published
+step_said head row steps.Bell = says.Belled
+step_said head row step = row_said row
+
+-- the request of a head is accepted
+abbrev pub accepted : ℕ → QueueState → QueueState
+accepted head s = record s { unfinished = s.unfinished ++ fresh_task head ∷ []; next_avail = (s.next_avail + 1) % 65536; fetching = None; taken = set s.taken head true }
+
+-- what a step changes beside the phase: once the batch is shown its heads are free
+abbrev pub changed : ℕ → Step → QueueState → QueueState
+changed head steps.Count s = record s { counter = s.counter + 1; fetching = Some head }
+changed head steps.Accept s = accepted head s
+changed head steps.Index s = record s { taken = without_heads s.batch s.taken }
+changed head step s = s
+
+-- at rest there is no batch
+abbrev pub with_phase : Phase → QueueState → QueueState
+with_phase phases.Rest s = record s { phase = phases.Rest; batch = [] }
+with_phase p s = record s { phase = p }
+
+-- the queue after that step
+abbrev pub moved : ℕ → Step → QueueState → QueueState
+moved head step s = with_phase (after_of (steps_in s) s.phase) (changed head step s)
+
+-- what this step says where memory is m, and the queue before and after it
+abbrev pub MovesBy : Option Step → Bytes → Stepped → QueueState → QueueState → Type 0
+MovesBy None m x s t = ⊥
+MovesBy (Some step) m x s t = (x ≡ step_said (seen_by s m).head (row_at s m (Some step)) step) × (t ≡ moved (seen_by s m).head step s)
+
+-- the same of the next step, over any told memory
+abbrev pub Moves : Option Bytes → Stepped → QueueState → QueueState → Type 0
+Moves told x s t = WhereTold told (λ m. MovesBy (step_in s) m x s t)
+
+-- the told bytes, and the told list of stores, before and after a step with this row
+abbrev pub StoresRow : Option Bytes → Option Bytes → Stepped → Option Row → Type 0
+StoresRow before after x None = after ≡ before
+StoresRow before after x (Some y) = Stores before after (outcome x) y.store
+
+abbrev pub TrailsRow : Option (List Store) → Option (List Store) → Stepped → Option Row → Type 0
+TrailsRow before after x None = after ≡ before
+TrailsRow before after x (Some y) = Trails before after (outcome x) y.store
+
+-- the same of a turn whose row depends on the memory; whatever is told of the bytes, the list grows by one at most
+abbrev pub StoresBy : Option Bytes → Option Bytes → Stepped → (Bytes → Option Row) → Type 0
+StoresBy before after x row = WhereTold before (λ m. StoresRow before after x (row m))
+
+abbrev pub TrailsBy : Option Bytes → Option (List Store) → Option (List Store) → Stepped → (Bytes → Option Row) → Type 0
+TrailsBy told before after x row = GainsOne before after × WhereTold told (λ m. TrailsRow before after x (row m))
+
+-- a turn with this row: the told bytes and the told list of stores after it, and no name and no space more
+pub record MakesRow {M : Type 0} (told : M → Option Bytes) (trail : M → Option (List Store)) (names : M → Option Names) (handed : M → ℕ → Bool) (sizes : M → ℕ → ℕ) (before now : M) (x : Stepped) (row : Bytes → Option Row) : Type 0 where
+  pub stored : StoresBy (told before) (told now) x row
+  pub trailed : TrailsBy (told before) (trail before) (trail now) x row
+  pub spaces : KeepsSpaces names handed sizes before now
 
 -- ---- a fetch
 
@@ -278,20 +404,40 @@ abbrev pub found_outcome : Result (Option ℕ) NoHead → Result (Unit {0}) (Uni
 found_outcome (Err misses.Shared) = Err tt
 found_outcome x = Ok tt
 
--- the request of a head is accepted
-abbrev pub accepted : ℕ → QueueState → QueueState
-accepted head s = record s { unfinished = s.unfinished ++ fresh_task head ∷ []; next_avail = (s.next_avail + 1) % 65536; taken = set s.taken head true }
+-- the fetch that a turn goes on with
+abbrev pub fetch_under_way : QueueState → QueueState
+fetch_under_way s = if is_fetch s.phase then s else record s { phase = phases.Fetch 0 }
 
--- it isn't started, or publishes: no fetch is ready
-abbrev pub may_fetch : QueueState → Bool
-may_fetch s = if s.started then not (is_publication s.phase) else false
+-- whether a fetch is ready
+abbrev pub fetches : QueueState → Bytes → Bool
+fetches s m = is_ready (standing_at s (waiting s m)) Fetch
+
+-- the row of a fetch's step that says so: none where none is ready, nor where the ring breaks a rule
+abbrev pub fetch_row : Stepped → QueueState → Bytes → Option Row
+fetch_row says.Idle s m = None
+fetch_row (says.Broken fault) s m = None
+fetch_row x s m = next_row (fetch_under_way s) m
+
+-- a step of a fetch: the first one takes a head that waits and is free
+pub record Fetched (told : Option Bytes) (x : Stepped) (s t : QueueState) : Type 0 where
+  pub ready : WhereTold told (λ m. fetches s m ≡ true)
+  pub finds : s.fetching ≡ None → WhereTold told (λ m. Finds s m (Ok (Some (head_word s.ring m s.next_avail))))
+  pub moves : Moves told x (fetch_under_way s) t
+
+-- the first step finds a break of a rule
+pub record FetchBreaks (told : Option Bytes) (fault : RingFault) (s t : QueueState) : Type 0 where
+  pub ready : WhereTold told (λ m. fetches s m ≡ true)
+  pub begins : s.fetching ≡ None
+  pub breaks : WhereTold told (λ m. Breaks s m fault)
+  pub same : t ≡ s
 
 -- what a fetch says, and the queue before and after it
 abbrev pub Fetches : Option Bytes → Stepped → QueueState → QueueState → Type 0
-Fetches told says.Idle s t = (t ≡ s) × WhereTold told (λ m. is_ready (standing_at s (waiting s m)) Fetch ≡ false)
-Fetches told (says.Accepted head) s t = (t ≡ accepted head s) × (may_fetch s ≡ true) × WhereTold told (λ m. Finds s m (Ok (Some head)))
-Fetches told (says.Broken fault) s t = (t ≡ s) × (may_fetch s ≡ true) × WhereTold told (λ m. Breaks s m fault)
-Fetches told says.SharedFault s t = (t ≡ s) × (may_fetch s ≡ true)
+Fetches told says.Idle s t = (t ≡ s) × WhereTold told (λ m. fetches s m ≡ false)
+Fetches told (says.Stored tag) s t = Fetched told (says.Stored tag) s t
+Fetches told (says.Accepted head) s t = Fetched told (says.Accepted head) s t
+Fetches told (says.Broken fault) s t = FetchBreaks told fault s t
+Fetches told says.SharedFault s t = ⊤
 Fetches told x s t = ⊥
 
 -- ---- a publication
@@ -304,64 +450,51 @@ begun most s = record s { batch = take most s.completed; completed = drop most s
 abbrev pub under_way : ℕ → QueueState → QueueState
 under_way most s = if is_publication s.phase then s else begun most s
 
-abbrev pub row_at : QueueState → Option Step → Option Row
-row_at s None = None
-row_at s (Some step) = ring_row (used_side s.ring) s.next_used s.batch step
-
--- the steps of a fetch or a publication that is under way
-abbrev pub steps_in : QueueState → List Step
-steps_in s = running_steps (length s.batch) s.phase
-
--- the row of the next step of the publication
-abbrev pub next_row : QueueState → Option Row
-next_row s = row_at s (next_of (steps_in s) s.phase)
-
--- after the last step the batch is shown, and its heads are free
-abbrev pub with_phase : Phase → QueueState → QueueState
-with_phase phases.Rest s = record s { phase = phases.Rest; next_used = (s.next_used + length s.batch) % 65536; batch = []; taken = without_heads s.batch s.taken }
-with_phase p s = record s { phase = p }
-
--- the queue after the next step of its publication
-abbrev pub moved : QueueState → QueueState
-moved s = with_phase (after_of (steps_in s) s.phase) s
-
--- what a step with this row says, and the queue before and after it
-abbrev pub Moves : Stepped → Option Row → QueueState → QueueState → Type 0
-Moves (says.Stored tag) (Some x) s t = (tag ≡ x.tag) × (t ≡ moved s) × (is_publication t.phase ≡ true)
-Moves says.Published (Some x) s t = (SP5 ≡ x.tag) × (t ≡ moved s) × (t.phase ≡ phases.Rest)
-Moves says.SharedFault (Some x) s t = t ≡ s
-Moves x y s t = ⊥
-
--- the told bytes, and the told list of stores, before and after a step with this row
-abbrev pub StoresRow : Option Bytes → Option Bytes → Stepped → Option Row → Type 0
-StoresRow before after x None = after ≡ before
-StoresRow before after x (Some y) = Stores before after (outcome x) y.store
-
-abbrev pub TrailsRow : Option (List Store) → Option (List Store) → Stepped → Option Row → Type 0
-TrailsRow before after x None = after ≡ before
-TrailsRow before after x (Some y) = Trails before after (outcome x) y.store
-
--- a step with this row: the told bytes and the told list of stores after it, and no name and no space more
-pub record MakesRow {M : Type 0} (told : M → Option Bytes) (trail : M → Option (List Store)) (names : M → Option Names) (handed : M → ℕ → Bool) (sizes : M → ℕ → ℕ) (before now : M) (x : Stepped) (y : Option Row) : Type 0 where
-  pub stored : StoresRow (told before) (told now) x y
-  pub trailed : TrailsRow (trail before) (trail now) x y
-  pub spaces : KeepsSpaces names handed sizes before now
-
 -- whether a publication of at most so many makes a step
 abbrev pub publishes : ℕ → QueueState → Bool
 publishes most s = is_ready (standing_at s 0) (Publish most)
 
-abbrev pub row_if : Bool → QueueState → Option Row
-row_if ready s = if ready then next_row s else None
+abbrev pub row_if : Bool → QueueState → Bytes → Option Row
+row_if ready s m = if ready then next_row s m else None
 
 -- the row of a publication's step; none where none is ready
-abbrev pub publish_row : ℕ → QueueState → Option Row
-publish_row most s = row_if (publishes most s) (under_way most s)
+abbrev pub publish_row : ℕ → QueueState → Bytes → Option Row
+publish_row most s m = row_if (publishes most s) (under_way most s) m
 
 -- a publication: nothing where none is ready
-abbrev pub Publishes : Bool → Stepped → QueueState → QueueState → QueueState → Type 0
-Publishes false x s u t = (x ≡ says.Idle) × (t ≡ s)
-Publishes true x s u t = Moves x (next_row u) u t
+abbrev pub Publishes : Bool → Option Bytes → Stepped → QueueState → QueueState → QueueState → Type 0
+Publishes false told x s u t = (x ≡ says.Idle) × (t ≡ s)
+Publishes true told x s u t = Moves told x u t
+
+-- whether a fetch, or a publication, says this
+abbrev pub is_fetching : Stepped → Bool
+is_fetching says.Idle = true
+is_fetching (says.Stored tag) = true
+is_fetching (says.Accepted head) = true
+is_fetching says.SharedFault = true
+is_fetching (says.Broken fault) = true
+is_fetching x = false
+
+abbrev pub is_publishing : Stepped → Bool
+is_publishing says.Idle = true
+is_publishing (says.Stored tag) = true
+is_publishing says.Published = true
+is_publishing says.Belled = true
+is_publishing says.SharedFault = true
+is_publishing says.BellFault = true
+is_publishing x = false
+
+-- the next step makes this store into the in-flight region, and changes nothing but the phase
+abbrev pub is_plain : Option Step → Bool
+is_plain (Some (steps.Link e)) = true
+is_plain (Some (steps.Head e)) = true
+is_plain (Some (steps.Clear e)) = true
+is_plain (Some steps.Note) = true
+is_plain step = false
+
+pub record IsDueAt (x : SplitStore) (m : Bytes) (s : QueueState) : Type 0 where
+  pub plain : is_plain (step_in s) ≡ true
+  pub row : next_row s m ≡ Some (region_row s.recovery.region x)
 
 -- ---- work
 
@@ -386,9 +519,6 @@ Works place x s t = (t ≡ s) ⊎ ((task : Task) × (sector : List ℕ) × (t �
 abbrev pub StepsAt : ℕ → Option (ℕ × made.TaskStep) → QueueState → QueueState → Type 0
 StepsAt place None s t = t ≡ s
 StepsAt place (Some x) s t = (task : Task) × (sector : List ℕ) × (head_in task ≡ x.0) × (t ≡ worked place task sector s)
-
-abbrev pub step_in : Option (ℕ × made.TaskStep) → Option made.TaskStep
-step_in o = option_map (λ x. x.1) o
 
 -- the status of the request of a head in this place moves it to the completed ones
 abbrev pub concluded : ℕ → ℕ → made.TaskStep → QueueState → QueueState
@@ -518,25 +648,25 @@ abbrev pub DoesOf : Turn → Option Bytes → Stepped → QueueState → QueueSt
 DoesOf Start told x s t = Starts told x s t
 DoesOf Fetch told x s t = Fetches told x s t
 DoesOf (Work place) told x s t = Works place x s t
-DoesOf (Publish most) told x s t = Publishes (publishes most s) x s (under_way most s) t
+DoesOf (Publish most) told x s t = Publishes (publishes most s) told x s (under_way most s) t
 
 -- the same, unless the shared memory or the bell failed, which stops the queue
 abbrev pub Does : Turn → Option Bytes → Stepped → QueueState → QueueState → Type 0
 Does turn told x s t = Unless (is_fault x) (DoesOf turn told x s t)
 
--- the told bytes before and after it: only a start and a publication store, beside work on a request
+-- the told bytes before and after it
 abbrev pub DoesStore : Turn → Option Bytes → Option Bytes → Stepped → QueueState → Type 0
 DoesStore Start before after x s = StoresStart before after x s
 DoesStore (Work place) before after x s = ⊤
-DoesStore (Publish most) before after x s = StoresRow before after x (publish_row most s)
-DoesStore turn before after x s = after ≡ before
+DoesStore Fetch before after x s = StoresBy before after x (fetch_row x s)
+DoesStore (Publish most) before after x s = StoresBy before after x (publish_row most s)
 
 -- the told list of stores before and after it, where these bytes were told
 abbrev pub DoesTrail : Turn → Option Bytes → Option (List Store) → Option (List Store) → Stepped → QueueState → Type 0
 DoesTrail Start told before after x s = TrailsStart told before after x s
 DoesTrail (Work place) told before after x s = GainsOne before after
-DoesTrail (Publish most) told before after x s = TrailsRow before after x (publish_row most s)
-DoesTrail turn told before after x s = after ≡ before
+DoesTrail Fetch told before after x s = TrailsBy told before after x (fetch_row x s)
+DoesTrail (Publish most) told before after x s = TrailsBy told before after x (publish_row most s)
 
 -- the told values of the disk before and after it: only work on a request changes them
 abbrev pub DoesDisk : Turn → Option Values → Option Values → Type 0

@@ -1,13 +1,14 @@
 //! The device's side of one split queue: each turn makes one step (VIRTIO 1.2, 2.7.7 and 2.7.8).
 ghost use Rattle.std.specs.Prelude.{◌≡◌, ◌<◌, ◌≤◌, ◌+◌, ℕ, true, false, Some, length, map, take, drop, set, slice_get, vec_len, vec_capacity, IfOk};
 ghost use Rattle.vub_split.specs.Split.{RingLies};
-ghost use Rattle.vub_queue.specs.QueueParts.{element, is_taken, taken_count, without_heads, heads_below, phase_fits};
+ghost use Rattle.vub_queue.specs.QueueParts.{element, is_taken, taken_count, without_heads, heads_below, phase_fits, head_fits, shown_of};
+ghost use Rattle.vub_inflight.specs.Entries.{next_counter};
 
 use std::alloc::Global;
 use vub_base::standard::SECTOR_SIZE;
-use vub_base::{Bell, Failed, Memory, PendingList, RegionFault, RingFault, Tag};
+use vub_base::{Bell, Failed, Memory, Pending, PendingList, RegionFault, RingFault, Tag};
 use vub_disk::Disk;
-use vub_infl_split::SplitRegion;
+use vub_infl_split::{SplitRegion, SplitStore};
 use vub_rec_split::{Recovered, SplitRecovery};
 use vub_shared::Shared;
 use vub_split::SplitRing;
@@ -47,7 +48,7 @@ pub enum Stepped {
     Completed(u16),
     /// The store of used.idx, which shows the batch.
     Published,
-    /// The bell of a start was rung.
+    /// The bell of a start or of a publication was rung.
     Belled,
     Started,
     /// The shared memory failed.
@@ -88,6 +89,7 @@ pub struct Queue {
     bell: bool,
     // The bell of the start was rung.
     rung: bool,
+    region: SplitRegion,
     // The start over the in-flight region, and the requests that it finds open.
     recovery: SplitRecovery,
     pending: PendingList,
@@ -95,30 +97,35 @@ pub struct Queue {
     stopped: Option<Stop>,
     // The index of the avail entry that is fetched next.
     next_avail: u16,
-    // used.idx as it stands in the ring.
-    next_used: u16,
+    // The counter of the request that is accepted next. That after the greatest of a region is 2^64.
+    counter: u128,
+    // The head of a fetch, from its first step to its second.
+    fetching: Option<u16>,
     // In the order in which they were accepted.
     unfinished: Vec<Task>,
     // In the order in which they were completed.
     completed: Vec<Completed>,
     // So many of the first completed ones are being published.
     batch: u16,
-    // At rest, or in a publication.
+    // At rest, in a fetch, or in a publication.
     phase: Phase,
     // The sector on its way for each head.
     sectors: Vec<[u8; SECTOR_SIZE]>,
-    // Whether each head is accepted and not published.
+    // Whether each head is accepted and not shown in the used ring.
     taken: Vec<bool>,
     ghost few: { ring.size ≤ 1024 },
+    ghost same_region: { recovery.region ≡ region },
     ghost listed: { recovery.region.size ≤ pending.room },
     ghost heads: { length taken.items ≡ ring.size },
     ghost buffers: { length sectors.items ≡ ring.size },
     ghost room: { ring.size ≤ vec_capacity unfinished },
     ghost space: { ring.size ≤ vec_capacity completed },
-    ghost counted: { vec_len unfinished + vec_len completed ≤ taken_count taken.items },
+    ghost all: { vec_len unfinished + vec_len completed ≤ ring.size },
+    ghost counted: { vec_len unfinished + vec_len completed ≤ taken_count taken.items + shown_of phase batch },
     ghost in_table: { heads_below ring.size completed.items ≡ true },
     ghost batched: { batch ≤ vec_len completed },
-    ghost fits: { phase_fits phase batch started ≡ true },
+    ghost fits: { phase_fits phase batch bell started ≡ true },
+    ghost kept: { head_fits phase fetching ring.size taken.items ≡ true },
 }
 
 /// Whether a head is taken.
@@ -156,6 +163,17 @@ fn drop_front(completed: &mut Vec<Completed>, count: usize)
     let _ = completed.drain(..count);
 }
 
+/// One more than the greatest counter of these, or 0.
+fn next_counter(pending: &[Pending]) -> u128
+    ensures { result ≡ next_counter pending.now }
+{
+    let mut next = 0;
+    for request in pending {
+        next = next.max(u128::from(request.counter) + 1);
+    }
+    next
+}
+
 impl Stepped {
     ghost use Rattle.vub_queue.specs.QueueState.{is_idle};
 
@@ -177,16 +195,23 @@ impl Queue {
     ghost use Rattle.vub_steps.specs.Readiness.{is_publication, is_ready, chosen};
     ghost use Rattle.vub_steps.specs.declared.readiness.Turn.{Turn};
     ghost use Rattle.vub_steps.specs.declared.readiness.Turn.TheVariants.{Fetch, Work};
-    ghost use Rattle.std.specs.Prelude.{not, ◌==◌, ◌↔◌, IsTrue, option_map, is_some, Ok, remove, ◌++◌, ◌∷◌, []};
-    ghost use Rattle.vub_steps.specs.Steps.{next_of, after_of};
+    ghost use Rattle.std.specs.Prelude.{not, ◌==◌, ◌⊎◌, ◌*◌, ◌↔◌, nat_lt, IsTrue, option_map, is_some, Option, Ok, remove, ◌++◌, ◌∷◌, []};
+    ghost use Rattle.vub_steps.specs.Steps.{after_of, done_of};
+    ghost use Rattle.vub_shared.specs.Bytes.{Bytes};
+    ghost use Rattle.vub_base.specs.declared.store.Tag.TheVariants.{SF1};
+    ghost use Rattle.vub_infl_split.specs.Region.{RegionLies};
+    ghost use Rattle.vub_infl_split.specs.Stores.{NamesEntry};
+    ghost use Rattle.vub_split.specs.Split.{head_word};
+    ghost use Rattle.vub_steps.specs.declared.steps.Step.TheVariants as step;
+    ghost use Rattle.vub_queue.specs.declared.queue.Stepped.TheVariants as stepped;
     ghost use Rattle.vub_steps.specs.declared.readiness.Turn.TheVariants.{Start};
     ghost use Rattle.vub_rec_split.specs.Starts.{StartLies};
     ghost use Rattle.vub_queue.specs.declared.queue.Stepped.TheVariants.{Idle};
     ghost use Rattle.vub_steps.specs.declared.readiness.Choice.TheVariants.{Only};
     ghost use Rattle.vub_steps.specs.declared.steps.Phase.TheVariants.{Rest};
-    ghost use Rattle.vub_steps.specs.declared.steps.Step.TheVariants.{Id, Len, Index};
+    ghost use Rattle.vub_steps.specs.declared.steps.Step.TheVariants.{Count, Accept, Id, Len, Link, Head, Index, Clear, Note};
     ghost use Rattle.vub_queue.specs.Queue.{ring_in};
-    ghost use Rattle.vub_queue.specs.QueueState.{QueueState, QueueLies, KeepsLying, Owes, OwesAt, state_of, IsNew, new_recovery, Ends, is_starting, StoresStart, TrailsStart, RingsAt, has_rung, bell_outcome, said, concluded, StepsAt, IsDue, IfStepped, StepsOut, WorksOut, StepsTask, WorksTask, Rests, disk_outcome, standing_at, waiting, IsFree, Finds, Fetches, accepted, may_fetch, begun, under_way, steps_in, next_row, moved, with_phase, Moves, outcome, found_outcome, MakesRow, publishes, publish_row, Publishes, is_idle, is_fault, Unless, Works, Does, DoesStore, DoesTrail, DoesDisk, StableAfter, halted, Turns};
+    ghost use Rattle.vub_queue.specs.QueueState.{QueueState, QueueLies, KeepsLying, Owes, OwesAt, state_of, IsNew, new_recovery, Ends, is_starting, is_fetching, is_publishing, is_work, StoresStart, TrailsStart, RingsAt, has_rung, may_ring, bell_outcome, said, concluded, StepsAt, IsDue, IsDueAt, IfStepped, StepsOut, WorksOut, StepsTask, WorksTask, Rests, disk_outcome, last_counter, standing_at, is_ready_at, waiting, IsFree, Finds, Fetches, fetch_row, fetch_under_way, begun, under_way, steps_in, step_in, next_row, moved, with_phase, Moves, outcome, found_outcome, MakesRow, publishes, publish_row, Publishes, is_idle, is_fault, Unless, Works, Does, DoesStore, DoesTrail, DoesDisk, StableAfter, halted, Turns};
 
     /// A queue that isn't started. All memory that it needs is reserved here.
     pub fn new(alloc: Global, setup: &QueueSetup) -> Result<Queue, Memory>
@@ -201,12 +226,14 @@ impl Queue {
             ring: setup.ring,
             bell: setup.bell,
             rung: false,
+            region: setup.region,
             recovery: SplitRecovery::new(setup.ring, setup.region, u32::from(setup.base)),
             pending: PendingList::new(alloc, usize::from(setup.region.size))?,
             started: false,
             stopped: None,
             next_avail: setup.base,
-            next_used: setup.base,
+            counter: 0,
+            fetching: None,
             unfinished: Vec::with_capacity(alloc, size).map_err(|_| Memory)?,
             completed: Vec::with_capacity(alloc, size).map_err(|_| Memory)?,
             batch: 0,
@@ -225,14 +252,14 @@ impl Queue {
 
     /// The next step of the fetch or the publication under way.
     fn next_step(&self) -> Option<Step>
-        ensures { result ≡ next_of (steps_in (state_of self.now)) self.now.phase }
+        ensures { result ≡ step_in (state_of self.now) }
     {
-        next_running(self.batch, self.phase)
+        next_running(self.batch, self.bell, self.phase)
     }
 
     /// Whether the next store shows the batch.
     pub fn shows_next(&self) -> bool
-        ensures { IsTrue result ↔ (next_of (steps_in (state_of self.now)) (state_of self.now).phase ≡ Some Index) }
+        ensures { IsTrue result ↔ (step_in (state_of self.now) ≡ Some Index) }
     {
         self.next_step() == Some(Step::Index)
     }
@@ -269,6 +296,13 @@ impl Queue {
         self.batch()[place as usize]
     }
 
+    /// Whether a counter is left for one more request.
+    fn counts(&self) -> bool
+        ensures { result ≡ nat_lt self.now.counter last_counter }
+    {
+        self.counter < u128::from(u64::MAX)
+    }
+
     /// What its readiness depends on, where so many requests wait.
     fn standing(&self, waiting: u16) -> Standing
         ensures { result ≡ standing_at (state_of self.now) waiting }
@@ -277,6 +311,7 @@ impl Queue {
             started: self.started,
             phase: self.phase,
             waiting,
+            counts: self.counts(),
             unfinished: self.unfinished.len() as u16,
             completed: (self.completed.len() - usize::from(self.batch)) as u16,
         }
@@ -285,13 +320,15 @@ impl Queue {
     /// Ends a start that has made its stores: rings its bell, and is started by the turn after it.
     fn end_start<B: Bell>(&mut self, bell: &mut B) -> Stepped
         ensures ring { ring_in self.new ≡ ring_in self.old }
-        ensures ends { Ends result (state_of self.old) (state_of self.new) }
+        ensures ends { Ends self.old.pending.items result (state_of self.old) (state_of self.new) }
+        ensures no_work { is_work result ≡ false }
         ensures lies { KeepsLying (state_of self.old) (state_of self.new) }
         ensures rings { RingsAt (state_of self.old).index result (B.told bell.old) (B.told bell.new) }
         ensures bell_cause { HasCause (B.faults bell.old) (B.faults bell.new) (bell_outcome result) }
     {
         if !self.bell || self.rung {
             self.started = true;
+            self.counter = next_counter(self.pending.items());
             return Stepped::Started;
         }
         match bell.ring(self.index) {
@@ -312,6 +349,7 @@ impl Queue {
         ensures stores { StoresStart (M.told mem.old) (M.told mem.new) result (state_of self.old) }
         ensures trails { TrailsStart (M.told mem.old) (M.trail mem.old) (M.trail mem.new) result (state_of self.old) }
         ensures starting { is_starting result ≡ true }
+        ensures no_work { is_work result ≡ false }
         ensures lies { KeepsLying (state_of self.old) (state_of self.new) }
         ensures cause { HasCause (M.faults mem.old) (M.faults mem.new) (outcome result) }
         ensures rings { RingsAt (state_of self.old).index result (B.told bell.old) (B.told bell.new) }
@@ -333,6 +371,7 @@ impl Queue {
         ensures stores { StoresStart (M.told mem.old) (M.told mem.new) result (state_of self.old) }
         ensures trails { TrailsStart (M.told mem.old) (M.trail mem.old) (M.trail mem.new) result (state_of self.old) }
         ensures starting { is_starting result ≡ true }
+        ensures no_work { is_work result ≡ false }
         ensures lies { KeepsLying (state_of self.old) (state_of self.new) }
         ensures cause { HasCause (M.faults mem.old) (M.faults mem.new) (outcome result) }
         ensures rings { RingsAt (state_of self.old).index result (B.told bell.old) (B.told bell.new) }
@@ -387,39 +426,127 @@ impl Queue {
         Ok(Some(head))
     }
 
-    /// Accepts the request of a head.
-    fn accept(&mut self, head: u16)
+    /// The head of a fetch has its counter.
+    fn keep(&mut self, head: u16)
+        requires resting { self.old.phase ≡ Rest }
+        requires started { self.old.started ≡ true }
         requires below { head < self.old.ring.size }
         requires free { is_taken self.old.taken.items head ≡ false }
+        requires counts { self.old.counter < last_counter }
         ensures ring { ring_in self.new ≡ ring_in self.old }
-        ensures state { state_of self.new ≡ accepted head (state_of self.old) }
+        ensures state { state_of self.new ≡ moved head Count (fetch_under_way (state_of self.old)) }
+        ensures lies { KeepsLying (state_of self.old) (state_of self.new) }
     {
-        self.unfinished.push_reserved(Task::new(head));
-        set_taken(&mut self.taken, head, true);
-        self.next_avail = self.next_avail.wrapping_add(1);
+        self.counter += 1;
+        self.fetching = Some(head);
+        self.phase = Phase::Fetch(1);
     }
 
-    fn fetch<M: Shared>(&mut self, mem: &mut M) -> Stepped
-        requires { RingLies (M.sizes mem.old) (ring_in self.old) }
+    /// Makes the first step of a fetch of a head: the counter of its entry.
+    fn store_counter<M: Shared>(&mut self, head: u16, mem: &mut M) -> Stepped
+        requires region { RegionLies (M.sizes mem.old) self.old.region }
+        requires same_size { self.old.region.size ≡ self.old.ring.size }
+        requires resting { self.old.phase ≡ Rest }
+        requires started { self.old.started ≡ true }
+        requires below { head < self.old.ring.size }
+        requires free { is_taken self.old.taken.items head ≡ false }
+        requires counts { self.old.counter < last_counter }
+        requires here { WhereTold (M.told mem.old) (λ m. head ≡ head_word (ring_in self.old) m self.old.next_avail) }
         ensures ring { ring_in self.new ≡ ring_in self.old }
-        ensures ready { Unless (is_fault result) (WhereTold (M.told mem.old) (λ m. is_ready (standing_at (state_of self.old) (waiting (state_of self.old) m)) Fetch ≡ not (is_idle result))) }
-        ensures fetches { Fetches (M.told mem.old) result (state_of self.old) (state_of self.new) }
         ensures lies { KeepsLying (state_of self.old) (state_of self.new) }
-        ensures only_loads { OnlyLoads M.told M.trail M.names M.handed M.sizes mem.old mem.new }
+        ensures moves { Unless (is_fault result) (Moves (M.told mem.old) result (fetch_under_way (state_of self.old)) (state_of self.new)) }
+        ensures makes_row { MakesRow M.told M.trail M.names M.handed M.sizes mem.old mem.new result (next_row (fetch_under_way (state_of self.old))) }
+        ensures stores { (result ≡ stepped.Stored SF1) ⊎ (result ≡ stepped.SharedFault) }
         ensures cause { HasCause (M.faults mem.old) (M.faults mem.new) (outcome result) }
-        ensures no_disk { disk_outcome result ≡ Ok tt }
     {
-        if !self.started || self.is_publishing() {
+        let step = SplitStore::SF1(head, self.counter as u64);
+        match self.region.store(mem, step) {
+            Ok(()) => {
+                self.keep(head);
+                Stepped::Stored(Tag::SF1)
+            }
+            Err(Failed) => Stepped::SharedFault,
+        }
+    }
+
+    /// Begins a fetch where something waits.
+    fn begin_fetch<M: Shared>(&mut self, mem: &mut M) -> Stepped
+        requires lies { RingLies (M.sizes mem.old) (ring_in self.old) }
+        requires region { RegionLies (M.sizes mem.old) self.old.region }
+        requires same_size { self.old.region.size ≡ self.old.ring.size }
+        requires resting { self.old.phase ≡ Rest }
+        requires started { self.old.started ≡ true }
+        ensures ring { ring_in self.new ≡ ring_in self.old }
+        ensures lies { KeepsLying (state_of self.old) (state_of self.new) }
+        ensures fetches { Fetches (M.told mem.old) result (state_of self.old) (state_of self.new) }
+        ensures makes_row { MakesRow M.told M.trail M.names M.handed M.sizes mem.old mem.new result (fetch_row result (state_of self.old)) }
+        ensures fetching { is_fetching result ≡ true }
+        ensures cause { HasCause (M.faults mem.old) (M.faults mem.new) (outcome result) }
+    {
+        if !self.counts() {
             return Stepped::Idle;
         }
         match self.next_head(mem) {
             Ok(None) => Stepped::Idle,
-            Ok(Some(head)) => {
+            Ok(Some(head)) => self.store_counter(head, mem),
+            Err(NoHead::Shared) => Stepped::SharedFault,
+            Err(NoHead::Broken(fault)) => Stepped::Broken(fault),
+        }
+    }
+
+    /// Accepts the request of the head that a fetch keeps.
+    fn accept(&mut self, head: u16)
+        requires kept { self.old.fetching ≡ Some head }
+        ensures ring { ring_in self.new ≡ ring_in self.old }
+        ensures state { state_of self.new ≡ moved head Accept (state_of self.old) }
+        ensures lies { KeepsLying (state_of self.old) (state_of self.new) }
+    {
+        self.unfinished.push_reserved(Task::new(head));
+        set_taken(&mut self.taken, head, true);
+        self.next_avail = self.next_avail.wrapping_add(1);
+        self.fetching = None;
+        self.phase = Phase::Rest;
+    }
+
+    /// Makes the second step of the fetch of a head: its entry is in flight, and its request accepted.
+    fn end_fetch<M: Shared>(&mut self, head: u16, mem: &mut M) -> Stepped
+        requires region { RegionLies (M.sizes mem.old) self.old.region }
+        requires same_size { self.old.region.size ≡ self.old.ring.size }
+        requires kept { self.old.fetching ≡ Some head }
+        requires started { self.old.started ≡ true }
+        ensures ring { ring_in self.new ≡ ring_in self.old }
+        ensures lies { KeepsLying (state_of self.old) (state_of self.new) }
+        ensures fetches { Fetches (M.told mem.old) result (state_of self.old) (state_of self.new) }
+        ensures makes_row { MakesRow M.told M.trail M.names M.handed M.sizes mem.old mem.new result (fetch_row result (state_of self.old)) }
+        ensures fetching { is_fetching result ≡ true }
+        ensures cause { HasCause (M.faults mem.old) (M.faults mem.new) (outcome result) }
+    {
+        match self.region.store(mem, SplitStore::SF2(head)) {
+            Ok(()) => {
                 self.accept(head);
                 Stepped::Accepted(head)
             }
-            Err(NoHead::Shared) => Stepped::SharedFault,
-            Err(NoHead::Broken(fault)) => Stepped::Broken(fault),
+            Err(Failed) => Stepped::SharedFault,
+        }
+    }
+
+    fn fetch<M: Shared>(&mut self, mem: &mut M) -> Stepped
+        requires lies { RingLies (M.sizes mem.old) (ring_in self.old) }
+        requires region { RegionLies (M.sizes mem.old) self.old.region }
+        requires same_size { self.old.region.size ≡ self.old.ring.size }
+        ensures ring { ring_in self.new ≡ ring_in self.old }
+        ensures lies { KeepsLying (state_of self.old) (state_of self.new) }
+        ensures fetches { Fetches (M.told mem.old) result (state_of self.old) (state_of self.new) }
+        ensures makes_row { MakesRow M.told M.trail M.names M.handed M.sizes mem.old mem.new result (fetch_row result (state_of self.old)) }
+        ensures fetching { is_fetching result ≡ true }
+        ensures cause { HasCause (M.faults mem.old) (M.faults mem.new) (outcome result) }
+    {
+        if !self.started || self.is_publishing() {
+            return Stepped::Idle;
+        }
+        match self.fetching {
+            Some(head) => self.end_fetch(head, mem),
+            None => self.begin_fetch(mem),
         }
     }
 
@@ -513,9 +640,10 @@ impl Queue {
 
     /// Begins a batch of the first completed requests, at most so many.
     fn begin_batch(&mut self, most: u16)
-        requires resting { self.old.batch ≡ 0 }
+        requires resting { self.old.phase ≡ Rest }
         requires started { self.old.started ≡ true }
         ensures ring { ring_in self.new ≡ ring_in self.old }
+        ensures region { self.new.region ≡ self.old.region }
         ensures state { state_of self.new ≡ begun most (state_of self.old) }
         ensures going { is_publication self.new.phase ≡ true }
     {
@@ -527,6 +655,7 @@ impl Queue {
     fn begin_if_resting(&mut self, most: u16)
         requires ready { publishes most (state_of self.old) ≡ true }
         ensures ring { ring_in self.new ≡ ring_in self.old }
+        ensures region { self.new.region ≡ self.old.region }
         ensures state { state_of self.new ≡ under_way most (state_of self.old) }
         ensures going { is_publication self.new.phase ≡ true }
     {
@@ -537,129 +666,302 @@ impl Queue {
     }
 
     /// The batch is shown: its heads may be offered again.
+    fn free_heads(&mut self)
+        requires next { step_in (state_of self.old) ≡ Some Index }
+        ensures ring { ring_in self.new ≡ ring_in self.old }
+        ensures state { (head : ℕ) → state_of self.new ≡ moved head Index (state_of self.old) }
+        ensures lies { KeepsLying (state_of self.old) (state_of self.new) }
+    {
+        let count = usize::from(self.batch);
+        release(&mut self.taken, &self.completed[..count]);
+        self.phase = after_running(self.batch, self.bell, self.phase);
+    }
+
+    /// The batch is noted: its elements leave the completed ones.
     fn end_batch(&mut self)
+        requires shown { 4 * self.old.batch < done_of self.old.phase }
+        requires going { is_publication self.old.phase ≡ true }
         ensures ring { ring_in self.new ≡ ring_in self.old }
         ensures state { state_of self.new ≡ with_phase Rest (state_of self.old) }
     {
-        let count = usize::from(self.batch);
-        self.next_used = self.next_used.wrapping_add(self.batch);
-        release(&mut self.taken, &self.completed[..count]);
-        drop_front(&mut self.completed, count);
+        drop_front(&mut self.completed, usize::from(self.batch));
         self.batch = 0;
         self.phase = Phase::Rest;
     }
 
-    /// The next step of the publication was made, and not its last.
+    /// The next step of the publication was made, which changes nothing but its phase.
     fn advance(&mut self)
-        requires goes { is_publication (after_of (steps_in (state_of self.old)) self.old.phase) ≡ true }
-        requires started { self.old.started ≡ true }
+        requires going { is_publication self.old.phase ≡ true }
         ensures ring { ring_in self.new ≡ ring_in self.old }
-        ensures state { state_of self.new ≡ moved (state_of self.old) }
-        ensures goes { is_publication self.new.phase ≡ true }
+        ensures state { state_of self.new ≡ with_phase (after_of (steps_in (state_of self.old)) self.old.phase) (state_of self.old) }
+        ensures lies { KeepsLying (state_of self.old) (state_of self.new) }
     {
-        self.phase = after_running(self.batch, self.phase);
+        match after_running(self.batch, self.bell, self.phase) {
+            Phase::Rest => self.end_batch(),
+            phase => self.phase = phase,
+        }
     }
 
     fn store_id<M: Shared>(&mut self, element: u32, mem: &mut M) -> Stepped
         requires lies { RingLies (M.sizes mem.old) (ring_in self.old) }
-        requires next { next_of (steps_in (state_of self.old)) self.old.phase ≡ Some (Id element) }
+        requires next { step_in (state_of self.old) ≡ Some (Id element) }
         ensures ring { ring_in self.new ≡ ring_in self.old }
-        ensures moves { Moves result (next_row (state_of self.old)) (state_of self.old) (state_of self.new) }
+        ensures lies { KeepsLying (state_of self.old) (state_of self.new) }
+        ensures moves { Unless (is_fault result) (Moves (M.told mem.old) result (state_of self.old) (state_of self.new)) }
         ensures makes_row { MakesRow M.told M.trail M.names M.handed M.sizes mem.old mem.new result (next_row (state_of self.old)) }
+        ensures publishing { is_publishing result ≡ true }
+        ensures silent { has_rung result ≡ false }
         ensures cause { HasCause (M.faults mem.old) (M.faults mem.new) (outcome result) }
-        ensures no_disk { disk_outcome result ≡ Ok tt }
     {
+        let Ok(used) = self.ring.used_idx(mem) else {
+            return Stepped::SharedFault;
+        };
         let completed = self.batch_element(element);
-        let index = self.next_used.wrapping_add(element as u16);
-        let id = u32::from(completed.head);
-        match self.ring.write_used_id(mem, index, id) {
+        let index = used.wrapping_add(element as u16);
+        match self.ring.write_used_id(mem, index, u32::from(completed.head)) {
             Ok(()) => {
                 self.advance();
                 Stepped::Stored(Tag::SP1)
             }
-            Err(_) => Stepped::SharedFault,
+            Err(Failed) => Stepped::SharedFault,
         }
     }
 
     fn store_len<M: Shared>(&mut self, element: u32, mem: &mut M) -> Stepped
         requires lies { RingLies (M.sizes mem.old) (ring_in self.old) }
-        requires next { next_of (steps_in (state_of self.old)) self.old.phase ≡ Some (Len element) }
+        requires next { step_in (state_of self.old) ≡ Some (Len element) }
         ensures ring { ring_in self.new ≡ ring_in self.old }
-        ensures moves { Moves result (next_row (state_of self.old)) (state_of self.old) (state_of self.new) }
+        ensures lies { KeepsLying (state_of self.old) (state_of self.new) }
+        ensures moves { Unless (is_fault result) (Moves (M.told mem.old) result (state_of self.old) (state_of self.new)) }
         ensures makes_row { MakesRow M.told M.trail M.names M.handed M.sizes mem.old mem.new result (next_row (state_of self.old)) }
+        ensures publishing { is_publishing result ≡ true }
+        ensures silent { has_rung result ≡ false }
         ensures cause { HasCause (M.faults mem.old) (M.faults mem.new) (outcome result) }
-        ensures no_disk { disk_outcome result ≡ Ok tt }
     {
+        let Ok(used) = self.ring.used_idx(mem) else {
+            return Stepped::SharedFault;
+        };
         let completed = self.batch_element(element);
-        let index = self.next_used.wrapping_add(element as u16);
+        let index = used.wrapping_add(element as u16);
         match self.ring.write_used_len(mem, index, completed.len) {
             Ok(()) => {
                 self.advance();
                 Stepped::Stored(Tag::SP2)
             }
-            Err(_) => Stepped::SharedFault,
+            Err(Failed) => Stepped::SharedFault,
         }
     }
 
+    /// Shows the batch.
     fn show<M: Shared>(&mut self, mem: &mut M) -> Stepped
         requires lies { RingLies (M.sizes mem.old) (ring_in self.old) }
-        requires next { next_of (steps_in (state_of self.old)) self.old.phase ≡ Some Index }
+        requires next { step_in (state_of self.old) ≡ Some Index }
         ensures ring { ring_in self.new ≡ ring_in self.old }
-        ensures moves { Moves result (next_row (state_of self.old)) (state_of self.old) (state_of self.new) }
+        ensures lies { KeepsLying (state_of self.old) (state_of self.new) }
+        ensures moves { Unless (is_fault result) (Moves (M.told mem.old) result (state_of self.old) (state_of self.new)) }
         ensures makes_row { MakesRow M.told M.trail M.names M.handed M.sizes mem.old mem.new result (next_row (state_of self.old)) }
+        ensures publishing { is_publishing result ≡ true }
+        ensures silent { has_rung result ≡ false }
         ensures cause { HasCause (M.faults mem.old) (M.faults mem.new) (outcome result) }
-        ensures no_disk { disk_outcome result ≡ Ok tt }
     {
-        let index = self.next_used.wrapping_add(self.batch);
+        let Ok(used) = self.ring.used_idx(mem) else {
+            return Stepped::SharedFault;
+        };
+        let index = used.wrapping_add(self.batch);
         match self.ring.publish_idx(mem, index) {
             Ok(()) => {
-                self.end_batch();
+                self.free_heads();
                 Stepped::Published
             }
-            Err(_) => Stepped::SharedFault,
+            Err(Failed) => Stepped::SharedFault,
+        }
+    }
+
+    /// Makes the store of a step into the in-flight region, which changes nothing but the phase.
+    fn store_in_region<M: Shared>(&mut self, step: SplitStore, mem: &mut M) -> Stepped
+        requires region { RegionLies (M.sizes mem.old) self.old.region }
+        requires within { NamesEntry self.old.region.size step }
+        requires going { is_publication self.old.phase ≡ true }
+        requires due { WhereTold (M.told mem.old) (λ m. IsDueAt step m (state_of self.old)) }
+        ensures ring { ring_in self.new ≡ ring_in self.old }
+        ensures lies { KeepsLying (state_of self.old) (state_of self.new) }
+        ensures moves { Unless (is_fault result) (Moves (M.told mem.old) result (state_of self.old) (state_of self.new)) }
+        ensures makes_row { MakesRow M.told M.trail M.names M.handed M.sizes mem.old mem.new result (next_row (state_of self.old)) }
+        ensures publishing { is_publishing result ≡ true }
+        ensures silent { has_rung result ≡ false }
+        ensures cause { HasCause (M.faults mem.old) (M.faults mem.new) (outcome result) }
+    {
+        match self.region.store(mem, step) {
+            Ok(()) => {
+                self.advance();
+                Stepped::Stored(step.tag())
+            }
+            Err(Failed) => Stepped::SharedFault,
+        }
+    }
+
+    /// Links an element to the one that was linked before it.
+    fn link<M: Shared>(&mut self, element: u32, mem: &mut M) -> Stepped
+        requires region { RegionLies (M.sizes mem.old) self.old.region }
+        requires same_size { self.old.region.size ≡ self.old.ring.size }
+        requires next { step_in (state_of self.old) ≡ Some (Link element) }
+        ensures ring { ring_in self.new ≡ ring_in self.old }
+        ensures lies { KeepsLying (state_of self.old) (state_of self.new) }
+        ensures moves { Unless (is_fault result) (Moves (M.told mem.old) result (state_of self.old) (state_of self.new)) }
+        ensures makes_row { MakesRow M.told M.trail M.names M.handed M.sizes mem.old mem.new result (next_row (state_of self.old)) }
+        ensures publishing { is_publishing result ≡ true }
+        ensures silent { has_rung result ≡ false }
+        ensures cause { HasCause (M.faults mem.old) (M.faults mem.new) (outcome result) }
+    {
+        let Ok(last) = self.region.last_batch_head(mem) else {
+            return Stepped::SharedFault;
+        };
+        let head = self.batch_element(element).head;
+        self.store_in_region(SplitStore::SP3(head, last), mem)
+    }
+
+    /// Makes an element last_batch_head.
+    fn note_head<M: Shared>(&mut self, element: u32, mem: &mut M) -> Stepped
+        requires region { RegionLies (M.sizes mem.old) self.old.region }
+        requires same_size { self.old.region.size ≡ self.old.ring.size }
+        requires next { step_in (state_of self.old) ≡ Some (Head element) }
+        ensures ring { ring_in self.new ≡ ring_in self.old }
+        ensures lies { KeepsLying (state_of self.old) (state_of self.new) }
+        ensures moves { Unless (is_fault result) (Moves (M.told mem.old) result (state_of self.old) (state_of self.new)) }
+        ensures makes_row { MakesRow M.told M.trail M.names M.handed M.sizes mem.old mem.new result (next_row (state_of self.old)) }
+        ensures publishing { is_publishing result ≡ true }
+        ensures silent { has_rung result ≡ false }
+        ensures cause { HasCause (M.faults mem.old) (M.faults mem.new) (outcome result) }
+    {
+        let head = self.batch_element(element).head;
+        self.store_in_region(SplitStore::SP4(head), mem)
+    }
+
+    /// Clears the entry of an element.
+    fn clear<M: Shared>(&mut self, element: u32, mem: &mut M) -> Stepped
+        requires region { RegionLies (M.sizes mem.old) self.old.region }
+        requires same_size { self.old.region.size ≡ self.old.ring.size }
+        requires next { step_in (state_of self.old) ≡ Some (Clear element) }
+        ensures ring { ring_in self.new ≡ ring_in self.old }
+        ensures lies { KeepsLying (state_of self.old) (state_of self.new) }
+        ensures moves { Unless (is_fault result) (Moves (M.told mem.old) result (state_of self.old) (state_of self.new)) }
+        ensures makes_row { MakesRow M.told M.trail M.names M.handed M.sizes mem.old mem.new result (next_row (state_of self.old)) }
+        ensures publishing { is_publishing result ≡ true }
+        ensures silent { has_rung result ≡ false }
+        ensures cause { HasCause (M.faults mem.old) (M.faults mem.new) (outcome result) }
+    {
+        let head = self.batch_element(element).head;
+        self.store_in_region(SplitStore::SP6(head), mem)
+    }
+
+    /// Notes used.idx.
+    fn note_used<M: Shared>(&mut self, mem: &mut M) -> Stepped
+        requires lies { RingLies (M.sizes mem.old) (ring_in self.old) }
+        requires region { RegionLies (M.sizes mem.old) self.old.region }
+        requires next { step_in (state_of self.old) ≡ Some Note }
+        ensures ring { ring_in self.new ≡ ring_in self.old }
+        ensures lies { KeepsLying (state_of self.old) (state_of self.new) }
+        ensures moves { Unless (is_fault result) (Moves (M.told mem.old) result (state_of self.old) (state_of self.new)) }
+        ensures makes_row { MakesRow M.told M.trail M.names M.handed M.sizes mem.old mem.new result (next_row (state_of self.old)) }
+        ensures publishing { is_publishing result ≡ true }
+        ensures silent { has_rung result ≡ false }
+        ensures cause { HasCause (M.faults mem.old) (M.faults mem.new) (outcome result) }
+    {
+        let Ok(used) = self.ring.used_idx(mem) else {
+            return Stepped::SharedFault;
+        };
+        self.store_in_region(SplitStore::SP7(used), mem)
+    }
+
+    /// Tells the driver of the batch.
+    fn ring_bell<B: Bell>(&mut self, bell: &mut B) -> Stepped
+        requires next { step_in (state_of self.old) ≡ Some step.Bell }
+        ensures ring { ring_in self.new ≡ ring_in self.old }
+        ensures lies { KeepsLying (state_of self.old) (state_of self.new) }
+        ensures moves { (told : Option Bytes) → Unless (is_fault result) (Moves told result (state_of self.old) (state_of self.new)) }
+        ensures publishing { is_publishing result ≡ true }
+        ensures rings { RingsAt self.old.index result (B.told bell.old) (B.told bell.new) }
+        ensures bell_cause { HasCause (B.faults bell.old) (B.faults bell.new) (bell_outcome result) }
+        ensures no_memory { outcome result ≡ Ok tt }
+    {
+        match bell.ring(self.index) {
+            Ok(()) => {
+                self.advance();
+                Stepped::Belled
+            }
+            Err(Failed) => Stepped::BellFault,
         }
     }
 
     /// Makes the next step of the publication under way.
-    fn publish_step<M: Shared>(&mut self, mem: &mut M) -> Stepped
+    fn publish_step<M: Shared, B: Bell>(&mut self, mem: &mut M, bell: &mut B) -> Stepped
         requires lies { RingLies (M.sizes mem.old) (ring_in self.old) }
+        requires region { RegionLies (M.sizes mem.old) self.old.region }
+        requires same_size { self.old.region.size ≡ self.old.ring.size }
         requires going { is_publication self.old.phase ≡ true }
         ensures ring { ring_in self.new ≡ ring_in self.old }
-        ensures moves { Moves result (next_row (state_of self.old)) (state_of self.old) (state_of self.new) }
+        ensures lies { KeepsLying (state_of self.old) (state_of self.new) }
+        ensures moves { Unless (is_fault result) (Moves (M.told mem.old) result (state_of self.old) (state_of self.new)) }
         ensures makes_row { MakesRow M.told M.trail M.names M.handed M.sizes mem.old mem.new result (next_row (state_of self.old)) }
+        ensures publishing { is_publishing result ≡ true }
         ensures cause { HasCause (M.faults mem.old) (M.faults mem.new) (outcome result) }
-        ensures no_disk { disk_outcome result ≡ Ok tt }
+        ensures rings { RingsAt self.old.index result (B.told bell.old) (B.told bell.new) }
+        ensures bell_cause { HasCause (B.faults bell.old) (B.faults bell.new) (bell_outcome result) }
     {
         match self.next_step() {
             Some(Step::Id(element)) => self.store_id(element, mem),
             Some(Step::Len(element)) => self.store_len(element, mem),
+            Some(Step::Link(element)) => self.link(element, mem),
+            Some(Step::Head(element)) => self.note_head(element, mem),
             Some(Step::Index) => self.show(mem),
+            Some(Step::Clear(element)) => self.clear(element, mem),
+            Some(Step::Note) => self.note_used(mem),
+            Some(Step::Bell) => self.ring_bell(bell),
             Some(Step::Features) => unreachable!(),
             Some(Step::Free(_)) => unreachable!(),
             Some(Step::Open) => unreachable!(),
             Some(Step::Settle(_)) => unreachable!(),
             Some(Step::SettleEnd) => unreachable!(),
-            Some(Step::Bell) => unreachable!(),
             Some(Step::Start) => unreachable!(),
+            Some(Step::Count) => unreachable!(),
             Some(Step::Accept) => unreachable!(),
             None => unreachable!(),
         }
     }
 
-    fn publish<M: Shared>(&mut self, most: u16, mem: &mut M) -> Stepped
-        requires { RingLies (M.sizes mem.old) (ring_in self.old) }
+    fn publish<M: Shared, B: Bell>(&mut self, most: u16, mem: &mut M, bell: &mut B) -> Stepped
+        requires lies { RingLies (M.sizes mem.old) (ring_in self.old) }
+        requires region { RegionLies (M.sizes mem.old) self.old.region }
+        requires same_size { self.old.region.size ≡ self.old.ring.size }
         ensures ring { ring_in self.new ≡ ring_in self.old }
         ensures lies { KeepsLying (state_of self.old) (state_of self.new) }
-        ensures publishes { Publishes (publishes most (state_of self.old)) result (state_of self.old) (under_way most (state_of self.old)) (state_of self.new) }
+        ensures publishes { Unless (is_fault result) (Publishes (publishes most (state_of self.old)) (M.told mem.old) result (state_of self.old) (under_way most (state_of self.old)) (state_of self.new)) }
         ensures makes_row { MakesRow M.told M.trail M.names M.handed M.sizes mem.old mem.new result (publish_row most (state_of self.old)) }
+        ensures publishing { is_publishing result ≡ true }
         ensures cause { HasCause (M.faults mem.old) (M.faults mem.new) (outcome result) }
-        ensures no_disk { disk_outcome result ≡ Ok tt }
+        ensures rings { RingsAt self.old.index result (B.told bell.old) (B.told bell.new) }
+        ensures bell_cause { HasCause (B.faults bell.old) (B.faults bell.new) (bell_outcome result) }
     {
         if !is_ready(&self.standing(0), Turn::Publish(most)) {
             return Stepped::Idle;
         }
         self.begin_if_resting(most);
-        self.publish_step(mem)
+        self.publish_step(mem, bell)
+    }
+
+    /// Whether it isn't stopped, and a turn of any kind would make a step.
+    pub fn ready<M: Shared>(&self, mem: &mut M) -> Result<bool, Failed>
+        requires { RingLies (M.sizes mem.old) (ring_in self.now) }
+        ensures ready { IfOk result (λ b. WhereTold (M.told mem.old) (λ m. b ≡ is_ready_at (state_of self.now) (waiting (state_of self.now) m))) }
+        ensures only_loads { OnlyLoads M.told M.trail M.names M.handed M.sizes mem.old mem.new }
+        ensures cause { HasCause (M.faults mem.old) (M.faults mem.new) result }
+    {
+        if self.stopped.is_some() {
+            return Ok(false);
+        }
+        let waiting = self.waiting(mem)?;
+        let standing = self.standing(waiting);
+        Ok(is_ready(&standing, Choice::Any.turn(self.ring.size, &standing)))
     }
 
     /// The turn that a choice comes to. How many requests wait is loaded where it depends on that.
@@ -697,7 +999,7 @@ impl Queue {
         ensures cause { HasCause (M.faults mem.old) (M.faults mem.new) (outcome result) }
         ensures disk_cause { HasCause (D.faults disk.old) (D.faults disk.new) (disk_outcome result) }
         ensures rings { RingsAt (state_of self.old).index result (B.told bell.old) (B.told bell.new) }
-        ensures start_rings { has_rung result ≡ true → turn ≡ Start }
+        ensures may_ring { has_rung result ≡ true → may_ring turn ≡ true }
         ensures bell_cause { HasCause (B.faults bell.old) (B.faults bell.new) (bell_outcome result) }
         ensures stable { StableAfter result (D.stable disk.old) (D.values disk.new) (D.stable disk.new) }
         ensures keeps_spaces { KeepsSpaces M.names M.handed M.sizes mem.old mem.new }
@@ -707,7 +1009,7 @@ impl Queue {
             Turn::Start => self.start(mem, bell),
             Turn::Fetch => self.fetch(mem),
             Turn::Work(place) => self.work(place, mem, disk),
-            Turn::Publish(most) => self.publish(most, mem),
+            Turn::Publish(most) => self.publish(most, mem, bell),
         }
     }
 
@@ -732,7 +1034,7 @@ impl Queue {
         ensures cause { HasCause (M.faults mem.old) (M.faults mem.new) (outcome result) }
         ensures disk_cause { HasCause (D.faults disk.old) (D.faults disk.new) (disk_outcome result) }
         ensures rings { RingsAt (state_of self.old).index result (B.told bell.old) (B.told bell.new) }
-        ensures start_rings { WhereTold (M.told mem.old) (λ m. has_rung result ≡ true → chosen self.old.ring.size choice (standing_at (state_of self.old) (waiting (state_of self.old) m)) ≡ Start) }
+        ensures may_ring { WhereTold (M.told mem.old) (λ m. has_rung result ≡ true → may_ring (chosen self.old.ring.size choice (standing_at (state_of self.old) (waiting (state_of self.old) m))) ≡ true) }
         ensures bell_cause { HasCause (B.faults bell.old) (B.faults bell.new) (bell_outcome result) }
         ensures stable { StableAfter result (D.stable disk.old) (D.values disk.new) (D.stable disk.new) }
         ensures keeps_spaces { KeepsSpaces M.names M.handed M.sizes mem.old mem.new }
@@ -793,7 +1095,7 @@ impl Queue {
         ensures cause { HasCause (M.faults mem.old) (M.faults mem.new) (outcome result) }
         ensures disk_cause { HasCause (D.faults disk.old) (D.faults disk.new) (disk_outcome result) }
         ensures rings { RingsAt (state_of self.old).index result (B.told bell.old) (B.told bell.new) }
-        ensures start_rings { WhereTold (M.told mem.old) (λ m. has_rung result ≡ true → chosen (ring_in self.old).size choice (standing_at (state_of self.old) (waiting (state_of self.old) m)) ≡ Start) }
+        ensures may_ring { WhereTold (M.told mem.old) (λ m. has_rung result ≡ true → may_ring (chosen (ring_in self.old).size choice (standing_at (state_of self.old) (waiting (state_of self.old) m))) ≡ true) }
         ensures bell_cause { HasCause (B.faults bell.old) (B.faults bell.new) (bell_outcome result) }
         ensures stable { StableAfter result (D.stable disk.old) (D.values disk.new) (D.stable disk.new) }
         ensures keeps_spaces { KeepsSpaces M.names M.handed M.sizes mem.old mem.new }
