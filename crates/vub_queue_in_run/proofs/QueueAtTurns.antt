@@ -1,4 +1,4 @@
--- Which turns of the queue are due at a moment of a run, and what a start and a fetch leave.
+-- Which turns of the queue are due at a moment of a run, and what a fetch leaves.
 use Rattle.std.proofs.Common.{◌≡◌, ◌≤◌, ◌<◌, ℕ, ◌+◌, ◌*◌, ◌%◌, Bool, true, false, List, [], ◌∷◌, length, cond, refl, ap, sym, ◌∙◌, subst, inl, inr, arith}
 use Rattle.std.specs.Prelude.{Option, Some, slice_index, nat_lt, ⊤}
 use Rattle.std.proofs.lemmas.Bool.Decides.{nat_tests}
@@ -23,14 +23,17 @@ use Rattle.vub_queue.specs.declared.queue.Stepped.TheVariants as says
 use Rattle.vub_split.specs.declared.split.SplitRing.{SplitRing}
 use Rattle.vub_queue.specs.declared.queue.QueueSetup.{QueueSetup}
 use Rattle.vub_run.specs.Memory.{Scene, after_items}
-use Rattle.vub_run.specs.Moments.{Lane, Moment, standing}
+use Rattle.vub_infl_split.specs.Region.{RegionWords}
+use Rattle.vub_rec_split.specs.Starts.{RecoveryState}
+use Rattle.vub_steps.specs.declared.steps.Plan.{Plan}
+use Rattle.vub_run.specs.Moments.{Lane, Moment, region_in, standing}
 use Rattle.vub_run.specs.Run.{one_turn}
 use Rattle.vub_run.specs.Turns.{Turned, turned, under_way, phase_goes_on}
 use Rattle.vub_split.specs.Split.{avail_idx_word, head_word}
 use Rattle.vub_queue.specs.QueueParts.{is_taken}
 use Rattle.vub_queue.specs.QueueState as states
 use Rattle.vub_queue.specs.QueueState.{QueueState, standing_at, Fetches, Breaks, BreaksBy, Publishes, publishes, DoesOf, Unless, Turns, is_fault}
-use Rattle.vub_queue_in_run.specs.QueueAt.{spot_of, QueueAt, LiesAs, QueueStands}
+use Rattle.vub_queue_in_run.specs.QueueAt.{spot_of, QueueAt, StartAt, LiesAs, QueueStands, kept_phase}
 use Rattle.vub_driver.specs.Layout.{area_place}
 use Rattle.vub_run_laws.proofs.RunOwn.{at_own}
 use Rattle.vub_run_laws.proofs.RunNumbers.{not_among-take}
@@ -40,7 +43,7 @@ use Rattle.vub_run_laws.proofs.RunHolds.{Holds}
 use Rattle.vub_run_laws.proofs.RunFrames.{open_out}
 use Rattle.vub_run_laws.proofs.RunPhases.{resting, rest_is}
 use Rattle.vub_run_laws.proofs.RunTurns.{IsPlain, Good, phase_cases}
-use Rattle.vub_queue_in_run.proofs.QueueAtMoves.{new_unpublished, count_is, avail_is, taken_open, at_start, at_fetch}
+use Rattle.vub_queue_in_run.proofs.QueueAtMoves.{new_unpublished, count_is, avail_is, taken_open, at_fetch}
 use Rattle.vub_run_laws.proofs.RunQueue.{phase_at, queue_ahead, offered_head, head_below, heads_apart}
 
 -- ---- how many wait
@@ -54,85 +57,82 @@ avail_word q setup n m main = ap (λ (s : ℕ). word 2 m s (setup.ring.avail.1 +
 
 -- the queue's avail position is the moment's
 stands_avail : (q : ℕ) (h : Header1) (setup : QueueSetup) (m : Moment) (state : QueueState) → Holds q h m.scene (m.lanes q) → QueueStands q h setup m state → state.next_avail ≡ (h.base + accepted m.scene.past q) % 65536
-stands_avail q h setup m state holds z = avail_is q h setup m.scene.past (m.scene.heads q) (m.lanes q).phase (m.lanes q).batch (m.lanes q).completed (m.lanes q).made state holds.known z
+stands_avail q h setup m state holds z = avail_is q h setup m.scene.past (m.scene.heads q) (m.lanes q).phase (m.lanes q).batch (m.lanes q).completed (m.lanes q).made state holds.known z.at
 
 -- its own count of what waits is the moment's
 waiting_is : (q : ℕ) (h : Header1) (setup : QueueSetup) (m : Moment) (state : QueueState) → LiesAs q setup h.size → Holds q h m.scene (m.lanes q) → QueueStands q h setup m state
     → states.waiting state m.scene.memory ≡ ahead (avail_idx (the_ring q h.size) m.scene.memory) (h.base + accepted m.scene.past q)
 waiting_is q h setup m state main holds z =
     let position : ℕ = h.base + accepted m.scene.past q in
-    let word_is : avail_idx_word state.ring m.scene.memory ≡ avail_idx (the_ring q h.size) m.scene.memory = ap (λ (x : SplitRing). avail_idx_word x m.scene.memory) z.ring ∙ avail_word q setup h.size m.scene.memory main in
+    let word_is : avail_idx_word state.ring m.scene.memory ≡ avail_idx (the_ring q h.size) m.scene.memory = ap (λ (x : SplitRing). avail_idx_word x m.scene.memory) z.at.ring ∙ avail_word q setup h.size m.scene.memory main in
     let wraps : position % 65536 % 65536 ≡ position % 65536 = omega arith in
     let from : state.next_avail % 65536 ≡ position % 65536 = ap (λ (a : ℕ). a % 65536) (stands_avail q h setup m state holds z) ∙ wraps in
     omega (arith, word_is, from)
 
+-- its phase is the one of the lane, but that it keeps no place of a start
+abbrev kept_standing : Header1 → ℕ → Moment → Standing
+kept_standing h q m = record (standing h q m) { phase = kept_phase (standing h q m).phase }
+
 pub standings : (q : ℕ) (h : Header1) (setup : QueueSetup) (m : Moment) (state : QueueState) → LiesAs q setup h.size → Holds q h m.scene (m.lanes q) → QueueStands q h setup m state
-    → standing_at state (states.waiting state m.scene.memory) ≡ standing h q m
+    → standing_at state (states.waiting state m.scene.memory) ≡ kept_standing h q m
 standings q h setup m state main holds z =
     let l : Lane = m.lanes q in
-    let many : length state.completed ≡ length l.completed = ap (λ (ks : List (ℕ × ℕ)). length ks) z.completed ∙ length-map l.completed (spot_of q h m.scene.past (m.scene.heads q)) in
+    let many : length state.completed ≡ length l.completed = ap (λ (ks : List (ℕ × ℕ)). length ks) z.at.completed ∙ length-map l.completed (spot_of q h m.scene.past (m.scene.heads q)) in
     let st : Standing = standing h q m in
-    standing_same state.started st.started state.phase st.phase (states.waiting state m.scene.memory) st.waiting (length state.unfinished) st.unfinished (length state.completed) st.completed z.started z.phase (waiting_is q h setup m state main holds z) (count_is q h setup m.scene.past (m.scene.heads q) l.phase l.batch l.completed l.made state holds.worked z) many
+    standing_same state.started st.started state.phase (kept_phase st.phase) (states.waiting state m.scene.memory) st.waiting (length state.unfinished) st.unfinished (length state.completed) st.completed z.at.started z.at.phase (waiting_is q h setup m state main holds z)
+    (count_is q h setup m.scene.past (m.scene.heads q) l.phase l.batch l.completed l.made state holds.worked z.at) many
 
--- so the queue and the moment agree on what is ready
+-- which changes nothing of what is ready
+pub ready_kept : (s : Standing) (t : Turn) → is_ready (record s { phase = kept_phase s.phase }) t ≡ is_ready s t
+ready_kept s t = go s.phase t
+  where
+    go : (p : Phase) (t : Turn) → is_ready (record s { phase = kept_phase p }) t ≡ is_ready (record s { phase = p }) t
+    go phases.Rest t = refl
+    go (phases.Start done) turns.Start = refl
+    go (phases.Start done) turns.Fetch = refl
+    go (phases.Start done) (turns.Work place) = refl
+    go (phases.Start done) (turns.Publish most) = refl
+    go (phases.Fetch done) t = refl
+    go (phases.Publish done) t = refl
+
+-- so the queue and the moment agree on it
 pub ready_same : (q : ℕ) (h : Header1) (setup : QueueSetup) (m : Moment) (state : QueueState) (t : Turn) → LiesAs q setup h.size → Holds q h m.scene (m.lanes q) → QueueStands q h setup m state → is_ready (standing_at state (states.waiting state m.scene.memory)) t ≡ is_ready (standing h q m) t
-ready_same q h setup m state t main holds z = ap (λ (s : Standing). is_ready s t) (standings q h setup m state main holds z)
+ready_same q h setup m state t main holds z = ap (λ (s : Standing). is_ready s t) (standings q h setup m state main holds z) ∙ ready_kept (standing h q m) t
 
 -- ---- what a turn that didn't fail does
 
 pub does_of : (t : Turn) (told : Option Bytes) (x : Stepped) (state state' : QueueState) (made : Turns t told x state state') → is_fault x ≡ false → DoesOf t told x state made.0
 does_of t told x state state' made fine = subst (λ (b : Bool). Unless b (DoesOf t told x state made.0)) fine made.2
 
--- where the queue stands after these items
+-- ---- where the queue stands after a turn
+
+-- after these items
 abbrev pub StandsAfter : ℕ → Header1 → QueueSetup → Scene → Turned → QueueState → Type 0
 StandsAfter q h setup s t state = QueueAt q h setup (after_items h t.items s).past ((after_items h t.items s).heads q) t.lane.phase t.lane.batch t.lane.completed t.lane.made state
 
-pub stands_after : (q : ℕ) (h : Header1) (setup : QueueSetup) (m : Moment) (t : Turn) (state : QueueState) → StandsAfter q h setup m.scene (turned h q t m) state → QueueStands q h setup (one_turn h q t m).next state
-stands_after q h setup m t state z =
-    let now : Scene = after_items h (turned h q t m).items m.scene in
-    subst (λ (l : Lane). QueueAt q h setup now.past (now.heads q) l.phase l.batch l.completed l.made state) (sym (at_own m.lanes q (turned h q t m).lane)) z
+abbrev pub StartsAfter : ℕ → Header1 → QueueSetup → Scene → Turned → QueueState → Type 0
+StartsAfter q h setup s t state = StartAt q h setup (started (after_items h t.items s).past q) t.lane.bell t.lane.plan t.lane.phase (region_in h q (after_items h t.items s)) state
 
--- ---- a start
-
--- the lane of a queue that isn't started
-abbrev asleep : Lane → Lane
-asleep l = record l { phase = phases.Rest; batch = []; completed = [] }
-
-asleep_is : (l : Lane) → l.phase ≡ phases.Rest → l.batch ≡ [] → l.completed ≡ [] → asleep l ≡ l
-asleep_is l phase batch completed =
-    ap (λ (p : Phase). record l { phase = p; batch = []; completed = [] }) (sym phase) ∙ ap (λ (b : List ℕ). record l { batch = b; completed = [] }) (sym batch) ∙ ap (λ (c : List ℕ). record l { completed = c }) (sym completed)
-
-none_open : (q : ℕ) (past : List Entry) → accepted past q ≡ 0 → open_numbers past q ≡ []
-none_open q past none = ap (missing_below (published past q)) none
-
--- what a start says, makes and leaves
-pub record HasStarted (q : ℕ) (h : Header1) (setup : QueueSetup) (m : Moment) (x : Stepped) (state' : QueueState) : Type 0 where
-  pub said : x ≡ says.Started
-  pub made : (turned h q turns.Start m).items ≡ items.Made (entries.Start q []) ∷ []
-  pub stands : QueueStands q h setup (one_turn h q turns.Start m).next state'
-
-pub start_stands : (q : ℕ) (h : Header1) (setup : QueueSetup) (m : Moment) (told : Option Bytes) (x : Stepped) (state state' : QueueState) → IsPlain h → Good q h m → LiesAs q setup h.size → QueueStands q h setup m state
-    → is_ready (standing h q m) turns.Start ≡ true → is_fault x ≡ false → Turns turns.Start told x state state' → HasStarted q h setup m x state'
-start_stands q h setup m told x state state' plain good main z ready fine made =
-    let l : Lane = m.lanes q in
-    let past : List Entry = m.scene.past in
-    let heads : List ℕ = m.scene.heads q in
-    let stopped : started past q ≡ false = grind (arith, nat_tests) in
-    let quiet = good.holds.worked.quiet stopped in
-    let batch : l.batch ≡ [] = subst (λ (p : Phase). PhaseIs l.batch p) quiet.0 (phase_at q h m.scene (m.lanes q) good.holds) in
-    let same : asleep l ≡ l = asleep_is l quiet.0 batch quiet.1.0 in
-    let none : accepted past q ≡ 0 = good.idle stopped in
-    let does = does_of turns.Start told x state state' made fine in
-    let said : x ≡ says.Started = does.0 ∙ ap (λ (b : Bool). cond {A = Stepped} b says.Idle says.Started) (z.started ∙ stopped) in
-    let after : state' ≡ record state { started = true } = made.1 ∙ ap (λ (y : Stepped). states.halted y made.0) said ∙ does.1 in
-    let at_rest : QueueAt q h setup past heads phases.Rest [] [] l.made state = subst (λ (y : Lane). QueueAt q h setup past heads y.phase y.batch y.completed y.made state) (sym same) z in
-    let begins : StandsAfter q h setup m.scene (phase_goes_on h q m.scene (under_way turns.Start (asleep l))) (record state { started = true }) = at_start q h setup past heads l.made state none at_rest in
-    let stands : StandsAfter q h setup m.scene (turned h q turns.Start m) (record state { started = true }) = subst (λ (y : Lane). StandsAfter q h setup m.scene (phase_goes_on h q m.scene (under_way turns.Start y)) (record state { started = true })) same begins in
-    record {
-      said = said;
-      made = sym (ap (λ (y : Lane). (phase_goes_on h q m.scene (under_way turns.Start y)).items) same) ∙ ap (λ (ks : List ℕ). items.Made (entries.Start q ks) ∷ []) (none_open q past none);
-      stands = stands_after q h setup m turns.Start state' (subst (λ (y : QueueState). StandsAfter q h setup m.scene (turned h q turns.Start m) y) (sym after) stands);
+pub stands_next : (q : ℕ) (h : Header1) (setup : QueueSetup) (m : Moment) (turn : Turn) (t : Turned) (state : QueueState) → turned h q turn m ≡ t → StandsAfter q h setup m.scene t state → StartsAfter q h setup m.scene t state → QueueStands q h setup (one_turn h q turn m).next state
+stands_next q h setup m turn t state is z y =
+    let z' : StandsAfter q h setup m.scene (turned h q turn m) state = subst (λ (t' : Turned). StandsAfter q h setup m.scene t' state) (sym is) z in
+    let y' : StartsAfter q h setup m.scene (turned h q turn m) state = subst (λ (t' : Turned). StartsAfter q h setup m.scene t' state) (sym is) y in
+    let now : Scene = after_items h (turned h q turn m).items m.scene in record {
+      at = subst (λ (l : Lane). QueueAt q h setup now.past (now.heads q) l.phase l.batch l.completed l.made state) (sym (at_own m.lanes q (turned h q turn m).lane)) z';
+      start = subst (λ (l : Lane). StartAt q h setup (started now.past q) l.bell l.plan l.phase (region_in h q now) state) (sym (at_own m.lanes q (turned h q turn m).lane)) y';
     }
+
+-- a queue that runs is past its start
+pub runs_on : (q : ℕ) (h : Header1) (setup : QueueSetup) (m : Moment) (state state' : QueueState) (runs bell : Bool) (plan plan' : Plan) (phase : Phase) (w : RegionWords) → QueueStands q h setup m state → runs ≡ true → bell ≡ (m.lanes q).bell
+    → state'.index ≡ state.index → state'.bell ≡ state.bell → state'.recovery ≡ state.recovery → StartAt q h setup runs bell plan' phase w state'
+runs_on q h setup m state state' runs bell plan plan' phase w z run same index rings recovery = record {
+  index = index ∙ z.start.index;
+  bell = rings ∙ z.start.bell ∙ sym same;
+  ring = ap (λ (r : RecoveryState). r.ring) recovery ∙ z.start.ring;
+  region = ap (λ (r : RecoveryState). r.region) recovery ∙ z.start.region;
+  base = ap (λ (r : RecoveryState). r.base) recovery ∙ z.start.base;
+  begun = λ stopped. absurd (let fails : true ≡ false = sym run ∙ stopped in cc);
+}
 
 -- ---- a fetch
 
@@ -144,11 +144,11 @@ head_is q h setup m state main z holds more =
     let a : ℕ = accepted m.scene.past q in
     let index : ℕ = (h.base + a) % 65536 in
     let place : state.next_avail % setup.ring.size ≡ index % h.size = ap (λ (i : ℕ). i % setup.ring.size) (stands_avail q h setup m state holds z) ∙ ap (λ (n : ℕ). index % n) main.size in
-    ap (λ (x : SplitRing). head_word x mem state.next_avail) z.ring
+    ap (λ (x : SplitRing). head_word x mem state.next_avail) z.at.ring
     ∙ ap (λ (s : ℕ). word 2 mem s (setup.ring.avail.1 + (4 + 2 * (state.next_avail % setup.ring.size)))) main.avail_space
     ∙ ap (λ (p : ℕ). word 2 mem 0 (p + (4 + 2 * (state.next_avail % setup.ring.size)))) main.avail
     ∙ ap (λ (e : ℕ). word 2 mem 0 (area_place q + 4096 + (4 + 2 * e))) place
-    ∙ offered_head q h m.scene (m.lanes q).driver (m.lanes q).batch (m.lanes q).phase a holds.queue (omega arith) more
+    ∙ offered_head q h m.scene (m.lanes q).driver (m.lanes q).bell (m.lanes q).plan (m.lanes q).batch (m.lanes q).phase a holds.queue (omega arith) more
 
 -- the next request isn't open, and is offered
 next_out : (q : ℕ) (h : Header1) (s : Scene) (l : Lane) → Holds q h s l → accepted s.past q < length (s.heads q) → IsOut q s.past (s.heads q) (accepted s.past q)
@@ -177,19 +177,19 @@ keeps_rules q h setup m state fault plain good main z breaks = go fault breaks.1
     more = omega (arith, far, breaks.0)
 
     sized : state.ring.size ≡ h.size
-    sized = ap (λ (x : SplitRing). x.size) z.ring ∙ main.size
+    sized = ap (λ (x : SplitRing). x.size) z.at.ring ∙ main.size
 
     out : IsOut q m.scene.past heads a
     out = next_out q h m.scene (m.lanes q) holds more
 
     go : (f : RingFault) → BreaksBy state m.scene.memory f → ⊥
     go (faults.Jump ahead) b = omega (arith, b.0, b.1, far, sized, holds.known.room, holds.known.shown, holds.known.fewer)
-    go (faults.BadHead head) b = omega (arith, b.1, b.2, sized, head_is q h setup m state main z holds more, head_below q h m.scene (m.lanes q).driver (m.lanes q).batch (m.lanes q).phase a holds.queue out)
+    go (faults.BadHead head) b = omega (arith, b.1, b.2, sized, head_is q h setup m state main z holds more, head_below q h m.scene (m.lanes q).driver (m.lanes q).bell (m.lanes q).plan (m.lanes q).batch (m.lanes q).phase a holds.queue out)
     go (faults.Twice head) b =
-        let small : head < setup.ring.size = omega (arith, b.2, ap (λ (x : SplitRing). x.size) z.ring) in
-        let t = taken_open q h setup m.scene.past heads (m.lanes q).phase (m.lanes q).batch (m.lanes q).completed (m.lanes q).made state head small b.3 z in
+        let small : head < setup.ring.size = omega (arith, b.2, ap (λ (x : SplitRing). x.size) z.at.ring) in
+        let t = taken_open q h setup m.scene.past heads (m.lanes q).phase (m.lanes q).batch (m.lanes q).completed (m.lanes q).made state head small b.3 z.at in
         let other : IsOut q m.scene.past heads t.0 = open_out q h.size h.capacity m.scene.past heads t.0 holds.known t.1 in
-        let same : t.0 ≡ a = heads_apart q h m.scene (m.lanes q).driver (m.lanes q).batch (m.lanes q).phase t.0 a holds.queue other out (t.2 ∙ b.1 ∙ head_is q h setup m state main z holds more) in
+        let same : t.0 ≡ a = heads_apart q h m.scene (m.lanes q).driver (m.lanes q).bell (m.lanes q).plan (m.lanes q).batch (m.lanes q).phase t.0 a holds.queue other out (t.2 ∙ b.1 ∙ head_is q h setup m state main z holds more) in
         omega (arith, same, t.1.taken)
     go (faults.NoRoom slot) b = b
     go (faults.Chain fault) b = b
