@@ -26,14 +26,14 @@ use Rattle.vub_run.specs.Turns.{len_of}
 use Rattle.vub_queue.specs.QueueParts.{is_taken}
 use Rattle.vub_queue.specs.QueueState as states
 use Rattle.vub_queue.specs.QueueState.{QueueState}
-use Rattle.vub_queue_in_run.specs.QueueAt.{LiesAs, spot_of, left_of, TaskAt, QueueAt, KeepsHeads}
+use Rattle.vub_queue_in_run.specs.QueueAt.{spot_of, left_of, TaskAt, QueueAt, KeepsHeads, kept_phase}
+use Rattle.vub_rec_split.specs.Starts.{RecoveryState}
 use Rattle.vub_queue_in_run.proofs.QueueHeld.{words_kept, keeps_new, keeps_accepted, keeps_begun, keeps_shown}
 use Rattle.vub_facts.specs.Facts.{heads_in, without}
 use Rattle.vub_facts.proofs.HeadLemmas.{without_map, number_of, among_get}
 use Rattle.vub_run.specs.Moments.{open_heads}
 use Rattle.vub_device.specs.Places.{are_distinct}
 use Rattle.vub_split.specs.Split.{used_side}
-use Rattle.vub_split.specs.declared.split.SplitRing.{SplitRing}
 use Rattle.vub_queue.specs.declared.queue.QueueSetup.{QueueSetup}
 use Rattle.vub_task.specs.declared.task.Task.{Task}
 use Rattle.vub_run_laws.proofs.RunOwn.{accepted_own, published_own, started_own}
@@ -165,22 +165,41 @@ at_new q h setup past heads made state small fewer none stopped base new = subst
 
 -- ---- a start
 
-pub at_start : (q : ℕ) (h : Header1) (setup : QueueSetup) (past : List Entry) (heads : List ℕ) (made : ℕ → ℕ) (state : QueueState) → accepted past q ≡ 0
-    → QueueAt q h setup past heads phases.Rest [] [] made state → QueueAt q h setup (entries.Start q (open_numbers past q) ∷ past) heads phases.Rest [] [] made (record state { started = true })
-at_start q h setup past heads made state none x = record {
+-- in its start
+pub at_starting : (q : ℕ) (h : Header1) (setup : QueueSetup) (past : List Entry) (heads : List ℕ) (phase : Phase) (batch completed : List ℕ) (made : ℕ → ℕ) (state : QueueState) (r : RecoveryState) (rung : Bool) (done : ℕ) → kept_phase phase ≡ phases.Rest → batch ≡ []
+    → QueueAt q h setup past heads phase batch completed made state → QueueAt q h setup past heads (phases.Start done) [] completed made (record state { recovery = r; rung = rung })
+at_starting q h setup past heads phase batch completed made state r rung done rests none x = subst (λ (ks : List ℕ). QueueAt q h setup past heads (phases.Start done) ks completed made (record state { recovery = r; rung = rung })) none (record {
+  ring = x.ring;
+  runs = x.runs;
+  started = x.started;
+  used = x.used;
+  phase = x.phase ∙ rests;
+  batch = x.batch;
+  completed = x.completed;
+  keeps = x.keeps;
+  tasks = x.tasks;
+  buffers = x.buffers;
+  places = x.places;
+  sectors = x.sectors;
+})
+
+-- and at its end
+pub at_started : (q : ℕ) (h : Header1) (setup : QueueSetup) (past : List Entry) (heads : List ℕ) (phase : Phase) (batch completed : List ℕ) (made : ℕ → ℕ) (state : QueueState) (r : RecoveryState) → kept_phase phase ≡ phases.Rest → batch ≡ [] → accepted past q ≡ 0
+    → QueueAt q h setup past heads phase batch completed made state → QueueAt q h setup (entries.Start q (open_numbers past q) ∷ past) heads phases.Rest [] completed made (record state { recovery = r; started = true })
+at_started q h setup past heads phase batch completed made state r rests empty none x = subst (λ (ks : List ℕ). QueueAt q h setup (entries.Start q (open_numbers past q) ∷ past) heads phases.Rest ks completed made (record state { recovery = r; started = true })) empty (record {
   ring = x.ring;
   runs = x.runs;
   started = sym (started_own past q (open_numbers past q));
   used = x.used;
-  phase = x.phase;
+  phase = x.phase ∙ rests;
   batch = x.batch;
   completed = x.completed;
-  keeps = keeps_started setup.ring.size (open_heads q past heads) state x.keeps;
+  keeps = x.keeps;
   tasks = λ i k task there is. record { head = (x.tasks i k task there is).head; stands = λ request asks_it. (x.tasks i k task there is).stands request asks_it };
   buffers = x.buffers;
   places = x.places;
-  sectors = λ k place request held asks_it next. absurd (none_among q past [] [] k none held);
-}
+  sectors = λ k place request held asks_it next. absurd (none_among q past completed batch k none held);
+})
 
 -- ---- a fetch
 

@@ -25,7 +25,7 @@ use Rattle.vub_region_facts.proofs.BatchLemmas.{below_among}
 use Rattle.vub_region_facts.proofs.StartLemmas.{settling_link}
 use Rattle.vub_rec_split.specs.declared.plan.Recovered.TheVariants.{Stored, Done}
 use Rattle.vub_infl_split.specs.Stores.{tag_of}
-use Rattle.vub_rec_split.specs.Starts.{RecoveryState, Sight, link_after, new_step, settle_step, step_of, unless_fault, answered, gone_on, fault_in, plan_in, sight_in, due_in, answer_in, state_after, moved}
+use Rattle.vub_rec_split.specs.Starts.{RecoveryState, Sight, link_after, new_step, settle_step, step_of, unless_fault, answered, gone_on, fault_in, plan_in, sight_in, due_in, answer_in, state_after, moved, SameQueue}
 use Rattle.vub_rec_split.specs.Stands.{InStart, IsApart, StandsAt}
 use Rattle.vub_rec_split.specs.Places.{IsFresh, FollowsLinks, InPlace, IsAt}
 use Rattle.vub_rec_split.proofs.PlanSteps.{step_fits}
@@ -296,3 +296,12 @@ at_planned r m plan place at = elim (cases_lt place (length (plan_steps r.region
   | inl more ↦ planned_is r m plan (at.stores more).plan_is
   | inr all ↦ planned_is r m Settled (at.settled (omega (arith, all)))
 ]
+
+-- it stays the recovery of its queue
+pub state_queue : (r : RecoveryState) (m : Bytes) → SameQueue r (state_after r m)
+state_queue r m = go (fault_in r m) (due_in r m) (plan_in r m)
+  where
+    go : (fault : Option RegionFault) (due : Option SplitStore) (plan : Plan) → SameQueue r (gone_on fault due plan r)
+    go (Some fault) due plan = record { ring = refl; region = refl; base = refl }
+    go None (Some step) plan = record { ring = refl; region = refl; base = refl }
+    go None None plan = record { ring = refl; region = refl; base = refl }

@@ -6,7 +6,6 @@ use Rattle.std.proofs.lemmas.Bool.Decides.{nat_tests}
 use Rattle.vub_base.specs.declared.header.Header1.{Header1}
 use Rattle.vub_base.specs.declared.store.Area.TheVariants.{I}
 use Rattle.vub_shared.specs.Bytes.{Bytes, put, word}
-use Rattle.vub_shared.proofs.BytesLemmas.{word-put_other}
 use Rattle.vub_steps.specs.declared.steps.Phase.TheVariants as phases
 use Rattle.vub_steps.specs.declared.steps.Plan.{Plan}
 use Rattle.vub_steps.specs.declared.steps.Plan.TheVariants as plans
@@ -35,6 +34,7 @@ use Rattle.vub_facts.proofs.FactStarts.{start_begins, start_due, start_after, st
 use Rattle.vub_facts.proofs.FactSteps.{step_keeps}
 use Rattle.vub_facts.proofs.FactWords.{row_words}
 use Rattle.vub_run_laws.proofs.RunOwn.{started_own}
+use Rattle.vub_run_laws.proofs.RunFrames.{word_stays}
 use Rattle.vub_run_laws.proofs.RunGood.{IsSize}
 use Rattle.vub_run_laws.proofs.RingGood.{the_ring, the_region, side_of, WordsAt, Ringed, QueueFacts}
 use Rattle.vub_run_laws.proofs.RunHolds.{starting, steps_in, noted_at, StartStores, StartRings, StartEnds, NextStart, Stores, Rings, Ends}
@@ -81,11 +81,7 @@ start_facts q h s v bell plan stopped x =
 
 -- ---- a store into the region
 
--- it leaves guest memory
-word_stays : (w : ℕ) (m : Bytes) (p : ℕ) (bs : List ℕ) (a : ℕ) → word w (put m 1 p bs) 0 a ≡ word w m 0 a
-word_stays w m p bs a = word-put_other w m 1 p bs 0 a (inl (λ e. omega (arith, e)))
-
--- and so the ring
+-- it leaves the ring
 pub ringed_noted : (q n base : ℕ) (past : List Entry) (heads : List ℕ) (m : Bytes) (p : ℕ) (bs : List ℕ) → Ringed q n base past heads m → Ringed q n base past heads (put m 1 p bs)
 ringed_noted q n base past heads m p bs r = record {
   avail_idx_is = word_stays 2 m p bs (avail_idx_place (the_ring q n)) ∙ r.avail_idx_is;

@@ -5,14 +5,14 @@ use Rattle.byteorder.specs.Endian.{little_from, little_bytes}
 use Rattle.byteorder.specs.Numbers.{little_from-cons, little_number-reads_back}
 use Rattle.std.proofs.lemmas.List.{append-nil, append_assoc, length-append}
 use Rattle.vub_shared.specs.Bytes.{Bytes, put, word, bytes_from}
-use Rattle.vub_shared.proofs.BytesLemmas.{word-put_other, word-put_inside, bytes_from-put_other}
+use Rattle.vub_shared.proofs.BytesLemmas.{word-put_inside, bytes_from-put_other}
 use Rattle.vub_driver.specs.Layout.{area_place, buffer_place, status_place}
 use Rattle.vub_driver.specs.Requests.{Piece, readable_piece, writable_piece, write_flag, descriptor_bytes}
 use Rattle.vub_device.specs.declared.entry.Asked.{Asked}
 use Rattle.vub_device.specs.declared.entry.Asked.TheVariants as asks
 use Rattle.vub_direct_chain.specs.declared.chain.Desc.{Desc}
 use Rattle.vub_direct_chain.specs.ChainState.{type_of, sector_of, handed_bytes, data_start, data_of, desc_of}
-use Rattle.vub_run_laws.proofs.RunFrames.{keeps, length_little}
+use Rattle.vub_run_laws.proofs.RunFrames.{keeps, word_stays, length_little}
 
 -- where the descriptor d stands, and the buffer of a head
 abbrev pub table_place : ℕ → ℕ → ℕ
@@ -94,10 +94,7 @@ chain_kept q m head body status request p bs s h = record {
   front = front_kept m (buffer_at q head) request p bs s.header s.handed h.front;
 }
 
--- a store into another space leaves all of it
-word_stays : (w : ℕ) (m : Bytes) (p : ℕ) (bs : List ℕ) (a : ℕ) → word w (put m 1 p bs) 0 a ≡ word w m 0 a
-word_stays w m p bs a = word-put_other w m 1 p bs 0 a (inl (λ e. omega (arith, e)))
-
+-- a store into the in-flight region leaves all of it
 desc_stays : (q : ℕ) (m : Bytes) (d : ℕ) (x : Desc) (p : ℕ) (bs : List ℕ) → HasDesc q m d x → HasDesc q (put m 1 p bs) d x
 desc_stays q m d x p bs h = record {
   addr = word_stays 8 m p bs (table_place q d) ∙ h.addr;

@@ -52,7 +52,7 @@ store_gentle q h s l p bs x above away spares = record {
   made = λ head sts unused serve stand. stand_kept sts s.memory p bs (serving_off q head sts p bs above (away head unused) serve) stand;
 }
 
--- a store into another space leaves everything
+-- a store into the in-flight region leaves everything
 pub note_gentle : (q n : ℕ) (s : Scene) (st : Store) → IsGentle q n s (noted_at st.place st.bytes s)
 note_gentle q n s st = record {
   heads = refl;

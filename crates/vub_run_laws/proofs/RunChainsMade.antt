@@ -19,7 +19,7 @@ use Rattle.vub_direct_chain.specs.ChainState.{data_of}
 use Rattle.vub_device.specs.Requests.{request_of}
 use Rattle.vub_run_laws.proofs.RingGood.{the_ring}
 use Rattle.vub_run_laws.proofs.RunGood.{IsSize, IsWide}
-use Rattle.vub_run_laws.proofs.RunFrames.{length_little}
+use Rattle.vub_run_laws.proofs.RunFrames.{byte_stays, length_little}
 use Rattle.vub_run_laws.proofs.RingFrames.{entry_small}
 use Rattle.vub_run_laws.proofs.RunChains.{table_place, buffer_at, chain_of, IsOff, desc_long}
 use Rattle.vub_run_laws.proofs.RunChainsStores.{put_all, AreOff, header_long, linked, linked_two}
@@ -125,7 +125,7 @@ put_all_far : (sts : List Store) (m : Bytes) (s p : ℕ) → s ≢ 0 → put_all
 put_all_far [] m s p far = refl
 put_all_far (st ∷ sts) m s p far = put_all_far sts (put m 0 st.place st.bytes) s p far ∙ put_other m 0 st.place st.bytes s p (inl far)
 
--- and a store into another space leaves them
+-- and a store into the in-flight region leaves them
 pub stand_stays : (sts : List Store) (m : Bytes) (q : ℕ) (bs : List ℕ) → Stand sts m → Stand sts (put m 1 q bs)
 stand_stays sts m q bs stand = fun_ext (λ s. fun_ext (λ p. at s p))
   where
@@ -134,7 +134,7 @@ stand_stays sts m q bs stand = fun_ext (λ s. fun_ext (λ p. at s p))
 
     guest : (p : ℕ) → put_all sts now 0 p ≡ now 0 p
     guest p =
-        let same : now 0 p ≡ m 0 p = put_other m 1 q bs 0 p (inl (λ e. omega (arith, e))) in
+        let same : now 0 p ≡ m 0 p = byte_stays m q bs p in
         put_all_at sts now m 0 p same ∙ ap (λ (x : Bytes). x 0 p) stand ∙ sym same
 
     at : (s p : ℕ) → put_all sts now s p ≡ now s p

@@ -27,6 +27,13 @@ open_out q n cap past heads k known open_k = record {
 pub keeps : (w : ℕ) (m : Bytes) (p : ℕ) (bs : List ℕ) (q : ℕ) → (q + w ≤ p) ⊎ (p + length bs ≤ q) → word w (put m 0 p bs) 0 q ≡ word w m 0 q
 keeps w m p bs q h = word-put_other w m 0 p bs 0 q (inr h)
 
+-- a store into the in-flight region leaves each byte of guest memory, and each word
+pub byte_stays : (m : Bytes) (p : ℕ) (bs : List ℕ) (q : ℕ) → put m 1 p bs 0 q ≡ m 0 q
+byte_stays m p bs q = put_other m 1 p bs 0 q (inl (λ e. omega (arith, e)))
+
+pub word_stays : (w : ℕ) (m : Bytes) (p : ℕ) (bs : List ℕ) (q : ℕ) → word w (put m 1 p bs) 0 q ≡ word w m 0 q
+word_stays w m p bs q = word-put_other w m 1 p bs 0 q (inl (λ e. omega (arith, e)))
+
 -- outside the buffer of a number
 abbrev pub OffBuffer : ℕ → List ℕ → ℕ → ℕ → List ℕ → Type 0
 OffBuffer q heads k p bs = (p + length bs ≤ buffer q heads k) ⊎ (buffer q heads k + 8192 ≤ p)

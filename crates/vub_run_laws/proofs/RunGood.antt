@@ -126,15 +126,16 @@ PhaseIs n bell plan batch (phases.Start done) = (batch ≡ []) × (done < length
 PhaseIs n bell plan batch (phases.Publish done) = (0 < length batch) × (done < 2 * length batch + 1)
 PhaseIs n bell plan batch phase = ⊥
 
--- a start of which so many steps were made: the queue isn't started, a step is left, and it has a store for each entry and two more at most
-pub record InStart (runs : Bool) (n : ℕ) (bell : Bool) (plan : Plan) (done : ℕ) : Type 0 where
+-- a start of which so many steps were made: the queue isn't started, and a step is left. It has a store for each entry, and
+-- two more at most
+pub record StartGoes (runs : Bool) (n : ℕ) (bell : Bool) (plan : Plan) (done : ℕ) : Type 0 where
   pub stopped : runs ≡ false
   pub left : done < length (start_steps n plan bell)
   pub few : length (plan_steps n plan) ≤ n + 2
 
 -- what is known of a start that is under way
 abbrev pub StartIs : Bool → ℕ → Bool → Plan → Phase → Type 0
-StartIs runs n bell plan (phases.Start done) = InStart runs n bell plan done
+StartIs runs n bell plan (phases.Start done) = StartGoes runs n bell plan done
 StartIs runs n bell plan phase = ⊤
 
 pub record Worked (q : ℕ) (past : List Entry) (phase : Phase) (batch completed : List ℕ) (made : ℕ → ℕ) : Type 0 where

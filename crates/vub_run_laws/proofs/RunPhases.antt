@@ -2,8 +2,8 @@
 use Rattle.std.proofs.Common.{◌≡◌, ◌≤◌, ◌<◌, ℕ, true, false, List, [], ◌∷◌, ◌++◌, length, take, drop, refl, ap, sym, ◌∙◌, subst, inl, inr, arith, Bool}
 use Rattle.std.specs.Prelude.{Option, Some, None, ◌+◌, ◌-◌, ◌||◌, if◌then◌else◌, nat_lt, slice_get}
 use Rattle.vub_base.specs.declared.store.Area.TheVariants.{I}
-use Rattle.vub_shared.proofs.BytesLemmas.{put_other}
 use Rattle.vub_steps.specs.declared.steps.Step.{Step}
+use Rattle.vub_steps.specs.Steps.{start_steps}
 use Rattle.vub_driver.specs.Layout.{status_place, sectors_place}
 use Rattle.vub_report.specs.declared.items.Item.{Item}
 use Rattle.vub_report.specs.declared.items.Item.TheVariants as items
@@ -33,6 +33,7 @@ use Rattle.vub_run_laws.proofs.RunHolds.{Holds, QueueFacts, starting, steps_in, 
 use Rattle.vub_run_laws.proofs.RunEfforts.{weight, steps_left, effort, start_short, sum_below, sum_more, weight_small, sum_moved}
 use Rattle.vub_run_laws.proofs.RunGuests.{holds_track}
 use Rattle.vub_run_laws.proofs.RunWork.{Fine}
+use Rattle.vub_run_laws.proofs.RunFrames.{byte_stays}
 use Rattle.vub_run_laws.proofs.RunQueue.{phase_at, queue_entry, queue_begins, queue_start, queue_start_begins, queue_start_step}
 
 -- the lane at rest
@@ -48,7 +49,7 @@ start_is done l phase batch = ap (λ (p : Phase). record l { phase = p; batch = 
 
 -- ---- start
 
--- a step before the last one: whatever is at rest but the phase is as it was
+-- of the work nothing changes but the phase
 moving_worked : (q : ℕ) (past : List Entry) (completed : List ℕ) (made : ℕ → ℕ) (phase phase' : Phase) → BetweenTurns phase' → Worked q past phase [] completed made → Worked q past phase' [] completed made
 moving_worked q past completed made phase phase' between w = record {
   distinct = w.distinct;
@@ -61,6 +62,7 @@ moving_worked q past completed made phase phase' between w = record {
   between = between;
 }
 
+-- a step without a store: the bell
 moving_holds : (q : ℕ) (h : Header1) (s : Scene) (l : Lane) (done : ℕ) → Holds q h s (starting done l) → QueueFacts q h s l.driver l.bell l.plan [] (phases.Start (done + 1)) → Holds q h s (starting (done + 1) l)
 moving_holds q h s l done x queue = record {
   known = x.known;
@@ -75,8 +77,8 @@ noted_holds q h s l done p bs x queue = record {
   known = x.known;
   worked = moving_worked q s.past l.completed l.made (phases.Start done) (phases.Start (done + 1)) tt x.worked;
   stored = record {
-    sectors = λ k i is_open kept read. put_other s.memory 1 p bs 0 (sectors_place (buffer q (s.heads q) k) + i) (inl (λ e. omega (arith, e))) ∙ x.stored.sectors k i is_open kept read;
-    status = λ k held. put_other s.memory 1 p bs 0 (status_place (buffer q (s.heads q) k)) (inl (λ e. omega (arith, e))) ∙ x.stored.status k held;
+    sectors = λ k i is_open kept read. byte_stays s.memory p bs (sectors_place (buffer q (s.heads q) k) + i) ∙ x.stored.sectors k i is_open kept read;
+    status = λ k held. byte_stays s.memory p bs (status_place (buffer q (s.heads q) k)) ∙ x.stored.status k held;
   };
   queue = queue;
 }
@@ -122,47 +124,52 @@ start_holds q h s l list done stopped x queue = record {
 abbrev left_of : ℕ → Lane → Bool → ℕ
 left_of n l runs = if runs then 0 else steps_left n l.bell l.plan l.phase
 
+-- before the last step one less is left after each
+start_less : (n : ℕ) (l : Lane) (done : ℕ) (runs : Bool) → runs ≡ false → done + 1 < length (start_steps n l.plan l.bell) → left_of n (starting (done + 1) l) runs + 1 ≡ left_of n (starting done l) runs
+start_less n l done true off more = absurd (let fails : true ≡ false = off in cc)
+start_less n l done false off more = omega (arith, more)
+
 -- the turn of a step of a start, where more or none is left after it
 abbrev start_turn : List Item → ℕ → Lane → Bool → Turned
 start_turn is done l more = record { items = is; lane = with_phase (if more then phases.Start (done + 1) else phases.Rest) (starting done l) }
 
+-- from the lane in its start on such items and their lane are right
 abbrev StartFine : ℕ → Header1 → Scene → Lane → ℕ → Turned → Type 0
 StartFine q h s l done t = Fine q h s (starting done l) t
 
+-- a step with a store
 stores_fine : (q : ℕ) (h : Header1) (s : Scene) (l : Lane) (done : ℕ) (step : Step) → IsGood h → started s.past q ≡ false → Holds q h s (starting done l) → StartStores q h s l done step → StartFine q h s l done (phase_turn h q s (starting done l) (Some step))
 stores_fine q h s l done step good stopped x y =
     let holds : Holds q h (noted_at y.place y.bytes s) (starting (done + 1) l) = noted_holds q h s l done y.place y.bytes x y.queue in
     let more : nat_lt (done + 1) (length (steps_in h l)) ≡ true = let low : done + 1 < length (steps_in h l) = y.more in grind (arith, nat_tests) in
-    let before : left_of h.size (starting done l) (started s.past q) ≡ length (steps_in h l) - done = ap (left_of h.size (starting done l)) stopped in
-    let after : left_of h.size (starting (done + 1) l) (started s.past q) ≡ length (steps_in h l) - (done + 1) = ap (left_of h.size (starting (done + 1) l)) stopped in
     let fine : StartFine q h s l done (start_turn (items.Store y.tag I y.place y.bytes ∷ []) done l true) = record {
       each = (inr (holds_track q h (noted_at y.place y.bytes s) (starting (done + 1) l) good holds), tt);
       holds = holds;
       legal = tt;
       idle = λ stops. (stops, refl);
       collects = refl;
-      falls = omega (arith, before, after, y.more);
+      falls = omega (arith, start_less h.size l done (started s.past q) stopped y.more);
     } in
     let one : StartFine q h s l done (start_turn (step_items h q (starting done l) step s) done l true) = subst (λ (is : List Item). StartFine q h s l done (start_turn is done l true)) (sym y.stores) fine in
     subst (λ (b : Bool). StartFine q h s l done (start_turn (step_items h q (starting done l) step s) done l b)) (sym more) one
 
+-- the bell
 rings_fine : (q : ℕ) (h : Header1) (s : Scene) (l : Lane) (done : ℕ) (step : Step) → IsGood h → started s.past q ≡ false → Holds q h s (starting done l) → StartRings q h s l done step → StartFine q h s l done (phase_turn h q s (starting done l) (Some step))
 rings_fine q h s l done step good stopped x y =
     let holds : Holds q h s (starting (done + 1) l) = moving_holds q h s l done x y.queue in
     let more : nat_lt (done + 1) (length (steps_in h l)) ≡ true = let low : done + 1 < length (steps_in h l) = y.more in grind (arith, nat_tests) in
-    let before : left_of h.size (starting done l) (started s.past q) ≡ length (steps_in h l) - done = ap (left_of h.size (starting done l)) stopped in
-    let after : left_of h.size (starting (done + 1) l) (started s.past q) ≡ length (steps_in h l) - (done + 1) = ap (left_of h.size (starting (done + 1) l)) stopped in
     let fine : StartFine q h s l done (start_turn (items.Bell q ∷ []) done l true) = record {
       each = (inr (holds_track q h s (starting (done + 1) l) good holds), tt);
       holds = holds;
       legal = tt;
       idle = λ stops. (stops, refl);
       collects = refl;
-      falls = omega (arith, before, after, y.more);
+      falls = omega (arith, start_less h.size l done (started s.past q) stopped y.more);
     } in
     let one : StartFine q h s l done (start_turn (step_items h q (starting done l) step s) done l true) = subst (λ (is : List Item). StartFine q h s l done (start_turn is done l true)) (sym y.rings) fine in
     subst (λ (b : Bool). StartFine q h s l done (start_turn (step_items h q (starting done l) step s) done l b)) (sym more) one
 
+-- the last step, with its entry
 ends_fine : (q : ℕ) (h : Header1) (s : Scene) (l : Lane) (done : ℕ) (step : Step) → IsGood h → started s.past q ≡ false → done < length (steps_in h l) → Holds q h s (starting done l) → StartEnds q h s l done step → StartFine q h s l done (phase_turn h q s (starting done l) (Some step))
 ends_fine q h s l done step good stopped low x y =
     let list : List ℕ = open_numbers s.past q in
@@ -195,6 +202,7 @@ start_goes_on q h s l done good stopped low x = go (slice_get (steps_in h l) don
 abbrev planned : ℕ → Header1 → Scene → Lane → Lane
 planned q h s l = begun h q s turns.Start (resting l)
 
+-- it keeps what holds
 planned_holds : (q : ℕ) (h : Header1) (s : Scene) (l : Lane) → started s.past q ≡ false → Holds q h s (resting l) → Holds q h s (starting 0 (planned q h s l))
 planned_holds q h s l stopped x = record {
   known = x.known;
