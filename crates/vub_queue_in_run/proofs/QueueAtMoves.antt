@@ -1,6 +1,6 @@
 -- What the moves of a run leave of where the queue stands.
-use Rattle.std.proofs.Common.{◌≡◌, ◌≤◌, ◌<◌, ◌⊎◌, ℕ, zero, suc, ◌+◌, ◌/◌, ◌%◌, Bool, true, false, not, List, [], ◌∷◌, ◌++◌, length, take, drop, map, get_or, refl, ap, sym, ◌∙◌, subst, inl, inr, arith}
-use Rattle.std.specs.Prelude.{Option, Some, None, slice_get, slice_index, filter, ◌||◌}
+use Rattle.std.proofs.Common.{◌≡◌, ◌≤◌, ◌<◌, ◌⊎◌, ℕ, zero, suc, ◌+◌, ◌*◌, ◌/◌, ◌%◌, Bool, true, false, not, List, [], ◌∷◌, ◌++◌, length, take, drop, map, get_or, cond, refl, ap, sym, ◌∙◌, subst, inl, inr, arith}
+use Rattle.std.specs.Prelude.{Option, Some, None, slice_get, slice_index, filter, nat_lt, ◌||◌}
 use Rattle.std.proofs.lemmas.Bool.Decides.{nat_tests}
 use Rattle.std.proofs.lemmas.Bool.{cases_Bool, or_left, or_right}
 use Rattle.std.proofs.lemmas.List.{length-append, length-map, length-set, length-replicate, take-map, map-append, append-nil}
@@ -10,7 +10,6 @@ use Rattle.std.proofs.lemmas.Option.{slice_get_within}
 use Rattle.vub_base.specs.declared.header.Header1.{Header1}
 use Rattle.vub_steps.specs.declared.steps.Phase.{Phase}
 use Rattle.vub_steps.specs.declared.steps.Phase.TheVariants as phases
-use Rattle.vub_steps.specs.Steps.{publish_steps, running_steps, after_of}
 use Rattle.vub_driver.specs.Layout.{area_place, buffer_place}
 use Rattle.vub_device.specs.declared.entry.Answered.{Answered}
 use Rattle.vub_device.specs.declared.entry.Asked.{Asked}
@@ -28,7 +27,7 @@ use Rattle.vub_queue.specs.QueueState as states
 use Rattle.vub_queue.specs.QueueState.{QueueState}
 use Rattle.vub_queue_in_run.specs.QueueAt.{spot_of, left_of, TaskAt, QueueAt, KeepsHeads, kept_phase}
 use Rattle.vub_rec_split.specs.Starts.{RecoveryState}
-use Rattle.vub_queue_in_run.proofs.QueueHeld.{words_kept, keeps_new, keeps_accepted, keeps_begun, keeps_shown}
+use Rattle.vub_queue_in_run.proofs.QueueHeld.{words_with, fetched, shown, keeps_new, keeps_accepted, keeps_begun, keeps_alike, keeps_shown}
 use Rattle.vub_facts.specs.Facts.{heads_in, without}
 use Rattle.vub_facts.proofs.HeadLemmas.{without_map, number_of, among_get}
 use Rattle.vub_run.specs.Moments.{open_heads}
@@ -95,23 +94,23 @@ heads_of_spots q h past heads ks = map-map (λ (x : ℕ × ℕ). x.0) (spot_of q
 
 pub heads_distinct : (q : ℕ) (h : Header1) (setup : QueueSetup) (past : List Entry) (heads : List ℕ) (phase : Phase) (batch completed : List ℕ) (made : ℕ → ℕ) (state : QueueState) → QueueAt q h setup past heads phase batch completed made state
     → are_distinct (open_heads q past heads) ≡ true
-heads_distinct q h setup past heads phase batch completed made state x = (x.keeps (words_kept state) refl).distinct
+heads_distinct q h setup past heads phase batch completed made state x = (x.keeps (words_with (used_after h q past)) refl).distinct
 
 -- a task for each request that is left
 pub count_is : (q : ℕ) (h : Header1) (setup : QueueSetup) (past : List Entry) (heads : List ℕ) (phase : Phase) (batch completed : List ℕ) (made : ℕ → ℕ) (state : QueueState) → Worked q past phase batch completed made
     → QueueAt q h setup past heads phase batch completed made state → length state.unfinished ≡ length (left_of q past completed batch)
 count_is q h setup past heads phase batch completed made state w x =
     let f : ℕ → ℕ = slice_index heads in
-    let kept = x.keeps (words_kept state) refl in
+    let kept = x.keeps (words_with (used_after h q past)) refl in
     let joined : (k : ℕ) → is_among (batch ++ completed) k ≡ is_among (completed ++ batch) k = λ k.
     let one : is_among (batch ++ completed) k ≡ (is_among batch k || is_among completed k) = is_among_append batch completed k in
     let other : is_among (completed ++ batch) k ≡ (is_among completed k || is_among batch k) = is_among_append completed batch k in
     grind (arith, nat_tests) in
     let opens : (k : ℕ) → is_among (batch ++ completed) k ≡ true → is_among (open_numbers past q) k ≡ true = λ k held.
     let o : IsOpen past q k = w.opens k (sym (joined k) ∙ held) in among-missing (published past q) (accepted past q) k o.taken o.unpublished in
-    let spots : state.batch ++ state.completed ≡ map (spot_of q h past heads) (batch ++ completed) =
+    let spots : hidden_in state ++ state.completed ≡ map (spot_of q h past heads) (batch ++ completed) =
     ap (λ (xs : List (ℕ × ℕ)). xs ++ state.completed) x.batch ∙ ap (λ (xs : List (ℕ × ℕ)). map (spot_of q h past heads) batch ++ xs) x.completed ∙ sym (map-append (spot_of q h past heads) batch completed) in
-    let busy_is : heads_in (state.batch ++ state.completed) ≡ map f (batch ++ completed) = ap heads_in spots ∙ heads_of_spots q h past heads (batch ++ completed) in
+    let busy_is : heads_in (hidden_in state ++ state.completed) ≡ map f (batch ++ completed) = ap heads_in spots ∙ heads_of_spots q h past heads (batch ++ completed) in
     let left : map head_in state.unfinished ≡ map f (without (batch ++ completed) (open_numbers past q)) =
     kept.splits.left ∙ ap (λ (hs : List ℕ). without hs (open_heads q past heads)) busy_is ∙ without_map f (batch ++ completed) (open_numbers past q) kept.distinct opens in
     let same : without (batch ++ completed) (open_numbers past q) ≡ left_of q past completed batch =
@@ -123,13 +122,13 @@ pub avail_is : (q : ℕ) (h : Header1) (setup : QueueSetup) (past : List Entry) 
     → QueueAt q h setup past heads phase batch completed made state → state.next_avail ≡ (h.base + accepted past q) % 65536
 avail_is q h setup past heads phase batch completed made state known x =
     let all : length (open_numbers past q) + length (published past q) ≡ accepted past q = missing_exact (published past q) (accepted past q) known.distinct known.below in
-    omega (arith, (x.keeps (words_kept state) refl).avail, x.used, all, length-map (open_numbers past q) (slice_index heads))
+    omega (arith, (x.keeps (words_with (used_after h q past)) refl).avail, all, length-map (open_numbers past q) (slice_index heads))
 
 -- a head that is taken is that of an open request
 pub taken_open : (q : ℕ) (h : Header1) (setup : QueueSetup) (past : List Entry) (heads : List ℕ) (phase : Phase) (batch completed : List ℕ) (made : ℕ → ℕ) (state : QueueState) (d : ℕ) → d < setup.ring.size → is_taken state.taken d ≡ true
     → QueueAt q h setup past heads phase batch completed made state → (k : ℕ) × IsOpen past q k × (slice_index heads k ≡ d)
 taken_open q h setup past heads phase batch completed made state d low held x =
-    let among : is_among (open_heads q past heads) d ≡ true = sym ((x.keeps (words_kept state) refl).taken d low) ∙ held in
+    let among : is_among (open_heads q past heads) d ≡ true = sym ((x.keeps (words_with (used_after h q past)) refl).taken d low) ∙ held in
     let there = number_of (slice_index heads) (open_numbers past q) d among in
     let opened = missing-among (published past q) (accepted past q) there.0 there.1 in
     (there.0, record { taken = opened.0; unpublished = opened.1 }, there.2)
@@ -152,11 +151,10 @@ at_new q h setup past heads made state small fewer none stopped base new = subst
   ring = refl;
   runs = refl;
   started = sym stopped;
-  used = omega (arith, base, small, none, fewer);
   phase = refl;
   batch = refl;
   completed = refl;
-  keeps = subst (λ (hs : List ℕ). KeepsHeads setup.ring.size hs (states.new_state setup new.sectors)) (sym (ap (λ (n : ℕ). map (slice_index heads) (missing_below (published past q) n)) none)) (keeps_new setup new.sectors (omega (arith, base, small)));
+  keeps = subst (λ (hs : List ℕ). KeepsHeads setup.ring.size hs (used_after h q past) (states.new_state setup new.sectors)) (sym (ap (λ (n : ℕ). map (slice_index heads) (missing_below (published past q) n)) none)) (keeps_new setup new.sectors (used_after h q past) (omega (arith, base, small, none, fewer)) (omega arith));
   tasks = λ i k task there is. absurd (none_among q past [] [] k none (among_get (left_of q past [] []) i k there));
   buffers = new.buffers;
   places = length-replicate setup.ring.size false;
@@ -172,7 +170,6 @@ at_starting q h setup past heads phase batch completed made state r rung done re
   ring = x.ring;
   runs = x.runs;
   started = x.started;
-  used = x.used;
   phase = x.phase ∙ rests;
   batch = x.batch;
   completed = x.completed;
@@ -184,13 +181,12 @@ at_starting q h setup past heads phase batch completed made state r rung done re
 })
 
 -- and at its end
-pub at_started : (q : ℕ) (h : Header1) (setup : QueueSetup) (past : List Entry) (heads : List ℕ) (phase : Phase) (batch completed : List ℕ) (made : ℕ → ℕ) (state : QueueState) (r : RecoveryState) → kept_phase phase ≡ phases.Rest → batch ≡ [] → accepted past q ≡ 0
-    → QueueAt q h setup past heads phase batch completed made state → QueueAt q h setup (entries.Start q (open_numbers past q) ∷ past) heads phases.Rest [] completed made (record state { recovery = r; started = true })
-at_started q h setup past heads phase batch completed made state r rests empty none x = subst (λ (ks : List ℕ). QueueAt q h setup (entries.Start q (open_numbers past q) ∷ past) heads phases.Rest ks completed made (record state { recovery = r; started = true })) empty (record {
+pub at_started : (q : ℕ) (h : Header1) (setup : QueueSetup) (past : List Entry) (heads : List ℕ) (phase : Phase) (batch completed : List ℕ) (made : ℕ → ℕ) (state : QueueState) (r : RecoveryState) (counter : ℕ) → kept_phase phase ≡ phases.Rest → batch ≡ [] → accepted past q ≡ 0
+    → QueueAt q h setup past heads phase batch completed made state → QueueAt q h setup (entries.Start q (open_numbers past q) ∷ past) heads phases.Rest [] completed made (record state { recovery = r; started = true; counter = counter })
+at_started q h setup past heads phase batch completed made state r counter rests empty none x = subst (λ (ks : List ℕ). QueueAt q h setup (entries.Start q (open_numbers past q) ∷ past) heads phases.Rest ks completed made (record state { recovery = r; started = true; counter = counter })) empty (record {
   ring = x.ring;
   runs = x.runs;
   started = sym (started_own past q (open_numbers past q));
-  used = x.used;
   phase = x.phase ∙ rests;
   batch = x.batch;
   completed = x.completed;
@@ -248,26 +244,25 @@ left_more q past completed batch k unpublished out =
     let kept : filter test (a ∷ []) ≡ a ∷ [] = grind (arith, nat_tests) in
     ap (λ (n : ℕ). filter test (missing_below ps n)) (accepted_own past q a) ∙ ap (λ (n : ℕ). filter test (missing_below ps n)) next ∙ ap (filter test) longer ∙ filter-append test (missing_below ps a) (a ∷ []) ∙ ap (λ (ks : List ℕ). filter test (missing_below ps a) ++ ks) kept
 
-pub at_fetch : (q : ℕ) (h : Header1) (setup : QueueSetup) (past : List Entry) (heads : List ℕ) (completed : List ℕ) (made : ℕ → ℕ) (state : QueueState) (head : ℕ) → Known q h.size h.capacity past heads → Worked q past phases.Rest [] completed made
-    → head ≡ slice_index heads (accepted past q) → head < setup.ring.size → is_taken state.taken head ≡ false → QueueAt q h setup past heads phases.Rest [] completed made state
-    → QueueAt q h setup (entries.Accept q (accepted past q) ∷ past) heads phases.Rest [] completed made (states.accepted head state)
-at_fetch q h setup past heads completed made state head known w is small free x =
+pub at_fetch : (q : ℕ) (h : Header1) (setup : QueueSetup) (past : List Entry) (heads : List ℕ) (phase : Phase) (completed : List ℕ) (made : ℕ → ℕ) (state : QueueState) (head : ℕ) → Known q h.size h.capacity past heads → Worked q past phase [] completed made
+    → head ≡ slice_index heads (accepted past q) → head < setup.ring.size → is_taken state.taken head ≡ false → hidden_in state ≡ [] → QueueAt q h setup past heads phase [] completed made state
+    → QueueAt q h setup (entries.Accept q (accepted past q) ∷ past) heads phases.Rest [] completed made (fetched head state)
+at_fetch q h setup past heads phase completed made state head known w is small free empty x =
     let a : ℕ = accepted past q in
     let past' : List Entry = entries.Accept q a ∷ past in
     let none : made a ≡ 0 = w.untouched a (omega arith) in
     let unpublished : is_among (published past q) a ≡ false = new_unpublished q h.size h.capacity past heads known in
-    let more : left_of q past' completed [] ≡ left_of q past completed [] ++ a ∷ [] = left_more q past completed [] a unpublished (new_out q past phases.Rest [] completed made w) in
-    let count : length state.unfinished ≡ length (left_of q past completed []) = count_is q h setup past heads phases.Rest [] completed made state w x in
+    let more : left_of q past' completed [] ≡ left_of q past completed [] ++ a ∷ [] = left_more q past completed [] a unpublished (new_out q past phase [] completed made w) in
+    let count : length state.unfinished ≡ length (left_of q past completed []) = count_is q h setup past heads phase [] completed made state w x in
     let joins : open_heads q past' heads ≡ open_heads q past heads ++ head ∷ [] = heads_accept q past heads a unpublished ∙ ap (λ (y : ℕ). open_heads q past heads ++ y ∷ []) (sym is) in
     record {
       ring = x.ring;
       runs = x.runs;
       started = x.started;
-      used = x.used;
-      phase = x.phase;
-      batch = x.batch;
+          phase = refl;
+      batch = refl;
       completed = x.completed;
-      keeps = subst (λ (hs : List ℕ). KeepsHeads setup.ring.size hs (states.accepted head state)) (sym joins) (keeps_accepted (used_side setup.ring) (open_heads q past heads) state head small x.places free x.keeps);
+      keeps = subst (λ (hs : List ℕ). KeepsHeads setup.ring.size hs (used_after h q past) (fetched head state)) (sym joins) (keeps_accepted (used_side setup.ring) (open_heads q past heads) (used_after h q past) state head small x.places free empty x.keeps);
       tasks = λ i k task there is_task.
           let there_too : slice_get (left_of q past completed [] ++ a ∷ []) i ≡ Some k = subst (λ (ks : List ℕ). slice_get ks i ≡ Some k) more there in
           elim (pushed_place (left_of q past completed []) a k i there_too) [
@@ -301,6 +296,10 @@ at_fetch q h setup past heads completed made state head known w is small free x 
 
 -- ---- a batch is taken
 
+-- at the begin of a publication all of its batch is hidden
+all_hidden : (batch : List (ℕ × ℕ)) → hidden_part (phases.Publish 0) batch ≡ batch
+all_hidden batch = let none : nat_lt (4 * length batch) 0 ≡ false = grind (arith, nat_tests) in ap (λ (b : Bool). cond b [] batch) none
+
 pub at_begin : (q : ℕ) (h : Header1) (setup : QueueSetup) (past : List Entry) (heads : List ℕ) (completed : List ℕ) (made : ℕ → ℕ) (state : QueueState) (most : ℕ) → QueueAt q h setup past heads phases.Rest [] completed made state
     → QueueAt q h setup past heads (phases.Publish 0) (take most completed) (drop most completed) made (states.begun most state)
 at_begin q h setup past heads completed made state most x =
@@ -309,47 +308,34 @@ at_begin q h setup past heads completed made state most x =
       ring = x.ring;
       runs = x.runs;
       started = x.started;
-      used = x.used;
-      phase = refl;
-      batch = ap (take most) x.completed ∙ take-map (spot_of q h past heads) most completed;
+          phase = refl;
+      batch = all_hidden (take most state.completed) ∙ ap (take most) x.completed ∙ take-map (spot_of q h past heads) most completed;
       completed = ap (drop most) x.completed ∙ drop_map (spot_of q h past heads) most completed;
-      keeps = keeps_begun setup.ring.size (open_heads q past heads) most state x.batch x.keeps;
+      keeps = keeps_begun setup.ring.size (open_heads q past heads) (used_after h q past) most state x.batch x.keeps;
       tasks = λ i k task there is. x.tasks i k task (subst (λ (ks : List ℕ). slice_get ks i ≡ Some k) same there) is;
       buffers = x.buffers;
       places = x.places;
       sectors = λ k place request held asks_it next. x.sectors k place request (subst (λ (ks : List ℕ). is_among ks k ≡ true) same held) asks_it next;
     }
 
--- ---- a step of a publication
+-- ---- a step of a phase
 
--- the steps of a publication go on by the queue's batch as by the lane's
-pub batch_long : (q : ℕ) (h : Header1) (setup : QueueSetup) (past : List Entry) (heads : List ℕ) (phase : Phase) (batch completed : List ℕ) (made : ℕ → ℕ) (state : QueueState) → QueueAt q h setup past heads phase batch completed made state → length state.batch ≡ length batch
-batch_long q h setup past heads phase batch completed made state x = ap (λ (ks : List (ℕ × ℕ)). length ks) x.batch ∙ length-map batch (spot_of q h past heads)
-
-pub moved_is : (q : ℕ) (h : Header1) (setup : QueueSetup) (past : List Entry) (heads : List ℕ) (done : ℕ) (batch completed : List ℕ) (made : ℕ → ℕ) (state : QueueState) → QueueAt q h setup past heads (phases.Publish done) batch completed made state
-    → states.moved state ≡ states.with_phase (after_of (publish_steps (length batch)) (phases.Publish done)) state
-moved_is q h setup past heads done batch completed made state x =
-    ap (λ (n : ℕ). states.with_phase (after_of (running_steps n state.phase) state.phase) state) (batch_long q h setup past heads (phases.Publish done) batch completed made state x)
-    ∙ ap (λ (p : Phase). states.with_phase (after_of (running_steps (length batch) p) p) state) x.phase
-
-pub at_row : (q : ℕ) (h : Header1) (setup : QueueSetup) (past : List Entry) (heads : List ℕ) (done : ℕ) (batch completed : List ℕ) (made : ℕ → ℕ) (state : QueueState) → QueueAt q h setup past heads (phases.Publish done) batch completed made state
-    → (next : ℕ) → after_of (publish_steps (length batch)) (phases.Publish done) ≡ phases.Publish next → QueueAt q h setup past heads (phases.Publish next) batch completed made (states.moved state)
-at_row q h setup past heads done batch completed made state x next goes =
-    let same : states.moved state ≡ record state { phase = phases.Publish next } = moved_is q h setup past heads done batch completed made state x ∙ ap (λ (p : Phase). states.with_phase p state) goes in
-    subst (λ (t : QueueState). QueueAt q h setup past heads (phases.Publish next) batch completed made t) (sym same) (record {
-      ring = x.ring;
-      runs = x.runs;
-      started = x.started;
-      used = x.used;
-      phase = refl;
-      batch = x.batch;
-      completed = x.completed;
-      keeps = x.keeps;
-      tasks = x.tasks;
-      buffers = x.buffers;
-      places = x.places;
-      sectors = x.sectors;
-    })
+-- a queue that hides the same, and changed in its phase alone
+pub at_goes : (q : ℕ) (h : Header1) (setup : QueueSetup) (past : List Entry) (heads : List ℕ) (phase : Phase) (batch completed : List ℕ) (made : ℕ → ℕ) (state : QueueState) (p p' : Phase) (c : ℕ) (f : Option ℕ) (b : List (ℕ × ℕ)) → p' ≡ kept_phase p → hidden_part p' b ≡ hidden_in state
+    → QueueAt q h setup past heads phase batch completed made state → QueueAt q h setup past heads p batch completed made (record state { phase = p'; counter = c; fetching = f; batch = b })
+at_goes q h setup past heads phase batch completed made state p p' c f b is same x = record {
+  ring = x.ring;
+  runs = x.runs;
+  started = x.started;
+  phase = is;
+  batch = same ∙ x.batch;
+  completed = x.completed;
+  keeps = keeps_alike setup.ring.size (open_heads q past heads) (used_after h q past) state p' c f b same x.keeps;
+  tasks = x.tasks;
+  buffers = x.buffers;
+  places = x.places;
+  sectors = x.sectors;
+}
 
 -- ---- a publication
 
@@ -389,35 +375,35 @@ left_shown q past completed batch list is =
     ∙ ap (λ (ks : List ℕ). filter (λ k. not (is_among (completed ++ []) k)) (missing_below (published past q ++ ks) (accepted past q))) is
     ∙ show_filter (published past q) completed batch (accepted past q)
 
-pub at_show : (q : ℕ) (h : Header1) (setup : QueueSetup) (past : List Entry) (heads : List ℕ) (done : ℕ) (batch completed : List ℕ) (made : ℕ → ℕ) (state : QueueState) (list : List Answered)
-    → after_of (publish_steps (length batch)) (phases.Publish done) ≡ phases.Rest → numbers list ≡ batch → ((k : ℕ) → is_among batch k ≡ true → IsOpen past q k) → QueueAt q h setup past heads (phases.Publish done) batch completed made state
-    → QueueAt q h setup (entries.Publish q list ∷ past) heads phases.Rest [] completed made (states.moved state)
-at_show q h setup past heads done batch completed made state list ends is opens x =
+pub at_show : (q : ℕ) (h : Header1) (setup : QueueSetup) (past : List Entry) (heads : List ℕ) (phase : Phase) (batch completed : List ℕ) (made : ℕ → ℕ) (state : QueueState) (list : List Answered) (done : ℕ) → numbers list ≡ batch → ((k : ℕ) → is_among batch k ≡ true → IsOpen past q k)
+    → hidden_in state ≡ state.batch → 4 * length state.batch < done → QueueAt q h setup past heads phase batch completed made state → QueueAt q h setup (entries.Publish q list ∷ past) heads (phases.Publish done) [] completed made (shown done state)
+at_show q h setup past heads phase batch completed made state list done is opens all past_all x =
     let past' : List Entry = entries.Publish q list ∷ past in
-    let many : length state.batch ≡ length batch = batch_long q h setup past heads (phases.Publish done) batch completed made state x in
-    let moved : states.moved state ≡ states.with_phase phases.Rest state = moved_is q h setup past heads done batch completed made state x ∙ ap (λ (p : Phase). states.with_phase p state) ends in
+    let spots : state.batch ≡ map (spot_of q h past heads) batch = sym all ∙ x.batch in
+    let many : length state.batch ≡ length batch = ap (λ (ks : List (ℕ × ℕ)). length ks) spots ∙ length-map batch (spot_of q h past heads) in
     let same : left_of q past' completed [] ≡ left_of q past completed batch = left_shown q past completed batch list is in
-    let shown : length (published past' q) ≡ length (published past q) + length batch = ap (λ (ks : List ℕ). length ks) (published_own past q list) ∙ length-append (published past q) (numbers list) ∙ ap (λ (ks : List ℕ). length (published past q) + length ks) is in
-    let batch_heads : map (slice_index heads) batch ≡ heads_in state.batch = sym (ap heads_in x.batch ∙ heads_of_spots q h past heads batch) in
+    let shows : length (published past' q) ≡ length (published past q) + length batch = ap (λ (ks : List ℕ). length ks) (published_own past q list) ∙ length-append (published past q) (numbers list) ∙ ap (λ (ks : List ℕ). length (published past q) + length ks) is in
+    let batch_heads : map (slice_index heads) batch ≡ heads_in state.batch = sym (ap heads_in spots ∙ heads_of_spots q h past heads batch) in
     let leave : open_heads q past' heads ≡ without (heads_in state.batch) (open_heads q past heads) =
-    heads_publish q past heads list batch is (heads_distinct q h setup past heads (phases.Publish done) batch completed made state x) (λ k held. let o : IsOpen past q k = opens k held in among-missing (published past q) (accepted past q) k o.taken o.unpublished)
+    heads_publish q past heads list batch is (heads_distinct q h setup past heads phase batch completed made state x) (λ k held. let o : IsOpen past q k = opens k held in among-missing (published past q) (accepted past q) k o.taken o.unpublished)
     ∙ ap (λ (hs : List ℕ). without hs (open_heads q past heads)) batch_heads in
-    subst (λ (t : QueueState). QueueAt q h setup past' heads phases.Rest [] completed made t) (sym moved) (record {
+    let none : hidden_in (shown done state) ≡ [] = grind (arith, nat_tests) in
+    record {
       ring = x.ring;
       runs = x.runs;
       started = x.started;
-      used = omega (arith, x.used, many, shown);
       phase = refl;
-      batch = refl;
+      batch = none;
       completed = x.completed;
-      keeps = subst (λ (hs : List ℕ). KeepsHeads setup.ring.size hs (states.with_phase phases.Rest state)) (sym leave) (keeps_shown (used_side setup.ring) (open_heads q past heads) state (omega (arith, x.used)) x.places x.keeps);
+      keeps = subst (λ (hs : List ℕ). KeepsHeads setup.ring.size hs (used_after h q past') (shown done state)) (sym leave)
+          (keeps_shown (used_side setup.ring) (open_heads q past heads) (used_after h q past) (used_after h q past') done state (omega arith) x.places all (omega (arith, shows, many)) past_all x.keeps);
       tasks = λ i k task there is_task.
           let t = x.tasks i k task (subst (λ (ks : List ℕ). slice_get ks i ≡ Some k) same there) is_task in
           record { head = t.head; stands = t.stands };
       buffers = x.buffers;
       places = length_without state.batch state.taken ∙ x.places;
       sectors = λ k place request held asks_it next. x.sectors k place request (subst (λ (ks : List ℕ). is_among ks k ≡ true) same held) asks_it next;
-    })
+    }
 
 -- ---- an offer
 
@@ -443,11 +429,10 @@ at_offer q h setup past heads phase batch completed made state request x known w
       ring = z.ring;
       runs = z.runs;
       started = z.started;
-      used = z.used;
       phase = z.phase;
       batch = z.batch ∙ map_alike (spot_of q h past heads) (spot_of q h past' heads') batch (λ k held. sym (offered_spot q h past heads request x k known (low_of k (joined k ∙ or_right (is_among completed k) (is_among batch k) held))));
       completed = z.completed ∙ map_alike (spot_of q h past heads) (spot_of q h past' heads') completed (λ k held. sym (offered_spot q h past heads request x k known (low_of k (joined k ∙ or_left (is_among completed k) (is_among batch k) held))));
-      keeps = subst (λ (hs : List ℕ). KeepsHeads setup.ring.size hs state) (sym same_open) z.keeps;
+      keeps = subst (λ (hs : List ℕ). KeepsHeads setup.ring.size hs (used_after h q past) state) (sym same_open) z.keeps;
       tasks = λ i k task there is.
           let low : k < accepted past q = (left_is q past completed batch k (among_get (left_of q past completed batch) i k there)).is_open.taken in
           let t = z.tasks i k task there is in
@@ -470,7 +455,6 @@ at_collect q h setup past heads phase batch completed made state k x = record {
   ring = x.ring;
   runs = x.runs;
   started = x.started;
-  used = x.used;
   phase = x.phase;
   batch = x.batch;
   completed = x.completed;

@@ -48,27 +48,70 @@ use Rattle.vub_run_laws.proofs.RunTurns.{IsPlain, Good, running_cases}
 use Rattle.vub_queue_in_run.proofs.QueueAtMoves.{new_unpublished, count_is, avail_is, taken_open, at_fetch}
 use Rattle.vub_run_laws.proofs.RunQueue.{queue_ahead, offered_head, head_below, heads_apart}
 
+-- ---- what is hidden of a batch
+
+filter_alike : (f g : ℕ → Bool) (xs : List ℕ) → ((k : ℕ) → is_among xs k ≡ true → f k ≡ g k) → filter f xs ≡ filter g xs
+filter_alike f g [] same = refl
+filter_alike f g (x ∷ xs) same =
+    let rest : filter f xs ≡ filter g xs = filter_alike f g xs (λ k held. same k (grind (arith, nat_tests))) in
+    let here : f x ≡ g x = same x (grind (arith, nat_tests)) in
+    grind (arith, nat_tests)
+
+-- as the laws say it
+pub hidden_is : (batch : List ℕ) (phase : Phase) → hidden batch phase ≡ hidden_part phase batch
+hidden_is batch phases.Rest = refl
+hidden_is batch (phases.Start done) = refl
+hidden_is batch (phases.Fetch done) = refl
+hidden_is batch (phases.Publish done) = refl
+
+pub worked_at : (q : ℕ) (h : Header1) (m : Moment) → Holds q h m.scene (m.lanes q) → Worked q m.scene.past (m.lanes q).phase (hidden_part (m.lanes q).phase (m.lanes q).batch) (m.lanes q).completed (m.lanes q).made
+worked_at q h m holds = subst (λ (ks : List ℕ). Worked q m.scene.past (m.lanes q).phase ks (m.lanes q).completed (m.lanes q).made) (hidden_is (m.lanes q).batch (m.lanes q).phase) holds.worked
+
+-- the rest of it isn't open, so the same requests are left
+pub left_part : (q : ℕ) (h : Header1) (m : Moment) → Holds q h m.scene (m.lanes q) → left_of q m.scene.past (m.lanes q).completed (hidden_part (m.lanes q).phase (m.lanes q).batch) ≡ unfinished q m
+left_part q h m holds =
+    let l : Lane = m.lanes q in
+    let past : List Entry = m.scene.past in
+    filter_alike (λ k. not (is_among (l.completed ++ hidden_part l.phase l.batch) k)) (λ k. not (is_among (l.completed ++ l.batch) k)) (open_numbers past q) (λ k held.
+    let there = missing-among (published past q) (accepted past q) k held in
+    let is_open : IsOpen past q k = record { taken = there.0; unpublished = there.1 } in
+    let same : is_among (l.completed ++ hidden l.batch l.phase) k ≡ is_among (l.completed ++ hidden_part l.phase l.batch) k = ap (λ (ks : List ℕ). is_among (l.completed ++ ks) k) (hidden_is l.batch l.phase) in
+    elim (cases_Bool (is_among (l.completed ++ l.batch) k)) [
+      | inl busy ↦ elim (cases_Bool (is_among (l.completed ++ hidden l.batch l.phase) k)) [
+        | inl part ↦ grind (arith, nat_tests)
+        | inr free ↦ absurd (let fails : true ≡ false = sym busy ∙ out_of_batch q past l.counter l.phase l.batch l.completed k is_open free holds.carries in cc)
+      ]
+      | inr free ↦ let part : is_among (l.completed ++ hidden l.batch l.phase) k ≡ false = left_hidden l.completed l.batch l.phase k free in grind (arith, nat_tests)
+    ])
+
 -- ---- how many wait
 
-standing_same : (a a' : Bool) (p p' : Phase) (w w' u u' c c' : ℕ) → a ≡ a' → p ≡ p' → w ≡ w' → u ≡ u' → c ≡ c'
-    → ◌≡◌ {A = Standing} (record { started = a; phase = p; waiting = w; unfinished = u; completed = c }) (record { started = a'; phase = p'; waiting = w'; unfinished = u'; completed = c' })
-standing_same a a' p p' w w' u u' c c' ea ep ew eu ec = cc
+standing_same : (a a' : Bool) (p p' : Phase) (w w' : ℕ) (t t' : Bool) (u u' c c' : ℕ) → a ≡ a' → p ≡ p' → w ≡ w' → t ≡ t' → u ≡ u' → c ≡ c'
+    → ◌≡◌ {A = Standing} (record { started = a; phase = p; waiting = w; counts = t; unfinished = u; completed = c }) (record { started = a'; phase = p'; waiting = w'; counts = t'; unfinished = u'; completed = c' })
+standing_same a a' p p' w w' t t' u u' c c' ea ep ew et eu ec = cc
 
 avail_word : (q : ℕ) (setup : QueueSetup) (n : ℕ) (m : Bytes) → LiesAs q setup n → avail_idx_word setup.ring m ≡ avail_idx (the_ring q n) m
 avail_word q setup n m main = ap (λ (s : ℕ). word 2 m s (setup.ring.avail.1 + 2)) main.avail_space ∙ ap (λ (p : ℕ). word 2 m 0 (p + 2)) main.avail
 
--- the queue's avail position is the moment's
+-- the queue's avail position is the base, advanced by what was accepted
 stands_avail : (q : ℕ) (h : Header1) (setup : QueueSetup) (m : Moment) (state : QueueState) → Holds q h m.scene (m.lanes q) → QueueStands q h setup m state → state.next_avail ≡ (h.base + accepted m.scene.past q) % 65536
-stands_avail q h setup m state holds z = avail_is q h setup m.scene.past (m.scene.heads q) (m.lanes q).phase (m.lanes q).batch (m.lanes q).completed (m.lanes q).made state holds.known z.at
+stands_avail q h setup m state holds z = avail_is q h setup m.scene.past (m.scene.heads q) (m.lanes q).phase (hidden_part (m.lanes q).phase (m.lanes q).batch) (m.lanes q).completed (m.lanes q).made state holds.known z.at
+
+-- and so is the moment's
+position_is : (q : ℕ) (h : Header1) (m : Moment) → Holds q h m.scene (m.lanes q) → avail_position h q m.scene % 65536 ≡ (h.base + accepted m.scene.past q) % 65536
+position_is q h m holds =
+    let all : length (open_numbers m.scene.past q) + length (published m.scene.past q) ≡ accepted m.scene.past q = missing_exact (published m.scene.past q) (accepted m.scene.past q) holds.known.distinct holds.known.below in
+    let used : used_in h q m.scene ≡ (h.base + length (published m.scene.past q)) % 65536 = shown_index q h m.scene (m.lanes q).driver (m.lanes q).bell (m.lanes q).plan (m.lanes q).counter (m.lanes q).batch (m.lanes q).phase holds.queue in
+    omega (arith, all, used)
 
 -- its own count of what waits is the moment's
-waiting_is : (q : ℕ) (h : Header1) (setup : QueueSetup) (m : Moment) (state : QueueState) → LiesAs q setup h.size → Holds q h m.scene (m.lanes q) → QueueStands q h setup m state
-    → states.waiting state m.scene.memory ≡ ahead (avail_idx (the_ring q h.size) m.scene.memory) (h.base + accepted m.scene.past q)
+pub waiting_is : (q : ℕ) (h : Header1) (setup : QueueSetup) (m : Moment) (state : QueueState) → LiesAs q setup h.size → Holds q h m.scene (m.lanes q) → QueueStands q h setup m state
+    → states.waiting state m.scene.memory ≡ ahead (avail_idx (the_ring q h.size) m.scene.memory) (avail_position h q m.scene)
 waiting_is q h setup m state main holds z =
-    let position : ℕ = h.base + accepted m.scene.past q in
     let word_is : avail_idx_word state.ring m.scene.memory ≡ avail_idx (the_ring q h.size) m.scene.memory = ap (λ (x : SplitRing). avail_idx_word x m.scene.memory) z.at.ring ∙ avail_word q setup h.size m.scene.memory main in
-    let wraps : position % 65536 % 65536 ≡ position % 65536 = omega arith in
-    let from : state.next_avail % 65536 ≡ position % 65536 = ap (λ (a : ℕ). a % 65536) (stands_avail q h setup m state holds z) ∙ wraps in
+    let from : state.next_avail % 65536 ≡ avail_position h q m.scene % 65536 =
+    let mine : state.next_avail ≡ (h.base + accepted m.scene.past q) % 65536 = stands_avail q h setup m state holds z in
+    let there = position_is q h m holds in omega (arith, mine, there) in
     omega (arith, word_is, from)
 
 -- its phase is the one of the lane, but that it keeps no place of a start
@@ -81,8 +124,9 @@ standings q h setup m state main holds z =
     let l : Lane = m.lanes q in
     let many : length state.completed ≡ length l.completed = ap (λ (ks : List (ℕ × ℕ)). length ks) z.at.completed ∙ length-map l.completed (spot_of q h m.scene.past (m.scene.heads q)) in
     let st : Standing = standing h q m in
-    standing_same state.started st.started state.phase (kept_phase st.phase) (states.waiting state m.scene.memory) st.waiting (length state.unfinished) st.unfinished (length state.completed) st.completed z.at.started z.at.phase (waiting_is q h setup m state main holds z)
-    (count_is q h setup m.scene.past (m.scene.heads q) l.phase l.batch l.completed l.made state holds.worked z.at) many
+    standing_same state.started st.started state.phase (kept_phase st.phase) (states.waiting state m.scene.memory) st.waiting (nat_lt state.counter last_counter) st.counts (length state.unfinished) st.unfinished (length state.completed) st.completed
+    z.at.started z.at.phase (waiting_is q h setup m state main holds z) (ap (λ (n : ℕ). nat_lt n last_counter) z.phase.counter)
+    (count_is q h setup m.scene.past (m.scene.heads q) l.phase (hidden_part l.phase l.batch) l.completed l.made state (worked_at q h m holds) z.at ∙ ap (λ (ks : List ℕ). length ks) (left_part q h m holds)) many
 
 -- which changes nothing of what is ready
 pub ready_kept : (s : Standing) (t : Turn) → is_ready (record s { phase = kept_phase s.phase }) t ≡ is_ready s t
@@ -126,31 +170,19 @@ does_of t told x state state' made fine = subst (λ (b : Bool). Unless b (DoesOf
 
 -- after these items
 abbrev pub StandsAfter : ℕ → Header1 → QueueSetup → Scene → Turned → QueueState → Type 0
-StandsAfter q h setup s t state = QueueAt q h setup (after_items h t.items s).past ((after_items h t.items s).heads q) t.lane.phase t.lane.batch t.lane.completed t.lane.made state
+StandsAfter q h setup s t state = QueueAt q h setup (after_items h t.items s).past ((after_items h t.items s).heads q) t.lane.phase (hidden_part t.lane.phase t.lane.batch) t.lane.completed t.lane.made state
 
-abbrev pub StartsAfter : ℕ → Header1 → QueueSetup → Scene → Turned → QueueState → Type 0
-StartsAfter q h setup s t state = StartAt q h setup (started (after_items h t.items s).past q) t.lane.bell t.lane.plan t.lane.phase (region_in h q (after_items h t.items s)) state
+abbrev pub PhaseAfter : ℕ → Header1 → QueueSetup → Scene → Turned → QueueState → Type 0
+PhaseAfter q h setup s t state = PhaseAt q h setup (after_items h t.items s).past ((after_items h t.items s).heads q) t.lane.bell t.lane.plan t.lane.counter t.lane.batch t.lane.phase (region_in h q (after_items h t.items s)) state
 
-pub stands_next : (q : ℕ) (h : Header1) (setup : QueueSetup) (m : Moment) (turn : Turn) (t : Turned) (state : QueueState) → turned h q turn m ≡ t → StandsAfter q h setup m.scene t state → StartsAfter q h setup m.scene t state → QueueStands q h setup (one_turn h q turn m).next state
+pub stands_next : (q : ℕ) (h : Header1) (setup : QueueSetup) (m : Moment) (turn : Turn) (t : Turned) (state : QueueState) → turned h q turn m ≡ t → StandsAfter q h setup m.scene t state → PhaseAfter q h setup m.scene t state → QueueStands q h setup (one_turn h q turn m).next state
 stands_next q h setup m turn t state is z y =
     let z' : StandsAfter q h setup m.scene (turned h q turn m) state = subst (λ (t' : Turned). StandsAfter q h setup m.scene t' state) (sym is) z in
-    let y' : StartsAfter q h setup m.scene (turned h q turn m) state = subst (λ (t' : Turned). StartsAfter q h setup m.scene t' state) (sym is) y in
+    let y' : PhaseAfter q h setup m.scene (turned h q turn m) state = subst (λ (t' : Turned). PhaseAfter q h setup m.scene t' state) (sym is) y in
     let now : Scene = after_items h (turned h q turn m).items m.scene in record {
-      at = subst (λ (l : Lane). QueueAt q h setup now.past (now.heads q) l.phase l.batch l.completed l.made state) (sym (at_own m.lanes q (turned h q turn m).lane)) z';
-      start = subst (λ (l : Lane). StartAt q h setup (started now.past q) l.bell l.plan l.phase (region_in h q now) state) (sym (at_own m.lanes q (turned h q turn m).lane)) y';
+      at = subst (λ (l : Lane). QueueAt q h setup now.past (now.heads q) l.phase (hidden_part l.phase l.batch) l.completed l.made state) (sym (at_own m.lanes q (turned h q turn m).lane)) z';
+      phase = subst (λ (l : Lane). PhaseAt q h setup now.past (now.heads q) l.bell l.plan l.counter l.batch l.phase (region_in h q now) state) (sym (at_own m.lanes q (turned h q turn m).lane)) y';
     }
-
--- a queue that runs is past its start
-pub runs_on : (q : ℕ) (h : Header1) (setup : QueueSetup) (m : Moment) (state state' : QueueState) (runs bell : Bool) (plan plan' : Plan) (phase : Phase) (w : RegionWords) → QueueStands q h setup m state → runs ≡ true → bell ≡ (m.lanes q).bell
-    → state'.index ≡ state.index → state'.bell ≡ state.bell → state'.recovery ≡ state.recovery → StartAt q h setup runs bell plan' phase w state'
-runs_on q h setup m state state' runs bell plan plan' phase w z run same index rings recovery = record {
-  index = index ∙ z.start.index;
-  bell = rings ∙ z.start.bell ∙ sym same;
-  ring = ap (λ (r : RecoveryState). r.ring) recovery ∙ z.start.ring;
-  region = ap (λ (r : RecoveryState). r.region) recovery ∙ z.start.region;
-  base = ap (λ (r : RecoveryState). r.base) recovery ∙ z.start.base;
-  begun = λ stopped. absurd (let fails : true ≡ false = sym run ∙ stopped in cc);
-}
 
 -- ---- a fetch
 
@@ -166,7 +198,7 @@ head_is q h setup m state main z holds more =
     ∙ ap (λ (s : ℕ). word 2 mem s (setup.ring.avail.1 + (4 + 2 * (state.next_avail % setup.ring.size)))) main.avail_space
     ∙ ap (λ (p : ℕ). word 2 mem 0 (p + (4 + 2 * (state.next_avail % setup.ring.size)))) main.avail
     ∙ ap (λ (e : ℕ). word 2 mem 0 (area_place q + 4096 + (4 + 2 * e))) place
-    ∙ offered_head q h m.scene (m.lanes q).driver (m.lanes q).bell (m.lanes q).plan (m.lanes q).batch (m.lanes q).phase a holds.queue (omega arith) more
+    ∙ offered_head q h m.scene (m.lanes q).driver (m.lanes q).bell (m.lanes q).plan (m.lanes q).counter (m.lanes q).batch (m.lanes q).phase a holds.queue (omega arith) more
 
 -- the next request isn't open, and is offered
 next_out : (q : ℕ) (h : Header1) (s : Scene) (l : Lane) → Holds q h s l → accepted s.past q < length (s.heads q) → IsOut q s.past (s.heads q) (accepted s.past q)
@@ -202,101 +234,16 @@ keeps_rules q h setup m state fault plain good main z breaks = go fault breaks.1
 
     go : (f : RingFault) → BreaksBy state m.scene.memory f → ⊥
     go (faults.Jump ahead) b = omega (arith, b.0, b.1, far, sized, holds.known.room, holds.known.shown, holds.known.fewer)
-    go (faults.BadHead head) b = omega (arith, b.1, b.2, sized, head_is q h setup m state main z holds more, head_below q h m.scene (m.lanes q).driver (m.lanes q).bell (m.lanes q).plan (m.lanes q).batch (m.lanes q).phase a holds.queue out)
+    go (faults.BadHead head) b = omega (arith, b.1, b.2, sized, head_is q h setup m state main z holds more, head_below q h m.scene (m.lanes q).driver (m.lanes q).bell (m.lanes q).plan (m.lanes q).counter (m.lanes q).batch (m.lanes q).phase a holds.queue out)
     go (faults.Twice head) b =
         let small : head < setup.ring.size = omega (arith, b.2, ap (λ (x : SplitRing). x.size) z.at.ring) in
-        let t = taken_open q h setup m.scene.past heads (m.lanes q).phase (m.lanes q).batch (m.lanes q).completed (m.lanes q).made state head small b.3 z.at in
+        let t = taken_open q h setup m.scene.past heads (m.lanes q).phase (hidden_part (m.lanes q).phase (m.lanes q).batch) (m.lanes q).completed (m.lanes q).made state head small b.3 z.at in
         let other : IsOut q m.scene.past heads t.0 = open_out q h.size h.capacity m.scene.past heads t.0 holds.known t.1 in
-        let same : t.0 ≡ a = heads_apart q h m.scene (m.lanes q).driver (m.lanes q).bell (m.lanes q).plan (m.lanes q).batch (m.lanes q).phase t.0 a holds.queue other out (t.2 ∙ b.1 ∙ head_is q h setup m state main z holds more) in
+        let same : t.0 ≡ a = heads_apart q h m.scene (m.lanes q).driver (m.lanes q).bell (m.lanes q).plan (m.lanes q).counter (m.lanes q).batch (m.lanes q).phase t.0 a holds.queue other out (t.2 ∙ b.1 ∙ head_is q h setup m state main z holds more) in
         omega (arith, same, t.1.taken)
     go (faults.NoRoom slot) b = b
     go (faults.Chain fault) b = b
     go (faults.NoStatus head) b = b
-
--- what a fetch says, makes and leaves
-pub record HasFetched (q : ℕ) (h : Header1) (setup : QueueSetup) (m : Moment) (x : Stepped) (state' : QueueState) : Type 0 where
-  pub said : x ≡ says.Accepted (slice_index (m.scene.heads q) (accepted m.scene.past q))
-  pub made : (turned h q turns.Fetch m).items ≡ items.Made (entries.Accept q (accepted m.scene.past q)) ∷ []
-  pub stands : QueueStands q h setup (one_turn h q turns.Fetch m).next state'
-
--- the head of the next request is accepted: it is below the size and free
-record Accepts (q : ℕ) (setup : QueueSetup) (m : Moment) (x : Stepped) (state u : QueueState) : Type 0 where
-  pub says : x ≡ says.Accepted (slice_index (m.scene.heads q) (accepted m.scene.past q))
-  pub leaves : u ≡ states.accepted (slice_index (m.scene.heads q) (accepted m.scene.past q)) state
-  pub small : slice_index (m.scene.heads q) (accepted m.scene.past q) < setup.ring.size
-  pub free : is_taken state.taken (slice_index (m.scene.heads q) (accepted m.scene.past q)) ≡ false
-
--- a fetch that is ready and doesn't fail accepts a head
-fetch_accepts : (q : ℕ) (h : Header1) (setup : QueueSetup) (m : Moment) (x : Stepped) (state u : QueueState) → IsPlain h → Good q h m → LiesAs q setup h.size → QueueStands q h setup m state → is_ready (standing h q m) turns.Fetch ≡ true → is_fault x ≡ false
-    → Fetches (Some m.scene.memory) x state u → Accepts q setup m x state u
-fetch_accepts q h setup m x state u plain good main z ready fine fetches = go x fine fetches
-  where
-    a : ℕ
-    a = accepted m.scene.past q
-
-    go : (y : Stepped) → is_fault y ≡ false → Fetches (Some m.scene.memory) y state u → Accepts q setup m y state u
-    go says.Idle f does = absurd (
-        let unready : is_ready (standing_at state (states.waiting state m.scene.memory)) turns.Fetch ≡ false = does.1 m.scene.memory refl in
-        let fails : true ≡ false = sym ready ∙ sym (ready_same q h setup m state turns.Fetch main good.holds z) ∙ unready in
-        cc)
-    go (says.Accepted head) f does =
-        let finds = does.2 m.scene.memory refl in
-        let more : a < length (m.scene.heads q) = omega (arith, finds.0.some, waiting_is q h setup m state main good.holds z, queue_ahead q h m.scene (m.lanes q) plain.good good.holds) in
-        let is : head ≡ slice_index (m.scene.heads q) a = finds.1 ∙ head_is q h setup m state main z good.holds more in
-        record {
-          says = ap says.Accepted is;
-          leaves = does.0 ∙ ap (λ (d : ℕ). states.accepted d state) is;
-          small = omega (arith, is, finds.2, ap (λ (y : SplitRing). y.size) z.at.ring);
-          free = ap (is_taken state.taken) (sym is) ∙ finds.3;
-        }
-    go (says.Broken fault) f does = absurd (keeps_rules q h setup m state fault plain good main z (does.2 m.scene.memory refl))
-    go says.SharedFault f does = absurd (let fails : true ≡ false = f in cc)
-    go (says.Stored tag) f does = absurd does
-    go (says.Looked head sector) f does = absurd does
-    go (says.Acted head sector) f does = absurd does
-    go (says.Synced head) f does = absurd does
-    go (says.Faulted head) f does = absurd does
-    go (says.Completed head) f does = absurd does
-    go says.Published f does = absurd does
-    go says.Started f does = absurd does
-    go says.Belled f does = absurd does
-    go says.BellFault f does = absurd (let fails : true ≡ false = f in cc)
-    go (says.Damaged fault) f does = absurd does
-
--- the lane is at rest where a fetch is ready
-fetch_rests : (q : ℕ) (h : Header1) (m : Moment) → Good q h m → is_ready (standing h q m) turns.Fetch ≡ true → resting (m.lanes q) ≡ m.lanes q
-fetch_rests q h m good ready =
-    let l : Lane = m.lanes q in
-    let run : started m.scene.past q ≡ true = grind (arith, nat_tests) in
-    elim (running_cases q h m.scene l run good.holds) [
-      | inl rest ↦ rest_is l rest.0 rest.1
-      | inr shows ↦
-          let publishes_now : is_publication l.phase ≡ true = ap is_publication shows.1 in
-          absurd (grind (arith, nat_tests))
-    ]
-
-pub fetch_stands : (q : ℕ) (h : Header1) (setup : QueueSetup) (m : Moment) (x : Stepped) (state state' : QueueState) → IsPlain h → Good q h m → LiesAs q setup h.size → QueueStands q h setup m state
-    → is_ready (standing h q m) turns.Fetch ≡ true → is_fault x ≡ false → Turns turns.Fetch (Some m.scene.memory) x state state' → HasFetched q h setup m x state'
-fetch_stands q h setup m x state state' plain good main z ready fine made =
-    let l : Lane = m.lanes q in
-    let past : List Entry = m.scene.past in
-    let heads : List ℕ = m.scene.heads q in
-    let head : ℕ = slice_index heads (accepted past q) in
-    let same : resting l ≡ l = fetch_rests q h m good ready in
-    let accepts = fetch_accepts q h setup m x state made.0 plain good main z ready fine (does_of turns.Fetch (Some m.scene.memory) x state state' made fine) in
-    let after : state' ≡ states.accepted head state = made.1 ∙ ap (λ (y : Stepped). states.halted y made.0) accepts.says ∙ accepts.leaves in
-    let at_rest : QueueAt q h setup past heads phases.Rest [] l.completed l.made state = subst (λ (y : Lane). QueueAt q h setup past heads y.phase y.batch y.completed y.made state) (sym same) z.at in
-    let held : Holds q h m.scene (resting l) = subst (λ (y : Lane). Holds q h m.scene y) (sym same) good.holds in
-    let turn : turned h q turns.Fetch m ≡ record { items = items.Made (entries.Accept q (accepted past q)) ∷ []; lane = resting l } = sym (ap (λ (y : Lane). phase_goes_on h q m.scene (under_way h q m.scene turns.Fetch y)) same) in
-    let now : QueueAt q h setup (entries.Accept q (accepted past q) ∷ past) heads phases.Rest [] l.completed l.made (states.accepted head state) = at_fetch q h setup past heads l.completed l.made state head held.known held.worked refl accepts.small accepts.free at_rest in
-    let run : started past q ≡ true = grind (arith, nat_tests) in
-    record {
-      said = accepts.says;
-      made = ap (λ (t : Turned). t.items) turn;
-      stands = stands_next q h setup m turns.Fetch (record { items = items.Made (entries.Accept q (accepted past q)) ∷ []; lane = resting l }) state' turn
-          (subst (λ (y : QueueState). QueueAt q h setup (entries.Accept q (accepted past q) ∷ past) heads phases.Rest [] l.completed l.made y) (sym after) now)
-          (subst (λ (y : QueueState). StartAt q h setup (started past q) l.bell l.plan phases.Rest (region_in h q m.scene) y) (sym after) (runs_on q h setup m state (states.accepted head state) (started past q) l.bell l.plan l.plan phases.Rest (region_in h q m.scene) z run refl refl refl refl));
-    }
 
 -- ---- a turn that isn't ready
 

@@ -1,11 +1,12 @@
 -- What a queue keeps goes on to agree with the open heads.
-use Rattle.std.proofs.Common.{◌≡◌, ◌<◌, ℕ, zero, suc, Bool, true, false, not, List, [], ◌∷◌, ◌++◌, length, map, set, get_or, refl, ap, sym, ◌∙◌, inl, inr, arith}
-use Rattle.std.specs.Prelude.{◌||◌, ◌&&◌, ◌==◌, remove, slice_get, Some, option_map}
+use Rattle.std.proofs.Common.{◌≡◌, ◌<◌, ℕ, ◌+◌, ◌*◌, ◌%◌, zero, suc, Bool, true, false, not, List, [], ◌∷◌, ◌++◌, length, map, set, get_or, refl, ap, sym, ◌∙◌, subst, inl, inr, arith}
+use Rattle.std.specs.Prelude.{◌||◌, ◌&&◌, ◌==◌, remove, slice_get, Option, Some, option_map}
 use Rattle.std.proofs.lemmas.Bool.{cases_eq}
 use Rattle.std.proofs.lemmas.Bool.Decides.{nat_tests}
 use Rattle.std.proofs.lemmas.List.{length-set, map-append, get_or-replicate, get_or-set_same, get_or-set_other}
 use Rattle.std.proofs.lemmas.Option.{slice_get-map}
 use Rattle.vub_device.specs.Past.{is_among}
+use Rattle.vub_steps.specs.declared.steps.Phase.{Phase}
 use Rattle.vub_steps.specs.declared.steps.Phase.TheVariants as phases
 use Rattle.vub_steps.specs.declared.steps.Step.TheVariants as steps
 use Rattle.vub_steps.specs.Rows.{Sight}
@@ -17,24 +18,24 @@ use Rattle.vub_queue.specs.QueueParts.{is_taken, without_heads}
 use Rattle.vub_queue.specs.QueueState as states
 use Rattle.vub_queue.specs.QueueState.{QueueState, worked, done_at}
 use Rattle.vub_facts.specs.Facts.{Words, heads_in, without, words_after}
-use Rattle.vub_facts.specs.Held.{Held, state_after, completed_at}
+use Rattle.vub_facts.specs.Held.{State, Held, state_after, completed_at}
 use Rattle.vub_facts.proofs.HeldSteps.{held_words, held_like, held_accept, held_index, held_publication_begun, held_completed}
-use Rattle.vub_queue_in_run.specs.QueueAt.{held_in, KeepsHeads}
+use Rattle.vub_queue_in_run.specs.QueueAt.{hidden_part, hidden_in, held_in, KeepsHeads}
 
 -- ---- a new queue
 
--- the used.idx that the queue keeps, with any words beside it
-abbrev pub words_kept : QueueState → Words
-words_kept s = record {
-  ring = record { avail = 0; heads = λ i. 0; used = s.next_used; elements = λ i. (0, 0) };
+-- this used.idx, with any words beside it
+abbrev pub words_with : ℕ → Words
+words_with used = record {
+  ring = record { avail = 0; heads = λ i. 0; used = used; elements = λ i. (0, 0) };
   region = record { version = 0; desc_num = 0; last_batch_head = 0; used_idx = 0; inflight = λ i. 0; next = λ i. 0; counter = λ i. 0 };
 }
 
-pub keeps_new : (setup : QueueSetup) (sectors : List (List ℕ)) → setup.base < 65536 → KeepsHeads setup.ring.size [] (states.new_state setup sectors)
-keeps_new setup sectors small w at = record {
+pub keeps_new : (setup : QueueSetup) (sectors : List (List ℕ)) (used : ℕ) → used ≡ setup.base → used < 65536 → KeepsHeads setup.ring.size [] used (states.new_state setup sectors)
+keeps_new setup sectors used is small w at = record {
   distinct = refl;
   below = λ h held. absurd (let fails : false ≡ true = held in cc);
-  avail = omega (arith, at, small);
+  avail = omega (arith, at, is, small);
   taken = λ d low. get_or-replicate setup.ring.size d false true low;
   splits = record { once = refl; opens = λ h held. held; left = refl };
 }
@@ -52,18 +53,26 @@ taken_more taken head d inside = elim (cases_eq head d) [
       grind (arith, nat_tests)
 ]
 
-pub keeps_accepted : (r : Ring) (heads : List ℕ) (s : QueueState) (head : ℕ) → head < r.size → length s.taken ≡ r.size → is_taken s.taken head ≡ false → KeepsHeads r.size heads s → KeepsHeads r.size (heads ++ head ∷ []) (states.accepted head s)
-keeps_accepted r heads s head low places free x w at =
-    held_like r.size (heads ++ head ∷ []) w (state_after steps.Accept head (held_in s)) (held_in (states.accepted head s)) refl (λ d inside. taken_more s.taken head d (omega (arith, low, places)))
-    (map-append head_in s.unfinished (fresh_task head ∷ [])) refl (held_accept r heads w (held_in s) head low free (x w at))
+-- the queue after a fetch, whose phase is over
+abbrev pub fetched : ℕ → QueueState → QueueState
+fetched head s = states.with_phase phases.Rest (states.accepted head s)
+
+pub keeps_accepted : (r : Ring) (heads : List ℕ) (used : ℕ) (s : QueueState) (head : ℕ) → head < r.size → length s.taken ≡ r.size → is_taken s.taken head ≡ false → hidden_in s ≡ [] → KeepsHeads r.size heads used s → KeepsHeads r.size (heads ++ head ∷ []) used (fetched head s)
+keeps_accepted r heads used s head low places free none x w at =
+    held_like r.size (heads ++ head ∷ []) w (state_after steps.Accept head (held_in s)) (held_in (fetched head s)) refl (λ d inside. taken_more s.taken head d (omega (arith, low, places)))
+    (map-append head_in s.unfinished (fresh_task head ∷ [])) (ap (λ (b : List (ℕ × ℕ)). heads_in (b ++ s.completed)) (sym none)) (held_accept r heads w (held_in s) head low free (x w at))
 
 -- ---- a publication
 
-pub keeps_begun : (n : ℕ) (heads : List ℕ) (most : ℕ) (s : QueueState) → s.batch ≡ [] → KeepsHeads n heads s → KeepsHeads n heads (states.begun most s)
-keeps_begun n heads most s none x w at =
+pub keeps_begun : (n : ℕ) (heads : List ℕ) (used most : ℕ) (s : QueueState) → hidden_in s ≡ [] → KeepsHeads n heads used s → KeepsHeads n heads used (states.begun most s)
+keeps_begun n heads used most s none x w at =
     let y : Held n heads w (held_in s) = x w at in
     let z = held_publication_begun n heads w most (held_in s) none y in
     record { distinct = z.distinct; below = z.below; avail = z.avail; taken = z.taken; splits = z.splits }
+
+-- one that hides the same, and changed in nothing else that matters
+pub keeps_alike : (n : ℕ) (heads : List ℕ) (used : ℕ) (s : QueueState) (p : Phase) (c : ℕ) (f : Option ℕ) (b : List (ℕ × ℕ)) → hidden_part p b ≡ hidden_in s → KeepsHeads n heads used s → KeepsHeads n heads used (record s { phase = p; counter = c; fetching = f; batch = b })
+keeps_alike n heads used s p c f b same x w at = subst (λ (bs : List (ℕ × ℕ)). Held n heads w (record (held_in s) { batch = bs })) (sym same) (x w at)
 
 taken_less : (xs : List (ℕ × ℕ)) (taken : List Bool) (d : ℕ) → d < length taken → is_taken (without_heads xs taken) d ≡ (is_taken taken d && not (is_among (heads_in xs) d))
 taken_less [] taken d low = grind (arith, nat_tests)
@@ -79,14 +88,22 @@ taken_less (x ∷ xs) taken d low =
           grind (arith, nat_tests)
     ]
 
-pub keeps_shown : (r : Ring) (heads : List ℕ) (s : QueueState) → s.next_used < 65536 → length s.taken ≡ r.size → KeepsHeads r.size heads s → KeepsHeads r.size (without (heads_in s.batch) heads) (states.with_phase phases.Rest s)
-keeps_shown r heads s fits places x w at =
-    let v : Words = record w { ring = record w.ring { used = s.next_used } } in
-    let z : Sight = record { used = s.next_used; link = 0; batch = s.batch } in
+-- the queue whose batch is shown, so many steps into its publication
+abbrev pub shown : ℕ → QueueState → QueueState
+shown done s = record s { taken = without_heads s.batch s.taken; phase = phases.Publish done }
+
+pub keeps_shown : (r : Ring) (heads : List ℕ) (used many done : ℕ) (s : QueueState) → used < 65536 → length s.taken ≡ r.size → hidden_in s ≡ s.batch → many ≡ (used + length s.batch) % 65536 → 4 * length s.batch < done → KeepsHeads r.size heads used s
+    → KeepsHeads r.size (without (heads_in s.batch) heads) many (shown done s)
+keeps_shown r heads used many done s fits places all is past x w at =
+    let v : Words = record w { ring = record w.ring { used = used } } in
+    let z : Sight = record { used = used; last_batch_head = 0; link = 0; head = 0; counter = 0; batch = s.batch } in
     let left : List ℕ = without (heads_in s.batch) heads in
-    let shown : Held r.size left (words_after r z steps.Index v) (state_after steps.Index 0 (held_in s)) = held_index r heads z v (held_in s) 0 fits refl (x v refl) in
-    held_like r.size left w (state_after steps.Index 0 (held_in s)) (held_in (states.with_phase phases.Rest s)) refl (λ d low. taken_less s.batch s.taken d (omega (arith, low, places))) refl refl
-    (held_words r.size left w (words_after r z steps.Index v) (state_after steps.Index 0 (held_in s)) at shown)
+    let h : State = record (held_in s) { batch = s.batch } in
+    let before : Held r.size heads v h = subst (λ (bs : List (ℕ × ℕ)). Held r.size heads v (record (held_in s) { batch = bs })) all (x v refl) in
+    let after : Held r.size left (words_after r z steps.Index v) (state_after steps.Index 0 h) = held_index r heads z v h 0 fits refl before in
+    let none : hidden_in (shown done s) ≡ [] = grind (arith, nat_tests) in
+    held_like r.size left w (state_after steps.Index 0 h) (held_in (shown done s)) refl (λ d low. taken_less s.batch s.taken d (omega (arith, low, places))) refl (ap (λ (b : List (ℕ × ℕ)). heads_in (b ++ s.completed)) none)
+    (held_words r.size left w (words_after r z steps.Index v) (state_after steps.Index 0 h) (at ∙ is) after)
 
 -- ---- work
 
@@ -101,12 +118,12 @@ heads_remove [] (suc place) = refl
 heads_remove (x ∷ xs) zero = refl
 heads_remove (x ∷ xs) (suc place) = ap (λ (hs : List ℕ). head_in x ∷ hs) (heads_remove xs place)
 
-pub keeps_worked : (n : ℕ) (heads : List ℕ) (s : QueueState) (place : ℕ) (next t : Task) (sector : List ℕ) → slice_get s.unfinished place ≡ Some t → head_in next ≡ head_in t → KeepsHeads n heads s → KeepsHeads n heads (worked place next sector s)
-keeps_worked n heads s place next t sector there same x w at =
+pub keeps_worked : (n : ℕ) (heads : List ℕ) (used : ℕ) (s : QueueState) (place : ℕ) (next t : Task) (sector : List ℕ) → slice_get s.unfinished place ≡ Some t → head_in next ≡ head_in t → KeepsHeads n heads used s → KeepsHeads n heads used (worked place next sector s)
+keeps_worked n heads used s place next t sector there same x w at =
     held_like n heads w (held_in s) (held_in (worked place next sector s)) refl (λ d low. refl) (heads_set s.unfinished place next t there same) refl (x w at)
 
-pub keeps_done : (n : ℕ) (heads : List ℕ) (s : QueueState) (place len : ℕ) (t : Task) (sector : List ℕ) → slice_get s.unfinished place ≡ Some t → KeepsHeads n heads s → KeepsHeads n heads (done_at place (head_in t) len sector s)
-keeps_done n heads s place len t sector there x w at =
+pub keeps_done : (n : ℕ) (heads : List ℕ) (used : ℕ) (s : QueueState) (place len : ℕ) (t : Task) (sector : List ℕ) → slice_get s.unfinished place ≡ Some t → KeepsHeads n heads used s → KeepsHeads n heads used (done_at place (head_in t) len sector s)
+keeps_done n heads used s place len t sector there x w at =
     let head : slice_get (map head_in s.unfinished) place ≡ Some (head_in t) = slice_get-map head_in s.unfinished place ∙ ap (option_map head_in) there in
     held_like n heads w (completed_at place (head_in t) len (held_in s)) (held_in (done_at place (head_in t) len sector s)) refl (λ d low. refl) (heads_remove s.unfinished place) refl
     (held_completed n heads w place (head_in t) len (held_in s) head (x w at))

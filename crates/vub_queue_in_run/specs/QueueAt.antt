@@ -1,5 +1,5 @@
 -- The device's side of a queue stands at a moment of a run.
-use Rattle.std.specs.Prelude.{◌≡◌, ◌<◌, ℕ, ◌+◌, ◌*◌, ◌%◌, Bool, true, false, not, nat_lt, List, ◌++◌, length, map, filter, slice_get, slice_index, slice_range, get_or, [], Some, None}
+use Rattle.std.specs.Prelude.{◌≡◌, ◌<◌, ℕ, ◌+◌, ◌*◌, ◌%◌, Bool, true, false, not, nat_lt, if◌then◌else◌, List, Option, ◌++◌, length, map, filter, slice_get, slice_index, slice_range, get_or, [], Some, None}
 use Rattle.vub_base.specs.declared.header.Header1.{Header1}
 use Rattle.vub_steps.specs.declared.steps.Phase.{Phase}
 use Rattle.vub_steps.specs.declared.steps.Phase.TheVariants as phases
@@ -13,7 +13,7 @@ use Rattle.vub_device.specs.declared.entry.Asked.{Asked}
 use Rattle.vub_device.specs.declared.entry.Entry.{Entry}
 use Rattle.vub_disk.specs.Values.{Values}
 use Rattle.vub_device.specs.Crash.{value}
-use Rattle.vub_device.specs.Past.{asked, published, open_numbers, is_among, started, bytes_read}
+use Rattle.vub_device.specs.Past.{asked, accepted, published, open_numbers, is_among, started, bytes_read}
 use Rattle.vub_steps.specs.Tasks.{Put, task_steps}
 use Rattle.vub_run.specs.Moments.{Moment, region_of, region_in, open_heads}
 use Rattle.vub_run.specs.Turns.{len_of}
@@ -29,19 +29,27 @@ use Rattle.vub_facts.specs.Held.{State, Held}
 
 -- ---- what a queue keeps, by heads
 
+-- the part of a batch that isn't shown: all of it until its publication has stored used.idx
+abbrev pub hidden_part : {A : Type 0} → Phase → List A → List A
+hidden_part (phases.Publish done) batch = if nat_lt (4 * length batch) done then [] else batch
+hidden_part phase batch = []
+
+abbrev pub hidden_in : QueueState → List (ℕ × ℕ)
+hidden_in s = hidden_part s.phase s.batch
+
 -- its state, as far as the open heads are concerned
 abbrev pub held_in : QueueState → State
 held_in s = record {
-  batch = s.batch;
+  batch = hidden_in s;
   avail = s.next_avail;
   taken = is_taken s.taken;
   unfinished = map head_in s.unfinished;
   completed = s.completed;
 }
 
--- what it keeps agrees with these open heads, whatever stands beside the used.idx that it keeps
-abbrev pub KeepsHeads : ℕ → List ℕ → QueueState → Type 0
-KeepsHeads n heads s = (w : Words) → w.ring.used ≡ s.next_used → Held n heads w (held_in s)
+-- what it keeps agrees with these open heads where used.idx is `used`, whatever stands beside it
+abbrev pub KeepsHeads : ℕ → List ℕ → ℕ → QueueState → Type 0
+KeepsHeads n heads used s = (w : Words) → w.ring.used ≡ used → Held n heads w (held_in s)
 
 -- ---- what it keeps, by the numbers of a run
 
@@ -63,15 +71,19 @@ abbrev pub kept_phase : Phase → Phase
 kept_phase (phases.Start done) = phases.Rest
 kept_phase phase = phase
 
+-- used.idx, by what is published
+abbrev pub used_after : Header1 → ℕ → List Entry → ℕ
+used_after h q past = (h.base + length (published past q)) % 65536
+
+-- of a batch these are hidden
 pub record QueueAt (q : ℕ) (h : Header1) (setup : QueueSetup) (past : List Entry) (heads : List ℕ) (at_phase : Phase) (in_batch ready : List ℕ) (made : ℕ → ℕ) (state : QueueState) : Type 0 where
   pub ring : state.ring ≡ setup.ring
   pub runs : state.stopped ≡ None
   pub started : state.started ≡ started past q
-  pub used : state.next_used ≡ (h.base + length (published past q)) % 65536
   pub phase : state.phase ≡ kept_phase at_phase
-  pub batch : state.batch ≡ map (spot_of q h past heads) in_batch
+  pub batch : hidden_in state ≡ map (spot_of q h past heads) in_batch
   pub completed : state.completed ≡ map (spot_of q h past heads) ready
-  pub keeps : KeepsHeads setup.ring.size (open_heads q past heads) state
+  pub keeps : KeepsHeads setup.ring.size (open_heads q past heads) (used_after h q past) state
   -- the tasks of the requests that are left, in order
   pub tasks : (i k : ℕ) (task : Task) → slice_get (left_of q past ready in_batch) i ≡ Some k → slice_get state.unfinished i ≡ Some task → TaskAt q h setup past heads k (made k) task
   -- between a look and its store, what was read stands at the head
@@ -80,7 +92,7 @@ pub record QueueAt (q : ℕ) (h : Header1) (setup : QueueSetup) (past : List Ent
   pub sectors : (k place : ℕ) (request : Asked) → is_among (left_of q past ready in_batch) k ≡ true → asked past q k ≡ Some request → slice_get (task_steps h request) (made k) ≡ Some (Put place)
       → get_or state.sectors (slice_index heads k) [] ≡ slice_range (bytes_read past q k) (512 * place) (512 * place + 512)
 
--- ---- its start
+-- ---- its phase
 
 -- so many steps of a start with this plan were made, on a queue of n descriptors whose region has these words
 pub record StartingAt (n : ℕ) (plan : Plan) (done : ℕ) (w : RegionWords) (state : QueueState) : Type 0 where
@@ -91,21 +103,29 @@ abbrev pub StartsAt : ℕ → Plan → Phase → RegionWords → QueueState → 
 StartsAt n plan (phases.Start done) w state = StartingAt n plan done w state
 StartsAt n plan phase w state = IsFresh state.recovery × (state.rung ≡ false)
 
--- of queue q, which has this bell and plan; the words of its region matter until it is started
-pub record StartAt (q : ℕ) (h : Header1) (setup : QueueSetup) (runs has_bell : Bool) (plan : Plan) (phase : Phase) (w : RegionWords) (state : QueueState) : Type 0 where
+-- the head of a fetch that is under way is kept
+abbrev pub kept_head : Phase → ℕ → Option ℕ
+kept_head (phases.Fetch done) head = Some head
+kept_head phase head = None
+
+-- of queue q, in this phase of its lane; the words of its region matter until it is started
+pub record PhaseAt (q : ℕ) (h : Header1) (setup : QueueSetup) (past : List Entry) (heads : List ℕ) (has_bell : Bool) (plan : Plan) (next : ℕ) (in_batch : List ℕ) (phase : Phase) (w : RegionWords) (state : QueueState) : Type 0 where
   pub index : state.index ≡ q
   pub bell : state.bell ≡ has_bell
   pub ring : state.recovery.ring ≡ setup.ring
   pub region : state.recovery.region ≡ setup.region
   pub base : state.recovery.base ≡ h.base
-  pub begun : runs ≡ false → StartsAt h.size plan phase w state
+  pub begun : started past q ≡ false → StartsAt h.size plan phase w state
+  pub counter : state.counter ≡ next
+  pub fetching : state.fetching ≡ kept_head phase (slice_index heads (accepted past q))
+  pub batch : state.batch ≡ map (spot_of q h past heads) in_batch
 
 -- ---- at a moment
 
 -- the queue stands where its lane of the moment does
 pub record QueueStands (q : ℕ) (h : Header1) (setup : QueueSetup) (m : Moment) (state : QueueState) : Type 0 where
-  pub at : QueueAt q h setup m.scene.past (m.scene.heads q) (m.lanes q).phase (m.lanes q).batch (m.lanes q).completed (m.lanes q).made state
-  pub start : StartAt q h setup (started m.scene.past q) (m.lanes q).bell (m.lanes q).plan (m.lanes q).phase (region_in h q m.scene) state
+  pub at : QueueAt q h setup m.scene.past (m.scene.heads q) (m.lanes q).phase (hidden_part (m.lanes q).phase (m.lanes q).batch) (m.lanes q).completed (m.lanes q).made state
+  pub phase : PhaseAt q h setup m.scene.past (m.scene.heads q) (m.lanes q).bell (m.lanes q).plan (m.lanes q).counter (m.lanes q).batch (m.lanes q).phase (region_in h q m.scene) state
 
 -- ---- the set-up of a queue
 
