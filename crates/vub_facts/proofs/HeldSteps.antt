@@ -1,6 +1,6 @@
 -- What the code of a queue keeps goes on to agree through the begin of each phase, and through each step.
 use Rattle.std.proofs.Common.{◌≡◌, ◌<◌, ℕ, ◌+◌, ◌%◌, Bool, true, false, not, List, [], ◌∷◌, ◌++◌, length, take, drop, refl, ap, sym, ◌∙◌, subst, inl, inr, arith}
-use Rattle.std.specs.Prelude.{◌||◌, ◌&&◌, remove, slice_get, Some}
+use Rattle.std.specs.Prelude.{◌||◌, ◌&&◌, remove, slice_get, Option, Some, None}
 use Rattle.std.proofs.lemmas.Bool.{cases_Bool, cases_eq}
 use Rattle.std.proofs.lemmas.Bool.Decides.{nat_tests}
 use Rattle.std.proofs.lemmas.List.{length-append, length-map, map-append, take-append-drop}
@@ -10,8 +10,10 @@ use Rattle.vub_device.specs.Places.{are_distinct}
 use Rattle.vub_device.proofs.Numbers.{is_among_append}
 use Rattle.vub_steps.specs.declared.steps.Step.{Step}
 use Rattle.vub_steps.specs.declared.steps.Step.TheVariants as steps
-use Rattle.vub_steps.specs.Rows.{Sight}
-use Rattle.vub_facts.specs.Facts.{heads_in, without, Words, InBatch, head_next, heads_after, words_after}
+use Rattle.vub_infl_split.specs.declared.region.SplitStore.{SplitStore}
+use Rattle.vub_steps.specs.Rows.{Sight, region_store}
+use Rattle.vub_steps.proofs.StepLemmas.{length_publish}
+use Rattle.vub_facts.specs.Facts.{heads_in, without, Words, InBatch, head_next, heads_after, with_stored, words_after}
 use Rattle.vub_facts.specs.Held.{State, busy, Splits, Held, state_after, publication_begun, completed_at}
 use Rattle.vub_facts.proofs.HeadLemmas.{among_without, among_get, few_below, remove_is_without, Parts, distinct_parts, distinct_push, distinct_without, without_both, without_push, length_without}
 
@@ -19,6 +21,11 @@ use Rattle.vub_facts.proofs.HeadLemmas.{among_without, among_get, few_below, rem
 
 pub held_words : (n : ℕ) (heads : List ℕ) (v w : Words) (s : State) → v.ring.used ≡ w.ring.used → Held n heads w s → Held n heads v s
 held_words n heads v w s same x = record { distinct = x.distinct; below = x.below; avail = x.avail ∙ ap (λ (u : ℕ). (u + length heads) % 65536) (sym same); taken = x.taken; splits = x.splits }
+
+-- a store into the region leaves it
+same_used : (n : ℕ) (o : Option SplitStore) (w : Words) → (with_stored n o w).ring.used ≡ w.ring.used
+same_used n None w = refl
+same_used n (Some st) w = refl
 
 -- a state that keeps the same
 pub held_like : (n : ℕ) (heads : List ℕ) (w : Words) (s t : State) → t.avail ≡ s.avail → ((d : ℕ) → d < n → t.taken d ≡ s.taken d) → t.unfinished ≡ s.unfinished → busy t ≡ busy s → Held n heads w s → Held n heads w t
@@ -39,8 +46,8 @@ held_publication_begun n heads w most s none x =
     record { distinct = x.distinct; below = x.below; avail = x.avail; taken = x.taken; splits = subst (λ (hs : List ℕ). Splits heads hs s.unfinished) same x.splits }
 
 -- what begins is a batch
-pub batch_begins : (n : ℕ) (heads : List ℕ) (w : Words) (most : ℕ) (s : State) → s.batch ≡ [] → 0 < length (take most s.completed) → Held n heads w s → InBatch n heads (take most s.completed) 0
-batch_begins n heads w most s none some x =
+pub batch_begins : (n : ℕ) (heads : List ℕ) (w : Words) (bell : Bool) (most : ℕ) (s : State) → s.batch ≡ [] → 0 < length (take most s.completed) → Held n heads w s → InBatch n heads bell (take most s.completed) 0
+batch_begins n heads w bell most s none some x =
     let batch : List ℕ = heads_in (take most s.completed) in
     let later : List ℕ = heads_in (drop most s.completed) in
     let same : busy s ≡ batch ++ later =
@@ -50,7 +57,7 @@ batch_begins n heads w most s none some x =
     let opens : (h : ℕ) → is_among batch h ≡ true → is_among heads h ≡ true = λ h held. split.opens h (let joined : is_among (batch ++ later) h ≡ (is_among batch h || is_among later h) = is_among_append batch later h in grind (arith, nat_tests)) in
     let below : (h : ℕ) → is_among batch h ≡ true → h < n = λ h held. x.below h (opens h held) in
     let long : length batch ≡ length (take most s.completed) = length-map (take most s.completed) (λ (y : ℕ × ℕ). y.0) in
-    record { some = some; few = omega (arith, long, few_below batch n distinct below); distinct = distinct; below = below; left = omega arith; opens = λ le. opens }
+    record { some = some; few = omega (arith, long, few_below batch n distinct below); distinct = distinct; below = below; left = omega (arith, length_publish (length (take most s.completed)) bell); opens = λ le. opens }
 
 -- ---- a request is completed
 
@@ -173,7 +180,13 @@ held_step r heads (steps.Settle i) z w s fits seen finds x = held_words r.size h
 held_step r heads steps.SettleEnd z w s fits seen finds x = held_words r.size heads (words_after r z steps.SettleEnd w) w s refl x
 held_step r heads steps.Bell z w s fits seen finds x = x
 held_step r heads steps.Start z w s fits seen finds x = x
-held_step r heads steps.Accept z w s fits seen finds x = held_accept r heads w s (head_next heads w) finds.0 finds.1 x
+held_step r heads steps.Count z w s fits seen finds x = held_words r.size heads (words_after r z steps.Count w) w s refl x
+held_step r heads steps.Accept z w s fits seen finds x =
+    held_words r.size (heads ++ head_next heads w ∷ []) (words_after r z steps.Accept w) w (state_after steps.Accept (head_next heads w) s) refl (held_accept r heads w s (head_next heads w) finds.0 finds.1 x)
 held_step r heads (steps.Id e) z w s fits seen finds x = held_words r.size heads (words_after r z (steps.Id e) w) w s refl x
 held_step r heads (steps.Len e) z w s fits seen finds x = held_words r.size heads (words_after r z (steps.Len e) w) w s refl x
+held_step r heads (steps.Link e) z w s fits seen finds x = held_words r.size heads (words_after r z (steps.Link e) w) w s (same_used r.size (region_store z (steps.Link e)) w) x
+held_step r heads (steps.Head e) z w s fits seen finds x = held_words r.size heads (words_after r z (steps.Head e) w) w s (same_used r.size (region_store z (steps.Head e)) w) x
 held_step r heads steps.Index z w s fits seen finds x = held_index r heads z w s (head_next heads w) fits seen x
+held_step r heads (steps.Clear e) z w s fits seen finds x = held_words r.size heads (words_after r z (steps.Clear e) w) w s (same_used r.size (region_store z (steps.Clear e)) w) x
+held_step r heads steps.Note z w s fits seen finds x = held_words r.size heads (words_after r z steps.Note w) w s refl x

@@ -3,3 +3,4 @@ pub mod FactSteps
 pub mod FactWords
 pub mod HeadLemmas
 pub mod HeldSteps
+pub mod Places
