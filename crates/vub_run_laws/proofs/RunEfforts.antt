@@ -8,13 +8,13 @@ use Rattle.vub_steps.specs.declared.steps.Phase.{Phase}
 use Rattle.vub_steps.specs.declared.steps.Phase.TheVariants as phases
 use Rattle.vub_steps.specs.declared.steps.Plan.{Plan}
 use Rattle.vub_steps.specs.Steps.{plan_steps, start_steps}
-use Rattle.vub_facts.specs.Facts.{bells}
-use Rattle.vub_facts.proofs.FactStarts.{start_long}
+use Rattle.vub_facts.proofs.Places.{bells, start_long}
 use Rattle.vub_device.specs.declared.entry.Entry.{Entry}
 use Rattle.vub_device.specs.Past.{accepted, published, is_among, started}
 use Rattle.vub_device.proofs.Numbers.{is_among_append}
 use Rattle.vub_run.specs.Memory.{with_at}
 use Rattle.vub_run.specs.Moments.{Lane}
+use Rattle.vub_run_laws.proofs.RunGood.{hidden}
 
 -- of a number: nothing once it was published or completed, and else the steps that are left and its publication
 abbrev pub weight : List ℕ → List ℕ → (ℕ → ℕ) → ℕ → ℕ
@@ -36,7 +36,7 @@ steps_left n bell plan phase = n + 4
 
 abbrev pub effort : ℕ → ℕ → List Entry → ℕ → Lane → ℕ
 effort q n past offered l =
-    (if started past q then 0 else steps_left n l.bell l.plan l.phase) + 21 * (offered - accepted past q) + sum_below (weight (published past q) (l.completed ++ l.batch) l.made) (accepted past q) + 3 * length l.completed + phase_left l.batch l.phase
+    (if started past q then 0 else steps_left n l.bell l.plan l.phase) + 21 * (offered - accepted past q) + sum_below (weight (published past q) (l.completed ++ hidden l.batch l.phase) l.made) (accepted past q) + 3 * length l.completed + phase_left l.batch l.phase
 
 few_bells : (bell : Bool) → bells bell ≤ 1
 few_bells true = omega arith

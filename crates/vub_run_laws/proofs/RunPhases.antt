@@ -61,7 +61,7 @@ moving_worked q past completed made phase phase' between w = record {
   between = between;
 }
 
-moving_holds : (q : ℕ) (h : Header1) (s : Scene) (l : Lane) (done : ℕ) → Holds q h s (starting done l) → QueueFacts q h s l.driver l.bell l.plan [] (phases.Start (done + 1)) → Holds q h s (starting (done + 1) l)
+moving_holds : (q : ℕ) (h : Header1) (s : Scene) (l : Lane) (done : ℕ) → Holds q h s (starting done l) → QueueFacts q h s l.driver l.bell l.plan l.counter [] (phases.Start (done + 1)) → Holds q h s (starting (done + 1) l)
 moving_holds q h s l done x queue = record {
   known = x.known;
   worked = moving_worked q s.past l.completed l.made (phases.Start done) (phases.Start (done + 1)) tt x.worked;
@@ -70,7 +70,7 @@ moving_holds q h s l done x queue = record {
 }
 
 -- a store into the region leaves guest memory, and so what stands in buffers
-noted_holds : (q : ℕ) (h : Header1) (s : Scene) (l : Lane) (done p : ℕ) (bs : List ℕ) → Holds q h s (starting done l) → QueueFacts q h (noted_at p bs s) l.driver l.bell l.plan [] (phases.Start (done + 1)) → Holds q h (noted_at p bs s) (starting (done + 1) l)
+noted_holds : (q : ℕ) (h : Header1) (s : Scene) (l : Lane) (done p : ℕ) (bs : List ℕ) → Holds q h s (starting done l) → QueueFacts q h (noted_at p bs s) l.driver l.bell l.plan l.counter [] (phases.Start (done + 1)) → Holds q h (noted_at p bs s) (starting (done + 1) l)
 noted_holds q h s l done p bs x queue = record {
   known = x.known;
   worked = moving_worked q s.past l.completed l.made (phases.Start done) (phases.Start (done + 1)) tt x.worked;
@@ -94,7 +94,7 @@ start_worked q past list completed made phase stopped w =
       between = tt;
     }
 
-start_holds : (q : ℕ) (h : Header1) (s : Scene) (l : Lane) (list : List ℕ) (done : ℕ) → started s.past q ≡ false → Holds q h s (starting done l) → QueueFacts q h (record s { past = entries.Start q list ∷ s.past }) l.driver l.bell l.plan [] phases.Rest
+start_holds : (q : ℕ) (h : Header1) (s : Scene) (l : Lane) (list : List ℕ) (done : ℕ) → started s.past q ≡ false → Holds q h s (starting done l) → QueueFacts q h (record s { past = entries.Start q list ∷ s.past }) l.driver l.bell l.plan l.counter [] phases.Rest
     → Holds q h (record s { past = entries.Start q list ∷ s.past }) (resting l)
 start_holds q h s l list done stopped x queue = record {
   known = record {
@@ -273,7 +273,7 @@ accept_holds q h s l k run rest more x = record {
     }) kept read;
     status = x.stored.status;
   };
-  queue = queue_entry q h s (entries.Accept q k ∷ s.past) l.driver l.bell l.plan l.batch l.phase (record { accepts = omega (arith, accepted_own s.past q k); shows = refl; collects = omega arith; asks = λ j. refl }) refl run rest
+  queue = queue_entry q h s (entries.Accept q k ∷ s.past) l.driver l.bell l.plan l.counter l.batch l.phase (record { accepts = omega (arith, accepted_own s.past q k); shows = refl; collects = omega arith; asks = λ j. refl }) refl run rest
       (subst (λ (p : Phase). PhaseIs h.size l.bell l.plan l.batch p) rest (phase_at q h s l x)) x.queue;
 }
 

@@ -114,7 +114,7 @@ still_open q h p bs s l k is_open = record {
 }
 
 shown_holds : (q : ℕ) (h : Header1) (p : ℕ) (bs : List ℕ) (s : Scene) (l : Lane) (done : ℕ) → IsUnderWay q h s l done → ((k : ℕ) → OffBuffer q (s.heads q) k p bs)
-    → QueueFacts q h (record (stored_at p bs s) { past = shown_past q p bs s l.batch }) l.driver l.bell l.plan [] phases.Rest → Holds q h (record (stored_at p bs s) { past = shown_past q p bs s l.batch }) (resting l)
+    → QueueFacts q h (record (stored_at p bs s) { past = shown_past q p bs s l.batch }) l.driver l.bell l.plan l.counter [] phases.Rest → Holds q h (record (stored_at p bs s) { past = shown_past q p bs s l.batch }) (resting l)
 shown_holds q h p bs s l done u off queue =
     let st = shown_stored q h p bs s l done u off in record {
       known = shown_known q h p bs s l done u off;
