@@ -27,7 +27,7 @@ use Rattle.vub_device.specs.Places.{are_distinct}
 use Rattle.vub_run.specs.Memory.{Scene}
 use Rattle.vub_run.specs.Moments.{Lane, used_in, region_in, open_heads}
 use Rattle.vub_run.specs.Tracking.{answered_len}
-use Rattle.vub_run.specs.Turns.{element_of, len_of, sight_of, row_items, step_items}
+use Rattle.vub_run.specs.Turns.{element_of, len_of, sight_of, counted, row_items, step_items}
 use Rattle.vub_facts.specs.Facts.{Side, Words, words_at, Facts, course_in, after_row, heads_in, without, ElementsFit}
 use Rattle.vub_facts.specs.Facts.{with_phase as side_with}
 use Rattle.vub_facts.proofs.Places.{IsStarting, IsRunning, Place, place_of, step_left}
@@ -127,11 +127,13 @@ id_row q h s l done e n inside at kept =
     ap (λ (o : Option (ℕ × ℕ)). option_or (option_map (λ (z : ℕ × ℕ). row r SP1 (used_id_place r (used_idx r s.memory + e)) (little_bytes 4 z.0)) o) None) (get_map (element_of h q s) l.batch e inside)
     ∙ ap (λ (y : ℕ). Some (row r SP1 (r.used + (4 + 8 * y)) bs)) (element_place q h.size h.base s.past (s.heads q) s.memory e n.queue.ringed) in record {
       before = before;
+      more = goes l done (omega (arith, before));
       tag = SP1;
       place = p;
       bytes = bs;
       stores = ap (λ (o : Option Row). (row_items o ++ []) ++ []) made;
       off = λ k. below_buffers q (s.heads q) k p bs (omega arith);
+      counts = λ next z. refl;
       queue = record {
         ringed = ring_words q h.size h.base s.past (s.heads q) s.memory p bs n.size (omega arith)
             (λ i from upto. id_and_id q ((P + e) % 65536 % h.size) ((h.base + i) % 65536 % h.size) x s.memory (unseen_entry q h s l done e i n (omega (arith, before)) inside from upto))
@@ -158,11 +160,13 @@ len_row q h s l done e n inside at kept =
     ap (λ (o : Option (ℕ × ℕ)). option_or (option_map (λ (z : ℕ × ℕ). row r SP2 (used_len_place r (used_idx r s.memory + e)) (little_bytes 4 z.1)) o) None) (get_map (element_of h q s) l.batch e inside)
     ∙ ap (λ (y : ℕ). Some (row r SP2 (r.used + (8 + 8 * y)) bs)) (element_place q h.size h.base s.past (s.heads q) s.memory e n.queue.ringed) in record {
       before = before;
+      more = goes l done (omega (arith, before));
       tag = SP2;
       place = p;
       bytes = bs;
       stores = ap (λ (o : Option Row). (row_items o ++ []) ++ []) made;
       off = λ k. below_buffers q (s.heads q) k p bs (omega arith);
+      counts = λ next z. refl;
       queue = record {
         ringed = ring_words q h.size h.base s.past (s.heads q) s.memory p bs n.size (omega arith)
             (λ i from upto. len_and_id q ((P + e) % 65536 % h.size) ((h.base + i) % 65536 % h.size) x s.memory)
@@ -185,9 +189,9 @@ KeptWords q h s l done m =
 abbrev the_row : ℕ → Header1 → Scene → Lane → ℕ → Step → Option Row
 the_row q h s l done step = row_of (the_ring q h.size) (the_region q h.size) (sight_of h q s (publishing done l)) step
 
-note_row : (q : ℕ) (h : Header1) (s : Scene) (l : Lane) (done : ℕ) (step : Step) (y : SplitStore) → IsPublishing q h s l done → done ≢ 4 * length l.batch → (store_of (the_region q h.size) y).space ≡ 1 → the_row q h s l done step ≡ Some (region_row (the_region q h.size) y)
+note_row : (q : ℕ) (h : Header1) (s : Scene) (l : Lane) (done : ℕ) (step : Step) (y : SplitStore) → ((next : ℕ) (z : Lane) → counted next step z ≡ z) → IsPublishing q h s l done → done ≢ 4 * length l.batch → (store_of (the_region q h.size) y).space ≡ 1 → the_row q h s l done step ≡ Some (region_row (the_region q h.size) y)
     → step_items h q (publishing done l) step s ≡ (row_items (the_row q h s l done step) ++ []) ++ [] → KeptWords q h s l done (after_row (the_row q h s l done step) s.memory) → RowNotes q h s l done step
-note_row q h s l done step y n apart space made items_are kept =
+note_row q h s l done step y counts n apart space made items_are kept =
     let st = store_of (the_region q h.size) y in
     let heads : List ℕ = open_heads q s.past (s.heads q) in
     let words : KeptWords q h s l done (put s.memory 1 st.place st.bytes) = subst (λ (k : ℕ). KeptWords q h s l done (put s.memory k st.place st.bytes)) space (subst (λ (o : Option Row). KeptWords q h s l done (after_row o s.memory)) made kept) in
@@ -197,6 +201,7 @@ note_row q h s l done step y n apart space made items_are kept =
       place = st.place;
       bytes = st.bytes;
       stores = items_are ∙ ap (λ (o : Option Row). (row_items o ++ []) ++ []) made;
+      counts = counts;
       queue = record {
         ringed = ringed_noted q h.size h.base s.past (s.heads q) s.memory st.place st.bytes n.queue.ringed;
         driven = n.queue.driven;
@@ -211,6 +216,7 @@ ring_row_is q h s l done n apart kept =
     let moved = subst (λ (p : Phase). Facts h.size heads h.base (side_with p (side_of q h s l.bell l.plan l.counter l.batch (phases.Publish done))) (words_in q h s)) (after_is q h s l done) kept in record {
       apart = apart;
       rings = refl;
+      counts = λ next z. refl;
       queue = record {
         ringed = n.queue.ringed;
         driven = n.queue.driven;
@@ -307,11 +313,13 @@ index_row q h s l done n whole kept =
     let front : take c (published past' q) ≡ take c (published s.past q) = ap (take c) ps ∙ take-append-le c (published s.past q) l.batch n.known.shown in
     let ringed : Ringed q h.size h.base past' (s.heads q) (put s.memory 0 p bs) = shown_ringed q h x s past' l done n whole is ps refl refl (λ k. refl) in record {
       at = whole;
+      more = goes l done (omega (arith, whole));
       tag = SP5;
       place = p;
       bytes = bs;
       stores = refl;
       off = λ k. below_buffers q (s.heads q) k p bs (omega arith);
+      counts = λ next z. refl;
       queue = record {
         ringed = ringed;
         driven = driven_same q h.size h.capacity h.base s.past past' (s.heads q) l.driver (λ k out. record { below = out.below; kept = ap (λ (ks : List ℕ). is_among ks k) (sym front) ∙ out.kept }) n.queue.driven;
@@ -365,13 +373,13 @@ next_row q h s l done n =
         let at = due (steps.Link e) next in
         let inside : e < length l.batch = omega (arith, at.1, long) in
         let same : done ≡ 4 * e + 2 = at_place (4 * e + 2) at.0 in
-        Notes (steps.Link e) (is (steps.Link e) next) (note_row q h s l done (steps.Link e) (SP3 (element_of h q s (slice_index l.batch e)).0 (region_in h q s).last_batch_head) n (λ e. omega (arith, e, same)) refl
+        Notes (steps.Link e) (is (steps.Link e) next) (note_row q h s l done (steps.Link e) (SP3 (element_of h q s (slice_index l.batch e)).0 (region_in h q s).last_batch_head) (λ next z. refl) n (λ e. omega (arith, e, same)) refl
         (element_made q h s l e (λ (x : ℕ × ℕ). SP3 x.0 (region_in h q s).last_batch_head) inside) refl (kept (steps.Link e) next))
     go (steps.Head e) next =
         let at = due (steps.Head e) next in
         let inside : e < length l.batch = omega (arith, at.1, long) in
         let same : done ≡ 4 * e + 3 = at_place (4 * e + 3) at.0 in
-        Notes (steps.Head e) (is (steps.Head e) next) (note_row q h s l done (steps.Head e) (SP4 (element_of h q s (slice_index l.batch e)).0) n (λ e. omega (arith, e, same)) refl
+        Notes (steps.Head e) (is (steps.Head e) next) (note_row q h s l done (steps.Head e) (SP4 (element_of h q s (slice_index l.batch e)).0) (λ next z. refl) n (λ e. omega (arith, e, same)) refl
         (element_made q h s l e (λ (x : ℕ × ℕ). SP4 x.0) inside) refl (kept (steps.Head e) next))
     go steps.Index next =
         let same : done ≡ 4 * length elements = at_place (4 * length elements) (due steps.Index next) in
@@ -380,11 +388,11 @@ next_row q h s l done n =
         let at = due (steps.Clear e) next in
         let inside : e < length l.batch = omega (arith, at.1, long) in
         let same : done ≡ 4 * length elements + 1 + e = at_place (4 * length elements + 1 + e) at.0 in
-        Notes (steps.Clear e) (is (steps.Clear e) next) (note_row q h s l done (steps.Clear e) (SP6 (element_of h q s (slice_index l.batch e)).0) n (λ e. omega (arith, e, same, long)) refl
+        Notes (steps.Clear e) (is (steps.Clear e) next) (note_row q h s l done (steps.Clear e) (SP6 (element_of h q s (slice_index l.batch e)).0) (λ next z. refl) n (λ e. omega (arith, e, same, long)) refl
         (element_made q h s l e (λ (x : ℕ × ℕ). SP6 x.0) inside) refl (kept (steps.Clear e) next))
     go steps.Note next =
         let same : done ≡ 4 * length elements + 1 + length elements = at_place (4 * length elements + 1 + length elements) (due steps.Note next) in
-        Notes steps.Note (is steps.Note next) (note_row q h s l done steps.Note (SP7 (used_in h q s)) n (λ e. omega (arith, e, same, long)) refl refl refl (kept steps.Note next))
+        Notes steps.Note (is steps.Note next) (note_row q h s l done steps.Note (SP7 (used_in h q s)) (λ next z. refl) n (λ e. omega (arith, e, same, long)) refl refl refl (kept steps.Note next))
     go steps.Bell next = elim (due steps.Bell next).1 [
       | inl at ↦ off at
       | inr at ↦

@@ -32,7 +32,7 @@ use Rattle.vub_device.specs.Past.{started, published, accepted, missing_below, o
 use Rattle.vub_report.specs.declared.items.Item.TheVariants as items
 use Rattle.vub_run.specs.Memory.{Scene}
 use Rattle.vub_run.specs.Moments.{Lane, used_in, region_in, open_heads}
-use Rattle.vub_run.specs.Turns.{step_items, sight_of, next_counter_in}
+use Rattle.vub_run.specs.Turns.{step_items, sight_of, counted, next_counter_in}
 use Rattle.vub_facts.specs.Facts.{Side, Words, words_at, Facts, IsDue, ElementsFit}
 use Rattle.vub_facts.specs.Facts.{with_phase as side_with}
 use Rattle.vub_facts.proofs.FactStarts.{start_begins}
@@ -122,16 +122,17 @@ goes : (n : ℕ) (plan : Plan) (bell : Bool) (done : ℕ) → done + 1 < length 
 goes n plan bell done more = grind (arith, nat_tests)
 
 -- a store of a start that keeps the facts of the words
-store_makes : (q : ℕ) (h : Header1) (s : Scene) (l : Lane) (done : ℕ) (step : Step) (y : SplitStore) → QueueFacts q h s l.driver l.bell l.plan l.counter [] (phases.Start done)
+store_makes : (q : ℕ) (h : Header1) (s : Scene) (l : Lane) (done : ℕ) (step : Step) (y : SplitStore) → ((next : ℕ) (z : Lane) → counted next step z ≡ z) → QueueFacts q h s l.driver l.bell l.plan l.counter [] (phases.Start done)
     → step_items h q (starting done l) step s ≡ items.Store (tag_of y) I (store_of (the_region q h.size) y).place (store_of (the_region q h.size) y).bytes ∷ [] → done + 1 < length (steps_in h l)
     → WordsAt q h (noted_at (store_of (the_region q h.size) y).place (store_of (the_region q h.size) y).bytes s) l.bell l.plan l.counter [] (phases.Start (done + 1)) → StartStores q h s l done step
-store_makes q h s l done step y x stores more words =
+store_makes q h s l done step y counts x stores more words =
     let st = store_of (the_region q h.size) y in record {
       more = more;
       tag = tag_of y;
       place = st.place;
       bytes = st.bytes;
       stores = stores;
+      counts = counts;
       queue = record {
         ringed = ringed_noted q h.size h.base s.past (s.heads q) s.memory st.place st.bytes x.ringed;
         driven = x.driven;
@@ -145,6 +146,7 @@ bell_rings : (q : ℕ) (h : Header1) (s : Scene) (l : Lane) (done : ℕ) → Que
 bell_rings q h s l done x more words = record {
   more = more;
   rings = refl;
+  counts = λ next z. refl;
   queue = record {
     ringed = x.ringed;
     driven = x.driven;
@@ -167,6 +169,7 @@ start_ends q h s l done x none words =
     let heads : List ℕ = open_heads q s.past (s.heads q) in record {
       none = none;
       starts = refl;
+      counts = λ next z. refl;
       queue = record {
         ringed = ringed_entries q h.size h.base s.past past' (s.heads q) s.memory (record { accepts = omega arith; shows = refl; collects = omega arith; asks = λ j. refl }) x.ringed;
         driven = driven_same q h.size h.capacity h.base s.past past' (s.heads q) l.driver (λ j o. record { below = o.below; kept = o.kept }) x.driven;
@@ -205,19 +208,19 @@ next_start q h s l done size x =
     off : {A : Type 0} {p : Phase} → IsRunning p side → A
     off at = absurd (let fails : true ≡ false = sym at.started ∙ x.start.stopped in cc)
 
-    stores : (step : Step) (y : SplitStore) → slice_get (steps_in h l) done ≡ Some step → step ≢ steps.Start
+    stores : (step : Step) (y : SplitStore) → ((next : ℕ) (z : Lane) → counted next step z ≡ z) → slice_get (steps_in h l) done ≡ Some step → step ≢ steps.Start
         → step_items h q (starting done l) step s ≡ items.Store (tag_of y) I (store_of (the_region q h.size) y).place (store_of (the_region q h.size) y).bytes ∷ []
         → Facts h.size (open_heads q s.past (s.heads q)) h.base (side_with (after_of (steps_in h l) (phases.Start done)) side) (words_in q h (noted_at (store_of (the_region q h.size) y).place (store_of (the_region q h.size) y).bytes s)) → NextStart q h s l done (slice_get (steps_in h l) done)
-    stores step y is apart made words =
+    stores step y counts is apart made words =
         let left : done + 1 < length (steps_in h l) = more step is apart in
-        Stores step is (store_makes q h s l done step y x made left (moved (phases.Start (done + 1)) (goes h.size l.plan l.bell done left) side (words_in q h (noted_at (store_of (the_region q h.size) y).place (store_of (the_region q h.size) y).bytes s)) words))
+        Stores step is (store_makes q h s l done step y counts x made left (moved (phases.Start (done + 1)) (goes h.size l.plan l.bell done left) side (words_in q h (noted_at (store_of (the_region q h.size) y).place (store_of (the_region q h.size) y).bytes s)) words))
 
     go : (step : Step) → slice_get (steps_in h l) done ≡ Some step → NextStart q h s l done (slice_get (steps_in h l) done)
-    go steps.Features is = stores steps.Features SI1 is (λ e. cc) refl (kept steps.Features is)
-    go (steps.Free i) is = stores (steps.Free i) (SI2 i) is (λ e. cc) refl (kept (steps.Free i) is)
-    go steps.Open is = stores steps.Open (SI3 (used_in h q s)) is (λ e. cc) refl (kept steps.Open is)
-    go (steps.Settle i) is = stores (steps.Settle i) (SR1 (sight_of h q s (starting done l)).link) is (λ e. cc) refl (kept (steps.Settle i) is)
-    go steps.SettleEnd is = stores steps.SettleEnd (SR2 (used_in h q s)) is (λ e. cc) refl (kept steps.SettleEnd is)
+    go steps.Features is = stores steps.Features SI1 (λ next z. refl) is (λ e. cc) refl (kept steps.Features is)
+    go (steps.Free i) is = stores (steps.Free i) (SI2 i) (λ next z. refl) is (λ e. cc) refl (kept (steps.Free i) is)
+    go steps.Open is = stores steps.Open (SI3 (used_in h q s)) (λ next z. refl) is (λ e. cc) refl (kept steps.Open is)
+    go (steps.Settle i) is = stores (steps.Settle i) (SR1 (sight_of h q s (starting done l)).link) (λ next z. refl) is (λ e. cc) refl (kept (steps.Settle i) is)
+    go steps.SettleEnd is = stores steps.SettleEnd (SR2 (used_in h q s)) (λ next z. refl) is (λ e. cc) refl (kept steps.SettleEnd is)
     go steps.Bell is =
         let left : done + 1 < length (steps_in h l) = more steps.Bell is (λ e. cc) in
         Rings steps.Bell is (bell_rings q h s l done x left (moved (phases.Start (done + 1)) (goes h.size l.plan l.bell done left) side (words_in q h s) (kept steps.Bell is)))

@@ -88,3 +88,13 @@ batch_taken q past counter phase batch completed opens below c k held = elim (ca
   | inl hides ↦ (opens k (is_among_append completed (hidden batch phase) k ∙ or_right (is_among completed k) (is_among (hidden batch phase) k) hides)).taken
   | inr shows ↦ below k (c.shown k held shows)
 ]
+
+-- another phase without a batch
+pub carries_phase : (q : ℕ) (past : List Entry) (counter counter' : ℕ) (phase phase' : Phase) (completed : List ℕ) → IsLow (accepted past q) counter' phase' → Carries q past counter phase [] completed → Carries q past counter' phase' [] completed
+carries_phase q past counter counter' phase phase' completed low c = record {
+  distinct = c.distinct;
+  shown = λ k held out. absurd (let fails : false ≡ true = held in cc);
+  quiet = c.quiet;
+  low = low;
+  idle = c.idle;
+}

@@ -1,5 +1,5 @@
 -- A used element that the driver takes keeps what holds.
-use Rattle.std.proofs.Common.{ℕ, ◌∷◌, arith}
+use Rattle.std.proofs.Common.{ℕ, ◌∷◌, refl, arith}
 use Rattle.std.proofs.lemmas.Option.{slice_get-get_or}
 use Rattle.vub_base.specs.declared.header.Header1.{Header1}
 use Rattle.vub_driver.specs.Drivers.{without_owner}

@@ -52,10 +52,10 @@ open_few q n cap past heads known =
     ]) in
     omega (arith, few, length-append ps os)
 
-sum_few : (gone done : List ℕ) (made : ℕ → ℕ) (a : ℕ) → sum_below (weight gone done made) a ≤ 20 * length (missing_below gone a)
+sum_few : (gone done : List ℕ) (made : ℕ → ℕ) (a : ℕ) → sum_below (weight gone done made) a ≤ 25 * length (missing_below gone a)
 sum_few gone done made zero = omega arith
 sum_few gone done made (suc a) =
-    let rest : sum_below (weight gone done made) a ≤ 20 * length (missing_below gone a) = sum_few gone done made a in
+    let rest : sum_below (weight gone done made) a ≤ 25 * length (missing_below gone a) = sum_few gone done made a in
     elim (cases_Bool (is_among gone a)) [
       | inl there ↦
           let none : weight gone done made a ≡ 0 = grind (arith, nat_tests) in

@@ -23,7 +23,7 @@ use Rattle.vub_device.specs.Requests.{request_of}
 use Rattle.vub_report.specs.declared.items.Item.TheVariants as items
 use Rattle.vub_run.specs.Memory.{Scene, after_item}
 use Rattle.vub_run.specs.Moments.{Lane}
-use Rattle.vub_run.specs.Turns.{step_items, answer_at, with_phase, next_counter_in}
+use Rattle.vub_run.specs.Turns.{step_items, answer_at, with_phase, counted, next_counter_in}
 use Rattle.vub_run_laws.proofs.RunGood.{IsSize, Known, hidden, Worked, Carries, Stored, IsOut, stored_at}
 pub use Rattle.vub_run_laws.proofs.RingGood.{EntryStands, QueueFacts, IsWaiting, LastStands, offered_by}
 use Rattle.vub_run_laws.proofs.RunFrames.{OffBuffer}
@@ -89,11 +89,13 @@ goes_on done l = nat_lt (done + 1) (length (publication_of l))
 -- id or length of an element, which stays hidden
 pub record RowBefore (q : ℕ) (h : Header1) (s : Scene) (l : Lane) (done : ℕ) (step : Step) : Type 0 where
   pub before : done < 4 * length l.batch
+  pub more : goes_on done l ≡ true
   pub tag : Tag
   pub place : ℕ
   pub bytes : List ℕ
   pub stores : step_items h q (publishing done l) step s ≡ items.Store tag M place bytes ∷ []
   pub off : (k : ℕ) → OffBuffer q (s.heads q) k place bytes
+  pub counts : (next : ℕ) (x : Lane) → counted next step x ≡ x
   pub queue : QueueFacts q h (stored_at place bytes s) l.driver l.bell l.plan l.counter l.batch (phases.Publish (done + 1))
 
 -- the scene after a store into the in-flight region
@@ -107,12 +109,14 @@ pub record RowNotes (q : ℕ) (h : Header1) (s : Scene) (l : Lane) (done : ℕ) 
   pub place : ℕ
   pub bytes : List ℕ
   pub stores : step_items h q (publishing done l) step s ≡ items.Store tag I place bytes ∷ []
+  pub counts : (next : ℕ) (x : Lane) → counted next step x ≡ x
   pub queue : QueueFacts q h (noted_at place bytes s) l.driver l.bell l.plan l.counter (moved_on (goes_on done l) done l).batch (moved_on (goes_on done l) done l).phase
 
 -- the bell is rung, after the batch is shown
 pub record RowRings (q : ℕ) (h : Header1) (s : Scene) (l : Lane) (done : ℕ) (step : Step) : Type 0 where
   pub apart : done ≢ 4 * length l.batch
   pub rings : step_items h q (publishing done l) step s ≡ items.Bell q ∷ []
+  pub counts : (next : ℕ) (x : Lane) → counted next step x ≡ x
   pub queue : QueueFacts q h s l.driver l.bell l.plan l.counter (moved_on (goes_on done l) done l).batch (moved_on (goes_on done l) done l).phase
 
 -- the answers of a batch, as they stand after a store
@@ -125,11 +129,13 @@ shown_past q place bytes s batch = entries.Publish q (shown_list q place bytes s
 -- the store of used.idx, which shows the elements, with its publication
 pub record RowShows (q : ℕ) (h : Header1) (s : Scene) (l : Lane) (done : ℕ) (step : Step) : Type 0 where
   pub at : done ≡ 4 * length l.batch
+  pub more : goes_on done l ≡ true
   pub tag : Tag
   pub place : ℕ
   pub bytes : List ℕ
   pub stores : step_items h q (publishing done l) step s ≡ items.Store tag M place bytes ∷ items.Made (entries.Publish q (shown_list q place bytes s l.batch)) ∷ []
   pub off : (k : ℕ) → OffBuffer q (s.heads q) k place bytes
+  pub counts : (next : ℕ) (x : Lane) → counted next step x ≡ x
   pub queue : QueueFacts q h (record (stored_at place bytes s) { past = shown_past q place bytes s l.batch }) l.driver l.bell l.plan l.counter l.batch (phases.Publish (done + 1))
 
 -- the step after so many of a publication, with its row
@@ -179,18 +185,21 @@ pub record StartStores (q : ℕ) (h : Header1) (s : Scene) (l : Lane) (done : �
   pub place : ℕ
   pub bytes : List ℕ
   pub stores : step_items h q (starting done l) step s ≡ items.Store tag I place bytes ∷ []
+  pub counts : (next : ℕ) (x : Lane) → counted next step x ≡ x
   pub queue : QueueFacts q h (noted_at place bytes s) l.driver l.bell l.plan l.counter [] (phases.Start (done + 1))
 
 -- the step that rings the bell
 pub record StartRings (q : ℕ) (h : Header1) (s : Scene) (l : Lane) (done : ℕ) (step : Step) : Type 0 where
   pub more : done + 1 < length (steps_in h l)
   pub rings : step_items h q (starting done l) step s ≡ items.Bell q ∷ []
+  pub counts : (next : ℕ) (x : Lane) → counted next step x ≡ x
   pub queue : QueueFacts q h s l.driver l.bell l.plan l.counter [] (phases.Start (done + 1))
 
 -- the last step, with its entry
 pub record StartEnds (q : ℕ) (h : Header1) (s : Scene) (l : Lane) (done : ℕ) (step : Step) : Type 0 where
   pub none : length (steps_in h l) ≤ done + 1
   pub starts : step_items h q (starting done l) step s ≡ items.Made (entries.Start q (open_numbers s.past q)) ∷ []
+  pub counts : (next : ℕ) (x : Lane) → counted next step x ≡ record x { counter = next }
   pub queue : QueueFacts q h (record s { past = entries.Start q (open_numbers s.past q) ∷ s.past }) l.driver l.bell l.plan (next_counter_in h q s) [] phases.Rest
   pub low : accepted s.past q ≡ 0 → next_counter_in h q s ≡ 0
 
