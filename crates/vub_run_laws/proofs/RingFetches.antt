@@ -43,7 +43,7 @@ fetch_counts q h s l size run x =
         ringed = ringed_noted q h.size h.base s.past (s.heads q) s.memory st.place st.bytes x.ringed;
         driven = x.driven;
         words = kept;
-        start = tt;
+        start = run;
       };
     }
 

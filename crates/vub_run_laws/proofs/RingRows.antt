@@ -55,9 +55,9 @@ moved_facts : (q : ℕ) (h : Header1) (s : Scene) (l : Lane) (done : ℕ) (heads
 moved_facts q h s l done heads w true f = f
 moved_facts q h s l done heads w false f = f
 
-no_start : (runs : Bool) (n : ℕ) (done : ℕ) (l : Lane) (b : Bool) → StartIs runs n l.bell l.plan (moved_on b done l).phase
-no_start runs n done l true = tt
-no_start runs n done l false = tt
+no_start : (runs : Bool) (n : ℕ) (done : ℕ) (l : Lane) (b : Bool) → runs ≡ true → StartIs runs n l.bell l.plan (moved_on b done l).phase
+no_start runs n done l true run = run
+no_start runs n done l false run = tt
 
 -- the phase after it, by the number of elements
 after_is : (q : ℕ) (h : Header1) (s : Scene) (l : Lane) (done : ℕ) → after_of (publish_steps (length (map (element_of h q s) l.batch)) l.bell) (phases.Publish done) ≡ (if goes_on done l then phases.Publish (done + 1) else phases.Rest)
@@ -141,7 +141,7 @@ id_row q h s l done e n inside at kept =
         driven = n.queue.driven;
         words = on_facts q h s l done (open_heads q s.past (s.heads q)) (words_in q h (stored_at p bs s)) (omega (arith, before))
             (subst (λ (o : Option Row). Facts h.size (open_heads q s.past (s.heads q)) h.base (side_with (after_of (publish_steps (length (map (element_of h q s) l.batch)) l.bell) (phases.Publish done)) (side_of q h s l.bell l.plan l.counter l.batch (phases.Publish done))) (words_at r (the_region q h.size) (after_row o s.memory))) made kept);
-        start = tt;
+        start = n.started;
       };
     }
 
@@ -174,7 +174,7 @@ len_row q h s l done e n inside at kept =
         driven = n.queue.driven;
         words = on_facts q h s l done (open_heads q s.past (s.heads q)) (words_in q h (stored_at p bs s)) (omega (arith, before))
             (subst (λ (o : Option Row). Facts h.size (open_heads q s.past (s.heads q)) h.base (side_with (after_of (publish_steps (length (map (element_of h q s) l.batch)) l.bell) (phases.Publish done)) (side_of q h s l.bell l.plan l.counter l.batch (phases.Publish done))) (words_at r (the_region q h.size) (after_row o s.memory))) made kept);
-        start = tt;
+        start = n.started;
       };
     }
 
@@ -206,7 +206,7 @@ note_row q h s l done step y counts n apart space made items_are kept =
         ringed = ringed_noted q h.size h.base s.past (s.heads q) s.memory st.place st.bytes n.queue.ringed;
         driven = n.queue.driven;
         words = moved_facts q h s l done heads (words_in q h (noted_at st.place st.bytes s)) (goes_on done l) moved;
-        start = no_start (started s.past q) h.size done l (goes_on done l);
+        start = no_start (started s.past q) h.size done l (goes_on done l) n.started;
       };
     }
 
@@ -221,7 +221,7 @@ ring_row_is q h s l done n apart kept =
         ringed = n.queue.ringed;
         driven = n.queue.driven;
         words = moved_facts q h s l done heads (words_in q h s) (goes_on done l) moved;
-        start = no_start (started s.past q) h.size done l (goes_on done l);
+        start = no_start (started s.past q) h.size done l (goes_on done l) n.started;
       };
     }
 
@@ -325,7 +325,7 @@ index_row q h s l done n whole kept =
         driven = driven_same q h.size h.capacity h.base s.past past' (s.heads q) l.driver (λ k out. record { below = out.below; kept = ap (λ (ks : List ℕ). is_among ks k) (sym front) ∙ out.kept }) n.queue.driven;
         words = subst (λ (hs : List ℕ). Facts h.size hs h.base (side_of q h s l.bell l.plan l.counter l.batch (phases.Publish (done + 1))) (words_in q h (stored_at p bs s))) (sym (shown_heads q h p bs s l done n whole))
             (on_facts q h s l done (without (heads_in (map (element_of h q s) l.batch)) (open_heads q s.past (s.heads q))) (words_in q h (stored_at p bs s)) (omega (arith, whole)) kept);
-        start = tt;
+        start = n.started;
       };
     }
 

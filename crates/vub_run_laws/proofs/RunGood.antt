@@ -137,10 +137,11 @@ pub record InStart (runs : Bool) (n : ℕ) (bell : Bool) (plan : Plan) (done : �
   pub left : done < length (start_steps n plan bell)
   pub few : length (plan_steps n plan) ≤ n + 2
 
--- what is known of a start that is under way
+-- what is known of a start that is under way; a fetch and a publication are of a queue that is started
 abbrev pub StartIs : Bool → ℕ → Bool → Plan → Phase → Type 0
+StartIs runs n bell plan phases.Rest = ⊤
 StartIs runs n bell plan (phases.Start done) = InStart runs n bell plan done
-StartIs runs n bell plan phase = ⊤
+StartIs runs n bell plan phase = runs ≡ true
 
 -- of the numbers that are completed, or in a batch that isn't shown
 pub record Worked (q : ℕ) (past : List Entry) (phase : Phase) (batch completed : List ℕ) (made : ℕ → ℕ) : Type 0 where

@@ -133,7 +133,7 @@ start_holds q h s l list done counter stopped x low queue = record {
 }
 
 -- what is left of a queue that isn't started, and of one that is
-abbrev left_of : ℕ → Lane → Bool → ℕ
+abbrev pub left_of : ℕ → Lane → Bool → ℕ
 left_of n l runs = if runs then 0 else steps_left n l.bell l.plan l.phase
 
 -- the turn of a step of a start, where more or none is left after it

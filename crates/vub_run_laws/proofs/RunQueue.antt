@@ -108,6 +108,10 @@ queue_start_begins q h s v bell plan counter stopped x = start_facts q h s v bel
 pub queue_start : (q : ℕ) (h : Header1) (s : Scene) (l : Lane) → Holds q h s l → StartIs (started s.past q) h.size l.bell l.plan l.phase
 queue_start q h s l x = x.queue.start
 
+-- and a fetch is of a queue that is started
+pub fetch_runs : (q : ℕ) (h : Header1) (s : Scene) (l : Lane) → l.phase ≡ phases.Fetch 1 → Holds q h s l → started s.past q ≡ true
+fetch_runs q h s l phase x = subst (λ (p : Phase). StartIs (started s.past q) h.size l.bell l.plan p) phase x.queue.start
+
 -- its next step: a store into the in-flight region, the bell, or the last one, with its entry
 pub queue_start_step : (q : ℕ) (h : Header1) (s : Scene) (l : Lane) (done : ℕ) → IsSize h.size → QueueFacts q h s l.driver l.bell l.plan l.counter [] (phases.Start done) → NextStart q h s l done (slice_get (steps_in h l) done)
 queue_start_step q h s l done size x = next_start q h s l done size x
@@ -121,7 +125,7 @@ queue_fetch_begins q h s v bell plan counter size run known more low x = record 
   ringed = x.ringed;
   driven = x.driven;
   words = words_fetch q h s v bell plan counter size run known x.ringed x.driven more low x.words;
-  start = tt;
+  start = run;
 }
 
 -- its two steps
@@ -140,7 +144,7 @@ queue_begins q h s v bell plan counter batch run known some distinct opens x = r
   ringed = x.ringed;
   driven = x.driven;
   words = words_begin q h s bell plan counter batch run (batch_begins_at q h s v bell batch known x.driven some distinct opens) x.words;
-  start = tt;
+  start = run;
 }
 
 -- the next row of a publication
