@@ -3,11 +3,13 @@ pub mod RingCollects
 pub mod RingElements
 pub mod RingEntries
 pub mod RingFacts
+pub mod RingFetches
 pub mod RingFrames
 pub mod RingGood
 pub mod RingHeads
 pub mod RingOffers
 pub mod RingOpening
+pub mod RingPositions
 pub mod RingQuiet
 pub mod RingRows
 pub mod RingSmall
@@ -16,6 +18,7 @@ pub mod RingStarts
 pub mod RingStores
 pub mod RingTracks
 pub mod RunAsks
+pub mod RunCarries
 pub mod RunChains
 pub mod RunChainsEvents
 pub mod RunChainsGentle

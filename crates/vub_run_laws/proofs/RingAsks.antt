@@ -145,8 +145,8 @@ ask_driven q n cap base past heads a v (head ∷ ds) small plain some few all d 
   };
 }
 
-pub ask_facts : (q : ℕ) (h : Header1) (s : Scene) (v : Driver) (bell : Bool) (plan : Plan) (batch : List ℕ) (phase : Phase) (a : Ask) → IsSize h.size → IsPlainAsk h.capacity a → can_take h.size Direct a v ≡ true → QueueFacts q h s v bell plan batch phase → QueueFacts q h s (after_ask (the_ring q h.size) a v) bell plan batch phase
-ask_facts q h s v bell plan batch phase a size plain ready x =
+pub ask_facts : (q : ℕ) (h : Header1) (s : Scene) (v : Driver) (bell : Bool) (plan : Plan) (counter : ℕ) (batch : List ℕ) (phase : Phase) (a : Ask) → IsSize h.size → IsPlainAsk h.capacity a → can_take h.size Direct a v ≡ true → QueueFacts q h s v bell plan counter batch phase → QueueFacts q h s (after_ask (the_ring q h.size) a v) bell plan counter batch phase
+ask_facts q h s v bell plan counter batch phase a size plain ready x =
     let free : List ℕ = free_descriptors h.size v in
     let enough : descriptors_needed a ≤ length free = grind (arith, nat_tests) in
     let many : length (chosen h.size a v) ≡ descriptors_needed a = length-take-le (descriptors_needed a) free enough in

@@ -12,7 +12,7 @@ use Rattle.vub_device.specs.declared.entry.Entry.TheVariants as entries
 use Rattle.vub_run.specs.Memory.{Scene}
 use Rattle.vub_run.specs.Moments.{Lane}
 use Rattle.vub_run_laws.proofs.RingGood.{Driven, WaitsWell, the_ring, QueueFacts}
-use Rattle.vub_run_laws.proofs.RingTracks.{ahead_by}
+use Rattle.vub_run_laws.proofs.RingPositions.{ahead_by}
 use Rattle.vub_run_laws.proofs.RunGood.{Known, spot, IsGood, LeavesQueue}
 use Rattle.vub_run_laws.proofs.RunHolds.{Holds}
 use Rattle.vub_run_laws.proofs.RunTaken.{IsTaken, later_out, next_number, next_out}
@@ -133,12 +133,12 @@ shown_seen q h s l position head good holds at shown =
 
 -- ---- a collection
 
-pub taken_facts : (q : ℕ) (h : Header1) (s : Scene) (l : Lane) (x k : ℕ) → IsTaken q h s l x → QueueFacts q h (record s { past = entries.Collect q k ∷ s.past }) (record l.driver { owner = without_owner x l.driver.owner }) l.bell l.plan l.batch l.phase
+pub taken_facts : (q : ℕ) (h : Header1) (s : Scene) (l : Lane) (x k : ℕ) → IsTaken q h s l x → QueueFacts q h (record s { past = entries.Collect q k ∷ s.past }) (record l.driver { owner = without_owner x l.driver.owner }) l.bell l.plan l.counter l.batch l.phase
 taken_facts q h s l x k t =
     let past' : List Entry = entries.Collect q k ∷ s.past in
     let leaves : LeavesQueue q s.past past' = record { accepts = omega arith; shows = refl; collects = omega (arith, collected_own s.past q k); asks = λ j. refl } in record {
       ringed = ringed_entries q h.size h.base s.past past' (s.heads q) s.memory leaves t.holds.queue.ringed;
       driven = taken_driven q h s l x k t;
-      words = words_same q h s past' l.bell l.plan l.batch l.phase refl refl leaves.shows leaves.asks t.holds.queue.words;
+      words = words_same q h s past' l.bell l.plan l.counter l.batch l.phase refl refl leaves.shows leaves.asks t.holds.queue.words;
       start = t.holds.queue.start;
     }

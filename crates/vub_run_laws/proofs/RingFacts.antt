@@ -1,5 +1,5 @@
 -- The facts of a queue's words at the moments of a run.
-use Rattle.std.proofs.Common.{◌≡◌, ◌≤◌, ◌<◌, ℕ, zero, suc, ◌+◌, ◌*◌, Bool, true, false, List, [], ◌∷◌, ◌++◌, length, map, take, get_or, refl, ap, sym, ◌∙◌, subst, inl, inr, arith}
+use Rattle.std.proofs.Common.{◌≡◌, ◌≤◌, ◌<◌, ℕ, zero, suc, ◌+◌, ◌*◌, ◌%◌, Bool, true, false, List, [], ◌∷◌, ◌++◌, length, map, take, get_or, refl, ap, sym, ◌∙◌, subst, inl, inr, arith}
 use Rattle.std.specs.Prelude.{Option, slice_index}
 use Rattle.byteorder.specs.Endian.{little_bytes}
 use Rattle.std.proofs.lemmas.Bool.{cases_Bool, cases_lt}
@@ -11,8 +11,9 @@ use Rattle.vub_shared.specs.Bytes.{Bytes, put, word}
 use Rattle.vub_shared.specs.Stores.{one_store}
 use Rattle.vub_steps.specs.declared.steps.Phase.{Phase}
 use Rattle.vub_steps.specs.declared.steps.Phase.TheVariants as phases
-use Rattle.vub_steps.specs.declared.steps.Step.TheVariants as steps
-use Rattle.vub_ring.specs.Ring.{Ring, entry_of, used_idx, element_at, used_id_place, used_len_place}
+use Rattle.vub_steps.specs.declared.steps.Step.{Step}
+use Rattle.vub_steps.specs.Rows.{Sight, row_of}
+use Rattle.vub_ring.specs.Ring.{Ring, ahead, avail_idx, head_at, entry_of, used_idx, element_at}
 use Rattle.vub_driver.specs.Layout.{area_place}
 use Rattle.vub_driver.specs.Drivers.{Driver}
 use Rattle.vub_device.specs.declared.entry.Asked.{Asked}
@@ -21,26 +22,24 @@ use Rattle.vub_device.specs.declared.entry.Entry.TheVariants as entries
 use Rattle.vub_device.specs.Past.{started, asked, accepted, published, collected, missing_below, open_numbers, is_among, IsOpen}
 use Rattle.vub_device.specs.Places.{are_distinct}
 use Rattle.vub_run.specs.Memory.{Scene}
-use Rattle.vub_run.specs.Moments.{Lane, open_heads}
-use Rattle.vub_run.specs.Turns.{element_of, len_of}
+use Rattle.vub_run.specs.Moments.{Lane, open_heads, next_head, last_counter}
+use Rattle.vub_run.specs.Turns.{element_of, len_of, sight_of, next_counter_in}
 use Rattle.vub_steps.specs.declared.steps.Plan.{Plan}
-use Rattle.vub_steps.specs.declared.steps.Plan.TheVariants as plans
-use Rattle.vub_steps.specs.Steps.{plan_steps}
+use Rattle.vub_steps.specs.Steps.{publish_steps}
+use Rattle.vub_steps.proofs.StepLemmas.{length_publish}
 use Rattle.vub_infl_split.specs.declared.region.SplitRegion.{SplitRegion}
-use Rattle.vub_infl_split.specs.Region.{RegionWords, words_of}
-use Rattle.vub_region_facts.specs.Starts.{Left}
-use Rattle.vub_region_facts.specs.Phases.{NotStarted}
-use Rattle.vub_region_facts.specs.Starts as starts
-use Rattle.vub_facts.specs.Facts.{Side, heads_in, Lies, Elsewhere, Words, words_at, InBatch, Facts, sight, words_after}
-use Rattle.vub_facts.proofs.FactStarts.{start_long}
-use Rattle.vub_facts.proofs.FactWords.{facts_off, facts_beside, id_words, len_words}
-use Rattle.vub_facts.proofs.FactSteps.{publication_begins, step_keeps}
+
+use Rattle.vub_facts.specs.Facts.{Side, heads_in, Lies, Elsewhere, Words, words_at, head_next, InBatch, BatchFacts, Facts, IsDue, sight, words_after, heads_after, side_after, after_row, ElementsFit}
+use Rattle.vub_facts.proofs.Places.{start_long}
+use Rattle.vub_facts.proofs.FactWords.{facts_off, facts_beside, row_words}
+use Rattle.vub_facts.proofs.FactSteps.{SeesSame, facts_left, fetch_begins, publication_begins, step_keeps}
 use Rattle.vub_facts.proofs.HeadLemmas.{number_of, among_map, few_below}
 use Rattle.vub_run_laws.proofs.RunNumbers.{missing-among, among-missing}
 use Rattle.vub_run_laws.proofs.RunGood.{IsSize, Known, IsOut, PhaseIs, StartIs, BetweenTurns, LeavesQueue, stored_at}
-use Rattle.vub_run_laws.proofs.RingGood.{the_ring, the_region, side_of, WordsAt, Driven, QueueFacts}
+use Rattle.vub_run_laws.proofs.RingGood.{the_ring, the_region, side_of, WordsAt, Ringed, Driven, QueueFacts}
 use Rattle.vub_run_laws.proofs.RunHolds.{Holds}
-use Rattle.vub_run_laws.proofs.RunFrames.{open_out}
+use Rattle.vub_run_laws.proofs.RunFrames.{open_out, waiting_out}
+use Rattle.vub_run_laws.proofs.RingPositions.{at_heads, ahead_there, head_there}
 use Rattle.vub_run_laws.proofs.RingFrames.{OffRings, ringed_elsewhere}
 use Rattle.vub_run_laws.proofs.RingEntries.{ringed_entries, driven_same}
 use Rattle.vub_run_laws.proofs.RunOffers.{same_head, same_asked}
@@ -66,11 +65,11 @@ phase_at q h s l x = go l.phase x.worked.between x.queue.words x.queue.start
     none [] e = refl
     none (k ∷ ks) e = absurd (cc)
 
-    go : (p : Phase) → BetweenTurns p → WordsAt q h s l.bell l.plan l.batch p → StartIs (started s.past q) h.size l.bell l.plan p → PhaseIs h.size l.bell l.plan l.batch p
+    go : (p : Phase) → BetweenTurns p → WordsAt q h s l.bell l.plan l.counter l.batch p → StartIs (started s.past q) h.size l.bell l.plan p → PhaseIs h.size l.bell l.plan l.batch p
     go phases.Rest between f start = none l.batch f.batch
-    go (phases.Publish done) between f start = (omega (arith, f.batch.0.some, long), omega (arith, f.batch.0.left, long))
+    go (phases.Publish done) between f start = (omega (arith, f.batch.0.some, long), subst (λ (m : ℕ). done < length (publish_steps m l.bell)) long f.batch.0.left)
     go (phases.Start done) between f start = (none l.batch f.batch, start.left)
-    go (phases.Fetch done) between f start = absurd between
+    go (phases.Fetch done) between f start = (none l.batch f.batch.none, between)
 
 -- ---- another history
 
@@ -84,31 +83,31 @@ map_alike f g (x ∷ xs) same =
     let here : f x ≡ g x = same x (grind (arith, nat_tests)) in
     cc
 
-side_are : (b b' bell : Bool) (p : Phase) (plan : Plan) (xs xs' : List (ℕ × ℕ)) → b ≡ b' → xs ≡ xs' → ◌≡◌ {A = Side} (record { started = b; bell = bell; phase = p; plan = plan; batch = xs }) (record { started = b'; bell = bell; phase = p; plan = plan; batch = xs' })
-side_are b b' bell p plan xs xs' e f = cc
+side_are : (b b' bell : Bool) (p : Phase) (plan : Plan) (counter : ℕ) (xs xs' : List (ℕ × ℕ)) → b ≡ b' → xs ≡ xs' → ◌≡◌ {A = Side} (record { started = b; bell = bell; phase = p; plan = plan; counter = counter; batch = xs }) (record { started = b'; bell = bell; phase = p; plan = plan; counter = counter; batch = xs' })
+side_are b b' bell p plan counter xs xs' e f = cc
 
 -- an entry that accepts and shows nothing, and starts nothing
-pub words_same : (q : ℕ) (h : Header1) (s : Scene) (past' : List Entry) (bell : Bool) (plan : Plan) (batch : List ℕ) (phase : Phase) → started past' q ≡ started s.past q → accepted past' q ≡ accepted s.past q → published past' q ≡ published s.past q
-    → ((k : ℕ) → asked past' q k ≡ asked s.past q k) → WordsAt q h s bell plan batch phase → WordsAt q h (record s { past = past' }) bell plan batch phase
-words_same q h s past' bell plan batch phase runs accepts shows asks f =
+pub words_same : (q : ℕ) (h : Header1) (s : Scene) (past' : List Entry) (bell : Bool) (plan : Plan) (counter : ℕ) (batch : List ℕ) (phase : Phase) → started past' q ≡ started s.past q → accepted past' q ≡ accepted s.past q → published past' q ≡ published s.past q
+    → ((k : ℕ) → asked past' q k ≡ asked s.past q k) → WordsAt q h s bell plan counter batch phase → WordsAt q h (record s { past = past' }) bell plan counter batch phase
+words_same q h s past' bell plan counter batch phase runs accepts shows asks f =
     let heads : List ℕ = s.heads q in
     let same : open_heads q s.past heads ≡ open_heads q past' heads =
     ap (λ (ps : List ℕ). map (slice_index heads) (missing_below ps (accepted s.past q))) (sym shows) ∙ ap (λ (n : ℕ). map (slice_index heads) (missing_below (published past' q) n)) (sym accepts) in
     let elements : map (element_of h q s) batch ≡ map (element_of h q (record s { past = past' })) batch =
     map_alike (element_of h q s) (element_of h q (record s { past = past' })) batch (λ k held. ap (λ (o : Option Asked). (slice_index heads k, len_of h o)) (sym (asks k))) in
-    facts_are h.size h.base (open_heads q s.past heads) (open_heads q past' heads) (side_of q h s bell plan batch phase) (side_of q h (record s { past = past' }) bell plan batch phase) (words_at (the_ring q h.size) (the_region q h.size) s.memory) same
-    (side_are (started s.past q) (started past' q) bell phase plan (map (element_of h q s) batch) (map (element_of h q (record s { past = past' })) batch) (sym runs) elements) f
+    facts_are h.size h.base (open_heads q s.past heads) (open_heads q past' heads) (side_of q h s bell plan counter batch phase) (side_of q h (record s { past = past' }) bell plan counter batch phase) (words_at (the_ring q h.size) (the_region q h.size) s.memory) same
+    (side_are (started s.past q) (started past' q) bell phase plan counter (map (element_of h q s) batch) (map (element_of h q (record s { past = past' })) batch) (sym runs) elements) f
 
 -- the facts of the words, where the requests of the queue were offered under these heads
-abbrev pub OfferedWords : ℕ → Header1 → Scene → Asked → Bytes → Bool → Plan → List ℕ → Phase → List ℕ → Type 0
-OfferedWords q h s r m bell plan batch phase hs =
-    Facts h.size (open_heads q (entries.Offer q r ∷ s.past) hs) h.base (record { started = started s.past q; bell = bell; phase = phase; plan = plan; batch = map (λ k. (slice_index hs k, len_of h (asked (entries.Offer q r ∷ s.past) q k))) batch }) (words_at (the_ring q h.size) (the_region q h.size) m)
+abbrev pub OfferedWords : ℕ → Header1 → Scene → Asked → Bytes → Bool → Plan → ℕ → List ℕ → Phase → List ℕ → Type 0
+OfferedWords q h s r m bell plan counter batch phase hs =
+    Facts h.size (open_heads q (entries.Offer q r ∷ s.past) hs) h.base (record { started = started s.past q; bell = bell; phase = phase; plan = plan; counter = counter; batch = map (λ k. (slice_index hs k, len_of h (asked (entries.Offer q r ∷ s.past) q k))) batch }) (words_at (the_ring q h.size) (the_region q h.size) m)
 
 -- an offer: what was accepted before keeps its head and its request
-pub words_offer : (q : ℕ) (h : Header1) (s : Scene) (r : Asked) (x : ℕ) (m : Bytes) (bell : Bool) (plan : Plan) (batch : List ℕ) (phase : Phase) → Known q h.size h.capacity s.past (s.heads q) → ((k : ℕ) → is_among batch k ≡ true → k < accepted s.past q)
-    → WordsAt q h (record s { memory = m }) bell plan batch phase
-    → OfferedWords q h s r m bell plan batch phase (s.heads q ++ x ∷ [])
-words_offer q h s r x m bell plan batch phase known low f =
+pub words_offer : (q : ℕ) (h : Header1) (s : Scene) (r : Asked) (x : ℕ) (m : Bytes) (bell : Bool) (plan : Plan) (counter : ℕ) (batch : List ℕ) (phase : Phase) → Known q h.size h.capacity s.past (s.heads q) → ((k : ℕ) → is_among batch k ≡ true → k < accepted s.past q)
+    → WordsAt q h (record s { memory = m }) bell plan counter batch phase
+    → OfferedWords q h s r m bell plan counter batch phase (s.heads q ++ x ∷ [])
+words_offer q h s r x m bell plan counter batch phase known low f =
     let heads : List ℕ = s.heads q in
     let heads' : List ℕ = heads ++ x ∷ [] in
     let past' : List Entry = entries.Offer q r ∷ s.past in
@@ -121,12 +120,12 @@ words_offer q h s r x m bell plan batch phase known low f =
     map_alike (element_of h q s) element' batch (λ k held.
     ap (λ (d : ℕ). (d, len_of h (asked s.past q k))) (head_is k (low k held)) ∙ ap (λ (o : Option Asked). (slice_index heads' k, len_of h o)) (asks_is k (low k held))) in
     facts_are h.size h.base (open_heads q s.past heads) (open_heads q past' heads') _ _ (words_at (the_ring q h.size) (the_region q h.size) m) same
-    (side_are (started s.past q) (started s.past q) bell phase plan (map (element_of h q s) batch) (map element' batch) refl elements) f
+    (side_are (started s.past q) (started s.past q) bell phase plan counter (map (element_of h q s) batch) (map element' batch) refl elements) f
 
 -- an entry that offers, shows and collects nothing, with what it leaves of the words
-pub facts_entry : (q : ℕ) (h : Header1) (s : Scene) (past' : List Entry) (v : Driver) (bell : Bool) (plan : Plan) (batch : List ℕ) (phase : Phase) → LeavesQueue q s.past past' → collected past' q ≡ collected s.past q → WordsAt q h (record s { past = past' }) bell plan batch phase
-    → StartIs (started past' q) h.size bell plan phase → QueueFacts q h s v bell plan batch phase → QueueFacts q h (record s { past = past' }) v bell plan batch phase
-facts_entry q h s past' v bell plan batch phase leaves same words start x = record {
+pub facts_entry : (q : ℕ) (h : Header1) (s : Scene) (past' : List Entry) (v : Driver) (bell : Bool) (plan : Plan) (counter : ℕ) (batch : List ℕ) (phase : Phase) → LeavesQueue q s.past past' → collected past' q ≡ collected s.past q → WordsAt q h (record s { past = past' }) bell plan counter batch phase
+    → StartIs (started past' q) h.size bell plan phase → QueueFacts q h s v bell plan counter batch phase → QueueFacts q h (record s { past = past' }) v bell plan counter batch phase
+facts_entry q h s past' v bell plan counter batch phase leaves same words start x = record {
   ringed = ringed_entries q h.size h.base s.past past' (s.heads q) s.memory leaves x.ringed;
   driven = driven_same q h.size h.capacity h.base s.past past' (s.heads q) v (λ j o. record {
     below = o.below;
@@ -137,8 +136,34 @@ facts_entry q h s past' v bell plan batch phase leaves same words start x = reco
 }
 
 -- a bell changes nothing of the words, and a start has no fewer steps left with one
-pub words_attached : (q : ℕ) (h : Header1) (s : Scene) (bell : Bool) (plan : Plan) (batch : List ℕ) (phase : Phase) → WordsAt q h s bell plan batch phase → WordsAt q h s true plan batch phase
-words_attached q h s bell plan batch phase f = record { used_fits = f.used_fits; not_started = f.not_started; batch = f.batch }
+pub words_attached : (q : ℕ) (h : Header1) (s : Scene) (bell : Bool) (plan : Plan) (counter : ℕ) (batch : List ℕ) (phase : Phase) → WordsAt q h s bell plan counter batch phase → WordsAt q h s true plan counter batch phase
+words_attached q h s true plan counter batch phase f = f
+words_attached q h s false plan counter batch phase f = record { used_fits = f.used_fits; not_started = f.not_started; in_life = f.in_life; batch = go phase f.batch }
+  where
+    words : Words
+    words = words_at (the_ring q h.size) (the_region q h.size) s.memory
+
+    heads : List ℕ
+    heads = open_heads q s.past (s.heads q)
+
+    elements : List (ℕ × ℕ)
+    elements = map (element_of h q s) batch
+
+    go : (p : Phase) → BatchFacts h.size heads (side_of q h s false plan counter batch p) words p → BatchFacts h.size heads (side_of q h s true plan counter batch p) words p
+    go phases.Rest b = b
+    go (phases.Start done) b = b
+    go (phases.Fetch done) b = b
+    go (phases.Publish done) b = (
+      record {
+        some = b.0.some;
+        few = b.0.few;
+        distinct = b.0.distinct;
+        below = b.0.below;
+        left = omega (arith, b.0.left, length_publish (length elements) true, length_publish (length elements) false);
+        opens = b.0.opens;
+      },
+      b.1,
+    )
 
 pub start_attached : (runs : Bool) (n : ℕ) (bell : Bool) (plan : Plan) (phase : Phase) → StartIs runs n bell plan phase → StartIs runs n true plan phase
 start_attached runs n true plan phase x = x
@@ -153,45 +178,45 @@ start_attached runs n false plan (phases.Publish done) x = x
 
 -- ---- at rest
 
--- a queue that runs and has nothing under way
-pub words_rest : (q : ℕ) (h : Header1) (s : Scene) (bell : Bool) (plan : Plan) → started s.past q ≡ true → used_idx (the_ring q h.size) s.memory < 65536 → WordsAt q h s bell plan [] phases.Rest
-words_rest q h s bell plan run fits = record { used_fits = fits; not_started = λ stopped. absurd (let fails : true ≡ false = sym run ∙ stopped in cc); batch = refl }
-
-pub words_rest_at : (q : ℕ) (h : Header1) (s : Scene) (bell : Bool) (plan : Plan) (batch : List ℕ) (phase : Phase) → phase ≡ phases.Rest → batch ≡ [] → WordsAt q h s bell plan [] phases.Rest → WordsAt q h s bell plan batch phase
-words_rest_at q h s bell plan batch phase rest none f = subst (λ (p : Phase). WordsAt q h s bell plan batch p) (sym rest) (subst (λ (ks : List ℕ). WordsAt q h s bell plan ks phases.Rest) (sym none) f)
-
--- a life that is cut off in a start leaves what a life can
-start_leaves : (n used : ℕ) (heads : List ℕ) (base done : ℕ) (plan : Plan) (w : RegionWords) → starts.InStart n used heads base plan done w → Left n used heads base w
-start_leaves n used heads base done plans.New w x = elim (cases_lt done (length (plan_steps n plans.New))) [
-  | inl more ↦ inl (x.stores more).unmade
-  | inr none ↦ inr (x.settled none).sound
-]
-start_leaves n used heads base done (plans.Settles count) w x = elim (cases_lt done (length (plan_steps n (plans.Settles count)))) [
-  | inl more ↦ inr (x.stores more).sound
-  | inr none ↦ inr (x.settled none).sound
-]
-start_leaves n used heads base done plans.Settled w x = inr (x.settled (omega arith)).sound
-
-life_leaves : (n used : ℕ) (heads : List ℕ) (base : ℕ) (plan : Plan) (phase : Phase) (w : RegionWords) → NotStarted n used heads base plan phase w → Left n used heads base w
-life_leaves n used heads base plan phases.Rest w x = x
-life_leaves n used heads base plan (phases.Start done) w x = start_leaves n used heads base done plan w x
-life_leaves n used heads base plan (phases.Fetch done) w x = x
-life_leaves n used heads base plan (phases.Publish done) w x = x
-
--- whatever was under way
-pub words_rests : (q : ℕ) (h : Header1) (s : Scene) (bell bell' : Bool) (plan plan' : Plan) (batch : List ℕ) (phase : Phase) → WordsAt q h s bell plan batch phase → WordsAt q h s bell' plan' [] phases.Rest
-words_rests q h s bell bell' plan plan' batch phase f = record {
+-- a queue that isn't started, whatever was under way
+pub words_rests : (q : ℕ) (h : Header1) (s : Scene) (bell bell' : Bool) (plan plan' : Plan) (counter counter' : ℕ) (batch : List ℕ) (phase : Phase) → started s.past q ≡ false → WordsAt q h s bell plan counter batch phase → WordsAt q h s bell' plan' counter' [] phases.Rest
+words_rests q h s bell bell' plan plan' counter counter' batch phase stopped f = record {
   used_fits = f.used_fits;
-  not_started = λ stopped. life_leaves h.size (used_idx (the_ring q h.size) s.memory) (open_heads q s.past (s.heads q)) h.base plan phase (words_of (the_region q h.size) s.memory) (f.not_started stopped);
+  not_started = λ off. facts_left h.size (open_heads q s.past (s.heads q)) h.base (side_of q h s bell plan counter batch phase) (words_at (the_ring q h.size) (the_region q h.size) s.memory) f;
+  in_life = λ on. absurd (let fails : true ≡ false = sym on ∙ stopped in cc);
   batch = refl;
 }
 
+-- ---- a fetch begins
+
+-- the head that waits at the avail position is a free one
+pub words_fetch : (q : ℕ) (h : Header1) (s : Scene) (v : Driver) (bell : Bool) (plan : Plan) (counter : ℕ) → IsSize h.size → started s.past q ≡ true → Known q h.size h.capacity s.past (s.heads q) → Ringed q h.size h.base s.past (s.heads q) s.memory
+    → Driven q h.size h.capacity h.base s.past (s.heads q) v → accepted s.past q < length (s.heads q) → counter < last_counter → WordsAt q h s bell plan counter [] phases.Rest → WordsAt q h s bell plan counter [] (phases.Fetch 0)
+words_fetch q h s v bell plan counter size run known r driven more low f =
+    let a : ℕ = accepted s.past q in
+    let heads : List ℕ = open_heads q s.past (s.heads q) in
+    let words : Words = words_at (the_ring q h.size) (the_region q h.size) s.memory in
+    let p : ℕ = used_idx (the_ring q h.size) s.memory + length heads in
+    let at : p % 65536 ≡ (h.base + a) % 65536 = at_heads q h.size h.capacity h.base s.past (s.heads q) s.memory known r in
+    let some : 0 < ahead (avail_idx (the_ring q h.size) s.memory) p = omega (arith, more, ahead_there q h.size h.capacity h.base s.past (s.heads q) s.memory p size known r at) in
+    let head : head_next heads words ≡ slice_index (s.heads q) a = head_there q h.size h.base s.past (s.heads q) s.memory p r more at in
+    let out : IsOut q s.past (s.heads q) a = waiting_out q h.size h.capacity s.past (s.heads q) known more in
+    let free : is_among heads (slice_index (s.heads q) a) ≡ false = elim (cases_Bool (is_among heads (slice_index (s.heads q) a))) [
+      | inl held ↦
+          let there = number_of (slice_index (s.heads q)) (open_numbers s.past q) (slice_index (s.heads q) a) held in
+          let opened = missing-among (published s.past q) a there.0 there.1 in
+          let same : there.0 ≡ a = driven.apart there.0 a (open_out q h.size h.capacity s.past (s.heads q) there.0 known (record { taken = opened.0; unpublished = opened.1 })) out there.2 in
+          absurd (omega (arith, same, opened.0))
+      | inr none ↦ none
+    ] in
+    fetch_begins h.size heads h.base (side_of q h s bell plan counter [] phases.Rest) words run refl refl some (omega (arith, head, driven.below a out)) (ap (is_among heads) head ∙ free) low f
+
 -- ---- a batch begins
 
-heads_of_elements : (q : ℕ) (h : Header1) (s : Scene) (ks : List ℕ) → heads_in (map (element_of h q s) ks) ≡ map (slice_index (s.heads q)) ks
+pub heads_of_elements : (q : ℕ) (h : Header1) (s : Scene) (ks : List ℕ) → heads_in (map (element_of h q s) ks) ≡ map (slice_index (s.heads q)) ks
 heads_of_elements q h s ks = map-map (λ (x : ℕ × ℕ). x.0) (element_of h q s) ks
 
-distinct_map : (f : ℕ → ℕ) (ks : List ℕ) → are_distinct ks ≡ true → ((j k : ℕ) → is_among ks j ≡ true → is_among ks k ≡ true → f j ≡ f k → j ≡ k) → are_distinct (map f ks) ≡ true
+pub distinct_map : (f : ℕ → ℕ) (ks : List ℕ) → are_distinct ks ≡ true → ((j k : ℕ) → is_among ks j ≡ true → is_among ks k ≡ true → f j ≡ f k → j ≡ k) → are_distinct (map f ks) ≡ true
 distinct_map f [] d apart = refl
 distinct_map f (x ∷ ks) d apart =
     let tail : are_distinct ks ≡ true = grind (arith, nat_tests) in
@@ -209,9 +234,9 @@ distinct_map f (x ∷ ks) d apart =
     grind (arith, nat_tests)
 
 -- open numbers have heads of their own, and these are open
-pub batch_begins_at : (q : ℕ) (h : Header1) (s : Scene) (v : _) (batch : List ℕ) → Known q h.size h.capacity s.past (s.heads q) → Driven q h.size h.capacity h.base s.past (s.heads q) v → 0 < length batch → are_distinct batch ≡ true
-    → ((k : ℕ) → is_among batch k ≡ true → IsOpen s.past q k) → InBatch h.size (open_heads q s.past (s.heads q)) (map (element_of h q s) batch) 0
-batch_begins_at q h s v batch known driven some distinct opens =
+pub batch_begins_at : (q : ℕ) (h : Header1) (s : Scene) (v : _) (bell : Bool) (batch : List ℕ) → Known q h.size h.capacity s.past (s.heads q) → Driven q h.size h.capacity h.base s.past (s.heads q) v → 0 < length batch → are_distinct batch ≡ true
+    → ((k : ℕ) → is_among batch k ≡ true → IsOpen s.past q k) → InBatch h.size (open_heads q s.past (s.heads q)) bell (map (element_of h q s) batch) 0
+batch_begins_at q h s v bell batch known driven some distinct opens =
     let f : ℕ → ℕ = slice_index (s.heads q) in
     let out : (k : ℕ) → is_among batch k ≡ true → IsOut q s.past (s.heads q) k = λ k held. open_out q h.size h.capacity s.past (s.heads q) k known (opens k held) in
     let same : heads_in (map (element_of h q s) batch) ≡ map f batch = heads_of_elements q h s batch in
@@ -228,86 +253,87 @@ batch_begins_at q h s v batch known driven some distinct opens =
       few = omega (arith, long, length-map batch f, few_below (map f batch) h.size apart below);
       distinct = ap are_distinct same ∙ apart;
       below = λ d held. below d (ap (λ (hs : List ℕ). is_among hs d) (sym same) ∙ held);
-      left = omega arith;
+      left = omega (arith, length_publish (length (map (element_of h q s) batch)) bell);
       opens = λ le d held. open_too d (ap (λ (hs : List ℕ). is_among hs d) (sym same) ∙ held);
     }
 
-pub words_begin : (q : ℕ) (h : Header1) (s : Scene) (bell : Bool) (plan : Plan) (batch before : List ℕ) (phase : Phase) → started s.past q ≡ true → InBatch h.size (open_heads q s.past (s.heads q)) (map (element_of h q s) batch) 0 → WordsAt q h s bell plan before phase → WordsAt q h s bell plan batch (phases.Publish 0)
-words_begin q h s bell plan batch before phase run b f = publication_begins h.size (open_heads q s.past (s.heads q)) h.base (side_of q h s bell plan before phase) (map (element_of h q s) batch) (words_at (the_ring q h.size) (the_region q h.size) s.memory) run b f
+pub words_begin : (q : ℕ) (h : Header1) (s : Scene) (bell : Bool) (plan : Plan) (counter : ℕ) (batch : List ℕ) → started s.past q ≡ true → InBatch h.size (open_heads q s.past (s.heads q)) bell (map (element_of h q s) batch) 0 → WordsAt q h s bell plan counter [] phases.Rest
+    → WordsAt q h s bell plan counter batch (phases.Publish 0)
+words_begin q h s bell plan counter batch run b f = publication_begins h.size (open_heads q s.past (s.heads q)) h.base (side_of q h s bell plan counter [] phases.Rest) (map (element_of h q s) batch) (words_at (the_ring q h.size) (the_region q h.size) s.memory) run refl b f
 
 -- ---- a store
 
 -- off the rings
-pub words_elsewhere_at : (q : ℕ) (h : Header1) (s : Scene) (p : ℕ) (bs : List ℕ) (bell : Bool) (plan : Plan) (batch : List ℕ) (phase : Phase) → IsSize h.size → OffRings q p bs → WordsAt q h s bell plan batch phase → WordsAt q h (record s { memory = put s.memory 0 p bs }) bell plan batch phase
-words_elsewhere_at q h s p bs bell plan batch phase size off f =
-    facts_off (the_ring q h.size) (the_region q h.size) (open_heads q s.past (s.heads q)) h.base (side_of q h s bell plan batch phase) s.memory (one_store 0 p bs) (lies_ring q h.size size) (go off) f
+pub words_elsewhere_at : (q : ℕ) (h : Header1) (s : Scene) (p : ℕ) (bs : List ℕ) (bell : Bool) (plan : Plan) (counter : ℕ) (batch : List ℕ) (phase : Phase) → IsSize h.size → OffRings q p bs → WordsAt q h s bell plan counter batch phase → WordsAt q h (record s { memory = put s.memory 0 p bs }) bell plan counter batch phase
+words_elsewhere_at q h s p bs bell plan counter batch phase size off f =
+    facts_off (the_ring q h.size) (the_region q h.size) (open_heads q s.past (s.heads q)) h.base (side_of q h s bell plan counter batch phase) s.memory (one_store 0 p bs) (lies_ring q h.size size) (go off) f
   where
     go : OffRings q p bs → Elsewhere (the_ring q h.size) (the_region q h.size) (one_store 0 p bs)
     go (inl below) = record { avail = inr (inr (omega (arith, below))); used = inr (inr (omega (arith, below))); region = inl (λ e. omega (arith, e)) }
     go (inr above) = record { avail = inr (inl (omega (arith, above, size.small))); used = inr (inl (omega (arith, above, size.small))); region = inl (λ e. omega (arith, e)) }
 
-pub facts_elsewhere : (q : ℕ) (h : Header1) (s : Scene) (p : ℕ) (bs : List ℕ) (v : Driver) (bell : Bool) (plan : Plan) (batch : List ℕ) (phase : Phase) → IsSize h.size → OffRings q p bs → QueueFacts q h s v bell plan batch phase → QueueFacts q h (stored_at p bs s) v bell plan batch phase
-facts_elsewhere q h s p bs v bell plan batch phase size off x = record {
+pub facts_elsewhere : (q : ℕ) (h : Header1) (s : Scene) (p : ℕ) (bs : List ℕ) (v : Driver) (bell : Bool) (plan : Plan) (counter : ℕ) (batch : List ℕ) (phase : Phase) → IsSize h.size → OffRings q p bs → QueueFacts q h s v bell plan counter batch phase → QueueFacts q h (stored_at p bs s) v bell plan counter batch phase
+facts_elsewhere q h s p bs v bell plan counter batch phase size off x = record {
   ringed = ringed_elsewhere q h.size h.base s.past (s.heads q) s.memory p bs size off x.ringed;
   driven = x.driven;
-  words = words_elsewhere_at q h s p bs bell plan batch phase size off x.words;
+  words = words_elsewhere_at q h s p bs bell plan counter batch phase size off x.words;
   start = x.start;
 }
 
--- below the used ring, where no fetch is under way
-pub words_below : (q : ℕ) (h : Header1) (s : Scene) (p : ℕ) (bs : List ℕ) (bell : Bool) (plan : Plan) (batch : List ℕ) (phase : Phase) → IsSize h.size → BetweenTurns phase → p + length bs ≤ area_place q + 8192 → WordsAt q h s bell plan batch phase → WordsAt q h (record s { memory = put s.memory 0 p bs }) bell plan batch phase
-words_below q h s p bs bell plan batch phase size at low f =
-    facts_beside (the_ring q h.size) (the_region q h.size) (open_heads q s.past (s.heads q)) h.base (side_of q h s bell plan batch phase) s.memory (one_store 0 p bs) (lies_ring q h.size size) (inr (inr (omega (arith, low)))) (inl (λ e. omega (arith, e)))
-    (λ done fetching. absurd (subst BetweenTurns fetching at)) f
+-- below the used ring: a fetch that is under way sees the same
+pub words_below : (q : ℕ) (h : Header1) (s : Scene) (p : ℕ) (bs : List ℕ) (bell : Bool) (plan : Plan) (counter : ℕ) (batch : List ℕ) (phase : Phase) → IsSize h.size → p + length bs ≤ area_place q + 8192
+    → SeesSame (open_heads q s.past (s.heads q)) (avail_idx (the_ring q h.size) (put s.memory 0 p bs)) (head_at (the_ring q h.size) (put s.memory 0 p bs)) (words_at (the_ring q h.size) (the_region q h.size) s.memory) phase
+    → WordsAt q h s bell plan counter batch phase → WordsAt q h (record s { memory = put s.memory 0 p bs }) bell plan counter batch phase
+words_below q h s p bs bell plan counter batch phase size low sees f =
+    facts_beside (the_ring q h.size) (the_region q h.size) (open_heads q s.past (s.heads q)) h.base (side_of q h s bell plan counter batch phase) s.memory (one_store 0 p bs) (lies_ring q h.size size) (inr (inr (omega (arith, low)))) (inl (λ e. omega (arith, e)))
+    sees f
+
+-- ---- a step
+
+-- what is under way, and the words
+abbrev pub words_in : ℕ → Header1 → Scene → Words
+words_in q h s = words_at (the_ring q h.size) (the_region q h.size) s.memory
+
+-- the head that is fetched next
+pub head_is : (q : ℕ) (h : Header1) (s : Scene) → next_head h q s ≡ head_next (open_heads q s.past (s.heads q)) (words_in q h s)
+head_is q h s = ap (λ (k : ℕ). head_at (the_ring q h.size) s.memory (used_idx (the_ring q h.size) s.memory + k)) (sym (length-map (open_numbers s.past q) (slice_index (s.heads q))))
+
+-- what a step sees
+pub sight_is : (q : ℕ) (h : Header1) (s : Scene) (l : Lane) → sight_of h q s l ≡ sight (open_heads q s.past (s.heads q)) (side_of q h s l.bell l.plan l.counter l.batch l.phase) (words_in q h s)
+sight_is q h s l = ap (λ (d : ℕ). record (sight_of h q s l) { head = d }) (head_is q h s)
+
+-- the words after a step that comes next
+abbrev pub StepWords : ℕ → Header1 → Scene → Lane → Step → Type 0
+StepWords q h s l step = Facts h.size (heads_after step (next_head h q s) (map (element_of h q s) l.batch) (open_heads q s.past (s.heads q))) h.base (side_after h.size (next_counter_in h q s) step (side_of q h s l.bell l.plan l.counter l.batch l.phase))
+    (words_at (the_ring q h.size) (the_region q h.size) (after_row (row_of (the_ring q h.size) (the_region q h.size) (sight_of h q s l) step) s.memory))
+
+pub step_words : (q : ℕ) (h : Header1) (s : Scene) (l : Lane) (step : Step) → IsSize h.size → ElementsFit (map (element_of h q s) l.batch) → IsDue h.size step (side_of q h s l.bell l.plan l.counter l.batch l.phase) → WordsAt q h s l.bell l.plan l.counter l.batch l.phase → StepWords q h s l step
+step_words q h s l step size fit due f =
+    let r : Ring = the_ring q h.size in
+    let g : SplitRegion = the_region q h.size in
+    let heads : List ℕ = open_heads q s.past (s.heads q) in
+    let elements : List (ℕ × ℕ) = map (element_of h q s) l.batch in
+    let side : Side = side_of q h s l.bell l.plan l.counter l.batch l.phase in
+    let next : ℕ = next_counter_in h q s in
+    let words : Words = words_in q h s in
+    let kept : Facts h.size (heads_after step (head_next heads words) elements heads) h.base (side_after h.size next step side) (words_after r (sight heads side words) step words) = step_keeps r g heads h.base step side words (lies_ring q h.size size) due f in
+    let now : Facts h.size (heads_after step (head_next heads words) elements heads) h.base (side_after h.size next step side) (words_at r g (after_row (row_of r g (sight heads side words) step) s.memory)) =
+    subst (λ (w : Words). Facts h.size (heads_after step (head_next heads words) elements heads) h.base (side_after h.size next step side) w) (sym (row_words r g heads h.base side step s.memory (lies_ring q h.size size) fit due f)) kept in
+    let seen : Facts h.size (heads_after step (head_next heads words) elements heads) h.base (side_after h.size next step side) (words_at r g (after_row (row_of r g (sight_of h q s l) step) s.memory)) =
+    subst (λ (z : Sight). Facts h.size (heads_after step (head_next heads words) elements heads) h.base (side_after h.size next step side) (words_at r g (after_row (row_of r g z step) s.memory))) (sym (sight_is q h s l)) now in
+    subst (λ (d : ℕ). Facts h.size (heads_after step d elements heads) h.base (side_after h.size next step side) (words_at r g (after_row (row_of r g (sight_of h q s l) step) s.memory))) (sym (head_is q h s)) seen
 
 -- ---- the elements of a batch
 
-element_map : (f : ℕ → ℕ × ℕ) (xs : List ℕ) (e : ℕ) → e < length xs → get_or (map f xs) e (0, 0) ≡ f (slice_index xs e)
+pub element_map : (f : ℕ → ℕ × ℕ) (xs : List ℕ) (e : ℕ) → e < length xs → get_or (map f xs) e (0, 0) ≡ f (slice_index xs e)
 element_map f [] e l = absurd (omega arith)
 element_map f (x ∷ xs) zero l = refl
 element_map f (x ∷ xs) (suc e) l = element_map f xs e (omega arith)
 
--- id and length of the next element
-pub words_id : (q : ℕ) (h : Header1) (s : Scene) (bell : Bool) (plan : Plan) (batch : List ℕ) (done e i x : ℕ) → IsSize h.size → started s.past q ≡ true → e < length batch → done ≡ 2 * e → entry_of (the_ring q h.size) (used_idx (the_ring q h.size) s.memory + e) ≡ entry_of (the_ring q h.size) i
-    → x ≡ (element_of h q s (slice_index batch e)).0 → x < 4294967296 → WordsAt q h s bell plan batch (phases.Publish done) → WordsAt q h (record s { memory = put s.memory 0 (used_id_place (the_ring q h.size) i) (little_bytes 4 x) }) bell plan batch (phases.Publish (done + 1))
-words_id q h s bell plan batch done e i x size run inside at place is fits f =
-    let r : Ring = the_ring q h.size in
-    let g : SplitRegion = the_region q h.size in
-    let heads : List ℕ = open_heads q s.past (s.heads q) in
-    let elements : List (ℕ × ℕ) = map (element_of h q s) batch in
-    let side : Side = side_of q h s bell plan batch (phases.Publish (2 * e)) in
-    let named : x ≡ (get_or elements e (0, 0)).0 = is ∙ sym (ap (λ (y : ℕ × ℕ). y.0) (element_map (element_of h q s) batch e inside)) in
-    let there : used_id_place r (used_idx r s.memory + e) ≡ used_id_place r i = ap (λ (y : ℕ). area_place q + 8192 + (4 + 8 * y)) place in
-    let now : words_at r g (put s.memory 0 (used_id_place r i) (little_bytes 4 x)) ≡ words_after r (sight side (words_at r g s.memory)) (steps.Id e) (words_at r g s.memory) =
-    ap (λ (p : ℕ). words_at r g (put s.memory 0 p (little_bytes 4 x))) (sym there) ∙ id_words r g (sight side (words_at r g s.memory)) e x s.memory (lies_ring q h.size size) named fits in
-    let before : Facts h.size heads h.base (side_of q h s bell plan batch (phases.Publish (2 * e))) (words_at r g s.memory) = subst (λ (d : ℕ). Facts h.size heads h.base (side_of q h s bell plan batch (phases.Publish d)) (words_at r g s.memory)) at f in
-    let after : Facts h.size heads h.base (side_of q h s bell plan batch (phases.Publish (2 * e + 1))) (words_after r (sight side (words_at r g s.memory)) (steps.Id e) (words_at r g s.memory)) =
-    step_keeps r g heads h.base (steps.Id e) (side_of q h s bell plan batch (phases.Publish (2 * e))) (words_at r g s.memory) (lies_ring q h.size size) (run, (refl, omega (arith, inside, length-map batch (element_of h q s)))) before in
-    subst (λ (d : ℕ). Facts h.size heads h.base (side_of q h s bell plan batch (phases.Publish d)) (words_at r g (put s.memory 0 (used_id_place r i) (little_bytes 4 x)))) (let next : 2 * e + 1 ≡ done + 1 = omega (arith, at) in next)
-    (subst (λ (w : Words). Facts h.size heads h.base (side_of q h s bell plan batch (phases.Publish (2 * e + 1))) w) (sym now) after)
-
-pub words_len : (q : ℕ) (h : Header1) (s : Scene) (bell : Bool) (plan : Plan) (batch : List ℕ) (done e i x : ℕ) → IsSize h.size → started s.past q ≡ true → e < length batch → done ≡ 2 * e + 1 → entry_of (the_ring q h.size) (used_idx (the_ring q h.size) s.memory + e) ≡ entry_of (the_ring q h.size) i
-    → x ≡ (element_of h q s (slice_index batch e)).1 → x < 4294967296 → WordsAt q h s bell plan batch (phases.Publish done) → WordsAt q h (record s { memory = put s.memory 0 (used_len_place (the_ring q h.size) i) (little_bytes 4 x) }) bell plan batch (phases.Publish (done + 1))
-words_len q h s bell plan batch done e i x size run inside at place is fits f =
-    let r : Ring = the_ring q h.size in
-    let g : SplitRegion = the_region q h.size in
-    let heads : List ℕ = open_heads q s.past (s.heads q) in
-    let elements : List (ℕ × ℕ) = map (element_of h q s) batch in
-    let side : Side = side_of q h s bell plan batch (phases.Publish (2 * e + 1)) in
-    let named : x ≡ (get_or elements e (0, 0)).1 = is ∙ sym (ap (λ (y : ℕ × ℕ). y.1) (element_map (element_of h q s) batch e inside)) in
-    let there : used_len_place r (used_idx r s.memory + e) ≡ used_len_place r i = ap (λ (y : ℕ). area_place q + 8192 + (8 + 8 * y)) place in
-    let now : words_at r g (put s.memory 0 (used_len_place r i) (little_bytes 4 x)) ≡ words_after r (sight side (words_at r g s.memory)) (steps.Len e) (words_at r g s.memory) =
-    ap (λ (p : ℕ). words_at r g (put s.memory 0 p (little_bytes 4 x))) (sym there) ∙ len_words r g (sight side (words_at r g s.memory)) e x s.memory (lies_ring q h.size size) named fits in
-    let before : Facts h.size heads h.base (side_of q h s bell plan batch (phases.Publish (2 * e + 1))) (words_at r g s.memory) = subst (λ (d : ℕ). Facts h.size heads h.base (side_of q h s bell plan batch (phases.Publish d)) (words_at r g s.memory)) at f in
-    let after : Facts h.size heads h.base (side_of q h s bell plan batch (phases.Publish (2 * e + 1 + 1))) (words_after r (sight side (words_at r g s.memory)) (steps.Len e) (words_at r g s.memory)) =
-    step_keeps r g heads h.base (steps.Len e) (side_of q h s bell plan batch (phases.Publish (2 * e + 1))) (words_at r g s.memory) (lies_ring q h.size size) (run, (refl, omega (arith, inside, length-map batch (element_of h q s)))) before in
-    subst (λ (d : ℕ). Facts h.size heads h.base (side_of q h s bell plan batch (phases.Publish d)) (words_at r g (put s.memory 0 (used_len_place r i) (little_bytes 4 x)))) (let next : 2 * e + 1 + 1 ≡ done + 1 = omega (arith, at) in next)
-    (subst (λ (w : Words). Facts h.size heads h.base (side_of q h s bell plan batch (phases.Publish (2 * e + 1 + 1))) w) (sym now) after)
-
 -- where all steps but that of used.idx were made each element of the batch stands
-pub words_element : (q : ℕ) (h : Header1) (s : Scene) (bell : Bool) (plan : Plan) (batch : List ℕ) (done e i : ℕ) → done ≡ 2 * length batch → e < length batch → entry_of (the_ring q h.size) (used_idx (the_ring q h.size) s.memory + e) ≡ entry_of (the_ring q h.size) i
-    → WordsAt q h s bell plan batch (phases.Publish done) → element_at (the_ring q h.size) s.memory i ≡ element_of h q s (slice_index batch e)
-words_element q h s bell plan batch done e i whole inside place f =
+pub words_element : (q : ℕ) (h : Header1) (s : Scene) (bell : Bool) (plan : Plan) (counter : ℕ) (batch : List ℕ) (done e i : ℕ) → done ≡ 4 * length batch → e < length batch → entry_of (the_ring q h.size) (used_idx (the_ring q h.size) s.memory + e) ≡ entry_of (the_ring q h.size) i
+    → WordsAt q h s bell plan counter batch (phases.Publish done) → element_at (the_ring q h.size) s.memory i ≡ element_of h q s (slice_index batch e)
+words_element q h s bell plan counter batch done e i whole inside place f =
     let r : Ring = the_ring q h.size in
     let long : length (map (element_of h q s) batch) ≡ length batch = length-map batch (element_of h q s) in
     let low : e < length (map (element_of h q s) batch) = omega (arith, inside, long) in

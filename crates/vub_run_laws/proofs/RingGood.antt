@@ -82,18 +82,18 @@ abbrev pub the_region : ℕ → ℕ → SplitRegion
 the_region q n = region_of q n
 
 -- what a queue has under way
-abbrev pub side_of : ℕ → Header1 → Scene → Bool → Plan → List ℕ → Phase → Side
-side_of q h s bell plan batch phase = record { started = started s.past q; bell = bell; phase = phase; plan = plan; batch = map (element_of h q s) batch }
+abbrev pub side_of : ℕ → Header1 → Scene → Bool → Plan → ℕ → List ℕ → Phase → Side
+side_of q h s bell plan counter batch phase = record { started = started s.past q; bell = bell; phase = phase; plan = plan; counter = counter; batch = map (element_of h q s) batch }
 
 -- the facts of its words, for the heads of its open requests
-abbrev pub WordsAt : ℕ → Header1 → Scene → Bool → Plan → List ℕ → Phase → Type 0
-WordsAt q h s bell plan batch phase = Facts h.size (open_heads q s.past (s.heads q)) h.base (side_of q h s bell plan batch phase) (words_at (the_ring q h.size) (the_region q h.size) s.memory)
+abbrev pub WordsAt : ℕ → Header1 → Scene → Bool → Plan → ℕ → List ℕ → Phase → Type 0
+WordsAt q h s bell plan counter batch phase = Facts h.size (open_heads q s.past (s.heads q)) h.base (side_of q h s bell plan counter batch phase) (words_at (the_ring q h.size) (the_region q h.size) s.memory)
 
 -- the ring, the slots of the driver, the words of what is under way, and its start
-pub record QueueFacts (q : ℕ) (h : Header1) (s : Scene) (v : Driver) (bell : Bool) (plan : Plan) (batch : List ℕ) (phase : Phase) : Type 0 where
+pub record QueueFacts (q : ℕ) (h : Header1) (s : Scene) (v : Driver) (bell : Bool) (plan : Plan) (counter : ℕ) (batch : List ℕ) (phase : Phase) : Type 0 where
   pub ringed : Ringed q h.size h.base s.past (s.heads q) s.memory
   pub driven : Driven q h.size h.capacity h.base s.past (s.heads q) v
-  pub words : WordsAt q h s bell plan batch phase
+  pub words : WordsAt q h s bell plan counter batch phase
   pub start : StartIs (started s.past q) h.size bell plan phase
 
 -- where the last store alone is left of a request, those before it stand

@@ -1,5 +1,5 @@
 -- Where every split ring begins.
-use Rattle.std.proofs.Common.{◌+◌, ◌≡◌, ◌<◌, ℕ, zero, suc, List, [], length, refl, sym, ◌∙◌, subst, inl, arith, inr}
+use Rattle.std.proofs.Common.{◌+◌, ◌≡◌, ◌<◌, ℕ, zero, suc, true, false, List, [], length, refl, sym, ◌∙◌, subst, inl, arith, inr}
 use Rattle.std.proofs.lemmas.Bool.{cases_lt}
 use Rattle.byteorder.specs.Endian.{little_bytes}
 use Rattle.vub_base.specs.declared.header.Header1.{Header1}
@@ -68,7 +68,7 @@ open_unmade q h fits low = record {
   at_base = sym (open_words h q h.queues fits low).1;
 }
 
-pub open_facts : (q : ℕ) (h : Header1) → h.base < 65536 → q < h.queues → QueueFacts q h (opening_scene h) (opening_lane h).driver (opening_lane h).bell (opening_lane h).plan [] phases.Rest
+pub open_facts : (q : ℕ) (h : Header1) → h.base < 65536 → q < h.queues → QueueFacts q h (opening_scene h) (opening_lane h).driver (opening_lane h).bell (opening_lane h).plan (opening_lane h).counter [] phases.Rest
 open_facts q h fits low = record {
   ringed = open_ringed q h fits low;
   driven = record {
@@ -78,6 +78,6 @@ open_facts q h fits low = record {
     apart = λ j k out_j out_k same. absurd (none_out q j out_j);
     waits = tt;
   };
-  words = record { used_fits = omega (arith, (open_words h q h.queues fits low).1, fits); not_started = λ stopped. inl (open_unmade q h fits low); batch = refl };
+  words = record { used_fits = omega (arith, (open_words h q h.queues fits low).1, fits); not_started = λ stopped. inl (open_unmade q h fits low); in_life = λ on. absurd (let fails : false ≡ true = on in cc); batch = refl };
   start = tt;
 }

@@ -80,6 +80,6 @@ all_small P q n cap index head body status (wants.Zero parts) small wide = absur
 pub left_small : (P : Store → Type 0) (q : ℕ) (h : Header1) (m : Moment) (w : Waiting) → OfSmall P → Good q h m → ChainedAt q h m → (m.lanes q).driver.waiting ≡ Some w → AllByRecursion P w.left
 left_small P q h m w small good chained waiting =
     let v : Driver = (m.lanes q).driver in
-    let waits : IsWaiting q h.size h.capacity m.scene.past (m.scene.heads q) v (record w { left = w.left }) = queue_waiting q h m.scene v (m.lanes q).bell (m.lanes q).plan (m.lanes q).batch (m.lanes q).phase w waiting good.holds.queue in
+    let waits : IsWaiting q h.size h.capacity m.scene.past (m.scene.heads q) v (record w { left = w.left }) = queue_waiting q h m.scene v (m.lanes q).bell (m.lanes q).plan (m.lanes q).counter (m.lanes q).batch (m.lanes q).phase w waiting good.holds.queue in
     let ready : IsPrepared q h.size m.scene.memory v w = subst (λ (o : Option Waiting). PreparedWell q h.size m.scene.memory v o) waiting chained.waits in
     all_last P ready.made w.left (subst (λ (sts : List Store). AllByRecursion P sts) (sym ready.stores) (all_small P q h.size h.capacity v.avail_idx w.head ready.body ready.status w.ask small waits.wide))

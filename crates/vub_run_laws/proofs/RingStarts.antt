@@ -1,20 +1,24 @@
 -- A start of a queue, step by step, on a split ring and its in-flight region.
-use Rattle.std.proofs.Common.{◌≡◌, ◌≤◌, ◌<◌, ℕ, ◌+◌, Bool, true, false, List, [], ◌∷◌, length, refl, ap, sym, ◌∙◌, subst, inl, inr, arith}
-use Rattle.std.specs.Prelude.{Some, slice_get}
+use Rattle.std.proofs.Common.{◌≡◌, ◌≢◌, ◌≤◌, ◌<◌, ℕ, ◌+◌, Bool, true, false, List, [], ◌∷◌, ◌++◌, length, map, refl, ap, sym, ◌∙◌, subst, inl, inr, arith}
+use Rattle.std.specs.Prelude.{Some, slice_get, slice_index}
 use Rattle.std.proofs.lemmas.Bool.{cases_lt, cases_eq}
 use Rattle.std.proofs.lemmas.Bool.Decides.{nat_tests}
 use Rattle.vub_base.specs.declared.header.Header1.{Header1}
 use Rattle.vub_base.specs.declared.store.Area.TheVariants.{I}
 use Rattle.vub_shared.specs.Bytes.{Bytes, put, word}
+use Rattle.vub_shared.proofs.BytesLemmas.{word-put_other}
+use Rattle.vub_steps.specs.declared.steps.Phase.{Phase}
 use Rattle.vub_steps.specs.declared.steps.Phase.TheVariants as phases
 use Rattle.vub_steps.specs.declared.steps.Plan.{Plan}
 use Rattle.vub_steps.specs.declared.steps.Plan.TheVariants as plans
 use Rattle.vub_steps.specs.declared.steps.Step.{Step}
 use Rattle.vub_steps.specs.declared.steps.Step.TheVariants as steps
 use Rattle.vub_steps.specs.Plans.{settles, plan_of}
-use Rattle.vub_steps.specs.Rows.{row_of}
-use Rattle.vub_steps.specs.Steps.{plan_steps, after_of}
-use Rattle.vub_steps.proofs.StartLemmas.{length_new, length_settles}
+use Rattle.vub_base.specs.declared.pending.Pending.{Pending}
+use Rattle.vub_inflight.specs.Entries.{heads_of, next_counter}
+use Rattle.vub_infl_split.specs.Readings.{open_entries}
+use Rattle.vub_steps.specs.Steps.{plan_steps, bell_steps, start_steps, after_of}
+use Rattle.vub_steps.proofs.StartLemmas.{length_new, length_settles, behind, first_behind}
 use Rattle.vub_ring.specs.Ring.{ahead, avail_idx_place, avail_entry_place, used_idx_place, used_id_place, used_len_place}
 use Rattle.vub_infl_split.specs.declared.region.SplitStore.{SplitStore}
 use Rattle.vub_infl_split.specs.declared.region.SplitStore.TheVariants.{SI1, SI2, SI3, SR1, SR2}
@@ -24,21 +28,21 @@ use Rattle.vub_region_facts.specs.Starts.{Left}
 use Rattle.vub_driver.specs.Drivers.{Driver}
 use Rattle.vub_device.specs.declared.entry.Entry.{Entry}
 use Rattle.vub_device.specs.declared.entry.Entry.TheVariants as entries
-use Rattle.vub_device.specs.Past.{started, open_numbers}
+use Rattle.vub_device.specs.Past.{started, published, accepted, missing_below, open_numbers}
 use Rattle.vub_report.specs.declared.items.Item.TheVariants as items
 use Rattle.vub_run.specs.Memory.{Scene}
 use Rattle.vub_run.specs.Moments.{Lane, used_in, region_in, open_heads}
-use Rattle.vub_run.specs.Turns.{step_items}
-use Rattle.vub_facts.specs.Facts.{Side, Words, words_at, head_next, Facts, IsDue, sight, side_after, heads_after, after_row, ElementsFit}
-use Rattle.vub_facts.proofs.FactStarts.{start_begins, start_due, start_after, start_goes, start_long}
-use Rattle.vub_facts.proofs.FactSteps.{step_keeps}
-use Rattle.vub_facts.proofs.FactWords.{row_words}
+use Rattle.vub_run.specs.Turns.{step_items, sight_of, counted, next_counter_in}
+use Rattle.vub_facts.specs.Facts.{Side, Words, words_at, Facts, IsDue, ElementsFit}
+use Rattle.vub_facts.specs.Facts.{with_phase as side_with}
+use Rattle.vub_facts.proofs.FactStarts.{start_begins}
+use Rattle.vub_facts.proofs.Places.{IsStarting, IsRunning, bells, place_of, start_long, start_goes}
+use Rattle.vub_run_laws.proofs.RingEntries.{ringed_entries, driven_same}
 use Rattle.vub_run_laws.proofs.RunOwn.{started_own}
-use Rattle.vub_run_laws.proofs.RunFrames.{word_stays}
 use Rattle.vub_run_laws.proofs.RunGood.{IsSize}
 use Rattle.vub_run_laws.proofs.RingGood.{the_ring, the_region, side_of, WordsAt, Ringed, QueueFacts}
 use Rattle.vub_run_laws.proofs.RunHolds.{starting, steps_in, noted_at, StartStores, StartRings, StartEnds, NextStart, Stores, Rings, Ends}
-use Rattle.vub_run_laws.proofs.RingFacts.{lies_ring, words_rest, words_rests, facts_entry}
+use Rattle.vub_run_laws.proofs.RingFacts.{words_in, StepWords, step_words}
 
 -- ---- it begins
 
@@ -65,13 +69,13 @@ plan_few n used heads base w (inr s) =
     ]
 
 -- a queue at rest begins its start, by what it finds
-pub start_facts : (q : ℕ) (h : Header1) (s : Scene) (v : Driver) (bell : Bool) (plan : Plan) → started s.past q ≡ false → QueueFacts q h s v bell plan [] phases.Rest → QueueFacts q h s v bell (plan_of (used_in h q s) (region_in h q s)) [] (phases.Start 0)
-start_facts q h s v bell plan stopped x =
+pub start_facts : (q : ℕ) (h : Header1) (s : Scene) (v : Driver) (bell : Bool) (plan : Plan) (counter : ℕ) → started s.past q ≡ false → QueueFacts q h s v bell plan counter [] phases.Rest → QueueFacts q h s v bell (plan_of (used_in h q s) (region_in h q s)) counter [] (phases.Start 0)
+start_facts q h s v bell plan counter stopped x =
     let heads : List ℕ = open_heads q s.past (s.heads q) in
     let found : Plan = plan_of (used_in h q s) (region_in h q s) in record {
       ringed = x.ringed;
       driven = x.driven;
-      words = start_begins h.size heads h.base (side_of q h s bell plan [] phases.Rest) (words_at (the_ring q h.size) (the_region q h.size) s.memory) stopped refl refl x.words;
+      words = start_begins h.size heads h.base (side_of q h s bell plan counter [] phases.Rest) (words_at (the_ring q h.size) (the_region q h.size) s.memory) stopped refl x.words;
       start = record {
         stopped = stopped;
         left = omega (arith, start_long h.size found bell);
@@ -81,7 +85,11 @@ start_facts q h s v bell plan stopped x =
 
 -- ---- a store into the region
 
--- it leaves the ring
+-- it leaves guest memory
+word_stays : (w : ℕ) (m : Bytes) (p : ℕ) (bs : List ℕ) (a : ℕ) → word w (put m 1 p bs) 0 a ≡ word w m 0 a
+word_stays w m p bs a = word-put_other w m 1 p bs 0 a (inl (λ e. omega (arith, e)))
+
+-- and so the ring
 pub ringed_noted : (q n base : ℕ) (past : List Entry) (heads : List ℕ) (m : Bytes) (p : ℕ) (bs : List ℕ) → Ringed q n base past heads m → Ringed q n base past heads (put m 1 p bs)
 ringed_noted q n base past heads m p bs r = record {
   avail_idx_is = word_stays 2 m p bs (avail_idx_place (the_ring q n)) ∙ r.avail_idx_is;
@@ -94,37 +102,37 @@ ringed_noted q n base past heads m p bs r = record {
 
 -- ---- its steps
 
--- a step is left after it, or none
-more_left : (list : List Step) (done : ℕ) → after_of list (phases.Start done) ≡ phases.Start (done + 1) → done + 1 < length list
-more_left list done e = elim (cases_lt (done + 1) (length list)) [
+-- the last step makes the entry
+last_start : (n : ℕ) (plan : Plan) (bell : Bool) (done : ℕ) (step : Step) → slice_get (start_steps n plan bell) done ≡ Some step → length (start_steps n plan bell) ≡ done + 1 → step ≡ steps.Start
+last_start n plan bell done step is last =
+    let stores : ℕ = length (plan_steps n plan) in
+    let at : done ≡ stores + bells bell = omega (arith, last, start_long n plan bell) in
+    let there : slice_get (start_steps n plan bell) (stores + bells bell) ≡ Some steps.Start = behind (plan_steps n plan) (bell_steps bell ++ (steps.Start ∷ [])) stores (bells bell) refl ∙ first_behind (bell_steps bell) [] steps.Start (bells bell) refl in
+    let both : Some step ≡ Some steps.Start = sym is ∙ ap (slice_get (start_steps n plan bell)) at ∙ there in
+    cc
+
+-- so a step is left after each other one
+more_left : (n : ℕ) (plan : Plan) (bell : Bool) (done : ℕ) (step : Step) → slice_get (start_steps n plan bell) done ≡ Some step → done < length (start_steps n plan bell) → step ≢ steps.Start → done + 1 < length (start_steps n plan bell)
+more_left n plan bell done step is left apart = elim (cases_lt (done + 1) (length (start_steps n plan bell))) [
   | inl more ↦ more
-  | inr none ↦ absurd (
-      let rest : after_of list (phases.Start done) ≡ phases.Rest = grind (arith, nat_tests) in
-      let fails : phases.Start (done + 1) ≡ phases.Rest = sym e ∙ rest in
-      cc)
+  | inr none ↦ absurd (apart (last_start n plan bell done step is (omega (arith, left, none))))
 ]
 
-none_left : (list : List Step) (done : ℕ) → after_of list (phases.Start done) ≡ phases.Rest → length list ≤ done + 1
-none_left list done e = elim (cases_lt (done + 1) (length list)) [
-  | inl more ↦ absurd (
-      let goes : after_of list (phases.Start done) ≡ phases.Start (done + 1) = grind (arith, nat_tests) in
-      let fails : phases.Start (done + 1) ≡ phases.Rest = sym goes ∙ e in
-      cc)
-  | inr none ↦ omega (arith, none)
-]
+goes : (n : ℕ) (plan : Plan) (bell : Bool) (done : ℕ) → done + 1 < length (start_steps n plan bell) → after_of (start_steps n plan bell) (phases.Start done) ≡ phases.Start (done + 1)
+goes n plan bell done more = grind (arith, nat_tests)
 
 -- a store of a start that keeps the facts of the words
-store_makes : (q : ℕ) (h : Header1) (s : Scene) (l : Lane) (done : ℕ) (step : Step) (y : SplitStore) → QueueFacts q h s l.driver l.bell l.plan [] (phases.Start done)
-    → step_items h q (starting done l) step s ≡ items.Store (tag_of y) I (store_of (the_region q h.size) y).place (store_of (the_region q h.size) y).bytes ∷ [] → after_of (steps_in h l) (phases.Start done) ≡ phases.Start (done + 1)
-    → WordsAt q h (noted_at (store_of (the_region q h.size) y).place (store_of (the_region q h.size) y).bytes s) l.bell l.plan [] (phases.Start (done + 1)) → StartStores q h s l done step
-store_makes q h s l done step y x stores after words =
-    let st = store_of (the_region q h.size) y in
-    let more : done + 1 < length (steps_in h l) = more_left (steps_in h l) done after in record {
+store_makes : (q : ℕ) (h : Header1) (s : Scene) (l : Lane) (done : ℕ) (step : Step) (y : SplitStore) → ((next : ℕ) (z : Lane) → counted next step z ≡ z) → QueueFacts q h s l.driver l.bell l.plan l.counter [] (phases.Start done)
+    → step_items h q (starting done l) step s ≡ items.Store (tag_of y) I (store_of (the_region q h.size) y).place (store_of (the_region q h.size) y).bytes ∷ [] → done + 1 < length (steps_in h l)
+    → WordsAt q h (noted_at (store_of (the_region q h.size) y).place (store_of (the_region q h.size) y).bytes s) l.bell l.plan l.counter [] (phases.Start (done + 1)) → StartStores q h s l done step
+store_makes q h s l done step y counts x stores more words =
+    let st = store_of (the_region q h.size) y in record {
       more = more;
       tag = tag_of y;
       place = st.place;
       bytes = st.bytes;
       stores = stores;
+      counts = counts;
       queue = record {
         ringed = ringed_noted q h.size h.base s.past (s.heads q) s.memory st.place st.bytes x.ringed;
         driven = x.driven;
@@ -133,67 +141,101 @@ store_makes q h s l done step y x stores after words =
       };
     }
 
-bell_rings : (q : ℕ) (h : Header1) (s : Scene) (l : Lane) (done : ℕ) → QueueFacts q h s l.driver l.bell l.plan [] (phases.Start done) → after_of (steps_in h l) (phases.Start done) ≡ phases.Start (done + 1)
-    → WordsAt q h s l.bell l.plan [] (phases.Start (done + 1)) → StartRings q h s l done steps.Bell
-bell_rings q h s l done x after words =
-    let more : done + 1 < length (steps_in h l) = more_left (steps_in h l) done after in record {
-      more = more;
-      rings = refl;
-      queue = record {
-        ringed = x.ringed;
-        driven = x.driven;
-        words = words;
-        start = record { stopped = x.start.stopped; left = more; few = x.start.few };
-      };
-    }
+bell_rings : (q : ℕ) (h : Header1) (s : Scene) (l : Lane) (done : ℕ) → QueueFacts q h s l.driver l.bell l.plan l.counter [] (phases.Start done) → done + 1 < length (steps_in h l)
+    → WordsAt q h s l.bell l.plan l.counter [] (phases.Start (done + 1)) → StartRings q h s l done steps.Bell
+bell_rings q h s l done x more words = record {
+  more = more;
+  rings = refl;
+  counts = λ next z. refl;
+  queue = record {
+    ringed = x.ringed;
+    driven = x.driven;
+    words = words;
+    start = record { stopped = x.start.stopped; left = more; few = x.start.few };
+  };
+}
 
-start_ends : (q : ℕ) (h : Header1) (s : Scene) (l : Lane) (done : ℕ) → QueueFacts q h s l.driver l.bell l.plan [] (phases.Start done) → after_of (steps_in h l) (phases.Start done) ≡ phases.Rest → StartEnds q h s l done steps.Start
-start_ends q h s l done x after =
+-- of no open request there is no counter
+none_counts : (entries : List Pending) → heads_of entries ≡ [] → next_counter entries ≡ 0
+none_counts [] none = refl
+none_counts (e ∷ entries) none = absurd (let fails : e.head ∷ heads_of entries ≡ [] = none in cc)
+
+start_ends : (q : ℕ) (h : Header1) (s : Scene) (l : Lane) (done : ℕ) → QueueFacts q h s l.driver l.bell l.plan l.counter [] (phases.Start done) → length (steps_in h l) ≤ done + 1
+    → Facts h.size (open_heads q s.past (s.heads q)) h.base (record { started = true; bell = l.bell; phase = phases.Rest; plan = l.plan; counter = next_counter_in h q s; batch = [] }) (words_in q h s) → StartEnds q h s l done steps.Start
+start_ends q h s l done x none words =
     let list : List ℕ = open_numbers s.past q in
     let past' : List Entry = entries.Start q list ∷ s.past in
-    let rests : QueueFacts q h s l.driver l.bell l.plan [] phases.Rest = record { ringed = x.ringed; driven = x.driven; words = words_rests q h s l.bell l.bell l.plan l.plan [] (phases.Start done) x.words; start = tt } in record {
-      none = none_left (steps_in h l) done after;
+    let on : started past' q ≡ true = started_own s.past q list in
+    let heads : List ℕ = open_heads q s.past (s.heads q) in record {
+      none = none;
       starts = refl;
-      queue = facts_entry q h s past' l.driver l.bell l.plan [] phases.Rest (record { accepts = omega arith; shows = refl; collects = omega arith; asks = λ j. refl }) refl
-          (words_rest q h (record s { past = past' }) l.bell l.plan (started_own s.past q list) x.words.used_fits) tt rests;
+      counts = λ next z. refl;
+      queue = record {
+        ringed = ringed_entries q h.size h.base s.past past' (s.heads q) s.memory (record { accepts = omega arith; shows = refl; collects = omega arith; asks = λ j. refl }) x.ringed;
+        driven = driven_same q h.size h.capacity h.base s.past past' (s.heads q) l.driver (λ j o. record { below = o.below; kept = o.kept }) x.driven;
+        words = subst (λ (b : Bool). Facts h.size heads h.base (record { started = b; bell = l.bell; phase = phases.Rest; plan = l.plan; counter = next_counter_in h q s; batch = [] }) (words_in q h s)) (sym on) words;
+        start = tt;
+      };
+      low = λ idle.
+          let empty : heads ≡ [] = ap (λ (a : ℕ). map (slice_index (s.heads q)) (missing_below (published s.past q) a)) idle in
+          none_counts (open_entries h.size (used_in h q s) (region_in h q s)) ((words.in_life refl).sound.reads ∙ empty);
     }
 
 -- a step of a start that is under way, as the facts of its words have it
-pub next_start : (q : ℕ) (h : Header1) (s : Scene) (l : Lane) (done : ℕ) → IsSize h.size → QueueFacts q h s l.driver l.bell l.plan [] (phases.Start done) → NextStart q h s l done (slice_get (steps_in h l) done)
+pub next_start : (q : ℕ) (h : Header1) (s : Scene) (l : Lane) (done : ℕ) → IsSize h.size → QueueFacts q h s l.driver l.bell l.plan l.counter [] (phases.Start done) → NextStart q h s l done (slice_get (steps_in h l) done)
 next_start q h s l done size x =
     let next = start_goes h.size side done refl x.start.left in
-    go next.0 next.1 (start_due h.size side done next.0 x.start.stopped refl next.1) (start_after h.size side done next.0 x.start.stopped refl next.1)
+    go next.0 next.1
   where
-    heads : List ℕ
-    heads = open_heads q s.past (s.heads q)
-
     side : Side
-    side = side_of q h s l.bell l.plan [] (phases.Start done)
-
-    words : Words
-    words = words_at (the_ring q h.size) (the_region q h.size) s.memory
+    side = side_of q h s l.bell l.plan l.counter [] (phases.Start done)
 
     none_fit : ElementsFit []
     none_fit = record { ids = λ e low. absurd (omega (arith, low)); lens = λ e low. absurd (omega (arith, low)) }
 
-    kept : (step : Step) → IsDue h.size step side
-        → Facts h.size (heads_after step (head_next heads words) [] heads) h.base (side_after step side) (words_at (the_ring q h.size) (the_region q h.size) (after_row (row_of (the_ring q h.size) (the_region q h.size) (sight side words) step) s.memory))
-    kept step due = subst (λ (w : Words). Facts h.size (heads_after step (head_next heads words) [] heads) h.base (side_after step side) w)
-        (sym (row_words (the_ring q h.size) (the_region q h.size) heads h.base side step s.memory (lies_ring q h.size size) none_fit due x.words))
-        (step_keeps (the_ring q h.size) (the_region q h.size) heads h.base step side words (lies_ring q h.size size) due x.words)
+    due : (step : Step) → slice_get (steps_in h l) done ≡ Some step → IsDue h.size step side
+    due step is = record { in_phase = x.start.stopped; next = is }
 
-    on : {A : Type 0} → started s.past q ≡ true → A
-    on run = absurd (let fails : true ≡ false = sym run ∙ x.start.stopped in cc)
+    kept : (step : Step) → slice_get (steps_in h l) done ≡ Some step → StepWords q h s (starting done l) step
+    kept step is = step_words q h s (starting done l) step size none_fit (due step is) x.words
 
-    go : (step : Step) → slice_get (steps_in h l) done ≡ Some step → IsDue h.size step side → after_of (steps_in h l) (phases.Start done) ≡ (side_after step side).phase → NextStart q h s l done (slice_get (steps_in h l) done)
-    go steps.Features is due after = Stores steps.Features is (store_makes q h s l done steps.Features SI1 x refl after (kept steps.Features due))
-    go (steps.Free i) is due after = Stores (steps.Free i) is (store_makes q h s l done (steps.Free i) (SI2 i) x refl after (kept (steps.Free i) due))
-    go steps.Open is due after = Stores steps.Open is (store_makes q h s l done steps.Open (SI3 words.ring.used) x refl after (kept steps.Open due))
-    go (steps.Settle i) is due after = Stores (steps.Settle i) is (store_makes q h s l done (steps.Settle i) (SR1 (sight side words).link) x refl after (kept (steps.Settle i) due))
-    go steps.SettleEnd is due after = Stores steps.SettleEnd is (store_makes q h s l done steps.SettleEnd (SR2 words.ring.used) x refl after (kept steps.SettleEnd due))
-    go steps.Bell is due after = Rings steps.Bell is (bell_rings q h s l done x after (kept steps.Bell due))
-    go steps.Start is due after = Ends steps.Start is (start_ends q h s l done x after)
-    go steps.Accept is due after = on due.0
-    go (steps.Id e) is due after = on due.0
-    go (steps.Len e) is due after = on due.0
-    go steps.Index is due after = on due.0
+    more : (step : Step) → slice_get (steps_in h l) done ≡ Some step → step ≢ steps.Start → done + 1 < length (steps_in h l)
+    more step is apart = more_left h.size l.plan l.bell done step is x.start.left apart
+
+    moved : (p : Phase) → after_of (steps_in h l) (phases.Start done) ≡ p → (y : Side) (w : Words) → Facts h.size (open_heads q s.past (s.heads q)) h.base (side_with (after_of (steps_in h l) (phases.Start done)) y) w → Facts h.size (open_heads q s.past (s.heads q)) h.base (side_with p y) w
+    moved p is y w f = subst (λ (ph : Phase). Facts h.size (open_heads q s.past (s.heads q)) h.base (side_with ph y) w) is f
+
+    off : {A : Type 0} {p : Phase} → IsRunning p side → A
+    off at = absurd (let fails : true ≡ false = sym at.started ∙ x.start.stopped in cc)
+
+    stores : (step : Step) (y : SplitStore) → ((next : ℕ) (z : Lane) → counted next step z ≡ z) → slice_get (steps_in h l) done ≡ Some step → step ≢ steps.Start
+        → step_items h q (starting done l) step s ≡ items.Store (tag_of y) I (store_of (the_region q h.size) y).place (store_of (the_region q h.size) y).bytes ∷ []
+        → Facts h.size (open_heads q s.past (s.heads q)) h.base (side_with (after_of (steps_in h l) (phases.Start done)) side) (words_in q h (noted_at (store_of (the_region q h.size) y).place (store_of (the_region q h.size) y).bytes s)) → NextStart q h s l done (slice_get (steps_in h l) done)
+    stores step y counts is apart made words =
+        let left : done + 1 < length (steps_in h l) = more step is apart in
+        Stores step is (store_makes q h s l done step y counts x made left (moved (phases.Start (done + 1)) (goes h.size l.plan l.bell done left) side (words_in q h (noted_at (store_of (the_region q h.size) y).place (store_of (the_region q h.size) y).bytes s)) words))
+
+    go : (step : Step) → slice_get (steps_in h l) done ≡ Some step → NextStart q h s l done (slice_get (steps_in h l) done)
+    go steps.Features is = stores steps.Features SI1 (λ next z. refl) is (λ e. cc) refl (kept steps.Features is)
+    go (steps.Free i) is = stores (steps.Free i) (SI2 i) (λ next z. refl) is (λ e. cc) refl (kept (steps.Free i) is)
+    go steps.Open is = stores steps.Open (SI3 (used_in h q s)) (λ next z. refl) is (λ e. cc) refl (kept steps.Open is)
+    go (steps.Settle i) is = stores (steps.Settle i) (SR1 (sight_of h q s (starting done l)).link) (λ next z. refl) is (λ e. cc) refl (kept (steps.Settle i) is)
+    go steps.SettleEnd is = stores steps.SettleEnd (SR2 (used_in h q s)) (λ next z. refl) is (λ e. cc) refl (kept steps.SettleEnd is)
+    go steps.Bell is =
+        let left : done + 1 < length (steps_in h l) = more steps.Bell is (λ e. cc) in
+        Rings steps.Bell is (bell_rings q h s l done x left (moved (phases.Start (done + 1)) (goes h.size l.plan l.bell done left) side (words_in q h s) (kept steps.Bell is)))
+    go steps.Start is =
+        let at : IsStarting (length (plan_steps h.size l.plan) + bells l.bell) side = place_of h.size steps.Start side (due steps.Start is) in
+        let same : done ≡ length (plan_steps h.size l.plan) + bells l.bell = (let place : phases.Start done ≡ phases.Start (length (plan_steps h.size l.plan) + bells l.bell) = at.place in cc) in
+        let none : length (steps_in h l) ≤ done + 1 = omega (arith, same, start_long h.size l.plan l.bell) in
+        let rests : after_of (steps_in h l) (phases.Start done) ≡ phases.Rest = grind (arith, nat_tests) in
+        Ends steps.Start is (start_ends q h s l done x none (moved phases.Rest rests (record side { started = true; counter = next_counter_in h q s }) (words_in q h s) (kept steps.Start is)))
+    go steps.Count is = off (place_of h.size steps.Count side (due steps.Count is))
+    go steps.Accept is = off (place_of h.size steps.Accept side (due steps.Accept is))
+    go (steps.Id e) is = off (place_of h.size (steps.Id e) side (due (steps.Id e) is)).0
+    go (steps.Len e) is = off (place_of h.size (steps.Len e) side (due (steps.Len e) is)).0
+    go (steps.Link e) is = off (place_of h.size (steps.Link e) side (due (steps.Link e) is)).0
+    go (steps.Head e) is = off (place_of h.size (steps.Head e) side (due (steps.Head e) is)).0
+    go steps.Index is = off (place_of h.size steps.Index side (due steps.Index is))
+    go (steps.Clear e) is = off (place_of h.size (steps.Clear e) side (due (steps.Clear e) is)).0
+    go steps.Note is = off (place_of h.size steps.Note side (due steps.Note is))

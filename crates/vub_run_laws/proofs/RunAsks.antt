@@ -34,5 +34,6 @@ ask_holds q h s l a good plain ready x = record {
   known = x.known;
   worked = x.worked;
   stored = x.stored;
-  queue = queue_ask q h s l.driver l.bell l.plan l.batch l.phase a good.size plain ready x.queue;
+  carries = x.carries;
+  queue = queue_ask q h s l.driver l.bell l.plan l.counter l.batch l.phase a good.size plain ready x.queue;
 }

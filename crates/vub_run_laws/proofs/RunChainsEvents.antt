@@ -157,7 +157,7 @@ entry_made q h m w plain good c waiting one =
     let all : ready.made ++ w.left ≡ (ends.0 ++ entry ∷ []) ++ index_store (the_ring q n) v.avail_idx ∷ [] = ready.stores ∙ ends.1 ∙ sym (append_assoc ends.0 (entry ∷ []) (index_store (the_ring q n) v.avail_idx ∷ [])) in
     let made : ready.made ≡ ends.0 ++ entry ∷ [] = before_last ready.made w.left (ends.0 ++ entry ∷ []) (index_store (the_ring q n) v.avail_idx) all one in
     let stands : m.scene.memory ≡ put front 0 (avail_entry_place (the_ring q n) v.avail_idx) (little_bytes 2 w.head) = sym ready.stand ∙ ap (λ (sts : List Store). put_all sts m.scene.memory) made ∙ put_append ends.0 (entry ∷ []) m.scene.memory in
-    let index : v.avail_idx ≡ (h.base + length (m.scene.heads q)) % 65536 = kept_index q h m.scene v (m.lanes q).bell (m.lanes q).plan (m.lanes q).batch (m.lanes q).phase good.holds.queue in
+    let index : v.avail_idx ≡ (h.base + length (m.scene.heads q)) % 65536 = kept_index q h m.scene v (m.lanes q).bell (m.lanes q).plan (m.lanes q).counter (m.lanes q).batch (m.lanes q).phase good.holds.queue in
     let same : entry_of (the_ring q n) v.avail_idx ≡ entry_of (the_ring q n) (h.base + length (m.scene.heads q)) = ap (entry_of (the_ring q n)) index ∙ same_entry q n (h.base + length (m.scene.heads q)) in
     let small : n ≤ 64 = plain.good.size.small in
     ap (λ (e : ℕ). word 2 m.scene.memory 0 (area_place q + 4096 + (4 + 2 * e))) (sym same)

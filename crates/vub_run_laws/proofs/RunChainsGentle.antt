@@ -48,7 +48,7 @@ store_gentle q h s l p bs x above away spares = record {
   out = λ k o. o;
   chain = λ k body status r out fb fs is held.
       let simple : IsWide h.capacity (Some r) = subst (λ (o : Option Asked). IsWide h.capacity o) is (x.known.wide k out.below) in
-      chain_kept q s.memory (slice_index (s.heads q) k) body status r p bs (spares k body status r out (head_below q h s l.driver l.bell l.plan l.batch l.phase k x.queue out) fb fs is simple) held;
+      chain_kept q s.memory (slice_index (s.heads q) k) body status r p bs (spares k body status r out (head_below q h s l.driver l.bell l.plan l.counter l.batch l.phase k x.queue out) fb fs is simple) held;
   made = λ head sts unused serve stand. stand_kept sts s.memory p bs (serving_off q head sts p bs above (away head unused) serve) stand;
 }
 

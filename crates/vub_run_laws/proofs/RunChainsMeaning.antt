@@ -142,7 +142,7 @@ linked_means q sizes r n cap owner m head o ring size low wide l = go (has_body 
 pub moment_means : (q : ℕ) (h : Header1) (m : Moment) (sizes : ℕ → ℕ) (r : SplitRing) (k : ℕ) → IsPlain h → Good q h m → ChainedAt q h m → IsRingOf q sizes r h.size → IsOut q m.scene.past (m.scene.heads q) k
     → Meant q sizes r m.scene.memory (slice_index (m.scene.heads q) k) (asked m.scene.past q k)
 moment_means q h m sizes r k plain good c ring out =
-    linked_means q sizes r h.size h.capacity (m.lanes q).driver.owner m.scene.memory (slice_index (m.scene.heads q) k) (asked m.scene.past q k) ring plain.good.size (head_below q h m.scene (m.lanes q).driver (m.lanes q).bell (m.lanes q).plan (m.lanes q).batch (m.lanes q).phase k good.holds.queue out) (good.holds.known.wide k out.below) (c.linked k out)
+    linked_means q sizes r h.size h.capacity (m.lanes q).driver.owner m.scene.memory (slice_index (m.scene.heads q) k) (asked m.scene.past q k) ring plain.good.size (head_below q h m.scene (m.lanes q).driver (m.lanes q).bell (m.lanes q).plan (m.lanes q).counter (m.lanes q).batch (m.lanes q).phase k good.holds.queue out) (good.holds.known.wide k out.below) (c.linked k out)
 
 -- a request that isn't published isn't collected
 pub unpublished_out : (q : ℕ) (h : Header1) (m : Moment) (k : ℕ) → k < length (m.scene.heads q) → is_among (published m.scene.past q) k ≡ false → IsOut q m.scene.past (m.scene.heads q) k

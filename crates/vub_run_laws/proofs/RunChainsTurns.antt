@@ -218,7 +218,7 @@ put_gentle q h s l k sector c place good x is_open is_k low =
           let is_r : r ≡ asks.Read sector c = cc in
           let here : p ≡ sectors_place (buffer_at q (slice_index (s.heads q) j)) + 512 * place = ap (λ (i : ℕ). sectors_place (buffer q (s.heads q) i) + 512 * place) (sym same) in
           subst (λ (o : Asked). Spares q (slice_index (s.heads q) j) body status o p bs) (sym is_r) (own_read q (slice_index (s.heads q) j) body status sector c p bs (omega arith) (omega arith) (omega arith) (omega (arith, here)))
-      | inr apart ↦ buffer_spares q h.capacity (slice_index (s.heads q) j) body status (slice_index (s.heads q) k) r p bs (omega arith) (omega arith) (omega arith) simple (λ same. apart (heads_apart q h s l.driver l.bell l.plan l.batch l.phase j k x.queue out out_k same)) (omega arith) (omega arith)
+      | inr apart ↦ buffer_spares q h.capacity (slice_index (s.heads q) j) body status (slice_index (s.heads q) k) r p bs (omega arith) (omega arith) (omega arith) simple (λ same. apart (heads_apart q h s l.driver l.bell l.plan l.counter l.batch l.phase j k x.queue out out_k same)) (omega arith) (omega arith)
     ])
 
 status_gentle : (q : ℕ) (h : Header1) (s : Scene) (l : Lane) (k byte : ℕ) → IsGood h → Holds q h s l → IsOpen s.past q k → IsGentle q h.size s (stored_at (status_place (buffer q (s.heads q) k)) (byte ∷ []) s)
@@ -229,7 +229,7 @@ status_gentle q h s l k byte good x is_open =
     store_gentle q h s l p (byte ∷ []) x (omega arith) (offered_away q s k p (byte ∷ []) out_k (omega arith) (omega arith)) (λ j body status r out fh fb fs is simple. elim (cases_eq j k) [
       | inl same ↦
           subst (λ (i : ℕ). Spares q (slice_index (s.heads q) j) body status r (status_place (buffer q (s.heads q) i)) (byte ∷ [])) same (own_status q h.capacity (slice_index (s.heads q) j) body status r byte (omega arith) (omega arith) (omega arith) simple)
-      | inr apart ↦ buffer_spares q h.capacity (slice_index (s.heads q) j) body status (slice_index (s.heads q) k) r p (byte ∷ []) (omega arith) (omega arith) (omega arith) simple (λ same. apart (heads_apart q h s l.driver l.bell l.plan l.batch l.phase j k x.queue out out_k same)) (omega arith) (omega arith)
+      | inr apart ↦ buffer_spares q h.capacity (slice_index (s.heads q) j) body status (slice_index (s.heads q) k) r p (byte ∷ []) (omega arith) (omega arith) (omega arith) simple (λ same. apart (heads_apart q h s l.driver l.bell l.plan l.counter l.batch l.phase j k x.queue out out_k same)) (omega arith) (omega arith)
     ])
 
 look_gentle : (q n : ℕ) (s : Scene) (k sector : ℕ) (v : List ℕ) → IsGentle q n s (record s { past = entries.Look q k sector v ∷ s.past })

@@ -1,5 +1,5 @@
 -- A used element that the driver takes keeps what holds.
-use Rattle.std.proofs.Common.{ℕ, ◌∷◌, arith}
+use Rattle.std.proofs.Common.{ℕ, ◌∷◌, refl, arith}
 use Rattle.std.proofs.lemmas.Option.{slice_get-get_or}
 use Rattle.vub_base.specs.declared.header.Header1.{Header1}
 use Rattle.vub_driver.specs.Drivers.{without_owner}
@@ -10,12 +10,13 @@ use Rattle.vub_run.specs.Memory.{Scene}
 use Rattle.vub_run.specs.Moments.{Lane}
 use Rattle.vub_run.specs.Run.{with_driver}
 use Rattle.vub_run_laws.proofs.RunOwn.{collected_own}
-use Rattle.vub_run_laws.proofs.RunGood.{Known, Worked}
+use Rattle.vub_run_laws.proofs.RunGood.{Known, hidden, Worked}
 use Rattle.vub_run_laws.proofs.RunHolds.{Holds}
+use Rattle.vub_run_laws.proofs.RunCarries.{carries_on}
 use Rattle.vub_run_laws.proofs.RunQueue.{queue_collect}
 use Rattle.vub_run_laws.proofs.RunTaken.{next_number, IsTaken}
 
-taken_worked : (q : ℕ) (h : Header1) (s : Scene) (l : Lane) (k : ℕ) → Worked q s.past l.phase l.batch l.completed l.made → Worked q (entries.Collect q k ∷ s.past) l.phase l.batch l.completed l.made
+taken_worked : (q : ℕ) (h : Header1) (s : Scene) (l : Lane) (k : ℕ) → Worked q s.past l.phase (hidden l.batch l.phase) l.completed l.made → Worked q (entries.Collect q k ∷ s.past) l.phase (hidden l.batch l.phase) l.completed l.made
 taken_worked q h s l k w = record {
   distinct = w.distinct;
   opens = λ j held. record { taken = (w.opens j held).taken; unpublished = (w.opens j held).unpublished };
@@ -45,6 +46,7 @@ taken_holds q h s l x k t =
       };
       worked = taken_worked q h s l k t.holds.worked;
       stored = record { sectors = λ j i is_open kept read. t.holds.stored.sectors j i (record { taken = is_open.taken; unpublished = is_open.unpublished }) kept read; status = t.holds.stored.status };
+      carries = carries_on q s.past (entries.Collect q k ∷ s.past) l.counter l.phase l.batch l.completed refl refl refl t.holds.carries;
       queue = queue_collect q h s l x k t;
     }
 

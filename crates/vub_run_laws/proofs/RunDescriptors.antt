@@ -135,12 +135,12 @@ other_same q h m w sts k plain good c waits mine out =
     let head : ℕ = slice_index (s.heads q) k in
     let was : IsLinked q h.size v.owner s.memory head (asked s.past q k) = c.linked k out in
     let small : h.size ≤ 64 = plain.good.size.small in
-    let below : head < h.size = head_below q h m.scene (m.lanes q).driver (m.lanes q).bell (m.lanes q).plan (m.lanes q).batch (m.lanes q).phase k good.holds.queue out in
+    let below : head < h.size = head_below q h m.scene (m.lanes q).driver (m.lanes q).bell (m.lanes q).plan (m.lanes q).counter (m.lanes q).batch (m.lanes q).phase k good.holds.queue out in
     let body : was.body < h.size = was.body_fits in
     let status : was.status < h.size = was.status_fits in
     let wide : IsWide h.capacity (Some was.request) = subst (λ (o : Option Asked). IsWide h.capacity o) was.is (good.holds.known.wide k out.below) in
     chain_same q h.size s.memory (put_all sts s.memory) head was.body was.status was.request was.stands
-    (chain_stays q h.capacity v.owner w.head head was.body was.status was.request sts s.memory wide (omega arith) (omega arith) (omega arith) (waits.apart k out) (head_owned q h m.scene (m.lanes q).driver (m.lanes q).bell (m.lanes q).plan (m.lanes q).batch (m.lanes q).phase k good.holds.queue out) was.body_mine was.status_mine mine was.stands)
+    (chain_stays q h.capacity v.owner w.head head was.body was.status was.request sts s.memory wide (omega arith) (omega arith) (omega arith) (waits.apart k out) (head_owned q h m.scene (m.lanes q).driver (m.lanes q).bell (m.lanes q).plan (m.lanes q).counter (m.lanes q).batch (m.lanes q).phase k good.holds.queue out) was.body_mine was.status_mine mine was.stands)
 
 stored_described : (q : ℕ) (h : Header1) (m : Moment) (w : Waiting) (sts : List Store) → IsPlain h → Good q h m → ChainedAt q h m → IsWaiting q h.size h.capacity m.scene.past (m.scene.heads q) (m.lanes q).driver w → AreMine q (m.lanes q).driver.owner w.head sts → DescribedAt q h m
     → Described q h.size (record m.scene { memory = put_all sts m.scene.memory })

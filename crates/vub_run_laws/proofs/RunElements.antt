@@ -56,16 +56,3 @@ batch_room q past phase batch completed made n cap heads known w =
 -- the lane with one more store made
 abbrev pub one_on : ℕ → Lane → Lane
 one_on done l = record l { phase = phases.Publish (done + 1) }
-
-pub worked_on : (q : ℕ) (past : List Entry) (batch completed : List ℕ) (made : ℕ → ℕ) (phase : Phase) (done : ℕ) → phase ≡ phases.Publish done → Worked q past phase batch completed made → Worked q past (phases.Publish (done + 1)) batch completed made
-worked_on q past batch completed made phase done is w =
-    record {
-      distinct = w.distinct;
-      opens = w.opens;
-      untouched = w.untouched;
-      progress = w.progress;
-      full = w.full;
-      pending = w.pending;
-      quiet = w.quiet;
-      between = tt;
-    }

@@ -40,21 +40,6 @@ turn_falls q h t m plain good due =
 
 -- ---- how much there is
 
-pub missing_distinct : (xs : List ℕ) (a : ℕ) → are_distinct (missing_below xs a) ≡ true
-missing_distinct xs zero = refl
-missing_distinct xs (suc a) =
-    let rest : are_distinct (missing_below xs a) ≡ true = missing_distinct xs a in
-    elim (cases_Bool (is_among xs a)) [
-      | inl there ↦ grind (arith, nat_tests)
-      | inr out ↦
-          let new : is_among (missing_below xs a) a ≡ false = elim (cases_Bool (is_among (missing_below xs a) a)) [
-            | inl held ↦ absurd (let low : (a < a) × (is_among xs a ≡ false) = missing-among xs a a held in omega (arith, low.0))
-            | inr none ↦ none
-          ] in
-          let whole : are_distinct (missing_below xs a ++ a ∷ []) ≡ true = distinct_push (missing_below xs a) a rest new in
-          grind (arith, nat_tests)
-    ]
-
 -- what is open and what was published are no more than what was accepted
 open_few : (q n cap : ℕ) (past : List Entry) (heads : List ℕ) → Known q n cap past heads → length (published past q) + length (open_numbers past q) ≤ accepted past q
 open_few q n cap past heads known =
@@ -67,10 +52,10 @@ open_few q n cap past heads known =
     ]) in
     omega (arith, few, length-append ps os)
 
-sum_few : (gone done : List ℕ) (made : ℕ → ℕ) (a : ℕ) → sum_below (weight gone done made) a ≤ 20 * length (missing_below gone a)
+sum_few : (gone done : List ℕ) (made : ℕ → ℕ) (a : ℕ) → sum_below (weight gone done made) a ≤ 25 * length (missing_below gone a)
 sum_few gone done made zero = omega arith
 sum_few gone done made (suc a) =
-    let rest : sum_below (weight gone done made) a ≤ 20 * length (missing_below gone a) = sum_few gone done made a in
+    let rest : sum_below (weight gone done made) a ≤ 25 * length (missing_below gone a) = sum_few gone done made a in
     elim (cases_Bool (is_among gone a)) [
       | inl there ↦
           let none : weight gone done made a ≡ 0 = grind (arith, nat_tests) in
@@ -119,8 +104,8 @@ effort_small q h m plain good =
     let shown : collected s.past q ≤ length (published s.past q) = known.shown in
     let offered : accepted s.past q ≤ length (s.heads q) = known.offered in
     let opens = open_few q h.size h.capacity s.past (s.heads q) known in
-    let dones = done_few q h.size h.capacity s.past (s.heads q) l.phase l.batch l.completed l.made known good.holds.worked in
-    let sum = sum_few (published s.past q) (l.completed ++ l.batch) l.made (accepted s.past q) in
+    let dones = done_few q h.size h.capacity s.past (s.heads q) l.phase (hidden l.batch l.phase) l.completed l.made known good.holds.worked in
+    let sum = sum_few (published s.past q) (l.completed ++ hidden l.batch l.phase) l.made (accepted s.past q) in
     let stores = phase_few l.batch l.phase in
     let begins = start_few (started s.past q) h.size l.bell l.plan l.phase (queue_start q h s l good.holds) in
     omega (arith, opens, dones, sum, stores, begins)

@@ -35,7 +35,7 @@ use Rattle.vub_run.specs.Tracking.{Tracks, AfterEach}
 use Rattle.vub_report.specs.Histories.{entries_of}
 use Rattle.vub_run.specs.Turns.{turned}
 use Rattle.vub_run_laws.proofs.RunQueue.{queue_rests, queue_attached, queue_left, queue_stands, queue_first, queue_free, takes, sees}
-use Rattle.vub_run_laws.proofs.RunGood.{IsPending, Worked}
+use Rattle.vub_run_laws.proofs.RunGood.{IsPending, hidden, Worked}
 use Rattle.vub_run_laws.proofs.RunHolds.{Holds, EntryStands}
 use Rattle.vub_run_laws.proofs.RunGuests.{holds_track, offered, Offered, guest_holds, Unoffered, part_holds, left_waits, rest_waits, waits_well}
 use Rattle.vub_run_laws.proofs.RunWork.{Fine}
@@ -181,7 +181,7 @@ collect_right q h m plain good = go (sees q h m.scene) refl
 
 -- ---- lives
 
-fresh_worked : (q : ℕ) (past : List Entry) (l : Lane) → started past q ≡ false → Worked q past l.phase l.batch l.completed l.made → Worked q past phases.Rest [] [] (λ k. 0)
+fresh_worked : (q : ℕ) (past : List Entry) (l : Lane) → started past q ≡ false → Worked q past l.phase (hidden l.batch l.phase) l.completed l.made → Worked q past phases.Rest [] [] (λ k. 0)
 fresh_worked q past l stopped w =
     let none : (k : ℕ) → l.made k ≡ 0 = (w.quiet stopped).1.1 in record {
       distinct = refl;
@@ -189,7 +189,7 @@ fresh_worked q past l stopped w =
       untouched = λ k high. refl;
       progress = λ k. record { fresh = λ e. (w.progress k).fresh (none k); begun = λ some. absurd (omega arith) };
       full = λ k held. absurd (let fails : false ≡ true = held in cc);
-      pending = λ k is_open out. subst (λ (c : ℕ). IsPending c (asked past q k)) (none k) (w.pending k is_open (ap (λ (xs : List ℕ). is_among (xs ++ l.batch) k) (w.quiet stopped).1.0 ∙ ap (λ (xs : List ℕ). is_among xs k) (w.quiet stopped).0));
+      pending = λ k is_open out. subst (λ (c : ℕ). IsPending c (asked past q k)) (none k) (w.pending k is_open (ap (λ (xs : List ℕ). is_among (xs ++ hidden l.batch l.phase) k) (w.quiet stopped).1.0 ∙ ap (λ (xs : List ℕ). is_among xs k) (w.quiet stopped).0));
       quiet = λ e. (refl, (refl, λ k. refl));
       between = tt;
     }
@@ -203,7 +203,14 @@ boot_right q h m plain good = tested q h m (not m.lives) (played [] (record m { 
           known = good.holds.known;
           worked = fresh_worked q m.scene.past (m.lanes q) stopped good.holds.worked;
           stored = record { sectors = λ k i is_open kept read. absurd (omega (arith, kept.put)); status = λ k held. absurd (let fails : false ≡ true = held in cc) };
-          queue = queue_rests q h m.scene (m.lanes q).driver (m.lanes q).bell false (m.lanes q).plan New (m.lanes q).batch (m.lanes q).phase good.holds.queue;
+          carries = record {
+            distinct = refl;
+            shown = λ k held out. absurd (let fails : false ≡ true = held in cc);
+            quiet = λ e. refl;
+            low = omega arith;
+            idle = good.holds.carries.idle;
+          };
+          queue = queue_rests q h m.scene (m.lanes q).driver (m.lanes q).bell false (m.lanes q).plan New (m.lanes q).counter 0 (m.lanes q).batch (m.lanes q).phase stopped good.holds.queue;
         };
         asleep = λ e. absurd (let fails : true ≡ false = e in cc);
         idle = good.idle;
@@ -216,7 +223,7 @@ boot_right q h m plain good = tested q h m (not m.lives) (played [] (record m { 
 join_right : (q : ℕ) (h : Header1) (m : Moment) → IsPlain h → Good q h m → Leads q h m (join m)
 join_right q h m plain good = tested q h m (m.lives && not m.joined) (played [] (record m { joined = true; lanes = λ q. attached (m.lanes q) })) plain good (λ ready. record {
   good = record {
-    holds = record { known = good.holds.known; worked = good.holds.worked; stored = good.holds.stored; queue = queue_attached q h m.scene (m.lanes q).driver (m.lanes q).bell (m.lanes q).plan (m.lanes q).batch (m.lanes q).phase good.holds.queue };
+    holds = record { known = good.holds.known; worked = good.holds.worked; stored = good.holds.stored; carries = good.holds.carries; queue = queue_attached q h m.scene (m.lanes q).driver (m.lanes q).bell (m.lanes q).plan (m.lanes q).counter (m.lanes q).batch (m.lanes q).phase good.holds.queue };
     asleep = λ dead. absurd (grind (arith, nat_tests));
     idle = good.idle;
   };

@@ -1,16 +1,16 @@
 -- What stores elsewhere leave.
-use Rattle.std.proofs.Common.{◌≡◌, ◌≢◌, ◌≤◌, ◌<◌, ◌⊎◌, ℕ, ◌+◌, ◌*◌, true, List, ◌++◌, length, ◌∙◌, inl, inr, arith, []}
+use Rattle.std.proofs.Common.{◌≡◌, ◌≢◌, ◌≤◌, ◌<◌, ◌⊎◌, ℕ, ◌+◌, ◌*◌, true, false, List, ◌++◌, length, ◌∙◌, inl, inr, arith, []}
 use Rattle.std.specs.Prelude.{slice_index}
 use Rattle.byteorder.specs.Endian.{little_bytes}
 use Rattle.byteorder.specs.Numbers.{length-bytes_low_first}
-use Rattle.std.proofs.lemmas.Bool.{cases_lt}
+use Rattle.std.proofs.lemmas.Bool.{cases_Bool, cases_lt}
 use Rattle.vub_base.specs.declared.store.Tag.{Tag}
 use Rattle.vub_base.specs.declared.store.Area.TheVariants.{M}
 use Rattle.vub_shared.specs.Bytes.{Bytes, put, word}
 use Rattle.vub_shared.proofs.BytesLemmas.{put_other, word-put_other}
 use Rattle.vub_driver.specs.Layout.{area_place, status_place, sectors_place}
 use Rattle.vub_device.specs.declared.entry.Entry.{Entry}
-use Rattle.vub_device.specs.Past.{published, collected, is_among, IsOpen}
+use Rattle.vub_device.specs.Past.{accepted, published, collected, is_among, IsOpen}
 use Rattle.vub_report.specs.declared.items.Item.TheVariants as items
 use Rattle.vub_run.specs.Memory.{Scene}
 use Rattle.vub_run.specs.Spared.{IsUncollected, IsSparing}
@@ -22,6 +22,19 @@ pub open_out : (q n cap : ℕ) (past : List Entry) (heads : List ℕ) (k : ℕ) 
 open_out q n cap past heads k known open_k = record {
   below = omega (arith, open_k.taken, known.offered);
   kept = not_among-take (published past q) (collected past q) k open_k.unpublished;
+}
+
+-- the number that is accepted next isn't published, and is offered and not collected where an offer isn't accepted
+pub next_unpublished : (q n cap : ℕ) (past : List Entry) (heads : List ℕ) → Known q n cap past heads → is_among (published past q) (accepted past q) ≡ false
+next_unpublished q n cap past heads known = elim (cases_Bool (is_among (published past q) (accepted past q))) [
+  | inl held ↦ absurd (omega (arith, known.below (accepted past q) held))
+  | inr none ↦ none
+]
+
+pub waiting_out : (q n cap : ℕ) (past : List Entry) (heads : List ℕ) → Known q n cap past heads → accepted past q < length heads → IsOut q past heads (accepted past q)
+waiting_out q n cap past heads known more = record {
+  below = more;
+  kept = not_among-take (published past q) (collected past q) (accepted past q) (next_unpublished q n cap past heads known);
 }
 
 pub keeps : (w : ℕ) (m : Bytes) (p : ℕ) (bs : List ℕ) (q : ℕ) → (q + w ≤ p) ⊎ (p + length bs ≤ q) → word w (put m 0 p bs) 0 q ≡ word w m 0 q

@@ -1,6 +1,6 @@
 -- What holds of a queue at every moment of a run, part by part: its history, the work, what stands in buffers.
 use Rattle.std.proofs.Common.{◌≡◌, ◌≤◌, ◌<◌, ℕ, ◌+◌, ◌*◌, ◌/◌, ◌%◌, Bool, true, false, List, [], ◌++◌, length, take}
-use Rattle.std.specs.Prelude.{Option, Some, slice_index, ⊤}
+use Rattle.std.specs.Prelude.{Option, Some, slice_index, nat_lt, if◌then◌else◌, ⊤}
 use Rattle.std.specs.Int.{◌∣◌}
 use Rattle.std.specs.List.{AllByRecursion}
 use Rattle.vub_base.specs.declared.header.Header1.{Header1}
@@ -8,7 +8,7 @@ use Rattle.vub_shared.specs.Bytes.{Bytes, put}
 use Rattle.vub_steps.specs.declared.steps.Phase.{Phase}
 use Rattle.vub_steps.specs.declared.steps.Phase.TheVariants as phases
 use Rattle.vub_steps.specs.declared.steps.Plan.{Plan}
-use Rattle.vub_steps.specs.Steps.{plan_steps, start_steps}
+use Rattle.vub_steps.specs.Steps.{plan_steps, start_steps, publish_steps}
 use Rattle.vub_driver.specs.Layout.{area_place, buffer_place, status_place, sectors_place}
 use Rattle.vub_device.specs.declared.entry.Answered.{Answered}
 use Rattle.vub_device.specs.declared.entry.Asked.{Asked}
@@ -114,30 +114,36 @@ IsPending made (Some (asks.Write s bytes)) = made ≤ length bytes / 512
 IsPending made (Some asks.Flush) = made ≤ 1
 IsPending made r = ⊤
 
--- between turns a queue is at rest, in a start or in a publication
+-- between turns a queue is at rest, in a start, in a fetch whose counter is stored, or in a publication
 abbrev pub BetweenTurns : Phase → Type 0
-BetweenTurns (phases.Fetch done) = ⊥
+BetweenTurns (phases.Fetch done) = done ≡ 1
 BetweenTurns phase = ⊤
 
--- and its batch goes with that; of a start a step is left
+-- and its batch goes with that; of a start and of a publication a step is left
 abbrev pub PhaseIs : ℕ → Bool → Plan → List ℕ → Phase → Type 0
 PhaseIs n bell plan batch phases.Rest = batch ≡ []
 PhaseIs n bell plan batch (phases.Start done) = (batch ≡ []) × (done < length (start_steps n plan bell))
-PhaseIs n bell plan batch (phases.Publish done) = (0 < length batch) × (done < 2 * length batch + 1)
-PhaseIs n bell plan batch phase = ⊥
+PhaseIs n bell plan batch (phases.Fetch done) = (batch ≡ []) × (done ≡ 1)
+PhaseIs n bell plan batch (phases.Publish done) = (0 < length batch) × (done < length (publish_steps (length batch) bell))
 
--- a start of which so many steps were made: the queue isn't started, and a step is left. It has a store for each entry, and
--- two more at most
-pub record StartGoes (runs : Bool) (n : ℕ) (bell : Bool) (plan : Plan) (done : ℕ) : Type 0 where
+-- the batch of a publication until used.idx shows it
+abbrev pub hidden : List ℕ → Phase → List ℕ
+hidden batch (phases.Publish done) = if nat_lt (4 * length batch) done then [] else batch
+hidden batch phase = []
+
+-- a start of which so many steps were made: the queue isn't started, a step is left, and it has a store for each entry and two more at most
+pub record InStart (runs : Bool) (n : ℕ) (bell : Bool) (plan : Plan) (done : ℕ) : Type 0 where
   pub stopped : runs ≡ false
   pub left : done < length (start_steps n plan bell)
   pub few : length (plan_steps n plan) ≤ n + 2
 
--- what is known of a start that is under way
+-- what is known of a start that is under way; a fetch and a publication are of a queue that is started
 abbrev pub StartIs : Bool → ℕ → Bool → Plan → Phase → Type 0
-StartIs runs n bell plan (phases.Start done) = StartGoes runs n bell plan done
-StartIs runs n bell plan phase = ⊤
+StartIs runs n bell plan phases.Rest = ⊤
+StartIs runs n bell plan (phases.Start done) = InStart runs n bell plan done
+StartIs runs n bell plan phase = runs ≡ true
 
+-- of the numbers that are completed, or in a batch that isn't shown
 pub record Worked (q : ℕ) (past : List Entry) (phase : Phase) (batch completed : List ℕ) (made : ℕ → ℕ) : Type 0 where
   pub distinct : are_distinct (completed ++ batch) ≡ true
   pub opens : (k : ℕ) → is_among (completed ++ batch) k ≡ true → IsOpen past q k
@@ -147,6 +153,20 @@ pub record Worked (q : ℕ) (past : List Entry) (phase : Phase) (batch completed
   pub pending : (k : ℕ) → IsOpen past q k → is_among (completed ++ batch) k ≡ false → IsPending (made k) (asked past q k)
   pub quiet : started past q ≡ false → (batch ≡ []) × ((completed ≡ []) × ((k : ℕ) → made k ≡ 0))
   pub between : BetweenTurns phase
+
+-- a counter is at most the number of accepted requests, and a fetch that stored its counter has one more
+abbrev pub IsLow : ℕ → ℕ → Phase → Type 0
+IsLow taken counter (phases.Fetch done) = counter ≤ taken + done
+IsLow taken counter phase = counter ≤ taken
+
+-- The batch and the counter. No number of the batch is completed too, and none stands twice; where the batch is shown its
+-- numbers are published. Before the start of a queue there is no batch, and nothing was accepted.
+pub record Carries (q : ℕ) (past : List Entry) (counter : ℕ) (phase : Phase) (batch completed : List ℕ) : Type 0 where
+  pub distinct : are_distinct (completed ++ batch) ≡ true
+  pub shown : (k : ℕ) → is_among batch k ≡ true → is_among (hidden batch phase) k ≡ false → is_among (published past q) k ≡ true
+  pub quiet : started past q ≡ false → batch ≡ []
+  pub low : IsLow (accepted past q) counter phase
+  pub idle : started past q ≡ false → accepted past q ≡ 0
 
 -- ---- what stands in buffers
 

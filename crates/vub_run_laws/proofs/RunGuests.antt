@@ -17,21 +17,23 @@ use Rattle.vub_run.specs.Memory.{Scene, after_items}
 use Rattle.vub_run.specs.Moments.{Lane}
 use Rattle.vub_run.specs.Run.{guest_items, with_driver}
 use Rattle.vub_run.specs.Tracking.{Tracks, AfterEach}
-use Rattle.vub_run_laws.proofs.RunGood.{Known, Stored, stored_at, IsGood}
+use Rattle.vub_run_laws.proofs.RunGood.{Known, hidden, Stored, stored_at, IsGood}
 use Rattle.vub_run_laws.proofs.RunHolds.{Holds, StoresBefore, offered_scene, StoresLast, offered_by, IsWaiting, LastStands}
 use Rattle.vub_run_laws.proofs.RunQueue.{queue_waiting, queue_waits, queue_before, queue_last, queue_tracks}
 use Rattle.vub_run_laws.proofs.RunFrames.{open_out, stored_elsewhere}
-use Rattle.vub_run_laws.proofs.RunOffers.{offer_known, offer_worked, offer_stored, batch_taken}
+use Rattle.vub_run_laws.proofs.RunOffers.{offer_known, offer_worked, offer_stored}
+use Rattle.vub_run_laws.proofs.RunCarries.{carries_on, batch_taken}
 
 pub holds_track : (q : ℕ) (h : Header1) (s : Scene) (l : Lane) → IsGood h → Holds q h s l → Tracks h q s
-holds_track q h s l good holds = queue_tracks q h s l.driver l.bell l.plan l.batch l.phase good.size holds.known holds.queue
+holds_track q h s l good holds = queue_tracks q h s l.driver l.bell l.plan l.counter l.batch l.phase good.size holds.known holds.queue
 
 -- what holds after a store of a request before its last one
-before_holds : (q : ℕ) (h : Header1) (s : Scene) (l : Lane) (w : Waiting) (st : Store) (left : List Store) → Holds q h s l → StoresBefore q h s l.driver w l.bell l.plan l.batch l.phase st left → Holds q h (stored_at st.place st.bytes s) l
+before_holds : (q : ℕ) (h : Header1) (s : Scene) (l : Lane) (w : Waiting) (st : Store) (left : List Store) → Holds q h s l → StoresBefore q h s l.driver w l.bell l.plan l.counter l.batch l.phase st left → Holds q h (stored_at st.place st.bytes s) l
 before_holds q h s l w st left holds next = record {
   known = holds.known;
   worked = holds.worked;
-  stored = stored_elsewhere q s.past (s.heads q) s.memory st.place st.bytes l.batch l.completed l.made holds.worked.opens (λ k is_open. next.off k (open_out q h.size h.capacity s.past (s.heads q) k holds.known is_open)) holds.stored;
+  stored = stored_elsewhere q s.past (s.heads q) s.memory st.place st.bytes (hidden l.batch l.phase) l.completed l.made holds.worked.opens (λ k is_open. next.off k (open_out q h.size h.capacity s.past (s.heads q) k holds.known is_open)) holds.stored;
+  carries = holds.carries;
   queue = next.queue;
 }
 
@@ -39,16 +41,17 @@ abbrev pub offered : Lane → Lane
 offered l = record l { driver = offered_by l.driver }
 
 -- and after the last one, with its offer
-last_holds : (q : ℕ) (h : Header1) (s : Scene) (l : Lane) (w : Waiting) (st : Store) (left : List Store) → IsWaiting q h.size h.capacity s.past (s.heads q) l.driver (record w { left = left }) → Holds q h s l → StoresLast q h s l.driver w l.bell l.plan l.batch l.phase st
+last_holds : (q : ℕ) (h : Header1) (s : Scene) (l : Lane) (w : Waiting) (st : Store) (left : List Store) → IsWaiting q h.size h.capacity s.past (s.heads q) l.driver (record w { left = left }) → Holds q h s l → StoresLast q h s l.driver w l.bell l.plan l.counter l.batch l.phase st
     → Holds q h (offered_scene q h w st s) (offered l)
 last_holds q h s l w st left waits holds next =
     let r : Asked = request_of w.ask in
     let past' : List Entry = entries.Offer q r ∷ s.past in
     let m : Bytes = (stored_at st.place st.bytes s).memory in
-    let stored = stored_elsewhere q s.past (s.heads q) s.memory st.place st.bytes l.batch l.completed l.made holds.worked.opens (λ k is_open. next.off k) holds.stored in record {
+    let stored = stored_elsewhere q s.past (s.heads q) s.memory st.place st.bytes (hidden l.batch l.phase) l.completed l.made holds.worked.opens (λ k is_open. next.off k) holds.stored in record {
       known = subst (Known q h.size h.capacity past') (sym next.heads) (offer_known q h.size h.capacity s.past (s.heads q) r w.head holds.known waits.wide next.room);
-      worked = offer_worked q h.size h.capacity s.past (s.heads q) r l.phase l.batch l.completed l.made holds.known holds.worked;
-      stored = subst (λ (hs : List ℕ). Stored q past' hs m l.batch l.completed l.made) (sym next.heads) (offer_stored q h.size h.capacity s.past (s.heads q) r w.head m l.phase l.batch l.completed l.made holds.known holds.worked stored);
+      worked = offer_worked q h.size h.capacity s.past (s.heads q) r l.phase (hidden l.batch l.phase) l.completed l.made holds.known holds.worked;
+      stored = subst (λ (hs : List ℕ). Stored q past' hs m (hidden l.batch l.phase) l.completed l.made) (sym next.heads) (offer_stored q h.size h.capacity s.past (s.heads q) r w.head m l.phase (hidden l.batch l.phase) l.completed l.made holds.known holds.worked stored);
+      carries = carries_on q s.past past' l.counter l.phase l.batch l.completed refl refl refl holds.carries;
       queue = next.queue;
     }
 
@@ -66,7 +69,7 @@ pub guest_holds : (q : ℕ) (h : Header1) (mode : CacheMode) (s : Scene) (l : La
 guest_holds q h mode s l w count [] good waits stands some enough holds = absurd (omega arith)
 guest_holds q h mode s l w zero (st ∷ left) good waits stands some enough holds = absurd (omega arith)
 guest_holds q h mode s l w (suc count) (st ∷ []) good waits stands some enough holds =
-    let next = queue_last q h s l.driver w l.bell l.plan l.batch l.phase st good.size holds.known holds.worked.between (batch_taken q s.past l.phase l.batch l.completed l.made holds.worked) waits stands holds.queue in
+    let next = queue_last q h s l.driver w l.bell l.plan l.counter l.batch l.phase st good.size holds.known (batch_taken q s.past l.counter l.phase l.batch l.completed holds.worked.opens holds.known.below holds.carries) waits stands holds.queue in
     let done = last_holds q h s l w st (st ∷ []) waits holds next in record {
       each = (inl tt, (inr (holds_track q h (offered_scene q h w st s) (offered l) good done), tt));
       holds = done;
@@ -75,7 +78,7 @@ guest_holds q h mode s l w (suc count) (st ∷ []) good waits stands some enough
     }
 guest_holds q h mode s l w (suc count) (st ∷ st' ∷ left) good waits stands some enough holds =
     let s' : Scene = stored_at st.place st.bytes s in
-    let next = queue_before q h s l.driver w l.bell l.plan l.batch l.phase st st' left good.size holds.known holds.worked.between waits holds.queue in
+    let next = queue_before q h s l.driver w l.bell l.plan l.counter l.batch l.phase st st' left good.size holds.known waits holds.queue in
     let then = before_holds q h s l w st (st' ∷ left) holds next in
     let rest = guest_holds q h mode s' l w count (st' ∷ left) good next.waits next.last (omega arith) (omega arith) then in record {
       each = (inr (holds_track q h s' l good then), rest.each);
@@ -86,7 +89,7 @@ guest_holds q h mode s l w (suc count) (st ∷ st' ∷ left) good waits stands s
 
 -- what is known of the request that waits
 pub waits_well : (q : ℕ) (h : Header1) (s : Scene) (l : Lane) (w : Waiting) → l.driver.waiting ≡ Some w → Holds q h s l → IsWaiting q h.size h.capacity s.past (s.heads q) l.driver (record w { left = w.left })
-waits_well q h s l w waiting holds = queue_waiting q h s l.driver l.bell l.plan l.batch l.phase w waiting holds.queue
+waits_well q h s l w waiting holds = queue_waiting q h s l.driver l.bell l.plan l.counter l.batch l.phase w waiting holds.queue
 
 -- ---- a part of what is left
 
@@ -106,7 +109,7 @@ part_holds q h s l w (suc count) [] good waits few holds = absurd (omega arith)
 part_holds q h s l w (suc count) (st ∷ []) good waits few holds = absurd (omega arith)
 part_holds q h s l w (suc count) (st ∷ st' ∷ left) good waits few holds =
     let s' : Scene = stored_at st.place st.bytes s in
-    let next = queue_before q h s l.driver w l.bell l.plan l.batch l.phase st st' left good.size holds.known holds.worked.between waits holds.queue in
+    let next = queue_before q h s l.driver w l.bell l.plan l.counter l.batch l.phase st st' left good.size holds.known waits holds.queue in
     let then = before_holds q h s l w st (st' ∷ left) holds next in
     let rest = part_holds q h s' l w count (st' ∷ left) good next.waits (omega arith) then in record {
       each = (inr (holds_track q h s' l good then), rest.each);
@@ -123,7 +126,8 @@ rest_waits q h s l w left waits holds = record {
   known = holds.known;
   worked = holds.worked;
   stored = holds.stored;
-  queue = queue_waits q h s l.driver l.bell l.plan l.batch l.phase w left waits holds.queue;
+  carries = holds.carries;
+  queue = queue_waits q h s l.driver l.bell l.plan l.counter l.batch l.phase w left waits holds.queue;
 }
 
 -- where a store is left the request waits on

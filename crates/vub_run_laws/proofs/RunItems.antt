@@ -19,7 +19,7 @@ goes_on-append : (i : Item) (is js : List Item) → GoesWithNext i is → GoesWi
 goes_on-append (items.Store tag area place bytes) [] js g = absurd g
 goes_on-append (items.Store tag area place bytes) (items.Made (entries.Offer q r) ∷ is) js g = tt
 goes_on-append (items.Store tag area place bytes) (items.Made (entries.Publish q list) ∷ is) js g = tt
-goes_on-append (items.Store tag area place bytes) (items.Made (entries.Accept q k) ∷ is) js g = absurd g
+goes_on-append (items.Store tag area place bytes) (items.Made (entries.Accept q k) ∷ is) js g = tt
 goes_on-append (items.Store tag area place bytes) (items.Made (entries.Look q k s v) ∷ is) js g = absurd g
 goes_on-append (items.Store tag area place bytes) (items.Made (entries.Act q k s v) ∷ is) js g = absurd g
 goes_on-append (items.Store tag area place bytes) (items.Made (entries.Sync q k) ∷ is) js g = absurd g

@@ -156,8 +156,8 @@ may_store q h m w plain held x waits =
     let known : Known q h.size h.capacity s.past (s.heads q) = held.good.holds.known in
     let out_of : (k : ℕ) → IsOutstanding q s k → IsOut q s.past (s.heads q) k = λ k out. record { below = omega (arith, out.offered, known.offers_are); kept = out.kept } in record {
       size = plain.good.size;
-      index_is = kept_index q h m.scene (m.lanes q).driver (m.lanes q).bell (m.lanes q).plan (m.lanes q).batch (m.lanes q).phase held.good.holds.queue ∙ ap (λ (c : ℕ). (h.base + c) % 65536) known.offers_are;
-      room = let room = queue_room q h m.scene (m.lanes q).driver (m.lanes q).bell (m.lanes q).plan (m.lanes q).batch (m.lanes q).phase w known waits held.good.holds.queue in omega (arith, room, known.offers_are);
+      index_is = kept_index q h m.scene (m.lanes q).driver (m.lanes q).bell (m.lanes q).plan (m.lanes q).counter (m.lanes q).batch (m.lanes q).phase held.good.holds.queue ∙ ap (λ (c : ℕ). (h.base + c) % 65536) known.offers_are;
+      room = let room = queue_room q h m.scene (m.lanes q).driver (m.lanes q).bell (m.lanes q).plan (m.lanes q).counter (m.lanes q).batch (m.lanes q).phase w known waits held.good.holds.queue in omega (arith, room, known.offers_are);
       low = waits.below;
       unused = λ k out. waits.apart k (out_of k out);
       unlinked = λ d mine k out. elim (cases_Bool (is_among (get_or (s.descriptors q) k []) d)) [
@@ -165,7 +165,7 @@ may_store q h m w plain held x waits =
             let o : IsOut q s.past (s.heads q) k = out_of k out in
             let head : ℕ = slice_index (s.heads q) k in
             let there : is_among (chain_in (the_ring q h.size) s.memory head) d ≡ true = ap (λ (xs : List ℕ). is_among xs d) (sym (x.stands k o)) ∙ among in
-            let theirs : v.owner d ≡ Some head = chain_owned q h.size v.owner s.memory head d (asked s.past q k) (head_owned q h m.scene (m.lanes q).driver (m.lanes q).bell (m.lanes q).plan (m.lanes q).batch (m.lanes q).phase k held.good.holds.queue o) (held.chained.linked k o) there in
+            let theirs : v.owner d ≡ Some head = chain_owned q h.size v.owner s.memory head d (asked s.past q k) (head_owned q h m.scene (m.lanes q).driver (m.lanes q).bell (m.lanes q).plan (m.lanes q).counter (m.lanes q).batch (m.lanes q).phase k held.good.holds.queue o) (held.chained.linked k o) there in
             let both : Some head ≡ Some w.head = sym theirs ∙ mine in
             absurd (waits.apart k o (let same : head ≡ w.head = cc in same))
         | inr free ↦ free
@@ -182,7 +182,7 @@ guest_lawful q h many m plain held x = go (m.lanes q).driver.waiting refl
         let waits : IsWaiting q h.size h.capacity m.scene.past (m.scene.heads q) v w = waits_well q h m.scene (m.lanes q) w e held.good.holds in
         let ready : IsPrepared q h.size m.scene.memory v w = subst (λ (o : Option Waiting). PreparedWell q h.size m.scene.memory v o) e held.chained.waits in
         left_lawful q h many m.scene v.avail_idx w.head v.owner w.ask many w.left (may_store q h m w plain held x waits) waits.plan
-        (left_parts q h.size h.capacity m.scene.past (m.scene.heads q) m.scene.memory v w waits ready) (offered_index q h m.scene (m.lanes q).driver (m.lanes q).bell (m.lanes q).plan (m.lanes q).batch (m.lanes q).phase held.good.holds.queue)
+        (left_parts q h.size h.capacity m.scene.past (m.scene.heads q) m.scene.memory v w waits ready) (offered_index q h m.scene (m.lanes q).driver (m.lanes q).bell (m.lanes q).plan (m.lanes q).counter (m.lanes q).batch (m.lanes q).phase held.good.holds.queue)
 
 event_lawful : (q : ℕ) (h : Header1) (m : Moment) (e : Event) (is : List Item) (next : Moment) → IsPlain h → HoldsOf q h m → DescribedAt q h m → IsOn q e → Plays h m e is next → BeforeEach h (IsLawfulItem h e) m.scene is
 event_lawful q h m (events.Guest p k) is next plain held x on plays =

@@ -7,7 +7,7 @@ use Rattle.std.proofs.lemmas.List.{length-append, length-map, map-append}
 use Rattle.vub_device.specs.Past.{is_among, missing_below}
 use Rattle.vub_device.specs.Places.{are_distinct}
 use Rattle.vub_device.proofs.Numbers.{is_among_append}
-use Rattle.vub_facts.proofs.HeadLemmas.{distinct_push, few_below, number_of}
+use Rattle.vub_facts.proofs.HeadLemmas.{distinct_push, distinct_parts, few_below, number_of}
 
 -- ---- members
 
@@ -70,6 +70,10 @@ not_among-take xs n k out = elim (cases_Bool (is_among (take n xs) k)) [
   | inr fails ↦ fails
 ]
 
+-- a number that is among some isn't one that isn't
+pub among_apart : (xs : List ℕ) (j k : ℕ) → is_among xs j ≡ true → is_among xs k ≡ false → j ≢ k
+among_apart xs j k held out same = let both : is_among xs j ≡ is_among xs k = ap (is_among xs) same in absurd (cc)
+
 -- ---- distinct numbers
 
 pub distinct_join : (xs ys : List ℕ) → are_distinct xs ≡ true → are_distinct ys ≡ true → ((k : ℕ) → is_among ys k ≡ true → is_among xs k ≡ false) → are_distinct (xs ++ ys) ≡ true
@@ -84,6 +88,35 @@ distinct_join (x ∷ xs) ys dx dy apart =
       | inr fails ↦ fails
     ] in
     grind (arith, nat_tests)
+
+pub distinct_more : (xs ys : List ℕ) (k : ℕ) → are_distinct (xs ++ ys) ≡ true → is_among (xs ++ ys) k ≡ false → are_distinct ((xs ++ k ∷ []) ++ ys) ≡ true
+distinct_more xs ys k d out =
+    let parts = distinct_parts xs ys d in
+    let right : is_among (xs ++ ys) k ≡ (is_among xs k || is_among ys k) = is_among_append xs ys k in
+    let out_xs : is_among xs k ≡ false = grind (arith, nat_tests) in
+    let out_ys : is_among ys k ≡ false = grind (arith, nat_tests) in
+    distinct_join (xs ++ k ∷ []) ys (distinct_push xs k parts.first out_xs) parts.second (λ j held.
+    let other : is_among xs j ≡ false = parts.apart j held in
+    let differs : j ≢ k = among_apart ys j k held out_ys in
+    let turned : k ≢ j = λ e. differs (sym e) in
+    let inner : is_among (xs ++ k ∷ []) j ≡ (is_among xs j || is_among (k ∷ []) j) = is_among_append xs (k ∷ []) j in
+    grind (arith, nat_tests))
+
+-- what is missing is distinct
+pub missing_distinct : (xs : List ℕ) (a : ℕ) → are_distinct (missing_below xs a) ≡ true
+missing_distinct xs zero = refl
+missing_distinct xs (suc a) =
+    let rest : are_distinct (missing_below xs a) ≡ true = missing_distinct xs a in
+    elim (cases_Bool (is_among xs a)) [
+      | inl there ↦ grind (arith, nat_tests)
+      | inr out ↦
+          let new : is_among (missing_below xs a) a ≡ false = elim (cases_Bool (is_among (missing_below xs a) a)) [
+            | inl held ↦ absurd (let low : (a < a) × (is_among xs a ≡ false) = missing-among xs a a held in omega (arith, low.0))
+            | inr none ↦ none
+          ] in
+          let whole : are_distinct (missing_below xs a ++ a ∷ []) ≡ true = distinct_push (missing_below xs a) a rest new in
+          grind (arith, nat_tests)
+    ]
 
 -- ---- how many
 

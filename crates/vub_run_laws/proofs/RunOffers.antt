@@ -80,8 +80,3 @@ offer_stored q n cap past heads r h m phase batch completed made known worked st
       let low : k < length heads = omega (arith, (worked.opens k held).taken, known.offered) in
       ap (λ (x : ℕ). m 0 (area_place q + (65536 + 8192 * x) + 16)) (same_head heads h k low) ∙ stored.status k held;
 }
-
--- what is in the batch was accepted
-pub batch_taken : (q : ℕ) (past : List Entry) (phase : Phase) (batch completed : List ℕ) (made : ℕ → ℕ) → Worked q past phase batch completed made → (k : ℕ) → is_among batch k ≡ true → k < accepted past q
-batch_taken q past phase batch completed made worked k held =
-    (worked.opens k (is_among_append completed batch k ∙ or_right (is_among completed k) (is_among batch k) held)).taken

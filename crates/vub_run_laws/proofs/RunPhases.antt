@@ -2,8 +2,9 @@
 use Rattle.std.proofs.Common.{◌≡◌, ◌≤◌, ◌<◌, ℕ, true, false, List, [], ◌∷◌, ◌++◌, length, take, drop, refl, ap, sym, ◌∙◌, subst, inl, inr, arith, Bool}
 use Rattle.std.specs.Prelude.{Option, Some, None, ◌+◌, ◌-◌, ◌||◌, if◌then◌else◌, nat_lt, slice_get}
 use Rattle.vub_base.specs.declared.store.Area.TheVariants.{I}
+use Rattle.vub_shared.specs.Bytes.{Bytes, put}
+use Rattle.vub_shared.proofs.BytesLemmas.{put_other}
 use Rattle.vub_steps.specs.declared.steps.Step.{Step}
-use Rattle.vub_steps.specs.Steps.{start_steps}
 use Rattle.vub_driver.specs.Layout.{status_place, sectors_place}
 use Rattle.vub_report.specs.declared.items.Item.{Item}
 use Rattle.vub_report.specs.declared.items.Item.TheVariants as items
@@ -23,18 +24,18 @@ use Rattle.vub_device.specs.Past.{asked, accepted, published, is_among, open_num
 use Rattle.vub_device.specs.Places.{are_distinct}
 use Rattle.vub_device.proofs.Numbers.{is_among_append}
 use Rattle.vub_run.specs.Memory.{Scene}
-use Rattle.vub_run.specs.Moments.{Lane}
-use Rattle.vub_run.specs.Turns.{Turned, step_items, phase_turn, with_phase, begun, under_way, phase_goes_on}
+use Rattle.vub_run.specs.Moments.{Lane, last_counter}
+use Rattle.vub_run.specs.Turns.{Turned, step_items, phase_turn, with_phase, begun, under_way, phase_goes_on, counted, next_counter_in}
 use Rattle.vub_run_laws.proofs.RunOwn.{accepted_own, started_own, looks_start, acts_start, bytes_start, synced_start, faulted_start}
 use Rattle.vub_run_laws.proofs.RunNumbers.{distinct_join}
 use Rattle.vub_facts.proofs.HeadLemmas.{distinct_parts}
-use Rattle.vub_run_laws.proofs.RunGood.{IsPending, PhaseIs, StartIs, BetweenTurns, Worked, IsGood, buffer}
-use Rattle.vub_run_laws.proofs.RunHolds.{Holds, QueueFacts, starting, steps_in, noted_at, StartStores, StartRings, StartEnds, NextStart, Stores, Rings, Ends}
+use Rattle.vub_run_laws.proofs.RunGood.{IsPending, StartIs, BetweenTurns, hidden, Worked, Stored, IsGood, buffer}
+use Rattle.vub_run_laws.proofs.RunHolds.{Holds, QueueFacts, fetching, FetchCounts, FetchAccepts, starting, steps_in, noted_at, StartStores, StartRings, StartEnds, NextStart, Stores, Rings, Ends}
 use Rattle.vub_run_laws.proofs.RunEfforts.{weight, steps_left, effort, start_short, sum_below, sum_more, weight_small, sum_moved}
 use Rattle.vub_run_laws.proofs.RunGuests.{holds_track}
 use Rattle.vub_run_laws.proofs.RunWork.{Fine}
-use Rattle.vub_run_laws.proofs.RunFrames.{byte_stays}
-use Rattle.vub_run_laws.proofs.RunQueue.{phase_at, queue_entry, queue_begins, queue_start, queue_start_begins, queue_start_step}
+use Rattle.vub_run_laws.proofs.RunCarries.{all_hidden, carries_phase}
+use Rattle.vub_run_laws.proofs.RunQueue.{queue_begins, queue_start, queue_start_begins, queue_start_step, queue_fetch_begins, queue_counts, queue_accepts}
 
 -- the lane at rest
 abbrev pub resting : Lane → Lane
@@ -49,9 +50,9 @@ start_is done l phase batch = ap (λ (p : Phase). record l { phase = p; batch = 
 
 -- ---- start
 
--- of the work nothing changes but the phase
-moving_worked : (q : ℕ) (past : List Entry) (completed : List ℕ) (made : ℕ → ℕ) (phase phase' : Phase) → BetweenTurns phase' → Worked q past phase [] completed made → Worked q past phase' [] completed made
-moving_worked q past completed made phase phase' between w = record {
+-- a step before the last one: whatever is at rest but the phase is as it was
+pub moving_worked : (q : ℕ) (past : List Entry) (batch completed : List ℕ) (made : ℕ → ℕ) (phase phase' : Phase) → BetweenTurns phase' → Worked q past phase batch completed made → Worked q past phase' batch completed made
+moving_worked q past batch completed made phase phase' between w = record {
   distinct = w.distinct;
   opens = w.opens;
   untouched = w.untouched;
@@ -62,24 +63,28 @@ moving_worked q past completed made phase phase' between w = record {
   between = between;
 }
 
--- a step without a store: the bell
-moving_holds : (q : ℕ) (h : Header1) (s : Scene) (l : Lane) (done : ℕ) → Holds q h s (starting done l) → QueueFacts q h s l.driver l.bell l.plan [] (phases.Start (done + 1)) → Holds q h s (starting (done + 1) l)
+moving_holds : (q : ℕ) (h : Header1) (s : Scene) (l : Lane) (done : ℕ) → Holds q h s (starting done l) → QueueFacts q h s l.driver l.bell l.plan l.counter [] (phases.Start (done + 1)) → Holds q h s (starting (done + 1) l)
 moving_holds q h s l done x queue = record {
   known = x.known;
-  worked = moving_worked q s.past l.completed l.made (phases.Start done) (phases.Start (done + 1)) tt x.worked;
+  worked = moving_worked q s.past [] l.completed l.made (phases.Start done) (phases.Start (done + 1)) tt x.worked;
+  carries = carries_phase q s.past l.counter l.counter (phases.Start done) (phases.Start (done + 1)) l.completed x.carries.low x.carries;
   stored = x.stored;
   queue = queue;
 }
 
 -- a store into the region leaves guest memory, and so what stands in buffers
-noted_holds : (q : ℕ) (h : Header1) (s : Scene) (l : Lane) (done p : ℕ) (bs : List ℕ) → Holds q h s (starting done l) → QueueFacts q h (noted_at p bs s) l.driver l.bell l.plan [] (phases.Start (done + 1)) → Holds q h (noted_at p bs s) (starting (done + 1) l)
+pub noted_stored : (q : ℕ) (past : List Entry) (heads : List ℕ) (m : Bytes) (p : ℕ) (bs batch completed : List ℕ) (made : ℕ → ℕ) → Stored q past heads m batch completed made → Stored q past heads (put m 1 p bs) batch completed made
+noted_stored q past heads m p bs batch completed made x = record {
+  sectors = λ k i is_open kept read. put_other m 1 p bs 0 (sectors_place (buffer q heads k) + i) (inl (λ e. omega (arith, e))) ∙ x.sectors k i is_open kept read;
+  status = λ k held. put_other m 1 p bs 0 (status_place (buffer q heads k)) (inl (λ e. omega (arith, e))) ∙ x.status k held;
+}
+
+noted_holds : (q : ℕ) (h : Header1) (s : Scene) (l : Lane) (done p : ℕ) (bs : List ℕ) → Holds q h s (starting done l) → QueueFacts q h (noted_at p bs s) l.driver l.bell l.plan l.counter [] (phases.Start (done + 1)) → Holds q h (noted_at p bs s) (starting (done + 1) l)
 noted_holds q h s l done p bs x queue = record {
   known = x.known;
-  worked = moving_worked q s.past l.completed l.made (phases.Start done) (phases.Start (done + 1)) tt x.worked;
-  stored = record {
-    sectors = λ k i is_open kept read. byte_stays s.memory p bs (sectors_place (buffer q (s.heads q) k) + i) ∙ x.stored.sectors k i is_open kept read;
-    status = λ k held. byte_stays s.memory p bs (status_place (buffer q (s.heads q) k)) ∙ x.stored.status k held;
-  };
+  worked = moving_worked q s.past [] l.completed l.made (phases.Start done) (phases.Start (done + 1)) tt x.worked;
+  carries = carries_phase q s.past l.counter l.counter (phases.Start done) (phases.Start (done + 1)) l.completed x.carries.low x.carries;
+  stored = noted_stored q s.past (s.heads q) s.memory p bs [] l.completed l.made x.stored;
   queue = queue;
 }
 
@@ -96,9 +101,9 @@ start_worked q past list completed made phase stopped w =
       between = tt;
     }
 
-start_holds : (q : ℕ) (h : Header1) (s : Scene) (l : Lane) (list : List ℕ) (done : ℕ) → started s.past q ≡ false → Holds q h s (starting done l) → QueueFacts q h (record s { past = entries.Start q list ∷ s.past }) l.driver l.bell l.plan [] phases.Rest
-    → Holds q h (record s { past = entries.Start q list ∷ s.past }) (resting l)
-start_holds q h s l list done stopped x queue = record {
+start_holds : (q : ℕ) (h : Header1) (s : Scene) (l : Lane) (list : List ℕ) (done counter : ℕ) → started s.past q ≡ false → Holds q h s (starting done l) → (accepted s.past q ≡ 0 → counter ≡ 0) → QueueFacts q h (record s { past = entries.Start q list ∷ s.past }) l.driver l.bell l.plan counter [] phases.Rest
+    → Holds q h (record s { past = entries.Start q list ∷ s.past }) (record (resting l) { counter = counter })
+start_holds q h s l list done counter stopped x low queue = record {
   known = record {
     offers_are = x.known.offers_are;
     offered = x.known.offered;
@@ -113,6 +118,13 @@ start_holds q h s l list done stopped x queue = record {
     values = x.known.values;
   };
   worked = start_worked q s.past list l.completed l.made (phases.Start done) stopped x.worked;
+  carries = record {
+    distinct = x.carries.distinct;
+    shown = λ k held out. absurd (let fails : false ≡ true = held in cc);
+    quiet = λ stops. refl;
+    low = omega (arith, low (x.carries.idle stopped));
+    idle = λ stops. absurd (let fails : true ≡ false = sym (started_own s.past q list) ∙ stops in cc);
+  };
   stored = record {
     sectors = λ k i is_open kept read. absurd (let zero_made : l.made k ≡ 0 = (x.worked.quiet stopped).1.1 k in omega (arith, kept.put));
     status = x.stored.status;
@@ -121,73 +133,71 @@ start_holds q h s l list done stopped x queue = record {
 }
 
 -- what is left of a queue that isn't started, and of one that is
-abbrev left_of : ℕ → Lane → Bool → ℕ
+abbrev pub left_of : ℕ → Lane → Bool → ℕ
 left_of n l runs = if runs then 0 else steps_left n l.bell l.plan l.phase
-
--- before the last step one less is left after each
-start_less : (n : ℕ) (l : Lane) (done : ℕ) (runs : Bool) → runs ≡ false → done + 1 < length (start_steps n l.plan l.bell) → left_of n (starting (done + 1) l) runs + 1 ≡ left_of n (starting done l) runs
-start_less n l done true off more = absurd (let fails : true ≡ false = off in cc)
-start_less n l done false off more = omega (arith, more)
 
 -- the turn of a step of a start, where more or none is left after it
 abbrev start_turn : List Item → ℕ → Lane → Bool → Turned
-start_turn is done l more = record { items = is; lane = with_phase (if more then phases.Start (done + 1) else phases.Rest) (starting done l) }
+start_turn is done l more = record { items = is; lane = with_phase (if more then phases.Start (done + 1) else phases.Rest) l }
 
--- from the lane in its start on such items and their lane are right
 abbrev StartFine : ℕ → Header1 → Scene → Lane → ℕ → Turned → Type 0
 StartFine q h s l done t = Fine q h s (starting done l) t
 
--- a step with a store
+-- as the step has it: its items, whether a step is left, and the counter
+start_is_fine : (q : ℕ) (h : Header1) (s : Scene) (l : Lane) (done : ℕ) (step : Step) (is : List Item) (b : Bool) (x : Lane) → step_items h q (starting done l) step s ≡ is → nat_lt (done + 1) (length (steps_in h l)) ≡ b → counted (next_counter_in h q s) step (starting done l) ≡ x
+    → StartFine q h s l done (start_turn is done x b) → StartFine q h s l done (phase_turn h q s (starting done l) (Some step))
+start_is_fine q h s l done step is b x items_are more counts fine =
+    let one : StartFine q h s l done (start_turn (step_items h q (starting done l) step s) done x b) = subst (λ (js : List Item). StartFine q h s l done (start_turn js done x b)) (sym items_are) fine in
+    let two : StartFine q h s l done (start_turn (step_items h q (starting done l) step s) done x (nat_lt (done + 1) (length (steps_in h l)))) = subst (λ (t : Bool). StartFine q h s l done (start_turn (step_items h q (starting done l) step s) done x t)) (sym more) one in
+    subst (λ (y : Lane). StartFine q h s l done (start_turn (step_items h q (starting done l) step s) done y (nat_lt (done + 1) (length (steps_in h l))))) (sym counts) two
+
 stores_fine : (q : ℕ) (h : Header1) (s : Scene) (l : Lane) (done : ℕ) (step : Step) → IsGood h → started s.past q ≡ false → Holds q h s (starting done l) → StartStores q h s l done step → StartFine q h s l done (phase_turn h q s (starting done l) (Some step))
 stores_fine q h s l done step good stopped x y =
     let holds : Holds q h (noted_at y.place y.bytes s) (starting (done + 1) l) = noted_holds q h s l done y.place y.bytes x y.queue in
     let more : nat_lt (done + 1) (length (steps_in h l)) ≡ true = let low : done + 1 < length (steps_in h l) = y.more in grind (arith, nat_tests) in
-    let fine : StartFine q h s l done (start_turn (items.Store y.tag I y.place y.bytes ∷ []) done l true) = record {
+    let before : left_of h.size (starting done l) (started s.past q) ≡ length (steps_in h l) - done = ap (left_of h.size (starting done l)) stopped in
+    let after : left_of h.size (starting (done + 1) l) (started s.past q) ≡ length (steps_in h l) - (done + 1) = ap (left_of h.size (starting (done + 1) l)) stopped in
+    start_is_fine q h s l done step (items.Store y.tag I y.place y.bytes ∷ []) true (starting done l) y.stores more (y.counts (next_counter_in h q s) (starting done l)) (record {
       each = (inr (holds_track q h (noted_at y.place y.bytes s) (starting (done + 1) l) good holds), tt);
       holds = holds;
       legal = tt;
       idle = λ stops. (stops, refl);
       collects = refl;
-      falls = omega (arith, start_less h.size l done (started s.past q) stopped y.more);
-    } in
-    let one : StartFine q h s l done (start_turn (step_items h q (starting done l) step s) done l true) = subst (λ (is : List Item). StartFine q h s l done (start_turn is done l true)) (sym y.stores) fine in
-    subst (λ (b : Bool). StartFine q h s l done (start_turn (step_items h q (starting done l) step s) done l b)) (sym more) one
+      falls = omega (arith, before, after, y.more);
+    })
 
--- the bell
 rings_fine : (q : ℕ) (h : Header1) (s : Scene) (l : Lane) (done : ℕ) (step : Step) → IsGood h → started s.past q ≡ false → Holds q h s (starting done l) → StartRings q h s l done step → StartFine q h s l done (phase_turn h q s (starting done l) (Some step))
 rings_fine q h s l done step good stopped x y =
     let holds : Holds q h s (starting (done + 1) l) = moving_holds q h s l done x y.queue in
     let more : nat_lt (done + 1) (length (steps_in h l)) ≡ true = let low : done + 1 < length (steps_in h l) = y.more in grind (arith, nat_tests) in
-    let fine : StartFine q h s l done (start_turn (items.Bell q ∷ []) done l true) = record {
+    let before : left_of h.size (starting done l) (started s.past q) ≡ length (steps_in h l) - done = ap (left_of h.size (starting done l)) stopped in
+    let after : left_of h.size (starting (done + 1) l) (started s.past q) ≡ length (steps_in h l) - (done + 1) = ap (left_of h.size (starting (done + 1) l)) stopped in
+    start_is_fine q h s l done step (items.Bell q ∷ []) true (starting done l) y.rings more (y.counts (next_counter_in h q s) (starting done l)) (record {
       each = (inr (holds_track q h s (starting (done + 1) l) good holds), tt);
       holds = holds;
       legal = tt;
       idle = λ stops. (stops, refl);
       collects = refl;
-      falls = omega (arith, start_less h.size l done (started s.past q) stopped y.more);
-    } in
-    let one : StartFine q h s l done (start_turn (step_items h q (starting done l) step s) done l true) = subst (λ (is : List Item). StartFine q h s l done (start_turn is done l true)) (sym y.rings) fine in
-    subst (λ (b : Bool). StartFine q h s l done (start_turn (step_items h q (starting done l) step s) done l b)) (sym more) one
+      falls = omega (arith, before, after, y.more);
+    })
 
--- the last step, with its entry
 ends_fine : (q : ℕ) (h : Header1) (s : Scene) (l : Lane) (done : ℕ) (step : Step) → IsGood h → started s.past q ≡ false → done < length (steps_in h l) → Holds q h s (starting done l) → StartEnds q h s l done step → StartFine q h s l done (phase_turn h q s (starting done l) (Some step))
 ends_fine q h s l done step good stopped low x y =
     let list : List ℕ = open_numbers s.past q in
-    let holds : Holds q h (record s { past = entries.Start q list ∷ s.past }) (resting l) = start_holds q h s l list done stopped x y.queue in
+    let next : ℕ = next_counter_in h q s in
+    let holds : Holds q h (record s { past = entries.Start q list ∷ s.past }) (record (resting l) { counter = next }) = start_holds q h s l list done next stopped x y.low y.queue in
     let may : MayStart s.past q list = record { stopped = stopped; resubmits = refl } in
     let none : nat_lt (done + 1) (length (steps_in h l)) ≡ false = let all : length (steps_in h l) ≤ done + 1 = y.none in grind (arith, nat_tests) in
     let before : left_of h.size (starting done l) (started s.past q) ≡ length (steps_in h l) - done = ap (left_of h.size (starting done l)) stopped in
     let after : left_of h.size (resting l) (started (entries.Start q list ∷ s.past) q) ≡ 0 = ap (left_of h.size (resting l)) (started_own s.past q list) in
-    let fine : StartFine q h s l done (start_turn (items.Made (entries.Start q list) ∷ []) done l false) = record {
-      each = (inr (holds_track q h (record s { past = entries.Start q list ∷ s.past }) (resting l) good holds), tt);
+    start_is_fine q h s l done step (items.Made (entries.Start q list) ∷ []) false (record (starting done l) { counter = next }) y.starts none (y.counts next (starting done l)) (record {
+      each = (inr (holds_track q h (record s { past = entries.Start q list ∷ s.past }) (record (resting l) { counter = next }) good holds), tt);
       holds = holds;
       legal = (may, tt);
       idle = λ stops. absurd (let fails : true ≡ false = sym (started_own s.past q list) ∙ stops in cc);
       collects = refl;
       falls = omega (arith, before, after, low);
-    } in
-    let one : StartFine q h s l done (start_turn (step_items h q (starting done l) step s) done l false) = subst (λ (is : List Item). StartFine q h s l done (start_turn is done l false)) (sym y.starts) fine in
-    subst (λ (b : Bool). StartFine q h s l done (start_turn (step_items h q (starting done l) step s) done l b)) (sym none) one
+    })
 
 -- the next step of a start that is under way
 pub start_goes_on : (q : ℕ) (h : Header1) (s : Scene) (l : Lane) (done : ℕ) → IsGood h → started s.past q ≡ false → done < length (steps_in h l) → Holds q h s (starting done l) → StartFine q h s l done (phase_goes_on h q s (starting done l))
@@ -202,13 +212,13 @@ start_goes_on q h s l done good stopped low x = go (slice_get (steps_in h l) don
 abbrev planned : ℕ → Header1 → Scene → Lane → Lane
 planned q h s l = begun h q s turns.Start (resting l)
 
--- it keeps what holds
 planned_holds : (q : ℕ) (h : Header1) (s : Scene) (l : Lane) → started s.past q ≡ false → Holds q h s (resting l) → Holds q h s (starting 0 (planned q h s l))
 planned_holds q h s l stopped x = record {
   known = x.known;
-  worked = moving_worked q s.past l.completed l.made phases.Rest (phases.Start 0) tt x.worked;
+  worked = moving_worked q s.past [] l.completed l.made phases.Rest (phases.Start 0) tt x.worked;
+  carries = carries_phase q s.past l.counter l.counter phases.Rest (phases.Start 0) l.completed x.carries.low x.carries;
   stored = x.stored;
-  queue = queue_start_begins q h s l.driver l.bell l.plan stopped x.queue;
+  queue = queue_start_begins q h s l.driver l.bell l.plan l.counter stopped x.queue;
 }
 
 -- a start begins with its first step
@@ -255,51 +265,90 @@ accept_worked q past k batch completed made phase w = record {
     pending_none (Some (asks.Zero parts)) = tt
     pending_none None = tt
 
-accept_holds : (q : ℕ) (h : Header1) (s : Scene) (l : Lane) (k : ℕ) → started s.past q ≡ true → l.phase ≡ phases.Rest → accepted s.past q < length (s.heads q) → Holds q h s l → Holds q h (record s { past = entries.Accept q k ∷ s.past }) l
-accept_holds q h s l k run rest more x = record {
-  known = record {
-    offers_are = x.known.offers_are;
-    offered = omega (arith, more, accepted_own s.past q k);
-    distinct = x.known.distinct;
-    below = λ j held. omega (arith, x.known.below j held, accepted_own s.past q k);
-    shown = x.known.shown;
-    fewer = omega (arith, x.known.fewer, accepted_own s.past q k);
-    room = x.known.room;
-    good = x.known.good;
-    wide = x.known.wide;
-    unfaulted = x.known.unfaulted;
-    values = x.known.values;
-  };
-  worked = accept_worked q s.past k l.batch l.completed l.made l.phase x.worked;
-  stored = record {
-    sectors = λ j i is_open kept read. x.stored.sectors j i (record {
-      taken = elim (cases_lt j (accepted s.past q)) [
-        | inl low ↦ low
-        | inr high ↦ absurd (let none : l.made j ≡ 0 = x.worked.untouched j high in omega (arith, kept.put))
-      ];
-      unpublished = is_open.unpublished;
-    }) kept read;
-    status = x.stored.status;
-  };
-  queue = queue_entry q h s (entries.Accept q k ∷ s.past) l.driver l.bell l.plan l.batch l.phase (record { accepts = omega (arith, accepted_own s.past q k); shows = refl; collects = omega arith; asks = λ j. refl }) refl run rest
-      (subst (λ (p : Phase). PhaseIs h.size l.bell l.plan l.batch p) rest (phase_at q h s l x)) x.queue;
-}
+-- the first step stores the counter
+count_fine : (q : ℕ) (h : Header1) (s : Scene) (l : Lane) → IsGood h → started s.past q ≡ true → Holds q h s (resting l) → FetchCounts q h s l → Fine q h s (resting l) (phase_goes_on h q s (fetching 0 l))
+count_fine q h s l good run x y =
+    let l' : Lane = record (fetching 1 l) { counter = l.counter + 1 } in
+    let s' : Scene = noted_at y.place y.bytes s in
+    let holds : Holds q h s' l' = record {
+      known = x.known;
+      worked = moving_worked q s.past [] l.completed l.made phases.Rest (phases.Fetch 1) refl x.worked;
+      carries = carries_phase q s.past l.counter (l.counter + 1) phases.Rest (phases.Fetch 1) l.completed (omega (arith, x.carries.low)) x.carries;
+      stored = noted_stored q s.past (s.heads q) s.memory y.place y.bytes [] l.completed l.made x.stored;
+      queue = y.queue;
+    } in
+    let fine : Fine q h s (resting l) (record { items = items.Store y.tag I y.place y.bytes ∷ []; lane = l' }) = record {
+      each = (inr (holds_track q h s' l' good holds), tt);
+      holds = holds;
+      legal = tt;
+      idle = λ stopped. absurd (let fails : true ≡ false = sym run ∙ stopped in cc);
+      collects = refl;
+      falls = omega (arith, ap (left_of h.size l') run, ap (left_of h.size (resting l)) run);
+    } in
+    subst (λ (is : List Item). Fine q h s (resting l) (record { items = is; lane = l' })) (sym y.stores) fine
 
-pub fetch_fine : (q : ℕ) (h : Header1) (s : Scene) (l : Lane) → IsGood h → started s.past q ≡ true → accepted s.past q < length (s.heads q) → Holds q h s (resting l) → Fine q h s (resting l) (phase_goes_on h q s (under_way h q s turns.Fetch (resting l)))
-fetch_fine q h s l good run more x =
+pub fetch_fine : (q : ℕ) (h : Header1) (s : Scene) (l : Lane) → IsGood h → started s.past q ≡ true → accepted s.past q < length (s.heads q) → l.counter < last_counter → Holds q h s (resting l) → Fine q h s (resting l) (phase_goes_on h q s (under_way h q s turns.Fetch (resting l)))
+fetch_fine q h s l good run more low x = count_fine q h s l good run x (queue_counts q h s l good.size run (queue_fetch_begins q h s l.driver l.bell l.plan l.counter good.size run x.known more low x.queue))
+
+-- the second one accepts
+accept_holds : (q : ℕ) (h : Header1) (s : Scene) (l : Lane) → started s.past q ≡ true → Holds q h s (fetching 1 l) → (y : FetchAccepts q h s l) → Holds q h (record (noted_at y.place y.bytes s) { past = entries.Accept q (accepted s.past q) ∷ s.past }) (resting l)
+accept_holds q h s l run x y =
     let k : ℕ = accepted s.past q in
-    let holds : Holds q h (record s { past = entries.Accept q k ∷ s.past }) (resting l) = accept_holds q h s (resting l) k run refl more x in
-    let may : MayAccept s.past q k = record { started = run; next = refl; offered = omega (arith, x.known.offers_are) } in
+    let stored = noted_stored q s.past (s.heads q) s.memory y.place y.bytes [] l.completed l.made x.stored in
     record {
-      each = (inr (holds_track q h (record s { past = entries.Accept q k ∷ s.past }) (resting l) good holds), tt);
+      known = record {
+        offers_are = x.known.offers_are;
+        offered = omega (arith, y.more, accepted_own s.past q k);
+        distinct = x.known.distinct;
+        below = λ j held. omega (arith, x.known.below j held, accepted_own s.past q k);
+        shown = x.known.shown;
+        fewer = omega (arith, x.known.fewer, accepted_own s.past q k);
+        room = x.known.room;
+        good = x.known.good;
+        wide = x.known.wide;
+        unfaulted = x.known.unfaulted;
+        values = x.known.values;
+      };
+      worked = moving_worked q (entries.Accept q k ∷ s.past) [] l.completed l.made (phases.Fetch 1) phases.Rest tt (accept_worked q s.past k [] l.completed l.made (phases.Fetch 1) x.worked);
+      carries = record {
+        distinct = x.carries.distinct;
+        shown = λ j held out. absurd (let fails : false ≡ true = held in cc);
+        quiet = λ stopped. refl;
+        low = omega (arith, x.carries.low, accepted_own s.past q k);
+        idle = λ stopped. absurd (let fails : true ≡ false = sym run ∙ stopped in cc);
+      };
+      stored = record {
+        sectors = λ j i is_open kept read. stored.sectors j i (record {
+          taken = elim (cases_lt j k) [
+            | inl low ↦ low
+            | inr high ↦ absurd (let none : l.made j ≡ 0 = x.worked.untouched j high in omega (arith, kept.put))
+          ];
+          unpublished = is_open.unpublished;
+        }) kept read;
+        status = stored.status;
+      };
+      queue = y.queue;
+    }
+
+accepts_fine : (q : ℕ) (h : Header1) (s : Scene) (l : Lane) → IsGood h → started s.past q ≡ true → Holds q h s (fetching 1 l) → FetchAccepts q h s l → Fine q h s (fetching 1 l) (phase_goes_on h q s (fetching 1 l))
+accepts_fine q h s l good run x y =
+    let k : ℕ = accepted s.past q in
+    let s' : Scene = record (noted_at y.place y.bytes s) { past = entries.Accept q k ∷ s.past } in
+    let holds : Holds q h s' (resting l) = accept_holds q h s l run x y in
+    let may : MayAccept s.past q k = record { started = run; next = refl; offered = omega (arith, y.more, x.known.offers_are) } in
+    let w : ℕ → ℕ = weight (published s.past q) (l.completed ++ []) l.made in
+    let fine : Fine q h s (fetching 1 l) (record { items = items.Store y.tag I y.place y.bytes ∷ items.Made (entries.Accept q k) ∷ []; lane = resting l }) = record {
+      each = (inl tt, (inr (holds_track q h s' (resting l) good holds), tt));
       holds = holds;
       legal = (may, tt);
       idle = λ stopped. absurd (let fails : true ≡ false = sym run ∙ stopped in cc);
       collects = refl;
-      falls =
-          let w : ℕ → ℕ = weight (published s.past q) (l.completed ++ []) l.made in
-          omega (arith, accepted_own s.past q k, ap (sum_below w) (accepted_own s.past q k), sum_more w k, weight_small (published s.past q) (l.completed ++ []) l.made k);
-    }
+      falls = omega (arith, y.more, ap (left_of h.size (resting l)) run, ap (left_of h.size (fetching 1 l)) run, accepted_own s.past q k, ap (sum_below w) (accepted_own s.past q k), sum_more w k, weight_small (published s.past q) (l.completed ++ []) l.made k);
+    } in
+    subst (λ (is : List Item). Fine q h s (fetching 1 l) (record { items = is; lane = resting l })) (sym y.stores) fine
+
+pub accept_fine : (q : ℕ) (h : Header1) (s : Scene) (l : Lane) → IsGood h → started s.past q ≡ true → Holds q h s (fetching 1 l) → Fine q h s (fetching 1 l) (phase_goes_on h q s (fetching 1 l))
+accept_fine q h s l good run x = accepts_fine q h s l good run x (queue_accepts q h s l good.size run x.known x.queue)
 
 -- ---- a batch is taken
 
@@ -325,28 +374,45 @@ swap_distinct most xs d =
 
 pub taking_holds : (q : ℕ) (h : Header1) (s : Scene) (l : Lane) (most : ℕ) → 0 < most → 0 < length l.completed → started s.past q ≡ true → Holds q h s (resting l) → Holds q h s (taking most l)
 taking_holds q h s l most some any run x =
-    let same : (k : ℕ) → is_among (drop most l.completed ++ take most l.completed) k ≡ true → is_among (l.completed ++ []) k ≡ true = λ k held. sym (swap_among most l.completed k) ∙ held in
+    let batch : List ℕ = take most l.completed in
+    let rest : List ℕ = drop most l.completed in
+    let all : hidden batch (phases.Publish 0) ≡ batch = all_hidden batch 0 (omega arith) in
+    let same : (k : ℕ) → is_among (rest ++ batch) k ≡ true → is_among (l.completed ++ []) k ≡ true = λ k held. sym (swap_among most l.completed k) ∙ held in
+    let distinct : are_distinct (rest ++ batch) ≡ true = swap_distinct most l.completed x.worked.distinct in
+    let worked : Worked q s.past (phases.Publish 0) batch rest l.made = record {
+      distinct = distinct;
+      opens = λ k held. x.worked.opens k (same k held);
+      untouched = x.worked.untouched;
+      progress = x.worked.progress;
+      full = λ k held. x.worked.full k (same k held);
+      pending = λ k is_open out. x.worked.pending k is_open (sym (swap_among most l.completed k) ∙ out);
+      quiet = λ stopped. absurd (let fails : true ≡ false = sym run ∙ stopped in cc);
+      between = tt;
+    } in
+    let stored : Stored q s.past (s.heads q) s.memory batch rest l.made = record {
+      sectors = x.stored.sectors;
+      status = λ k held. x.stored.status k (same k held);
+    } in
     record {
       known = x.known;
-      worked = record {
-        distinct = swap_distinct most l.completed x.worked.distinct;
-        opens = λ k held. x.worked.opens k (same k held);
-        untouched = x.worked.untouched;
-        progress = x.worked.progress;
-        full = λ k held. x.worked.full k (same k held);
-        pending = λ k is_open out. x.worked.pending k is_open (sym (swap_among most l.completed k) ∙ out);
+      worked = subst (λ (ks : List ℕ). Worked q s.past (phases.Publish 0) ks rest l.made) (sym all) worked;
+      carries = record {
+        distinct = distinct;
+        shown = λ k held out. absurd (let fails : true ≡ false = sym held ∙ ap (λ (ks : List ℕ). is_among ks k) (sym all) ∙ out in cc);
         quiet = λ stopped. absurd (let fails : true ≡ false = sym run ∙ stopped in cc);
-        between = tt;
+        low = x.carries.low;
+        idle = λ stopped. absurd (let fails : true ≡ false = sym run ∙ stopped in cc);
       };
-      stored = record {
-        sectors = x.stored.sectors;
-        status = λ k held. x.stored.status k (same k held);
-      };
-      queue = queue_begins q h s l.driver l.bell l.plan (take most l.completed) [] phases.Rest run x.known (omega (arith, some, any, length-take most l.completed)) (distinct_parts (drop most l.completed) (take most l.completed) (swap_distinct most l.completed x.worked.distinct)).second (λ k held.
-          x.worked.opens k (same k (is_among_append (drop most l.completed) (take most l.completed) k ∙ or_right (is_among (drop most l.completed) k) (is_among (take most l.completed) k) held))) x.queue;
+      stored = subst (λ (ks : List ℕ). Stored q s.past (s.heads q) s.memory ks rest l.made) (sym all) stored;
+      queue = queue_begins q h s l.driver l.bell l.plan l.counter batch run x.known (omega (arith, some, any, length-take most l.completed)) (distinct_parts rest batch distinct).second (λ k held.
+          x.worked.opens k (same k (is_among_append rest batch k ∙ or_right (is_among rest k) (is_among batch k) held))) x.queue;
     }
 
 -- and what is left to do grows by no more than the store that follows
 pub taking_effort : (q n : ℕ) (past : List Entry) (offered most : ℕ) (l : Lane) → 0 < most → 0 < length l.completed → effort q n past offered (taking most l) ≤ effort q n past offered (resting l)
 taking_effort q n past offered most l some any =
-    omega (arith, length-take most l.completed, length-drop most l.completed, sum_moved (published past q) (l.completed ++ []) (drop most l.completed ++ take most l.completed) l.made (accepted past q) (swap_among most l.completed))
+    let batch : List ℕ = take most l.completed in
+    let rest : List ℕ = drop most l.completed in
+    let all : hidden batch (phases.Publish 0) ≡ batch = all_hidden batch 0 (omega arith) in
+    let same : (k : ℕ) → is_among (rest ++ hidden batch (phases.Publish 0)) k ≡ is_among (l.completed ++ []) k = λ k. ap (λ (ks : List ℕ). is_among (rest ++ ks) k) all ∙ swap_among most l.completed k in
+    omega (arith, length-take most l.completed, length-drop most l.completed, sum_moved (published past q) (l.completed ++ []) (rest ++ hidden batch (phases.Publish 0)) l.made (accepted past q) same)

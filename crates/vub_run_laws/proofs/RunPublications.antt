@@ -17,14 +17,15 @@ use Rattle.vub_device.specs.declared.entry.Asked.{Asked}
 use Rattle.vub_device.specs.declared.entry.Asked.TheVariants as asks
 use Rattle.vub_device.specs.declared.entry.Entry.{Entry}
 use Rattle.vub_device.specs.Legal.{IsAnswer, IsDone}
-use Rattle.vub_device.specs.Past.{asked, is_among, IsOpen, started, looks, bytes_read, acts, synced}
+use Rattle.vub_device.specs.Past.{asked, accepted, is_among, IsOpen, started, looks, bytes_read, acts, synced}
 use Rattle.vub_device.specs.Requests.{look_at, effect_at}
 use Rattle.vub_device.proofs.Numbers.{is_among_append}
 use Rattle.vub_run.specs.Memory.{Scene}
 use Rattle.vub_run.specs.Moments.{Lane}
 use Rattle.vub_run.specs.Turns.{answer_at, answer_len}
-use Rattle.vub_run_laws.proofs.RunGood.{IsWide, IsReadTo, IsWrittenTo, IsFull, Worked, Stored, IsRead, buffer, IsGood}
+use Rattle.vub_run_laws.proofs.RunGood.{IsWide, IsReadTo, IsWrittenTo, IsFull, hidden, Worked, Stored, IsRead, buffer, IsGood}
 use Rattle.vub_run_laws.proofs.RunHolds.{Holds, publishing}
+use Rattle.vub_run_laws.proofs.RunCarries.{all_hidden, batch_taken}
 use Rattle.vub_run_laws.proofs.RunSteps.{wide_some, wide_served, looks_end, effects_end, read_to, written_to, flushed_to}
 
 -- a publication under way
@@ -34,14 +35,20 @@ pub record IsUnderWay (q : ℕ) (h : Header1) (s : Scene) (l : Lane) (done : ℕ
   pub started : started s.past q ≡ true
   pub holds : Holds q h s (publishing done l)
 
-pub in_batch : (q : ℕ) (h : Header1) (s : Scene) (l : Lane) (done k : ℕ) → IsUnderWay q h s l done → is_among l.batch k ≡ true → is_among (l.completed ++ l.batch) k ≡ true
-in_batch q h s l done k x held = is_among_append l.completed l.batch k ∙ or_right (is_among l.completed k) (is_among l.batch k) held
+-- until it is shown its batch is hidden
+pub in_batch : (q : ℕ) (h : Header1) (s : Scene) (l : Lane) (done k : ℕ) → done ≤ 4 * length l.batch → is_among l.batch k ≡ true → is_among (l.completed ++ hidden l.batch (phases.Publish done)) k ≡ true
+in_batch q h s l done k before held =
+    ap (λ (ks : List ℕ). is_among (l.completed ++ ks) k) (all_hidden l.batch done before) ∙ is_among_append l.completed l.batch k ∙ or_right (is_among l.completed k) (is_among l.batch k) held
 
-pub batch_open : (q : ℕ) (h : Header1) (s : Scene) (l : Lane) (done k : ℕ) → IsUnderWay q h s l done → is_among l.batch k ≡ true → IsOpen s.past q k
-batch_open q h s l done k x held = x.holds.worked.opens k (in_batch q h s l done k x held)
+pub batch_open : (q : ℕ) (h : Header1) (s : Scene) (l : Lane) (done k : ℕ) → IsUnderWay q h s l done → done ≤ 4 * length l.batch → is_among l.batch k ≡ true → IsOpen s.past q k
+batch_open q h s l done k x before held = x.holds.worked.opens k (in_batch q h s l done k before held)
+
+-- and all of it was accepted
+pub batch_low : (q : ℕ) (h : Header1) (s : Scene) (l : Lane) (done k : ℕ) → IsUnderWay q h s l done → is_among l.batch k ≡ true → k < accepted s.past q
+batch_low q h s l done k x held = batch_taken q s.past l.counter (phases.Publish done) l.batch l.completed x.holds.worked.opens x.holds.known.below x.holds.carries k held
 
 batch_wide : (q : ℕ) (h : Header1) (s : Scene) (l : Lane) (done k : ℕ) → IsUnderWay q h s l done → is_among l.batch k ≡ true → IsWide h.capacity (asked s.past q k)
-batch_wide q h s l done k x held = (x.holds.known.wide k (omega (arith, (batch_open q h s l done k x held).taken, x.holds.known.offered)))
+batch_wide q h s l done k x held = (x.holds.known.wide k (omega (arith, batch_low q h s l done k x held, x.holds.known.offered)))
 
 -- ---- the answers
 
@@ -120,19 +127,20 @@ done_right q h past heads m batch completed made phase k (asks.Discard parts) ba
 done_right q h past heads m batch completed made phase k (asks.Zero parts) back x = absurd x.wide
 
 -- each request of the batch was done, and its answer says so
-pub answer_right : (q : ℕ) (h : Header1) (s : Scene) (l : Lane) (done : ℕ) (m : Bytes) (k : ℕ) → IsUnderWay q h s l done → Stored q s.past (s.heads q) m l.batch l.completed l.made → is_among l.batch k ≡ true → IsAnswer h.capacity h.mode s.past q (answer_at q (record s { memory = m }) k)
-answer_right q h s l done m k x st held =
-    let among = in_batch q h s l done k x held in
+pub answer_right : (q : ℕ) (h : Header1) (s : Scene) (l : Lane) (done : ℕ) (m : Bytes) (k : ℕ) → IsUnderWay q h s l done → done ≤ 4 * length l.batch → Stored q s.past (s.heads q) m (hidden l.batch (phases.Publish done)) l.completed l.made → is_among l.batch k ≡ true → IsAnswer h.capacity h.mode s.past q (answer_at q (record s { memory = m }) k)
+answer_right q h s l done m k x before st held =
+    let batch : List ℕ = hidden l.batch (phases.Publish done) in
+    let among = in_batch q h s l done k before held in
     let status : m 0 (status_place (buffer q (s.heads q) k)) ≡ 0 = st.status k among in
     let wide : IsWide h.capacity (asked s.past q k) = batch_wide q h s l done k x held in
     let asks_it = wide_some h.capacity (asked s.past q k) wide in
     let is_wide : IsWide h.capacity (Some asks_it.0) = subst (λ (o : Option Asked). IsWide h.capacity o) asks_it.1 wide in
-    let shown : IsShown q h s.past (s.heads q) m l.batch l.completed l.made (phases.Publish done) k asks_it.0 = record { worked = x.holds.worked; stored = st; held = among; is = asks_it.1; wide = is_wide } in
+    let shown : IsShown q h s.past (s.heads q) m batch l.completed l.made (phases.Publish done) k asks_it.0 = record { worked = x.holds.worked; stored = st; held = among; is = asks_it.1; wide = is_wide } in
     record {
       request = asks_it.0;
       offered = asks_it.1;
       known = omega arith;
-      success = λ is_zero. record { served = wide_served h asks_it.0 x.back is_wide; unfaulted = x.holds.known.unfaulted k; done = done_right q h s.past (s.heads q) m l.batch l.completed l.made (phases.Publish done) k asks_it.0 x.back shown };
+      success = λ is_zero. record { served = wide_served h asks_it.0 x.back is_wide; unfaulted = x.holds.known.unfaulted k; done = done_right q h s.past (s.heads q) m batch l.completed l.made (phases.Publish done) k asks_it.0 x.back shown };
       failure = λ is_one. absurd (omega arith);
       unsupported = λ is_two. absurd (omega arith);
     }

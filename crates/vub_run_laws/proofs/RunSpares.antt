@@ -34,13 +34,13 @@ use Rattle.vub_run.specs.Spared.{IsSparing, SparedFrom, EveryAnswerIsSpared}
 use Rattle.vub_run.specs.TaskItems.{look_items, act_items}
 use Rattle.vub_run.specs.Turns.{course_of, turned, phase_turn, phase_goes_on, under_way, work_turn, request_turn, task_turn}
 use Rattle.vub_facts.proofs.HeadLemmas.{among_get}
-use Rattle.vub_run_laws.proofs.RunNumbers.{among_filter, missing-among}
+use Rattle.vub_run_laws.proofs.RunNumbers.{among_apart, among_filter, missing-among}
 use Rattle.vub_run_laws.proofs.RunGood.{IsWide, IsOut, buffer, IsGood}
 use Rattle.vub_run_laws.proofs.RunHolds.{Holds}
 use Rattle.vub_run_laws.proofs.RunFrames.{open_out, other_buffer, off_spares}
 use Rattle.vub_run_laws.proofs.RunItems.{before-append, before_every}
 use Rattle.vub_run_laws.proofs.RunSteps.{put_few}
-use Rattle.vub_run_laws.proofs.RunWork.{among_apart, sector_few}
+use Rattle.vub_run_laws.proofs.RunWork.{sector_few}
 use Rattle.vub_run_laws.proofs.RunTurns.{IsPlain, Good}
 use Rattle.vub_run_laws.proofs.RunEvents.{Right, turn_right}
 use Rattle.vub_run_laws.proofs.Runs.{plain_header}
@@ -69,7 +69,7 @@ open_spares q h s l k tag p bs x is_open from upto = off_spares q s tag p bs (λ
     let out_j : IsOut q s.past (s.heads q) j = record { below = omega (arith, x.known.below j out.shown, x.known.offered); kept = out.kept } in
     let out_k : IsOut q s.past (s.heads q) k = open_out q h.size h.capacity s.past (s.heads q) k x.known is_open in
     let other : j ≢ k = among_apart (published s.past q) j k out.shown is_open.unpublished in
-    other_buffer q (s.heads q) j (slice_index (s.heads q) k) p bs (λ same. other (heads_apart q h s l.driver l.bell l.plan l.batch l.phase j k x.queue out_j out_k same)) (omega arith) (omega arith))
+    other_buffer q (s.heads q) j (slice_index (s.heads q) k) p bs (λ same. other (heads_apart q h s l.driver l.bell l.plan l.counter l.batch l.phase j k x.queue out_j out_k same)) (omega arith) (omega arith))
 
 look_spares : (q : ℕ) (h : Header1) (s : Scene) (k : ℕ) (o : Option ℕ) → AreSparing q h s (look_items q k s.past o)
 look_spares q h s k None = tt

@@ -65,7 +65,7 @@ goes (items.Store tag area place bytes) (items.Made e ∷ is) = of_entry e
     of_entry : (e : Entry) → GoesWithNext (items.Store tag area place bytes) (items.Made e ∷ is) ⊎ (GoesWithNext (items.Store tag area place bytes) (items.Made e ∷ is) → ⊥)
     of_entry (entries.Offer q request) = inl tt
     of_entry (entries.Publish q list) = inl tt
-    of_entry (entries.Accept q k) = inr (λ x. x)
+    of_entry (entries.Accept q k) = inl tt
     of_entry (entries.Look q k sector v) = inr (λ x. x)
     of_entry (entries.Act q k sector v) = inr (λ x. x)
     of_entry (entries.Sync q k) = inr (λ x. x)

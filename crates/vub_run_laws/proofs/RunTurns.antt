@@ -13,15 +13,16 @@ use Rattle.vub_steps.specs.declared.readiness.Turn.TheVariants as turns
 use Rattle.vub_steps.specs.Readiness.{is_ready, is_fetch, is_publication}
 use Rattle.vub_device.specs.Past.{accepted, published, is_among, open_numbers, started}
 use Rattle.vub_run.specs.Memory.{Scene}
-use Rattle.vub_run.specs.Moments.{Lane, Moment, standing, unfinished}
+use Rattle.vub_run.specs.Moments.{Lane, Moment, standing, unfinished, last_counter}
 use Rattle.vub_run.specs.Turns.{turned, work_turn, phase_goes_on, under_way}
 use Rattle.vub_run_laws.proofs.RunNumbers.{among_filter, missing-among}
 use Rattle.vub_facts.proofs.HeadLemmas.{among_get}
 use Rattle.vub_run_laws.proofs.RunGood.{PhaseIs, StartIs, IsGood}
-use Rattle.vub_run_laws.proofs.RunHolds.{Holds, starting}
+use Rattle.vub_run_laws.proofs.RunHolds.{Holds, starting, fetching}
+use Rattle.vub_run_laws.proofs.RunCarries.{left_hidden}
 use Rattle.vub_run_laws.proofs.RunWork.{Fine, request_fine}
-use Rattle.vub_run_laws.proofs.RunPhases.{resting, rest_is, start_is, start_goes_on, start_fine, fetch_fine, taking, taking_holds, taking_effort}
-use Rattle.vub_run_laws.proofs.RunQueue.{queue_ahead, queue_start, phase_at}
+use Rattle.vub_run_laws.proofs.RunPhases.{resting, rest_is, start_is, start_goes_on, start_fine, fetch_fine, accept_fine, taking, taking_holds, taking_effort}
+use Rattle.vub_run_laws.proofs.RunQueue.{queue_ahead, queue_start, fetch_runs, phase_at}
 use Rattle.vub_run_laws.proofs.RunHolds.{publishing}
 use Rattle.vub_run_laws.proofs.RunShown.{publication_fine}
 
@@ -39,89 +40,117 @@ pub record Good (q : ℕ) (h : Header1) (m : Moment) : Type 0 where
 below_all : {a b c : ℕ} → a ≤ b → b ≤ c → a ≤ c
 below_all p q = omega arith
 
--- a queue is at rest, in a publication or in a start
-pub phase_cases : (n : ℕ) (bell : Bool) (plan : Plan) (batch : List ℕ) (p : Phase) → PhaseIs n bell plan batch p
-    → ((p ≡ phases.Rest) × (batch ≡ [])) ⊎ (((done : ℕ) × ((p ≡ phases.Publish done) × (0 < length batch))) ⊎ ((done : ℕ) × ((p ≡ phases.Start done) × (batch ≡ []))))
-phase_cases n bell plan batch phases.Rest is = inl (refl, is)
-phase_cases n bell plan batch (phases.Publish done) is = inr (inl (done, (refl, is.0)))
-phase_cases n bell plan batch (phases.Start done) is = inr (inr (done, (refl, is.0)))
-phase_cases n bell plan batch (phases.Fetch done) is = absurd is
+-- where a queue is between two turns
+pub data PhaseCases : List ℕ → Phase → Type 0 where
+  Rests : {batch : List ℕ} {p : Phase} → p ≡ phases.Rest → batch ≡ [] → PhaseCases batch p
+  Starts : {batch : List ℕ} {p : Phase} → (done : ℕ) → p ≡ phases.Start done → batch ≡ [] → PhaseCases batch p
+  Fetches : {batch : List ℕ} {p : Phase} → p ≡ phases.Fetch 1 → batch ≡ [] → PhaseCases batch p
+  Publishes : {batch : List ℕ} {p : Phase} → (done : ℕ) → p ≡ phases.Publish done → 0 < length batch → PhaseCases batch p
 
--- one that is started is at rest or in a publication
-pub running_cases : (q : ℕ) (h : Header1) (s : Scene) (l : Lane) → started s.past q ≡ true → Holds q h s l → ((l.phase ≡ phases.Rest) × (l.batch ≡ [])) ⊎ ((done : ℕ) × (l.phase ≡ phases.Publish done))
-running_cases q h s l run x = elim (phase_cases h.size l.bell l.plan l.batch l.phase (phase_at q h s l x)) [
-  | inl rest ↦ inl rest
-  | inr (inl shows) ↦ inr (shows.0, shows.1.0)
-  | inr (inr starts) ↦
-      let start : StartIs (started s.past q) h.size l.bell l.plan (phases.Start starts.0) = subst (λ (p : Phase). StartIs (started s.past q) h.size l.bell l.plan p) starts.1.0 (queue_start q h s l x) in
-      absurd (let fails : true ≡ false = sym run ∙ start.stopped in cc)
-]
+pub phase_cases : (n : ℕ) (bell : Bool) (plan : Plan) (batch : List ℕ) (p : Phase) → PhaseIs n bell plan batch p → PhaseCases batch p
+phase_cases n bell plan batch phases.Rest is = Rests refl is
+phase_cases n bell plan batch (phases.Publish done) is = Publishes done refl is.0
+phase_cases n bell plan batch (phases.Start done) is = Starts done refl is.0
+phase_cases n bell plan batch (phases.Fetch done) is = Fetches (ap phases.Fetch is.1) is.0
+
+-- one that is started isn't in a start
+pub data RunningCases : List ℕ → Phase → Type 0 where
+  AtRest : {batch : List ℕ} {p : Phase} → p ≡ phases.Rest → batch ≡ [] → RunningCases batch p
+  InFetch : {batch : List ℕ} {p : Phase} → p ≡ phases.Fetch 1 → batch ≡ [] → RunningCases batch p
+  InPublication : {batch : List ℕ} {p : Phase} → (done : ℕ) → p ≡ phases.Publish done → 0 < length batch → RunningCases batch p
+
+pub running_cases : (q : ℕ) (h : Header1) (s : Scene) (l : Lane) → started s.past q ≡ true → Holds q h s l → RunningCases l.batch l.phase
+running_cases q h s l run x = go (phase_cases h.size l.bell l.plan l.batch l.phase (phase_at q h s l x))
+  where
+    go : PhaseCases l.batch l.phase → RunningCases l.batch l.phase
+    go (Rests phase batch) = AtRest phase batch
+    go (Fetches phase batch) = InFetch phase batch
+    go (Publishes done phase some) = InPublication done phase some
+    go (Starts done phase batch) =
+        let start : StartIs (started s.past q) h.size l.bell l.plan (phases.Start done) = subst (λ (p : Phase). StartIs (started s.past q) h.size l.bell l.plan p) phase (queue_start q h s l x) in
+        absurd (let fails : true ≡ false = sym run ∙ start.stopped in cc)
 
 start_due : (q : ℕ) (h : Header1) (m : Moment) → IsPlain h → Good q h m → is_ready (standing h q m) turns.Start ≡ true → Fine q h m.scene (m.lanes q) (turned h q turns.Start m)
 start_due q h m plain good ready =
-    let l : Lane = m.lanes q in
     let stopped : started m.scene.past q ≡ false = grind (arith, nat_tests) in
-    elim (phase_cases h.size l.bell l.plan l.batch l.phase (phase_at q h m.scene (m.lanes q) good.holds)) [
-      | inl rest ↦
-          let same : resting l ≡ l = rest_is l rest.0 rest.1 in
-          let at_rest : Holds q h m.scene (resting l) = subst (λ (x : Lane). Holds q h m.scene x) (sym same) good.holds in
-          subst (λ (x : Lane). Fine q h m.scene x (phase_goes_on h q m.scene (under_way h q m.scene turns.Start x))) same (start_fine q h m.scene l plain.good stopped at_rest)
-      | inr (inl shows) ↦ absurd (let none : l.batch ≡ [] = (good.holds.worked.quiet stopped).0 in omega (arith, shows.1.1, ap (λ (ks : List ℕ). length ks) none))
-      | inr (inr starts) ↦
-          let done : ℕ = starts.0 in
-          let same : starting done l ≡ l = start_is done l starts.1.0 starts.1.1 in
-          let under : Holds q h m.scene (starting done l) = subst (λ (x : Lane). Holds q h m.scene x) (sym same) good.holds in
-          let start : StartIs (started m.scene.past q) h.size l.bell l.plan (phases.Start done) = queue_start q h m.scene (starting done l) under in
-          subst (λ (x : Lane). Fine q h m.scene x (phase_goes_on h q m.scene (under_way h q m.scene turns.Start x))) same (start_goes_on q h m.scene l done plain.good stopped start.left under)
-    ]
+    go stopped (phase_cases h.size l.bell l.plan l.batch l.phase (phase_at q h m.scene (m.lanes q) good.holds))
+  where
+    l : Lane
+    l = m.lanes q
+
+    go : started m.scene.past q ≡ false → PhaseCases l.batch l.phase → Fine q h m.scene (m.lanes q) (turned h q turns.Start m)
+    go stopped (Rests phase batch) =
+        let same : resting l ≡ l = rest_is l phase batch in
+        let at_rest : Holds q h m.scene (resting l) = subst (λ (x : Lane). Holds q h m.scene x) (sym same) good.holds in
+        subst (λ (x : Lane). Fine q h m.scene x (phase_goes_on h q m.scene (under_way h q m.scene turns.Start x))) same (start_fine q h m.scene l plain.good stopped at_rest)
+    go stopped (Publishes done phase some) = absurd (let none : l.batch ≡ [] = good.holds.carries.quiet stopped in omega (arith, some, ap (λ (ks : List ℕ). length ks) none))
+    go stopped (Fetches phase batch) = absurd (let run : started m.scene.past q ≡ true = fetch_runs q h m.scene l phase good.holds in let fails : true ≡ false = sym run ∙ stopped in cc)
+    go stopped (Starts done phase batch) =
+        let same : starting done l ≡ l = start_is done l phase batch in
+        let under : Holds q h m.scene (starting done l) = subst (λ (x : Lane). Holds q h m.scene x) (sym same) good.holds in
+        let start : StartIs (started m.scene.past q) h.size l.bell l.plan (phases.Start done) = queue_start q h m.scene (starting done l) under in
+        subst (λ (x : Lane). Fine q h m.scene x (phase_goes_on h q m.scene (under_way h q m.scene turns.Start x))) same (start_goes_on q h m.scene l done plain.good stopped start.left under)
 
 fetch_due : (q : ℕ) (h : Header1) (m : Moment) → IsPlain h → Good q h m → is_ready (standing h q m) turns.Fetch ≡ true → Fine q h m.scene (m.lanes q) (turned h q turns.Fetch m)
 fetch_due q h m plain good ready =
-    let l : Lane = m.lanes q in
     let run : started m.scene.past q ≡ true = grind (arith, nat_tests) in
-    elim (running_cases q h m.scene l run good.holds) [
-      | inl rest ↦
-          let same : resting l ≡ l = rest_is l rest.0 rest.1 in
-          let at_rest : Holds q h m.scene (resting l) = subst (λ (x : Lane). Holds q h m.scene x) (sym same) good.holds in
-          let no_fetch : is_fetch l.phase ≡ false = ap is_fetch rest.0 in
-          let some : 0 < (standing h q m).waiting = grind (arith, nat_tests) in
-          let more : accepted m.scene.past q < length (m.scene.heads q) = omega (arith, some, queue_ahead q h m.scene l plain.good good.holds) in
-          subst (λ (x : Lane). Fine q h m.scene x (phase_goes_on h q m.scene (under_way h q m.scene turns.Fetch x))) same (fetch_fine q h m.scene l plain.good run more at_rest)
-      | inr shows ↦
-          let publishes : is_publication l.phase ≡ true = ap is_publication shows.1 in
-          absurd (grind (arith, nat_tests))
-    ]
+    go run (running_cases q h m.scene l run good.holds)
+  where
+    l : Lane
+    l = m.lanes q
+
+    go : started m.scene.past q ≡ true → RunningCases l.batch l.phase → Fine q h m.scene (m.lanes q) (turned h q turns.Fetch m)
+    go run (AtRest phase batch) =
+        let same : resting l ≡ l = rest_is l phase batch in
+        let at_rest : Holds q h m.scene (resting l) = subst (λ (x : Lane). Holds q h m.scene x) (sym same) good.holds in
+        let no_fetch : is_fetch l.phase ≡ false = ap is_fetch phase in
+        let some : 0 < (standing h q m).waiting = grind (arith, nat_tests) in
+        let low : l.counter < last_counter = grind (arith, nat_tests) in
+        let more : accepted m.scene.past q < length (m.scene.heads q) = omega (arith, some, queue_ahead q h m.scene l plain.good good.holds) in
+        subst (λ (x : Lane). Fine q h m.scene x (phase_goes_on h q m.scene (under_way h q m.scene turns.Fetch x))) same (fetch_fine q h m.scene l plain.good run more low at_rest)
+    go run (InFetch phase batch) =
+        let same : fetching 1 l ≡ l = ap (λ (p : Phase). record l { phase = p; batch = [] }) (sym phase) ∙ ap (λ (b : List ℕ). record l { batch = b }) (sym batch) in
+        let under : Holds q h m.scene (fetching 1 l) = subst (λ (x : Lane). Holds q h m.scene x) (sym same) good.holds in
+        subst (λ (x : Lane). Fine q h m.scene x (phase_goes_on h q m.scene (under_way h q m.scene turns.Fetch x))) same (accept_fine q h m.scene l plain.good run under)
+    go run (InPublication done phase some) =
+        let publishes : is_publication l.phase ≡ true = ap is_publication phase in
+        absurd (grind (arith, nat_tests))
 
 publish_due : (q : ℕ) (h : Header1) (m : Moment) (most : ℕ) → IsPlain h → Good q h m → is_ready (standing h q m) (turns.Publish most) ≡ true → Fine q h m.scene (m.lanes q) (turned h q (turns.Publish most) m)
 publish_due q h m most plain good ready =
-    let l : Lane = m.lanes q in
     let run : started m.scene.past q ≡ true = grind (arith, nat_tests) in
-    elim (running_cases q h m.scene l run good.holds) [
-      | inl rest ↦
-          let same : resting l ≡ l = rest_is l rest.0 rest.1 in
-          let at_rest : Holds q h m.scene (resting l) = subst (λ (x : Lane). Holds q h m.scene x) (sym same) good.holds in
-          let quiet : is_publication l.phase ≡ false = ap is_publication rest.0 in
-          let some : 0 < most = grind (arith, nat_tests) in
-          let any : 0 < length l.completed = grind (arith, nat_tests) in
-          let from_there : Fine q h m.scene (taking most l) (phase_goes_on h q m.scene (under_way h q m.scene (turns.Publish most) (resting l))) =
-          publication_fine q h m.scene (taking most l) 0 (record { good = plain.good; back = plain.back; started = run; holds = taking_holds q h m.scene l most some any run at_rest }) in
-          let begins : Fine q h m.scene (resting l) (phase_goes_on h q m.scene (under_way h q m.scene (turns.Publish most) (resting l))) = record {
-            each = from_there.each;
-            holds = from_there.holds;
-            legal = from_there.legal;
-            idle = from_there.idle;
-            collects = from_there.collects;
-            falls = below_all from_there.falls (taking_effort q h.size m.scene.past (length (m.scene.heads q)) most l some any);
-          } in
-          subst (λ (x : Lane). Fine q h m.scene x (phase_goes_on h q m.scene (under_way h q m.scene (turns.Publish most) x))) same begins
-      | inr shows ↦
-          let done : ℕ = shows.0 in
-          let same : publishing done l ≡ l = ap (λ (p : Phase). record l { phase = p }) (sym shows.1) in
-          let under : Holds q h m.scene (publishing done l) = subst (λ (x : Lane). Holds q h m.scene x) (sym same) good.holds in
-          let goes_on : Fine q h m.scene (publishing done l) (phase_goes_on h q m.scene (under_way h q m.scene (turns.Publish most) (publishing done l))) =
-          publication_fine q h m.scene l done (record { good = plain.good; back = plain.back; started = run; holds = under }) in
-          subst (λ (x : Lane). Fine q h m.scene x (phase_goes_on h q m.scene (under_way h q m.scene (turns.Publish most) x))) same goes_on
-    ]
+    go run (running_cases q h m.scene l run good.holds)
+  where
+    l : Lane
+    l = m.lanes q
+
+    go : started m.scene.past q ≡ true → RunningCases l.batch l.phase → Fine q h m.scene (m.lanes q) (turned h q (turns.Publish most) m)
+    go run (AtRest phase batch) =
+        let same : resting l ≡ l = rest_is l phase batch in
+        let at_rest : Holds q h m.scene (resting l) = subst (λ (x : Lane). Holds q h m.scene x) (sym same) good.holds in
+        let quiet : is_publication l.phase ≡ false = ap is_publication phase in
+        let some : 0 < most = grind (arith, nat_tests) in
+        let any : 0 < length l.completed = grind (arith, nat_tests) in
+        let from_there : Fine q h m.scene (taking most l) (phase_goes_on h q m.scene (under_way h q m.scene (turns.Publish most) (resting l))) =
+        publication_fine q h m.scene (taking most l) 0 (record { good = plain.good; back = plain.back; started = run; holds = taking_holds q h m.scene l most some any run at_rest }) in
+        let begins : Fine q h m.scene (resting l) (phase_goes_on h q m.scene (under_way h q m.scene (turns.Publish most) (resting l))) = record {
+          each = from_there.each;
+          holds = from_there.holds;
+          legal = from_there.legal;
+          idle = from_there.idle;
+          collects = from_there.collects;
+          falls = below_all from_there.falls (taking_effort q h.size m.scene.past (length (m.scene.heads q)) most l some any);
+        } in
+        subst (λ (x : Lane). Fine q h m.scene x (phase_goes_on h q m.scene (under_way h q m.scene (turns.Publish most) x))) same begins
+    go run (InFetch phase batch) =
+        let fetches : is_fetch l.phase ≡ true = ap is_fetch phase in
+        absurd (grind (arith, nat_tests))
+    go run (InPublication done phase some) =
+        let same : publishing done l ≡ l = ap (λ (p : Phase). record l { phase = p }) (sym phase) in
+        let under : Holds q h m.scene (publishing done l) = subst (λ (x : Lane). Holds q h m.scene x) (sym same) good.holds in
+        let goes_on : Fine q h m.scene (publishing done l) (phase_goes_on h q m.scene (under_way h q m.scene (turns.Publish most) (publishing done l))) =
+        publication_fine q h m.scene l done (record { good = plain.good; back = plain.back; started = run; holds = under }) in
+        subst (λ (x : Lane). Fine q h m.scene x (phase_goes_on h q m.scene (under_way h q m.scene (turns.Publish most) x))) same goes_on
 
 work_due : (q : ℕ) (h : Header1) (m : Moment) (place : ℕ) → IsPlain h → Good q h m → is_ready (standing h q m) (turns.Work place) ≡ true → Fine q h m.scene (m.lanes q) (turned h q (turns.Work place) m)
 work_due q h m place plain good ready = go (slice_get (unfinished q m) place) refl
@@ -143,7 +172,7 @@ work_due q h m place plain good ready = go (slice_get (unfinished q m) place) re
           holds = good.holds;
           started = grind (arith, nat_tests);
           is_open = record { taken = opened.0; unpublished = opened.1 };
-          left = left;
+          left = left_hidden l.completed l.batch l.phase k left;
         })
 
 -- any turn that is ready

@@ -31,10 +31,10 @@ use Rattle.vub_run.specs.TaskItems.{look_items, act_items}
 use Rattle.vub_run.specs.Tracking.{Tracks, AfterEach}
 use Rattle.vub_report.specs.Histories.{entries_of}
 use Rattle.vub_run.specs.Turns.{Turned, request_turn, task_turn}
-use Rattle.vub_run_laws.proofs.RunNumbers.{distinct_join}
-use Rattle.vub_facts.proofs.HeadLemmas.{distinct_parts, distinct_push}
-use Rattle.vub_run_laws.proofs.RunGood.{IsWideRead, IsWideWrite, IsWide, Known, IsReadTo, IsWrittenTo, Progress, IsBegun, IsFull, IsPending, Worked, IsKept, Stored, IsRead, buffer, IsGood, stored_at}
+use Rattle.vub_run_laws.proofs.RunNumbers.{among_apart, distinct_more}
+use Rattle.vub_run_laws.proofs.RunGood.{IsWideRead, IsWideWrite, IsWide, Known, IsReadTo, IsWrittenTo, Progress, IsBegun, IsFull, IsPending, Worked, IsKept, Stored, IsRead, hidden, buffer, IsGood, stored_at}
 use Rattle.vub_run_laws.proofs.RunHolds.{Holds}
+use Rattle.vub_run_laws.proofs.RunCarries.{carries_on, carries_done}
 use Rattle.vub_run_laws.proofs.RunSteps.{WideCases, AtRead, AtWrite, AtFlush, wide_cases, wide_served, wide_steps, ReadAt, ToLook, ToPut, ToReply, read_at, WriteAt, ToAct, ToEnd, write_at, look_is, written, effect_is, read_to, written_to}
 use Rattle.vub_run_laws.proofs.RunEfforts.{effort, step_falls, status_falls}
 use Rattle.vub_run_laws.proofs.RunFrames.{open_out, OffBuffer, sector_elsewhere, status_elsewhere, other_buffer}
@@ -48,10 +48,6 @@ at_same f k x j e = grind (arith, nat_tests)
 
 pub at_other : (f : ℕ → ℕ) (k x j : ℕ) → j ≢ k → with_at f k x j ≡ f j
 at_other f k x j e = grind (arith, nat_tests)
-
--- a number that is among some isn't one that isn't
-pub among_apart : (xs : List ℕ) (j k : ℕ) → is_among xs j ≡ true → is_among xs k ≡ false → j ≢ k
-among_apart xs j k held out same = let both : is_among xs j ≡ is_among xs k = ap (is_among xs) same in absurd (cc)
 
 -- ---- turns
 
@@ -71,7 +67,7 @@ pub record IsLeft (q : ℕ) (h : Header1) (s : Scene) (l : Lane) (k : ℕ) : Typ
   pub holds : Holds q h s l
   pub started : started s.past q ≡ true
   pub is_open : IsOpen s.past q k
-  pub left : is_among (l.completed ++ l.batch) k ≡ false
+  pub left : is_among (l.completed ++ hidden l.batch l.phase) k ≡ false
 
 at_work : (q : ℕ) (h : Header1) (s : Scene) (l : Lane) (k : ℕ) (r : Asked) → IsLeft q h s l k → asked s.past q k ≡ Some r → refusal h.capacity h.mode r ≡ None → IsAtWork h.capacity h.mode s.past q k r
 at_work q h s l k r x is served = record { started = x.started; is_open = x.is_open; asked = is; served = served; unfaulted = x.holds.known.unfaulted k }
@@ -81,7 +77,7 @@ abbrev one_more : ℕ → Lane → Lane
 one_more k l = record l { made = with_at l.made k (l.made k + 1) }
 
 one_more_falls : (q : ℕ) (h : Header1) (s : Scene) (l : Lane) (k : ℕ) → IsLeft q h s l k → l.made k ≤ 16 → effort q h.size s.past (length (s.heads q)) (one_more k l) + 1 ≤ effort q h.size s.past (length (s.heads q)) l
-one_more_falls q h s l k x small = omega (arith, step_falls (published s.past q) (l.completed ++ l.batch) l.made (accepted s.past q) k x.is_open.taken x.is_open.unpublished x.left small)
+one_more_falls q h s l k x small = omega (arith, step_falls (published s.past q) (l.completed ++ hidden l.batch l.phase) l.made (accepted s.past q) k x.is_open.taken x.is_open.unpublished x.left small)
 
 look_known : (q n cap : ℕ) (past : List Entry) (heads : List ℕ) (k s : ℕ) (v : List ℕ) → Known q n cap past heads → Known q n cap (entries.Look q k s v ∷ past) heads
 look_known q n cap past heads k s v a = record {
@@ -215,7 +211,7 @@ reading_to : (q : ℕ) (h : Header1) (s : Scene) (l : Lane) (k sector c : ℕ) �
 reading_to q h s l k sector c x = read_to sector c (l.made k) (looks s.past q k) (acts s.past q k) (bytes_read s.past q k) (synced s.past q k) (asked s.past q k) x.is (x.left.holds.worked.progress k)
 
 look_worked : (q : ℕ) (h : Header1) (s : Scene) (l : Lane) (k sector c p place : ℕ) (v : List ℕ) → IsReading q h s l k sector c → p < c → l.made k ≡ 2 * p → length v ≡ 512
-    → Worked q (entries.Look q k place v ∷ s.past) l.phase l.batch l.completed (with_at l.made k (l.made k + 1))
+    → Worked q (entries.Look q k place v ∷ s.past) l.phase (hidden l.batch l.phase) l.completed (with_at l.made k (l.made k + 1))
 look_worked q h s l k sector c p place v x low at long =
     let later : List Entry = entries.Look q k place v ∷ s.past in
     let to : IsReadTo c (l.made k) (looks s.past q k) (bytes_read s.past q k) = reading_to q h s l k sector c x in
@@ -224,7 +220,7 @@ look_worked q h s l k sector c p place v x low at long =
     let longer : length (bytes_read later q k) ≡ length (bytes_read s.past q k) + length v = ap (λ (xs : List ℕ). length xs) (seen_more q s.past k place v) ∙ length-append (bytes_read s.past q k) v in
     let was : length (bytes_read s.past q k) ≡ 512 * looks s.past q k = to.long in
     let next : IsReadTo c (l.made k + 1) (looks later q k) (bytes_read later q k) = record { under = λ e. omega (arith, looked, more, at); whole = λ e. omega (arith, looked, more, at, low); long = omega (arith, longer, was, more, long) } in
-    step_worked q s.past later l.phase l.batch l.completed l.made k (look_follows q s.past k place v x.left.started) x.left.is_open x.left.left
+    step_worked q s.past later l.phase (hidden l.batch l.phase) l.completed l.made k (look_follows q s.past k place v x.left.started) x.left.is_open x.left.left
     (subst (λ (o : Option Asked). IsBegun (l.made k + 1) (looks later q k) (acts later q k) (bytes_read later q k) (synced later q k) o) (sym x.is) next)
     (subst (λ (o : Option Asked). IsPending (l.made k + 1) o) (sym x.is) (omega arith)) x.left.holds.worked
 
@@ -246,8 +242,9 @@ look_holds : (q : ℕ) (h : Header1) (s : Scene) (l : Lane) (k sector c p place 
 look_holds q h s l k sector c p place v x low at long = record {
   known = look_known q h.size h.capacity s.past (s.heads q) k place v x.left.holds.known;
   worked = look_worked q h s l k sector c p place v x low at long;
-  stored = step_stored q s.past (entries.Look q k place v ∷ s.past) (s.heads q) s.memory l.batch l.completed l.made k (look_follows q s.past k place v x.left.started) (look_seen q h s l k sector c p place v x low at) x.left.holds.stored;
-  queue = queue_same q h s (entries.Look q k place v ∷ s.past) l.driver l.bell l.plan l.batch l.phase refl refl refl refl (λ j. refl) x.left.holds.queue;
+  stored = step_stored q s.past (entries.Look q k place v ∷ s.past) (s.heads q) s.memory (hidden l.batch l.phase) l.completed l.made k (look_follows q s.past k place v x.left.started) (look_seen q h s l k sector c p place v x low at) x.left.holds.stored;
+  carries = carries_on q s.past (entries.Look q k place v ∷ s.past) l.counter l.phase l.batch l.completed refl refl refl x.left.holds.carries;
+  queue = queue_same q h s (entries.Look q k place v ∷ s.past) l.driver l.bell l.plan l.counter l.batch l.phase refl refl refl refl (λ j. refl) x.left.holds.queue;
 }
 
 look_fine : (q : ℕ) (h : Header1) (s : Scene) (l : Lane) (k sector c p : ℕ) → IsReading q h s l k sector c → p < c → l.made k ≡ 2 * p → Fine q h s l (task_turn h q s l k (asks.Read sector c) (Some (Look p)))
@@ -322,13 +319,13 @@ writing_to q h s l k sector bytes x = written_to sector (l.made k) (looks s.past
 write_never : (sector : ℕ) (bytes : List ℕ) (o : Option Asked) → o ≡ Some (asks.Write sector bytes) → IsRead o → ⊥
 write_never sector bytes o is read = subst (λ (x : Option Asked). IsRead x) is read
 
-act_worked : (q : ℕ) (h : Header1) (s : Scene) (l : Lane) (k sector place : ℕ) (bytes v : List ℕ) → IsWriting q h s l k sector bytes → l.made k < length bytes / 512 → Worked q (entries.Act q k place v ∷ s.past) l.phase l.batch l.completed (with_at l.made k (l.made k + 1))
+act_worked : (q : ℕ) (h : Header1) (s : Scene) (l : Lane) (k sector place : ℕ) (bytes v : List ℕ) → IsWriting q h s l k sector bytes → l.made k < length bytes / 512 → Worked q (entries.Act q k place v ∷ s.past) l.phase (hidden l.batch l.phase) l.completed (with_at l.made k (l.made k + 1))
 act_worked q h s l k sector place bytes v x low =
     let later : List Entry = entries.Act q k place v ∷ s.past in
     let acted : acts s.past q k ≡ l.made k = (writing_to q h s l k sector bytes x).under (omega arith) in
     let more : acts later q k ≡ acts s.past q k + 1 = acts_more q s.past k place v in
     let next : IsWrittenTo (length bytes / 512) (l.made k + 1) (acts later q k) = record { under = λ e. omega (arith, acted, more); whole = λ e. omega (arith, acted, more, low, e) } in
-    step_worked q s.past later l.phase l.batch l.completed l.made k (act_follows q s.past k place v x.left.started) x.left.is_open x.left.left
+    step_worked q s.past later l.phase (hidden l.batch l.phase) l.completed l.made k (act_follows q s.past k place v x.left.started) x.left.is_open x.left.left
     (subst (λ (o : Option Asked). IsBegun (l.made k + 1) (looks later q k) (acts later q k) (bytes_read later q k) (synced later q k) o) (sym x.is) next)
     (subst (λ (o : Option Asked). IsPending (l.made k + 1) o) (sym x.is) (omega (arith, low))) x.left.holds.worked
 
@@ -336,8 +333,9 @@ act_holds : (q : ℕ) (h : Header1) (s : Scene) (l : Lane) (k sector place : ℕ
 act_holds q h s l k sector place bytes v x low long = record {
   known = act_known q h.size h.capacity s.past (s.heads q) k place v long x.left.holds.known;
   worked = act_worked q h s l k sector place bytes v x low;
-  stored = step_stored q s.past (entries.Act q k place v ∷ s.past) (s.heads q) s.memory l.batch l.completed l.made k (act_follows q s.past k place v x.left.started) (seen_never q s.past (entries.Act q k place v ∷ s.past) l.made k (write_never sector bytes (asked s.past q k) x.is)) x.left.holds.stored;
-  queue = queue_same q h s (entries.Act q k place v ∷ s.past) l.driver l.bell l.plan l.batch l.phase refl refl refl refl (λ j. refl) x.left.holds.queue;
+  stored = step_stored q s.past (entries.Act q k place v ∷ s.past) (s.heads q) s.memory (hidden l.batch l.phase) l.completed l.made k (act_follows q s.past k place v x.left.started) (seen_never q s.past (entries.Act q k place v ∷ s.past) l.made k (write_never sector bytes (asked s.past q k) x.is)) x.left.holds.stored;
+  carries = carries_on q s.past (entries.Act q k place v ∷ s.past) l.counter l.phase l.batch l.completed refl refl refl x.left.holds.carries;
+  queue = queue_same q h s (entries.Act q k place v ∷ s.past) l.driver l.bell l.plan l.counter l.batch l.phase refl refl refl refl (λ j. refl) x.left.holds.queue;
 }
 
 -- a sector of some bytes
@@ -410,10 +408,10 @@ flush_never o is read = subst (λ (x : Option Asked). IsRead x) is read
 now_stable : (q : ℕ) (past : List Entry) (k : ℕ) → synced (entries.Sync q k ∷ past) q k ≡ true
 now_stable q past k = grind (arith, nat_tests)
 
-sync_worked : (q : ℕ) (h : Header1) (s : Scene) (l : Lane) (k : ℕ) → IsLeft q h s l k → asked s.past q k ≡ Some asks.Flush → l.made k ≡ 0 → Worked q (entries.Sync q k ∷ s.past) l.phase l.batch l.completed (with_at l.made k (l.made k + 1))
+sync_worked : (q : ℕ) (h : Header1) (s : Scene) (l : Lane) (k : ℕ) → IsLeft q h s l k → asked s.past q k ≡ Some asks.Flush → l.made k ≡ 0 → Worked q (entries.Sync q k ∷ s.past) l.phase (hidden l.batch l.phase) l.completed (with_at l.made k (l.made k + 1))
 sync_worked q h s l k x is none =
     let later : List Entry = entries.Sync q k ∷ s.past in
-    step_worked q s.past later l.phase l.batch l.completed l.made k (sync_follows q s.past k x.started) x.is_open x.left
+    step_worked q s.past later l.phase (hidden l.batch l.phase) l.completed l.made k (sync_follows q s.past k x.started) x.is_open x.left
     (subst (λ (o : Option Asked). IsBegun (l.made k + 1) (looks later q k) (acts later q k) (bytes_read later q k) (synced later q k) o) (sym is) (now_stable q s.past k))
     (subst (λ (o : Option Asked). IsPending (l.made k + 1) o) (sym is) (omega arith)) x.holds.worked
 
@@ -421,8 +419,9 @@ sync_holds : (q : ℕ) (h : Header1) (s : Scene) (l : Lane) (k : ℕ) → IsLeft
 sync_holds q h s l k x is none = record {
   known = sync_known q h.size h.capacity s.past (s.heads q) k x.holds.known;
   worked = sync_worked q h s l k x is none;
-  stored = step_stored q s.past (entries.Sync q k ∷ s.past) (s.heads q) s.memory l.batch l.completed l.made k (sync_follows q s.past k x.started) (seen_never q s.past (entries.Sync q k ∷ s.past) l.made k (flush_never (asked s.past q k) is)) x.holds.stored;
-  queue = queue_same q h s (entries.Sync q k ∷ s.past) l.driver l.bell l.plan l.batch l.phase refl refl refl refl (λ j. refl) x.holds.queue;
+  stored = step_stored q s.past (entries.Sync q k ∷ s.past) (s.heads q) s.memory (hidden l.batch l.phase) l.completed l.made k (sync_follows q s.past k x.started) (seen_never q s.past (entries.Sync q k ∷ s.past) l.made k (flush_never (asked s.past q k) is)) x.holds.stored;
+  carries = carries_on q s.past (entries.Sync q k ∷ s.past) l.counter l.phase l.batch l.completed refl refl refl x.holds.carries;
+  queue = queue_same q h s (entries.Sync q k ∷ s.past) l.driver l.bell l.plan l.counter l.batch l.phase refl refl refl refl (λ j. refl) x.holds.queue;
 }
 
 sync_fine : (q : ℕ) (h : Header1) (s : Scene) (l : Lane) (k : ℕ) → IsLeft q h s l k → asked s.past q k ≡ Some asks.Flush → l.made k ≡ 0 → Fine q h s l (task_turn h q s l k asks.Flush (Some Sync))
@@ -447,7 +446,7 @@ sync_fine q h s l k x is none =
 
 pub other_open : (q : ℕ) (h : Header1) (s : Scene) (l : Lane) (k j : ℕ) → IsLeft q h s l k → IsOpen s.past q j → j ≢ k → slice_index (s.heads q) j ≢ slice_index (s.heads q) k
 other_open q h s l k j x is_open apart same =
-    apart (heads_apart q h s l.driver l.bell l.plan l.batch l.phase j k x.holds.queue (open_out q h.size h.capacity s.past (s.heads q) j x.holds.known is_open) (open_out q h.size h.capacity s.past (s.heads q) k x.holds.known x.is_open) same)
+    apart (heads_apart q h s l.driver l.bell l.plan l.counter l.batch l.phase j k x.holds.queue (open_out q h.size h.capacity s.past (s.heads q) j x.holds.known is_open) (open_out q h.size h.capacity s.past (s.heads q) k x.holds.known x.is_open) same)
 
 -- a store into the buffer of one request leaves those of the others
 off_other : (q : ℕ) (h : Header1) (s : Scene) (l : Lane) (k j p : ℕ) (bs : List ℕ) → IsLeft q h s l k → IsOpen s.past q j → j ≢ k → buffer q (s.heads q) k ≤ p → p + length bs ≤ buffer q (s.heads q) k + 8192 → OffBuffer q (s.heads q) j p bs
@@ -456,12 +455,12 @@ off_other q h s l k j p bs x is_open apart from upto = other_buffer q (s.heads q
 same_follows : (q : ℕ) (past : List Entry) (k : ℕ) → started past q ≡ true → Follows q past past k
 same_follows q past k run = record { accepts = refl; publishes = refl; asks_same = λ j. refl; runs = run; runs_on = run; others = λ j apart. (refl, (refl, (refl, refl))) }
 
-put_worked : (q : ℕ) (h : Header1) (s : Scene) (l : Lane) (k sector c p : ℕ) → IsReading q h s l k sector c → p < c → l.made k ≡ 2 * p + 1 → Worked q s.past l.phase l.batch l.completed (with_at l.made k (l.made k + 1))
+put_worked : (q : ℕ) (h : Header1) (s : Scene) (l : Lane) (k sector c p : ℕ) → IsReading q h s l k sector c → p < c → l.made k ≡ 2 * p + 1 → Worked q s.past l.phase (hidden l.batch l.phase) l.completed (with_at l.made k (l.made k + 1))
 put_worked q h s l k sector c p x low at =
     let to : IsReadTo c (l.made k) (looks s.past q k) (bytes_read s.past q k) = reading_to q h s l k sector c x in
     let looked : looks s.past q k ≡ (l.made k + 1) / 2 = to.under (omega arith) in
     let next : IsReadTo c (l.made k + 1) (looks s.past q k) (bytes_read s.past q k) = record { under = λ e. omega (arith, looked, at); whole = λ e. omega (arith, looked, at, low, e); long = to.long } in
-    step_worked q s.past s.past l.phase l.batch l.completed l.made k (same_follows q s.past k x.left.started) x.left.is_open x.left.left
+    step_worked q s.past s.past l.phase (hidden l.batch l.phase) l.completed l.made k (same_follows q s.past k x.left.started) x.left.is_open x.left.left
     (subst (λ (o : Option Asked). IsBegun (l.made k + 1) (looks s.past q k) (acts s.past q k) (bytes_read s.past q k) (synced s.past q k) o) (sym x.is) next)
     (subst (λ (o : Option Asked). IsPending (l.made k + 1) o) (sym x.is) (omega (arith, at, low))) x.left.holds.worked
 
@@ -508,9 +507,10 @@ put_holds q h s l k sector c p x low at =
               ∙ x.left.holds.stored.sectors j i is_open (subst (λ (n : ℕ). IsKept n (length (bytes_read s.past q j)) i) now kept) reads
         ];
         status = λ j held.
-            status_elsewhere q (s.heads q) j s.memory place bs (off_other q h s l k j place bs x.left (x.left.holds.worked.opens j held) (among_apart (l.completed ++ l.batch) j k held x.left.left) (omega arith) (omega arith)) ∙ x.left.holds.stored.status j held;
+            status_elsewhere q (s.heads q) j s.memory place bs (off_other q h s l k j place bs x.left (x.left.holds.worked.opens j held) (among_apart (l.completed ++ hidden l.batch l.phase) j k held x.left.left) (omega arith) (omega arith)) ∙ x.left.holds.stored.status j held;
       };
-      queue = queue_elsewhere q h s place bs l.driver l.bell l.plan l.batch l.phase x.left.good.size (inr (omega arith)) x.left.holds.queue;
+      carries = x.left.holds.carries;
+      queue = queue_elsewhere q h s place bs l.driver l.bell l.plan l.counter l.batch l.phase x.left.good.size (inr (omega arith)) x.left.holds.queue;
     }
 
 put_fine : (q : ℕ) (h : Header1) (s : Scene) (l : Lane) (k sector c p : ℕ) → IsReading q h s l k sector c → p < c → l.made k ≡ 2 * p + 1 → Fine q h s l (task_turn h q s l k (asks.Read sector c) (Some (Put p)))
@@ -547,19 +547,6 @@ not_more xs ys k j out =
     let inner : is_among (xs ++ k ∷ []) j ≡ (is_among xs j || is_among (k ∷ []) j) = is_among_append xs (k ∷ []) j in
     let right : is_among (xs ++ ys) j ≡ (is_among xs j || is_among ys j) = is_among_append xs ys j in
     (λ same. let turned : k ≡ j = sym same in grind (arith, nat_tests), grind (arith, nat_tests))
-
-distinct_more : (xs ys : List ℕ) (k : ℕ) → are_distinct (xs ++ ys) ≡ true → is_among (xs ++ ys) k ≡ false → are_distinct ((xs ++ k ∷ []) ++ ys) ≡ true
-distinct_more xs ys k d out =
-    let parts = distinct_parts xs ys d in
-    let right : is_among (xs ++ ys) k ≡ (is_among xs k || is_among ys k) = is_among_append xs ys k in
-    let out_xs : is_among xs k ≡ false = grind (arith, nat_tests) in
-    let out_ys : is_among ys k ≡ false = grind (arith, nat_tests) in
-    distinct_join (xs ++ k ∷ []) ys (distinct_push xs k parts.first out_xs) parts.second (λ j held.
-    let other : is_among xs j ≡ false = parts.apart j held in
-    let differs : j ≢ k = among_apart ys j k held out_ys in
-    let turned : k ≢ j = λ e. differs (sym e) in
-    let inner : is_among (xs ++ k ∷ []) j ≡ (is_among xs j || is_among (k ∷ []) j) = is_among_append xs (k ∷ []) j in
-    grind (arith, nat_tests))
 
 -- the status changes nothing of what a request has done
 full_begun : (q : ℕ) (past : List Entry) (made : ℕ → ℕ) (k : ℕ) (o : Option Asked) → asked past q k ≡ o → IsFull (made k) o → Progress (made k) (looks past q k) (acts past q k) (bytes_read past q k) (synced past q k) o
@@ -614,7 +601,7 @@ status_holds : (q : ℕ) (h : Header1) (s : Scene) (l : Lane) (k p : ℕ) → Is
     → Holds q h (stored_at p (0 ∷ []) s) (finished k l)
 status_holds q h s l k p x whole half at = record {
   known = x.holds.known;
-  worked = status_worked q s.past l.phase l.batch l.completed l.made k x.started x.is_open x.left whole x.holds.worked;
+  worked = status_worked q s.past l.phase (hidden l.batch l.phase) l.completed l.made k x.started x.is_open x.left whole x.holds.worked;
   stored = record {
     sectors = λ j i is_open kept read. elim (cases_eq j k) [
       | inl same ↦
@@ -632,15 +619,16 @@ status_holds q h s l k p x whole half at = record {
           let now : with_at l.made k (l.made k + 1) j ≡ l.made j = at_other l.made k (l.made k + 1) j apart in
           sector_elsewhere q (s.heads q) j i s.memory p (0 ∷ []) kept.small (off_other q h s l k j p (0 ∷ []) x is_open apart (omega arith) (omega arith)) ∙ x.holds.stored.sectors j i is_open (subst (λ (n : ℕ). IsKept n (length (bytes_read s.past q j)) i) now kept) read
     ];
-    status = λ j held. elim (among_more l.completed l.batch k j held) [
+    status = λ j held. elim (among_more l.completed (hidden l.batch l.phase) k j held) [
       | inl same ↦
           let here : status_place (buffer q (s.heads q) j) ≡ p + 0 = ap (λ (i : ℕ). status_place (buffer q (s.heads q) i)) same ∙ omega (arith, at) in
           ap (λ (e : ℕ). put s.memory 0 p (0 ∷ []) 0 e) here ∙ put_inside s.memory 0 p (0 ∷ []) 0 (omega arith)
       | inr old ↦
-          status_elsewhere q (s.heads q) j s.memory p (0 ∷ []) (off_other q h s l k j p (0 ∷ []) x (x.holds.worked.opens j old) (among_apart (l.completed ++ l.batch) j k old x.left) (omega arith) (omega arith)) ∙ x.holds.stored.status j old
+          status_elsewhere q (s.heads q) j s.memory p (0 ∷ []) (off_other q h s l k j p (0 ∷ []) x (x.holds.worked.opens j old) (among_apart (l.completed ++ hidden l.batch l.phase) j k old x.left) (omega arith) (omega arith)) ∙ x.holds.stored.status j old
     ];
   };
-  queue = queue_elsewhere q h s p (0 ∷ []) l.driver l.bell l.plan l.batch l.phase x.good.size (inr (omega arith)) x.holds.queue;
+  carries = carries_done q s.past l.counter l.phase l.batch l.completed k x.is_open x.left x.holds.carries;
+  queue = queue_elsewhere q h s p (0 ∷ []) l.driver l.bell l.plan l.counter l.batch l.phase x.good.size (inr (omega arith)) x.holds.queue;
 }
 
 status_fine : (q : ℕ) (h : Header1) (s : Scene) (l : Lane) (k : ℕ) (r : Asked) → IsLeft q h s l k → refusal h.capacity h.mode r ≡ None → IsFull (l.made k) (asked s.past q k) → (IsRead (asked s.past q k) → (l.made k + 1) / 2 ≡ l.made k / 2) → l.made k ≤ 16
@@ -655,7 +643,7 @@ status_fine q h s l k r x served whole half small =
       legal = tt;
       idle = λ stopped. absurd (let fails : true ≡ false = sym x.started ∙ stopped in cc);
       collects = refl;
-      falls = omega (arith, length-append l.completed (k ∷ []), status_falls (published s.past q) l.completed l.batch l.made (accepted s.past q) k x.is_open.taken x.is_open.unpublished x.left small);
+      falls = omega (arith, length-append l.completed (k ∷ []), status_falls (published s.past q) l.completed (hidden l.batch l.phase) l.made (accepted s.past q) k x.is_open.taken x.is_open.unpublished x.left small);
     } in
     subst (λ (st : ℕ). Fine q h s l (record { items = items.Store T5 M p (st ∷ []) ∷ []; lane = finished k l })) (sym zero_status) fine
 

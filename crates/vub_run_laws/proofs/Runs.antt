@@ -45,6 +45,13 @@ opening_holds q h plain low = record {
     between = tt;
   };
   stored = record { sectors = λ k i is_open kept read. absurd (omega (arith, kept.put)); status = λ k held. absurd (let fails : false ≡ true = held in cc) };
+  carries = record {
+    distinct = refl;
+    shown = λ k held out. absurd (let fails : false ≡ true = held in cc);
+    quiet = λ stopped. refl;
+    low = omega arith;
+    idle = λ stopped. refl;
+  };
   queue = queue_opens q h plain.good.base low;
 }
 
