@@ -84,7 +84,7 @@ course_is : (q : ℕ) (h : Header1) (s : Scene) (l : Lane) → course_in h.size 
 course_is q h s l = ap (λ (n : ℕ). record { size = h.size; plan = l.plan; bell = l.bell; batch = n }) (side_long q h s l)
 
 -- its next step, and the phase after it, in the lane
-lane_next : (q : ℕ) (h : Header1) (setup : QueueSetup) (s : Scene) (l : Lane) (step : Step) (u : QueueState) → IsUnderWay q h setup s l step u → next_step (course_of h l) l.phase ≡ Some step
+pub lane_next : (q : ℕ) (h : Header1) (setup : QueueSetup) (s : Scene) (l : Lane) (step : Step) (u : QueueState) → IsUnderWay q h setup s l step u → next_step (course_of h l) l.phase ≡ Some step
 lane_next q h setup s l step u w = sym (ap (λ (c : Course). next_step c l.phase) (course_is q h s l)) ∙ w.due.next
 
 place : (q : ℕ) (h : Header1) (setup : QueueSetup) (s : Scene) (l : Lane) (step : Step) (u : QueueState) → IsUnderWay q h setup s l step u → Place h.size step (side_of q h s l.bell l.plan l.counter l.batch l.phase)
@@ -325,7 +325,7 @@ on_stands q h setup m turn l step u u' y p counter kept b batch w is past heads 
     (subst (λ (hs : ℕ → List ℕ). PhaseAt q h setup now.past (hs q) l.bell l.plan counter batch p (region_in h q now) v) (sym heads) (subst (λ (es : List Entry). PhaseAt q h setup es (m.scene.heads q) l.bell l.plan counter batch p (region_in h q now) v) (sym past) phase)))
 
 -- the batch is hidden up to its index, and not behind it
-hides : {A : Type 0} (batch : List A) (done : ℕ) → done ≤ 4 * length batch → hidden_part (phases.Publish done) batch ≡ batch
+pub hides : {A : Type 0} (batch : List A) (done : ℕ) → done ≤ 4 * length batch → hidden_part (phases.Publish done) batch ≡ batch
 hides batch done before = let test : nat_lt (4 * length batch) done ≡ false = grind (arith, nat_tests) in ap (λ (b : Bool). cond b [] batch) test
 
 shows : {A : Type 0} (batch : List A) (done : ℕ) → 4 * length batch < done → hidden_part (phases.Publish done) batch ≡ []

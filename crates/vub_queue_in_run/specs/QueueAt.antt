@@ -1,5 +1,5 @@
 -- The device's side of a queue stands at a moment of a run.
-use Rattle.std.specs.Prelude.{◌≡◌, ◌<◌, ℕ, ◌+◌, ◌*◌, ◌%◌, Bool, true, false, not, nat_lt, if◌then◌else◌, List, Option, ◌++◌, length, map, filter, slice_get, slice_index, slice_range, get_or, [], Some, None}
+use Rattle.std.specs.Prelude.{◌≡◌, ◌<◌, ℕ, suc, ◌+◌, ◌*◌, ◌%◌, Bool, true, false, not, nat_lt, if◌then◌else◌, List, Option, ◌++◌, length, map, filter, slice_get, slice_index, slice_range, get_or, [], Some, None}
 use Rattle.vub_base.specs.declared.header.Header1.{Header1}
 use Rattle.vub_steps.specs.declared.steps.Phase.{Phase}
 use Rattle.vub_steps.specs.declared.steps.Phase.TheVariants as phases
@@ -103,9 +103,9 @@ abbrev pub StartsAt : ℕ → Plan → Phase → RegionWords → QueueState → 
 StartsAt n plan (phases.Start done) w state = StartingAt n plan done w state
 StartsAt n plan phase w state = IsFresh state.recovery × (state.rung ≡ false)
 
--- the head of a fetch that is under way is kept
+-- the head of a fetch is kept from its first step on
 abbrev pub kept_head : Phase → ℕ → Option ℕ
-kept_head (phases.Fetch done) head = Some head
+kept_head (phases.Fetch (suc done)) head = Some head
 kept_head phase head = None
 
 -- of queue q, in this phase of its lane; the words of its region matter until it is started
