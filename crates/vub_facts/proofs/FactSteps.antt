@@ -30,12 +30,12 @@ use Rattle.vub_steps.specs.declared.steps.Plan.{Plan}
 use Rattle.vub_steps.specs.declared.steps.Plan.TheVariants as plans
 use Rattle.vub_steps.specs.declared.steps.Step.{Step}
 use Rattle.vub_steps.specs.declared.steps.Step.TheVariants as steps
-use Rattle.vub_steps.specs.Steps.{plan_steps, after_step}
+use Rattle.vub_steps.specs.Steps.{steps_of, done_of, plan_steps, after_step}
 use Rattle.vub_steps.specs.Rows.{Sight, region_store}
 use Rattle.vub_steps.proofs.StartLemmas.{length_new, length_settles}
 use Rattle.vub_steps.proofs.StepLemmas.{length_publish}
-use Rattle.vub_facts.specs.Facts.{Side, Lies, Words, heads_in, without, head_next, InFetching, InBatch, IsBuilt, BatchFacts, Facts, course_in, IsDue, counted, with_phase, sight, side_after, next_counter_in, heads_after, with_stored, words_after}
-use Rattle.vub_facts.proofs.Places.{IsStarting, IsRunning, bells, Place, place_of, start_goes_on, start_ends, count_after, accept_after, publish_goes_on, publish_ends}
+use Rattle.vub_facts.specs.Facts.{Side, Lies, Words, heads_in, without, head_next, InFetching, InBatch, IsBuilt, BatchFacts, Facts, course_in, IsInPhase, IsDue, counted, with_phase, sight, side_after, next_counter_in, heads_after, with_stored, words_after}
+use Rattle.vub_facts.proofs.Places.{IsStarting, IsRunning, bells, Place, place_of, left_due, start_goes_on, start_ends, count_after, accept_after, publish_goes_on, publish_ends}
 use Rattle.vub_facts.proofs.FactStarts.{runs_on, features_kept, free_kept, open_kept, settle_kept, settle_end_kept, bell_kept}
 
 -- ---- what the facts say in a phase
@@ -106,6 +106,18 @@ publication_begins n heads base x batch w on rest b f = record {
   in_life = λ y. life.publication_begins n w.ring.used (head_next heads w) x.counter heads (heads_in batch) (heads_in x.batch) w.region (life_in n heads base phases.Rest x w (record { started = on; place = rest }) f);
   batch = (b, none_built w batch);
 }
+
+-- ---- what is under way has a next step
+
+pub fetch_due : (n : ℕ) (heads : List ℕ) (base done : ℕ) (x : Side) (w : Words) → IsRunning (phases.Fetch done) x → Facts n heads base x w → (step : Step) × IsDue n step x
+fetch_due n heads base done x w at f =
+    let b : InFetching n heads x.counter x.batch done w = batch_in n heads base (phases.Fetch done) x w at.place f in
+    left_due n x (subst (λ (p : Phase). IsInPhase x.started p) (sym at.place) at.started) (subst (λ (p : Phase). done_of p < length (steps_of (course_in n x) p)) (sym at.place) b.left)
+
+pub publication_due : (n : ℕ) (heads : List ℕ) (base done : ℕ) (x : Side) (w : Words) → IsRunning (phases.Publish done) x → Facts n heads base x w → (step : Step) × IsDue n step x
+publication_due n heads base done x w at f =
+    let b : InBatch n heads x.bell x.batch done × IsBuilt w x.batch done = batch_in n heads base (phases.Publish done) x w at.place f in
+    left_due n x (subst (λ (p : Phase). IsInPhase x.started p) (sym at.place) at.started) (subst (λ (p : Phase). done_of p < length (steps_of (course_in n x) p)) (sym at.place) b.0.left)
 
 -- ---- a store of the driver
 

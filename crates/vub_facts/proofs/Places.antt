@@ -1,6 +1,6 @@
 -- Where a queue stands when a step of it comes next, and the phase after it.
 use Rattle.std.proofs.Common.{◌≡◌, ◌<◌, ◌⊎◌, ℕ, zero, suc, ◌+◌, ◌-◌, ◌*◌, ◌/◌, ◌%◌, Bool, true, false, List, [], ◌∷◌, ◌++◌, length, refl, ap, sym, ◌∙◌, subst, inl, inr, arith, length-append}
-use Rattle.std.specs.Prelude.{◌==◌, ◌&&◌, slice_get, Option, Some, None}
+use Rattle.std.specs.Prelude.{◌==◌, ◌&&◌, not, if◌then◌else◌, slice_get, Option, Some, None}
 use Rattle.std.proofs.lemmas.Bool.{cases_Bool, cases_eq, cases_lt}
 use Rattle.std.proofs.lemmas.Bool.Decides.{nat_tests}
 use Rattle.vub_steps.specs.declared.steps.Phase.{Phase}
@@ -9,7 +9,7 @@ use Rattle.vub_steps.specs.declared.steps.Plan.{Plan}
 use Rattle.vub_steps.specs.declared.steps.Plan.TheVariants as plans
 use Rattle.vub_steps.specs.declared.steps.Step.{Step}
 use Rattle.vub_steps.specs.declared.steps.Step.TheVariants as steps
-use Rattle.vub_steps.specs.Steps.{free_steps, settle_steps, plan_steps, bell_steps, start_steps, fetch_steps, publish_steps, element_step, shown_step, steps_of, done_of, next_of, after_of, next_step, after_step}
+use Rattle.vub_steps.specs.Steps.{free_steps, settle_steps, plan_steps, bell_steps, start_steps, fetch_steps, publish_steps, element_step, shown_step, steps_of, done_of, at_step, next_of, after_of, next_step, after_step}
 use Rattle.vub_steps.proofs.StartLemmas.{before, behind, first_behind, free_at, length_free, settle_at, length_settle, length_new, length_settles}
 use Rattle.vub_steps.proofs.StepLemmas.{in_element, past_elements, length_publish}
 use Rattle.vub_facts.specs.Facts.{Side, course_in, IsInPhase, IsDue}
@@ -243,6 +243,66 @@ publish_ends n x done at last =
     let none : length (publish_steps (length x.batch) x.bell) ≡ done + 1 = omega (arith, long, last) in
     let here : after_of (publish_steps (length x.batch) x.bell) (phases.Publish done) ≡ phases.Rest = grind (arith, nat_tests) in
     ap (after_step (course_in n x)) at ∙ here
+
+-- whether it is the last one of its phase
+abbrev pub is_last : Step → Side → Bool
+is_last steps.Start x = true
+is_last steps.Accept x = true
+is_last steps.Note x = not x.bell
+is_last steps.Bell x = x.started
+is_last step x = false
+
+-- at rest exactly after the last one
+abbrev pub GoesOn : ℕ → Step → Side → Type 0
+GoesOn n step x = after_step (course_in n x) x.phase ≡ (if is_last step x then phases.Rest else at_step x.phase (done_of x.phase + 1))
+
+start_next : (n : ℕ) (x : Side) (done : ℕ) → x.phase ≡ phases.Start done → done < length (plan_steps n x.plan) + bells x.bell → after_step (course_in n x) x.phase ≡ at_step x.phase (done_of x.phase + 1)
+start_next n x done at more = start_goes_on n x done at more ∙ sym (ap (λ (p : Phase). at_step p (done_of p + 1)) at)
+
+plan_next : (n : ℕ) (x : Side) (done : ℕ) (plan : Plan) → x.phase ≡ phases.Start done → x.plan ≡ plan → done < length (plan_steps n plan) → after_step (course_in n x) x.phase ≡ at_step x.phase (done_of x.phase + 1)
+plan_next n x done plan at is more = start_next n x done at (omega (arith, more, ap (λ (p : Plan). length (plan_steps n p)) is))
+
+publish_next : (n : ℕ) (x : Side) (done : ℕ) → x.phase ≡ phases.Publish done → done + 1 < 5 * length x.batch + 2 + bells x.bell → after_step (course_in n x) x.phase ≡ at_step x.phase (done_of x.phase + 1)
+publish_next n x done at more = publish_goes_on n x done at more ∙ sym (ap (λ (p : Phase). at_step p (done_of p + 1)) at)
+
+-- the phase where it is the last one, and where it isn't
+last_is : (b : Bool) (p q : Phase) → b ≡ true → p ≡ phases.Rest → p ≡ (if b then phases.Rest else q)
+last_is b p q last rests = rests ∙ ap (λ (c : Bool). if c then phases.Rest else q) (sym last)
+
+other_is : (b : Bool) (p q : Phase) → b ≡ false → p ≡ q → p ≡ (if b then phases.Rest else q)
+other_is b p q other goes = goes ∙ ap (λ (c : Bool). if c then phases.Rest else q) (sym other)
+
+pub after_place : (n : ℕ) (step : Step) (x : Side) → Place n step x → GoesOn n step x
+after_place n steps.Features x at = plan_next n x 0 plans.New at.0.place at.1 (omega (arith, length_new n))
+after_place n (steps.Free i) x at = plan_next n x (i + 1) plans.New at.0.place at.1.0 (omega (arith, length_new n, at.1.1))
+after_place n steps.Open x at = plan_next n x (n + 1) plans.New at.0.place at.1 (omega (arith, length_new n))
+after_place n (steps.Settle i) x at = plan_next n x i (plans.Settles at.1.0) at.0.place at.1.1.0 (omega (arith, length_settles n at.1.0, at.1.1.1))
+after_place n steps.SettleEnd x at = plan_next n x at.0 (plans.Settles at.0) at.1.0.place at.1.1 (omega (arith, length_settles n at.0))
+after_place n steps.Bell x (rings, inl at) =
+    let one : bells x.bell ≡ 1 = ap bells rings in
+    other_is x.started (after_step (course_in n x) x.phase) (at_step x.phase (done_of x.phase + 1)) at.not_started (start_next n x (length (plan_steps n x.plan)) at.place (omega (arith, one)))
+after_place n steps.Bell x (rings, inr at) =
+    let one : bells x.bell ≡ 1 = ap bells rings in
+    let done : ℕ = 4 * length x.batch + 1 + (length x.batch + 1) in
+    last_is x.started (after_step (course_in n x) x.phase) (at_step x.phase (done_of x.phase + 1)) at.started (publish_ends n x done at.place (omega (arith, one)))
+after_place n steps.Start x at = start_ends n x at.place
+after_place n steps.Count x at = count_after n x at.place ∙ sym (ap (λ (p : Phase). at_step p (done_of p + 1)) at.place)
+after_place n steps.Accept x at = accept_after n x at.place
+after_place n (steps.Id e) x at = publish_next n x (4 * e) at.0.place (omega (arith, at.1))
+after_place n (steps.Len e) x at = publish_next n x (4 * e + 1) at.0.place (omega (arith, at.1))
+after_place n (steps.Link e) x at = publish_next n x (4 * e + 2) at.0.place (omega (arith, at.1))
+after_place n (steps.Head e) x at = publish_next n x (4 * e + 3) at.0.place (omega (arith, at.1))
+after_place n steps.Index x at = publish_next n x (4 * length x.batch) at.place (omega arith)
+after_place n (steps.Clear e) x at = publish_next n x (4 * length x.batch + 1 + e) at.0.place (omega (arith, at.1))
+after_place n steps.Note x at = note_next n x (4 * length x.batch + 1 + length x.batch) x.bell refl at.place (omega arith)
+  where
+    note_next : (n : ℕ) (x : Side) (done : ℕ) (bell : Bool) → x.bell ≡ bell → x.phase ≡ phases.Publish done → done + 1 ≡ 5 * length x.batch + 2 → GoesOn n steps.Note x
+    note_next n x done true rings here last =
+        let one : bells x.bell ≡ 1 = ap bells rings in
+        other_is (not x.bell) (after_step (course_in n x) x.phase) (at_step x.phase (done_of x.phase + 1)) (ap not rings) (publish_next n x done here (omega (arith, one, last)))
+    note_next n x done false silent here last =
+        let none : bells x.bell ≡ 0 = ap bells silent in
+        last_is (not x.bell) (after_step (course_in n x) x.phase) (at_step x.phase (done_of x.phase + 1)) (ap not silent) (publish_ends n x done here (omega (arith, none, last)))
 
 -- ---- a step is left
 
