@@ -71,6 +71,22 @@ phase_at q h s l x = go l.phase x.worked.between x.queue.words x.queue.start
     go (phases.Start done) between f start = (none l.batch f.batch, start.left)
     go (phases.Fetch done) between f start = (none l.batch f.batch.none, between)
 
+-- a batch has no more requests than the queue has places
+pub batch_small : (q : ℕ) (h : Header1) (s : Scene) (l : Lane) → Holds q h s l → length l.batch ≤ h.size
+batch_small q h s l x = go l.phase x.queue.words
+  where
+    long : length (map (element_of h q s) l.batch) ≡ length l.batch
+    long = length-map l.batch (element_of h q s)
+
+    none : map (element_of h q s) l.batch ≡ [] → length l.batch ≤ h.size
+    none e = omega (arith, long, ap (λ (xs : List (ℕ × ℕ)). length xs) e)
+
+    go : (p : Phase) → WordsAt q h s l.bell l.plan l.counter l.batch p → length l.batch ≤ h.size
+    go phases.Rest f = none f.batch
+    go (phases.Start done) f = none f.batch
+    go (phases.Fetch done) f = none f.batch.none
+    go (phases.Publish done) f = omega (arith, f.batch.0.few, long)
+
 -- ---- another history
 
 facts_are : (n base : ℕ) (hs hs' : List ℕ) (x x' : Side) (w : Words) → hs ≡ hs' → x ≡ x' → Facts n hs base x w → Facts n hs' base x' w

@@ -1,10 +1,14 @@
 -- The batch and the counter of a lane, and what of the batch is hidden.
-use Rattle.std.proofs.Common.{◌≡◌, ◌≤◌, ◌<◌, ℕ, ◌+◌, ◌*◌, Bool, true, false, List, [], ◌∷◌, ◌++◌, length, ap, sym, ◌∙◌, subst, inl, inr, arith}
+use Rattle.std.proofs.Common.{◌≡◌, ◌≤◌, ◌<◌, ℕ, ◌+◌, ◌*◌, Bool, true, false, List, [], ◌∷◌, ◌++◌, length, refl, ap, sym, ◌∙◌, subst, inl, inr, arith}
 use Rattle.std.specs.Prelude.{◌||◌}
 use Rattle.std.proofs.lemmas.Bool.Decides.{nat_tests}
 use Rattle.std.proofs.lemmas.Bool.{cases_Bool, cases_lt, or_right}
 use Rattle.vub_steps.specs.declared.steps.Phase.{Phase}
 use Rattle.vub_steps.specs.declared.steps.Phase.TheVariants as phases
+use Rattle.vub_steps.specs.declared.steps.Step.{Step}
+use Rattle.vub_steps.specs.declared.steps.Step.TheVariants as steps
+use Rattle.vub_run.specs.Moments.{Lane}
+use Rattle.vub_run.specs.Turns.{counted}
 use Rattle.vub_device.specs.declared.entry.Entry.{Entry}
 use Rattle.vub_device.specs.Past.{accepted, published, is_among, IsOpen, started}
 use Rattle.vub_device.proofs.Numbers.{is_among_append}
@@ -98,3 +102,24 @@ carries_phase q past counter counter' phase phase' completed low c = record {
   low = low;
   idle = c.idle;
 }
+
+-- ---- a step
+
+-- it changes no more of a lane than its counter, beside the phase and the batch
+pub counted_is : (next : ℕ) (step : Step) (l : Lane) → counted next step l ≡ record l { counter = (counted next step l).counter }
+counted_is next steps.Features l = refl
+counted_is next (steps.Free i) l = refl
+counted_is next steps.Open l = refl
+counted_is next (steps.Settle i) l = refl
+counted_is next steps.SettleEnd l = refl
+counted_is next steps.Bell l = refl
+counted_is next steps.Start l = refl
+counted_is next steps.Count l = refl
+counted_is next steps.Accept l = refl
+counted_is next (steps.Id e) l = refl
+counted_is next (steps.Len e) l = refl
+counted_is next (steps.Link e) l = refl
+counted_is next (steps.Head e) l = refl
+counted_is next steps.Index l = refl
+counted_is next (steps.Clear e) l = refl
+counted_is next steps.Note l = refl

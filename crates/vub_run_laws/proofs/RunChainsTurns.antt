@@ -13,7 +13,9 @@ use Rattle.vub_steps.specs.declared.steps.Step.TheVariants as steps
 use Rattle.vub_steps.specs.declared.readiness.Turn.{Turn}
 use Rattle.vub_steps.specs.declared.readiness.Turn.TheVariants as turns
 use Rattle.vub_ring.specs.Ring.{used_id_place, used_len_place, used_idx_place, used_idx}
-use Rattle.vub_steps.specs.Rows.{row}
+use Rattle.std.specs.Option.{option_or}
+use Rattle.vub_steps.specs.Rows.{row, region_row}
+use Rattle.vub_infl_split.specs.declared.region.SplitStore.{SplitStore}
 use Rattle.vub_steps.specs.Steps.{next_step}
 use Rattle.vub_driver.specs.Layout.{status_place, sectors_place}
 use Rattle.vub_driver.specs.Drivers.{Driver, Waiting}
@@ -26,13 +28,14 @@ use Rattle.vub_device.specs.declared.entry.Entry.{Entry}
 use Rattle.vub_device.specs.declared.entry.Entry.TheVariants as entries
 use Rattle.vub_device.specs.Past.{asked, accepted, published, collected, is_among, IsOpen, open_numbers, bytes_read, numbers}
 use Rattle.vub_run.specs.Memory.{Scene, after_items}
-use Rattle.vub_run.specs.Moments.{Lane, Moment, unfinished, used_in}
+use Rattle.vub_run.specs.Moments.{Lane, Moment, unfinished, used_in, region_in, next_head}
 use Rattle.vub_device.specs.declared.entry.SectorValue.{SectorValue}
 use Rattle.vub_device.specs.Crash.{value}
 use Rattle.vub_device.specs.Requests.{look_at, effect_at}
 use Rattle.vub_steps.specs.Tasks.{RequestStep, Look, Put, Act, Sync, Status, task_steps, disk_steps, look_steps, act_steps, status_of}
 use Rattle.vub_run.specs.TaskItems.{look_items, act_items}
-use Rattle.vub_run.specs.Turns.{course_of, turned, work_turn, request_turn, task_turn, phase_turn, phase_goes_on, under_way, begun, is_rest, step_items, row_items, element_of, answer_at, sight_of}
+use Rattle.vub_run.specs.Turns.{course_of, turned, work_turn, request_turn, task_turn, phase_turn, phase_goes_on, under_way, begun, is_rest, step_items, row_items, element_of, answer_at, sight_of, next_counter_in}
+use Rattle.vub_run_laws.proofs.RunCarries.{counted_is}
 use Rattle.vub_run_laws.proofs.RunOwn.{published_own}
 use Rattle.vub_run_laws.proofs.RunNumbers.{among_filter, missing-among}
 use Rattle.vub_facts.proofs.HeadLemmas.{among_get}
@@ -151,6 +154,14 @@ publish_gentle q n s list shown = record {
   made = λ head sts unused serve stand. stand;
 }
 
+-- a store into the in-flight region
+region_gentle : (q : ℕ) (h : Header1) (s : Scene) (y : SplitStore) → IsGentle q h.size s (after_items h (row_items (Some (region_row (the_region q h.size) y))) s)
+region_gentle q h s y = note_gentle q h.size s (store_of (the_region q h.size) y)
+
+note_element_gentle : (q : ℕ) (h : Header1) (s : Scene) (f : ℕ × ℕ → SplitStore) (o : Option (ℕ × ℕ)) → IsGentle q h.size s (after_items h ((row_items (option_map (region_row (the_region q h.size)) (option_map f o)) ++ []) ++ []) s)
+note_element_gentle q h s f None = gentle_none q h.size s
+note_element_gentle q h s f (Some x) = region_gentle q h s (f x)
+
 step_gentle : (q : ℕ) (h : Header1) (s : Scene) (l l' : Lane) (step : Step) → IsGood h → Holds q h s l → IsGentle q h.size s (after_items h (step_items h q l' step s) s)
 step_gentle q h s l l' steps.Features good x = note_gentle q h.size s (store_of (the_region q h.size) region.SI1)
 step_gentle q h s l l' (steps.Free i) good x = note_gentle q h.size s (store_of (the_region q h.size) (region.SI2 i))
@@ -159,13 +170,16 @@ step_gentle q h s l l' (steps.Settle i) good x = note_gentle q h.size s (store_o
 step_gentle q h s l l' steps.SettleEnd good x = note_gentle q h.size s (store_of (the_region q h.size) (region.SR2 (used_in h q s)))
 step_gentle q h s l l' steps.Bell good x = gentle_none q h.size s
 step_gentle q h s l l' steps.Start good x = record { heads = refl; same = λ k. refl; out = λ k o. record { below = o.below; kept = o.kept }; chain = λ k body status r out fb fs is c. c; made = λ head sts unused serve stand. stand }
-step_gentle q h s l l' steps.Accept good x = record { heads = refl; same = λ k. refl; out = λ k o. record { below = o.below; kept = o.kept }; chain = λ k body status r out fb fs is c. c; made = λ head sts unused serve stand. stand }
+step_gentle q h s l l' steps.Count good x = note_gentle q h.size s (store_of (the_region q h.size) (region.SF1 (next_head h q s) l'.counter))
+step_gentle q h s l l' steps.Accept good x =
+    let noted = note_gentle q h.size s (store_of (the_region q h.size) (region.SF2 (next_head h q s))) in
+    record { heads = refl; same = λ k. refl; out = λ k o. record { below = o.below; kept = o.kept }; chain = noted.chain; made = noted.made }
 step_gentle q h s l l' (steps.Id e) good x = go (slice_get (map (element_of h q s) l'.batch) e)
   where
     i : ℕ
     i = used_idx (the_ring q h.size) s.memory + e
 
-    go : (o : Option (ℕ × ℕ)) → IsGentle q h.size s (after_items h ((row_items (option_map (λ (y : ℕ × ℕ). row (the_ring q h.size) SP1 (used_id_place (the_ring q h.size) i) (little_bytes 4 y.0)) o) ++ []) ++ []) s)
+    go : (o : Option (ℕ × ℕ)) → IsGentle q h.size s (after_items h ((row_items (option_or (option_map (λ (y : ℕ × ℕ). row (the_ring q h.size) SP1 (used_id_place (the_ring q h.size) i) (little_bytes 4 y.0)) o) None) ++ []) ++ []) s)
     go None = gentle_none q h.size s
     go (Some y) = let low = entry_small h.size i good.size in ring_gentle q h s l (used_id_place (the_ring q h.size) i) (little_bytes 4 y.0) good x (omega arith) (omega (arith, length_little 4 y.0))
 step_gentle q h s l l' (steps.Len e) good x = go (slice_get (map (element_of h q s) l'.batch) e)
@@ -173,9 +187,13 @@ step_gentle q h s l l' (steps.Len e) good x = go (slice_get (map (element_of h q
     i : ℕ
     i = used_idx (the_ring q h.size) s.memory + e
 
-    go : (o : Option (ℕ × ℕ)) → IsGentle q h.size s (after_items h ((row_items (option_map (λ (y : ℕ × ℕ). row (the_ring q h.size) SP2 (used_len_place (the_ring q h.size) i) (little_bytes 4 y.1)) o) ++ []) ++ []) s)
+    go : (o : Option (ℕ × ℕ)) → IsGentle q h.size s (after_items h ((row_items (option_or (option_map (λ (y : ℕ × ℕ). row (the_ring q h.size) SP2 (used_len_place (the_ring q h.size) i) (little_bytes 4 y.1)) o) None) ++ []) ++ []) s)
     go None = gentle_none q h.size s
     go (Some y) = let low = entry_small h.size i good.size in ring_gentle q h s l (used_len_place (the_ring q h.size) i) (little_bytes 4 y.1) good x (omega arith) (omega (arith, length_little 4 y.1))
+step_gentle q h s l l' (steps.Link e) good x = note_element_gentle q h s (λ y. region.SP3 y.0 (region_in h q s).last_batch_head) (slice_get (map (element_of h q s) l'.batch) e)
+step_gentle q h s l l' (steps.Head e) good x = note_element_gentle q h s (λ y. region.SP4 y.0) (slice_get (map (element_of h q s) l'.batch) e)
+step_gentle q h s l l' (steps.Clear e) good x = note_element_gentle q h s (λ y. region.SP6 y.0) (slice_get (map (element_of h q s) l'.batch) e)
+step_gentle q h s l l' steps.Note good x = note_gentle q h.size s (store_of (the_region q h.size) (region.SP7 (used_in h q s)))
 step_gentle q h s l l' steps.Index good x =
     let v : ℕ = (used_idx (the_ring q h.size) s.memory + length (map (element_of h q s) l'.batch)) % 65536 in
     let p : ℕ = used_idx_place (the_ring q h.size) in
@@ -317,7 +335,7 @@ under_driver h q s t l false = refl
 
 phase_driver : (q : ℕ) (h : Header1) (s : Scene) (l : Lane) (o : Option Step) → (phase_turn h q s l o).lane.driver ≡ l.driver
 phase_driver q h s l None = refl
-phase_driver q h s l (Some step) = refl
+phase_driver q h s l (Some step) = ap (λ (x : Lane). x.driver) (counted_is (next_counter_in h q s) step l)
 
 task_driver : (q : ℕ) (h : Header1) (s : Scene) (l : Lane) (k : ℕ) (r : Asked) (o : Option RequestStep) → (task_turn h q s l k r o).lane.driver ≡ l.driver
 task_driver q h s l k r None = refl

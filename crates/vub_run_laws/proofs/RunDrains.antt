@@ -6,6 +6,7 @@ use Rattle.std.proofs.lemmas.Bool.{cases_Bool, cases_lt}
 use Rattle.std.proofs.lemmas.List.{nil_from_length}
 use Rattle.vub_base.specs.declared.header.Header1.{Header1}
 use Rattle.vub_steps.specs.declared.steps.Step.{Step}
+use Rattle.vub_steps.specs.declared.steps.Phase.{Phase}
 use Rattle.vub_steps.specs.declared.steps.Phase.TheVariants as phases
 use Rattle.vub_steps.specs.declared.readiness.Standing.{Standing}
 use Rattle.vub_steps.specs.declared.readiness.Turn.{Turn}
@@ -17,23 +18,24 @@ use Rattle.vub_device.specs.declared.entry.Asked.{Asked}
 use Rattle.vub_device.specs.Past.{offers, asked, accepted, collected, is_among, open_numbers, started}
 use Rattle.vub_report.specs.declared.items.Item.{Item}
 use Rattle.vub_run.specs.Memory.{Scene}
-use Rattle.vub_run.specs.Moments.{Lane, Moment, standing, unfinished}
+use Rattle.vub_run.specs.Moments.{Lane, Moment, standing, unfinished, last_counter}
 use Rattle.vub_run.specs.Run.{Played, played, one_turn, is_due, then_played, turns as many_turns, drain_choice, IsDrained, Drains}
 use Rattle.vub_steps.specs.Tasks.{RequestStep, Look, Put, Act, Sync, Status, task_steps}
-use Rattle.vub_run.specs.Turns.{course_of, is_rest, turned, phase_turn, phase_goes_on, under_way, begun, work_turn, request_turn, task_turn}
+use Rattle.vub_run.specs.Turns.{course_of, is_rest, turned, phase_turn, phase_goes_on, under_way, begun, work_turn, request_turn, task_turn, next_counter_in}
+use Rattle.vub_run_laws.proofs.RunCarries.{counted_is}
 use Rattle.vub_run_laws.proofs.RunNumbers.{filter_none}
 use Rattle.vub_run_laws.proofs.RunOwn.{at_own}
-use Rattle.vub_run_laws.proofs.RunGood.{Known}
+use Rattle.vub_run_laws.proofs.RunGood.{Known, IsLow}
 use Rattle.vub_run_laws.proofs.RunWork.{Fine}
-use Rattle.vub_run_laws.proofs.RunQueue.{queue_ahead}
-use Rattle.vub_run_laws.proofs.RunTurns.{IsPlain, Good, running_cases, turn_fine}
+use Rattle.vub_run_laws.proofs.RunQueue.{queue_ahead, fetch_more}
+use Rattle.vub_run_laws.proofs.RunTurns.{IsPlain, Good, RunningCases, AtRest, InFetch, InPublication, running_cases, turn_fine}
 use Rattle.vub_run_laws.proofs.RunEvents.{Right, turn_right, drain_right}
 
 -- ---- what turns leave
 
 phase_stays : (q : ℕ) (h : Header1) (s : Scene) (l : Lane) (o : Option Step) → (phase_turn h q s l o).lane.attached ≡ l.attached
 phase_stays q h s l None = refl
-phase_stays q h s l (Some step) = refl
+phase_stays q h s l (Some step) = ap (λ (x : Lane). x.attached) (counted_is (next_counter_in h q s) step l)
 
 begun_stays : (h : Header1) (q : ℕ) (s : Scene) (t : Turn) (l : Lane) → (begun h q s t l).attached ≡ l.attached
 begun_stays h q s turns.Start l = refl
@@ -113,22 +115,32 @@ none_left q h n plain good run rest batch works unready =
     ap (λ (xs : List ℕ). not (is_among (xs ++ l.batch) k)) completed ∙ ap (λ (xs : List ℕ). not (is_among xs k)) batch in
     nil_from_length (open_numbers n.scene.past q) (filter_none (λ k. not (is_among (l.completed ++ l.batch) k)) (open_numbers n.scene.past q) all_open idle)
 
--- a queue on which neither work nor a publication is ready is at rest, if it is started
-at_rest : (q : ℕ) (h : Header1) (n : Moment) → Good q h n → started n.scene.past q ≡ true → is_ready (standing h q n) (turns.Publish h.size) ≡ false → ((n.lanes q).phase ≡ phases.Rest) × ((n.lanes q).batch ≡ [])
-at_rest q h n good run unready =
-    let l : Lane = n.lanes q in
-    elim (running_cases q h n.scene l run good.holds) [
-      | inr shows ↦
-          let publishes : is_publication l.phase ≡ true = ap is_publication shows.1 in
-          let fetches : is_fetch l.phase ≡ false = ap is_fetch shows.1 in
-          absurd (grind (arith, nat_tests))
-      | inl rest ↦ rest
-    ]
+-- a queue in no fetch on which no publication is ready is at rest, if it is started
+at_rest : (q : ℕ) (h : Header1) (n : Moment) → Good q h n → started n.scene.past q ≡ true → ((n.lanes q).phase ≡ phases.Fetch 1 → ⊥) → is_ready (standing h q n) (turns.Publish h.size) ≡ false → ((n.lanes q).phase ≡ phases.Rest) × ((n.lanes q).batch ≡ [])
+at_rest q h n good run other unready = go (running_cases q h n.scene l run good.holds)
+  where
+    l : Lane
+    l = n.lanes q
+
+    go : RunningCases l.batch l.phase → (l.phase ≡ phases.Rest) × (l.batch ≡ [])
+    go (AtRest phase batch) = (phase, batch)
+    go (InFetch phase batch) = absurd (other phase)
+    go (InPublication done phase some) =
+        let publishes : is_publication l.phase ≡ true = ap is_publication phase in
+        let fetches : is_fetch l.phase ≡ false = ap is_fetch phase in
+        absurd (grind (arith, nat_tests))
+
+-- a counter is left at rest, where fewer requests were offered
+counter_left : (q : ℕ) (h : Header1) (n : Moment) → Good q h n → (n.lanes q).phase ≡ phases.Rest → length (n.scene.heads q) < last_counter → (standing h q n).counts ≡ true
+counter_left q h n good rest few =
+    let low : (n.lanes q).counter ≤ accepted n.scene.past q = subst (λ (p : Phase). IsLow (accepted n.scene.past q) (n.lanes q).counter p) rest good.holds.carries.low in
+    let left : (n.lanes q).counter < last_counter = omega (arith, low, good.holds.known.offered, few) in
+    grind (arith, nat_tests)
 
 -- a drain that began with so many accepted has nothing to do
-ends_drained : (q : ℕ) (h : Header1) (before : ℕ) (n : Moment) → IsPlain h → Good q h n → (n.lanes q).attached ≡ true → collected n.scene.past q ≤ before → is_due h q (drain_choice h q before n) n ≡ false
+ends_drained : (q : ℕ) (h : Header1) (before : ℕ) (n : Moment) → IsPlain h → Good q h n → length (n.scene.heads q) < last_counter → (n.lanes q).attached ≡ true → collected n.scene.past q ≤ before → is_due h q (drain_choice h q before n) n ≡ false
     → (open_numbers n.scene.past q ≡ []) × (accepted n.scene.past q ≡ offers n.scene.past q)
-ends_drained q h before n plain good attached low ends =
+ends_drained q h before n plain good counts attached low ends =
     let l : Lane = n.lanes q in
     let st : Standing = standing h q n in
     let a : ℕ = accepted n.scene.past q - before in
@@ -140,8 +152,13 @@ ends_drained q h before n plain good attached low ends =
           let fetches : nat_lt a h.size ≡ true = grind (arith, nat_tests) in
           let none : NoneReady h.size st = any_unready h.size st (subst (λ (b : Bool). is_ready st (if b then any_turn h.size st else draining_turn h.size st) ≡ false) fetches unready) in
           let run : started n.scene.past q ≡ true = grind (arith, nat_tests, none.start) in
-          let rest = at_rest q h n good run none.publish in
+          let other : l.phase ≡ phases.Fetch 1 → ⊥ = λ phase.
+          let fetching : is_fetch l.phase ≡ true = ap is_fetch phase in
+          let publishes : is_publication l.phase ≡ false = ap is_publication phase in
+          grind (arith, nat_tests, none.fetch) in
+          let rest = at_rest q h n good run other none.publish in
           let publishes : is_publication l.phase ≡ false = ap is_publication rest.0 in
+          let left : st.counts ≡ true = counter_left q h n good rest.0 counts in
           let nothing_waits : st.waiting ≡ 0 = elim (cases_lt 0 st.waiting) [
             | inl more ↦ absurd (grind (arith, nat_tests, none.fetch))
             | inr zero_waits ↦ omega arith
@@ -153,22 +170,23 @@ ends_drained q h before n plain good attached low ends =
           elim (cases_Bool (started n.scene.past q)) [
             | inr stopped ↦ absurd (let none : accepted n.scene.past q ≡ 0 = good.idle stopped in omega arith)
             | inl run ↦
-                let rest = at_rest q h n good run none.publish in
+                let other : l.phase ≡ phases.Fetch 1 → ⊥ = λ phase. omega (arith, fetch_more q h n.scene l plain.good.size phase good.holds, known.room) in
+                let rest = at_rest q h n good run other none.publish in
                 (none_left q h n plain good run rest.0 rest.1 none.work none.publish, omega (arith, known.offers_are, known.offered, known.room))
           ]
     ]
 
 -- after a drain of an attached queue nothing is open, and every offer is accepted
-pub drained : (q : ℕ) (h : Header1) (m : Moment) (is : List Item) (next : Moment) → IsPlain h → Good q h m → (m.lanes q).attached ≡ true → Drains h q m (drain_choice h q (accepted m.scene.past q)) is next
+pub drained : (q : ℕ) (h : Header1) (m : Moment) (is : List Item) (next : Moment) → IsPlain h → Good q h m → length (next.scene.heads q) < last_counter → (m.lanes q).attached ≡ true → Drains h q m (drain_choice h q (accepted m.scene.past q)) is next
     → (open_numbers next.scene.past q ≡ []) × (accepted next.scene.past q ≡ offers next.scene.past q)
-drained q h m is next plain good attached (inl none) =
+drained q h m is next plain good counts attached (inl none) =
     let same : next ≡ m = ap (λ (p : Played). p.next) none.1 in
     let known : Known q h.size h.capacity m.scene.past (m.scene.heads q) = good.holds.known in
     let low : collected m.scene.past q ≤ accepted m.scene.past q = omega (arith, known.shown, known.fewer) in
-    subst (λ (n : Moment). (open_numbers n.scene.past q ≡ []) × (accepted n.scene.past q ≡ offers n.scene.past q)) (sym same) (ends_drained q h (accepted m.scene.past q) m plain good attached low none.0)
-drained q h m is next plain good attached (inr some) =
+    subst (λ (n : Moment). (open_numbers n.scene.past q ≡ []) × (accepted n.scene.past q ≡ offers n.scene.past q)) (sym same) (ends_drained q h (accepted m.scene.past q) m plain good (subst (λ (n : Moment). length (n.scene.heads q) < last_counter) same counts) attached low none.0)
+drained q h m is next plain good counts attached (inr some) =
     let d : IsDrained h q m (drain_choice h q (accepted m.scene.past q)) is next = some.1 in
     let known : Known q h.size h.capacity m.scene.past (m.scene.heads q) = good.holds.known in
     let right : Right q h m is next = drain_right q h m (drain_choice h q (accepted m.scene.past q)) is next plain good (inr some) in
     let stays : Stays q m next = subst (λ (n : Moment). Stays q m n) (sym (ap (λ (p : Played). p.next) d.made)) (turns_stay q d.count (drain_choice h q (accepted m.scene.past q)) h m plain good) in
-    ends_drained q h (accepted m.scene.past q) next plain right.good (stays.0 ∙ attached) (omega (arith, stays.1, known.shown, known.fewer)) d.ends
+    ends_drained q h (accepted m.scene.past q) next plain right.good counts (stays.0 ∙ attached) (omega (arith, stays.1, known.shown, known.fewer)) d.ends

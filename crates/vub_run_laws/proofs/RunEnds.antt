@@ -20,11 +20,12 @@ use Rattle.vub_run.specs.Moments.{Lane, Moment, standing}
 use Rattle.vub_run.specs.Turns.{turned}
 use Rattle.vub_run.specs.Run.{Played, played, one_turn, is_due, then_played, turns}
 use Rattle.vub_run_laws.proofs.RunNumbers.{missing-among, distinct_join}
+pub use Rattle.vub_run_laws.proofs.RunNumbers.{missing_distinct}
 use Rattle.vub_facts.proofs.HeadLemmas.{distinct_push, few_below}
 use Rattle.vub_run_laws.proofs.RunOwn.{at_own}
-use Rattle.vub_run_laws.proofs.RunGood.{Known, StartIs, Worked}
+use Rattle.vub_run_laws.proofs.RunGood.{Known, StartIs, hidden, Worked}
 use Rattle.vub_run_laws.proofs.RunEfforts.{weight, sum_below, phase_left, steps_left, effort, start_short, weight_small}
-use Rattle.vub_run_laws.proofs.RunQueue.{queue_start}
+use Rattle.vub_run_laws.proofs.RunQueue.{queue_start, queue_batch}
 use Rattle.vub_run_laws.proofs.RunTurns.{IsPlain, Good, turn_fine}
 
 -- what is left to do at a moment
@@ -79,7 +80,7 @@ done_few q n cap past heads phase batch completed made known w =
     ]) in
     omega (arith, few, length-append ps ds, length-append completed batch)
 
-pub phase_few : (batch : List ℕ) (phase : Phase) → phase_left batch phase ≤ 2 * length batch + 1
+pub phase_few : (batch : List ℕ) (phase : Phase) → phase_left batch phase ≤ 5 * length batch + 5
 phase_few batch phases.Rest = omega arith
 phase_few batch (phases.Start done) = omega arith
 phase_few batch (phases.Fetch done) = omega arith
@@ -94,7 +95,7 @@ start_few false n bell plan (phases.Fetch done) is = omega arith
 start_few false n bell plan (phases.Publish done) is = omega arith
 
 -- there is never much to do
-pub effort_small : (q : ℕ) (h : Header1) (m : Moment) → IsPlain h → Good q h m → effort_at q h m ≤ 2000
+pub effort_small : (q : ℕ) (h : Header1) (m : Moment) → IsPlain h → Good q h m → effort_at q h m ≤ 2505
 effort_small q h m plain good =
     let s : Scene = m.scene in
     let l : Lane = m.lanes q in
@@ -107,8 +108,9 @@ effort_small q h m plain good =
     let dones = done_few q h.size h.capacity s.past (s.heads q) l.phase (hidden l.batch l.phase) l.completed l.made known good.holds.worked in
     let sum = sum_few (published s.past q) (l.completed ++ hidden l.batch l.phase) l.made (accepted s.past q) in
     let stores = phase_few l.batch l.phase in
+    let many : length l.batch ≤ h.size = queue_batch q h s l good.holds in
     let begins = start_few (started s.past q) h.size l.bell l.plan l.phase (queue_start q h s l good.holds) in
-    omega (arith, opens, dones, sum, stores, begins)
+    omega (arith, opens, dones, sum, stores, many, begins)
 
 -- ---- one more turn at the end
 

@@ -169,17 +169,22 @@ row_makes None = tt
 row_makes (Some x) = tt
 
 bell_makes : (q : ℕ) (step : Step) → Makes (bell_items q step)
-bell_makes q steps.Bell = tt
 bell_makes q steps.Features = tt
 bell_makes q (steps.Free i) = tt
 bell_makes q steps.Open = tt
 bell_makes q (steps.Settle i) = tt
 bell_makes q steps.SettleEnd = tt
+bell_makes q steps.Bell = tt
 bell_makes q steps.Start = tt
+bell_makes q steps.Count = tt
 bell_makes q steps.Accept = tt
 bell_makes q (steps.Id e) = tt
 bell_makes q (steps.Len e) = tt
+bell_makes q (steps.Link e) = tt
+bell_makes q (steps.Head e) = tt
 bell_makes q steps.Index = tt
+bell_makes q (steps.Clear e) = tt
+bell_makes q steps.Note = tt
 
 step_makes : (q : ℕ) (batch : List ℕ) (step : Step) (s : Scene) → Makes (entry_items q batch step s)
 step_makes q batch steps.Features s = tt
@@ -189,10 +194,15 @@ step_makes q batch (steps.Settle i) s = tt
 step_makes q batch steps.SettleEnd s = tt
 step_makes q batch steps.Bell s = tt
 step_makes q batch steps.Start s = (tt, tt)
+step_makes q batch steps.Count s = tt
 step_makes q batch steps.Accept s = (tt, tt)
 step_makes q batch (steps.Id e) s = tt
 step_makes q batch (steps.Len e) s = tt
+step_makes q batch (steps.Link e) s = tt
+step_makes q batch (steps.Head e) s = tt
 step_makes q batch steps.Index s = (tt, tt)
+step_makes q batch (steps.Clear e) s = tt
+step_makes q batch steps.Note s = tt
 
 phase_makes : (q : ℕ) (h : Header1) (s : Scene) (l : Lane) (o : Option Step) → Makes (phase_turn h q s l o).items
 phase_makes q h s l None = tt

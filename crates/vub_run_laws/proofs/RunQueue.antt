@@ -19,7 +19,7 @@ use Rattle.vub_run.specs.Moments.{Moment, Lane, opening_lane, used_in, region_in
 use Rattle.vub_steps.specs.Plans.{plan_of}
 use Rattle.vub_run_laws.proofs.RingStarts.{start_facts, next_start}
 use Rattle.vub_run.specs.Tracking.{Tracks}
-use Rattle.vub_run_laws.proofs.RingGood.{the_ring, QueueFacts, IsWaiting, WaitsWell, EntryWell, EntryStands, LastStands}
+use Rattle.vub_run_laws.proofs.RingGood.{the_ring, WordsAt, QueueFacts, IsWaiting, WaitsWell, EntryWell, EntryStands, LastStands}
 use Rattle.vub_run_laws.proofs.RunGood.{IsSize, Known, StartIs, IsOut, LeavesQueue, IsGood, IsPlainAsk}
 use Rattle.vub_run_laws.proofs.RingFrames.{OffRings}
 use Rattle.vub_run_laws.proofs.RingHeads.{left_shows}
@@ -32,6 +32,8 @@ use Rattle.vub_run_laws.proofs.RingTracks.{tracks, some_waits}
 use Rattle.vub_run_laws.proofs.RingStores.{stores_before, stores_last, some_left}
 use Rattle.vub_run_laws.proofs.RingFacts.{words_same, words_attached, start_attached, words_rests, words_fetch, words_begin, batch_begins_at, facts_entry, facts_elsewhere}
 pub use Rattle.vub_run_laws.proofs.RingFacts.{phase_at}
+use Rattle.vub_run_laws.proofs.RingFacts.{batch_small}
+use Rattle.vub_run_laws.proofs.RingPositions.{fetch_waits}
 use Rattle.vub_base.specs.declared.request.Ask.{Ask}
 use Rattle.vub_base.specs.declared.request.Shape.TheVariants.{Direct}
 use Rattle.vub_run_laws.proofs.RunTaken.{IsTaken}
@@ -116,7 +118,15 @@ fetch_runs q h s l phase x = subst (λ (p : Phase). StartIs (started s.past q) h
 pub queue_start_step : (q : ℕ) (h : Header1) (s : Scene) (l : Lane) (done : ℕ) → IsSize h.size → QueueFacts q h s l.driver l.bell l.plan l.counter [] (phases.Start done) → NextStart q h s l done (slice_get (steps_in h l) done)
 queue_start_step q h s l done size x = next_start q h s l done size x
 
+-- no batch has more requests than the queue has places
+pub queue_batch : (q : ℕ) (h : Header1) (s : Scene) (l : Lane) → Holds q h s l → length l.batch ≤ h.size
+queue_batch q h s l x = batch_small q h s l x
+
 -- ---- a fetch
+
+-- while it is under way an offer isn't accepted
+pub fetch_more : (q : ℕ) (h : Header1) (s : Scene) (l : Lane) → IsSize h.size → l.phase ≡ phases.Fetch 1 → Holds q h s l → accepted s.past q < length (s.heads q)
+fetch_more q h s l size phase x = fetch_waits q h s l.bell l.plan l.counter l.batch 1 size x.known x.queue.ringed (subst (λ (p : Phase). WordsAt q h s l.bell l.plan l.counter l.batch p) phase x.queue.words)
 
 -- it begins at the head of the next number, which is a free one
 pub queue_fetch_begins : (q : ℕ) (h : Header1) (s : Scene) (v : Driver) (bell : Bool) (plan : Plan) (counter : ℕ) → IsSize h.size → started s.past q ≡ true → Known q h.size h.capacity s.past (s.heads q) → accepted s.past q < length (s.heads q) → counter < last_counter

@@ -1,5 +1,5 @@
 -- Each drain of an attached queue in a run serves it.
-use Rattle.std.proofs.Common.{◌≡◌, ◌<◌, ℕ, Bool, true, false, not, List, [], ◌∷◌, ◌++◌, refl, ap, sym, ◌∙◌, subst, inl, inr, arith}
+use Rattle.std.proofs.Common.{◌≡◌, ◌<◌, ℕ, ◌+◌, Bool, true, false, not, List, [], ◌∷◌, ◌++◌, length, refl, ap, sym, ◌∙◌, subst, inl, inr, arith}
 use Rattle.std.specs.Prelude.{Option, Some, None, is_some, ◌&&◌}
 use Rattle.std.specs.List.{AllByRecursion}
 use Rattle.vub_base.specs.declared.header.Header1.{Header1}
@@ -14,7 +14,7 @@ use Rattle.vub_schedule.specs.Spelling.{IsHeader, IsEvent}
 use Rattle.vub_report.specs.declared.items.Item.{Item}
 use Rattle.vub_report.specs.declared.items.Record.{Record}
 use Rattle.vub_run.specs.LegalRuns.{past_of, attached_after, attached_from, IsServed, EveryDrainServes, IsLegalRun}
-use Rattle.vub_run.specs.Moments.{Lane, Moment, opening, fresh, attached}
+use Rattle.vub_run.specs.Moments.{Lane, Moment, opening, fresh, attached, last_counter}
 use Rattle.vub_run.specs.Run.{Played, played, if_ready, ask, guest, guest_stores, take_first, collect, one_turn, is_due, turns as many_turns, single, up_to, any_choice, drain_choice, Drains, Plays, RunFrom, RunTo, Stands}
 use Rattle.vub_run_laws.proofs.RunOwn.{at_own}
 use Rattle.vub_run_laws.proofs.RunEntries.{run_enters}
@@ -23,7 +23,7 @@ use Rattle.vub_run_laws.proofs.RunDrains.{turned_stays, turns_stay}
 use Rattle.vub_run_laws.proofs.Runs.{plain_header}
 use Rattle.vub_run_laws.proofs.RunQueues.{IsOn, on_one}
 use Rattle.vub_run_laws.proofs.RunsLegal.{IsHeld, opening_held, held_next}
-use Rattle.vub_run_laws.proofs.RunsTo.{run_of, stands_more, stands_past, stands_true, stands_drained}
+use Rattle.vub_run_laws.proofs.RunsTo.{run_length, run_of, stands_more, stands_past, stands_true, stands_drained}
 
 -- ---- what records say of attached queues
 
@@ -143,9 +143,9 @@ parted h m (e ∷ es) (x ∷ before) r later n fits run =
 
 -- ---- drains
 
-pub drain_serves : (q : ℕ) (h : Header1) (es : List Event) (rs : List Record) (m k : Moment) (r : Record) → q < h.queues → Stands h es rs m → Stands h (es ++ events.Drain q ∷ []) (rs ++ r ∷ []) k → is_on q m ≡ true → Plays h m (events.Drain q) r.items k → IsServed q (rs ++ r ∷ [])
-drain_serves q h es rs m k r low stands next attached plays =
-    let both = stands_drained q h es rs m k r.items low stands attached plays in
+pub drain_serves : (q : ℕ) (h : Header1) (es : List Event) (rs : List Record) (m k : Moment) (r : Record) → q < h.queues → Stands h es rs m → Stands h (es ++ events.Drain q ∷ []) (rs ++ r ∷ []) k → length es + 1 < last_counter → is_on q m ≡ true → Plays h m (events.Drain q) r.items k → IsServed q (rs ++ r ∷ [])
+drain_serves q h es rs m k r low stands next counts attached plays =
+    let both = stands_drained q h es rs m k r.items low stands counts attached plays in
     let past : k.scene.past ≡ past_of (rs ++ r ∷ []) = stands_past h (es ++ events.Drain q ∷ []) (rs ++ r ∷ []) k next in
     record {
       none_open = subst (λ (p : List Entry). open_numbers p q ≡ []) past both.0;
@@ -153,7 +153,7 @@ drain_serves q h es rs m k r low stands next attached plays =
     }
 
 stands_serves : (h : Header1) (es : List Event) (rs : List Record) (n : Moment) → Stands h es rs n → EveryDrainServes rs
-stands_serves h es rs n s before r later q parts is attached =
+stands_serves h es rs n s before r later q parts is attached counts =
     let run : RunTo h (opening h) es (before ++ r ∷ later) n = subst (λ (xs : List Record). RunTo h (opening h) es xs n) parts s.run in
     let p : PartedAt h (opening h) es before r = parted h (opening h) es before r later n s.events run in
     let stands : Stands h p.first before p.at = record { header = s.header; events = p.fits; run = p.upto } in
@@ -162,7 +162,7 @@ stands_serves h es rs n s before r later q parts is attached =
     let plays : Plays h p.at (events.Drain q) r.items p.next = subst (λ (x : Event). Plays h p.at x r.items p.next) is p.plays in
     let next : Stands h (p.first ++ events.Drain q ∷ []) (before ++ r ∷ []) p.next = stands_more h p.first before p.at p.next (events.Drain q) r stands fits is plays in
     let on : is_on q p.at ≡ true = run_attaches q h (opening h) p.first before p.at s.header low (opening_held h s.header) p.fits p.upto ∙ attached in
-    drain_serves q h p.first before p.at p.next r low stands next on plays
+    drain_serves q h p.first before p.at p.next r low stands next (omega (arith, counts, run_length h (opening h) p.first before p.at p.upto)) on plays
 
 -- ---- all that is true of a run
 

@@ -1,5 +1,5 @@
 -- Runs with the moment to which they lead.
-use Rattle.std.proofs.Common.{◌≡◌, ◌<◌, ℕ, true, List, [], ◌∷◌, ◌++◌, refl, ap, sym, ◌∙◌, subst}
+use Rattle.std.proofs.Common.{◌≡◌, ◌≤◌, ◌<◌, ℕ, ◌+◌, true, List, [], ◌∷◌, ◌++◌, length, refl, ap, sym, ◌∙◌, subst, arith}
 use Rattle.std.specs.List.{AllByRecursion}
 use Rattle.vub_base.specs.declared.header.Header1.{Header1}
 use Rattle.vub_steps.specs.declared.readiness.Turn.{Turn}
@@ -12,7 +12,8 @@ use Rattle.vub_schedule.specs.Spelling.{IsEvent, IsHeader}
 use Rattle.vub_report.specs.declared.items.Item.{Item}
 use Rattle.vub_report.specs.declared.items.Record.{Record}
 use Rattle.vub_run.specs.LegalRuns.{past_of}
-use Rattle.vub_run.specs.Moments.{Moment, opening}
+use Rattle.vub_run.specs.Moments.{Moment, opening, last_counter}
+use Rattle.vub_run_laws.proofs.RunEntries.{event_offers, run_offers}
 use Rattle.vub_run.specs.Run.{turns, Plays, RunFrom, RunTo, Stands}
 use Rattle.vub_run.specs.Tracking.{TracksFrom}
 use Rattle.vub_report.specs.Histories.{entries_of, history_of}
@@ -94,7 +95,21 @@ stands_past h es rs n s = run_past h (opening h) es rs n s.header (opening_held 
 pub stands_true : (h : Header1) (es : List Event) (rs : List Record) (n : Moment) → Stands h es rs n → LegalFrom h.capacity h.mode [] (history_of rs) × TracksFrom h (opening h).scene rs
 stands_true h es rs n s = run_from h (opening h) es rs s.header (opening_held h s.header) s.events (run_of h (opening h) es rs n s.run)
 
--- after a drain on an attached queue nothing is open, and every offer is accepted
-pub stands_drained : (q : ℕ) (h : Header1) (es : List Event) (rs : List Record) (n k : Moment) (is : List Item) → q < h.queues → Stands h es rs n → (n.lanes q).attached ≡ true → Plays h n (events.Drain q) is k
+-- as many records as events
+pub run_length : (h : Header1) (m : Moment) (es : List Event) (rs : List Record) (n : Moment) → RunTo h m es rs n → length es ≡ length rs
+run_length h m [] [] n run = refl
+run_length h m [] (r ∷ rs) n run = absurd run
+run_length h m (e ∷ es) [] n run = absurd run
+run_length h m (e ∷ es) (r ∷ rs) n run = omega (arith, run_length h run.1.0 es rs n run.1.2)
+
+-- each event offers one request at most
+pub stands_offers : (q : ℕ) (h : Header1) (es : List Event) (rs : List Record) (n : Moment) → q < h.queues → Stands h es rs n → length (n.scene.heads q) ≤ length es
+stands_offers q h es rs n low s = omega (arith, run_offers q h (opening h) es rs n s.header low (opening_held h s.header) s.events s.run)
+
+-- after a drain on an attached queue nothing is open, and every offer is accepted, where fewer events came before than there are counters
+pub stands_drained : (q : ℕ) (h : Header1) (es : List Event) (rs : List Record) (n k : Moment) (is : List Item) → q < h.queues → Stands h es rs n → length es + 1 < last_counter → (n.lanes q).attached ≡ true → Plays h n (events.Drain q) is k
     → (open_numbers k.scene.past q ≡ []) × (accepted k.scene.past q ≡ offers k.scene.past q)
-stands_drained q h es rs n k is low s attached plays = drained q h n is k (plain_header h s.header) (stands_good q h es rs n low s) attached plays
+stands_drained q h es rs n k is low s counts attached plays =
+    let fits : IsEvent h (events.Drain q) = omega (arith, low, s.header.one) in
+    let few : length (k.scene.heads q) ≤ length (n.scene.heads q) + 1 = event_offers q h n (events.Drain q) is k s.header low (stands_held h es rs n s) fits plays in
+    drained q h n is k (plain_header h s.header) (stands_good q h es rs n low s) (omega (arith, few, counts, stands_offers q h es rs n low s)) attached plays

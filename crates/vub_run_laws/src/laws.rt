@@ -1,5 +1,5 @@
 //! Laws of all runs.
-ghost use Rattle.std.specs.Prelude.{◌≡◌, ◌<◌, ℕ, true, false, List, [], length, get_or, slice_index};
+ghost use Rattle.std.specs.Prelude.{◌≡◌, ◌<◌, ℕ, ◌+◌, true, false, List, [], length, get_or, slice_index};
 ghost use Rattle.std.specs.List.{AllByRecursion};
 ghost use Rattle.vub_base.specs.declared.header.Header1.{Header1};
 ghost use Rattle.vub_driver.specs.Layout.{ring_of};
@@ -13,7 +13,7 @@ ghost use Rattle.vub_report.specs.declared.items.Item.{Item};
 ghost use Rattle.vub_report.specs.declared.items.Record.{Record};
 ghost use Rattle.vub_split.specs.declared.split.SplitRing.{SplitRing};
 ghost use Rattle.vub_direct_chain.specs.ChainState.{IsRingOf, Meant};
-ghost use Rattle.vub_run.specs.Moments.{Moment};
+ghost use Rattle.vub_run.specs.Moments.{Moment, last_counter};
 ghost use Rattle.vub_run.specs.Run.{Run, Stands, Plays};
 ghost use Rattle.vub_run.specs.Tracking.{TracksAlways};
 ghost use Rattle.vub_report.specs.Entries.{IsEntry};
@@ -56,8 +56,9 @@ pub fn every_outstanding_chain_stands()
         → get_or (m.scene.descriptors q) k [] ≡ chain_in (ring_of q h.size) m.scene.memory (slice_index (m.scene.heads q) k) }
 {}
 
-/// In every run of a schedule a drain of an attached queue serves it: after its record no request of
-/// the queue is open, and every offer is accepted. The records tell whether it is attached.
+/// In every run of a schedule a drain of an attached queue serves it, where fewer events came before
+/// than there are counters: after its record no request of the queue is open, and every offer is
+/// accepted. The records tell whether it is attached.
 pub fn every_drain_serves()
     ensures { (s : Schedule) (records : List Record) → IsSchedule s → Run s records → EveryDrainServes records }
 {}
@@ -67,11 +68,12 @@ pub fn every_schedule_runs()
     ensures { (s : Schedule) → IsSchedule s → (records : List Record) × Run s records }
 {}
 
-/// After a drain of an attached queue no request is open, and every offer is accepted.
+/// After a drain of an attached queue no request is open, and every offer is accepted, where fewer
+/// events came before than there are counters.
 pub fn every_drain_ends()
-    ensures published { (h : Header1) (es : List Event) (rs : List Record) (m next : Moment) (items : List Item) (q : ℕ) → q < h.queues → Stands h es rs m → (m.lanes q).attached ≡ true
+    ensures published { (h : Header1) (es : List Event) (rs : List Record) (m next : Moment) (items : List Item) (q : ℕ) → q < h.queues → Stands h es rs m → length es + 1 < last_counter → (m.lanes q).attached ≡ true
         → Plays h m (Event.Drain q) items next → open_numbers next.scene.past q ≡ [] }
-    ensures accepted { (h : Header1) (es : List Event) (rs : List Record) (m next : Moment) (items : List Item) (q : ℕ) → q < h.queues → Stands h es rs m → (m.lanes q).attached ≡ true
+    ensures accepted { (h : Header1) (es : List Event) (rs : List Record) (m next : Moment) (items : List Item) (q : ℕ) → q < h.queues → Stands h es rs m → length es + 1 < last_counter → (m.lanes q).attached ≡ true
         → Plays h m (Event.Drain q) items next → accepted next.scene.past q ≡ offers next.scene.past q }
 {}
 
