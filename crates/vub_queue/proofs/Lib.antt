@@ -1,5 +1,6 @@
 pub mod QueueLemmas
 pub mod LyingLemmas
+pub mod MoveLemmas
 pub mod StableLemmas
 pub mod StartLemmas
 pub mod TaskLemmas

@@ -1,56 +1,32 @@
-use Rattle.std.proofs.Common.{◌≡◌, ◌+◌, ◌%◌, refl, ap, sym, ◌∙◌}
-use Rattle.std.specs.Prelude.{length, Some}
-use Rattle.byteorder.specs.Endian.{little_bytes}
-use Rattle.vub_base.specs.declared.store.Tag.TheVariants.{SP5}
+use Rattle.std.proofs.Common.{rules, ◌≡◌, ◌<◌, ◌≤◌, ◌+◌, ℕ, true, false, Some, length, map, take, drop, set, slice_get, vec_len, vec_capacity, IfOk, not, ◌==◌, ◌⊎◌, ◌*◌, ◌↔◌, nat_lt, IsTrue, option_map, is_some, Option, Ok, remove, ◌++◌, ◌∷◌, [], ◌-◌, ◌/◌, ◌%◌, Bool, nat_eq, List, slice_index_or, bit_and, bit_or, Fits, w8, w32, w64, Bor, MutBor}
+use Rattle.vub_split.specs.Split.{RingLies, head_word}
+use Rattle.vub_queue.specs.QueueParts.{element, is_taken, taken_count, without_heads, heads_below, phase_fits, head_fits, shown_of}
+use Rattle.vub_inflight.specs.Entries.{next_counter}
+use Rattle.vub_steps.specs.Readiness.{is_publication, is_ready, chosen}
+use Rattle.vub_base.specs.Causes.{HasCause}
+use Rattle.vub_base.specs.Told.{WhereTold}
+use Rattle.vub_shared.specs.Frames.{OnlyLoads, KeepsSpaces}
+use Rattle.vub_task.specs.declared.task.Task.{Task}
+use Rattle.vub_task.specs.TaskState as TaskState
+use Rattle.vub_task.specs.TaskState.{Making, IfMade, IfFaulted, GainsOne, memory_outcome}
+use Rattle.vub_steps.specs.declared.readiness.Turn.{Turn}
+use Rattle.vub_steps.specs.declared.readiness.Turn.TheVariants.{Fetch, Work, Start}
+use Rattle.vub_steps.specs.Steps.{after_of, done_of}
+use Rattle.vub_shared.specs.Bytes.{Bytes}
+use Rattle.vub_base.specs.declared.store.Tag.TheVariants.{SF1}
+use Rattle.vub_infl_split.specs.Region.{RegionLies}
+use Rattle.vub_infl_split.specs.Stores.{NamesEntry}
+use Rattle.vub_steps.specs.declared.steps.Step.TheVariants as step
+use Rattle.vub_queue.specs.declared.queue.Stepped.TheVariants as stepped
+use Rattle.vub_rec_split.specs.Starts.{StartLies}
+use Rattle.vub_queue.specs.declared.queue.Stepped.TheVariants.{Idle}
+use Rattle.vub_steps.specs.declared.readiness.Choice.TheVariants.{Only}
 use Rattle.vub_steps.specs.declared.steps.Phase.TheVariants.{Rest}
-use Rattle.vub_steps.specs.declared.steps.Step.TheVariants.{Index}
-use Rattle.vub_ring.specs.Ring.{used_idx_place}
-use Rattle.vub_steps.specs.Rows.{Row, row}
-use Rattle.vub_steps.specs.Steps.{next_of}
-use Rattle.vub_queue.specs.declared.queue.Queue.{Queue}
-use Rattle.vub_queue.specs.declared.queue.Stepped.TheVariants as says
-use Rattle.vub_split.specs.Split.{used_side}
-use Rattle.vub_queue.specs.QueueState.{QueueState, state_of, steps_in, next_row, moved, with_phase}
-use Rattle.vub_queue.proofs.QueueLemmas.{index_ends, count_is, row_of_index, failed_row, failed_trail, made_row, made_trail, moves_if}
+use Rattle.vub_steps.specs.declared.steps.Step.TheVariants.{Count, Accept, Id, Len, Link, Head, Index, Clear, Note}
+use Rattle.vub_queue.specs.Queue.{ring_in}
+use Rattle.vub_queue.specs.QueueState.{QueueState, QueueLies, KeepsLying, Owes, OwesAt, state_of, IsNew, new_recovery, Ends, is_starting, is_fetching, is_publishing, StoresStart, TrailsStart, RingsAt, has_rung, may_ring, bell_outcome, said, concluded, StepsAt, IsDue, IsDueAt, IfStepped, StepsOut, WorksOut, StepsTask, WorksTask, Rests, disk_outcome, last_counter, standing_at, is_ready_at, waiting, IsFree, Finds, Fetches, fetch_row, fetch_under_way, begun, under_way, steps_in, step_in, next_row, moved, with_phase, Moves, outcome, found_outcome, MakesRow, publishes, publish_row, Publishes, is_idle, is_fault, Unless, Works, Does, DoesStore, DoesTrail, DoesDisk, StableAfter, halted, Turns}
 use Rattle.vub_queue.proofs.queue.Queue.show.Goals as goal
 
--- the row of the step
-abbrev row_here : Queue → Row
-row_here q = row (used_side q.ring) SP5 (used_idx_place (used_side q.ring)) (little_bytes 2 ((q.next_used + q.batch) % 65536))
-
-row_is : (q : Queue) → next_of (steps_in (state_of q)) q.phase ≡ Some Index → next_row (state_of q) ≡ Some (row_here q)
-row_is q next =
-    row_of_index (state_of q) next
-    ∙ ap (λ n. Some (row (used_side q.ring) SP5 (used_idx_place (used_side q.ring)) (little_bytes 2 ((q.next_used + n) % 65536)))) (count_is q)
-
-moved_is : (q : Queue) → next_of (steps_in (state_of q)) q.phase ≡ Some Index → with_phase Rest (state_of q) ≡ moved (state_of q)
-moved_is q next =
-    ap (λ p. with_phase p (state_of q)) (sym (index_ends (length (state_of q).batch) q.phase next))
-
-pub returns-in-Err-clause-moves : goal.returns-in-Err-clause-moves
-returns-in-Err-clause-moves g c =
-    let q = c.args.self.now in
-    moves_if says.SharedFault _ _ (state_of q) (state_of q) (row_is q c.requires.next) refl
-
-pub returns-in-Err-clause-makes_row : goal.returns-in-Err-clause-makes_row
-returns-in-Err-clause-makes_row g c =
-    let q = c.args.self.now in
-    record {
-      stored = failed_row _ _ _ _ (row_is q c.requires.next) c.in-Err.ensures.makes_store.stored;
-      trailed = failed_trail _ _ _ _ (row_is q c.requires.next) c.in-Err.ensures.makes_store.trailed;
-      spaces = c.in-Err.ensures.makes_store.spaces;
-    }
-
-pub returns-in-Ok-clause-moves : goal.returns-in-Ok-clause-moves
-returns-in-Ok-clause-moves g c =
-    let q = c.args.self.now in
-    moves_if says.Published _ _ (state_of q) _ (row_is q c.requires.next) (refl, c.end_batch.ensures.state ∙ moved_is q c.requires.next, ap (λ (s : QueueState). s.phase) c.end_batch.ensures.state)
-
-pub returns-in-Ok-clause-makes_row : goal.returns-in-Ok-clause-makes_row
-returns-in-Ok-clause-makes_row g c =
-    let q = c.args.self.now in
-    record {
-      stored = made_row _ _ says.Published _ _ (row_is q c.requires.next) refl c.in-Ok.ensures.makes_store.stored;
-      trailed = made_trail _ _ says.Published _ _ (row_is q c.requires.next) refl c.in-Ok.ensures.makes_store.trailed;
-      spaces = c.in-Ok.ensures.makes_store.spaces;
-    }
+-- src/queue.rt:768:5
+pub returns-in-Ok-publish_idx-clause-moves : goal.returns-in-Ok-publish_idx-clause-moves
+returns-in-Ok-publish_idx-clause-moves g c = ?

@@ -1,65 +1,36 @@
-use Rattle.std.proofs.Common.{◌≡◌, ℕ, ◌+◌, refl, ap, sym, ◌∙◌, arith}
-use Rattle.std.specs.Prelude.{length, Some, slice_get}
-use Rattle.byteorder.specs.Endian.{little_bytes}
-use Rattle.vub_base.specs.declared.store.Tag.TheVariants.{SP1}
-use Rattle.vub_steps.specs.declared.steps.Step.TheVariants.{Id}
-use Rattle.vub_ring.specs.Ring.{used_id_place}
-use Rattle.vub_steps.specs.Rows.{Row, row}
-use Rattle.vub_steps.specs.Steps.{next_of}
-use Rattle.vub_queue.specs.declared.queue.Queue.{Queue}
-use Rattle.vub_queue.specs.declared.queue.Completed.{Completed}
-use Rattle.vub_queue.specs.declared.queue.Stepped.TheVariants as says
-use Rattle.vub_queue.specs.QueueParts.{element}
-use Rattle.vub_split.specs.Split.{used_side}
-use Rattle.vub_queue.specs.QueueState.{state_of, steps_in, next_row}
-use Rattle.vub_queue.proofs.QueueLemmas.{id_within, count_fits, count_is, row_of_id, failed_row, failed_trail, made_row, made_trail, moves_if}
+use Rattle.std.proofs.Common.{rules, ◌≡◌, ◌<◌, ◌≤◌, ◌+◌, ℕ, true, false, Some, length, map, take, drop, set, slice_get, vec_len, vec_capacity, IfOk, not, ◌==◌, ◌⊎◌, ◌*◌, ◌↔◌, nat_lt, IsTrue, option_map, is_some, Option, Ok, remove, ◌++◌, ◌∷◌, [], ◌-◌, ◌/◌, ◌%◌, Bool, nat_eq, List, slice_index_or, bit_and, bit_or, Fits, w8, w32, w64, Bor, MutBor}
+use Rattle.vub_split.specs.Split.{RingLies, head_word}
+use Rattle.vub_queue.specs.QueueParts.{element, is_taken, taken_count, without_heads, heads_below, phase_fits, head_fits, shown_of}
+use Rattle.vub_inflight.specs.Entries.{next_counter}
+use Rattle.vub_steps.specs.Readiness.{is_publication, is_ready, chosen}
+use Rattle.vub_base.specs.Causes.{HasCause}
+use Rattle.vub_base.specs.Told.{WhereTold}
+use Rattle.vub_shared.specs.Frames.{OnlyLoads, KeepsSpaces}
+use Rattle.vub_task.specs.declared.task.Task.{Task}
+use Rattle.vub_task.specs.TaskState as TaskState
+use Rattle.vub_task.specs.TaskState.{Making, IfMade, IfFaulted, GainsOne, memory_outcome}
+use Rattle.vub_steps.specs.declared.readiness.Turn.{Turn}
+use Rattle.vub_steps.specs.declared.readiness.Turn.TheVariants.{Fetch, Work, Start}
+use Rattle.vub_steps.specs.Steps.{after_of, done_of}
+use Rattle.vub_shared.specs.Bytes.{Bytes}
+use Rattle.vub_base.specs.declared.store.Tag.TheVariants.{SF1}
+use Rattle.vub_infl_split.specs.Region.{RegionLies}
+use Rattle.vub_infl_split.specs.Stores.{NamesEntry}
+use Rattle.vub_steps.specs.declared.steps.Step.TheVariants as step
+use Rattle.vub_queue.specs.declared.queue.Stepped.TheVariants as stepped
+use Rattle.vub_rec_split.specs.Starts.{StartLies}
+use Rattle.vub_queue.specs.declared.queue.Stepped.TheVariants.{Idle}
+use Rattle.vub_steps.specs.declared.readiness.Choice.TheVariants.{Only}
+use Rattle.vub_steps.specs.declared.steps.Phase.TheVariants.{Rest}
+use Rattle.vub_steps.specs.declared.steps.Step.TheVariants.{Count, Accept, Id, Len, Link, Head, Index, Clear, Note}
+use Rattle.vub_queue.specs.Queue.{ring_in}
+use Rattle.vub_queue.specs.QueueState.{QueueState, QueueLies, KeepsLying, Owes, OwesAt, state_of, IsNew, new_recovery, Ends, is_starting, is_fetching, is_publishing, StoresStart, TrailsStart, RingsAt, has_rung, may_ring, bell_outcome, said, concluded, StepsAt, IsDue, IsDueAt, IfStepped, StepsOut, WorksOut, StepsTask, WorksTask, Rests, disk_outcome, last_counter, standing_at, is_ready_at, waiting, IsFree, Finds, Fetches, fetch_row, fetch_under_way, begun, under_way, steps_in, step_in, next_row, moved, with_phase, Moves, outcome, found_outcome, MakesRow, publishes, publish_row, Publishes, is_idle, is_fault, Unless, Works, Does, DoesStore, DoesTrail, DoesDisk, StableAfter, halted, Turns}
 use Rattle.vub_queue.proofs.queue.Queue.store_id.Goals as goal
 
--- the row of the step
-abbrev row_here : Queue → ℕ → ℕ → Row
-row_here q e id = row (used_side q.ring) SP1 (used_id_place (used_side q.ring) (q.next_used + e)) (little_bytes 4 id)
-
-row_is : (q : Queue) (e : ℕ) (x : Completed) (id : ℕ) → id ≡ x.head → next_of (steps_in (state_of q)) q.phase ≡ Some (Id e) → slice_get (state_of q).batch e ≡ Some (element x) → next_row (state_of q) ≡ Some (row_here q e id)
-row_is q e x id same next got =
-    row_of_id (state_of q) e (element x) next got ∙ ap (λ v. Some (row_here q e v)) (sym same)
-
+-- src/queue.rt:730:13
 pub batch_element-completed-requires : goal.batch_element-completed-requires
-batch_element-completed-requires g c =
-    let q = c.args.self.now in
-    omega (arith, (id_within (length (state_of q).batch) q.phase c.args.element c.requires.next).0, count_is q)
+batch_element-completed-requires g c = ?
 
+-- src/queue.rt:731:39
 pub overflow_cast-index : goal.overflow_cast-index
-overflow_cast-index g c =
-    let q = c.args.self.now in
-    omega (arith, (id_within (length (state_of q).batch) q.phase c.args.element c.requires.next).0, count_is q, q.batched, q.counted, count_fits q.taken.items, q.heads, q.few)
-
-pub advance-requires-clause-goes : goal.advance-requires-clause-goes
-advance-requires-clause-goes g c = (id_within (length (state_of c.args.self.now).batch) c.args.self.now.phase c.args.element c.requires.next).1
-
-pub returns-in-Err-clause-moves : goal.returns-in-Err-clause-moves
-returns-in-Err-clause-moves g c =
-    let q = c.args.self.now in
-    moves_if says.SharedFault _ _ (state_of q) (state_of q) (row_is q c.args.element c.batch_element-completed.result c.from-id.result c.from-id.ensures c.requires.next c.batch_element-completed.ensures) refl
-
-pub returns-in-Err-clause-makes_row : goal.returns-in-Err-clause-makes_row
-returns-in-Err-clause-makes_row g c =
-    let q = c.args.self.now in
-    record {
-      stored = failed_row _ _ _ _ (row_is q c.args.element c.batch_element-completed.result c.from-id.result c.from-id.ensures c.requires.next c.batch_element-completed.ensures) c.in-Err.ensures.makes_store.stored;
-      trailed = failed_trail _ _ _ _ (row_is q c.args.element c.batch_element-completed.result c.from-id.result c.from-id.ensures c.requires.next c.batch_element-completed.ensures) c.in-Err.ensures.makes_store.trailed;
-      spaces = c.in-Err.ensures.makes_store.spaces;
-    }
-
-pub returns-in-Ok-clause-moves : goal.returns-in-Ok-clause-moves
-returns-in-Ok-clause-moves g c =
-    let q = c.args.self.now in
-    moves_if (says.Stored SP1) _ _ (state_of q) _ (row_is q c.args.element c.batch_element-completed.result c.from-id.result c.from-id.ensures c.requires.next c.batch_element-completed.ensures) (refl, c.advance.ensures.state, c.advance.ensures.goes)
-
-pub returns-in-Ok-clause-makes_row : goal.returns-in-Ok-clause-makes_row
-returns-in-Ok-clause-makes_row g c =
-    let q = c.args.self.now in
-    record {
-      stored = made_row _ _ (says.Stored SP1) _ _ (row_is q c.args.element c.batch_element-completed.result c.from-id.result c.from-id.ensures c.requires.next c.batch_element-completed.ensures) refl c.in-Ok.ensures.makes_store.stored;
-      trailed = made_trail _ _ (says.Stored SP1) _ _ (row_is q c.args.element c.batch_element-completed.result c.from-id.result c.from-id.ensures c.requires.next c.batch_element-completed.ensures) refl c.in-Ok.ensures.makes_store.trailed;
-      spaces = c.in-Ok.ensures.makes_store.spaces;
-    }
+overflow_cast-index g c = ?
