@@ -1,3 +1,4 @@
+pub mod CounterLemmas
 pub mod QueueLemmas
 pub mod LyingLemmas
 pub mod MoveLemmas

@@ -1,26 +1,30 @@
 -- What a step of a fetch or a publication says, leaves and stores.
-use Rattle.std.proofs.Common.{◌≡◌, ℕ, ◌+◌, List, [], inl, inr, refl, ap, sym, ◌∙◌, subst}
-use Rattle.std.specs.Prelude.{Bool, true, false, if◌then◌else◌, length, Option, Some, None, Result, Ok, Err, slice_get, option_map}
+use Rattle.std.proofs.Common.{◌≡◌, ◌≤◌, ◌⊎◌, ℕ, ◌+◌, List, [], inl, inr, refl, ap, sym, ◌∙◌, subst, arith}
+use Rattle.std.proofs.lemmas.Bool.Decides.{nat_tests}
+use Rattle.std.specs.Prelude.{Bool, true, false, not, ◌&&◌, ◌||◌, nat_lt, if◌then◌else◌, length, Option, Some, None, Result, Ok, Err, slice_get, option_map}
 use Rattle.vub_base.specs.Told.{WhereTold}
 use Rattle.vub_shared.specs.Bytes.{Bytes}
 use Rattle.vub_shared.specs.Spaces.{Names}
 use Rattle.vub_shared.specs.Stores.{Store, Stores, Trails}
 use Rattle.vub_shared.specs.Frames.{KeepsSpaces, OnlyLoads, MakesStore}
+use Rattle.vub_base.specs.declared.store.Tag.TheVariants as tags
+use Rattle.vub_infl_split.specs.declared.region.SplitStore.TheVariants.{SF1}
+use Rattle.vub_infl_split.specs.declared.region.SplitRegion.{SplitRegion}
+use Rattle.vub_split.specs.Split.{head_word}
 use Rattle.vub_infl_split.specs.declared.region.SplitStore.{SplitStore}
-use Rattle.vub_infl_split.specs.declared.region.SplitStore.TheVariants.{SP3, SP4, SP6, SP7}
-use Rattle.vub_infl_split.specs.Region.{words_of}
-use Rattle.vub_split.specs.Split.{used_idx_word}
+use Rattle.vub_steps.specs.declared.readiness.Turn.{Turn}
+use Rattle.vub_steps.specs.declared.readiness.Turn.TheVariants as turns
 use Rattle.vub_steps.specs.declared.steps.Phase.{Phase}
 use Rattle.vub_steps.specs.declared.steps.Phase.TheVariants as phases
 use Rattle.vub_steps.specs.declared.steps.Step.{Step}
 use Rattle.vub_steps.specs.declared.steps.Step.TheVariants as steps
 use Rattle.vub_steps.specs.Rows.{Row, region_row}
 use Rattle.vub_steps.specs.Steps.{after_of, running_steps}
-use Rattle.vub_steps.specs.Readiness.{is_fetch}
+use Rattle.vub_steps.specs.Readiness.{is_fetch, is_publication}
 use Rattle.vub_task.specs.TaskState.{GainsOne}
 use Rattle.vub_queue.specs.declared.queue.Stepped.{Stepped}
 use Rattle.vub_queue.specs.declared.queue.Stepped.TheVariants as says
-use Rattle.vub_queue.specs.QueueState.{QueueState, outcome, steps_in, step_in, seen_by, row_at, next_row, row_said, step_said, accepted, changed, with_phase, moved, MovesBy, Moves, StoresRow, TrailsRow, MakesRow, is_plain, IsDueAt, fetch_under_way}
+use Rattle.vub_queue.specs.QueueState.{QueueState, outcome, steps_in, step_in, seen_by, row_at, next_row, row_said, step_said, accepted, changed, with_phase, moved, MovesBy, Moves, StoresRow, TrailsRow, MakesRow, is_plain, fetch_under_way, kept_or, last_counter, waiting, fetches, Finds, Fetches, Publishes, publish_row, start_due, StoresStep, TrailsStep, DoesStore, DoesTrail, Unless, is_fault}
 use Rattle.vub_queue.proofs.StartLemmas.{gains_by}
 
 -- ---- a step that changes nothing but the phase
@@ -147,3 +151,62 @@ keeps head s is = ap (moved head steps.Count) (begins s is)
 -- and its second
 pub accepts : (head : ℕ) (s : QueueState) → s.phase ≡ phases.Fetch 1 → moved head steps.Accept s ≡ record (accepted head s) { phase = phases.Rest; batch = [] }
 accepts head s is = ap (λ (p : Phase). with_phase (after_of (running_steps (length s.batch) s.bell p) p) (accepted head s)) is
+
+-- the row of the first
+pub count_row : (s : QueueState) (m : Bytes) (head : ℕ) (region : SplitRegion) → is_fetch s.phase ≡ false → s.fetching ≡ None → head ≡ head_word s.ring m s.next_avail → s.recovery.region ≡ region → next_row (fetch_under_way s) m ≡ Some (region_row region (SF1 head s.counter))
+count_row s m head region rests none here lies =
+    ap (λ (u : QueueState). next_row u m) (begins s rests)
+    ∙ ap (λ (o : Option ℕ). Some (region_row s.recovery.region (SF1 (kept_or o (head_word s.ring m s.next_avail)) s.counter))) none
+    ∙ ap (λ (h : ℕ). Some (region_row s.recovery.region (SF1 h s.counter))) (sym here)
+    ∙ ap (λ (g : SplitRegion). Some (region_row g (SF1 head s.counter))) lies
+
+-- something waits at rest
+pub ready_by : (s : QueueState) (m : Bytes) → s.started ≡ true → s.phase ≡ phases.Rest → nat_lt s.counter last_counter ≡ true → 1 ≤ waiting s m → fetches s m ≡ true
+ready_by s m started resting counts some =
+    let waits : nat_lt 0 (waiting s m) ≡ true = grind (arith, nat_tests, some) in
+    ap (λ (a : Bool). a && not (is_publication s.phase) && (is_fetch s.phase || (nat_lt s.counter last_counter && nat_lt 0 (waiting s m)))) started
+    ∙ ap (λ (p : Phase). not (is_publication p) && (is_fetch p || (nat_lt s.counter last_counter && nat_lt 0 (waiting s m)))) resting
+    ∙ ap (λ (c : Bool). c && nat_lt 0 (waiting s m)) counts
+    ∙ waits
+
+-- a fetch that began, or whose store failed
+pub fetches_by : (told : Option Bytes) (x : Stepped) (s t : QueueState) → (x ≡ says.Stored tags.SF1) ⊎ (x ≡ says.SharedFault) → WhereTold told (λ m. fetches s m ≡ true) → WhereTold told (λ m. Finds s m (Ok (Some (head_word s.ring m s.next_avail)))) → Unless (is_fault x) (Moves told x (fetch_under_way s) t) → Fetches told x s t
+fetches_by told x s t (inl is) ready finds moves =
+    subst (λ (y : Stepped). Fetches told y s t) (sym is) (record { ready = ready; finds = λ none. finds; moves = subst (λ (y : Stepped). Unless (is_fault y) (Moves told y (fetch_under_way s) t)) is moves })
+fetches_by told x s t (inr is) ready finds moves = subst (λ (y : Stepped). Fetches told y s t) (sym is) tt
+
+-- ---- a publication that is ready
+
+pub publishes_by : (b : Bool) (told : Option Bytes) (x : Stepped) (s u v t : QueueState) → b ≡ true → u ≡ v → Unless (is_fault x) (Moves told x u t) → Unless (is_fault x) (Publishes b told x s v t)
+publishes_by b told x s u v t ready same moves =
+    subst (λ (k : Bool). Unless (is_fault x) (Publishes k told x s v t)) (sym ready) (subst (λ (w : QueueState). Unless (is_fault x) (Moves told x w t)) same moves)
+
+-- ---- a turn whose loads failed
+
+stays_row : (before after : Option Bytes) (o : Option Row) → after ≡ before → StoresRow before after says.SharedFault o
+stays_row before after None same = same
+stays_row before after (Some y) same = inl same
+
+keeps_row : (before after : Option (List Store)) (o : Option Row) → after ≡ before → TrailsRow before after says.SharedFault o
+keeps_row before after None same = same
+keeps_row before after (Some y) same = inl same
+
+stays_step : (before after : Option Bytes) (region : SplitRegion) (o : Option SplitStore) → after ≡ before → StoresStep before after says.SharedFault region o
+stays_step before after region None same = same
+stays_step before after region (Some step) same = inl same
+
+keeps_step : (before after : Option (List Store)) (region : SplitRegion) (o : Option SplitStore) → after ≡ before → TrailsStep before after says.SharedFault region o
+keeps_step before after region None same = same
+keeps_step before after region (Some step) same = inl same
+
+pub fault_stores : (turn : Turn) (before after : Option Bytes) (s : QueueState) → after ≡ before → DoesStore turn before after says.SharedFault s
+fault_stores turns.Start before after s same = λ m tells. stays_step before after s.recovery.region (start_due s m) same
+fault_stores turns.Fetch before after s same = λ m tells. stays_row before after (next_row (fetch_under_way s) m) same
+fault_stores (turns.Work place) before after s same = tt
+fault_stores (turns.Publish most) before after s same = λ m tells. stays_row before after (publish_row most s m) same
+
+pub fault_trails : (turn : Turn) (told : Option Bytes) (before after : Option (List Store)) (s : QueueState) → after ≡ before → DoesTrail turn told before after says.SharedFault s
+fault_trails turns.Start told before after s same = (inl same, λ m tells. keeps_step before after s.recovery.region (start_due s m) same)
+fault_trails turns.Fetch told before after s same = (inl same, λ m tells. keeps_row before after (next_row (fetch_under_way s) m) same)
+fault_trails (turns.Work place) told before after s same = inl same
+fault_trails (turns.Publish most) told before after s same = (inl same, λ m tells. keeps_row before after (publish_row most s m) same)

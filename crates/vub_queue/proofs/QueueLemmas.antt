@@ -54,6 +54,15 @@ below_take size zero xs h = refl
 below_take size (suc n) [] h = refl
 below_take size (suc n) (x ∷ xs) h = grind (arith, nat_tests, below_take size n xs)
 
+-- that of an element
+pub below_at : (size : ℕ) (xs : List Completed) (i : ℕ) (x : Completed) → heads_below size xs ≡ true → slice_get (map element xs) i ≡ Some (element x) → x.head < size
+below_at size [] zero x h at = absurd (cc at)
+below_at size [] (suc i) x h at = absurd (cc at)
+below_at size (y ∷ ys) zero x h at =
+    let same : element y ≡ element x = cc at in
+    subst (λ (k : ℕ). k < size) (ap (λ (p : ℕ × ℕ). p.0) same) (below_first size y ys h)
+below_at size (y ∷ ys) (suc i) x h at = below_at size ys i x (below_rest size y ys h) at
+
 -- one more head is taken
 pub count_taken : (taken : List Bool) (head : ℕ) → is_taken taken head ≡ false → taken_count (set taken head true) ≡ taken_count taken + 1
 count_taken [] head free = grind arith
@@ -105,6 +114,9 @@ length_batch n xs few = length-map (take n xs) element ∙ length-take-le n xs f
 
 pub count_is : (q : Queue) → length (state_of q).batch ≡ q.batch
 count_is q = length_batch q.batch q.completed.items (omega (arith, q.batched))
+
+pub batch_fits : (q : Queue) → phase_fits q.phase (length (state_of q).batch) q.bell q.started ≡ true
+batch_fits q = ap (λ (n : ℕ). phase_fits q.phase n q.bell q.started) (count_is q) ∙ q.fits
 
 -- the first elements, at most so many
 pub first_elements : (xs : List Completed) (n most : ℕ) → n ≡ min most (length xs) → map element (take n xs) ≡ take most (map element xs)
@@ -342,34 +354,30 @@ no_fetch p o size taken is kept = go p (subst (λ (x : Option ℕ). head_fits p 
     go (Fetch done) h = absurd (cc h)
     go (Publish done) h = refl
 
--- and outside of one there is none
+-- outside of a fetch no head is kept
+pub none_kept : (p : Phase) (o : Option ℕ) (size : ℕ) (taken : List Bool) → is_fetch p ≡ false → head_fits p o size taken ≡ true → o ≡ None
+none_kept (Fetch done) o size taken was h = absurd (cc was)
+none_kept Rest None size taken was h = refl
+none_kept Rest (Some head) size taken was h = absurd (cc h)
+none_kept (Start done) None size taken was h = refl
+none_kept (Start done) (Some head) size taken was h = absurd (cc h)
+none_kept (Publish done) None size taken was h = refl
+none_kept (Publish done) (Some head) size taken was h = absurd (cc h)
+
 pub no_head : (p q : Phase) (o : Option ℕ) (size : ℕ) (taken after : List Bool) → is_fetch p ≡ false → is_fetch q ≡ false → head_fits p o size taken ≡ true → head_fits q o size after ≡ true
-no_head p q o size taken after was is kept = in_phase q o is (without p o was kept)
+no_head p q o size taken after was is kept = subst (λ (x : Option ℕ). head_fits q x size after ≡ true) (sym (none_kept p o size taken was kept)) (none_fits q is)
   where
-    without : (p : Phase) (o : Option ℕ) → is_fetch p ≡ false → head_fits p o size taken ≡ true → o ≡ None
-    without (Fetch done) o was h = absurd (cc was)
-    without Rest None was h = refl
-    without Rest (Some head) was h = absurd (cc h)
-    without (Start done) None was h = refl
-    without (Start done) (Some head) was h = absurd (cc h)
-    without (Publish done) None was h = refl
-    without (Publish done) (Some head) was h = absurd (cc h)
     none_fits : (q : Phase) → is_fetch q ≡ false → head_fits q None size after ≡ true
     none_fits Rest is = refl
     none_fits (Start done) is = refl
     none_fits (Fetch done) is = absurd (cc is)
     none_fits (Publish done) is = refl
-    in_phase : (q : Phase) (o : Option ℕ) → is_fetch q ≡ false → o ≡ None → head_fits q o size after ≡ true
-    in_phase q o is none = subst (λ (x : Option ℕ). head_fits q x size after ≡ true) (sym none) (none_fits q is)
 
 pub publishes_no_fetch : (p : Phase) → is_publication p ≡ true → is_fetch p ≡ false
 publishes_no_fetch Rest is = refl
 publishes_no_fetch (Start done) is = refl
 publishes_no_fetch (Fetch done) is = absurd (cc is)
 publishes_no_fetch (Publish done) is = refl
-
-pub rest_no_fetch : (p : Phase) → p ≡ Rest → is_fetch p ≡ false
-rest_no_fetch p is = ap is_fetch is
 
 -- ---- a publication that is ready
 

@@ -177,7 +177,10 @@ fn next_counter(pending: &[Pending]) -> u128
 {
     let mut next = 0;
     for request in pending {
-        next = next.max(u128::from(request.counter) + 1);
+        let after = u128::from(request.counter) + 1;
+        if next < after {
+            next = after;
+        }
     }
     next
 }

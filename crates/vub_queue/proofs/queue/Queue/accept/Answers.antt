@@ -1,40 +1,55 @@
-use Rattle.std.proofs.Common.{rules, ◌≡◌, ◌<◌, ◌≤◌, ◌+◌, ℕ, true, false, Some, length, map, take, drop, set, slice_get, vec_len, vec_capacity, IfOk, not, ◌==◌, ◌⊎◌, ◌*◌, ◌↔◌, nat_lt, IsTrue, option_map, is_some, Option, Ok, remove, ◌++◌, ◌∷◌, [], ◌-◌, ◌/◌, ◌%◌, Bool, nat_eq, List, slice_index_or, bit_and, bit_or, Fits, w8, w32, w64, Bor, MutBor}
-use Rattle.vub_split.specs.Split.{RingLies, head_word}
-use Rattle.vub_queue.specs.QueueParts.{element, is_taken, taken_count, without_heads, heads_below, phase_fits, head_fits, shown_of}
-use Rattle.vub_inflight.specs.Entries.{next_counter}
-use Rattle.vub_steps.specs.Readiness.{is_publication, is_ready, chosen}
-use Rattle.vub_base.specs.Causes.{HasCause}
-use Rattle.vub_base.specs.Told.{WhereTold}
-use Rattle.vub_shared.specs.Frames.{OnlyLoads, KeepsSpaces}
-use Rattle.vub_task.specs.declared.task.Task.{Task}
-use Rattle.vub_task.specs.TaskState as TaskState
-use Rattle.vub_task.specs.TaskState.{Making, IfMade, IfFaulted, GainsOne, memory_outcome}
-use Rattle.vub_steps.specs.declared.readiness.Turn.{Turn}
-use Rattle.vub_steps.specs.declared.readiness.Turn.TheVariants.{Fetch, Work, Start}
-use Rattle.vub_steps.specs.Steps.{after_of, done_of}
-use Rattle.vub_shared.specs.Bytes.{Bytes}
-use Rattle.vub_base.specs.declared.store.Tag.TheVariants.{SF1}
-use Rattle.vub_infl_split.specs.Region.{RegionLies}
-use Rattle.vub_infl_split.specs.Stores.{NamesEntry}
-use Rattle.vub_steps.specs.declared.steps.Step.TheVariants as step
-use Rattle.vub_queue.specs.declared.queue.Stepped.TheVariants as stepped
-use Rattle.vub_rec_split.specs.Starts.{StartLies}
-use Rattle.vub_queue.specs.declared.queue.Stepped.TheVariants.{Idle}
-use Rattle.vub_steps.specs.declared.readiness.Choice.TheVariants.{Only}
+use Rattle.std.proofs.Common.{◌≡◌, ◌+◌, ◌∷◌, ◌++◌, [], true, Bool, List, length, set, refl, ap, ◌∙◌, arith, rules}
+use Rattle.std.specs.Prelude.{◌==◌, ℕ}
+use Rattle.std.proofs.lemmas.List.{with_items_is, places}
+use Rattle.vub_steps.specs.declared.steps.Phase.{Phase}
 use Rattle.vub_steps.specs.declared.steps.Phase.TheVariants.{Rest}
-use Rattle.vub_steps.specs.declared.steps.Step.TheVariants.{Count, Accept, Id, Len, Link, Head, Index, Clear, Note}
-use Rattle.vub_queue.specs.Queue.{ring_in}
-use Rattle.vub_queue.specs.QueueState.{QueueState, QueueLies, KeepsLying, Owes, OwesAt, state_of, IsNew, new_recovery, Ends, is_starting, is_fetching, is_publishing, StoresStart, TrailsStart, RingsAt, has_rung, may_ring, bell_outcome, said, concluded, StepsAt, IsDue, IsDueAt, IfStepped, StepsOut, WorksOut, StepsTask, WorksTask, Rests, disk_outcome, last_counter, standing_at, is_ready_at, waiting, IsFree, Finds, Fetches, fetch_row, fetch_under_way, begun, under_way, steps_in, step_in, next_row, moved, with_phase, Moves, outcome, found_outcome, MakesRow, publishes, publish_row, Publishes, is_idle, is_fault, Unless, Works, Does, DoesStore, DoesTrail, DoesDisk, StableAfter, halted, Turns}
+use Rattle.vub_task.specs.declared.task.Task.{Task}
+use Rattle.vub_queue.specs.declared.queue.Queue.{Queue}
+use Rattle.vub_queue.specs.QueueParts.{taken_count, shown_of}
+use Rattle.vub_queue.specs.QueueState.{state_of, accepted}
+use Rattle.vub_queue.proofs.QueueLemmas.{count_free, count_taken, Kept, kept_at}
+use Rattle.vub_queue.proofs.LyingLemmas.{lies_accepted, lies_same}
+use Rattle.std.proofs.Common.{Option, Some}
 use Rattle.vub_queue.proofs.queue.Queue.accept.Goals as goal
 
--- src/queue.rt:510:9
+kept_by : (q : Queue) (head : ℕ) → q.fetching ≡ Some head → Kept q.phase q.batch head q.ring.size q.taken.items
+kept_by q head is = kept_at q.phase q.batch q.bell q.started q.fetching head q.ring.size q.taken.items is q.fits q.kept
+
+none_shown : (q : Queue) (head : ℕ) → q.fetching ≡ Some head → shown_of q.phase q.batch ≡ 0
+none_shown q head is = ap (λ (p : Phase). shown_of p q.batch) (kept_by q head is).phase
+
 pub push_reserved-requires : goal.push_reserved-requires
-push_reserved-requires c = ?
+push_reserved-requires c =
+    let g = c.args.self.now in
+    let k = kept_by g c.args.head c.requires.kept in
+    omega (arith, count_free g.taken.items c.args.head k.free, g.counted, none_shown g c.args.head c.requires.kept, g.heads, g.room)
 
--- src/queue.rt:514:9
-pub invariant_of-self : goal.invariant_of-self
-invariant_of-self c = ?
+pub invariant_of-self-clause-heads : goal.invariant_of-self-clause-heads
+invariant_of-self-clause-heads c =
+    let g = c.args.self.now in
+    ap length (with_items_is g.taken c.set_taken.new.taken (search (rules, places))) ∙ ap length c.set_taken.ensures ∙ search (rules, places)
 
--- src/queue.rt:504:5
+pub invariant_of-self-clause-all : goal.invariant_of-self-clause-all
+invariant_of-self-clause-all c =
+    let g = c.args.self.now in
+    let k = kept_by g c.args.head c.requires.kept in
+    omega (arith, count_free g.taken.items c.args.head k.free, g.counted, none_shown g c.args.head c.requires.kept, g.heads, c.push_reserved.ensures.len)
+
+pub invariant_of-self-clause-counted : goal.invariant_of-self-clause-counted
+invariant_of-self-clause-counted c =
+    let g = c.args.self.now in
+    let k = kept_by g c.args.head c.requires.kept in
+    let items : c.set_taken.new.taken ≡ set g.taken.items c.args.head true = c.set_taken.ensures ∙ ap (λ (xs : List Bool). set xs c.args.head true) c.deref_mut.ensures.value in
+    let one : taken_count c.set_taken.new.taken ≡ taken_count g.taken.items + 1 = ap taken_count items ∙ count_taken g.taken.items c.args.head k.free in
+    let none : shown_of Rest g.batch ≡ 0 = refl in
+    rw (with_items_is g.taken c.set_taken.new.taken (search (rules, places))) (omega (arith, one, g.counted, none_shown g c.args.head c.requires.kept, none, c.push_reserved.ensures.len))
+
+pub invariant_of-self-clause-fits : goal.invariant_of-self-clause-fits
+invariant_of-self-clause-fits c = ap (λ (n : ℕ). n == 0) (kept_by c.args.self.now c.args.head c.requires.kept).no_batch
+
 pub returns-clause-lies : goal.returns-clause-lies
-returns-clause-lies c = ?
+returns-clause-lies c sizes capacity h =
+    let s = state_of c.args.self.now in
+    let u = accepted c.args.head s in
+    let k = kept_by c.args.self.now c.args.head c.requires.kept in
+    lies_same u _ refl refl (c.push_reserved.ensures.items ∙ ap (λ (x : Task). s.unfinished ++ x ∷ []) c.new.ensures.is) sizes capacity (lies_accepted c.args.head s u k.below refl sizes capacity h)

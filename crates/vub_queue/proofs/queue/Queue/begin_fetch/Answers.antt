@@ -1,32 +1,18 @@
-use Rattle.std.proofs.Common.{rules, ◌≡◌, ◌<◌, ◌≤◌, ◌+◌, ℕ, true, false, Some, length, map, take, drop, set, slice_get, vec_len, vec_capacity, IfOk, not, ◌==◌, ◌⊎◌, ◌*◌, ◌↔◌, nat_lt, IsTrue, option_map, is_some, Option, Ok, remove, ◌++◌, ◌∷◌, [], ◌-◌, ◌/◌, ◌%◌, Bool, nat_eq, List, slice_index_or, bit_and, bit_or, Fits, w8, w32, w64, Bor, MutBor}
-use Rattle.vub_split.specs.Split.{RingLies, head_word}
-use Rattle.vub_queue.specs.QueueParts.{element, is_taken, taken_count, without_heads, heads_below, phase_fits, head_fits, shown_of}
-use Rattle.vub_inflight.specs.Entries.{next_counter}
-use Rattle.vub_steps.specs.Readiness.{is_publication, is_ready, chosen}
-use Rattle.vub_base.specs.Causes.{HasCause}
+use Rattle.std.proofs.Common.{ℕ, ◌≡◌, sym, ◌∙◌, subst}
+use Rattle.std.specs.Prelude.{Option, Ok, Some, nat_lt, true}
 use Rattle.vub_base.specs.Told.{WhereTold}
-use Rattle.vub_shared.specs.Frames.{OnlyLoads, KeepsSpaces}
-use Rattle.vub_task.specs.declared.task.Task.{Task}
-use Rattle.vub_task.specs.TaskState as TaskState
-use Rattle.vub_task.specs.TaskState.{Making, IfMade, IfFaulted, GainsOne, memory_outcome}
-use Rattle.vub_steps.specs.declared.readiness.Turn.{Turn}
-use Rattle.vub_steps.specs.declared.readiness.Turn.TheVariants.{Fetch, Work, Start}
-use Rattle.vub_steps.specs.Steps.{after_of, done_of}
+use Rattle.vub_queue.specs.QueueState.{QueueState, state_of, Finds, Moves, Unless, is_fault, fetch_under_way, last_counter}
 use Rattle.vub_shared.specs.Bytes.{Bytes}
-use Rattle.vub_base.specs.declared.store.Tag.TheVariants.{SF1}
-use Rattle.vub_infl_split.specs.Region.{RegionLies}
-use Rattle.vub_infl_split.specs.Stores.{NamesEntry}
-use Rattle.vub_steps.specs.declared.steps.Step.TheVariants as step
-use Rattle.vub_queue.specs.declared.queue.Stepped.TheVariants as stepped
-use Rattle.vub_rec_split.specs.Starts.{StartLies}
-use Rattle.vub_queue.specs.declared.queue.Stepped.TheVariants.{Idle}
-use Rattle.vub_steps.specs.declared.readiness.Choice.TheVariants.{Only}
-use Rattle.vub_steps.specs.declared.steps.Phase.TheVariants.{Rest}
-use Rattle.vub_steps.specs.declared.steps.Step.TheVariants.{Count, Accept, Id, Len, Link, Head, Index, Clear, Note}
-use Rattle.vub_queue.specs.Queue.{ring_in}
-use Rattle.vub_queue.specs.QueueState.{QueueState, QueueLies, KeepsLying, Owes, OwesAt, state_of, IsNew, new_recovery, Ends, is_starting, is_fetching, is_publishing, StoresStart, TrailsStart, RingsAt, has_rung, may_ring, bell_outcome, said, concluded, StepsAt, IsDue, IsDueAt, IfStepped, StepsOut, WorksOut, StepsTask, WorksTask, Rests, disk_outcome, last_counter, standing_at, is_ready_at, waiting, IsFree, Finds, Fetches, fetch_row, fetch_under_way, begun, under_way, steps_in, step_in, next_row, moved, with_phase, Moves, outcome, found_outcome, MakesRow, publishes, publish_row, Publishes, is_idle, is_fault, Unless, Works, Does, DoesStore, DoesTrail, DoesDisk, StableAfter, halted, Turns}
+use Rattle.vub_queue.proofs.MoveLemmas.{ready_by, fetches_by}
 use Rattle.vub_queue.proofs.queue.Queue.begin_fetch.Goals as goal
 
--- src/queue.rt:478:5
 pub returns-in-Ok-Some-clause-fetches : goal.returns-in-Ok-Some-clause-fetches
-returns-in-Ok-Some-clause-fetches g c = ?
+returns-in-Ok-Some-clause-fetches g c =
+    let s : QueueState = state_of c.args.self.now in
+    let head : ℕ = c.in-Ok-Some.head in
+    let counts : nat_lt s.counter last_counter ≡ true = sym c.counts.ensures ∙ c.if-not-counts.false in
+    let found : WhereTold (g.M.Shared.told c.args.mem.now) (λ m. Finds s m (Ok (Some head))) = λ m tells. subst (λ (o : Option ℕ). Finds s m (Ok o)) c.in-Ok-Some.field-0-is (c.in-Ok-Some.ensures.found m tells) in
+    fetches_by (g.M.Shared.told c.args.mem.now) c.store_counter.result s (state_of c.store_counter.new.self) c.store_counter.ensures.stores
+    (λ m tells. ready_by s m c.requires.started c.requires.resting counts (found m tells).0.some)
+    (λ m tells. subst (λ (h : ℕ). Finds s m (Ok (Some h))) (found m tells).1 (found m tells))
+    (subst (λ (o : Option Bytes). Unless (is_fault c.store_counter.result) (Moves o c.store_counter.result (fetch_under_way s) (state_of c.store_counter.new.self))) c.next_head.ensures.only_loads.same_told c.store_counter.ensures.moves)

@@ -1,36 +1,22 @@
-use Rattle.std.proofs.Common.{rules, ◌≡◌, ◌<◌, ◌≤◌, ◌+◌, ℕ, true, false, Some, length, map, take, drop, set, slice_get, vec_len, vec_capacity, IfOk, not, ◌==◌, ◌⊎◌, ◌*◌, ◌↔◌, nat_lt, IsTrue, option_map, is_some, Option, Ok, remove, ◌++◌, ◌∷◌, [], ◌-◌, ◌/◌, ◌%◌, Bool, nat_eq, List, slice_index_or, bit_and, bit_or, Fits, w8, w32, w64, Bor, MutBor}
-use Rattle.vub_split.specs.Split.{RingLies, head_word}
-use Rattle.vub_queue.specs.QueueParts.{element, is_taken, taken_count, without_heads, heads_below, phase_fits, head_fits, shown_of}
-use Rattle.vub_inflight.specs.Entries.{next_counter}
-use Rattle.vub_steps.specs.Readiness.{is_publication, is_ready, chosen}
-use Rattle.vub_base.specs.Causes.{HasCause}
-use Rattle.vub_base.specs.Told.{WhereTold}
-use Rattle.vub_shared.specs.Frames.{OnlyLoads, KeepsSpaces}
-use Rattle.vub_task.specs.declared.task.Task.{Task}
-use Rattle.vub_task.specs.TaskState as TaskState
-use Rattle.vub_task.specs.TaskState.{Making, IfMade, IfFaulted, GainsOne, memory_outcome}
-use Rattle.vub_steps.specs.declared.readiness.Turn.{Turn}
-use Rattle.vub_steps.specs.declared.readiness.Turn.TheVariants.{Fetch, Work, Start}
-use Rattle.vub_steps.specs.Steps.{after_of, done_of}
+use Rattle.std.proofs.Common.{◌≡◌, ◌<◌, ℕ, length, refl, sym, subst, arith}
+use Rattle.std.specs.Prelude.{Some, take, Option}
 use Rattle.vub_shared.specs.Bytes.{Bytes}
-use Rattle.vub_base.specs.declared.store.Tag.TheVariants.{SF1}
-use Rattle.vub_infl_split.specs.Region.{RegionLies}
-use Rattle.vub_infl_split.specs.Stores.{NamesEntry}
-use Rattle.vub_steps.specs.declared.steps.Step.TheVariants as step
-use Rattle.vub_queue.specs.declared.queue.Stepped.TheVariants as stepped
-use Rattle.vub_rec_split.specs.Starts.{StartLies}
-use Rattle.vub_queue.specs.declared.queue.Stepped.TheVariants.{Idle}
-use Rattle.vub_steps.specs.declared.readiness.Choice.TheVariants.{Only}
-use Rattle.vub_steps.specs.declared.steps.Phase.TheVariants.{Rest}
-use Rattle.vub_steps.specs.declared.steps.Step.TheVariants.{Count, Accept, Id, Len, Link, Head, Index, Clear, Note}
-use Rattle.vub_queue.specs.Queue.{ring_in}
-use Rattle.vub_queue.specs.QueueState.{QueueState, QueueLies, KeepsLying, Owes, OwesAt, state_of, IsNew, new_recovery, Ends, is_starting, is_fetching, is_publishing, StoresStart, TrailsStart, RingsAt, has_rung, may_ring, bell_outcome, said, concluded, StepsAt, IsDue, IsDueAt, IfStepped, StepsOut, WorksOut, StepsTask, WorksTask, Rests, disk_outcome, last_counter, standing_at, is_ready_at, waiting, IsFree, Finds, Fetches, fetch_row, fetch_under_way, begun, under_way, steps_in, step_in, next_row, moved, with_phase, Moves, outcome, found_outcome, MakesRow, publishes, publish_row, Publishes, is_idle, is_fault, Unless, Works, Does, DoesStore, DoesTrail, DoesDisk, StableAfter, halted, Turns}
+use Rattle.vub_steps.specs.declared.steps.Step.TheVariants.{Id}
+use Rattle.vub_queue.specs.declared.queue.Queue.{Queue}
+use Rattle.vub_queue.specs.QueueState.{state_of, step_in, Moves, Unless, is_fault}
+use Rattle.vub_queue.proofs.QueueLemmas.{StandsAt, stands_at, count_is, below_at, below_take}
 use Rattle.vub_queue.proofs.queue.Queue.store_id.Goals as goal
 
--- src/queue.rt:730:13
-pub batch_element-completed-requires : goal.batch_element-completed-requires
-batch_element-completed-requires g c = ?
+stands : (q : Queue) (e : ℕ) → step_in (state_of q) ≡ Some (Id e) → StandsAt (length (state_of q).batch) q.phase (Id e)
+stands q e next = stands_at (length (state_of q).batch) q.bell q.phase (Id e) refl next
 
--- src/queue.rt:731:39
+pub batch_element-completed-requires : goal.batch_element-completed-requires
+batch_element-completed-requires g c =
+    let q = c.args.self.now in
+    omega (arith, (stands q c.args.element c.requires.next).stands.0, count_is q)
+
 pub overflow_cast-index : goal.overflow_cast-index
-overflow_cast-index g c = ?
+overflow_cast-index g c =
+    let q = c.args.self.now in
+    omega (arith, (stands q c.args.element c.requires.next).stands.0, count_is q, q.batched, q.all, q.few)
+
