@@ -1,5 +1,7 @@
+pub mod CounterLemmas
 pub mod QueueLemmas
 pub mod LyingLemmas
+pub mod MoveLemmas
 pub mod StableLemmas
 pub mod StartLemmas
 pub mod TaskLemmas

@@ -6,8 +6,6 @@ use Rattle.vub_split.specs.Split.{RingLies}
 use Rattle.vub_split.specs.declared.split.SplitRing.{SplitRing}
 use Rattle.vub_steps.specs.declared.steps.Phase.{Phase}
 use Rattle.vub_steps.specs.declared.steps.Phase.TheVariants.{Rest, Start, Fetch, Publish}
-use Rattle.vub_steps.specs.Rows.{Row}
-use Rattle.vub_steps.specs.Steps.{after_of}
 use Rattle.vub_steps.specs.Readiness.{is_publication}
 use Rattle.vub_task.specs.declared.task.Task.{Task}
 use Rattle.vub_task.specs.declared.task.TaskStep as made
@@ -18,7 +16,7 @@ use Rattle.vub_rec_split.proofs.LoadLemmas.{lies_on}
 use Rattle.vub_queue.specs.declared.queue.QueueSetup.{QueueSetup}
 use Rattle.vub_queue.specs.declared.queue.Stepped.{Stepped}
 use Rattle.vub_queue.specs.declared.queue.Stepped.TheVariants as says
-use Rattle.vub_queue.specs.QueueState.{QueueState, new_recovery, steps_in, TaskFits, TasksFit, QueueLies, KeepsLying, Moves, moved, begun, under_way, with_phase, accepted, worked, concluded, halted, said, OwesAt, Owes, disk_outcome}
+use Rattle.vub_queue.specs.QueueState.{QueueState, new_recovery, TaskFits, TasksFit, QueueLies, KeepsLying, begun, under_way, with_phase, accepted, worked, concluded, halted, said, OwesAt, Owes, disk_outcome}
 
 pub lies_with : (old new : ℕ → ℕ) (before after : ℕ) (s : QueueState) → ((x : ℕ) → new x ≡ old x) → after ≡ before → QueueLies old before s → QueueLies new after s
 lies_with old new before after s sizes capacity h =
@@ -190,28 +188,13 @@ phase_tasks (Start k) s sizes capacity h = record { ring = h.ring; start = h.sta
 phase_tasks (Fetch k) s sizes capacity h = record { ring = h.ring; start = h.start; same_ring = h.same_ring; tasks = h.tasks }
 phase_tasks (Publish k) s sizes capacity h = record { ring = h.ring; start = h.start; same_ring = h.same_ring; tasks = h.tasks }
 
-moved_lies : (s t : QueueState) → t ≡ moved s → KeepsLying s t
-moved_lies s t is sizes capacity h = subst (QueueLies sizes capacity) (sym is) (phase_tasks (after_of (steps_in s) s.phase) s sizes capacity h)
+pub advanced_lies : (p : Phase) (s t : QueueState) → t ≡ with_phase p s → KeepsLying s t
+advanced_lies p s t is sizes capacity h = subst (QueueLies sizes capacity) (sym is) (phase_tasks p s sizes capacity h)
 
-pub moves_lies : (x : Stepped) (o : Option Row) (s t : QueueState) → Moves x o s t → KeepsLying s t
-moves_lies (says.Stored tag) (Some y) s t h = moved_lies s t h.1
-moves_lies says.Published (Some y) s t h = moved_lies s t h.1
-moves_lies says.SharedFault (Some y) s t h = λ sizes capacity l. subst (QueueLies sizes capacity) (sym h) l
-moves_lies says.Idle o s t h = absurd h
-moves_lies (says.Stored tag) None s t h = absurd h
-moves_lies (says.Accepted head) o s t h = absurd h
-moves_lies (says.Looked head sector) o s t h = absurd h
-moves_lies (says.Acted head sector) o s t h = absurd h
-moves_lies (says.Synced head) o s t h = absurd h
-moves_lies (says.Faulted head) o s t h = absurd h
-moves_lies (says.Completed head) o s t h = absurd h
-moves_lies says.Published None s t h = absurd h
-moves_lies says.Belled o s t h = absurd h
-moves_lies says.Started o s t h = absurd h
-moves_lies says.BellFault o s t h = absurd h
-moves_lies (says.Damaged fault) o s t h = absurd h
-moves_lies says.SharedFault None s t h = absurd h
-moves_lies (says.Broken fault) o s t h = absurd h
+-- ring, recovery and tasks are as they were
+pub lies_same : (s t : QueueState) → t.ring ≡ s.ring → t.recovery ≡ s.recovery → t.unfinished ≡ s.unfinished → KeepsLying s t
+lies_same s t ring recovery tasks =
+    lies_started s t (record { ring = ap (λ (r : RecoveryState). r.ring) recovery; region = ap (λ (r : RecoveryState). r.region) recovery; base = ap (λ (r : RecoveryState). r.base) recovery }) ring tasks
 
 under_way_by : (t : Bool) (most : ℕ) (s : QueueState) → KeepsLying s (if t then s else begun most s)
 under_way_by true most s sizes capacity h = h

@@ -1,34 +1,30 @@
 -- What the steps of a queue keep.
-use Rattle.std.proofs.Common.{◌≡◌, ◌<◌, ◌≤◌, ℕ, zero, suc, ◌+◌, ◌*◌, ◌%◌, Bool, true, false, List, [], ◌∷◌, ◌++◌, length, get_or, map, take, drop, min, inr, refl, ap, sym, ◌∙◌, subst, arith}
+use Rattle.std.proofs.Common.{◌≡◌, ◌<◌, ◌≤◌, ℕ, zero, suc, ◌+◌, ◌*◌, ◌%◌, Bool, true, false, ◌-◌, ◌/◌, List, [], ◌∷◌, ◌++◌, length, get_or, map, take, drop, min, inl, inr, refl, ap, sym, ◌∙◌, subst, arith}
 use native.Mathlib.Numerals.{unary_clauses}
 use Rattle.std.proofs.lemmas.Bool.Decides.{nat_tests}
 use Rattle.std.proofs.lemmas.List.{take-map, drop-map, take_min, length-map, length-take-le, length-set, drop-append-le, take-append-le, map-append}
 use Rattle.std.proofs.lemmas.Option.{slice_get-get_or, slice_get-map}
-use Rattle.std.specs.Prelude.{remove, ◌&&◌, ◌||◌, not, if◌then◌else◌, nat_le, nat_lt, set, slice_get, option_map, Option, Some, None, Result, Ok, Err}
-use Rattle.byteorder.specs.Endian.{little_bytes}
-use Rattle.vub_base.specs.declared.store.Tag.TheVariants.{SP1, SP2, SP5}
+use Rattle.std.specs.Prelude.{remove, ◌&&◌, ◌||◌, ◌==◌, not, if◌then◌else◌, nat_lt, set, slice_get, is_some, option_map, Option, Some, None, Ok, ⊤}
+use Rattle.std.proofs.lemmas.Bool.{cases_lt}
 use Rattle.vub_base.specs.Told.{WhereTold}
 use Rattle.vub_shared.specs.Bytes.{Bytes}
-use Rattle.vub_shared.specs.Stores.{Store, Stores, Trails}
+use Rattle.vub_shared.specs.Stores.{Store}
 use Rattle.vub_steps.specs.declared.steps.Phase.{Phase}
 use Rattle.vub_steps.specs.declared.steps.Phase.TheVariants.{Rest, Start, Fetch, Publish}
 use Rattle.vub_steps.specs.declared.steps.Step.{Step}
-use Rattle.vub_steps.specs.declared.steps.Step.TheVariants.{Id, Len, Index}
-use Rattle.vub_ring.specs.Ring.{used_idx_place, used_id_place, used_len_place}
-use Rattle.vub_steps.specs.Rows.{Row, row}
-use Rattle.vub_steps.specs.Steps.{element_steps, publish_steps, running_steps, next_of, after_of}
+use Rattle.vub_steps.specs.declared.steps.Step.TheVariants.{Count, Accept, Id, Len, Link, Head, Index, Clear, Note, Bell}
+use Rattle.vub_steps.specs.Steps.{element_step, shown_step, publish_steps, running_steps, done_of, next_of, after_of}
 use Rattle.vub_steps.specs.Readiness.{is_publication, is_fetch}
 use Rattle.vub_task.specs.declared.task.Task.{Task}
 use Rattle.vub_task.specs.declared.task.TaskStep as made
 use Rattle.vub_task.specs.declared.task.TaskStep.TheVariants as answers
-use Rattle.vub_steps.proofs.StepLemmas.{length_publish}
+use Rattle.vub_steps.proofs.StepLemmas.{length_publish, in_element, past_elements}
 use Rattle.vub_queue.specs.declared.queue.Completed.{Completed}
 use Rattle.vub_queue.specs.declared.queue.Queue.{Queue}
 use Rattle.vub_queue.specs.declared.queue.Stepped.{Stepped}
 use Rattle.vub_queue.specs.declared.queue.Stepped.TheVariants as says
-use Rattle.vub_queue.specs.QueueParts.{element, is_taken, taken_count, without_heads, heads_below, phase_fits}
-use Rattle.vub_split.specs.Split.{used_side}
-use Rattle.vub_queue.specs.QueueState.{QueueState, state_of, steps_in, row_at, next_row, Moves, StoresRow, TrailsRow, outcome, publishes, Unless, worked, done_at, Works, StepsAt, StepsOut, WorksOut, IfStepped, Advances, concluded, said, sector_at, IsDue, Rests, halted}
+use Rattle.vub_queue.specs.QueueParts.{element, is_taken, taken_count, without_heads, heads_below, phase_fits, head_fits, shown_of}
+use Rattle.vub_queue.specs.QueueState.{QueueState, state_of, publishes, Unless, worked, done_at, Works, StepsAt, StepsOut, WorksOut, IfStepped, Advances, concluded, said, sector_at, IsDue, Rests, halted}
 use Rattle.vub_task.specs.TaskState.{Making, IfMade, HasMade, LooksAt, answer_in, answer_to, memory_after, values_after, store_in, with_maybe, head_in}
 use Rattle.vub_steps.specs.Tasks as Tasks
 use Rattle.vub_task.proofs.ArmLemmas.{next_still}
@@ -57,6 +53,15 @@ pub below_take : (size n : ℕ) (xs : List Completed) → heads_below size xs �
 below_take size zero xs h = refl
 below_take size (suc n) [] h = refl
 below_take size (suc n) (x ∷ xs) h = grind (arith, nat_tests, below_take size n xs)
+
+-- that of an element
+pub below_at : (size : ℕ) (xs : List Completed) (i : ℕ) (x : Completed) → heads_below size xs ≡ true → slice_get (map element xs) i ≡ Some (element x) → x.head < size
+below_at size [] zero x h at = absurd (cc at)
+below_at size [] (suc i) x h at = absurd (cc at)
+below_at size (y ∷ ys) zero x h at =
+    let same : element y ≡ element x = cc at in
+    subst (λ (k : ℕ). k < size) (ap (λ (p : ℕ × ℕ). p.0) same) (below_first size y ys h)
+below_at size (y ∷ ys) (suc i) x h at = below_at size ys i x (below_rest size y ys h) at
 
 -- one more head is taken
 pub count_taken : (taken : List Bool) (head : ℕ) → is_taken taken head ≡ false → taken_count (set taken head true) ≡ taken_count taken + 1
@@ -110,8 +115,8 @@ length_batch n xs few = length-map (take n xs) element ∙ length-take-le n xs f
 pub count_is : (q : Queue) → length (state_of q).batch ≡ q.batch
 count_is q = length_batch q.batch q.completed.items (omega (arith, q.batched))
 
-pub batch_fits : (q : Queue) → phase_fits q.phase (length (state_of q).batch) q.started ≡ true
-batch_fits q = ap (λ (n : ℕ). phase_fits q.phase n q.started) (count_is q) ∙ q.fits
+pub batch_fits : (q : Queue) → phase_fits q.phase (length (state_of q).batch) q.bell q.started ≡ true
+batch_fits q = ap (λ (n : ℕ). phase_fits q.phase n q.bell q.started) (count_is q) ∙ q.fits
 
 -- the first elements, at most so many
 pub first_elements : (xs : List Completed) (n most : ℕ) → n ≡ min most (length xs) → map element (take n xs) ≡ take most (map element xs)
@@ -131,146 +136,248 @@ other_elements xs n most is = ap (λ k. map element (drop k xs)) is ∙ ap (map 
 
 -- ---- steps and phases
 
--- an id is that of an element, and isn't the last step
-id_steps : (e count i x : ℕ) → slice_get (element_steps e count ++ Index ∷ []) i ≡ Some (Id x) → (x < e + count) × (i < 2 * count)
-id_steps e zero zero x is = grind arith
-id_steps e zero (suc i) x is = grind arith
-id_steps e (suc count) zero x is = grind arith
-id_steps e (suc count) (suc zero) x is = grind arith
-id_steps e (suc count) (suc (suc i)) x is =
-    let h : (x < e + 1 + count) × (i < 2 * count) = id_steps (e + 1) count i x is in
-    (omega (arith, h.0), omega (arith, h.1))
+-- a step of a publication of so many elements: which element, and how many steps come before it
+abbrev pub Stands : ℕ → ℕ → Step → Type 0
+Stands n done (Id e) = (e < n) × (done < 4 * n)
+Stands n done (Len e) = (e < n) × (done < 4 * n)
+Stands n done (Link e) = (e < n) × (done < 4 * n)
+Stands n done (Head e) = (e < n) × (done < 4 * n)
+Stands n done Index = done ≡ 4 * n
+Stands n done (Clear e) = (e < n) × (4 * n < done)
+Stands n done Note = 4 * n < done
+Stands n done Bell = 4 * n < done
+Stands n done step = ⊥
 
-len_steps : (e count i x : ℕ) → slice_get (element_steps e count ++ Index ∷ []) i ≡ Some (Len x) → (x < e + count) × (i < 2 * count)
-len_steps e zero zero x is = grind arith
-len_steps e zero (suc i) x is = grind arith
-len_steps e (suc count) zero x is = grind arith
-len_steps e (suc count) (suc zero) x is = (grind arith, omega arith)
-len_steps e (suc count) (suc (suc i)) x is =
-    let h : (x < e + 1 + count) × (i < 2 * count) = len_steps (e + 1) count i x is in
-    (omega (arith, h.0), omega (arith, h.1))
+element_stands : (k e n done : ℕ) → e < n → done < 4 * n → Stands n done (element_step k e)
+element_stands zero e n done below early = (below, early)
+element_stands (suc zero) e n done below early = (below, early)
+element_stands (suc (suc zero)) e n done below early = (below, early)
+element_stands (suc (suc (suc k))) e n done below early = (below, early)
 
-index_steps : (e count i : ℕ) → slice_get (element_steps e count ++ Index ∷ []) i ≡ Some Index → i ≡ 2 * count
-index_steps e zero zero is = refl
-index_steps e zero (suc i) is = grind arith
-index_steps e (suc count) zero is = grind arith
-index_steps e (suc count) (suc zero) is = grind arith
-index_steps e (suc count) (suc (suc i)) is = omega (arith, index_steps (e + 1) count i is)
+abbrev StandsIf : ℕ → ℕ → Option Step → Type 0
+StandsIf n done None = ⊤
+StandsIf n done (Some step) = Stands n done step
 
--- the phase goes on before the last step
-goes_on : (n : ℕ) (done : ℕ) → done < 2 * n → is_publication (after_of (publish_steps n) (Publish done)) ≡ true
-goes_on n done early =
-    let more : nat_lt (done + 1) (length (publish_steps n)) ≡ true = grind (arith, nat_tests, length_publish n) in
-    ap (λ (t : Bool). is_publication (if t then Publish (done + 1) else Rest)) more
+shown_stands : (n : ℕ) (bell : Bool) (place done : ℕ) → done ≡ 4 * n + place → StandsIf n done (shown_step n bell place)
+shown_stands n bell zero done at = omega (arith, at)
+shown_stands n bell (suc place) done at = go (nat_lt place n) refl (place == n) (bell && (place == n + 1))
+  where
+    late : 4 * n < done
+    late = omega (arith, at)
+    go : (t : Bool) → nat_lt place n ≡ t → (u v : Bool) → StandsIf n done (if t then Some (Clear place) else if u then Some Note else if v then Some Bell else None)
+    go true low u v = (grind (arith, nat_tests, low), late)
+    go false low true v = late
+    go false low false true = late
+    go false low false false = tt
 
-pub id_within : (n : ℕ) (p : Phase) (e : ℕ) → next_of (running_steps n p) p ≡ Some (Id e) → (e < n) × (is_publication (after_of (running_steps n p) p) ≡ true)
-id_within n Rest e is = grind arith
-id_within n (Start zero) e is = grind arith
-id_within n (Start (suc done)) e is = grind arith
-id_within n (Fetch zero) e is = grind arith
-id_within n (Fetch (suc done)) e is = grind arith
-id_within n (Publish done) e is =
-    let h : (e < 0 + n) × (done < 2 * n) = id_steps 0 n done e is in
-    (omega (arith, h.0), goes_on n done h.1)
+stands_in : (n : ℕ) (bell : Bool) (done : ℕ) → StandsIf n done (slice_get (publish_steps n bell) done)
+stands_in n bell done = elim (cases_lt done (4 * n)) [
+  | inl below ↦ subst (StandsIf n done) (sym (in_element n bell done below)) (element_stands (done % 4) (done / 4) n done (omega (arith, below)) below)
+  | inr past ↦ subst (StandsIf n done) (sym (past_elements n bell done past)) (shown_stands n bell (done - 4 * n) done (omega (arith, past)))
+]
 
-pub len_within : (n : ℕ) (p : Phase) (e : ℕ) → next_of (running_steps n p) p ≡ Some (Len e) → (e < n) × (is_publication (after_of (running_steps n p) p) ≡ true)
-len_within n Rest e is = grind arith
-len_within n (Start zero) e is = grind arith
-len_within n (Start (suc done)) e is = grind arith
-len_within n (Fetch zero) e is = grind arith
-len_within n (Fetch (suc done)) e is = grind arith
-len_within n (Publish done) e is =
-    let h : (e < 0 + n) × (done < 2 * n) = len_steps 0 n done e is in
-    (omega (arith, h.0), goes_on n done h.1)
+-- whether a step is one of a publication
+abbrev pub of_publication : Step → Bool
+of_publication Count = false
+of_publication Accept = false
+of_publication step = true
 
--- the last step ends the phase
-pub index_ends : (n : ℕ) (p : Phase) → next_of (running_steps n p) p ≡ Some Index → after_of (running_steps n p) p ≡ Rest
-index_ends n Rest is = grind arith
-index_ends n (Start zero) is = grind arith
-index_ends n (Start (suc done)) is = grind arith
-index_ends n (Fetch zero) is = grind arith
-index_ends n (Fetch (suc done)) is = grind arith
-index_ends n (Publish done) is =
-    let last : done ≡ 2 * n = index_steps 0 n done is in
-    let ends : nat_lt (done + 1) (length (publish_steps n)) ≡ false = grind (arith, nat_tests, length_publish n) in
-    ap (λ (t : Bool). if t then Publish (done + 1) else Rest) ends
+-- it stands in the publication that is under way
+pub record StandsAt (n : ℕ) (p : Phase) (step : Step) : Type 0 where
+  pub going : is_publication p ≡ true
+  pub stands : Stands n (done_of p) step
+
+some_same : (x y : Step) → Some x ≡ Some y → x ≡ y
+some_same x y is = cc is
+
+pub stands_at : (n : ℕ) (bell : Bool) (p : Phase) (step : Step) → of_publication step ≡ true → next_of (running_steps n bell p) p ≡ Some step → StandsAt n p step
+stands_at n bell Rest step of is = absurd (cc is)
+stands_at n bell (Start zero) step of is = absurd (cc is)
+stands_at n bell (Start (suc done)) step of is = absurd (cc is)
+stands_at n bell (Fetch zero) step of is = absurd (let e : false ≡ true = ap of_publication (some_same Count step is) ∙ of in cc e)
+stands_at n bell (Fetch (suc zero)) step of is = absurd (let e : false ≡ true = ap of_publication (some_same Accept step is) ∙ of in cc e)
+stands_at n bell (Fetch (suc (suc done))) step of is = absurd (cc is)
+stands_at n bell (Publish done) step of is = record { going = refl; stands = subst (StandsIf n done) is (stands_in n bell done) }
+
+-- a publication has a next step
+some_step : (n : ℕ) (bell : Bool) (done : ℕ) (o : Option Step) → slice_get (publish_steps n bell) done ≡ o → done < length (publish_steps n bell) → is_some o ≡ true
+some_step n bell done o is within =
+    ap is_some (sym is ∙ slice_get-get_or (publish_steps n bell) done Note within)
+
+pub step_left : (n : ℕ) (bell : Bool) (p : Phase) (started : Bool) → phase_fits p n bell started ≡ true → is_publication p ≡ true → is_some (next_of (running_steps n bell p) p) ≡ true
+step_left n bell Rest started fits goes = absurd (cc goes)
+step_left n bell (Start done) started fits goes = absurd (cc goes)
+step_left n bell (Fetch done) started fits goes = absurd (cc goes)
+step_left n bell (Publish done) started fits goes =
+    let within : nat_lt done (length (publish_steps n bell)) ≡ true = both_first (nat_lt done (length (publish_steps n bell))) started fits in
+    some_step n bell done (slice_get (publish_steps n bell) done) refl (grind (arith, nat_tests, within))
+
+pub no_step : (n : ℕ) (bell : Bool) (p : Phase) (step : Step) → is_publication p ≡ true → next_of (running_steps n bell p) p ≡ Some step → Stands n (done_of p) step
+no_step n bell Rest step goes is = absurd (cc goes)
+no_step n bell (Start done) step goes is = absurd (cc goes)
+no_step n bell (Fetch done) step goes is = absurd (cc goes)
+no_step n bell (Publish done) step goes is = subst (StandsIf n done) is (stands_in n bell done)
+
+-- ---- the phase after a step
 
 -- a publication that goes on is within its steps
-fits_if : (t : Bool) (done n : ℕ) (started : Bool) → started ≡ true → nat_lt (done + 1) (length (publish_steps n)) ≡ t → is_publication (if t then Publish (done + 1) else Rest) ≡ true → phase_fits (if t then Publish (done + 1) else Rest) n started ≡ true
-fits_if true done n started is more goes =
-    let within : nat_le (done + 1) (2 * n) ≡ true = grind (arith, nat_tests, length_publish n) in
+fits_if : (t : Bool) (done n : ℕ) (bell started : Bool) → started ≡ true → nat_lt (done + 1) (length (publish_steps n bell)) ≡ t → is_publication (if t then Publish (done + 1) else Rest) ≡ true → phase_fits (if t then Publish (done + 1) else Rest) n bell started ≡ true
+fits_if true done n bell started is more goes = ap (λ (t : Bool). t && started) more ∙ is
+fits_if false done n bell started is more goes = absurd (cc goes)
+
+both_second : (a b : Bool) → a && b ≡ true → b ≡ true
+both_second true b is = is
+both_second false b is = absurd (cc is)
+
+pub fits_after : (p : Phase) (n : ℕ) (bell started : Bool) → phase_fits p n bell started ≡ true → is_publication p ≡ true → is_publication (after_of (running_steps n bell p) p) ≡ true → phase_fits (after_of (running_steps n bell p) p) n bell started ≡ true
+fits_after Rest n bell started fits was goes = absurd (cc was)
+fits_after (Start done) n bell started fits was goes = absurd (cc was)
+fits_after (Fetch done) n bell started fits was goes = absurd (cc was)
+fits_after (Publish done) n bell started fits was goes =
+    fits_if (nat_lt (done + 1) (length (publish_steps n bell))) done n bell started (both_second (nat_lt done (length (publish_steps n bell))) started fits) refl goes
+
+-- it ends behind the store of used.idx
+ends_if : (t : Bool) (done n : ℕ) (bell : Bool) → nat_lt (done + 1) (length (publish_steps n bell)) ≡ t → is_publication (if t then Publish (done + 1) else Rest) ≡ false → (4 * n < done) × ((if t then Publish (done + 1) else Rest) ≡ Rest)
+ends_if true done n bell more ends = absurd (cc ends)
+ends_if false done n bell more ends =
+    let past : length (publish_steps n bell) ≤ done + 1 = grind (arith, nat_tests, more) in
+    (omega (arith, past, length_publish n bell), refl)
+
+pub ends_shown : (p : Phase) (n : ℕ) (bell : Bool) → is_publication p ≡ true → is_publication (after_of (running_steps n bell p) p) ≡ false → (4 * n < done_of p) × (after_of (running_steps n bell p) p ≡ Rest)
+ends_shown Rest n bell was ends = absurd (cc was)
+ends_shown (Start done) n bell was ends = absurd (cc was)
+ends_shown (Fetch done) n bell was ends = absurd (cc was)
+ends_shown (Publish done) n bell was ends = ends_if (nat_lt (done + 1) (length (publish_steps n bell))) done n bell refl ends
+
+-- what is shown stays so
+shown_more : (t : Bool) (done n : ℕ) → is_publication (if t then Publish (done + 1) else Rest) ≡ true → shown_of (Publish done) n ≤ shown_of (if t then Publish (done + 1) else Rest) n
+shown_more false done n goes = absurd (cc goes)
+shown_more true done n goes = go (nat_lt (4 * n) done) refl (nat_lt (4 * n) (done + 1)) refl
+  where
+    go : (u : Bool) → nat_lt (4 * n) done ≡ u → (v : Bool) → nat_lt (4 * n) (done + 1) ≡ v → (if u then n else 0) ≤ (if v then n else 0)
+    go false a v b = omega arith
+    go true a true b = omega arith
+    go true a false b = absurd (let low : 4 * n < done = grind (arith, nat_tests, a) in let high : done + 1 ≤ 4 * n = grind (arith, nat_tests, b) in omega (arith, low, high))
+
+pub shown_on : (p : Phase) (n : ℕ) (bell : Bool) → is_publication p ≡ true → is_publication (after_of (running_steps n bell p) p) ≡ true → shown_of p n ≤ shown_of (after_of (running_steps n bell p) p) n
+shown_on Rest n bell was goes = absurd (cc was)
+shown_on (Start done) n bell was goes = absurd (cc was)
+shown_on (Fetch done) n bell was goes = absurd (cc was)
+shown_on (Publish done) n bell was goes = shown_more (nat_lt (done + 1) (length (publish_steps n bell))) done n goes
+
+-- all of the batch, behind the store of used.idx
+pub shown_all : (p : Phase) (n : ℕ) → is_publication p ≡ true → 4 * n < done_of p → shown_of p n ≡ n
+shown_all Rest n was late = absurd (cc was)
+shown_all (Start done) n was late = absurd (cc was)
+shown_all (Fetch done) n was late = absurd (cc was)
+shown_all (Publish done) n was late =
+    let past : nat_lt (4 * n) done ≡ true = grind (arith, nat_tests, late) in
+    ap (λ (t : Bool). if t then n else 0) past
+
+-- the store of used.idx shows the batch, and isn't the last step
+pub record Shows (n : ℕ) (bell : Bool) (p : Phase) : Type 0 where
+  pub none_before : shown_of p n ≡ 0
+  pub all_after : shown_of (after_of (running_steps n bell p) p) n ≡ n
+  pub goes : is_publication (after_of (running_steps n bell p) p) ≡ true
+
+pub index_shows : (n : ℕ) (bell : Bool) (p : Phase) → is_publication p ≡ true → done_of p ≡ 4 * n → Shows n bell p
+index_shows n bell Rest was at = absurd (cc was)
+index_shows n bell (Start done) was at = absurd (cc was)
+index_shows n bell (Fetch done) was at = absurd (cc was)
+index_shows n bell (Publish done) was at =
+    let more : nat_lt (done + 1) (length (publish_steps n bell)) ≡ true = let low : done + 1 < length (publish_steps n bell) = omega (arith, at, length_publish n bell) in grind (arith, nat_tests, low) in
+    let early : nat_lt (4 * n) done ≡ false = let low : done ≤ 4 * n = omega (arith, at) in grind (arith, nat_tests, low) in
+    let late : nat_lt (4 * n) (done + 1) ≡ true = let low : 4 * n < done + 1 = omega (arith, at) in grind (arith, nat_tests, low) in
+    let after : after_of (publish_steps n bell) (Publish done) ≡ Publish (done + 1) = ap (λ (t : Bool). if t then Publish (done + 1) else Rest) more in
+    record {
+      none_before = ap (λ (t : Bool). if t then n else 0) early;
+      all_after = ap (λ (q : Phase). shown_of q n) after ∙ ap (λ (t : Bool). if t then n else 0) late;
+      goes = ap is_publication after;
+    }
+
+-- ---- phases that fit
+
+pub rests : (p : Phase) (n : ℕ) (bell started : Bool) → phase_fits p n bell started ≡ true → is_publication p ≡ false → is_fetch p ≡ false → p ≡ Rest
+rests Rest n bell started fits a b = refl
+rests (Start done) n bell started fits a b = absurd (cc fits)
+rests (Fetch done) n bell started fits a b = absurd (cc b)
+rests (Publish done) n bell started fits a b = absurd (cc a)
+
+pub rest_batch : (p : Phase) (n : ℕ) (bell started : Bool) → phase_fits p n bell started ≡ true → is_publication p ≡ false → n ≡ 0
+rest_batch Rest n bell started fits a = grind (arith, nat_tests, fits)
+rest_batch (Start done) n bell started fits a = absurd (cc fits)
+rest_batch (Fetch done) n bell started fits a = go (done == 1) (n == 0) refl fits
+  where
+    go : (t u : Bool) → (n == 0) ≡ u → t && u && started ≡ true → n ≡ 0
+    go true true e h = grind (arith, nat_tests, e)
+    go true false e h = absurd (cc h)
+    go false u e h = absurd (cc h)
+rest_batch (Publish done) n bell started fits a = absurd (cc a)
+
+pub first_step_left : (n : ℕ) (bell started : Bool) → started ≡ true → phase_fits (Publish 0) n bell started ≡ true
+first_step_left n bell started is =
+    let within : nat_lt 0 (length (publish_steps n bell)) ≡ true = let low : 0 < length (publish_steps n bell) = omega (arith, length_publish n bell) in grind (arith, nat_tests, low) in
     ap (λ (t : Bool). t && started) within ∙ is
-fits_if false done n started is more goes = grind arith
 
-pub fits_after : (p : Phase) (n : ℕ) (started : Bool) → started ≡ true → phase_fits p n started ≡ true → is_publication (after_of (running_steps n p) p) ≡ true → phase_fits (after_of (running_steps n p) p) n started ≡ true
-fits_after Rest n started is fits goes = grind arith
-fits_after (Start done) n started is fits goes = grind arith
-fits_after (Fetch done) n started is fits goes = grind arith
-fits_after (Publish done) n started is fits goes = fits_if (nat_lt (done + 1) (length (publish_steps n))) done n started is refl goes
+-- a head is kept in a fetch, before its second step, and is free
+pub record Kept (p : Phase) (n head size : ℕ) (taken : List Bool) : Type 0 where
+  pub phase : p ≡ Fetch 1
+  pub no_batch : n ≡ 0
+  pub below : head < size
+  pub free : is_taken taken head ≡ false
 
-abbrev pub makes_store : Step → Bool
-makes_store (Id e) = true
-makes_store (Len e) = true
-makes_store Index = true
-makes_store step = false
+not_true : (b : Bool) → not b ≡ true → b ≡ false
+not_true true is = absurd (cc is)
+not_true false is = refl
 
--- a store, or none
-abbrev pub is_store : Option Step → Bool
-is_store None = false
-is_store (Some step) = makes_store step
+kept_in : (p : Phase) (n : ℕ) (bell started : Bool) (head size : ℕ) (taken : List Bool) → phase_fits p n bell started ≡ true → head_fits p (Some head) size taken ≡ true → Kept p n head size taken
+kept_in Rest n bell started head size taken fits kept = absurd (cc kept)
+kept_in (Start done) n bell started head size taken fits kept = absurd (cc kept)
+kept_in (Publish done) n bell started head size taken fits kept = absurd (cc kept)
+kept_in (Fetch done) n bell started head size taken fits kept = record {
+  phase = ap (λ (k : ℕ). Fetch k) (let one : (done == 1) ≡ true = both_first (done == 1) (n == 0) (both_first ((done == 1) && (n == 0)) started fits) in grind (arith, nat_tests, one));
+  no_batch = rest_batch (Fetch done) n bell started fits refl;
+  below = let low : nat_lt head size ≡ true = both_first (nat_lt head size) (not (is_taken taken head)) kept in grind (arith, nat_tests, low);
+  free = not_true (is_taken taken head) (both_second (nat_lt head size) (not (is_taken taken head)) kept);
+}
 
-steps_store : (e count i : ℕ) → i ≤ 2 * count → is_store (slice_get (element_steps e count ++ Index ∷ []) i) ≡ true
-steps_store e zero zero within = refl
-steps_store e zero (suc i) within = grind arith
-steps_store e (suc count) zero within = refl
-steps_store e (suc count) (suc zero) within = refl
-steps_store e (suc count) (suc (suc i)) within = steps_store (e + 1) count i (omega arith)
+pub kept_at : (p : Phase) (n : ℕ) (bell started : Bool) (o : Option ℕ) (head size : ℕ) (taken : List Bool) → o ≡ Some head → phase_fits p n bell started ≡ true → head_fits p o size taken ≡ true → Kept p n head size taken
+kept_at p n bell started o head size taken is fits kept = kept_in p n bell started head size taken fits (subst (λ (x : Option ℕ). head_fits p x size taken ≡ true) is kept)
 
--- each step of a publication makes a store
-pub publication_stores : (p : Phase) (n : ℕ) (started : Bool) → phase_fits p n started ≡ true → is_publication p ≡ true → is_store (next_of (running_steps n p) p) ≡ true
-publication_stores Rest n started fits goes = grind arith
-publication_stores (Start done) n started fits goes = grind arith
-publication_stores (Fetch done) n started fits goes = grind arith
-publication_stores (Publish done) n started fits goes =
-    let within : nat_le done (2 * n) ≡ true = both_first (nat_le done (2 * n)) started fits in
-    steps_store 0 n done (grind (arith, nat_tests))
+-- without a head no fetch is under way
+pub no_fetch : (p : Phase) (o : Option ℕ) (size : ℕ) (taken : List Bool) → o ≡ None → head_fits p o size taken ≡ true → is_fetch p ≡ false
+no_fetch p o size taken is kept = go p (subst (λ (x : Option ℕ). head_fits p x size taken ≡ true) is kept)
+  where
+    go : (p : Phase) → head_fits p None size taken ≡ true → is_fetch p ≡ false
+    go Rest h = refl
+    go (Start done) h = refl
+    go (Fetch done) h = absurd (cc h)
+    go (Publish done) h = refl
 
-pub no_store : (o next : Option Step) → next ≡ o → is_store o ≡ false → is_store next ≡ true → ⊥
-no_store o next is none some =
-    let h : false ≡ true = sym none ∙ ap is_store (sym is) ∙ some in
-    grind arith
+-- outside of a fetch no head is kept
+pub none_kept : (p : Phase) (o : Option ℕ) (size : ℕ) (taken : List Bool) → is_fetch p ≡ false → head_fits p o size taken ≡ true → o ≡ None
+none_kept (Fetch done) o size taken was h = absurd (cc was)
+none_kept Rest None size taken was h = refl
+none_kept Rest (Some head) size taken was h = absurd (cc h)
+none_kept (Start done) None size taken was h = refl
+none_kept (Start done) (Some head) size taken was h = absurd (cc h)
+none_kept (Publish done) None size taken was h = refl
+none_kept (Publish done) (Some head) size taken was h = absurd (cc h)
 
--- ---- rows
+pub no_head : (p q : Phase) (o : Option ℕ) (size : ℕ) (taken after : List Bool) → is_fetch p ≡ false → is_fetch q ≡ false → head_fits p o size taken ≡ true → head_fits q o size after ≡ true
+no_head p q o size taken after was is kept = subst (λ (x : Option ℕ). head_fits q x size after ≡ true) (sym (none_kept p o size taken was kept)) (none_fits q is)
+  where
+    none_fits : (q : Phase) → is_fetch q ≡ false → head_fits q None size after ≡ true
+    none_fits Rest is = refl
+    none_fits (Start done) is = refl
+    none_fits (Fetch done) is = absurd (cc is)
+    none_fits (Publish done) is = refl
 
-pub row_of_id : (s : QueueState) (e : ℕ) (x : ℕ × ℕ) → next_of (steps_in s) s.phase ≡ Some (Id e) → slice_get s.batch e ≡ Some x
-    → next_row s ≡ Some (row (used_side s.ring) SP1 (used_id_place (used_side s.ring) (s.next_used + e)) (little_bytes 4 x.0))
-row_of_id s e x next got = ap (row_at s) next ∙ ap (option_map (λ (y : ℕ × ℕ). row (used_side s.ring) SP1 (used_id_place (used_side s.ring) (s.next_used + e)) (little_bytes 4 y.0))) got
-
-pub row_of_len : (s : QueueState) (e : ℕ) (x : ℕ × ℕ) → next_of (steps_in s) s.phase ≡ Some (Len e) → slice_get s.batch e ≡ Some x
-    → next_row s ≡ Some (row (used_side s.ring) SP2 (used_len_place (used_side s.ring) (s.next_used + e)) (little_bytes 4 x.1))
-row_of_len s e x next got = ap (row_at s) next ∙ ap (option_map (λ (y : ℕ × ℕ). row (used_side s.ring) SP2 (used_len_place (used_side s.ring) (s.next_used + e)) (little_bytes 4 y.1))) got
-
-pub row_of_index : (s : QueueState) → next_of (steps_in s) s.phase ≡ Some Index
-    → next_row s ≡ Some (row (used_side s.ring) SP5 (used_idx_place (used_side s.ring)) (little_bytes 2 ((s.next_used + length s.batch) % 65536)))
-row_of_index s next = ap (row_at s) next
-
--- a store that failed, and one that succeeded
-pub failed_row : (before after : Option Bytes) (o : Option Row) (x : Row) → o ≡ Some x → Stores {T = Unit {0}} {E = Unit {0}} before after (Err tt) x.store → StoresRow before after says.SharedFault o
-failed_row before after o x is made = subst (λ (y : Option Row). StoresRow before after says.SharedFault y) (sym is) made
-
-pub failed_trail : (before after : Option (List Store)) (o : Option Row) (x : Row) → o ≡ Some x → Trails {T = Unit {0}} {E = Unit {0}} before after (Err tt) x.store → TrailsRow before after says.SharedFault o
-failed_trail before after o x is made = subst (λ (y : Option Row). TrailsRow before after says.SharedFault y) (sym is) made
-
-pub made_row : (before after : Option Bytes) (step : Stepped) (o : Option Row) (x : Row) → o ≡ Some x → outcome step ≡ Ok tt → Stores {T = Unit {0}} {E = Unit {0}} before after (Ok tt) x.store → StoresRow before after step o
-made_row before after step o x is done made =
-    subst (λ (y : Option Row). StoresRow before after step y) (sym is) (subst (λ (z : Result (Unit {0}) (Unit {0})). Stores before after z x.store) (sym done) made)
-
-pub made_trail : (before after : Option (List Store)) (step : Stepped) (o : Option Row) (x : Row) → o ≡ Some x → outcome step ≡ Ok tt → Trails {T = Unit {0}} {E = Unit {0}} before after (Ok tt) x.store → TrailsRow before after step o
-made_trail before after step o x is done made =
-    subst (λ (y : Option Row). TrailsRow before after step y) (sym is) (subst (λ (z : Result (Unit {0}) (Unit {0})). Trails before after z x.store) (sym done) made)
-
-pub moves_if : (step : Stepped) (o : Option Row) (x : Row) (s t : QueueState) → o ≡ Some x → Moves step (Some x) s t → Moves step o s t
-moves_if step o x s t is moves = subst (λ (y : Option Row). Moves step y s t) (sym is) moves
+pub publishes_no_fetch : (p : Phase) → is_publication p ≡ true → is_fetch p ≡ false
+publishes_no_fetch Rest is = refl
+publishes_no_fetch (Start done) is = refl
+publishes_no_fetch (Fetch done) is = absurd (cc is)
+publishes_no_fetch (Publish done) is = refl
 
 -- ---- a publication that is ready
 
@@ -279,11 +386,10 @@ ready_started q most ready =
     let b : Bool = not (is_fetch q.phase) in
     both_first q.started b (both_first (q.started && b) (is_publication q.phase || (nat_lt 0 most && nat_lt 0 (length q.completed))) ready)
 
-pub resting : (p : Phase) (n : ℕ) (started : Bool) → phase_fits p n started ≡ true → is_publication p ≡ false → n ≡ 0
-resting Rest n started fits rests = grind (arith, nat_tests)
-resting (Start done) n started fits rests = grind arith
-resting (Fetch done) n started fits rests = grind arith
-resting (Publish done) n started fits rests = grind arith
+pub ready_rests : (q : QueueState) (most : ℕ) → publishes most q ≡ true → is_fetch q.phase ≡ false
+ready_rests q most ready =
+    let b : Bool = not (is_fetch q.phase) in
+    not_true (is_fetch q.phase) (both_second q.started b (both_first (q.started && b) (is_publication q.phase || (nat_lt 0 most && nat_lt 0 (length q.completed))) ready))
 
 -- ---- turns
 

@@ -1,15 +1,13 @@
 -- What the steps of a queue make stable: a flush alone does.
-use Rattle.std.proofs.Common.{◌≡◌, ℕ, refl, subst, sym}
-use Rattle.std.specs.Prelude.{Bool, true, false, Option}
-use Rattle.vub_shared.specs.Bytes.{Bytes}
+use Rattle.std.proofs.Common.{◌≡◌, ℕ, refl}
+use Rattle.std.specs.Prelude.{true, Option}
 use Rattle.vub_disk.specs.Values.{Values}
-use Rattle.vub_steps.specs.Rows.{Row}
 use Rattle.vub_task.specs.declared.task.TaskStep as made
 use Rattle.vub_task.specs.declared.task.TaskStep.TheVariants as answers
 use Rattle.vub_task.specs.TaskState as TaskState
 use Rattle.vub_queue.specs.declared.queue.Stepped.{Stepped}
 use Rattle.vub_queue.specs.declared.queue.Stepped.TheVariants as says
-use Rattle.vub_queue.specs.QueueState.{QueueState, StableAfter, Fetches, Publishes, Moves, said, is_starting, next_row}
+use Rattle.vub_queue.specs.QueueState.{StableAfter, said, is_starting, is_fetching, is_publishing}
 
 pub stable_starting : (x : Stepped) (stable values : Option Values) → is_starting x ≡ true → StableAfter x stable values stable
 stable_starting says.Idle stable values is = refl
@@ -28,43 +26,39 @@ stable_starting says.BellFault stable values is = refl
 stable_starting (says.Broken fault) stable values is = refl
 stable_starting (says.Damaged fault) stable values is = refl
 
-pub stable_fetched : (told : Option Bytes) (x : Stepped) (s t : QueueState) (stable values : Option Values) → Fetches told x s t → StableAfter x stable values stable
-stable_fetched told says.Idle s t stable values h = refl
-stable_fetched told (says.Stored tag) s t stable values h = refl
-stable_fetched told (says.Accepted head) s t stable values h = refl
-stable_fetched told (says.Looked head sector) s t stable values h = refl
-stable_fetched told (says.Acted head sector) s t stable values h = refl
-stable_fetched told (says.Synced head) s t stable values h = absurd h
-stable_fetched told (says.Faulted head) s t stable values h = refl
-stable_fetched told (says.Completed head) s t stable values h = refl
-stable_fetched told says.Published s t stable values h = refl
-stable_fetched told says.Belled s t stable values h = refl
-stable_fetched told says.Started s t stable values h = refl
-stable_fetched told says.BellFault s t stable values h = refl
-stable_fetched told (says.Damaged fault) s t stable values h = refl
-stable_fetched told says.SharedFault s t stable values h = refl
-stable_fetched told (says.Broken fault) s t stable values h = refl
+pub stable_fetching : (x : Stepped) (stable values : Option Values) → is_fetching x ≡ true → StableAfter x stable values stable
+stable_fetching says.Idle stable values is = refl
+stable_fetching (says.Stored tag) stable values is = refl
+stable_fetching (says.Accepted head) stable values is = refl
+stable_fetching (says.Looked head sector) stable values is = refl
+stable_fetching (says.Acted head sector) stable values is = refl
+stable_fetching (says.Synced head) stable values is = absurd (cc is)
+stable_fetching (says.Faulted head) stable values is = refl
+stable_fetching (says.Completed head) stable values is = refl
+stable_fetching says.Published stable values is = refl
+stable_fetching says.Belled stable values is = refl
+stable_fetching says.Started stable values is = refl
+stable_fetching says.SharedFault stable values is = refl
+stable_fetching says.BellFault stable values is = refl
+stable_fetching (says.Broken fault) stable values is = refl
+stable_fetching (says.Damaged fault) stable values is = refl
 
-stable_moved : (x : Stepped) (o : Option Row) (s t : QueueState) (stable values : Option Values) → Moves x o s t → StableAfter x stable values stable
-stable_moved says.Idle o s t stable values h = refl
-stable_moved (says.Stored tag) o s t stable values h = refl
-stable_moved (says.Accepted head) o s t stable values h = refl
-stable_moved (says.Looked head sector) o s t stable values h = refl
-stable_moved (says.Acted head sector) o s t stable values h = refl
-stable_moved (says.Synced head) o s t stable values h = absurd h
-stable_moved (says.Faulted head) o s t stable values h = refl
-stable_moved (says.Completed head) o s t stable values h = refl
-stable_moved says.Published o s t stable values h = refl
-stable_moved says.Belled o s t stable values h = refl
-stable_moved says.Started o s t stable values h = refl
-stable_moved says.BellFault o s t stable values h = refl
-stable_moved (says.Damaged fault) o s t stable values h = refl
-stable_moved says.SharedFault o s t stable values h = refl
-stable_moved (says.Broken fault) o s t stable values h = refl
-
-pub stable_published : (ready : Bool) (x : Stepped) (s u t : QueueState) (stable values : Option Values) → Publishes ready x s u t → StableAfter x stable values stable
-stable_published false x s u t stable values h = subst (λ (y : Stepped). StableAfter y stable values stable) (sym h.0) refl
-stable_published true x s u t stable values h = stable_moved x (next_row u) u t stable values h
+pub stable_publishing : (x : Stepped) (stable values : Option Values) → is_publishing x ≡ true → StableAfter x stable values stable
+stable_publishing says.Idle stable values is = refl
+stable_publishing (says.Stored tag) stable values is = refl
+stable_publishing (says.Accepted head) stable values is = refl
+stable_publishing (says.Looked head sector) stable values is = refl
+stable_publishing (says.Acted head sector) stable values is = refl
+stable_publishing (says.Synced head) stable values is = absurd (cc is)
+stable_publishing (says.Faulted head) stable values is = refl
+stable_publishing (says.Completed head) stable values is = refl
+stable_publishing says.Published stable values is = refl
+stable_publishing says.Belled stable values is = refl
+stable_publishing says.Started stable values is = refl
+stable_publishing says.SharedFault stable values is = refl
+stable_publishing says.BellFault stable values is = refl
+stable_publishing (says.Broken fault) stable values is = refl
+stable_publishing (says.Damaged fault) stable values is = refl
 
 pub stable_said : (head : ℕ) (step : made.TaskStep) (stable values after : Option Values) → TaskState.StableAfter step stable values after → StableAfter (said head step) stable values after
 stable_said head (answers.Stored tag) stable values after h = h

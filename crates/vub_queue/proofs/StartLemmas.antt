@@ -12,11 +12,10 @@ use Rattle.vub_infl_split.specs.declared.region.SplitStore.{SplitStore}
 use Rattle.vub_infl_split.specs.Stores.{store_of}
 use Rattle.vub_rec_split.specs.declared.plan.Recovered.{Recovered}
 use Rattle.vub_rec_split.specs.Starts.{MakesStep, MakesOne, due_in, outcome as recovered_outcome}
-use Rattle.vub_steps.specs.Rows.{Row}
 use Rattle.vub_task.specs.TaskState.{GainsOne}
 use Rattle.vub_queue.specs.declared.queue.Stepped.{Stepped}
 use Rattle.vub_queue.specs.declared.queue.Stepped.TheVariants as says
-use Rattle.vub_queue.specs.QueueState.{QueueState, outcome, has_rung, bell_outcome, StoresStep, TrailsStep, StoresStart, TrailsStart, RingsAt, Fetches, Works, Publishes, Moves, next_row}
+use Rattle.vub_queue.specs.QueueState.{QueueState, outcome, has_rung, bell_outcome, StoresStep, TrailsStep, StoresStart, TrailsStart, RingsAt, Works, is_fetching}
 
 -- ---- stores
 
@@ -30,7 +29,7 @@ module _ {M : Type 0} (told : M → Option Bytes) (trail : M → Option (List St
   trails_step x y region None same makes = makes.same_trail
   trails_step x y region (Some step) same makes = subst (λ (z : Result (Unit {0}) (Unit {0})). Trails (trail before) (trail now) z (store_of region step)) same makes.trailed
 
-  gains_by : (z : Result (Unit {0}) (Unit {0})) (st : Store) → Trails (trail before) (trail now) z st → GainsOne (trail before) (trail now)
+  pub gains_by : (z : Result (Unit {0}) (Unit {0})) (st : Store) → Trails (trail before) (trail now) z st → GainsOne (trail before) (trail now)
   gains_by (Ok x) st h = inr (st, h)
   gains_by (Err e) st (inl h) = inl h
   gains_by (Err e) st (inr h) = inr (st, h)
@@ -91,22 +90,22 @@ silent_outcome (says.Damaged fault) is = refl
 pub silent_cause : (faults : ℕ) (x : Stepped) → has_rung x ≡ false → HasCause faults faults (bell_outcome x)
 silent_cause faults x is = subst (λ (z : Result (Unit {0}) (Unit {0})). HasCause faults faults z) (sym (silent_outcome x is)) (record { later = omega arith; failed = tt; quiet = refl })
 
-pub silent_fetched : (told : Option Bytes) (x : Stepped) (s t : QueueState) → Fetches told x s t → has_rung x ≡ false
-silent_fetched told says.Idle s t h = refl
-silent_fetched told (says.Stored tag) s t h = refl
-silent_fetched told (says.Accepted head) s t h = refl
-silent_fetched told (says.Looked head sector) s t h = refl
-silent_fetched told (says.Acted head sector) s t h = refl
-silent_fetched told (says.Synced head) s t h = refl
-silent_fetched told (says.Faulted head) s t h = refl
-silent_fetched told (says.Completed head) s t h = refl
-silent_fetched told says.Published s t h = refl
-silent_fetched told says.Belled s t h = absurd h
-silent_fetched told says.Started s t h = refl
-silent_fetched told says.SharedFault s t h = refl
-silent_fetched told says.BellFault s t h = absurd h
-silent_fetched told (says.Broken fault) s t h = refl
-silent_fetched told (says.Damaged fault) s t h = refl
+pub silent_fetching : (x : Stepped) → is_fetching x ≡ true → has_rung x ≡ false
+silent_fetching says.Idle is = refl
+silent_fetching (says.Stored tag) is = refl
+silent_fetching (says.Accepted head) is = refl
+silent_fetching (says.Looked head sector) is = refl
+silent_fetching (says.Acted head sector) is = refl
+silent_fetching (says.Synced head) is = refl
+silent_fetching (says.Faulted head) is = refl
+silent_fetching (says.Completed head) is = refl
+silent_fetching says.Published is = refl
+silent_fetching says.Belled is = absurd (cc is)
+silent_fetching says.Started is = refl
+silent_fetching says.SharedFault is = refl
+silent_fetching says.BellFault is = absurd (cc is)
+silent_fetching (says.Broken fault) is = refl
+silent_fetching (says.Damaged fault) is = refl
 
 pub silent_worked : (place : ℕ) (x : Stepped) (s t : QueueState) → Works place x s t → has_rung x ≡ false
 silent_worked place says.Idle s t h = refl
@@ -124,27 +123,6 @@ silent_worked place says.SharedFault s t h = refl
 silent_worked place says.BellFault s t h = absurd h
 silent_worked place (says.Broken fault) s t h = refl
 silent_worked place (says.Damaged fault) s t h = refl
-
-silent_moved : (x : Stepped) (o : Option Row) (s t : QueueState) → Moves x o s t → has_rung x ≡ false
-silent_moved says.Idle o s t h = refl
-silent_moved (says.Stored tag) o s t h = refl
-silent_moved (says.Accepted head) o s t h = refl
-silent_moved (says.Looked head sector) o s t h = refl
-silent_moved (says.Acted head sector) o s t h = refl
-silent_moved (says.Synced head) o s t h = refl
-silent_moved (says.Faulted head) o s t h = refl
-silent_moved (says.Completed head) o s t h = refl
-silent_moved says.Published o s t h = refl
-silent_moved says.Belled o s t h = absurd h
-silent_moved says.Started o s t h = refl
-silent_moved says.SharedFault o s t h = refl
-silent_moved says.BellFault o s t h = absurd h
-silent_moved (says.Broken fault) o s t h = refl
-silent_moved (says.Damaged fault) o s t h = refl
-
-pub silent_published : (ready : Bool) (x : Stepped) (s u t : QueueState) → Publishes ready x s u t → has_rung x ≡ false
-silent_published false x s u t h = ap has_rung h.0
-silent_published true x s u t h = silent_moved x (next_row u) u t h
 
 pub rung_absurd : (x : Stepped) (P : Type 0) → has_rung x ≡ false → has_rung x ≡ true → P
 rung_absurd x P silent rung = absurd (cc (sym silent ∙ rung))

@@ -165,15 +165,6 @@ standing_at s waiting = record { started = s.started; phase = s.phase; waiting =
 abbrev pub is_ready_at : QueueState → ℕ → Bool
 is_ready_at s waiting = not (is_some s.stopped) && is_ready (standing_at s waiting) (any_turn s.ring.size (standing_at s waiting))
 
--- whether a turn says that it called the disk, or completed a request
-abbrev pub is_work : Stepped → Bool
-is_work (says.Looked head sector) = true
-is_work (says.Acted head sector) = true
-is_work (says.Synced head) = true
-is_work (says.Faulted head) = true
-is_work (says.Completed head) = true
-is_work x = false
-
 -- whether the shared memory failed in a turn
 abbrev pub outcome : Stepped → Result (Unit {0}) (Unit {0})
 outcome says.SharedFault = Err tt
@@ -484,14 +475,17 @@ is_publishing says.SharedFault = true
 is_publishing says.BellFault = true
 is_publishing x = false
 
--- the next step makes this store into the in-flight region, and changes nothing but the phase
+-- whether a step changes nothing but the phase, and says the tag of its row
 abbrev pub is_plain : Option Step → Bool
+is_plain (Some (steps.Id e)) = true
+is_plain (Some (steps.Len e)) = true
 is_plain (Some (steps.Link e)) = true
 is_plain (Some (steps.Head e)) = true
 is_plain (Some (steps.Clear e)) = true
 is_plain (Some steps.Note) = true
 is_plain step = false
 
+-- the next step is such a one, and makes this store into the in-flight region
 pub record IsDueAt (x : SplitStore) (m : Bytes) (s : QueueState) : Type 0 where
   pub plain : is_plain (step_in s) ≡ true
   pub row : next_row s m ≡ Some (region_row s.recovery.region x)

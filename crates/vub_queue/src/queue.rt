@@ -3,6 +3,7 @@ ghost use Rattle.std.specs.Prelude.{◌≡◌, ◌<◌, ◌≤◌, ◌+◌, ℕ,
 ghost use Rattle.vub_split.specs.Split.{RingLies};
 ghost use Rattle.vub_queue.specs.QueueParts.{element, is_taken, taken_count, without_heads, heads_below, phase_fits, head_fits, shown_of};
 ghost use Rattle.vub_inflight.specs.Entries.{next_counter};
+ghost use Rattle.vub_steps.specs.Readiness.{is_publication};
 
 use std::alloc::Global;
 use vub_base::standard::SECTOR_SIZE;
@@ -144,6 +145,13 @@ fn set_taken(taken: &mut [bool], head: u16, to: bool)
     taken[usize::from(head)] = to;
 }
 
+/// Whether it is a publication.
+fn is_publication(phase: Phase) -> bool
+    ensures { result ≡ is_publication phase }
+{
+    matches!(phase, Phase::Publish(_))
+}
+
 /// The heads of these are free.
 fn release(taken: &mut [bool], batch: &[Completed])
     requires { heads_below (length taken.old) batch.now ≡ true }
@@ -169,7 +177,10 @@ fn next_counter(pending: &[Pending]) -> u128
 {
     let mut next = 0;
     for request in pending {
-        next = next.max(u128::from(request.counter) + 1);
+        let after = u128::from(request.counter) + 1;
+        if next < after {
+            next = after;
+        }
     }
     next
 }
@@ -192,7 +203,7 @@ impl Queue {
     ghost use Rattle.vub_task.specs.declared.task.Task.{Task};
     ghost use Rattle.vub_task.specs.TaskState as TaskState;
     ghost use Rattle.vub_task.specs.TaskState.{Making, IfMade, IfFaulted, GainsOne, memory_outcome};
-    ghost use Rattle.vub_steps.specs.Readiness.{is_publication, is_ready, chosen};
+    ghost use Rattle.vub_steps.specs.Readiness.{is_ready, chosen};
     ghost use Rattle.vub_steps.specs.declared.readiness.Turn.{Turn};
     ghost use Rattle.vub_steps.specs.declared.readiness.Turn.TheVariants.{Fetch, Work};
     ghost use Rattle.std.specs.Prelude.{not, ◌==◌, ◌⊎◌, ◌*◌, ◌↔◌, nat_lt, IsTrue, option_map, is_some, Option, Ok, remove, ◌++◌, ◌∷◌, []};
@@ -211,7 +222,7 @@ impl Queue {
     ghost use Rattle.vub_steps.specs.declared.steps.Phase.TheVariants.{Rest};
     ghost use Rattle.vub_steps.specs.declared.steps.Step.TheVariants.{Count, Accept, Id, Len, Link, Head, Index, Clear, Note};
     ghost use Rattle.vub_queue.specs.Queue.{ring_in};
-    ghost use Rattle.vub_queue.specs.QueueState.{QueueState, QueueLies, KeepsLying, Owes, OwesAt, state_of, IsNew, new_recovery, Ends, is_starting, is_fetching, is_publishing, is_work, StoresStart, TrailsStart, RingsAt, has_rung, may_ring, bell_outcome, said, concluded, StepsAt, IsDue, IsDueAt, IfStepped, StepsOut, WorksOut, StepsTask, WorksTask, Rests, disk_outcome, last_counter, standing_at, is_ready_at, waiting, IsFree, Finds, Fetches, fetch_row, fetch_under_way, begun, under_way, steps_in, step_in, next_row, moved, with_phase, Moves, outcome, found_outcome, MakesRow, publishes, publish_row, Publishes, is_idle, is_fault, Unless, Works, Does, DoesStore, DoesTrail, DoesDisk, StableAfter, halted, Turns};
+    ghost use Rattle.vub_queue.specs.QueueState.{QueueState, QueueLies, KeepsLying, Owes, OwesAt, state_of, IsNew, new_recovery, Ends, is_starting, is_fetching, is_publishing, StoresStart, TrailsStart, RingsAt, has_rung, may_ring, bell_outcome, said, concluded, StepsAt, IsDue, IsDueAt, IfStepped, StepsOut, WorksOut, StepsTask, WorksTask, Rests, disk_outcome, last_counter, standing_at, is_ready_at, waiting, IsFree, Finds, Fetches, fetch_row, fetch_under_way, begun, under_way, steps_in, step_in, next_row, moved, with_phase, Moves, outcome, found_outcome, MakesRow, publishes, publish_row, Publishes, is_idle, is_fault, Unless, Works, Does, DoesStore, DoesTrail, DoesDisk, StableAfter, halted, Turns};
 
     /// A queue that isn't started. All memory that it needs is reserved here.
     pub fn new(alloc: Global, setup: &QueueSetup) -> Result<Queue, Memory>
@@ -254,7 +265,7 @@ impl Queue {
     pub fn is_publishing(&self) -> bool
         ensures { result ≡ is_publication self.now.phase }
     {
-        matches!(self.phase, Phase::Publish(_))
+        is_publication(self.phase)
     }
 
     /// The next step of the fetch or the publication under way.
@@ -328,7 +339,6 @@ impl Queue {
     fn end_start<B: Bell>(&mut self, bell: &mut B) -> Stepped
         ensures ring { ring_in self.new ≡ ring_in self.old }
         ensures ends { Ends self.old.pending.items result (state_of self.old) (state_of self.new) }
-        ensures no_work { is_work result ≡ false }
         ensures lies { KeepsLying (state_of self.old) (state_of self.new) }
         ensures rings { RingsAt (state_of self.old).index result (B.told bell.old) (B.told bell.new) }
         ensures bell_cause { HasCause (B.faults bell.old) (B.faults bell.new) (bell_outcome result) }
@@ -356,7 +366,6 @@ impl Queue {
         ensures stores { StoresStart (M.told mem.old) (M.told mem.new) result (state_of self.old) }
         ensures trails { TrailsStart (M.told mem.old) (M.trail mem.old) (M.trail mem.new) result (state_of self.old) }
         ensures starting { is_starting result ≡ true }
-        ensures no_work { is_work result ≡ false }
         ensures lies { KeepsLying (state_of self.old) (state_of self.new) }
         ensures cause { HasCause (M.faults mem.old) (M.faults mem.new) (outcome result) }
         ensures rings { RingsAt (state_of self.old).index result (B.told bell.old) (B.told bell.new) }
@@ -378,7 +387,6 @@ impl Queue {
         ensures stores { StoresStart (M.told mem.old) (M.told mem.new) result (state_of self.old) }
         ensures trails { TrailsStart (M.told mem.old) (M.trail mem.old) (M.trail mem.new) result (state_of self.old) }
         ensures starting { is_starting result ≡ true }
-        ensures no_work { is_work result ≡ false }
         ensures lies { KeepsLying (state_of self.old) (state_of self.new) }
         ensures cause { HasCause (M.faults mem.old) (M.faults mem.new) (outcome result) }
         ensures rings { RingsAt (state_of self.old).index result (B.told bell.old) (B.told bell.new) }
@@ -488,6 +496,7 @@ impl Queue {
         ensures fetches { Fetches (M.told mem.old) result (state_of self.old) (state_of self.new) }
         ensures makes_row { MakesRow M.told M.trail M.names M.handed M.sizes mem.old mem.new result (fetch_row result (state_of self.old)) }
         ensures fetching { is_fetching result ≡ true }
+        ensures no_disk { disk_outcome result ≡ Ok tt }
         ensures cause { HasCause (M.faults mem.old) (M.faults mem.new) (outcome result) }
     {
         if !self.counts() {
@@ -526,6 +535,7 @@ impl Queue {
         ensures fetches { Fetches (M.told mem.old) result (state_of self.old) (state_of self.new) }
         ensures makes_row { MakesRow M.told M.trail M.names M.handed M.sizes mem.old mem.new result (fetch_row result (state_of self.old)) }
         ensures fetching { is_fetching result ≡ true }
+        ensures no_disk { disk_outcome result ≡ Ok tt }
         ensures cause { HasCause (M.faults mem.old) (M.faults mem.new) (outcome result) }
     {
         match self.region.store(mem, SplitStore::SF2(head)) {
@@ -546,6 +556,7 @@ impl Queue {
         ensures fetches { Fetches (M.told mem.old) result (state_of self.old) (state_of self.new) }
         ensures makes_row { MakesRow M.told M.trail M.names M.handed M.sizes mem.old mem.new result (fetch_row result (state_of self.old)) }
         ensures fetching { is_fetching result ≡ true }
+        ensures no_disk { disk_outcome result ≡ Ok tt }
         ensures cause { HasCause (M.faults mem.old) (M.faults mem.new) (outcome result) }
     {
         if !self.started || self.is_publishing() {
@@ -703,9 +714,11 @@ impl Queue {
         ensures state { state_of self.new ≡ with_phase (after_of (steps_in (state_of self.old)) self.old.phase) (state_of self.old) }
         ensures lies { KeepsLying (state_of self.old) (state_of self.new) }
     {
-        match after_running(self.batch, self.bell, self.phase) {
-            Phase::Rest => self.end_batch(),
-            phase => self.phase = phase,
+        let phase = after_running(self.batch, self.bell, self.phase);
+        if is_publication(phase) {
+            self.phase = phase;
+        } else {
+            self.end_batch();
         }
     }
 
@@ -717,6 +730,7 @@ impl Queue {
         ensures moves { Unless (is_fault result) (Moves (M.told mem.old) result (state_of self.old) (state_of self.new)) }
         ensures makes_row { MakesRow M.told M.trail M.names M.handed M.sizes mem.old mem.new result (next_row (state_of self.old)) }
         ensures publishing { is_publishing result ≡ true }
+        ensures no_disk { disk_outcome result ≡ Ok tt }
         ensures silent { has_rung result ≡ false }
         ensures cause { HasCause (M.faults mem.old) (M.faults mem.new) (outcome result) }
     {
@@ -742,6 +756,7 @@ impl Queue {
         ensures moves { Unless (is_fault result) (Moves (M.told mem.old) result (state_of self.old) (state_of self.new)) }
         ensures makes_row { MakesRow M.told M.trail M.names M.handed M.sizes mem.old mem.new result (next_row (state_of self.old)) }
         ensures publishing { is_publishing result ≡ true }
+        ensures no_disk { disk_outcome result ≡ Ok tt }
         ensures silent { has_rung result ≡ false }
         ensures cause { HasCause (M.faults mem.old) (M.faults mem.new) (outcome result) }
     {
@@ -768,6 +783,7 @@ impl Queue {
         ensures moves { Unless (is_fault result) (Moves (M.told mem.old) result (state_of self.old) (state_of self.new)) }
         ensures makes_row { MakesRow M.told M.trail M.names M.handed M.sizes mem.old mem.new result (next_row (state_of self.old)) }
         ensures publishing { is_publishing result ≡ true }
+        ensures no_disk { disk_outcome result ≡ Ok tt }
         ensures silent { has_rung result ≡ false }
         ensures cause { HasCause (M.faults mem.old) (M.faults mem.new) (outcome result) }
     {
@@ -795,6 +811,7 @@ impl Queue {
         ensures moves { Unless (is_fault result) (Moves (M.told mem.old) result (state_of self.old) (state_of self.new)) }
         ensures makes_row { MakesRow M.told M.trail M.names M.handed M.sizes mem.old mem.new result (next_row (state_of self.old)) }
         ensures publishing { is_publishing result ≡ true }
+        ensures no_disk { disk_outcome result ≡ Ok tt }
         ensures silent { has_rung result ≡ false }
         ensures cause { HasCause (M.faults mem.old) (M.faults mem.new) (outcome result) }
     {
@@ -817,6 +834,7 @@ impl Queue {
         ensures moves { Unless (is_fault result) (Moves (M.told mem.old) result (state_of self.old) (state_of self.new)) }
         ensures makes_row { MakesRow M.told M.trail M.names M.handed M.sizes mem.old mem.new result (next_row (state_of self.old)) }
         ensures publishing { is_publishing result ≡ true }
+        ensures no_disk { disk_outcome result ≡ Ok tt }
         ensures silent { has_rung result ≡ false }
         ensures cause { HasCause (M.faults mem.old) (M.faults mem.new) (outcome result) }
     {
@@ -837,6 +855,7 @@ impl Queue {
         ensures moves { Unless (is_fault result) (Moves (M.told mem.old) result (state_of self.old) (state_of self.new)) }
         ensures makes_row { MakesRow M.told M.trail M.names M.handed M.sizes mem.old mem.new result (next_row (state_of self.old)) }
         ensures publishing { is_publishing result ≡ true }
+        ensures no_disk { disk_outcome result ≡ Ok tt }
         ensures silent { has_rung result ≡ false }
         ensures cause { HasCause (M.faults mem.old) (M.faults mem.new) (outcome result) }
     {
@@ -854,6 +873,7 @@ impl Queue {
         ensures moves { Unless (is_fault result) (Moves (M.told mem.old) result (state_of self.old) (state_of self.new)) }
         ensures makes_row { MakesRow M.told M.trail M.names M.handed M.sizes mem.old mem.new result (next_row (state_of self.old)) }
         ensures publishing { is_publishing result ≡ true }
+        ensures no_disk { disk_outcome result ≡ Ok tt }
         ensures silent { has_rung result ≡ false }
         ensures cause { HasCause (M.faults mem.old) (M.faults mem.new) (outcome result) }
     {
@@ -871,6 +891,7 @@ impl Queue {
         ensures moves { Unless (is_fault result) (Moves (M.told mem.old) result (state_of self.old) (state_of self.new)) }
         ensures makes_row { MakesRow M.told M.trail M.names M.handed M.sizes mem.old mem.new result (next_row (state_of self.old)) }
         ensures publishing { is_publishing result ≡ true }
+        ensures no_disk { disk_outcome result ≡ Ok tt }
         ensures silent { has_rung result ≡ false }
         ensures cause { HasCause (M.faults mem.old) (M.faults mem.new) (outcome result) }
     {
@@ -887,6 +908,7 @@ impl Queue {
         ensures lies { KeepsLying (state_of self.old) (state_of self.new) }
         ensures moves { (told : Option Bytes) → Unless (is_fault result) (Moves told result (state_of self.old) (state_of self.new)) }
         ensures publishing { is_publishing result ≡ true }
+        ensures no_disk { disk_outcome result ≡ Ok tt }
         ensures rings { RingsAt self.old.index result (B.told bell.old) (B.told bell.new) }
         ensures bell_cause { HasCause (B.faults bell.old) (B.faults bell.new) (bell_outcome result) }
         ensures no_memory { outcome result ≡ Ok tt }
@@ -911,6 +933,7 @@ impl Queue {
         ensures moves { Unless (is_fault result) (Moves (M.told mem.old) result (state_of self.old) (state_of self.new)) }
         ensures makes_row { MakesRow M.told M.trail M.names M.handed M.sizes mem.old mem.new result (next_row (state_of self.old)) }
         ensures publishing { is_publishing result ≡ true }
+        ensures no_disk { disk_outcome result ≡ Ok tt }
         ensures cause { HasCause (M.faults mem.old) (M.faults mem.new) (outcome result) }
         ensures rings { RingsAt self.old.index result (B.told bell.old) (B.told bell.new) }
         ensures bell_cause { HasCause (B.faults bell.old) (B.faults bell.new) (bell_outcome result) }
@@ -945,6 +968,7 @@ impl Queue {
         ensures publishes { Unless (is_fault result) (Publishes (publishes most (state_of self.old)) (M.told mem.old) result (state_of self.old) (under_way most (state_of self.old)) (state_of self.new)) }
         ensures makes_row { MakesRow M.told M.trail M.names M.handed M.sizes mem.old mem.new result (publish_row most (state_of self.old)) }
         ensures publishing { is_publishing result ≡ true }
+        ensures no_disk { disk_outcome result ≡ Ok tt }
         ensures cause { HasCause (M.faults mem.old) (M.faults mem.new) (outcome result) }
         ensures rings { RingsAt self.old.index result (B.told bell.old) (B.told bell.new) }
         ensures bell_cause { HasCause (B.faults bell.old) (B.faults bell.new) (bell_outcome result) }

@@ -4,13 +4,13 @@ use Rattle.vub_queue.specs.declared.queue.Completed.{Completed}
 use Rattle.vub_task.specs.declared.task.Task.{Task}
 use Rattle.vub_queue.specs.QueueParts.{element, heads_below}
 use Rattle.vub_queue.specs.QueueState.{QueueState, state_of}
-use Rattle.vub_queue.proofs.QueueLemmas.{count_fits, completed_more, batch_still, below_more}
+use Rattle.vub_queue.proofs.QueueLemmas.{completed_more, batch_still, below_more}
 use Rattle.vub_queue.proofs.queue.Queue.complete.Goals as goal
 
 pub push_reserved-requires : goal.push_reserved-requires
 push_reserved-requires c =
     let g = c.args.self.now in
-    omega (arith, g.counted, count_fits g.taken.items, g.heads, g.space, c.remove.ensures.len)
+    omega (arith, g.all, g.space, c.remove.ensures.len)
 
 pub returns-clause-state : goal.returns-clause-state
 returns-clause-state c =

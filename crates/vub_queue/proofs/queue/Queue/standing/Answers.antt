@@ -1,13 +1,12 @@
 use Rattle.std.proofs.Common.{arith}
-use Rattle.vub_queue.proofs.QueueLemmas.{count_fits}
 use Rattle.vub_queue.proofs.queue.Queue.standing.Goals as goal
 
 pub overflow_cast-result : goal.overflow_cast-result
 overflow_cast-result c =
     let g = c.args.self.now in
-    omega (arith, g.counted, count_fits g.taken.items, g.heads, g.few, c.len.ensures)
+    omega (arith, g.all, g.few, c.len.ensures)
 
 pub overflow_cast-result-2 : goal.overflow_cast-result-2
 overflow_cast-result-2 c =
     let g = c.args.self.now in
-    omega (arith, g.counted, count_fits g.taken.items, g.heads, g.few, c.len-2.ensures)
+    omega (arith, g.all, g.few, c.len-2.ensures)
