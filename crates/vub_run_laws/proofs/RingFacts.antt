@@ -1,8 +1,7 @@
 -- The facts of a queue's words at the moments of a run.
 use Rattle.std.proofs.Common.{◌≡◌, ◌≤◌, ◌<◌, ℕ, zero, suc, ◌+◌, ◌*◌, ◌%◌, Bool, true, false, List, [], ◌∷◌, ◌++◌, length, map, take, get_or, refl, ap, sym, ◌∙◌, subst, inl, inr, arith}
 use Rattle.std.specs.Prelude.{Option, slice_index}
-use Rattle.byteorder.specs.Endian.{little_bytes}
-use Rattle.std.proofs.lemmas.Bool.{cases_Bool, cases_lt}
+use Rattle.std.proofs.lemmas.Bool.{cases_Bool}
 use Rattle.std.proofs.lemmas.Bool.Decides.{nat_tests}
 use Rattle.std.proofs.lemmas.List.{length-map}
 use Rattle.std.proofs.lemmas.Simd.{map-map}
@@ -28,7 +27,6 @@ use Rattle.vub_steps.specs.declared.steps.Plan.{Plan}
 use Rattle.vub_steps.specs.Steps.{publish_steps}
 use Rattle.vub_steps.proofs.StepLemmas.{length_publish}
 use Rattle.vub_infl_split.specs.declared.region.SplitRegion.{SplitRegion}
-
 use Rattle.vub_facts.specs.Facts.{Side, heads_in, Lies, Elsewhere, Words, words_at, head_next, InBatch, BatchFacts, Facts, IsDue, sight, words_after, heads_after, side_after, after_row, ElementsFit}
 use Rattle.vub_facts.proofs.Places.{start_long}
 use Rattle.vub_facts.proofs.FactWords.{facts_off, facts_beside, row_words}
@@ -317,6 +315,10 @@ head_is q h s = ap (λ (k : ℕ). head_at (the_ring q h.size) s.memory (used_idx
 -- what a step sees
 pub sight_is : (q : ℕ) (h : Header1) (s : Scene) (l : Lane) → sight_of h q s l ≡ sight (open_heads q s.past (s.heads q)) (side_of q h s l.bell l.plan l.counter l.batch l.phase) (words_in q h s)
 sight_is q h s l = ap (λ (d : ℕ). record (sight_of h q s l) { head = d }) (head_is q h s)
+
+-- no elements fit
+pub none_fit : ElementsFit []
+none_fit = record { ids = λ e low. absurd (omega (arith, low)); lens = λ e low. absurd (omega (arith, low)) }
 
 -- the words after a step that comes next
 abbrev pub StepWords : ℕ → Header1 → Scene → Lane → Step → Type 0

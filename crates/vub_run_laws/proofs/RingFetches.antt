@@ -1,34 +1,27 @@
 -- A fetch of a queue, step by step, on a split ring and its in-flight region.
-use Rattle.std.proofs.Common.{◌≡◌, ◌≤◌, ◌<◌, ℕ, ◌+◌, Bool, true, false, List, [], ◌∷◌, ◌++◌, length, refl, ap, sym, ◌∙◌, subst, inl, arith}
+use Rattle.std.proofs.Common.{◌≡◌, ◌<◌, ℕ, true, List, [], ◌∷◌, ◌++◌, length, refl, ap, sym, ◌∙◌, subst, arith}
 use Rattle.std.specs.Prelude.{slice_index}
-use Rattle.std.proofs.lemmas.List.{length-map}
 use Rattle.vub_base.specs.declared.header.Header1.{Header1}
-use Rattle.vub_shared.specs.Bytes.{Bytes}
 use Rattle.vub_steps.specs.declared.steps.Phase.TheVariants as phases
-use Rattle.vub_steps.specs.declared.steps.Step.{Step}
 use Rattle.vub_steps.specs.declared.steps.Step.TheVariants as steps
-use Rattle.vub_infl_split.specs.declared.region.SplitStore.{SplitStore}
 use Rattle.vub_infl_split.specs.declared.region.SplitStore.TheVariants.{SF1, SF2}
 use Rattle.vub_infl_split.specs.Stores.{store_of, tag_of}
 use Rattle.vub_device.specs.declared.entry.Entry.{Entry}
 use Rattle.vub_device.specs.declared.entry.Entry.TheVariants as entries
-use Rattle.vub_device.specs.Past.{accepted, started, open_numbers}
+use Rattle.vub_device.specs.Past.{accepted, started}
 use Rattle.vub_run.specs.Memory.{Scene}
 use Rattle.vub_run.specs.Moments.{Lane, open_heads, next_head}
-use Rattle.vub_facts.specs.Facts.{Side, Facts, ElementsFit}
+use Rattle.vub_facts.specs.Facts.{Facts}
 use Rattle.vub_run_laws.proofs.RunOwn.{accepted_own}
 use Rattle.vub_run_laws.proofs.RunHeads.{heads_accept}
 use Rattle.vub_run_laws.proofs.RunFrames.{next_unpublished}
 use Rattle.vub_run_laws.proofs.RunGood.{IsSize, Known, LeavesQueue}
-use Rattle.vub_run_laws.proofs.RingGood.{the_ring, the_region, side_of, Ringed, QueueFacts}
+use Rattle.vub_run_laws.proofs.RingGood.{the_region, side_of, QueueFacts}
 use Rattle.vub_run_laws.proofs.RingEntries.{ringed_entries, driven_same}
 use Rattle.vub_run_laws.proofs.RingPositions.{at_position, head_there, fetch_waits}
 use Rattle.vub_run_laws.proofs.RingStarts.{ringed_noted}
-use Rattle.vub_run_laws.proofs.RingFacts.{words_in, StepWords, step_words}
+use Rattle.vub_run_laws.proofs.RingFacts.{words_in, none_fit, StepWords, step_words}
 use Rattle.vub_run_laws.proofs.RunHolds.{fetching, noted_at, FetchCounts, FetchAccepts}
-
-none_fit : ElementsFit []
-none_fit = record { ids = λ e low. absurd (omega (arith, low)); lens = λ e low. absurd (omega (arith, low)) }
 
 -- the counter is stored
 pub fetch_counts : (q : ℕ) (h : Header1) (s : Scene) (l : Lane) → IsSize h.size → started s.past q ≡ true → QueueFacts q h s l.driver l.bell l.plan l.counter [] (phases.Fetch 0) → FetchCounts q h s l

@@ -1,6 +1,6 @@
 -- The avail position of a queue is used.idx and the number of open requests: the base and the number of accepted ones,
 -- modulo 65536. What is read there depends on it modulo 65536 alone.
-use Rattle.std.proofs.Common.{◌≡◌, ◌≤◌, ◌<◌, ℕ, ◌+◌, ◌*◌, ◌%◌, ◌-◌, Bool, List, length, map, ap, sym, ◌∙◌, subst, arith}
+use Rattle.std.proofs.Common.{◌≡◌, ◌≤◌, ◌<◌, ℕ, ◌+◌, ◌*◌, ◌%◌, ◌-◌, Bool, List, length, ap, sym, ◌∙◌, subst, arith}
 use Rattle.std.specs.Prelude.{slice_index}
 use Rattle.std.proofs.lemmas.List.{length-map}
 use Rattle.vub_base.specs.declared.header.Header1.{Header1}
@@ -10,14 +10,14 @@ use Rattle.vub_steps.specs.declared.steps.Phase.TheVariants as phases
 use Rattle.vub_steps.specs.declared.steps.Plan.{Plan}
 use Rattle.vub_ring.specs.Ring.{Ring, ahead, avail_idx, used_idx, head_at}
 use Rattle.vub_device.specs.declared.entry.Entry.{Entry}
-use Rattle.vub_device.specs.Past.{accepted, published, collected, open_numbers}
+use Rattle.vub_device.specs.Past.{accepted, published, open_numbers}
 use Rattle.vub_run.specs.Memory.{Scene}
 use Rattle.vub_run.specs.Moments.{open_heads}
-use Rattle.vub_facts.specs.Facts.{words_at, head_next}
+use Rattle.vub_facts.specs.Facts.{words_at}
 use Rattle.vub_facts.proofs.FactSteps.{SeesSame}
 use Rattle.vub_run_laws.proofs.RunHeads.{missing_exact}
 use Rattle.vub_run_laws.proofs.RunGood.{IsSize, Known}
-use Rattle.vub_run_laws.proofs.RingGood.{the_ring, the_region, side_of, WordsAt, Ringed}
+use Rattle.vub_run_laws.proofs.RingGood.{the_ring, the_region, WordsAt, Ringed}
 
 pub same_ahead : (a p p' : ℕ) → p % 65536 ≡ p' % 65536 → ahead a p ≡ ahead a p'
 same_ahead a p p' e = ap (λ (y : ℕ). (a + 65536 - y) % 65536) e

@@ -28,12 +28,12 @@ use Rattle.vub_region_facts.specs.Starts.{Left}
 use Rattle.vub_driver.specs.Drivers.{Driver}
 use Rattle.vub_device.specs.declared.entry.Entry.{Entry}
 use Rattle.vub_device.specs.declared.entry.Entry.TheVariants as entries
-use Rattle.vub_device.specs.Past.{started, published, accepted, missing_below, open_numbers}
+use Rattle.vub_device.specs.Past.{started, published, missing_below, open_numbers}
 use Rattle.vub_report.specs.declared.items.Item.TheVariants as items
 use Rattle.vub_run.specs.Memory.{Scene}
 use Rattle.vub_run.specs.Moments.{Lane, used_in, region_in, open_heads}
 use Rattle.vub_run.specs.Turns.{step_items, sight_of, counted, next_counter_in}
-use Rattle.vub_facts.specs.Facts.{Side, Words, words_at, Facts, IsDue, ElementsFit}
+use Rattle.vub_facts.specs.Facts.{Side, Words, words_at, Facts, IsDue}
 use Rattle.vub_facts.specs.Facts.{with_phase as side_with}
 use Rattle.vub_facts.proofs.FactStarts.{start_begins}
 use Rattle.vub_facts.proofs.Places.{IsStarting, IsRunning, bells, place_of, start_long, start_goes}
@@ -42,7 +42,7 @@ use Rattle.vub_run_laws.proofs.RunOwn.{started_own}
 use Rattle.vub_run_laws.proofs.RunGood.{IsSize}
 use Rattle.vub_run_laws.proofs.RingGood.{the_ring, the_region, side_of, WordsAt, Ringed, QueueFacts}
 use Rattle.vub_run_laws.proofs.RunHolds.{starting, steps_in, noted_at, StartStores, StartRings, StartEnds, NextStart, Stores, Rings, Ends}
-use Rattle.vub_run_laws.proofs.RingFacts.{words_in, StepWords, step_words}
+use Rattle.vub_run_laws.proofs.RingFacts.{words_in, none_fit, StepWords, step_words}
 
 -- ---- it begins
 
@@ -189,9 +189,6 @@ next_start q h s l done size x =
   where
     side : Side
     side = side_of q h s l.bell l.plan l.counter [] (phases.Start done)
-
-    none_fit : ElementsFit []
-    none_fit = record { ids = λ e low. absurd (omega (arith, low)); lens = λ e low. absurd (omega (arith, low)) }
 
     due : (step : Step) → slice_get (steps_in h l) done ≡ Some step → IsDue h.size step side
     due step is = record { in_phase = x.start.stopped; next = is }

@@ -3,7 +3,7 @@ use Rattle.std.proofs.Common.{◌≡◌, ◌≤◌, ◌<◌, ℕ, zero, suc, ◌
 use Rattle.std.specs.Prelude.{slice_index}
 use Rattle.std.proofs.lemmas.List.{length-drop, length-map, get_or-drop}
 use Rattle.vub_base.specs.declared.header.Header1.{Header1}
-use Rattle.vub_ring.specs.Ring.{ahead, avail_idx, used_idx, head_at, element_at, seen as seen_elements}
+use Rattle.vub_ring.specs.Ring.{ahead, avail_idx, used_idx, element_at, seen as seen_elements}
 use Rattle.vub_device.specs.Past.{accepted, published, collected, numbers}
 use Rattle.vub_split.proofs.Rings.{heads_are, elements_are}
 use Rattle.vub_run.specs.Memory.{Scene}

@@ -39,7 +39,7 @@ abbrev pub effort : ℕ → ℕ → List Entry → ℕ → Lane → ℕ
 effort q n past offered l =
     (if started past q then 0 else steps_left n l.bell l.plan l.phase) + 27 * (offered - accepted past q) + sum_below (weight (published past q) (l.completed ++ hidden l.batch l.phase) l.made) (accepted past q) + 8 * length l.completed + phase_left l.batch l.phase
 
-few_bells : (bell : Bool) → bells bell ≤ 1
+pub few_bells : (bell : Bool) → bells bell ≤ 1
 few_bells true = omega arith
 few_bells false = omega arith
 

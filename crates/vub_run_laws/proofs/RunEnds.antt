@@ -1,5 +1,5 @@
 -- A drain ends: each turn leaves less to do, and there is never much.
-use Rattle.std.proofs.Common.{◌≡◌, ◌≤◌, ◌<◌, ℕ, zero, suc, ◌+◌, ◌*◌, Bool, true, false, cond, List, [], ◌∷◌, ◌++◌, length, refl, ap, sym, ◌∙◌, subst, inl, inr, arith, length-append}
+use Rattle.std.proofs.Common.{◌≡◌, ◌≤◌, ℕ, zero, suc, ◌+◌, ◌*◌, Bool, true, false, cond, List, [], ◌∷◌, ◌++◌, length, refl, ap, sym, ◌∙◌, subst, inl, inr, arith, length-append}
 use Rattle.std.specs.Prelude.{◌||◌}
 use Rattle.std.proofs.lemmas.Bool.Decides.{nat_tests}
 use Rattle.std.proofs.lemmas.Bool.{cases_Bool}
@@ -21,7 +21,7 @@ use Rattle.vub_run.specs.Turns.{turned}
 use Rattle.vub_run.specs.Run.{Played, played, one_turn, is_due, then_played, turns}
 use Rattle.vub_run_laws.proofs.RunNumbers.{missing-among, distinct_join}
 pub use Rattle.vub_run_laws.proofs.RunNumbers.{missing_distinct}
-use Rattle.vub_facts.proofs.HeadLemmas.{distinct_push, few_below}
+use Rattle.vub_facts.proofs.HeadLemmas.{few_below}
 use Rattle.vub_run_laws.proofs.RunOwn.{at_own}
 use Rattle.vub_run_laws.proofs.RunGood.{Known, StartIs, hidden, Worked}
 use Rattle.vub_run_laws.proofs.RunEfforts.{weight, sum_below, phase_left, steps_left, effort, start_short, weight_small}

@@ -1,8 +1,8 @@
 -- An offer keeps what holds.
-use Rattle.std.proofs.Common.{◌≡◌, ◌<◌, ℕ, ◌+◌, ◌*◌, true, List, [], ◌∷◌, ◌++◌, length, refl, ap, sym, ◌∙◌, subst, inl, inr, arith}
+use Rattle.std.proofs.Common.{◌≡◌, ◌<◌, ℕ, ◌+◌, ◌*◌, List, [], ◌∷◌, ◌++◌, length, refl, ap, sym, ◌∙◌, subst, inl, inr, arith}
 use Rattle.std.specs.Prelude.{Option, Some, slice_index}
 use Rattle.std.proofs.lemmas.Bool.Decides.{nat_tests}
-use Rattle.std.proofs.lemmas.Bool.{cases_lt, or_right}
+use Rattle.std.proofs.lemmas.Bool.{cases_lt}
 use Rattle.std.proofs.lemmas.List.{length_push, get_or_append_left, get_or_push}
 use Rattle.vub_driver.specs.Layout.{area_place}
 use Rattle.vub_shared.specs.Bytes.{Bytes}
@@ -10,8 +10,7 @@ use Rattle.vub_steps.specs.declared.steps.Phase.{Phase}
 use Rattle.vub_device.specs.declared.entry.Asked.{Asked}
 use Rattle.vub_device.specs.declared.entry.Entry.{Entry}
 use Rattle.vub_device.specs.declared.entry.Entry.TheVariants as entries
-use Rattle.vub_device.specs.Past.{offers, asked, accepted, collected, is_among, looks, bytes_read, acts, synced}
-use Rattle.vub_device.proofs.Numbers.{is_among_append}
+use Rattle.vub_device.specs.Past.{offers, asked, collected, looks, bytes_read, acts, synced}
 use Rattle.vub_run_laws.proofs.RunOwn.{offers_own}
 use Rattle.vub_run_laws.proofs.RunGood.{IsWide, Known, IsBegun, IsFull, IsPending, Worked, Stored, IsRead}
 

@@ -1,5 +1,5 @@
 -- What is known of a queue, and what each step of the driver and of the device leaves of it.
-use Rattle.std.proofs.Common.{◌≡◌, ◌<◌, ℕ, ◌+◌, ◌*◌, true, false, List, [], ◌∷◌, ◌++◌, length, ap, sym, ◌∙◌, subst, arith, ◌%◌, ◌≤◌, Bool}
+use Rattle.std.proofs.Common.{◌≡◌, ◌<◌, ℕ, ◌+◌, true, false, List, [], ◌∷◌, ◌++◌, length, ap, sym, ◌∙◌, subst, arith, ◌%◌, ◌≤◌, Bool}
 use Rattle.std.specs.Prelude.{Option, Some, None, slice_index, slice_get}
 use Rattle.vub_base.specs.declared.header.Header1.{Header1}
 use Rattle.vub_shared.specs.Bytes.{Bytes, put}
@@ -20,7 +20,7 @@ use Rattle.vub_steps.specs.Plans.{plan_of}
 use Rattle.vub_run_laws.proofs.RingStarts.{start_facts, next_start}
 use Rattle.vub_run.specs.Tracking.{Tracks}
 use Rattle.vub_run_laws.proofs.RingGood.{the_ring, WordsAt, QueueFacts, IsWaiting, WaitsWell, EntryWell, EntryStands, LastStands}
-use Rattle.vub_run_laws.proofs.RunGood.{IsSize, Known, StartIs, IsOut, LeavesQueue, IsGood, IsPlainAsk}
+use Rattle.vub_run_laws.proofs.RunGood.{IsSize, Known, StartIs, IsOut, IsGood, IsPlainAsk}
 use Rattle.vub_run_laws.proofs.RingFrames.{OffRings}
 use Rattle.vub_run_laws.proofs.RingHeads.{left_shows}
 use Rattle.vub_run_laws.proofs.RunChainsStores.{put_all}

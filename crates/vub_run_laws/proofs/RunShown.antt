@@ -1,6 +1,6 @@
--- A publication keeps what holds: its rows before the last, and the last one with its publication.
-use Rattle.std.proofs.Common.{◌≡◌, ◌≢◌, ◌≤◌, ◌<◌, ℕ, ◌+◌, ◌-◌, ◌*◌, Bool, true, false, List, [], ◌∷◌, ◌++◌, length, refl, ap, sym, ◌∙◌, subst, inl, inr, arith}
-use Rattle.std.specs.Prelude.{Option, Some, nat_lt, slice_get, if◌then◌else◌, ◌||◌}
+-- A publication keeps what holds: its rows before used.idx, that of used.idx with its publication, and those after it.
+use Rattle.std.proofs.Common.{◌≡◌, ◌≢◌, ◌≤◌, ◌<◌, ℕ, ◌+◌, ◌*◌, Bool, true, false, List, [], ◌∷◌, ◌++◌, length, refl, ap, sym, ◌∙◌, subst, inl, inr, arith}
+use Rattle.std.specs.Prelude.{Option, Some, slice_get, if◌then◌else◌, ◌||◌}
 use Rattle.std.specs.List.{AllByRecursion}
 use Rattle.std.proofs.lemmas.Bool.Decides.{nat_tests}
 use Rattle.std.proofs.lemmas.Bool.{cases_Bool, cases_lt, or_left, or_right}
@@ -34,7 +34,7 @@ use Rattle.vub_run_laws.proofs.RunTracks.{numbers_answers}
 use Rattle.vub_run_laws.proofs.RunGood.{Known, BetweenTurns, hidden, Worked, Carries, Stored, stored_at}
 use Rattle.vub_run_laws.proofs.RunHolds.{Holds, publishing, publication_of, moved_on, goes_on, IsPublishing, RowBefore, RowNotes, RowRings, shown_list, shown_past, RowShows, NextRow, Before, Notes, Tells, Shows, QueueFacts}
 use Rattle.vub_run_laws.proofs.RunQueue.{phase_at, queue_row}
-use Rattle.vub_run_laws.proofs.RunEfforts.{weight, sum_below, phase_left, effort, shown_falls}
+use Rattle.vub_run_laws.proofs.RunEfforts.{weight, sum_below, phase_left, effort, few_bells, shown_falls}
 use Rattle.vub_run_laws.proofs.RunCarries.{all_hidden, none_hidden}
 use Rattle.vub_run_laws.proofs.RunFrames.{OffBuffer, stored_elsewhere}
 use Rattle.vub_run_laws.proofs.RunGuests.{holds_track}
@@ -270,10 +270,6 @@ moved_between l done false = tt
 left_falls : (l : Lane) (done : ℕ) (b : Bool) → done < 5 * length l.batch + 3 → phase_left (moved_on b done l).batch (moved_on b done l).phase + 1 ≤ phase_left l.batch (phases.Publish done)
 left_falls l done true low = omega (arith, low)
 left_falls l done false low = omega (arith, low)
-
-few_bells : (bell : Bool) → length (bell_steps bell) ≤ 1
-few_bells true = omega arith
-few_bells false = omega arith
 
 -- a store or none that leaves guest memory
 beside_fine : (q : ℕ) (h : Header1) (s : Scene) (l : Lane) (done : ℕ) (m : Bytes) (is : List Item) → IsUnderWay q h s l done → done ≢ 4 * length l.batch → after_items h is s ≡ record s { memory = m } → entries_of is ≡ []

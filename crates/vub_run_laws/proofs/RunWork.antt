@@ -19,7 +19,6 @@ use Rattle.vub_device.specs.Crash.{value}
 use Rattle.vub_device.specs.Legal.{LegalFrom, IsAtWork, MayLook, MayAct, MaySync}
 use Rattle.vub_device.specs.Requests.{look_at, effect_at, refusal}
 use Rattle.vub_device.specs.Past.{accepted, asked, published, collected, is_among, IsOpen, started, looks, bytes_read, acts, synced}
-use Rattle.vub_device.specs.Places.{are_distinct}
 use Rattle.vub_device.proofs.Numbers.{is_among_append}
 use Rattle.vub_base.specs.declared.store.Tag.TheVariants.{T5}
 use Rattle.vub_base.specs.declared.store.Area.TheVariants.{M}

@@ -23,8 +23,8 @@ ghost use Rattle.vub_run.specs.LegalRuns.{EveryDrainServes};
 ghost use Rattle.vub_run.specs.Spared.{EveryAnswerIsSpared};
 
 /// The history of every run of a schedule is legal: the device answers each request at most once,
-/// and rightly. Memory tracks it after each item, a store taken together with the offer or the
-/// publication that it makes.
+/// and rightly. Memory tracks it after each item, a store taken together with the offer, the
+/// acceptance or the publication that it makes.
 pub fn every_run_is_legal()
     ensures legal { (s : Schedule) (records : List Record) → IsSchedule s → Run s records → Legal s.header.capacity s.header.mode (history_of records) }
     ensures tracked { (s : Schedule) (records : List Record) → IsSchedule s → Run s records → TracksAlways s.header records }
