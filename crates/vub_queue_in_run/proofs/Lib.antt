@@ -1,11 +1,4 @@
 pub mod QueueAtMoves
-pub mod QueueAtRows
-pub mod QueueAtStarts
 pub mod QueueAtTurns
 pub mod QueueHeld
-pub mod Setups
-pub mod StartTurns
-pub mod WorkAt
-pub mod WorkAtItems
-pub mod WorkAtLists
-pub mod WorkAtStands
+pub mod TurnSays
