@@ -2,7 +2,7 @@
 use Rattle.std.proofs.Common.{◌≡◌, ◌≤◌, ℕ, zero, suc, ◌+◌, ◌*◌, Bool, true, false, cond, List, [], ◌∷◌, ◌++◌, length, refl, ap, sym, ◌∙◌, subst, inl, inr, arith, length-append}
 use Rattle.std.specs.Prelude.{◌||◌}
 use Rattle.std.proofs.lemmas.Bool.Decides.{nat_tests}
-use Rattle.std.proofs.lemmas.Bool.{cases_Bool}
+use Rattle.std.proofs.lemmas.Bool.{cases_Bool, cases_lt}
 use Rattle.std.proofs.lemmas.List.{append-nil, append_assoc}
 use Rattle.vub_base.specs.declared.header.Header1.{Header1}
 use Rattle.vub_steps.specs.declared.readiness.Turn.{Turn}
@@ -11,7 +11,7 @@ use Rattle.vub_steps.specs.declared.steps.Phase.TheVariants as phases
 use Rattle.vub_steps.specs.declared.steps.Plan.{Plan}
 use Rattle.vub_steps.specs.Readiness.{is_ready}
 use Rattle.vub_device.specs.declared.entry.Entry.{Entry}
-use Rattle.vub_device.specs.Past.{accepted, published, collected, is_among, missing_below, open_numbers, started}
+use Rattle.vub_device.specs.Past.{accepted, published, collected, is_among, missing_below, started}
 use Rattle.vub_device.specs.Places.{are_distinct}
 use Rattle.vub_device.proofs.Numbers.{is_among_append}
 use Rattle.vub_report.specs.declared.items.Item.{Item}
@@ -19,9 +19,10 @@ use Rattle.vub_run.specs.Memory.{Scene}
 use Rattle.vub_run.specs.Moments.{Lane, Moment, standing}
 use Rattle.vub_run.specs.Turns.{turned}
 use Rattle.vub_run.specs.Run.{Played, played, one_turn, is_due, then_played, turns}
-use Rattle.vub_run_laws.proofs.RunNumbers.{missing-among, distinct_join}
+use Rattle.vub_run_laws.proofs.RunNumbers.{distinct_join}
 pub use Rattle.vub_run_laws.proofs.RunNumbers.{missing_distinct}
-use Rattle.vub_facts.proofs.HeadLemmas.{few_below}
+use Rattle.vub_run_laws.proofs.RunHeads.{missing_exact}
+use Rattle.vub_run_laws.proofs.RunCarries.{all_hidden}
 use Rattle.vub_run_laws.proofs.RunOwn.{at_own}
 use Rattle.vub_run_laws.proofs.RunGood.{Known, StartIs, hidden, Worked}
 use Rattle.vub_run_laws.proofs.RunEfforts.{weight, sum_below, phase_left, steps_left, effort, start_short, weight_small}
@@ -41,50 +42,44 @@ turn_falls q h t m plain good due =
 
 -- ---- how much there is
 
--- what is open and what was published are no more than what was accepted
-open_few : (q n cap : ℕ) (past : List Entry) (heads : List ℕ) → Known q n cap past heads → length (published past q) + length (open_numbers past q) ≤ accepted past q
-open_few q n cap past heads known =
-    let ps : List ℕ = published past q in
-    let os : List ℕ = open_numbers past q in
-    let d : are_distinct (ps ++ os) ≡ true = distinct_join ps os known.distinct (missing_distinct ps (accepted past q)) (λ k held. (missing-among ps (accepted past q) k held).1) in
-    let few : length (ps ++ os) ≤ accepted past q = few_below (ps ++ os) (accepted past q) d (λ k held. elim (cases_Bool (is_among os k)) [
-      | inl there ↦ (missing-among ps (accepted past q) k there).0
-      | inr out ↦ known.below k (let joined : is_among (ps ++ os) k ≡ (is_among ps k || is_among os k) = is_among_append ps os k in grind (arith, nat_tests))
-    ]) in
-    omega (arith, few, length-append ps os)
-
-sum_few : (gone done : List ℕ) (made : ℕ → ℕ) (a : ℕ) → sum_below (weight gone done made) a ≤ 25 * length (missing_below gone a)
-sum_few gone done made zero = omega arith
-sum_few gone done made (suc a) =
-    let rest : sum_below (weight gone done made) a ≤ 25 * length (missing_below gone a) = sum_few gone done made a in
-    elim (cases_Bool (is_among gone a)) [
+-- what is neither published nor done weighs no more than its steps
+pub sum_left : (gone done : List ℕ) (made : ℕ → ℕ) (a : ℕ) → sum_below (weight gone done made) a ≤ 25 * length (missing_below (gone ++ done) a)
+sum_left gone done made zero = omega arith
+sum_left gone done made (suc a) =
+    let rest : sum_below (weight gone done made) a ≤ 25 * length (missing_below (gone ++ done) a) = sum_left gone done made a in
+    let joined : is_among (gone ++ done) a ≡ (is_among gone a || is_among done a) = is_among_append gone done a in
+    elim (cases_Bool (is_among (gone ++ done) a)) [
       | inl there ↦
           let none : weight gone done made a ≡ 0 = grind (arith, nat_tests) in
-          let same : missing_below gone (suc a) ≡ missing_below gone a = grind (arith, nat_tests) in
-          omega (arith, none, ap (λ (xs : List ℕ). length xs) same)
+          let same : missing_below (gone ++ done) (suc a) ≡ missing_below (gone ++ done) a = grind (arith, nat_tests) in
+          omega (arith, rest, none, ap (λ (xs : List ℕ). length xs) same)
       | inr out ↦
-          let more : missing_below gone (suc a) ≡ missing_below gone a ++ a ∷ [] = grind (arith, nat_tests) in
-          omega (arith, weight_small gone done made a, ap (λ (xs : List ℕ). length xs) more, length-append (missing_below gone a) (a ∷ []))
+          let more : missing_below (gone ++ done) (suc a) ≡ missing_below (gone ++ done) a ++ a ∷ [] = grind (arith, nat_tests) in
+          omega (arith, rest, weight_small gone done made a, ap (λ (xs : List ℕ). length xs) more, length-append (missing_below (gone ++ done) a) (a ∷ []))
     ]
 
--- those completed or in the batch are open ones
-done_few : (q n cap : ℕ) (past : List Entry) (heads : List ℕ) (phase : Phase) (batch completed : List ℕ) (made : ℕ → ℕ) → Known q n cap past heads → Worked q past phase batch completed made
-    → length (published past q) + (length completed + length batch) ≤ accepted past q
-done_few q n cap past heads phase batch completed made known w =
+-- what was published, what is completed or in the batch, and what is left are all that was accepted
+pub all_left : (q n cap : ℕ) (past : List Entry) (heads : List ℕ) (phase : Phase) (batch completed : List ℕ) (made : ℕ → ℕ) → Known q n cap past heads → Worked q past phase batch completed made
+    → length (published past q) + (length completed + length batch) + length (missing_below (published past q ++ (completed ++ batch)) (accepted past q)) ≡ accepted past q
+all_left q n cap past heads phase batch completed made known w =
     let ps : List ℕ = published past q in
     let ds : List ℕ = completed ++ batch in
     let d : are_distinct (ps ++ ds) ≡ true = distinct_join ps ds known.distinct w.distinct (λ k held. (w.opens k held).unpublished) in
-    let few : length (ps ++ ds) ≤ accepted past q = few_below (ps ++ ds) (accepted past q) d (λ k held. elim (cases_Bool (is_among ds k)) [
+    let all = missing_exact (ps ++ ds) (accepted past q) d (λ k held. elim (cases_Bool (is_among ds k)) [
       | inl there ↦ (w.opens k there).taken
       | inr out ↦ known.below k (let joined : is_among (ps ++ ds) k ≡ (is_among ps k || is_among ds k) = is_among_append ps ds k in grind (arith, nat_tests))
     ]) in
-    omega (arith, few, length-append ps ds, length-append completed batch)
+    omega (arith, all, length-append ps ds, length-append completed batch)
 
-pub phase_few : (batch : List ℕ) (phase : Phase) → phase_left batch phase ≤ 5 * length batch + 5
-phase_few batch phases.Rest = omega arith
-phase_few batch (phases.Start done) = omega arith
-phase_few batch (phases.Fetch done) = omega arith
-phase_few batch (phases.Publish done) = omega arith
+-- the steps that are left of a phase: five for each request of a hidden batch, and one for each of one that is shown, of n at most
+pub phase_few : (n : ℕ) (batch : List ℕ) (phase : Phase) → length batch ≤ n → phase_left batch phase ≤ 5 * length (hidden batch phase) + n + 5
+phase_few n batch phases.Rest few = omega arith
+phase_few n batch (phases.Start done) few = omega arith
+phase_few n batch (phases.Fetch done) few = omega arith
+phase_few n batch (phases.Publish done) few = elim (cases_lt (4 * length batch) done) [
+  | inl past ↦ omega (arith, past, few)
+  | inr before ↦ omega (arith, before, few, ap (λ (ks : List ℕ). length ks) (all_hidden batch done (omega (arith, before))))
+]
 
 -- and so is a start
 pub start_few : (b : Bool) (n : ℕ) (bell : Bool) (plan : Plan) (phase : Phase) → StartIs b n bell plan phase → cond {A = ℕ} b 0 (steps_left n bell plan phase) ≤ n + 4
@@ -95,7 +90,7 @@ start_few false n bell plan (phases.Fetch done) is = omega arith
 start_few false n bell plan (phases.Publish done) is = omega arith
 
 -- there is never much to do
-pub effort_small : (q : ℕ) (h : Header1) (m : Moment) → IsPlain h → Good q h m → effort_at q h m ≤ 2505
+pub effort_small : (q : ℕ) (h : Header1) (m : Moment) → IsPlain h → Good q h m → effort_at q h m ≤ 2000
 effort_small q h m plain good =
     let s : Scene = m.scene in
     let l : Lane = m.lanes q in
@@ -104,13 +99,11 @@ effort_small q h m plain good =
     let room : length (s.heads q) ≤ h.size + collected s.past q = known.room in
     let shown : collected s.past q ≤ length (published s.past q) = known.shown in
     let offered : accepted s.past q ≤ length (s.heads q) = known.offered in
-    let opens = open_few q h.size h.capacity s.past (s.heads q) known in
-    let dones = done_few q h.size h.capacity s.past (s.heads q) l.phase (hidden l.batch l.phase) l.completed l.made known good.holds.worked in
-    let sum = sum_few (published s.past q) (l.completed ++ hidden l.batch l.phase) l.made (accepted s.past q) in
-    let stores = phase_few l.batch l.phase in
-    let many : length l.batch ≤ h.size = queue_batch q h s l good.holds in
+    let all = all_left q h.size h.capacity s.past (s.heads q) l.phase (hidden l.batch l.phase) l.completed l.made known good.holds.worked in
+    let sum = sum_left (published s.past q) (l.completed ++ hidden l.batch l.phase) l.made (accepted s.past q) in
+    let left = phase_few h.size l.batch l.phase (queue_batch q h s l good.holds) in
     let begins = start_few (started s.past q) h.size l.bell l.plan l.phase (queue_start q h s l good.holds) in
-    omega (arith, opens, dones, sum, stores, many, begins)
+    omega (arith, small, room, shown, offered, all, sum, left, begins)
 
 -- ---- one more turn at the end
 
