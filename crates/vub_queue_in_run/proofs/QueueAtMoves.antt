@@ -25,9 +25,9 @@ use Rattle.vub_run.specs.Turns.{len_of}
 use Rattle.vub_queue.specs.QueueParts.{is_taken}
 use Rattle.vub_queue.specs.QueueState as states
 use Rattle.vub_queue.specs.QueueState.{QueueState}
-use Rattle.vub_queue_in_run.specs.QueueAt.{spot_of, left_of, TaskAt, QueueAt, KeepsHeads, kept_phase}
+use Rattle.vub_queue_in_run.specs.QueueAt.{spot_of, left_of, TaskAt, QueueAt, KeepsHeads, kept_phase, hidden_in, hidden_part, used_after}
 use Rattle.vub_rec_split.specs.Starts.{RecoveryState}
-use Rattle.vub_queue_in_run.proofs.QueueHeld.{words_with, fetched, shown, keeps_new, keeps_accepted, keeps_begun, keeps_alike, keeps_shown}
+use Rattle.vub_queue_in_run.proofs.QueueHeld.{words_with, fetched, shown, keeps_new, keeps_accepted, keeps_begun, keeps_alike, keeps_shown, all_hidden}
 use Rattle.vub_facts.specs.Facts.{heads_in, without}
 use Rattle.vub_facts.proofs.HeadLemmas.{without_map, number_of, among_get}
 use Rattle.vub_run.specs.Moments.{open_heads}
@@ -295,10 +295,6 @@ at_fetch q h setup past heads phase completed made state head known w is small f
     refused g request = refusal g.capacity g.mode request
 
 -- ---- a batch is taken
-
--- at the begin of a publication all of its batch is hidden
-all_hidden : (batch : List (ℕ × ℕ)) → hidden_part (phases.Publish 0) batch ≡ batch
-all_hidden batch = let none : nat_lt (4 * length batch) 0 ≡ false = grind (arith, nat_tests) in ap (λ (b : Bool). cond b [] batch) none
 
 pub at_begin : (q : ℕ) (h : Header1) (setup : QueueSetup) (past : List Entry) (heads : List ℕ) (completed : List ℕ) (made : ℕ → ℕ) (state : QueueState) (most : ℕ) → QueueAt q h setup past heads phases.Rest [] completed made state
     → QueueAt q h setup past heads (phases.Publish 0) (take most completed) (drop most completed) made (states.begun most state)

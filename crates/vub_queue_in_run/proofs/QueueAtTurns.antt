@@ -1,5 +1,5 @@
 -- Which turns of the queue are due at a moment of a run, and what a fetch leaves.
-use Rattle.std.proofs.Common.{◌≡◌, ◌≤◌, ◌<◌, ℕ, ◌+◌, ◌*◌, ◌%◌, Bool, true, false, List, [], ◌∷◌, length, refl, ap, sym, ◌∙◌, subst, inl, inr, arith}
+use Rattle.std.proofs.Common.{◌≡◌, ◌≤◌, ◌<◌, ℕ, ◌+◌, ◌*◌, ◌%◌, Bool, true, false, List, [], ◌∷◌, length, refl, ap, sym, ◌∙◌, subst, inl, inr, arith, filter, not, ◌++◌}
 use Rattle.std.specs.Prelude.{Option, Some, slice_index, nat_lt, ⊤}
 use Rattle.std.proofs.lemmas.Bool.Decides.{nat_tests}
 use Rattle.std.proofs.lemmas.List.{length-map}
@@ -18,7 +18,7 @@ use Rattle.vub_steps.specs.declared.readiness.Choice.TheVariants.{Only, Any, Dra
 use Rattle.vub_steps.specs.Readiness.{is_ready, is_publication, chosen}
 use Rattle.vub_device.specs.declared.entry.Entry.{Entry}
 use Rattle.vub_device.specs.declared.entry.Entry.TheVariants as entries
-use Rattle.vub_device.specs.Past.{accepted, published, collected, started}
+use Rattle.vub_device.specs.Past.{accepted, published, collected, started, is_among, open_numbers, IsOpen}
 use Rattle.vub_report.specs.declared.items.Item.TheVariants as items
 use Rattle.vub_queue.specs.declared.queue.Stepped.{Stepped}
 use Rattle.vub_queue.specs.declared.queue.Stepped.TheVariants as says
@@ -28,25 +28,28 @@ use Rattle.vub_run.specs.Memory.{Scene, after_items}
 use Rattle.vub_infl_split.specs.Region.{RegionWords}
 use Rattle.vub_rec_split.specs.Starts.{RecoveryState}
 use Rattle.vub_steps.specs.declared.steps.Plan.{Plan}
-use Rattle.vub_run.specs.Moments.{Lane, Moment, region_in, standing}
+use Rattle.vub_run.specs.Moments.{Lane, Moment, region_in, standing, avail_position, unfinished, used_in}
 use Rattle.vub_run.specs.Run.{one_turn}
 use Rattle.vub_run.specs.Turns.{Turned, turned, under_way, phase_goes_on}
 use Rattle.vub_split.specs.Split.{avail_idx_word, head_word}
 use Rattle.vub_queue.specs.QueueParts.{is_taken}
 use Rattle.vub_queue.specs.QueueState as states
-use Rattle.vub_queue.specs.QueueState.{QueueState, standing_at, StartsIf, Fetches, Breaks, BreaksBy, Publishes, publishes, DoesOf, Unless, Turns, is_fault}
-use Rattle.vub_queue_in_run.specs.QueueAt.{spot_of, QueueAt, StartAt, LiesAs, QueueStands, kept_phase}
+use Rattle.vub_queue.specs.QueueState.{QueueState, standing_at, StartsIf, Fetches, Breaks, BreaksBy, Publishes, publishes, DoesOf, Unless, Turns, is_fault, last_counter}
+use Rattle.vub_queue_in_run.specs.QueueAt.{spot_of, QueueAt, LiesAs, QueueStands, kept_phase, PhaseAt, hidden_part, left_of}
 use Rattle.vub_driver.specs.Layout.{area_place}
 use Rattle.vub_run_laws.proofs.RunOwn.{at_own}
-use Rattle.vub_run_laws.proofs.RunNumbers.{not_among-take}
+use Rattle.vub_run_laws.proofs.RunNumbers.{not_among-take, missing-among}
 use Rattle.vub_run_laws.proofs.RingGood.{the_ring}
-use Rattle.vub_run_laws.proofs.RunGood.{IsOut}
+use Rattle.vub_run_laws.proofs.RunGood.{IsOut, Worked, hidden}
 use Rattle.vub_run_laws.proofs.RunHolds.{Holds}
 use Rattle.vub_run_laws.proofs.RunFrames.{open_out}
 use Rattle.vub_run_laws.proofs.RunPhases.{resting, rest_is}
 use Rattle.vub_run_laws.proofs.RunTurns.{IsPlain, Good, running_cases}
 use Rattle.vub_queue_in_run.proofs.QueueAtMoves.{new_unpublished, count_is, avail_is, taken_open, at_fetch}
-use Rattle.vub_run_laws.proofs.RunQueue.{queue_ahead, offered_head, head_below, heads_apart}
+use Rattle.vub_run_laws.proofs.RunQueue.{queue_ahead, offered_head, head_below, heads_apart, shown_index}
+use Rattle.vub_run_laws.proofs.RunHeads.{missing_exact}
+use Rattle.std.proofs.lemmas.Bool.{cases_Bool}
+use Rattle.vub_run_laws.proofs.RunCarries.{out_of_batch, left_hidden}
 
 -- ---- what is hidden of a batch
 
@@ -255,22 +258,16 @@ IsPhaseTurn t = ⊤
 idle_start : (state u : QueueState) (x : Stepped) (told : Option Bytes) → state.started ≡ true → DoesOf turns.Start told x state u → (x ≡ says.Idle) × (u ≡ state)
 idle_start state u x told is does = subst (λ (b : Bool). StartsIf b told x state u) is does
 
--- a fetch that finds something is ready
-ready_if : (state : QueueState) (n : ℕ) → states.may_fetch state ≡ true → 1 ≤ n → is_ready (standing_at state n) turns.Fetch ≡ true
-ready_if state n may some = let more : nat_lt 0 n ≡ true = grind (arith, nat_tests) in grind (arith, nat_tests)
+-- the fetch isn't ready
+unready_fetch : {A : Type 0} (state : QueueState) (m : Bytes) → is_ready (standing_at state (states.waiting state m)) turns.Fetch ≡ false → states.fetches state m ≡ true → A
+unready_fetch state m unready ready = absurd (let fails : true ≡ false = sym ready ∙ unready in cc)
 
 idle_fetch : (state u : QueueState) (x : Stepped) (m : Bytes) → is_ready (standing_at state (states.waiting state m)) turns.Fetch ≡ false → is_fault x ≡ false → Fetches (Some m) x state u → (x ≡ says.Idle) × (u ≡ state)
 idle_fetch state u says.Idle m unready f does = (refl, does.0)
-idle_fetch state u (says.Accepted head) m unready f does = absurd (
-    let finds = does.2 m refl in
-    let fails : true ≡ false = sym (ready_if state (states.waiting state m) does.1 finds.0.some) ∙ unready in
-    cc)
-idle_fetch state u (says.Broken fault) m unready f does = absurd (
-    let breaks = does.2 m refl in
-    let fails : true ≡ false = sym (ready_if state (states.waiting state m) does.1 breaks.0) ∙ unready in
-    cc)
+idle_fetch state u (says.Accepted head) m unready f does = unready_fetch state m unready (does.ready m refl)
+idle_fetch state u (says.Broken fault) m unready f does = unready_fetch state m unready (does.ready m refl)
 idle_fetch state u says.SharedFault m unready f does = absurd (let fails : true ≡ false = f in cc)
-idle_fetch state u (says.Stored tag) m unready f does = absurd does
+idle_fetch state u (says.Stored tag) m unready f does = unready_fetch state m unready (does.ready m refl)
 idle_fetch state u (says.Looked head sector) m unready f does = absurd does
 idle_fetch state u (says.Acted head sector) m unready f does = absurd does
 idle_fetch state u (says.Synced head) m unready f does = absurd does
@@ -282,14 +279,14 @@ idle_fetch state u says.Belled m unready f does = absurd does
 idle_fetch state u says.BellFault m unready f does = absurd (let fails : true ≡ false = f in cc)
 idle_fetch state u (says.Damaged fault) m unready f does = absurd does
 
-idle_publish : (state u : QueueState) (x : Stepped) (most : ℕ) → publishes most state ≡ false → Publishes (publishes most state) x state (states.under_way most state) u → (x ≡ says.Idle) × (u ≡ state)
-idle_publish state u x most unready does = subst (λ (b : Bool). Publishes b x state (states.under_way most state) u) unready does
+idle_publish : (state u : QueueState) (x : Stepped) (most : ℕ) (m : Bytes) → publishes most state ≡ false → Publishes (publishes most state) (Some m) x state (states.under_way most state) u → (x ≡ says.Idle) × (u ≡ state)
+idle_publish state u x most m unready does = subst (λ (b : Bool). Publishes b (Some m) x state (states.under_way most state) u) unready does
 
 idle_does : (t : Turn) (state u : QueueState) (x : Stepped) (m : Bytes) → IsPhaseTurn t → is_ready (standing_at state (states.waiting state m)) t ≡ false → is_fault x ≡ false → DoesOf t (Some m) x state u → (x ≡ says.Idle) × (u ≡ state)
 idle_does turns.Start state u x m is unready f does = idle_start state u x (Some m) (grind (arith, nat_tests)) does
 idle_does turns.Fetch state u x m is unready f does = idle_fetch state u x m unready f does
 idle_does (turns.Work place) state u x m is unready f does = absurd is
-idle_does (turns.Publish most) state u x m is unready f does = idle_publish state u x most unready does
+idle_does (turns.Publish most) state u x m is unready f does = idle_publish state u x most m unready does
 
 pub idle_stands : (q : ℕ) (h : Header1) (setup : QueueSetup) (m : Moment) (t : Turn) (x : Stepped) (state state' : QueueState) → LiesAs q setup h.size → Holds q h m.scene (m.lanes q) → QueueStands q h setup m state → IsPhaseTurn t
     → is_ready (standing h q m) t ≡ false → is_fault x ≡ false → Turns t (Some m.scene.memory) x state state' → (x ≡ says.Idle) × (state' ≡ state)

@@ -1,5 +1,5 @@
 -- What a queue keeps goes on to agree with the open heads.
-use Rattle.std.proofs.Common.{◌≡◌, ◌<◌, ℕ, ◌+◌, ◌*◌, ◌%◌, zero, suc, Bool, true, false, not, List, [], ◌∷◌, ◌++◌, length, map, set, get_or, refl, ap, sym, ◌∙◌, subst, inl, inr, arith}
+use Rattle.std.proofs.Common.{◌≡◌, ◌<◌, ℕ, ◌+◌, ◌*◌, ◌%◌, zero, suc, Bool, true, false, not, List, [], ◌∷◌, ◌++◌, length, map, set, get_or, refl, ap, sym, ◌∙◌, subst, inl, inr, arith, nat_lt, cond, take}
 use Rattle.std.specs.Prelude.{◌||◌, ◌&&◌, ◌==◌, remove, slice_get, Option, Some, option_map}
 use Rattle.std.proofs.lemmas.Bool.{cases_eq}
 use Rattle.std.proofs.lemmas.Bool.Decides.{nat_tests}
@@ -18,7 +18,7 @@ use Rattle.vub_queue.specs.QueueParts.{is_taken, without_heads}
 use Rattle.vub_queue.specs.QueueState as states
 use Rattle.vub_queue.specs.QueueState.{QueueState, worked, done_at}
 use Rattle.vub_facts.specs.Facts.{Words, heads_in, without, words_after}
-use Rattle.vub_facts.specs.Held.{State, Held, state_after, completed_at}
+use Rattle.vub_facts.specs.Held.{State, Held, state_after, completed_at, publication_begun}
 use Rattle.vub_facts.proofs.HeldSteps.{held_words, held_like, held_accept, held_index, held_publication_begun, held_completed}
 use Rattle.vub_queue_in_run.specs.QueueAt.{hidden_part, hidden_in, held_in, KeepsHeads}
 
@@ -64,11 +64,16 @@ keeps_accepted r heads used s head low places free none x w at =
 
 -- ---- a publication
 
+-- at the begin of a publication all of its batch is hidden
+pub all_hidden : (batch : List (ℕ × ℕ)) → hidden_part (phases.Publish 0) batch ≡ batch
+all_hidden batch = let none : nat_lt (4 * length batch) 0 ≡ false = grind (arith, nat_tests) in ap (λ (b : Bool). cond b [] batch) none
+
 pub keeps_begun : (n : ℕ) (heads : List ℕ) (used most : ℕ) (s : QueueState) → hidden_in s ≡ [] → KeepsHeads n heads used s → KeepsHeads n heads used (states.begun most s)
 keeps_begun n heads used most s none x w at =
     let y : Held n heads w (held_in s) = x w at in
-    let z = held_publication_begun n heads w most (held_in s) none y in
-    record { distinct = z.distinct; below = z.below; avail = z.avail; taken = z.taken; splits = z.splits }
+    let z : Held n heads w (publication_begun most (held_in s)) = held_publication_begun n heads w most (held_in s) none y in
+    let all : hidden_in (states.begun most s) ≡ take most s.completed = all_hidden (take most s.completed) in
+    subst (λ (bs : List (ℕ × ℕ)). Held n heads w (record (held_in (states.begun most s)) { batch = bs })) (sym all) z
 
 -- one that hides the same, and changed in nothing else that matters
 pub keeps_alike : (n : ℕ) (heads : List ℕ) (used : ℕ) (s : QueueState) (p : Phase) (c : ℕ) (f : Option ℕ) (b : List (ℕ × ℕ)) → hidden_part p b ≡ hidden_in s → KeepsHeads n heads used s → KeepsHeads n heads used (record s { phase = p; counter = c; fetching = f; batch = b })
