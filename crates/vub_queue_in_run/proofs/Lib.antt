@@ -1,13 +1,5 @@
-pub mod QueueAtFetches
 pub mod QueueAtMoves
-pub mod QueueAtStarts
 pub mod QueueAtSteps
 pub mod QueueAtTurns
 pub mod QueueHeld
-pub mod Setups
-pub mod StartTurns
 pub mod TurnSays
-pub mod WorkAt
-pub mod WorkAtItems
-pub mod WorkAtLists
-pub mod WorkAtStands

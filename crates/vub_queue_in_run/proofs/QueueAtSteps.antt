@@ -1,5 +1,5 @@
 -- What a step of a fetch or a publication says, makes and leaves in a run.
-use Rattle.std.proofs.Common.{◌≡◌, ◌≤◌, ◌<◌, ◌⊎◌, ℕ, zero, suc, ◌+◌, ◌*◌, Bool, true, false, List, [], ◌∷◌, ◌++◌, length, map, cond, refl, ap, sym, ◌∙◌, subst, inl, inr, arith}
+use Rattle.std.proofs.Common.{◌≡◌, ◌≤◌, ◌<◌, ◌⊎◌, ℕ, zero, suc, ◌+◌, ◌*◌, Bool, true, false, List, [], ◌∷◌, ◌++◌, length, map, cond, refl, ap, sym, ◌∙◌, subst, inl, inr, arith, ◌%◌}
 use Rattle.std.specs.Prelude.{Option, Some, None, slice_index, slice_get, get_or, option_map, nat_lt, not, if◌then◌else◌}
 use Rattle.std.specs.Option.{option_or}
 use Rattle.std.proofs.lemmas.Bool.Decides.{nat_tests}
@@ -195,9 +195,9 @@ count_has : (q : ℕ) (h : Header1) (setup : QueueSetup) (s : Scene) (l : Lane) 
 count_has q h setup s l u w fetching =
     region_has q h setup s l steps.Count u (stores.SF1 (next_head h q s) l.counter) w (ap (λ (d : ℕ). Some (region_row (region_of q h.size) (stores.SF1 d l.counter))) (seen_head q h setup s l steps.Count u w fetching)) refl
 
-accept_has : (q : ℕ) (h : Header1) (setup : QueueSetup) (s : Scene) (l : Lane) (u : QueueState) → IsUnderWay q h setup s l steps.Accept u → is_fetch l.phase ≡ true → HasRow q h setup s l steps.Accept u
-accept_has q h setup s l u w fetching =
-    region_has q h setup s l steps.Accept u (stores.SF2 (next_head h q s)) w (ap (λ (d : ℕ). Some (region_row (region_of q h.size) (stores.SF2 d))) (seen_head q h setup s l steps.Accept u w fetching)) refl
+-- the row that accepts a head
+accept_row : (q : ℕ) (h : Header1) (setup : QueueSetup) (s : Scene) (l : Lane) (u : QueueState) → IsUnderWay q h setup s l steps.Accept u → is_fetch l.phase ≡ true → row_at u s.memory (Some steps.Accept) ≡ Some (region_row (region_of q h.size) (stores.SF2 (next_head h q s)))
+accept_row q h setup s l u w fetching = row_there q h setup s l steps.Accept u w ∙ ap (λ (d : ℕ). Some (region_row (region_of q h.size) (stores.SF2 d))) (seen_head q h setup s l steps.Accept u w fetching)
 
 id_has : (q : ℕ) (h : Header1) (setup : QueueSetup) (s : Scene) (l : Lane) (e : ℕ) (u : QueueState) → IsUnderWay q h setup s l (steps.Id e) u → e < length (map (element_of h q s) l.batch) → HasRow q h setup s l (steps.Id e) u
 id_has q h setup s l e u w low =
@@ -215,11 +215,9 @@ len_has q h setup s l e u w low =
     let is : table_row q h s l (steps.Len e) ≡ Some (f z) = ap (λ (o : Option (ℕ × ℕ)). option_or (option_map f o) None) (element_there q h s l e low) in
     record { y = f z; queue = row_there q h setup s l (steps.Len e) u w ∙ is; table = is; fits = ring_fits r SP2 (used_len_place r (used_in h q s + e)) 4 z.1 refl (omega arith) }
 
-index_has : (q : ℕ) (h : Header1) (setup : QueueSetup) (s : Scene) (l : Lane) (u : QueueState) → IsUnderWay q h setup s l steps.Index u → HasRow q h setup s l steps.Index u
-index_has q h setup s l u w =
-    let r : Ring = the_ring q h.size in
-    let last : ℕ = (used_in h q s + length (map (element_of h q s) l.batch)) % 65536 in
-    record { y = row r SP5 (used_idx_place r) (little_bytes 2 last); queue = row_there q h setup s l steps.Index u w; table = refl; fits = ring_fits r SP5 (used_idx_place r) 2 last refl (omega arith) }
+-- the row that shows the batch
+abbrev index_row : ℕ → Header1 → Scene → Lane → Row
+index_row q h s l = row (the_ring q h.size) SP5 (used_idx_place (the_ring q h.size)) (little_bytes 2 ((used_in h q s + length (map (element_of h q s) l.batch)) % 65536))
 
 -- a link, last_batch_head and a clear name the element's head
 link_has : (q : ℕ) (h : Header1) (setup : QueueSetup) (s : Scene) (l : Lane) (e : ℕ) (u : QueueState) → IsUnderWay q h setup s l (steps.Link e) u → e < length (map (element_of h q s) l.batch) → HasRow q h setup s l (steps.Link e) u
@@ -269,10 +267,9 @@ plain_says q h setup m turn l step u x row head made plain has said is = Notes h
 accept_says : (q : ℕ) (h : Header1) (setup : QueueSetup) (m : Moment) (turn : Turn) (l : Lane) (u : QueueState) (x : Stepped) (row : Option Row) → (turned h q turn m).items ≡ step_items h q l steps.Accept m.scene → IsUnderWay q h setup m.scene l steps.Accept u → is_fetch l.phase ≡ true
     → x ≡ says.Accepted (seen_by u m.scene.memory).head → row ≡ row_at u m.scene.memory (Some steps.Accept) → TurnSays q h m turn x row (slice_index (m.scene.heads q) (accepted m.scene.past q)) l.batch
 accept_says q h setup m turn l u x row made w fetching said is =
-    let has : HasRow q h setup m.scene l steps.Accept u = accept_has q h setup m.scene l u w fetching in
     Accepts (region_row (region_of q h.size) (stores.SF2 (next_head h q m.scene))) refl (record {
-      is_row = is ∙ has.queue;
-      fits = has.fits;
+      is_row = is ∙ accept_row q h setup m.scene l u w fetching;
+      fits = region_fits q h.size (stores.SF2 (next_head h q m.scene));
       said = said ∙ ap says.Accepted (w.seen fetching);
       made = made;
     })
@@ -280,8 +277,12 @@ accept_says q h setup m turn l u x row made w fetching said is =
 index_says : (q : ℕ) (h : Header1) (setup : QueueSetup) (m : Moment) (turn : Turn) (l : Lane) (u : QueueState) (x : Stepped) (row : Option Row) (head : ℕ) → (turned h q turn m).items ≡ step_items h q l steps.Index m.scene → IsUnderWay q h setup m.scene l steps.Index u
     → x ≡ says.Published → row ≡ row_at u m.scene.memory (Some steps.Index) → TurnSays q h m turn x row head l.batch
 index_says q h setup m turn l u x row head made w said is =
-    let has : HasRow q h setup m.scene l steps.Index u = index_has q h setup m.scene l u w in
-    Publishes has.y refl (record { is_row = is ∙ has.queue; fits = has.fits; said = said; made = made })
+    Publishes (index_row q h m.scene l) refl (record {
+      is_row = is ∙ row_there q h setup m.scene l steps.Index u w;
+      fits = ring_fits (the_ring q h.size) SP5 (used_idx_place (the_ring q h.size)) 2 ((used_in h q m.scene + length (map (element_of h q m.scene) l.batch)) % 65536) refl (omega arith);
+      said = said;
+      made = made;
+    })
 
 bell_says : (q : ℕ) (h : Header1) (setup : QueueSetup) (m : Moment) (turn : Turn) (l : Lane) (u : QueueState) (x : Stepped) (row : Option Row) (head : ℕ) → (turned h q turn m).items ≡ step_items h q l steps.Bell m.scene → IsUnderWay q h setup m.scene l steps.Bell u
     → x ≡ says.Belled → row ≡ row_at u m.scene.memory (Some steps.Bell) → TurnSays q h m turn x row head l.batch
@@ -471,9 +472,9 @@ index_stands q h setup m turn l u u' x row t at =
     let w = t.way in
     let past : List Entry = m.scene.past in
     let heads : List ℕ = m.scene.heads q in
-    let has : HasRow q h setup m.scene l steps.Index u = index_has q h setup m.scene l u w in
-    let list : List Answered = map (answer_at q (after_stored h has.y m.scene)) l.batch in
-    let made : List Item = row_item has.y ∷ items.Made (entries.Publish q list) ∷ [] in
+    let y : Row = index_row q h m.scene l in
+    let list : List Answered = map (answer_at q (after_stored h y m.scene)) l.batch in
+    let made : List Item = row_item y ∷ items.Made (entries.Publish q list) ∷ [] in
     let past' : List Entry = entries.Publish q list ∷ past in
     let done : ℕ = 4 * length l.batch + 1 in
     let after : after_step (course_of h l) l.phase ≡ phases.Publish done = lane_after q h setup m.scene l steps.Index u w ∙ ap (λ (p : Phase). at_step p (done_of p + 1)) at in
@@ -486,7 +487,7 @@ index_stands q h setup m turn l u u' x row t at =
     let opens : (k : ℕ) → is_among l.batch k ≡ true → IsOpen past q k = λ k held. w.opens k (ap (λ (ks : List ℕ). is_among ks k) lane_all ∙ held) in
     let is : u' ≡ shown done u = after_is q h setup m.scene l steps.Index u u' (seen_by u m.scene.memory).head (phases.Publish done) w t.leaves after in
     let now : QueueAt q h setup past' heads (phases.Publish done) [] l.completed l.made (shown done u) =
-    at_show q h setup past heads l.phase l.batch l.completed l.made u list done (numbers_answers q (after_stored h has.y m.scene) l.batch) opens all (omega (arith, long)) at_u in record {
+    at_show q h setup past heads l.phase l.batch l.completed l.made u list done (numbers_answers q (after_stored h y m.scene) l.batch) opens all (omega (arith, long)) at_u in record {
       says = index_says q h setup m turn l u x row (slice_index heads (accepted past q)) (made_of q h m turn l steps.Index t.is) w t.said t.is_row;
       stands = stands_next q h setup m turn (record { items = made; lane = record l { phase = phases.Publish done } }) u' (turn_with q h m turn l steps.Index made (phases.Publish done) t.is (made_of q h m turn l steps.Index t.is) after)
           (subst (λ (v : QueueState). QueueAt q h setup past' heads (phases.Publish done) (hidden_part (phases.Publish done) l.batch) l.completed l.made v) (sym is) (subst (λ (ks : List ℕ). QueueAt q h setup past' heads (phases.Publish done) ks l.completed l.made (shown done u)) (sym none) now))
