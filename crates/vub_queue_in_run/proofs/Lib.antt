@@ -1,3 +1,4 @@
+pub mod QueueAtFetches
 pub mod QueueAtMoves
 pub mod QueueAtSteps
 pub mod QueueAtTurns
