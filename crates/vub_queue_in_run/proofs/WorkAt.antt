@@ -18,7 +18,7 @@ use Rattle.vub_task.specs.declared.task.Task.{Task}
 use Rattle.vub_direct_chain.specs.ChainState.{IsRingOf, Meant}
 use Rattle.vub_driver.specs.GuestChain.{Links}
 use Rattle.vub_run.specs.Moments.{Lane, Moment, standing, unfinished}
-use Rattle.vub_queue_in_run.specs.QueueAt.{QueueStands, LiesAs, TaskAt}
+use Rattle.vub_queue_in_run.specs.QueueAt.{QueueStands, LiesAs, TaskAt, left_of, hidden_part}
 use Rattle.vub_queue.specs.QueueState.{QueueState, IsDue}
 use Rattle.vub_task.specs.TaskState.{fresh_task, Making, IsBasic, IsNext, IsReady, head_in}
 use Rattle.vub_steps.specs.Tasks.{RequestStep, Look, Put, Act, Sync, Status, task_steps, disk_steps, look_steps, act_steps}
@@ -30,6 +30,8 @@ use Rattle.vub_run_laws.proofs.RunSteps.{WideCases, AtRead, AtWrite, AtFlush, wi
 use Rattle.vub_run_laws.proofs.RunTurns.{IsPlain, Good}
 use Rattle.vub_run_laws.proofs.RunChainsEvents.{ChainedAt}
 use Rattle.vub_queue_in_run.proofs.QueueAtMoves.{count_is}
+use Rattle.vub_queue_in_run.proofs.QueueAtTurns.{left_part, worked_at}
+use Rattle.vub_run_laws.proofs.RunCarries.{left_hidden}
 use Rattle.vub_run_laws.proofs.RunChainsMeaning.{work_means}
 use Rattle.vub_run_laws.proofs.RunQueue.{head_below}
 
@@ -202,6 +204,16 @@ unfinished_open q m place k is =
     let t : not (is_among (l.completed ++ l.batch) k) ≡ true = kept.1 in
     (record { taken = opened.0; unpublished = opened.1 }, grind (arith, nat_tests))
 
+-- and in the same place among those that are left where only the hidden part of a batch is out
+pub left_at : (q : ℕ) (h : Header1) (m : Moment) (place k : ℕ) → Good q h m → slice_get (unfinished q m) place ≡ Some k → slice_get (left_of q m.scene.past (m.lanes q).completed (hidden_part (m.lanes q).phase (m.lanes q).batch)) place ≡ Some k
+left_at q h m place k good is = ap (λ (ks : List ℕ). slice_get ks place) (left_part q h m good.holds) ∙ is
+
+-- and a step of it is left
+pub unfinished_pending : (q : ℕ) (h : Header1) (m : Moment) (k : ℕ) (request : Asked) → Good q h m → IsOpen m.scene.past q k → is_among ((m.lanes q).completed ++ (m.lanes q).batch) k ≡ false → asked m.scene.past q k ≡ Some request → IsPending ((m.lanes q).made k) (Some request)
+unfinished_pending q h m k request good is_open out is =
+    let l : Lane = m.lanes q in
+    subst (λ (o : Option Asked). IsPending (l.made k) o) is (good.holds.worked.pending k is_open (left_hidden l.completed l.batch l.phase k out))
+
 due_at : (q : ℕ) (h : Header1) (m : Moment) (setup : QueueSetup) (sizes : ℕ → ℕ) (state : QueueState) (place k : ℕ) (task : Task) → IsPlain h → Good q h m → ChainedAt q h m → LiesAs q setup h.size → area_place q + 1048576 ≤ sizes 0 → QueueStands q h setup m state → started m.scene.past q ≡ true
     → slice_get (unfinished q m) place ≡ Some k → slice_get state.unfinished place ≡ Some task → WorkReady q h sizes m state place
 due_at q h m setup sizes state place k task plain good chained main room a run is at =
@@ -212,11 +224,11 @@ due_at q h m setup sizes state place k task plain good chained main room a run i
     let meant : Meant q sizes setup.ring m.scene.memory head (asked m.scene.past q k) = work_means q h m sizes setup.ring place k plain good chained (ring_is q sizes setup h.size main room) is in
     let request : Asked = meant.request in
     let wide : IsWide h.capacity (Some request) = subst (λ (o : Option Asked). IsWide h.capacity o) meant.is (good.holds.known.wide k is_out.below) in
-    let pending : IsPending (l.made k) (Some request) = subst (λ (o : Option Asked). IsPending (l.made k) o) meant.is (good.holds.worked.pending k where_open.0 where_open.1) in
+    let pending : IsPending (l.made k) (Some request) = unfinished_pending q h m k request good where_open.0 where_open.1 meant.is in
     let next = some_step h request (l.made k) plain.back wide pending in
-    let stands : TaskAt q h setup m.scene.past (m.scene.heads q) k (l.made k) task = a.at.tasks place k task is at in
+    let stands : TaskAt q h setup m.scene.past (m.scene.heads q) k (l.made k) task = a.at.tasks place k task (left_at q h m place k good is) at in
     let n : Making = making_of q h m k meant.links request next.0 in
-    let low : head < h.size = head_below q h m.scene (m.lanes q).driver (m.lanes q).bell (m.lanes q).plan (m.lanes q).batch (m.lanes q).phase k good.holds.queue is_out in
+    let low : head < h.size = head_below q h m.scene (m.lanes q).driver (m.lanes q).bell (m.lanes q).plan (m.lanes q).counter (m.lanes q).batch (m.lanes q).phase k good.holds.queue is_out in
     let is_next : IsNext h.capacity sizes setup.ring m.scene.memory n = record {
       means = meant.means;
       served = record { basic = wide_basic h.capacity request wide; capacity = refl; cached = plain.back };
@@ -249,5 +261,8 @@ work_ready q h m setup sizes state place plain good chained main room a ready =
     let run : started m.scene.past q ≡ true = grind (arith, nat_tests) in
     let inside : place < length (unfinished q m) = grind (arith, nat_tests) in
     let is : slice_get (unfinished q m) place ≡ Some (slice_index (unfinished q m) place) = slice_get-get_or (unfinished q m) place 0 inside in
-    let at : slice_get state.unfinished place ≡ Some (get_or state.unfinished place (fresh_task 0)) = slice_get-get_or state.unfinished place (fresh_task 0) (omega (arith, inside, count_is q h setup m.scene.past (m.scene.heads q) (m.lanes q).phase (m.lanes q).batch (m.lanes q).completed (m.lanes q).made state good.holds.worked a.at)) in
+    let hides : List ℕ = hidden_part (m.lanes q).phase (m.lanes q).batch in
+    let many : length state.unfinished ≡ length (unfinished q m) =
+    count_is q h setup m.scene.past (m.scene.heads q) (m.lanes q).phase hides (m.lanes q).completed (m.lanes q).made state (worked_at q h m good.holds) a.at ∙ ap (λ (ks : List ℕ). length ks) (left_part q h m good.holds) in
+    let at : slice_get state.unfinished place ≡ Some (get_or state.unfinished place (fresh_task 0)) = slice_get-get_or state.unfinished place (fresh_task 0) (omega (arith, inside, many)) in
     due_at q h m setup sizes state place (slice_index (unfinished q m) place) (get_or state.unfinished place (fresh_task 0)) plain good chained main room a run is at

@@ -34,8 +34,8 @@ use Rattle.vub_queue.specs.declared.queue.QueueSetup.{QueueSetup}
 use Rattle.vub_task.specs.declared.task.Task.{Task}
 use Rattle.vub_driver.specs.GuestChain.{Links}
 use Rattle.vub_run.specs.Memory.{Scene, after_item, after_items}
-use Rattle.vub_run.specs.Moments.{Lane, Moment, unfinished, buffer_of}
-use Rattle.vub_queue_in_run.specs.QueueAt.{QueueStands, LiesAs, DiskAt}
+use Rattle.vub_run.specs.Moments.{Lane, Moment, buffer_of}
+use Rattle.vub_queue_in_run.specs.QueueAt.{QueueStands, LiesAs, DiskAt, left_of, hidden_part}
 use Rattle.vub_queue.specs.QueueState.{QueueState, said, sector_at, due_store}
 use Rattle.vub_run.specs.Run.{one_turn}
 use Rattle.vub_task.specs.TaskState.{Making, answer_in, memory_after, values_after, with_effect, head_in}
@@ -48,7 +48,7 @@ use Rattle.vub_run_laws.proofs.RunFrames.{open_out}
 use Rattle.vub_run_laws.proofs.RunSteps.{look_is, effect_is}
 use Rattle.vub_run_laws.proofs.RunWork.{sector_few}
 use Rattle.vub_run_laws.proofs.RunTurns.{IsPlain, Good}
-use Rattle.vub_queue_in_run.proofs.WorkAt.{WorkReady, making, making_of, unfinished_open, Kind, kind_of}
+use Rattle.vub_queue_in_run.proofs.WorkAt.{WorkReady, making, making_of, left_at, unfinished_open, unfinished_pending, Kind, kind_of}
 
 -- ---- items
 
@@ -83,7 +83,7 @@ work_kind q h sizes m state place w plain good =
     let is_out : IsOut q m.scene.past (m.scene.heads q) w.k = open_out q h.size h.capacity m.scene.past (m.scene.heads q) w.k good.holds.known w.is_open in
     let where_open = unfinished_open q m place w.k w.at in
     let wide : IsWide h.capacity (Some w.request) = subst (λ (o : Option Asked). IsWide h.capacity o) w.is (good.holds.known.wide w.k is_out.below) in
-    let pending : IsPending ((m.lanes q).made w.k) (Some w.request) = subst (λ (o : Option Asked). IsPending ((m.lanes q).made w.k) o) w.is (good.holds.worked.pending w.k where_open.0 where_open.1) in
+    let pending : IsPending ((m.lanes q).made w.k) (Some w.request) = unfinished_pending q h m w.k w.request good where_open.0 where_open.1 w.is in
     kind_of h w.request ((m.lanes q).made w.k) w.step plain.back wide pending w.due.next.next
 
 abbrev ShowsAt : ℕ → Header1 → Moment → QueueState → Values → ℕ → Task → Links → Asked → RequestStep → Type 0
@@ -134,24 +134,24 @@ ring_space : (q : ℕ) (h : Header1) (m : Moment) (setup : QueueSetup) (state : 
 ring_space q h m setup state main a = ap (λ (x : SplitRing). x.desc.0.number) a.at.ring ∙ main.desc_space
 
 -- before its store, what was read stands in the queue
-held_sector : (q : ℕ) (h : Header1) (sizes : ℕ → ℕ) (m : Moment) (setup : QueueSetup) (state : QueueState) (place p : ℕ) (w : WorkReady q h sizes m state place) → QueueStands q h setup m state → w.step ≡ Put p
+held_sector : (q : ℕ) (h : Header1) (sizes : ℕ → ℕ) (m : Moment) (setup : QueueSetup) (state : QueueState) (place p : ℕ) (w : WorkReady q h sizes m state place) → Good q h m → QueueStands q h setup m state → w.step ≡ Put p
     → sector_at state (head_in w.task) ≡ slice_range (bytes_read m.scene.past q w.k) (512 * p) (512 * p + 512)
-held_sector q h sizes m setup state place p w a put =
-    ap (sector_at state) w.head ∙ a.at.sectors w.k p w.request (among_get (unfinished q m) place w.k w.at) w.is (w.due.next.next ∙ ap (λ (s : RequestStep). Some s) put)
+held_sector q h sizes m setup state place p w good a put =
+    ap (sector_at state) w.head ∙ a.at.sectors w.k p w.request (among_get (left_of q m.scene.past (m.lanes q).completed (hidden_part (m.lanes q).phase (m.lanes q).batch)) place w.k (left_at q h m place w.k good w.at)) w.is (w.due.next.next ∙ ap (λ (s : RequestStep). Some s) put)
 
-show_step : (q : ℕ) (h : Header1) (sizes : ℕ → ℕ) (m : Moment) (setup : QueueSetup) (state : QueueState) (place : ℕ) (v : Values) (w : WorkReady q h sizes m state place) → LiesAs q setup h.size → QueueStands q h setup m state → DiskAt h.capacity m.scene.past v
+show_step : (q : ℕ) (h : Header1) (sizes : ℕ → ℕ) (m : Moment) (setup : QueueSetup) (state : QueueState) (place : ℕ) (v : Values) (w : WorkReady q h sizes m state place) → Good q h m → LiesAs q setup h.size → QueueStands q h setup m state → DiskAt h.capacity m.scene.past v
     → Kind h w.request ((m.lanes q).made w.k) w.step → ShowsAt q h m state v w.k w.task w.links w.request w.step
-show_step q h sizes m setup state place v w main a disk (inl x) =
+show_step q h sizes m setup state place v w good main a disk (inl x) =
     subst (λ (s : RequestStep). ShowsAt q h m state v w.k w.task w.links w.request s) (sym x.next)
     (subst (λ (o : Asked). ShowsAt q h m state v w.k w.task w.links o (Look x.place)) (sym x.is) (show_look q h m state v w.k w.task w.links x.sector x.count x.place x.within (disk (x.sector + x.place) (omega (arith, x.within, x.wide.fits)))))
-show_step q h sizes m setup state place v w main a disk (inr (inl x)) =
+show_step q h sizes m setup state place v w good main a disk (inr (inl x)) =
     subst (λ (s : RequestStep). ShowsAt q h m state v w.k w.task w.links w.request s) (sym x.next)
-    (subst (λ (o : Asked). ShowsAt q h m state v w.k w.task w.links o (Put x.place)) (sym x.is) (show_put q h m state v w.k w.task w.links x.sector x.count x.place (ring_space q h m setup state main a) (held_sector q h sizes m setup state place x.place w a x.next)))
-show_step q h sizes m setup state place v w main a disk (inr (inr (inl x))) =
+    (subst (λ (o : Asked). ShowsAt q h m state v w.k w.task w.links o (Put x.place)) (sym x.is) (show_put q h m state v w.k w.task w.links x.sector x.count x.place (ring_space q h m setup state main a) (held_sector q h sizes m setup state place x.place w good a x.next)))
+show_step q h sizes m setup state place v w good main a disk (inr (inr (inl x))) =
     subst (λ (s : RequestStep). ShowsAt q h m state v w.k w.task w.links w.request s) (sym x.next)
     (subst (λ (o : Asked). ShowsAt q h m state v w.k w.task w.links o (Act x.place)) (sym x.is) (show_act q h m state v w.k w.task w.links x.sector x.place x.bytes x.within))
-show_step q h sizes m setup state place v w main a disk (inr (inr (inr (inl x)))) = subst (λ (s : RequestStep). ShowsAt q h m state v w.k w.task w.links w.request s) (sym x.next) (refl, refl)
-show_step q h sizes m setup state place v w main a disk (inr (inr (inr (inr x)))) =
+show_step q h sizes m setup state place v w good main a disk (inr (inr (inr (inl x)))) = subst (λ (s : RequestStep). ShowsAt q h m state v w.k w.task w.links w.request s) (sym x.next) (refl, refl)
+show_step q h sizes m setup state place v w good main a disk (inr (inr (inr (inr x)))) =
     subst (λ (s : RequestStep). ShowsAt q h m state v w.k w.task w.links w.request s) (sym x.next) (show_status q h m state v w.k w.task w.links w.request (ring_space q h m setup state main a))
 
 -- what a turn of work shows, by what the queue says of it
@@ -159,7 +159,7 @@ pub work_items : (q : ℕ) (h : Header1) (sizes : ℕ → ℕ) (m : Moment) (set
     → Shows q v state w.k w.task (making w) (turned h q (turns.Work place) m).items (said (head_in w.task) (answer_in (making w)))
 work_items q h sizes m setup state place v w plain good main a disk =
     subst (λ (t : Turned). Shows q v state w.k w.task (making w) t.items (said (head_in w.task) (answer_in (making w)))) (sym (work_turned q h sizes m state place w))
-    (show_step q h sizes m setup state place v w main a disk (work_kind q h sizes m state place w plain good))
+    (show_step q h sizes m setup state place v w good main a disk (work_kind q h sizes m state place w plain good))
 
 -- ---- memory
 
@@ -179,18 +179,18 @@ looks_memory : (q : ℕ) (h : Header1) (k : ℕ) (s : Scene) (o : Option ℕ) �
 looks_memory q h k s None = refl
 looks_memory q h k s (Some x) = refl
 
-memory_step : (q : ℕ) (h : Header1) (sizes : ℕ → ℕ) (m : Moment) (setup : QueueSetup) (state : QueueState) (place : ℕ) (w : WorkReady q h sizes m state place) → LiesAs q setup h.size → QueueStands q h setup m state
+memory_step : (q : ℕ) (h : Header1) (sizes : ℕ → ℕ) (m : Moment) (setup : QueueSetup) (state : QueueState) (place : ℕ) (w : WorkReady q h sizes m state place) → Good q h m → LiesAs q setup h.size → QueueStands q h setup m state
     → Kind h w.request ((m.lanes q).made w.k) w.step → LeavesMemory q h m state w.k w.task w.links w.request w.step
-memory_step q h sizes m setup state place w main a (inl x) =
+memory_step q h sizes m setup state place w good main a (inl x) =
     subst (λ (s : RequestStep). LeavesMemory q h m state w.k w.task w.links w.request s) (sym x.next) (looks_memory q h w.k m.scene (look_at w.request x.place))
-memory_step q h sizes m setup state place w main a (inr (inl x)) =
+memory_step q h sizes m setup state place w good main a (inr (inl x)) =
     subst (λ (s : RequestStep). LeavesMemory q h m state w.k w.task w.links w.request s) (sym x.next)
     (subst (λ (o : Asked). LeavesMemory q h m state w.k w.task w.links o (Put x.place)) (sym x.is)
-    (stored_memory state m.scene.memory (sectors_place (buffer_of q w.k m.scene) + 512 * x.place) (slice_range (bytes_read m.scene.past q w.k) (512 * x.place) (512 * x.place + 512)) (sector_at state (head_in w.task)) (ring_space q h m setup state main a) (held_sector q h sizes m setup state place x.place w a x.next)))
-memory_step q h sizes m setup state place w main a (inr (inr (inl x))) =
+    (stored_memory state m.scene.memory (sectors_place (buffer_of q w.k m.scene) + 512 * x.place) (slice_range (bytes_read m.scene.past q w.k) (512 * x.place) (512 * x.place + 512)) (sector_at state (head_in w.task)) (ring_space q h m setup state main a) (held_sector q h sizes m setup state place x.place w good a x.next)))
+memory_step q h sizes m setup state place w good main a (inr (inr (inl x))) =
     subst (λ (s : RequestStep). LeavesMemory q h m state w.k w.task w.links w.request s) (sym x.next) (acts_memory q h w.k m.scene (effect_at w.request x.place))
-memory_step q h sizes m setup state place w main a (inr (inr (inr (inl x)))) = subst (λ (s : RequestStep). LeavesMemory q h m state w.k w.task w.links w.request s) (sym x.next) refl
-memory_step q h sizes m setup state place w main a (inr (inr (inr (inr x)))) =
+memory_step q h sizes m setup state place w good main a (inr (inr (inr (inl x)))) = subst (λ (s : RequestStep). LeavesMemory q h m state w.k w.task w.links w.request s) (sym x.next) refl
+memory_step q h sizes m setup state place w good main a (inr (inr (inr (inr x)))) =
     subst (λ (s : RequestStep). LeavesMemory q h m state w.k w.task w.links w.request s) (sym x.next)
     (stored_memory state m.scene.memory (status_place (buffer_of q w.k m.scene)) (status_of h w.request ∷ []) (status_of h w.request ∷ []) (ring_space q h m setup state main a) refl)
 
@@ -199,7 +199,7 @@ pub work_memory : (q : ℕ) (h : Header1) (sizes : ℕ → ℕ) (m : Moment) (se
     → (one_turn h q (turns.Work place) m).next.scene.memory ≡ memory_after state.ring (making w) (sector_at state (head_in w.task)) m.scene.memory
 work_memory q h sizes m setup state place w plain good main a =
     ap (λ (t : Turned). (after_items h t.items m.scene).memory) (work_turned q h sizes m state place w)
-    ∙ memory_step q h sizes m setup state place w main a (work_kind q h sizes m state place w plain good)
+    ∙ memory_step q h sizes m setup state place w good main a (work_kind q h sizes m state place w plain good)
 
 -- ---- the disk
 
@@ -258,10 +258,15 @@ quiet_bell q h steps.Open = tt
 quiet_bell q h (steps.Settle place) = tt
 quiet_bell q h steps.SettleEnd = tt
 quiet_bell q h steps.Start = tt
+quiet_bell q h steps.Count = tt
 quiet_bell q h steps.Accept = tt
 quiet_bell q h (steps.Id e) = tt
 quiet_bell q h (steps.Len e) = tt
+quiet_bell q h (steps.Link e) = tt
+quiet_bell q h (steps.Head e) = tt
 quiet_bell q h steps.Index = tt
+quiet_bell q h (steps.Clear e) = tt
+quiet_bell q h steps.Note = tt
 
 quiet_entry : (q : ℕ) (h : Header1) (batch : List ℕ) (step : Step) (s : Scene) → AllByRecursion (IsQuiet h) (entry_items q batch step s)
 quiet_entry q h batch steps.Start s = (λ t x. refl, tt)
@@ -273,8 +278,13 @@ quiet_entry q h batch steps.Open s = tt
 quiet_entry q h batch (steps.Settle place) s = tt
 quiet_entry q h batch steps.SettleEnd s = tt
 quiet_entry q h batch steps.Bell s = tt
+quiet_entry q h batch steps.Count s = tt
 quiet_entry q h batch (steps.Id e) s = tt
 quiet_entry q h batch (steps.Len e) s = tt
+quiet_entry q h batch (steps.Link e) s = tt
+quiet_entry q h batch (steps.Head e) s = tt
+quiet_entry q h batch (steps.Clear e) s = tt
+quiet_entry q h batch steps.Note s = tt
 
 phase_quiet : (q : ℕ) (h : Header1) (s : Scene) (l : Lane) (o : Option Step) → AllByRecursion (IsQuiet h) (phase_turn h q s l o).items
 phase_quiet q h s l None = tt

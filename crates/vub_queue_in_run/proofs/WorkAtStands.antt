@@ -8,6 +8,9 @@ use Rattle.std.proofs.lemmas.Option.{slice_get_within}
 use Rattle.vub_base.specs.declared.header.Header1.{Header1}
 use Rattle.vub_disk.specs.Values.{Values}
 use Rattle.vub_steps.specs.declared.readiness.Turn.TheVariants as turns
+use Rattle.vub_steps.specs.declared.steps.Phase.{Phase}
+use Rattle.vub_steps.specs.declared.steps.Plan.{Plan}
+use Rattle.vub_rec_split.specs.Starts.{RecoveryState}
 use Rattle.vub_driver.specs.Layout.{area_place, buffer_place}
 use Rattle.vub_device.specs.declared.entry.Asked.{Asked}
 use Rattle.vub_device.specs.declared.entry.Asked.TheVariants as asks
@@ -24,7 +27,7 @@ use Rattle.vub_task.specs.declared.task.Task.{Task}
 use Rattle.vub_infl_split.specs.Region.{RegionWords}
 use Rattle.vub_run.specs.Memory.{Scene, with_at, after_items}
 use Rattle.vub_run.specs.Moments.{Lane, Moment, region_in, buffer_of, open_heads}
-use Rattle.vub_queue_in_run.specs.QueueAt.{QueueAt, StartAt, KeepsHeads, QueueStands, DiskAt, TaskAt, spot_of, left_of}
+use Rattle.vub_queue_in_run.specs.QueueAt.{QueueAt, PhaseAt, KeepsHeads, QueueStands, DiskAt, TaskAt, spot_of, left_of, hidden_part, kept_head, used_after}
 use Rattle.vub_queue.specs.QueueState.{QueueState, HasWorked, Advances, worked, done_at}
 use Rattle.vub_run.specs.Run.{one_turn}
 use Rattle.vub_direct_chain.specs.ChainState.{sector_of}
@@ -40,8 +43,8 @@ use Rattle.vub_task.proofs.StepLemmas.{Puts, Acts, OfRequest, step_of}
 use Rattle.vub_run_laws.proofs.RunWork.{at_same, at_other, not_more, seen_more, sector_long, sector_byte}
 use Rattle.vub_run_laws.proofs.RunEnds.{missing_distinct}
 use Rattle.vub_run_laws.proofs.RunTurns.{IsPlain, Good}
-use Rattle.vub_queue_in_run.proofs.QueueAtTurns.{stands_next, runs_on}
-use Rattle.vub_queue_in_run.proofs.WorkAt.{WorkReady, making, Kind, IsLook, IsPut, IsAct, IsSync}
+use Rattle.vub_queue_in_run.proofs.QueueAtTurns.{stands_next}
+use Rattle.vub_queue_in_run.proofs.WorkAt.{WorkReady, making, left_at, Kind, IsLook, IsPut, IsAct, IsSync}
 use Rattle.vub_queue_in_run.proofs.WorkAtItems.{work_turned, work_kind}
 use Rattle.vub_queue_in_run.proofs.QueueHeld.{keeps_worked, keeps_done}
 use Rattle.vub_facts.proofs.HeadLemmas.{distinct_without}
@@ -85,7 +88,7 @@ open_same q past past' k j x o = record {
 -- requests that are left have heads of their own
 heads_differ : (q : ℕ) (h : Header1) (m : Moment) (j k : ℕ) → Good q h m → IsOpen m.scene.past q j → IsOpen m.scene.past q k → j ≢ k → slice_index (m.scene.heads q) j ≢ slice_index (m.scene.heads q) k
 heads_differ q h m j k good open_j open_k apart same =
-    apart (heads_apart q h m.scene (m.lanes q).driver (m.lanes q).bell (m.lanes q).plan (m.lanes q).batch (m.lanes q).phase j k good.holds.queue (open_out q h.size h.capacity m.scene.past (m.scene.heads q) j good.holds.known open_j) (open_out q h.size h.capacity m.scene.past (m.scene.heads q) k good.holds.known open_k) same)
+    apart (heads_apart q h m.scene (m.lanes q).driver (m.lanes q).bell (m.lanes q).plan (m.lanes q).counter (m.lanes q).batch (m.lanes q).phase j k good.holds.queue (open_out q h.size h.capacity m.scene.past (m.scene.heads q) j good.holds.known open_j) (open_out q h.size h.capacity m.scene.past (m.scene.heads q) k good.holds.known open_k) same)
 
 -- ---- one task
 
@@ -113,30 +116,30 @@ task_next q h sizes m setup state place w past' next ring x head made = record {
 goes_on : (q : ℕ) (h : Header1) (sizes : ℕ → ℕ) (m : Moment) (setup : QueueSetup) (state : QueueState) (place : ℕ) (w : WorkReady q h sizes m state place) (past' : List Entry) (next : Task) (sector : List ℕ) → Good q h m → QueueStands q h setup m state → Keeps q m.scene.past past' w.k
     → head_in next ≡ head_in w.task → HasMade state.ring (making w) next
     → ((p : ℕ) → slice_get (task_steps h w.request) ((m.lanes q).made w.k + 1) ≡ Some (Put p) → sector ≡ slice_range (bytes_read past' q w.k) (512 * p) (512 * p + 512))
-    → QueueAt q h setup past' (m.scene.heads q) (m.lanes q).phase (m.lanes q).batch (m.lanes q).completed (with_at (m.lanes q).made w.k ((m.lanes q).made w.k + 1)) (worked place next sector state)
+    → QueueAt q h setup past' (m.scene.heads q) (m.lanes q).phase (hidden_part (m.lanes q).phase (m.lanes q).batch) (m.lanes q).completed (with_at (m.lanes q).made w.k ((m.lanes q).made w.k + 1)) (worked place next sector state)
 goes_on q h sizes m setup state place w past' next sector good a x head made put = record {
   ring = a.at.ring;
   runs = a.at.runs;
   started = a.at.started ∙ sym x.runs;
-  used = a.at.used ∙ ap (λ (ps : List ℕ). (h.base + length ps) % 65536) (sym x.publishes);
   phase = a.at.phase;
-  batch = a.at.batch ∙ spots_same q h past past' heads w.k l.batch x;
+  batch = a.at.batch ∙ spots_same q h past past' heads w.k hides x;
   completed = a.at.completed ∙ spots_same q h past past' heads w.k l.completed x;
-  keeps = subst (λ (hs : List ℕ). KeepsHeads setup.ring.size hs (worked place next sector state)) (sym same_heads) (keeps_worked setup.ring.size (open_heads q past heads) state place next w.task sector w.due.at head a.at.keeps);
+  keeps = subst (λ (hs : List ℕ). KeepsHeads setup.ring.size hs (used_after h q past') (worked place next sector state)) (sym same_heads)
+      (subst (λ (u : ℕ). KeepsHeads setup.ring.size (open_heads q past heads) u (worked place next sector state)) (sym same_used) (keeps_worked setup.ring.size (open_heads q past heads) (used_after h q past) state place next w.task sector w.due.at head a.at.keeps));
   tasks = λ i j t at_left at_task.
       let at_i : slice_get left i ≡ Some j = ap (λ (xs : List ℕ). slice_get xs i) (sym same) ∙ at_left in
       elim (cases_eq i place) [
         | inl here ↦
-            let at_k : slice_get left i ≡ Some w.k = ap (slice_get left) here ∙ w.at in
+            let at_k : slice_get left i ≡ Some w.k = ap (slice_get left) here ∙ there in
             let is_k : w.k ≡ j = cc in
             let inside : place < length state.unfinished = slice_get_within state.unfinished place w.task w.due.at in
             let stored : slice_get (set state.unfinished place next) i ≡ Some next = ap (slice_get (set state.unfinished place next)) here ∙ slice_get-set_same state.unfinished place next inside in
             let is_t : next ≡ t = cc in
-            let there : TaskAt q h setup past' heads w.k (with_at l.made w.k (l.made w.k + 1) w.k) next =
+            let now_at : TaskAt q h setup past' heads w.k (with_at l.made w.k (l.made w.k + 1) w.k) next =
             subst (λ (c : ℕ). TaskAt q h setup past' heads w.k c next) (sym (at_same l.made w.k (l.made w.k + 1) w.k refl)) (task_next q h sizes m setup state place w past' next a.at.ring x head made) in
-            subst (λ (y : Task). TaskAt q h setup past' heads j (with_at l.made w.k (l.made w.k + 1) j) y) is_t (subst (λ (n : ℕ). TaskAt q h setup past' heads n (with_at l.made w.k (l.made w.k + 1) n) next) is_k there)
+            subst (λ (y : Task). TaskAt q h setup past' heads j (with_at l.made w.k (l.made w.k + 1) j) y) is_t (subst (λ (n : ℕ). TaskAt q h setup past' heads n (with_at l.made w.k (l.made w.k + 1) n) next) is_k now_at)
         | inr apart ↦
-            let differs : j ≢ w.k = λ e. apart (one_place left i place w.k (left_distinct q past l.completed l.batch) (at_i ∙ ap (λ (n : ℕ). Some n) e) w.at) in
+            let differs : j ≢ w.k = λ e. apart (one_place left i place w.k (left_distinct q past l.completed hides) (at_i ∙ ap (λ (n : ℕ). Some n) e) there) in
             let old : slice_get state.unfinished i ≡ Some t = sym (slice_get-set_other state.unfinished place i next apart) ∙ at_task in
             task_same q h setup past past' heads w.k j (l.made j) (with_at l.made w.k (l.made w.k + 1) j) t x (at_other l.made w.k (l.made w.k + 1) j differs) (a.at.tasks i j t at_i old)
       ];
@@ -156,7 +159,7 @@ goes_on q h sizes m setup state place w past' next sector good a x head made put
             ap (λ (d : ℕ). get_or (set state.sectors (head_in next) sector) d []) at_head ∙ get_or-set_same state.sectors (head_in next) sector [] fits ∙ put p step_then
             ∙ ap (λ (n : ℕ). slice_range (bytes_read past' q n) (512 * p) (512 * p + 512)) (sym here)
         | inr apart ↦
-            let other : slice_index heads j ≢ (head_in next) = λ e. heads_differ q h m j w.k good (left_open q past l.completed l.batch j left_j) w.is_open apart (e ∙ head ∙ w.head) in
+            let other : slice_index heads j ≢ (head_in next) = λ e. heads_differ q h m j w.k good (left_open q past l.completed hides j left_j) w.is_open apart (e ∙ head ∙ w.head) in
             let was : slice_get (task_steps h request) (l.made j) ≡ Some (Put p) = ap (slice_get (task_steps h request)) (sym (at_other l.made w.k (l.made w.k + 1) j apart)) ∙ at_step in
             get_or-set_other state.sectors (head_in next) (slice_index heads j) sector [] other ∙ a.at.sectors j p request left_j is_old was
             ∙ ap (λ (xs : List ℕ). slice_range xs (512 * p) (512 * p + 512)) (sym (x.sees j apart))
@@ -166,6 +169,9 @@ goes_on q h sizes m setup state place w past' next sector good a x head made put
     l : Lane
     l = m.lanes q
 
+    hides : List ℕ
+    hides = hidden_part (m.lanes q).phase (m.lanes q).batch
+
     past : List Entry
     past = m.scene.past
 
@@ -173,10 +179,16 @@ goes_on q h sizes m setup state place w past' next sector good a x head made put
     heads = m.scene.heads q
 
     left : List ℕ
-    left = left_of q past l.completed l.batch
+    left = left_of q past l.completed hides
 
-    same : left_of q past' l.completed l.batch ≡ left
-    same = left_same q past past' w.k l.completed l.batch x
+    there : slice_get left place ≡ Some w.k
+    there = left_at q h m place w.k good w.at
+
+    same : left_of q past' l.completed hides ≡ left
+    same = left_same q past past' w.k l.completed hides x
+
+    same_used : used_after h q past' ≡ used_after h q past
+    same_used = ap (λ (ps : List ℕ). (h.base + length ps) % 65536) x.publishes
 
     same_heads : open_heads q past' heads ≡ open_heads q past heads
     same_heads = ap (λ (ps : List ℕ). map (slice_index heads) (missing_below ps (accepted past' q))) x.publishes ∙ ap (λ (n : ℕ). map (slice_index heads) (missing_below (published past q) n)) x.accepts
@@ -184,18 +196,17 @@ goes_on q h sizes m setup state place w past' next sector good a x head made put
 -- ---- the last step
 
 finished : (q : ℕ) (h : Header1) (sizes : ℕ → ℕ) (m : Moment) (setup : QueueSetup) (state : QueueState) (place : ℕ) (w : WorkReady q h sizes m state place) (sector : List ℕ) → Good q h m → QueueStands q h setup m state
-    → QueueAt q h setup m.scene.past (m.scene.heads q) (m.lanes q).phase (m.lanes q).batch ((m.lanes q).completed ++ w.k ∷ []) (with_at (m.lanes q).made w.k ((m.lanes q).made w.k + 1)) (done_at place (head_in w.task) (used_len (status_of h w.request) w.request) sector state)
+    → QueueAt q h setup m.scene.past (m.scene.heads q) (m.lanes q).phase (hidden_part (m.lanes q).phase (m.lanes q).batch) ((m.lanes q).completed ++ w.k ∷ []) (with_at (m.lanes q).made w.k ((m.lanes q).made w.k + 1)) (done_at place (head_in w.task) (used_len (status_of h w.request) w.request) sector state)
 finished q h sizes m setup state place w sector good a = record {
   ring = a.at.ring;
   runs = a.at.runs;
   started = a.at.started;
-  used = a.at.used;
   phase = a.at.phase;
   batch = a.at.batch;
   completed = ap (λ (xs : List (ℕ × ℕ)). xs ++ (head_in w.task, used_len (status_of h w.request) w.request) ∷ []) a.at.completed
       ∙ ap (λ (e : ℕ × ℕ). map (spot_of q h past heads) l.completed ++ e ∷ []) element
       ∙ sym (map-append (spot_of q h past heads) l.completed (w.k ∷ []));
-  keeps = keeps_done setup.ring.size (open_heads q past heads) state place (used_len (status_of h w.request) w.request) w.task sector w.due.at a.at.keeps;
+  keeps = keeps_done setup.ring.size (open_heads q past heads) (used_after h q past) state place (used_len (status_of h w.request) w.request) w.task sector w.due.at a.at.keeps;
   tasks = λ i j t at_left at_task.
       let at_i : slice_get (remove left place) i ≡ Some j = ap (λ (xs : List ℕ). slice_get xs i) (sym less) ∙ at_left in
       elim (cases_lt i place) [
@@ -211,18 +222,21 @@ finished q h sizes m setup state place w sector good a = record {
   buffers = length-set state.sectors (head_in w.task) sector ∙ a.at.buffers;
   places = a.at.places;
   sectors = λ j p request held is at_step.
-      let kept = among_filter (λ n. not (is_among ((l.completed ++ w.k ∷ []) ++ l.batch) n)) (open_numbers past q) j held in
-      let out : is_among ((l.completed ++ w.k ∷ []) ++ l.batch) j ≡ false = let t : not (is_among ((l.completed ++ w.k ∷ []) ++ l.batch) j) ≡ true = kept.1 in grind (arith, nat_tests) in
-      let parts = not_more l.completed l.batch w.k j out in
-      let passes : not (is_among (l.completed ++ l.batch) j) ≡ true = ap not parts.1 in
-      let left_j : is_among left j ≡ true = among_kept (λ n. not (is_among (l.completed ++ l.batch) n)) (open_numbers past q) j kept.0 passes in
-      let other : slice_index heads j ≢ (head_in w.task) = λ e. heads_differ q h m j w.k good (left_open q past l.completed l.batch j left_j) w.is_open parts.0 (e ∙ w.head) in
+      let kept = among_filter (λ n. not (is_among ((l.completed ++ w.k ∷ []) ++ hides) n)) (open_numbers past q) j held in
+      let out : is_among ((l.completed ++ w.k ∷ []) ++ hides) j ≡ false = let t : not (is_among ((l.completed ++ w.k ∷ []) ++ hides) j) ≡ true = kept.1 in grind (arith, nat_tests) in
+      let parts = not_more l.completed hides w.k j out in
+      let passes : not (is_among (l.completed ++ hides) j) ≡ true = ap not parts.1 in
+      let left_j : is_among left j ≡ true = among_kept (λ n. not (is_among (l.completed ++ hides) n)) (open_numbers past q) j kept.0 passes in
+      let other : slice_index heads j ≢ (head_in w.task) = λ e. heads_differ q h m j w.k good (left_open q past l.completed hides j left_j) w.is_open parts.0 (e ∙ w.head) in
       let was_step : slice_get (task_steps h request) (l.made j) ≡ Some (Put p) = ap (slice_get (task_steps h request)) (sym (at_other l.made w.k (l.made w.k + 1) j parts.0)) ∙ at_step in
       get_or-set_other state.sectors (head_in w.task) (slice_index heads j) sector [] other ∙ a.at.sectors j p request left_j is was_step;
 }
   where
     l : Lane
     l = m.lanes q
+
+    hides : List ℕ
+    hides = hidden_part (m.lanes q).phase (m.lanes q).batch
 
     past : List Entry
     past = m.scene.past
@@ -231,16 +245,19 @@ finished q h sizes m setup state place w sector good a = record {
     heads = m.scene.heads q
 
     left : List ℕ
-    left = left_of q past l.completed l.batch
+    left = left_of q past l.completed hides
 
-    less : left_of q past (l.completed ++ w.k ∷ []) l.batch ≡ remove left place
-    less = one_less l.completed l.batch (open_numbers past q) place w.k (missing_distinct (published past q) (accepted past q)) w.at
+    there : slice_get left place ≡ Some w.k
+    there = left_at q h m place w.k good w.at
+
+    less : left_of q past (l.completed ++ w.k ∷ []) hides ≡ remove left place
+    less = one_less l.completed hides (open_numbers past q) place w.k (missing_distinct (published past q) (accepted past q)) there
 
     inside : place < length state.unfinished
     inside = slice_get_within state.unfinished place w.task w.due.at
 
     inside_left : place < length left
-    inside_left = slice_get_within left place w.k w.at
+    inside_left = slice_get_within left place w.k there
 
     element : (head_in w.task, used_len (status_of h w.request) w.request) ≡ spot_of q h past heads w.k
     element = ap (λ (d : ℕ). (d, used_len (status_of h w.request) w.request)) w.head ∙ ap (λ (o : Option Asked). (slice_index heads w.k, len_of h o)) (sym w.is)
@@ -250,7 +267,7 @@ finished q h sizes m setup state place w sector good a = record {
 
     was : (i j : ℕ) (t : Task) → i ≢ place → slice_get left i ≡ Some j → slice_get state.unfinished i ≡ Some t → TaskAt q h setup past heads j (with_at l.made w.k (l.made w.k + 1) j) t
     was i j t apart at_left at_task =
-        let differs : j ≢ w.k = λ e. apart (one_place left i place w.k (left_distinct q past l.completed l.batch) (at_left ∙ ap (λ (n : ℕ). Some n) e) w.at) in
+        let differs : j ≢ w.k = λ e. apart (one_place left i place w.k (left_distinct q past l.completed hides) (at_left ∙ ap (λ (n : ℕ). Some n) e) there) in
         task_same q h setup past past heads w.k j (l.made j) (with_at l.made w.k (l.made w.k + 1) j) t nothing_new (at_other l.made w.k (l.made w.k + 1) j differs) (a.at.tasks i j t at_left at_task)
 
 -- ---- any step
@@ -259,7 +276,7 @@ finished q h sizes m setup state place w sector good a = record {
 abbrev StandsAfter : ℕ → Header1 → QueueSetup → Moment → ℕ → QueueState → Asked → RequestStep → Type 0
 StandsAfter q h setup m k state request step =
     QueueAt q h setup (after_items h (task_items h q k (buffer_of q k m.scene) m.scene.past request step) m.scene).past ((after_items h (task_items h q k (buffer_of q k m.scene) m.scene.past request step) m.scene).heads q)
-    (after_task_step k step (m.lanes q)).phase (after_task_step k step (m.lanes q)).batch (after_task_step k step (m.lanes q)).completed (after_task_step k step (m.lanes q)).made state
+    (after_task_step k step (m.lanes q)).phase (hidden_part (after_task_step k step (m.lanes q)).phase (after_task_step k step (m.lanes q)).batch) (after_task_step k step (m.lanes q)).completed (after_task_step k step (m.lanes q)).made state
 
 -- the last sector of some
 last_sector : (xs v : List ℕ) (p : ℕ) → length xs ≡ 512 * p → length v ≡ 512 → slice_range (xs ++ v) (512 * p) (512 * p + 512) ≡ v
@@ -289,7 +306,7 @@ next_put h request c p next = ap (slice_get (task_steps h request)) (let same : 
 -- where the queue stands after a look, if any
 abbrev LookStands : ℕ → Header1 → QueueSetup → Moment → ℕ → QueueState → Option ℕ → Type 0
 LookStands q h setup m k state o =
-    QueueAt q h setup (after_items h (look_items q k m.scene.past o) m.scene).past ((after_items h (look_items q k m.scene.past o) m.scene).heads q) (m.lanes q).phase (m.lanes q).batch (m.lanes q).completed (with_at (m.lanes q).made k ((m.lanes q).made k + 1)) state
+    QueueAt q h setup (after_items h (look_items q k m.scene.past o) m.scene).past ((after_items h (look_items q k m.scene.past o) m.scene).heads q) (m.lanes q).phase (hidden_part (m.lanes q).phase (m.lanes q).batch) (m.lanes q).completed (with_at (m.lanes q).made k ((m.lanes q).made k + 1)) state
 
 look_stands : (q : ℕ) (h : Header1) (sizes : ℕ → ℕ) (m : Moment) (setup : QueueSetup) (state state' : QueueState) (place : ℕ) (v : Values) (w : WorkReady q h sizes m state place) (x : IsLook h w.request ((m.lanes q).made w.k) w.step) → IsPlain h → Good q h m → QueueStands q h setup m state → DiskAt h.capacity m.scene.past v
     → HasWorked (Some v) place w.task (making w) state state' → StandsAfter q h setup m w.k state' w.request w.step
@@ -347,7 +364,7 @@ put_stands q h sizes m setup state state' place v w x plain good a made =
 -- where the queue stands after an act, if any
 abbrev ActStands : ℕ → Header1 → QueueSetup → Moment → ℕ → QueueState → Option SectorValue → Type 0
 ActStands q h setup m k state o =
-    QueueAt q h setup (after_items h (act_items q k o) m.scene).past ((after_items h (act_items q k o) m.scene).heads q) (m.lanes q).phase (m.lanes q).batch (m.lanes q).completed (with_at (m.lanes q).made k ((m.lanes q).made k + 1)) state
+    QueueAt q h setup (after_items h (act_items q k o) m.scene).past ((after_items h (act_items q k o) m.scene).heads q) (m.lanes q).phase (hidden_part (m.lanes q).phase (m.lanes q).batch) (m.lanes q).completed (with_at (m.lanes q).made k ((m.lanes q).made k + 1)) state
 
 act_stands : (q : ℕ) (h : Header1) (sizes : ℕ → ℕ) (m : Moment) (setup : QueueSetup) (state state' : QueueState) (place : ℕ) (v : Values) (w : WorkReady q h sizes m state place) (x : IsAct h w.request ((m.lanes q).made w.k) w.step) → IsPlain h → Good q h m → QueueStands q h setup m state
     → HasWorked (Some v) place w.task (making w) state state' → StandsAfter q h setup m w.k state' w.request w.step
@@ -390,45 +407,78 @@ step_stands q h sizes m setup state state' place v w plain good a disk made (inr
 step_stands q h sizes m setup state state' place v w plain good a disk made (inr (inr (inr (inl x)))) = sync_stands q h sizes m setup state state' place v w x plain good a made
 step_stands q h sizes m setup state state' place v w plain good a disk made (inr (inr (inr (inr x)))) = last_stands q h sizes m setup state state' place v w x.next good a made
 
--- ---- its start is past
+-- ---- its phase
 
-worked_same : (v : Option Values) (place : ℕ) (task : Task) (n : Making) (s t : QueueState) → HasWorked v place task n s t → (t.index ≡ s.index) × ((t.bell ≡ s.bell) × (t.recovery ≡ s.recovery))
+-- nothing of the queue changed but its tasks, what is completed and the sectors on their way
+record KeepsRest (s t : QueueState) : Type 0 where
+  index : t.index ≡ s.index
+  bell : t.bell ≡ s.bell
+  recovery : t.recovery ≡ s.recovery
+  counter : t.counter ≡ s.counter
+  fetching : t.fetching ≡ s.fetching
+  batch : t.batch ≡ s.batch
+
+worked_same : (v : Option Values) (place : ℕ) (task : Task) (n : Making) (s t : QueueState) → HasWorked v place task n s t → KeepsRest s t
 worked_same v place task n s t made = go n.step made.state
   where
-    alike : (u : QueueState) → t ≡ u → (u.index ≡ s.index) × ((u.bell ≡ s.bell) × (u.recovery ≡ s.recovery)) → (t.index ≡ s.index) × ((t.bell ≡ s.bell) × (t.recovery ≡ s.recovery))
-    alike u is same = subst (λ (y : QueueState). (y.index ≡ s.index) × ((y.bell ≡ s.bell) × (y.recovery ≡ s.recovery))) (sym is) same
+    alike : (u : QueueState) → t ≡ u → KeepsRest s u → KeepsRest s t
+    alike u is same = subst (λ (y : QueueState). KeepsRest s y) (sym is) same
 
-    go : (step : RequestStep) → Advances place task n made.sector step s t → (t.index ≡ s.index) × ((t.bell ≡ s.bell) × (t.recovery ≡ s.recovery))
-    go (Look p) is = alike (worked place is.0 made.sector s) is.3 (refl, (refl, refl))
-    go (Put p) is = alike (worked place is.0 made.sector s) is.3 (refl, (refl, refl))
-    go (Act p) is = alike (worked place is.0 made.sector s) is.3 (refl, (refl, refl))
-    go Sync is = alike (worked place is.0 made.sector s) is.3 (refl, (refl, refl))
-    go Status is = alike (done_at place (head_in task) (used_len (status_of n.header n.request) n.request) made.sector s) is (refl, (refl, refl))
+    go : (step : RequestStep) → Advances place task n made.sector step s t → KeepsRest s t
+    go (Look p) is = alike (worked place is.0 made.sector s) is.3 (record { index = refl; bell = refl; recovery = refl; counter = refl; fetching = refl; batch = refl })
+    go (Put p) is = alike (worked place is.0 made.sector s) is.3 (record { index = refl; bell = refl; recovery = refl; counter = refl; fetching = refl; batch = refl })
+    go (Act p) is = alike (worked place is.0 made.sector s) is.3 (record { index = refl; bell = refl; recovery = refl; counter = refl; fetching = refl; batch = refl })
+    go Sync is = alike (worked place is.0 made.sector s) is.3 (record { index = refl; bell = refl; recovery = refl; counter = refl; fetching = refl; batch = refl })
+    go Status is = alike (done_at place (head_in task) (used_len (status_of n.header n.request) n.request) made.sector s) is (record { index = refl; bell = refl; recovery = refl; counter = refl; fetching = refl; batch = refl })
 
--- its entries start no queue
-look_still : (q : ℕ) (h : Header1) (k : ℕ) (s : Scene) (o : Option ℕ) → started (after_items h (look_items q k s.past o) s).past q ≡ started s.past q
-look_still q h k s None = refl
-look_still q h k s (Some sector) = refl
+-- the queue is started in one scene as in the other, with the same offers and as many accepted
+record IsStill (q : ℕ) (s s' : Scene) : Type 0 where
+  runs : started s'.past q ≡ started s.past q
+  accepts : accepted s'.past q ≡ accepted s.past q
+  requests : asked s'.past q ≡ asked s.past q
+  heads : s'.heads q ≡ s.heads q
 
-act_still : (q : ℕ) (h : Header1) (k : ℕ) (s : Scene) (o : Option SectorValue) → started (after_items h (act_items q k o) s).past q ≡ started s.past q
-act_still q h k s None = refl
-act_still q h k s (Some x) = refl
+-- so it is after the items of work
+look_still : (q : ℕ) (h : Header1) (k : ℕ) (s : Scene) (o : Option ℕ) → IsStill q s (after_items h (look_items q k s.past o) s)
+look_still q h k s None = record { runs = refl; accepts = refl; requests = refl; heads = refl }
+look_still q h k s (Some sector) = record { runs = refl; accepts = refl; requests = refl; heads = refl }
 
-work_still : (q : ℕ) (h : Header1) (k : ℕ) (s : Scene) (request : Asked) (step : RequestStep) → started (after_items h (task_items h q k (buffer_of q k s) s.past request step) s).past q ≡ started s.past q
+act_still : (q : ℕ) (h : Header1) (k : ℕ) (s : Scene) (o : Option SectorValue) → IsStill q s (after_items h (act_items q k o) s)
+act_still q h k s None = record { runs = refl; accepts = refl; requests = refl; heads = refl }
+act_still q h k s (Some x) = record { runs = refl; accepts = refl; requests = refl; heads = refl }
+
+work_still : (q : ℕ) (h : Header1) (k : ℕ) (s : Scene) (request : Asked) (step : RequestStep) → IsStill q s (after_items h (task_items h q k (buffer_of q k s) s.past request step) s)
 work_still q h k s request (Look place) = look_still q h k s (look_at request place)
-work_still q h k s request (Put place) = refl
+work_still q h k s request (Put place) = record { runs = refl; accepts = refl; requests = refl; heads = refl }
 work_still q h k s request (Act place) = act_still q h k s (effect_at request place)
-work_still q h k s request Sync = refl
-work_still q h k s request Status = refl
+work_still q h k s request Sync = record { runs = refl; accepts = refl; requests = refl; heads = refl }
+work_still q h k s request Status = record { runs = refl; accepts = refl; requests = refl; heads = refl }
 
--- and its lane keeps bell, plan and phase
-lane_starts : (q : ℕ) (h : Header1) (setup : QueueSetup) (k : ℕ) (l : Lane) (runs : Bool) (w : RegionWords) (state : QueueState) (step : RequestStep) → StartAt q h setup runs l.bell l.plan l.phase w state
-    → StartAt q h setup runs (after_task_step k step l).bell (after_task_step k step l).plan (after_task_step k step l).phase w state
-lane_starts q h setup k l runs w state (Look place) x = x
-lane_starts q h setup k l runs w state (Put place) x = x
-lane_starts q h setup k l runs w state (Act place) x = x
-lane_starts q h setup k l runs w state Sync x = x
-lane_starts q h setup k l runs w state Status x = x
+-- so a started queue stays in its phase
+phase_kept : (q : ℕ) (h : Header1) (setup : QueueSetup) (s s' : Scene) (bell : Bool) (plan : Plan) (next : ℕ) (batch : List ℕ) (phase : Phase) (w w' : RegionWords) (state state' : QueueState) → started s.past q ≡ true → IsStill q s s' → KeepsRest state state'
+    → PhaseAt q h setup s.past (s.heads q) bell plan next batch phase w state → PhaseAt q h setup s'.past (s'.heads q) bell plan next batch phase w' state'
+phase_kept q h setup s s' bell plan next batch phase w w' state state' run still same x = record {
+  index = same.index ∙ x.index;
+  bell = same.bell ∙ x.bell;
+  ring = ap (λ (r : RecoveryState). r.ring) same.recovery ∙ x.ring;
+  region = ap (λ (r : RecoveryState). r.region) same.recovery ∙ x.region;
+  base = ap (λ (r : RecoveryState). r.base) same.recovery ∙ x.base;
+  begun = λ stopped. absurd (let fails : true ≡ false = sym run ∙ sym still.runs ∙ stopped in cc);
+  counter = same.counter ∙ x.counter;
+  fetching = same.fetching ∙ x.fetching ∙ ap (λ (hs : List ℕ). kept_head phase (slice_index hs (accepted s.past q))) (sym still.heads)
+      ∙ ap (λ (n : ℕ). kept_head phase (slice_index (s'.heads q) n)) (sym still.accepts);
+  batch = same.batch ∙ x.batch ∙ ap (λ (hs : List ℕ). map (spot_of q h s.past hs) batch) (sym still.heads)
+      ∙ ap (λ (f : ℕ → Option Asked). map (λ k. (slice_index (s'.heads q) k, len_of h (f k))) batch) (sym still.requests);
+}
+
+-- and its lane keeps bell, plan, counter, batch and phase
+lane_phase : (q : ℕ) (h : Header1) (setup : QueueSetup) (k : ℕ) (l : Lane) (s : Scene) (w : RegionWords) (state : QueueState) (step : RequestStep) → PhaseAt q h setup s.past (s.heads q) l.bell l.plan l.counter l.batch l.phase w state
+    → PhaseAt q h setup s.past (s.heads q) (after_task_step k step l).bell (after_task_step k step l).plan (after_task_step k step l).counter (after_task_step k step l).batch (after_task_step k step l).phase w state
+lane_phase q h setup k l s w state (Look place) x = x
+lane_phase q h setup k l s w state (Put place) x = x
+lane_phase q h setup k l s w state (Act place) x = x
+lane_phase q h setup k l s w state Sync x = x
+lane_phase q h setup k l s w state Status x = x
 
 -- where the queue stands after a turn of work
 pub work_stands : (q : ℕ) (h : Header1) (sizes : ℕ → ℕ) (m : Moment) (setup : QueueSetup) (state state' : QueueState) (place : ℕ) (v : Values) (w : WorkReady q h sizes m state place) → IsPlain h → Good q h m → QueueStands q h setup m state → DiskAt h.capacity m.scene.past v
@@ -438,8 +488,8 @@ work_stands q h sizes m setup state state' place v w plain good a disk made =
     let t : Turned = task_turn h q m.scene l w.k w.request (Some w.step) in
     let now : Scene = after_items h t.items m.scene in
     let same = worked_same (Some v) place w.task (making w) state state' made in
-    let run : started now.past q ≡ true = work_still q h w.k m.scene w.request w.step ∙ sym a.at.started ∙ w.due.started in
+    let run : started m.scene.past q ≡ true = sym a.at.started ∙ w.due.started in
     stands_next q h setup m (turns.Work place) t state' (work_turned q h sizes m state place w)
     (step_stands q h sizes m setup state state' place v w plain good a disk made (work_kind q h sizes m state place w plain good))
-    (lane_starts q h setup w.k l (started now.past q) (region_in h q now) state' w.step
-    (runs_on q h setup m state state' (started now.past q) l.bell l.plan l.plan l.phase (region_in h q now) a run refl same.0 same.1.0 same.1.1))
+    (lane_phase q h setup w.k l now (region_in h q now) state' w.step
+    (phase_kept q h setup m.scene now l.bell l.plan l.counter l.batch l.phase (region_in h q m.scene) (region_in h q now) state state' run (work_still q h w.k m.scene w.request w.step) same a.phase))
