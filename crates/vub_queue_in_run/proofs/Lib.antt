@@ -3,4 +3,9 @@ pub mod QueueAtMoves
 pub mod QueueAtSteps
 pub mod QueueAtTurns
 pub mod QueueHeld
+pub mod Setups
 pub mod TurnSays
+pub mod WorkAt
+pub mod WorkAtItems
+pub mod WorkAtLists
+pub mod WorkAtStands

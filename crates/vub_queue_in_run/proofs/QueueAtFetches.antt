@@ -80,6 +80,7 @@ goes : (q : ℕ) (h : Header1) (setup : QueueSetup) (m : Moment) (x : Stepped) (
     → StepStands q h setup m turns.Fetch x row [] t
 goes q h setup m x row done l u t f lane does is_row = go due.0 due.1
   where
+    due : (step : Step) × IsDue h.size step (side_of q h m.scene l.bell l.plan l.counter [] (phases.Fetch done))
     due = fetch_due h.size (open_heads q m.scene.past (m.scene.heads q)) h.base done (side_of q h m.scene l.bell l.plan l.counter [] (phases.Fetch done)) (words_in q h m.scene) (record { started = f.run; place = refl }) f.facts.words
 
     way : (step : Step) → IsDue h.size step (side_of q h m.scene l.bell l.plan l.counter [] (phases.Fetch done)) → IsUnderWay q h setup m.scene (fetching done l) step u

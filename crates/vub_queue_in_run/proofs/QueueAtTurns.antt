@@ -190,7 +190,7 @@ stands_next q h setup m turn t state is z y =
 -- ---- a fetch
 
 -- the head that waits is that of the next request
-head_is : (q : ℕ) (h : Header1) (setup : QueueSetup) (m : Moment) (state : QueueState) → LiesAs q setup h.size → QueueStands q h setup m state → Holds q h m.scene (m.lanes q) → accepted m.scene.past q < length (m.scene.heads q)
+pub head_is : (q : ℕ) (h : Header1) (setup : QueueSetup) (m : Moment) (state : QueueState) → LiesAs q setup h.size → QueueStands q h setup m state → Holds q h m.scene (m.lanes q) → accepted m.scene.past q < length (m.scene.heads q)
     → head_word state.ring m.scene.memory state.next_avail ≡ slice_index (m.scene.heads q) (accepted m.scene.past q)
 head_is q h setup m state main z holds more =
     let mem : Bytes = m.scene.memory in
@@ -211,7 +211,7 @@ next_out q h s l holds more = record {
 }
 
 -- so the avail ring breaks no rule
-keeps_rules : (q : ℕ) (h : Header1) (setup : QueueSetup) (m : Moment) (state : QueueState) (fault : RingFault) → IsPlain h → Good q h m → LiesAs q setup h.size → QueueStands q h setup m state → Breaks state m.scene.memory fault → ⊥
+pub keeps_rules : (q : ℕ) (h : Header1) (setup : QueueSetup) (m : Moment) (state : QueueState) (fault : RingFault) → IsPlain h → Good q h m → LiesAs q setup h.size → QueueStands q h setup m state → Breaks state m.scene.memory fault → ⊥
 keeps_rules q h setup m state fault plain good main z breaks = go fault breaks.1
   where
     a : ℕ
