@@ -1,7 +1,7 @@
 -- A queue lies where it lay: its tasks one by one.
 use mathlib.Core.Path.{fun_ext}
 use Rattle.std.proofs.Common.{◌≡◌, ◌<◌, ℕ, zero, suc, List, [], ◌∷◌, ◌++◌, refl, ap, sym, ◌∙◌, subst}
-use Rattle.std.specs.Prelude.{Bool, true, false, if◌then◌else◌, Option, None, take, drop, set, slice_get, Some, Ok}
+use Rattle.std.specs.Prelude.{Bool, true, false, if◌then◌else◌, take, drop, set, slice_get, Some, Ok}
 use Rattle.vub_split.specs.Split.{RingLies}
 use Rattle.vub_split.specs.declared.split.SplitRing.{SplitRing}
 use Rattle.vub_steps.specs.declared.steps.Phase.{Phase}

@@ -1,12 +1,12 @@
 -- What a step of a fetch or a publication says, leaves and stores.
 use Rattle.std.proofs.Common.{◌≡◌, ◌≤◌, ◌⊎◌, ℕ, ◌+◌, List, [], inl, inr, refl, ap, sym, ◌∙◌, subst, arith}
 use Rattle.std.proofs.lemmas.Bool.Decides.{nat_tests}
-use Rattle.std.specs.Prelude.{Bool, true, false, not, ◌&&◌, ◌||◌, nat_lt, if◌then◌else◌, length, Option, Some, None, Result, Ok, Err, slice_get, option_map}
+use Rattle.std.specs.Prelude.{Bool, true, false, not, ◌&&◌, ◌||◌, nat_lt, if◌then◌else◌, length, Option, Some, None, Ok}
 use Rattle.vub_base.specs.Told.{WhereTold}
 use Rattle.vub_shared.specs.Bytes.{Bytes}
 use Rattle.vub_shared.specs.Spaces.{Names}
 use Rattle.vub_shared.specs.Stores.{Store, Stores, Trails}
-use Rattle.vub_shared.specs.Frames.{KeepsSpaces, OnlyLoads, MakesStore}
+use Rattle.vub_shared.specs.Frames.{KeepsSpaces, OnlyLoads}
 use Rattle.vub_base.specs.declared.store.Tag.TheVariants as tags
 use Rattle.vub_infl_split.specs.declared.region.SplitStore.TheVariants.{SF1}
 use Rattle.vub_infl_split.specs.declared.region.SplitRegion.{SplitRegion}
@@ -134,6 +134,7 @@ module _ {M : Type 0} (told : M → Option Bytes) (trail : M → Option (List St
       stays : (o : Option Row) → StoresRow (told before) (told now) says.SharedFault o
       stays None = loads.same_told
       stays (Some y) = inl loads.same_told
+
       keeps : (o : Option Row) → TrailsRow (trail before) (trail now) says.SharedFault o
       keeps None = loads.same_trail
       keeps (Some y) = inl loads.same_trail

@@ -4,7 +4,7 @@ use native.Mathlib.Numerals.{unary_clauses}
 use Rattle.std.proofs.lemmas.Bool.Decides.{nat_tests}
 use Rattle.std.proofs.lemmas.List.{take-map, drop-map, take_min, length-map, length-take-le, length-set, drop-append-le, take-append-le, map-append}
 use Rattle.std.proofs.lemmas.Option.{slice_get-get_or, slice_get-map}
-use Rattle.std.specs.Prelude.{remove, ◌&&◌, ◌||◌, ◌==◌, not, if◌then◌else◌, nat_lt, set, slice_get, is_some, option_map, Option, Some, None, Ok, ⊤}
+use Rattle.std.specs.Prelude.{remove, ◌&&◌, ◌||◌, ◌==◌, not, if◌then◌else◌, nat_lt, set, slice_get, is_some, option_map, Option, Some, None, ⊤}
 use Rattle.std.proofs.lemmas.Bool.{cases_lt}
 use Rattle.vub_base.specs.Told.{WhereTold}
 use Rattle.vub_shared.specs.Bytes.{Bytes}
@@ -164,6 +164,7 @@ shown_stands n bell (suc place) done at = go (nat_lt place n) refl (place == n) 
   where
     late : 4 * n < done
     late = omega (arith, at)
+
     go : (t : Bool) → nat_lt place n ≡ t → (u v : Bool) → StandsIf n done (if t then Some (Clear place) else if u then Some Note else if v then Some Bell else None)
     go true low u v = (grind (arith, nat_tests, low), late)
     go false low true v = late

@@ -1,5 +1,5 @@
 -- What the steps of a start store, what they leave, and what the bell tells.
-use Rattle.std.proofs.Common.{◌≡◌, ℕ, List, inl, inr, refl, ap, sym, ◌∙◌, subst, arith}
+use Rattle.std.proofs.Common.{◌≡◌, ℕ, List, inl, inr, refl, sym, ◌∙◌, subst, arith}
 use Rattle.std.specs.Prelude.{Bool, true, false, if◌then◌else◌, Option, Some, None, Result, Ok, Err}
 use Rattle.vub_base.specs.Causes.{HasCause}
 use Rattle.vub_base.specs.Told.{WhereTold}

@@ -2,6 +2,8 @@
 #![tactic(auto)]
 
 mod queue;
+#[cfg(test)]
+mod tests;
 
 pub use queue::{Queue, QueueSetup, Stepped, Stop};
 pub use vub_steps::{Choice, Turn};

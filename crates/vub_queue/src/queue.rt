@@ -739,7 +739,10 @@ impl Queue {
         };
         let completed = self.batch_element(element);
         let index = used.wrapping_add(element as u16);
-        match self.ring.write_used_id(mem, index, u32::from(completed.head)) {
+        match self
+            .ring
+            .write_used_id(mem, index, u32::from(completed.head))
+        {
             Ok(()) => {
                 self.advance();
                 Stepped::Stored(Tag::SP1)

@@ -9,7 +9,7 @@ use Rattle.vub_queue.specs.QueueParts.{taken_count, shown_of}
 use Rattle.vub_queue.specs.QueueState.{state_of, accepted}
 use Rattle.vub_queue.proofs.QueueLemmas.{count_free, count_taken, Kept, kept_at}
 use Rattle.vub_queue.proofs.LyingLemmas.{lies_accepted, lies_same}
-use Rattle.std.proofs.Common.{Option, Some}
+use Rattle.std.proofs.Common.{Some}
 use Rattle.vub_queue.proofs.queue.Queue.accept.Goals as goal
 
 kept_by : (q : Queue) (head : ℕ) → q.fetching ≡ Some head → Kept q.phase q.batch head q.ring.size q.taken.items

@@ -1,11 +1,11 @@
-use Rattle.std.proofs.Common.{◌≡◌, ◌<◌, ◌*◌, ℕ, Bool, true, false, length, ap, sym, ◌∙◌, subst, arith}
+use Rattle.std.proofs.Common.{◌≡◌, ℕ, Bool, true, false, ap, sym, ◌∙◌, subst, arith}
 use Rattle.vub_steps.specs.declared.steps.Phase.{Phase}
 use Rattle.vub_steps.specs.declared.steps.Phase.TheVariants.{Rest}
-use Rattle.vub_steps.specs.Steps.{running_steps, after_of, done_of}
+use Rattle.vub_steps.specs.Steps.{running_steps, after_of}
 use Rattle.vub_steps.specs.Readiness.{is_publication}
 use Rattle.vub_queue.specs.declared.queue.Queue.{Queue}
-use Rattle.vub_queue.specs.QueueParts.{phase_fits, head_fits}
-use Rattle.vub_queue.specs.QueueState.{QueueState, state_of, steps_in, with_phase}
+use Rattle.vub_queue.specs.QueueParts.{phase_fits}
+use Rattle.vub_queue.specs.QueueState.{state_of, steps_in, with_phase}
 use Rattle.vub_queue.proofs.QueueLemmas.{count_is, ends_shown, fits_after, shown_on, no_head, publishes_no_fetch}
 use Rattle.vub_queue.proofs.LyingLemmas.{advanced_lies}
 use Rattle.vub_queue.proofs.queue.Queue.advance.Goals as goal

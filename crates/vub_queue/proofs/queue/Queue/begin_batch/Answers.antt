@@ -1,4 +1,4 @@
-use Rattle.std.proofs.Common.{◌≡◌, ℕ, List, arith, min, length, refl, ap}
+use Rattle.std.proofs.Common.{◌≡◌, List, arith, min, length, refl, ap}
 use Rattle.vub_steps.specs.declared.steps.Phase.{Phase}
 use Rattle.vub_steps.specs.declared.steps.Phase.TheVariants.{Publish}
 use Rattle.vub_steps.specs.Readiness.{is_publication, is_fetch}

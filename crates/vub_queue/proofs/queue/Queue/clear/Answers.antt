@@ -1,9 +1,8 @@
 use Rattle.std.proofs.Common.{◌≡◌, ◌<◌, ℕ, length, refl, sym, subst, arith}
-use Rattle.std.specs.Prelude.{Some, take, Option}
-use Rattle.vub_shared.specs.Bytes.{Bytes}
+use Rattle.std.specs.Prelude.{Some, take}
 use Rattle.vub_steps.specs.declared.steps.Step.TheVariants.{Clear}
 use Rattle.vub_queue.specs.declared.queue.Queue.{Queue}
-use Rattle.vub_queue.specs.QueueState.{state_of, step_in, Moves, Unless, is_fault}
+use Rattle.vub_queue.specs.QueueState.{state_of, step_in}
 use Rattle.vub_queue.proofs.QueueLemmas.{StandsAt, stands_at, count_is, below_at, below_take}
 use Rattle.vub_queue.proofs.queue.Queue.clear.Goals as goal
 
@@ -19,4 +18,3 @@ pub store_in_region-requires-clause-within : goal.store_in_region-requires-claus
 store_in_region-requires-clause-within g c =
     let q = c.args.self.now in
     subst (λ (n : ℕ). c.batch_element-head.result.head < n) (sym c.requires.same_size) (below_at q.ring.size (take q.batch q.completed.items) c.args.element c.batch_element-head.result (below_take q.ring.size q.batch q.completed.items q.in_table) c.batch_element-head.ensures)
-

@@ -1,4 +1,4 @@
-use Rattle.std.proofs.Common.{◌≡◌, ℕ, ◌-◌, List, length, map, drop, refl, ap, ◌∙◌, arith, length-drop}
+use Rattle.std.proofs.Common.{◌≡◌, ◌-◌, length, refl, ap, ◌∙◌, arith, length-drop}
 use Rattle.vub_steps.specs.declared.steps.Phase.TheVariants.{Rest}
 use Rattle.vub_queue.specs.QueueParts.{heads_below, shown_of}
 use Rattle.vub_queue.proofs.QueueLemmas.{below_drop, shown_all, no_head, publishes_no_fetch}

@@ -1,8 +1,8 @@
-use Rattle.std.proofs.Common.{◌≡◌, ◌≤◌, ◌*◌, ℕ, List, length, map, take, refl, sym, subst, ap, ◌∙◌, arith}
+use Rattle.std.proofs.Common.{◌≡◌, ◌≤◌, ℕ, List, length, map, take, refl, sym, subst, ap, ◌∙◌, arith}
 use Rattle.std.proofs.lemmas.List.{with_items_is}
 use Rattle.vub_steps.specs.declared.steps.Phase.{Phase}
 use Rattle.vub_steps.specs.declared.steps.Step.TheVariants.{Index}
-use Rattle.vub_steps.specs.Steps.{running_steps, after_of, done_of}
+use Rattle.vub_steps.specs.Steps.{running_steps, after_of}
 use Rattle.vub_steps.specs.Readiness.{is_fetch}
 use Rattle.vub_queue.specs.QueueParts.{element, without_heads, taken_count, heads_below, phase_fits, shown_of}
 use Rattle.vub_queue.specs.declared.queue.Completed.{Completed}

@@ -1,7 +1,6 @@
 use Rattle.std.proofs.Common.{sym, ap, ◌∙◌, ◌≡◌, length}
 use Rattle.std.specs.Prelude.{Some, Option, is_some, true}
 use Rattle.vub_steps.specs.declared.steps.Step.{Step}
-use Rattle.vub_steps.specs.declared.steps.Step.TheVariants as steps
 use Rattle.vub_steps.specs.Steps.{done_of}
 use Rattle.vub_steps.specs.Readiness.{is_publication}
 use Rattle.vub_queue.specs.declared.queue.Queue.{Queue}

@@ -22,4 +22,3 @@ returns-in-Err-clause-makes_row g c =
     makes_this (g.M.Shared.told) (g.M.Shared.trail) (g.M.Shared.names) (g.M.Shared.handed) (g.M.Shared.sizes) c.args.mem.now c.store.new.mem says.SharedFault (next_row (fetch_under_way (state_of q))) (region_row q.region (SF1 c.args.head q.counter))
     (λ m tells. count_row (state_of q) m c.args.head q.region (ap is_fetch c.requires.resting) (none_kept q.phase q.fetching q.ring.size q.taken.items (ap is_fetch c.requires.resting) q.kept) (c.requires.here m tells) q.same_region)
     c.in-Err.ensures.makes_store.stored c.in-Err.ensures.makes_store.trailed c.in-Err.ensures.makes_store.spaces
-
