@@ -24,11 +24,10 @@ use Rattle.vub_steps.proofs.StartLemmas.{before, behind}
 use Rattle.vub_driver.specs.Layout.{ring_of}
 use Rattle.vub_run.specs.Memory.{Scene, after_items}
 use Rattle.vub_run.specs.Moments.{Lane, region_of, used_in, region_in}
-use Rattle.vub_facts.specs.Facts.{bells}
-use Rattle.vub_facts.proofs.FactStarts.{start_long}
+use Rattle.vub_facts.proofs.Places.{bells, start_long}
 use Rattle.vub_run_laws.proofs.RunHolds.{starting}
 use Rattle.vub_run_laws.proofs.RunPhases.{resting}
-use Rattle.vub_run.specs.Turns.{Turned, course_of, sight_of, step_items, row_items, bell_items, entry_items, with_phase, phase_turn, phase_goes_on}
+use Rattle.vub_run.specs.Turns.{Turned, course_of, sight_of, step_items, row_items, bell_items, entry_items, with_phase, counted, next_counter_in, phase_turn, phase_goes_on}
 
 -- ---- places in the list of a start
 
@@ -62,19 +61,25 @@ pub record IsRegionStep (r : Ring) (g : SplitRegion) (s : Sight) (step : Step) (
   pub row : row_of r g s step ≡ Some (region_row g x)
   pub no_bell : (q : ℕ) → bell_items q step ≡ []
   pub no_entry : (q : ℕ) (batch : List ℕ) (scene : Scene) → entry_items q batch step scene ≡ []
+  pub no_counter : (next : ℕ) (l : Lane) → counted next step l ≡ l
 
 pub is_region_step : (r : Ring) (g : SplitRegion) (s : Sight) (step : Step) (x : SplitStore) → region_step s.used s.link step ≡ Some x → IsRegionStep r g s step x
-is_region_step r g s steps.Features x is = record { row = cc; no_bell = λ q. refl; no_entry = λ q batch scene. refl }
-is_region_step r g s (steps.Free i) x is = record { row = cc; no_bell = λ q. refl; no_entry = λ q batch scene. refl }
-is_region_step r g s steps.Open x is = record { row = cc; no_bell = λ q. refl; no_entry = λ q batch scene. refl }
-is_region_step r g s (steps.Settle place) x is = record { row = cc; no_bell = λ q. refl; no_entry = λ q batch scene. refl }
-is_region_step r g s steps.SettleEnd x is = record { row = cc; no_bell = λ q. refl; no_entry = λ q batch scene. refl }
+is_region_step r g s steps.Features x is = record { row = cc; no_bell = λ q. refl; no_entry = λ q batch scene. refl; no_counter = λ next l. refl }
+is_region_step r g s (steps.Free i) x is = record { row = cc; no_bell = λ q. refl; no_entry = λ q batch scene. refl; no_counter = λ next l. refl }
+is_region_step r g s steps.Open x is = record { row = cc; no_bell = λ q. refl; no_entry = λ q batch scene. refl; no_counter = λ next l. refl }
+is_region_step r g s (steps.Settle place) x is = record { row = cc; no_bell = λ q. refl; no_entry = λ q batch scene. refl; no_counter = λ next l. refl }
+is_region_step r g s steps.SettleEnd x is = record { row = cc; no_bell = λ q. refl; no_entry = λ q batch scene. refl; no_counter = λ next l. refl }
 is_region_step r g s steps.Bell x is = absurd (cc)
 is_region_step r g s steps.Start x is = absurd (cc)
+is_region_step r g s steps.Count x is = absurd (cc)
 is_region_step r g s steps.Accept x is = absurd (cc)
 is_region_step r g s (steps.Id e) x is = absurd (cc)
 is_region_step r g s (steps.Len e) x is = absurd (cc)
+is_region_step r g s (steps.Link e) x is = absurd (cc)
+is_region_step r g s (steps.Head e) x is = absurd (cc)
 is_region_step r g s steps.Index x is = absurd (cc)
+is_region_step r g s (steps.Clear e) x is = absurd (cc)
+is_region_step r g s steps.Note x is = absurd (cc)
 
 -- ---- a turn
 
@@ -85,14 +90,15 @@ stores_turn q h l done x = record { items = items.Store (tag_of x) I (store_of (
 abbrev pub bell_turn : ℕ → Lane → ℕ → Turned
 bell_turn q l done = record { items = items.Bell q ∷ []; lane = starting (done + 1) l }
 
-abbrev pub last_turn : ℕ → Scene → Lane → Turned
-last_turn q s l = record { items = items.Made (entries.Start q (open_numbers s.past q)) ∷ []; lane = resting l }
+abbrev pub last_turn : ℕ → Header1 → Scene → Lane → Turned
+last_turn q h s l = record { items = items.Made (entries.Start q (open_numbers s.past q)) ∷ []; lane = resting (record l { counter = next_counter_in h q s }) }
 
 -- the turn with this next step
 turn_with : (q : ℕ) (h : Header1) (s : Scene) (l : Lane) (done : ℕ) (step : Step) (p : Phase) → slice_get (start_steps h.size l.plan l.bell) done ≡ Some step → after_step (course_of h (starting done l)) (phases.Start done) ≡ p
-    → phase_goes_on h q s (starting done l) ≡ record { items = step_items h q (starting done l) step s; lane = with_phase p (starting done l) }
+    → phase_goes_on h q s (starting done l) ≡ record { items = step_items h q (starting done l) step s; lane = with_phase p (counted (next_counter_in h q s) step (starting done l)) }
 turn_with q h s l done step p next after =
-    ap (phase_turn h q s (starting done l)) next ∙ ap (λ (x : Phase). record { items = step_items h q (starting done l) step s; lane = with_phase x (starting done l) }) after
+    let counts : Lane = counted (next_counter_in h q s) step (starting done l) in
+    ap (phase_turn h q s (starting done l)) next ∙ ap (λ (x : Phase). record { items = step_items h q (starting done l) step s; lane = with_phase x counts }) after
 
 -- the store that a start makes in this place
 abbrev pub store_in_place : ℕ → Header1 → Scene → Lane → ℕ → Option SplitStore
@@ -117,8 +123,10 @@ stores_next q h s l done x more is = go (slice_get (plan_steps h.size l.plan) do
     go None at e = absurd (cc)
     go (Some step) at e =
         let next : slice_get (start_steps h.size l.plan l.bell) done ≡ Some step = before (plan_steps h.size l.plan) (bell_steps l.bell ++ (steps.Start ∷ [])) done more ∙ at in
+        let region : IsRegionStep (ring_of q h.size) (region_of q h.size) (sight_of h q s (starting done l)) step x = is_region_step (ring_of q h.size) (region_of q h.size) (sight_of h q s (starting done l)) step x e in
         turn_with q h s l done step (phases.Start (done + 1)) next (more_steps h l done (omega (arith, more)))
-        ∙ ap (λ (is : List Item). record { items = is; lane = starting (done + 1) l }) (made step (is_region_step (ring_of q h.size) (region_of q h.size) (sight_of h q s (starting done l)) step x e))
+        ∙ ap (λ (counts : Lane). record { items = step_items h q (starting done l) step s; lane = with_phase (phases.Start (done + 1)) counts }) (region.no_counter (next_counter_in h q s) (starting done l))
+        ∙ ap (λ (is : List Item). record { items = is; lane = starting (done + 1) l }) (made step region)
 
 pub rings_next : (q : ℕ) (h : Header1) (s : Scene) (l : Lane) (done : ℕ) → l.bell ≡ true → done ≡ length (plan_steps h.size l.plan) → phase_goes_on h q s (starting done l) ≡ bell_turn q l done
 rings_next q h s l done bell all =
@@ -126,7 +134,7 @@ rings_next q h s l done bell all =
     let one : bells l.bell ≡ 1 = ap bells bell in
     turn_with q h s l done steps.Bell (phases.Start (done + 1)) next (more_steps h l done (omega (arith, all, one)))
 
-pub ends_next : (q : ℕ) (h : Header1) (s : Scene) (l : Lane) (done : ℕ) → done ≡ length (plan_steps h.size l.plan) + bells l.bell → phase_goes_on h q s (starting done l) ≡ last_turn q s l
+pub ends_next : (q : ℕ) (h : Header1) (s : Scene) (l : Lane) (done : ℕ) → done ≡ length (plan_steps h.size l.plan) + bells l.bell → phase_goes_on h q s (starting done l) ≡ last_turn q h s l
 ends_next q h s l done last =
     let next : slice_get (start_steps h.size l.plan l.bell) done ≡ Some steps.Start = ap (slice_get (start_steps h.size l.plan l.bell)) last ∙ start_next h.size l.plan l.bell in
     turn_with q h s l done steps.Start phases.Rest next (last_step h l done last)
