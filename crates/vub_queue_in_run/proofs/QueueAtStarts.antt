@@ -6,7 +6,7 @@ use Rattle.std.proofs.lemmas.Bool.Decides.{nat_tests}
 use Rattle.vub_base.specs.declared.header.Header1.{Header1}
 use Rattle.vub_base.specs.declared.store.Area.TheVariants.{I}
 use Rattle.vub_shared.specs.Bytes.{Bytes, word}
-use Rattle.vub_shared.specs.Stores.{after_store}
+use Rattle.vub_shared.specs.Stores.{Store, after_store}
 use Rattle.vub_device.specs.declared.entry.Entry.{Entry}
 use Rattle.vub_device.specs.declared.entry.Entry.TheVariants as entries
 use Rattle.vub_device.specs.Past.{accepted, published, missing_below, open_numbers, started}
@@ -46,7 +46,7 @@ use Rattle.vub_queue.specs.declared.queue.Stepped.{Stepped}
 use Rattle.vub_queue.specs.declared.queue.Stepped.TheVariants as says
 use Rattle.vub_queue.specs.declared.queue.QueueSetup.{QueueSetup}
 use Rattle.vub_queue.specs.QueueState as states
-use Rattle.vub_queue.specs.QueueState.{QueueState, StartsIf, Turns, is_fault, start_said, start_after, start_due, rings_next}
+use Rattle.vub_queue.specs.QueueState.{QueueState, StartsIf, StoresStep, TrailsStep, StoresStart, TrailsStart, TrailsRow, StoresBy, TrailsBy, Turns, is_fault, start_said, start_after, start_due, rings_next}
 use Rattle.vub_run.specs.Memory.{Scene, after_items}
 use Rattle.vub_run.specs.Moments.{Lane, Moment, region_of, used_in, region_in, open_heads, standing}
 use Rattle.vub_run.specs.Run.{one_turn}
@@ -205,6 +205,21 @@ start_under_way q h setup m state good main z stopped = go (phase_cases h.size l
 -- the row of the store that is due
 abbrev pub start_row : QueueState → Bytes → Option Row
 start_row s m = option_map (region_row s.recovery.region) (start_due s m)
+
+-- so its step stores as the row does
+step_stores : (before after : Option Bytes) (x : Stepped) (g : SplitRegion) (step : Option SplitStore) → StoresStep before after x g step → states.StoresRow before after x (option_map (region_row g) step)
+step_stores before after x g None made = made
+step_stores before after x g (Some y) made = made
+
+step_trails : (before after : Option (List Store)) (x : Stepped) (g : SplitRegion) (step : Option SplitStore) → TrailsStep before after x g step → TrailsRow before after x (option_map (region_row g) step)
+step_trails before after x g None made = made
+step_trails before after x g (Some y) made = made
+
+pub start_stores_row : (before after : Option Bytes) (x : Stepped) (s : QueueState) → StoresStart before after x s → StoresBy before after x (start_row s)
+start_stores_row before after x s made = λ m told. step_stores before after x s.recovery.region (start_due s m) (made m told)
+
+pub start_trails_row : (told : Option Bytes) (before after : Option (List Store)) (x : Stepped) (s : QueueState) → TrailsStart told before after x s → TrailsBy told before after x (start_row s)
+start_trails_row told before after x s made = (made.0, λ m is. step_trails before after x s.recovery.region (start_due s m) (made.1 m is))
 
 -- it says what the turn makes in the run, whatever waits to be fetched, and the queue stands where the lane does
 pub record StartStands (q : ℕ) (h : Header1) (setup : QueueSetup) (m : Moment) (x : Stepped) (row : Option Row) (state' : QueueState) : Type 0 where
