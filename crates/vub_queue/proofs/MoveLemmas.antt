@@ -20,11 +20,11 @@ use Rattle.vub_steps.specs.declared.steps.Step.{Step}
 use Rattle.vub_steps.specs.declared.steps.Step.TheVariants as steps
 use Rattle.vub_steps.specs.Rows.{Row, region_row}
 use Rattle.vub_steps.specs.Steps.{after_of, running_steps}
-use Rattle.vub_steps.specs.Readiness.{is_fetch, is_publication}
+use Rattle.vub_steps.specs.Readiness.{is_fetch, is_publication, last_counter}
 use Rattle.vub_task.specs.TaskState.{GainsOne}
 use Rattle.vub_queue.specs.declared.queue.Stepped.{Stepped}
 use Rattle.vub_queue.specs.declared.queue.Stepped.TheVariants as says
-use Rattle.vub_queue.specs.QueueState.{QueueState, outcome, steps_in, step_in, seen_by, row_at, next_row, row_said, step_said, accepted, changed, with_phase, moved, MovesBy, Moves, StoresRow, TrailsRow, MakesRow, is_plain, fetch_under_way, kept_or, last_counter, waiting, fetches, Finds, Fetches, Publishes, publish_row, start_due, StoresStep, TrailsStep, DoesStore, DoesTrail, Unless, is_fault}
+use Rattle.vub_queue.specs.QueueState.{QueueState, outcome, steps_in, step_in, seen_by, row_at, next_row, row_said, step_said, accepted, changed, with_phase, moved, MovesBy, Moves, StoresRow, TrailsRow, MakesRow, is_plain, fetch_under_way, kept_or, waiting, fetches, Finds, Fetches, Publishes, publish_row, start_due, StoresStep, TrailsStep, DoesStore, DoesTrail, Unless, is_fault}
 use Rattle.vub_queue.proofs.StartLemmas.{gains_by}
 
 -- ---- a step that changes nothing but the phase

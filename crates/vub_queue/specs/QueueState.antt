@@ -20,7 +20,7 @@ use Rattle.vub_steps.specs.declared.readiness.Turn.TheVariants.{Start, Fetch, Wo
 use Rattle.vub_ring.specs.Ring.{ahead}
 use Rattle.vub_steps.specs.Rows.{Row, Sight, row_of, region_row}
 use Rattle.vub_steps.specs.Steps.{running_steps, next_of, after_of}
-use Rattle.vub_steps.specs.Readiness.{is_ready, any_turn, is_fetch, is_publication}
+use Rattle.vub_steps.specs.Readiness.{is_ready, any_turn, is_fetch, is_publication, last_counter}
 use Rattle.vub_split.specs.declared.split.SplitRing.{SplitRing}
 use Rattle.vub_infl_split.specs.declared.region.SplitRegion.{SplitRegion}
 use Rattle.vub_infl_split.specs.declared.region.SplitStore.{SplitStore}
@@ -152,10 +152,6 @@ KeepsLying s t = (sizes : ℕ → ℕ) (capacity : ℕ) → QueueLies sizes capa
 -- how many requests wait in the avail ring
 abbrev pub waiting : QueueState → Bytes → ℕ
 waiting s m = ahead (avail_idx_word s.ring m) s.next_avail
-
--- no request gets this counter: none would be left for the next one
-abbrev pub last_counter : ℕ
-last_counter = 18446744073709551615
 
 -- what its readiness depends on, where so many requests wait
 abbrev pub standing_at : QueueState → ℕ → Standing

@@ -11,9 +11,10 @@ use Rattle.vub_report.specs.declared.items.Item.{Item}
 use Rattle.vub_report.specs.declared.items.Record.{Record}
 use Rattle.vub_report.specs.Entries.{IsEntry}
 use Rattle.vub_report.specs.Histories.{history_of}
-use Rattle.vub_run.specs.Moments.{opening, last_counter}
+use Rattle.vub_run.specs.Moments.{opening}
 use Rattle.vub_run.specs.Run.{RunFrom}
 use Rattle.vub_run.specs.Tracking.{TracksAlways}
+use Rattle.vub_steps.specs.Readiness.{last_counter}
 
 -- ---- the past of records, and what they say of attached queues
 

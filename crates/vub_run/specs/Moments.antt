@@ -14,6 +14,7 @@ use Rattle.vub_driver.specs.Drivers.{Driver, new_driver}
 use Rattle.vub_device.specs.declared.entry.Entry.{Entry}
 use Rattle.vub_device.specs.Past.{open_numbers, is_among, started}
 use Rattle.vub_run.specs.Memory.{Scene, opening_scene}
+use Rattle.vub_steps.specs.Readiness.{last_counter}
 
 -- one queue: its driver, and the device's side of it in this life
 pub record Lane : Type 0 where
@@ -81,10 +82,6 @@ next_head h q s = head_at (ring_of q h.size) s.memory (avail_position h q s)
 -- the accepted requests that aren't completed in this life, rising
 abbrev pub unfinished : ℕ → Moment → List ℕ
 unfinished q m = filter (λ k. not (is_among ((m.lanes q).completed ++ (m.lanes q).batch) k)) (open_numbers m.scene.past q)
-
--- the counter that leaves none for one more
-abbrev pub last_counter : ℕ
-last_counter = 18446744073709551615
 
 abbrev pub standing : Header1 → ℕ → Moment → Standing
 standing h q m = record {

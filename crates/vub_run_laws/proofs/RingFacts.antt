@@ -21,7 +21,7 @@ use Rattle.vub_device.specs.declared.entry.Entry.TheVariants as entries
 use Rattle.vub_device.specs.Past.{started, asked, accepted, published, collected, missing_below, open_numbers, is_among, IsOpen}
 use Rattle.vub_device.specs.Places.{are_distinct}
 use Rattle.vub_run.specs.Memory.{Scene}
-use Rattle.vub_run.specs.Moments.{Lane, open_heads, next_head, last_counter}
+use Rattle.vub_run.specs.Moments.{Lane, open_heads, next_head}
 use Rattle.vub_run.specs.Turns.{element_of, len_of, sight_of, next_counter_in}
 use Rattle.vub_steps.specs.declared.steps.Plan.{Plan}
 use Rattle.vub_steps.specs.Steps.{publish_steps}
@@ -41,6 +41,7 @@ use Rattle.vub_run_laws.proofs.RingPositions.{at_heads, ahead_there, head_there}
 use Rattle.vub_run_laws.proofs.RingFrames.{OffRings, ringed_elsewhere}
 use Rattle.vub_run_laws.proofs.RingEntries.{ringed_entries, driven_same}
 use Rattle.vub_run_laws.proofs.RunOffers.{same_head, same_asked}
+use Rattle.vub_steps.specs.Readiness.{last_counter}
 
 -- where rings and region of the layout lie: in two spaces
 pub lies_ring : (q n : ℕ) → IsSize n → Lies (the_ring q n) (the_region q n)

@@ -11,14 +11,14 @@ use Rattle.vub_steps.specs.declared.steps.Phase.TheVariants as phases
 use Rattle.vub_steps.specs.declared.readiness.Standing.{Standing}
 use Rattle.vub_steps.specs.declared.readiness.Turn.{Turn}
 use Rattle.vub_steps.specs.declared.readiness.Turn.TheVariants as turns
-use Rattle.vub_steps.specs.Readiness.{is_ready, is_fetch, is_publication, any_turn, draining_turn, drain_turn}
+use Rattle.vub_steps.specs.Readiness.{is_ready, is_fetch, is_publication, any_turn, draining_turn, drain_turn, last_counter}
 use Rattle.vub_steps.proofs.ReadinessLemmas.{NoneReady, NoneLeft, any_unready, draining_unready}
 use Rattle.vub_steps.specs.Steps.{next_step}
 use Rattle.vub_device.specs.declared.entry.Asked.{Asked}
 use Rattle.vub_device.specs.Past.{offers, asked, accepted, collected, is_among, open_numbers, started}
 use Rattle.vub_report.specs.declared.items.Item.{Item}
 use Rattle.vub_run.specs.Memory.{Scene}
-use Rattle.vub_run.specs.Moments.{Lane, Moment, standing, unfinished, last_counter}
+use Rattle.vub_run.specs.Moments.{Lane, Moment, standing, unfinished}
 use Rattle.vub_run.specs.Run.{Played, played, one_turn, is_due, then_played, turns as many_turns, drain_choice, IsDrained, Drains}
 use Rattle.vub_steps.specs.Tasks.{RequestStep, Look, Put, Act, Sync, Status, task_steps}
 use Rattle.vub_run.specs.Turns.{course_of, is_rest, turned, phase_turn, phase_goes_on, under_way, begun, work_turn, request_turn, task_turn, next_counter_in}

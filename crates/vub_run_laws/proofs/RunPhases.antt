@@ -24,7 +24,7 @@ use Rattle.vub_device.specs.Past.{asked, accepted, published, is_among, open_num
 use Rattle.vub_device.specs.Places.{are_distinct}
 use Rattle.vub_device.proofs.Numbers.{is_among_append}
 use Rattle.vub_run.specs.Memory.{Scene}
-use Rattle.vub_run.specs.Moments.{Lane, last_counter}
+use Rattle.vub_run.specs.Moments.{Lane}
 use Rattle.vub_run.specs.Turns.{Turned, step_items, phase_turn, with_phase, begun, under_way, phase_goes_on, counted, next_counter_in}
 use Rattle.vub_run_laws.proofs.RunOwn.{accepted_own, started_own, looks_start, acts_start, bytes_start, synced_start, faulted_start}
 use Rattle.vub_run_laws.proofs.RunNumbers.{distinct_join}
@@ -36,6 +36,7 @@ use Rattle.vub_run_laws.proofs.RunGuests.{holds_track}
 use Rattle.vub_run_laws.proofs.RunWork.{Fine}
 use Rattle.vub_run_laws.proofs.RunCarries.{all_hidden, carries_phase}
 use Rattle.vub_run_laws.proofs.RunQueue.{queue_begins, queue_start, queue_start_begins, queue_start_step, queue_fetch_begins, queue_counts, queue_accepts}
+use Rattle.vub_steps.specs.Readiness.{last_counter}
 
 -- the lane at rest
 abbrev pub resting : Lane → Lane

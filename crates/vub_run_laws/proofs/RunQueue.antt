@@ -15,7 +15,7 @@ use Rattle.vub_device.specs.declared.entry.Entry.{Entry}
 use Rattle.vub_device.specs.Past.{started, accepted, asked, published, collected, is_among, IsOpen}
 use Rattle.vub_device.specs.Places.{are_distinct}
 use Rattle.vub_run.specs.Memory.{Scene, opening_scene, shown_head, after_entry}
-use Rattle.vub_run.specs.Moments.{Moment, Lane, opening_lane, used_in, region_in, avail_position, last_counter}
+use Rattle.vub_run.specs.Moments.{Moment, Lane, opening_lane, used_in, region_in, avail_position}
 use Rattle.vub_steps.specs.Plans.{plan_of}
 use Rattle.vub_run_laws.proofs.RingStarts.{start_facts, next_start}
 use Rattle.vub_run.specs.Tracking.{Tracks}
@@ -50,6 +50,7 @@ use Rattle.vub_run_laws.proofs.RingQuiet.{step_quiet}
 use Rattle.vub_run.specs.Before.{BeforeEach}
 use Rattle.vub_run.specs.Spared.{IsSparing}
 use Rattle.vub_run_laws.proofs.RingSpares.{step_spares}
+use Rattle.vub_steps.specs.Readiness.{last_counter}
 
 -- ---- the opening
 

@@ -14,7 +14,7 @@ use Rattle.vub_schedule.specs.Spelling.{IsHeader, IsEvent}
 use Rattle.vub_report.specs.declared.items.Item.{Item}
 use Rattle.vub_report.specs.declared.items.Record.{Record}
 use Rattle.vub_run.specs.LegalRuns.{past_of, attached_after, attached_from, IsServed, EveryDrainServes, IsLegalRun}
-use Rattle.vub_run.specs.Moments.{Lane, Moment, opening, fresh, attached, last_counter}
+use Rattle.vub_run.specs.Moments.{Lane, Moment, opening, fresh, attached}
 use Rattle.vub_run.specs.Run.{Played, played, if_ready, ask, guest, guest_stores, take_first, collect, one_turn, is_due, turns as many_turns, single, up_to, any_choice, drain_choice, Drains, Plays, RunFrom, RunTo, Stands}
 use Rattle.vub_run_laws.proofs.RunOwn.{at_own}
 use Rattle.vub_run_laws.proofs.RunEntries.{run_enters}
@@ -24,6 +24,7 @@ use Rattle.vub_run_laws.proofs.Runs.{plain_header}
 use Rattle.vub_run_laws.proofs.RunQueues.{IsOn, on_one}
 use Rattle.vub_run_laws.proofs.RunsLegal.{IsHeld, opening_held, held_next}
 use Rattle.vub_run_laws.proofs.RunsTo.{run_length, run_of, stands_more, stands_past, stands_true, stands_drained}
+use Rattle.vub_steps.specs.Readiness.{last_counter}
 
 -- ---- what records say of attached queues
 

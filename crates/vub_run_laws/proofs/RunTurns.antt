@@ -10,10 +10,10 @@ use Rattle.vub_steps.specs.declared.steps.Phase.TheVariants as phases
 use Rattle.vub_steps.specs.declared.steps.Plan.{Plan}
 use Rattle.vub_steps.specs.declared.readiness.Turn.{Turn}
 use Rattle.vub_steps.specs.declared.readiness.Turn.TheVariants as turns
-use Rattle.vub_steps.specs.Readiness.{is_ready, is_fetch, is_publication}
+use Rattle.vub_steps.specs.Readiness.{is_ready, is_fetch, is_publication, last_counter}
 use Rattle.vub_device.specs.Past.{accepted, published, is_among, open_numbers, started}
 use Rattle.vub_run.specs.Memory.{Scene}
-use Rattle.vub_run.specs.Moments.{Lane, Moment, standing, unfinished, last_counter}
+use Rattle.vub_run.specs.Moments.{Lane, Moment, standing, unfinished}
 use Rattle.vub_run.specs.Turns.{turned, work_turn, phase_goes_on, under_way}
 use Rattle.vub_run_laws.proofs.RunNumbers.{among_filter, missing-among}
 use Rattle.vub_facts.proofs.HeadLemmas.{among_get}

@@ -12,7 +12,7 @@ use Rattle.vub_schedule.specs.Spelling.{IsEvent, IsHeader}
 use Rattle.vub_report.specs.declared.items.Item.{Item}
 use Rattle.vub_report.specs.declared.items.Record.{Record}
 use Rattle.vub_run.specs.LegalRuns.{past_of}
-use Rattle.vub_run.specs.Moments.{Moment, opening, last_counter}
+use Rattle.vub_run.specs.Moments.{Moment, opening}
 use Rattle.vub_run_laws.proofs.RunEntries.{event_offers, run_offers}
 use Rattle.vub_run.specs.Run.{turns, Plays, RunFrom, RunTo, Stands}
 use Rattle.vub_run.specs.Tracking.{TracksFrom}
@@ -23,6 +23,7 @@ use Rattle.vub_run_laws.proofs.RunChainsEvents.{ChainedAt, turns_chained}
 use Rattle.vub_run_laws.proofs.RunDrains.{drained}
 use Rattle.vub_run_laws.proofs.Runs.{plain_header}
 use Rattle.vub_run_laws.proofs.RunsLegal.{IsHeld, opening_held, held_right, held_next, right_past, some_queue, run_from}
+use Rattle.vub_steps.specs.Readiness.{last_counter}
 
 pub run_of : (h : Header1) (m : Moment) (es : List Event) (rs : List Record) (n : Moment) → RunTo h m es rs n → RunFrom h m es rs
 run_of h m [] [] n run = tt

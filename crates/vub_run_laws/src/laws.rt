@@ -13,7 +13,7 @@ ghost use Rattle.vub_report.specs.declared.items.Item.{Item};
 ghost use Rattle.vub_report.specs.declared.items.Record.{Record};
 ghost use Rattle.vub_split.specs.declared.split.SplitRing.{SplitRing};
 ghost use Rattle.vub_direct_chain.specs.ChainState.{IsRingOf, Meant};
-ghost use Rattle.vub_run.specs.Moments.{Moment, last_counter};
+ghost use Rattle.vub_run.specs.Moments.{Moment};
 ghost use Rattle.vub_run.specs.Run.{Run, Stands, Plays};
 ghost use Rattle.vub_run.specs.Tracking.{TracksAlways};
 ghost use Rattle.vub_report.specs.Entries.{IsEntry};
@@ -21,6 +21,7 @@ ghost use Rattle.vub_report.specs.Histories.{history_of};
 ghost use Rattle.vub_run.specs.Lawful.{IsOutstanding, EveryStoreIsLawful};
 ghost use Rattle.vub_run.specs.LegalRuns.{EveryDrainServes};
 ghost use Rattle.vub_run.specs.Spared.{EveryAnswerIsSpared};
+ghost use Rattle.vub_steps.specs.Readiness.{last_counter};
 
 /// The history of every run of a schedule is legal: the device answers each request at most once,
 /// and rightly. Memory tracks it after each item, a store taken together with the offer, the

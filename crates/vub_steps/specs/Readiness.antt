@@ -16,6 +16,10 @@ abbrev pub is_publication : Phase → Bool
 is_publication (phases.Publish done) = true
 is_publication p = false
 
+-- no request gets this counter: none would be left for the next one
+abbrev pub last_counter : ℕ
+last_counter = 18446744073709551615
+
 -- a queue is started once; a fetch and a publication exclude each other; work goes on beside both
 abbrev pub is_ready : Standing → Turn → Bool
 is_ready s Start = not s.started

@@ -1,10 +1,11 @@
 use Rattle.std.proofs.Common.{ℕ, ◌≡◌, sym, ◌∙◌, subst}
 use Rattle.std.specs.Prelude.{Option, Ok, Some, nat_lt, true}
 use Rattle.vub_base.specs.Told.{WhereTold}
-use Rattle.vub_queue.specs.QueueState.{QueueState, state_of, Finds, Moves, Unless, is_fault, fetch_under_way, last_counter}
+use Rattle.vub_queue.specs.QueueState.{QueueState, state_of, Finds, Moves, Unless, is_fault, fetch_under_way}
 use Rattle.vub_shared.specs.Bytes.{Bytes}
 use Rattle.vub_queue.proofs.MoveLemmas.{ready_by, fetches_by}
 use Rattle.vub_queue.proofs.queue.Queue.begin_fetch.Goals as goal
+use Rattle.vub_steps.specs.Readiness.{last_counter}
 
 pub returns-in-Ok-Some-clause-fetches : goal.returns-in-Ok-Some-clause-fetches
 returns-in-Ok-Some-clause-fetches g c =
