@@ -1,9 +1,12 @@
 pub mod QueueAtFetches
 pub mod QueueAtMoves
+pub mod QueueAtPublications
+pub mod QueueAtStarts
 pub mod QueueAtSteps
 pub mod QueueAtTurns
 pub mod QueueHeld
 pub mod Setups
+pub mod StartTurns
 pub mod TurnSays
 pub mod WorkAt
 pub mod WorkAtItems

@@ -1,20 +1,18 @@
 -- What a turn of a fetch says, makes and leaves in a run.
-use Rattle.std.proofs.Common.{◌≡◌, ◌≤◌, ◌<◌, ℕ, ◌+◌, ◌*◌, ◌%◌, Bool, true, false, List, [], ◌∷◌, length, map, cond, refl, ap, sym, ◌∙◌, subst, arith}
-use Rattle.std.specs.Prelude.{Option, Some, None, slice_index, nat_lt}
+use Rattle.std.proofs.Common.{◌≡◌, ◌<◌, ℕ, Bool, true, false, List, [], length, map, cond, refl, ap, sym, ◌∙◌, subst, arith}
+use Rattle.std.specs.Prelude.{Option, Some, None, slice_index}
 use Rattle.std.proofs.lemmas.Bool.Decides.{nat_tests}
 use Rattle.vub_base.specs.declared.header.Header1.{Header1}
-use Rattle.vub_shared.specs.Bytes.{Bytes}
 use Rattle.vub_steps.specs.declared.steps.Phase.{Phase}
 use Rattle.vub_steps.specs.declared.steps.Phase.TheVariants as phases
 use Rattle.vub_steps.specs.declared.steps.Step.{Step}
 use Rattle.vub_steps.specs.declared.readiness.Turn.TheVariants as turns
-use Rattle.vub_steps.specs.Readiness.{is_ready, is_fetch, is_publication}
+use Rattle.vub_steps.specs.Readiness.{last_counter, is_ready, is_fetch, is_publication}
 use Rattle.vub_steps.specs.Rows.{Row}
 use Rattle.vub_split.specs.Split.{head_word}
-use Rattle.vub_split.specs.declared.split.SplitRing.{SplitRing}
 use Rattle.vub_device.specs.declared.entry.Entry.{Entry}
 use Rattle.vub_device.specs.Past.{accepted, is_among, started}
-use Rattle.vub_facts.specs.Facts.{Words, InFetching, head_next, IsDue}
+use Rattle.vub_facts.specs.Facts.{InFetching, head_next, IsDue}
 use Rattle.vub_facts.proofs.FactSteps.{fetch_due}
 use Rattle.vub_queue.specs.declared.queue.Stepped.{Stepped}
 use Rattle.vub_queue.specs.declared.queue.Stepped.TheVariants as says
@@ -22,21 +20,21 @@ use Rattle.vub_queue.specs.declared.queue.QueueSetup.{QueueSetup}
 use Rattle.vub_queue.specs.QueueParts.{is_taken}
 use Rattle.vub_queue.specs.QueueState as states
 use Rattle.vub_queue.specs.QueueState.{QueueState, row_at, step_in, kept_or, fetch_row, fetch_under_way, Fetched, Fetches, MovesBy, Turns, is_fault}
-use Rattle.vub_run.specs.Moments.{Lane, Moment, open_heads, next_head, region_in, standing, last_counter}
+use Rattle.vub_run.specs.Moments.{Lane, Moment, open_heads, next_head, region_in, standing}
 use Rattle.vub_run.specs.Turns.{under_way, phase_turn, phase_goes_on}
 use Rattle.vub_run_laws.proofs.RunGood.{Known, Worked}
 use Rattle.vub_run_laws.proofs.RunHolds.{Holds, fetching}
 use Rattle.vub_run_laws.proofs.RunPhases.{resting, rest_is}
 use Rattle.vub_run_laws.proofs.RunTurns.{IsPlain, Good, running_cases, RunningCases, AtRest, InFetch, InPublication}
 use Rattle.vub_run_laws.proofs.RunQueue.{queue_ahead, queue_fetch_begins, fetch_more}
-use Rattle.vub_run_laws.proofs.RingGood.{the_ring, the_region, side_of, QueueFacts}
+use Rattle.vub_run_laws.proofs.RingGood.{side_of, QueueFacts}
 use Rattle.vub_run_laws.proofs.RingFacts.{words_in}
 use Rattle.vub_run_laws.proofs.RingPositions.{at_position, at_heads, head_there}
 use Rattle.vub_queue_in_run.specs.QueueAt.{spot_of, hidden_part, hidden_in, kept_head, kept_phase, used_after, QueueAt, PhaseAt, LiesAs, QueueStands}
 use Rattle.vub_queue_in_run.proofs.QueueHeld.{words_with}
 use Rattle.vub_queue_in_run.proofs.QueueAtMoves.{at_goes}
 use Rattle.vub_queue_in_run.proofs.QueueAtTurns.{ready_same, does_of, head_is, keeps_rules, worked_at}
-use Rattle.vub_queue_in_run.proofs.QueueAtSteps.{IsUnderWay, IsTurn, StepStands, step_stands, lane_next, queue_next}
+use Rattle.vub_queue_in_run.proofs.QueueAtSteps.{IsUnderWay, StepStands, step_stands, lane_next, queue_next}
 
 -- ---- a fetch that goes on
 

@@ -1,6 +1,6 @@
 -- What the moves of a run leave of where the queue stands.
-use Rattle.std.proofs.Common.{◌≡◌, ◌≤◌, ◌<◌, ◌⊎◌, ℕ, zero, suc, ◌+◌, ◌*◌, ◌/◌, ◌%◌, Bool, true, false, not, List, [], ◌∷◌, ◌++◌, length, take, drop, map, get_or, cond, refl, ap, sym, ◌∙◌, subst, inl, inr, arith}
-use Rattle.std.specs.Prelude.{Option, Some, None, slice_get, slice_index, filter, nat_lt, ◌||◌}
+use Rattle.std.proofs.Common.{◌≡◌, ◌≤◌, ◌<◌, ◌⊎◌, ℕ, zero, suc, ◌+◌, ◌*◌, ◌/◌, ◌%◌, Bool, true, false, not, List, [], ◌∷◌, ◌++◌, length, take, drop, map, get_or, refl, ap, sym, ◌∙◌, subst, inl, inr, arith}
+use Rattle.std.specs.Prelude.{Option, Some, None, slice_get, slice_index, filter, ◌||◌}
 use Rattle.std.proofs.lemmas.Bool.Decides.{nat_tests}
 use Rattle.std.proofs.lemmas.Bool.{cases_Bool, or_left, or_right}
 use Rattle.std.proofs.lemmas.List.{length-append, length-map, length-set, length-replicate, take-map, map-append, append-nil}
@@ -259,7 +259,7 @@ at_fetch q h setup past heads phase completed made state head known w is small f
       ring = x.ring;
       runs = x.runs;
       started = x.started;
-          phase = refl;
+      phase = refl;
       batch = refl;
       completed = x.completed;
       keeps = subst (λ (hs : List ℕ). KeepsHeads setup.ring.size hs (used_after h q past) (fetched head state)) (sym joins) (keeps_accepted (used_side setup.ring) (open_heads q past heads) (used_after h q past) state head small x.places free empty x.keeps);
@@ -304,7 +304,7 @@ at_begin q h setup past heads completed made state most x =
       ring = x.ring;
       runs = x.runs;
       started = x.started;
-          phase = refl;
+      phase = refl;
       batch = all_hidden (take most state.completed) ∙ ap (take most) x.completed ∙ take-map (spot_of q h past heads) most completed;
       completed = ap (drop most) x.completed ∙ drop_map (spot_of q h past heads) most completed;
       keeps = keeps_begun setup.ring.size (open_heads q past heads) (used_after h q past) most state x.batch x.keeps;

@@ -1,5 +1,5 @@
 -- What a step of a fetch or a publication says, makes and leaves in a run.
-use Rattle.std.proofs.Common.{◌≡◌, ◌≤◌, ◌<◌, ◌⊎◌, ℕ, zero, suc, ◌+◌, ◌*◌, Bool, true, false, List, [], ◌∷◌, ◌++◌, length, map, cond, refl, ap, sym, ◌∙◌, subst, inl, inr, arith, ◌%◌}
+use Rattle.std.proofs.Common.{◌≡◌, ◌≤◌, ◌<◌, ◌⊎◌, ℕ, ◌+◌, ◌*◌, Bool, true, false, List, [], ◌∷◌, ◌++◌, length, map, cond, refl, ap, sym, ◌∙◌, subst, inl, inr, arith, ◌%◌}
 use Rattle.std.specs.Prelude.{Option, Some, None, slice_index, slice_get, get_or, option_map, nat_lt, not, if◌then◌else◌}
 use Rattle.std.specs.Option.{option_or}
 use Rattle.std.proofs.lemmas.Bool.Decides.{nat_tests}
@@ -7,15 +7,15 @@ use Rattle.std.proofs.lemmas.Bool.{cases_Bool}
 use Rattle.std.proofs.lemmas.List.{length-map}
 use Rattle.byteorder.specs.Endian.{little_bytes}
 use Rattle.vub_base.specs.declared.header.Header1.{Header1}
-use Rattle.vub_base.specs.declared.store.Tag.TheVariants.{SF2, SP1, SP2, SP5}
-use Rattle.vub_shared.specs.Bytes.{Bytes, word}
+use Rattle.vub_base.specs.declared.store.Tag.TheVariants.{SP1, SP2, SP5}
+use Rattle.vub_shared.specs.Bytes.{word}
 use Rattle.vub_steps.specs.declared.steps.Phase.{Phase}
 use Rattle.vub_steps.specs.declared.steps.Phase.TheVariants as phases
 use Rattle.vub_steps.specs.declared.steps.Step.{Step}
 use Rattle.vub_steps.specs.declared.steps.Step.TheVariants as steps
 use Rattle.vub_steps.specs.declared.readiness.Turn.{Turn}
 use Rattle.vub_steps.specs.Readiness.{is_fetch}
-use Rattle.vub_steps.specs.Rows.{Row, Sight, row, row_of, ring_row, region_row, region_store}
+use Rattle.vub_steps.specs.Rows.{Row, Sight, row, row_of, region_row, region_store}
 use Rattle.vub_steps.specs.Steps.{Course, running_steps, steps_of, done_of, at_step, next_of, after_of, next_step, after_step}
 use Rattle.vub_ring.specs.Ring.{Ring, used_idx_place, used_id_place, used_len_place}
 use Rattle.vub_infl_split.specs.declared.region.SplitRegion.{SplitRegion}
@@ -28,11 +28,11 @@ use Rattle.vub_device.specs.declared.entry.Answered.{Answered}
 use Rattle.vub_device.specs.declared.entry.Entry.{Entry}
 use Rattle.vub_device.specs.declared.entry.Entry.TheVariants as entries
 use Rattle.vub_device.specs.Past.{accepted, is_among, IsOpen, started}
-use Rattle.vub_driver.specs.Layout.{area_place, ring_of}
+use Rattle.vub_driver.specs.Layout.{area_place}
 use Rattle.vub_report.specs.declared.items.Item.{Item}
 use Rattle.vub_report.specs.declared.items.Item.TheVariants as items
 use Rattle.vub_facts.specs.Facts.{Side, course_in, IsInPhase, IsDue}
-use Rattle.vub_facts.proofs.Places.{IsRunning, Place, place_of, after_place, is_last, shown_place}
+use Rattle.vub_facts.proofs.Places.{Place, place_of, after_place, is_last}
 use Rattle.vub_facts.proofs.FactSteps.{link_store, head_store, clear_store}
 use Rattle.vub_queue.specs.declared.queue.Stepped.{Stepped}
 use Rattle.vub_queue.specs.declared.queue.Stepped.TheVariants as says

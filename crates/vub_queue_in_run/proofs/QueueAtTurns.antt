@@ -1,5 +1,5 @@
 -- Which turns of the queue are due at a moment of a run, and what a fetch leaves.
-use Rattle.std.proofs.Common.{◌≡◌, ◌≤◌, ◌<◌, ℕ, ◌+◌, ◌*◌, ◌%◌, Bool, true, false, List, [], ◌∷◌, length, refl, ap, sym, ◌∙◌, subst, inl, inr, arith, filter, not, ◌++◌}
+use Rattle.std.proofs.Common.{◌≡◌, ◌<◌, ℕ, ◌+◌, ◌*◌, ◌%◌, Bool, true, false, List, [], ◌∷◌, length, refl, ap, sym, ◌∙◌, subst, inl, inr, arith, filter, not, ◌++◌}
 use Rattle.std.specs.Prelude.{Option, Some, slice_index, nat_lt, ⊤}
 use Rattle.std.proofs.lemmas.Bool.Decides.{nat_tests}
 use Rattle.std.proofs.lemmas.List.{length-map}
@@ -15,26 +15,20 @@ use Rattle.vub_steps.specs.declared.readiness.Turn.TheVariants as turns
 use Rattle.vub_ring.specs.Ring.{ahead, avail_idx}
 use Rattle.vub_steps.specs.declared.readiness.Choice.{Choice}
 use Rattle.vub_steps.specs.declared.readiness.Choice.TheVariants.{Only, Any, Drain}
-use Rattle.vub_steps.specs.Readiness.{is_ready, is_publication, chosen}
+use Rattle.vub_steps.specs.Readiness.{is_ready, chosen, last_counter}
 use Rattle.vub_device.specs.declared.entry.Entry.{Entry}
-use Rattle.vub_device.specs.declared.entry.Entry.TheVariants as entries
-use Rattle.vub_device.specs.Past.{accepted, published, collected, started, is_among, open_numbers, IsOpen}
-use Rattle.vub_report.specs.declared.items.Item.TheVariants as items
+use Rattle.vub_device.specs.Past.{accepted, published, collected, is_among, open_numbers, IsOpen}
 use Rattle.vub_queue.specs.declared.queue.Stepped.{Stepped}
 use Rattle.vub_queue.specs.declared.queue.Stepped.TheVariants as says
 use Rattle.vub_split.specs.declared.split.SplitRing.{SplitRing}
 use Rattle.vub_queue.specs.declared.queue.QueueSetup.{QueueSetup}
 use Rattle.vub_run.specs.Memory.{Scene, after_items}
-use Rattle.vub_infl_split.specs.Region.{RegionWords}
-use Rattle.vub_rec_split.specs.Starts.{RecoveryState}
-use Rattle.vub_steps.specs.declared.steps.Plan.{Plan}
 use Rattle.vub_run.specs.Moments.{Lane, Moment, region_in, standing, avail_position, unfinished, used_in}
 use Rattle.vub_run.specs.Run.{one_turn}
-use Rattle.vub_run.specs.Turns.{Turned, turned, under_way, phase_goes_on}
+use Rattle.vub_run.specs.Turns.{Turned, turned}
 use Rattle.vub_split.specs.Split.{avail_idx_word, head_word}
-use Rattle.vub_queue.specs.QueueParts.{is_taken}
 use Rattle.vub_queue.specs.QueueState as states
-use Rattle.vub_queue.specs.QueueState.{QueueState, standing_at, StartsIf, Fetches, Breaks, BreaksBy, Publishes, publishes, DoesOf, Unless, Turns, is_fault, last_counter}
+use Rattle.vub_queue.specs.QueueState.{QueueState, standing_at, StartsIf, Fetches, Breaks, BreaksBy, Publishes, publishes, DoesOf, Unless, Turns, is_fault}
 use Rattle.vub_queue_in_run.specs.QueueAt.{spot_of, QueueAt, LiesAs, QueueStands, kept_phase, PhaseAt, hidden_part, left_of}
 use Rattle.vub_driver.specs.Layout.{area_place}
 use Rattle.vub_run_laws.proofs.RunOwn.{at_own}
@@ -43,9 +37,8 @@ use Rattle.vub_run_laws.proofs.RingGood.{the_ring}
 use Rattle.vub_run_laws.proofs.RunGood.{IsOut, Worked, hidden}
 use Rattle.vub_run_laws.proofs.RunHolds.{Holds}
 use Rattle.vub_run_laws.proofs.RunFrames.{open_out}
-use Rattle.vub_run_laws.proofs.RunPhases.{resting, rest_is}
-use Rattle.vub_run_laws.proofs.RunTurns.{IsPlain, Good, running_cases}
-use Rattle.vub_queue_in_run.proofs.QueueAtMoves.{new_unpublished, count_is, avail_is, taken_open, at_fetch}
+use Rattle.vub_run_laws.proofs.RunTurns.{IsPlain, Good}
+use Rattle.vub_queue_in_run.proofs.QueueAtMoves.{new_unpublished, count_is, avail_is, taken_open}
 use Rattle.vub_run_laws.proofs.RunQueue.{queue_ahead, offered_head, head_below, heads_apart, shown_index}
 use Rattle.vub_run_laws.proofs.RunHeads.{missing_exact}
 use Rattle.std.proofs.lemmas.Bool.{cases_Bool}
