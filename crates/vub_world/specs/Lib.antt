@@ -6,5 +6,6 @@ pub mod MachineDevice
 pub mod MachineFront
 pub mod MachineSteps
 pub mod OutstandingRequests
+pub mod Regions
 pub mod Sequences
 pub mod World

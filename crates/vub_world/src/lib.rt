@@ -7,6 +7,7 @@ mod front;
 mod machine;
 mod notes;
 mod outstanding;
+mod regions;
 #[cfg(test)]
 mod tests;
 mod turns;
