@@ -1,3 +1,4 @@
+pub mod Bells
 pub mod Fronts
 pub mod Lives
 pub mod Machine

@@ -2,6 +2,7 @@
 //! of what happens between them.
 #![tactic(auto)]
 
+mod bell;
 mod device;
 mod front;
 mod machine;
