@@ -1,6 +1,7 @@
 -- What is noted of a store, of an answer and of a batch, and what room it takes.
 use Rattle.std.proofs.Common.{◌≡◌, ◌<◌, ◌≤◌, ℕ, ◌+◌, ◌++◌, List, [], ◌∷◌, length, take, get_or, Bool, true, false, sym, ap, ◌∙◌, subst, arith, refl}
-use Rattle.std.specs.Prelude.{zero, suc, if◌then◌else◌, ◌==◌, map, slice_get, option_map, Option, Some, None}
+use Rattle.std.specs.Prelude.{zero, suc, if◌then◌else◌, ◌==◌, nat_lt, map, slice_get, option_map, Option, Some, None}
+use Rattle.std.proofs.lemmas.Bool.Decides.{nat_tests}
 use Rattle.std.proofs.lemmas.List.{map-append, take_more}
 use Rattle.std.proofs.lemmas.Option.{slice_get-get_or, slice_get_within, get_or_from_slice_get}
 use Rattle.vub_device.specs.declared.entry.Answered.{Answered}
@@ -13,7 +14,10 @@ use Rattle.vub_steps.specs.declared.steps.Step.TheVariants.{Index}
 use Rattle.vub_base.specs.declared.store.Tag.{Tag}
 use Rattle.vub_base.specs.declared.store.Area.TheVariants.{M}
 use Rattle.vub_shared.specs.Bytes.{Bytes, cleared}
+use Rattle.vub_shared.specs.Spaces.{HandsNew}
 use Rattle.vub_shared.specs.Stores.{Store, one_store}
+use Rattle.vub_shared.specs.Watched.{handed_in, sizes_in, count_in}
+use Rattle.vub_shared.specs.declared.watched_shared.WatchedShared.{WatchedShared}
 use Rattle.vub_report.specs.declared.items.Item.{Item}
 use Rattle.vub_report.specs.declared.items.Item.TheVariants as items
 use Rattle.vub_world.specs.MachineDevice.{stored_items, answer_for, answers_for, is_index, is_showing}
@@ -28,6 +32,14 @@ if_zero false x e = e
 -- zero bytes stay zero when a space of them is cleared
 pub cleared_zero : (space : ℕ) (m now : Bytes) → ((s p : ℕ) → m s p ≡ 0) → now ≡ cleared space m → (s p : ℕ) → now s p ≡ 0
 cleared_zero space m now zeros is s p = ap (λ (f : Bytes). f s p) is ∙ if_zero (s == space) (m s p) (zeros s p)
+
+-- a create hands out one space more
+pub one_space_more : (before now : WatchedShared) (space size : ℕ) → HandsNew (handed_in before) (sizes_in before) (handed_in now) (sizes_in now) space size → space ≡ count_in before → count_in now ≡ count_in before + 1
+one_space_more before now space size new is =
+    let joins : handed_in now (count_in before) ≡ true = subst (λ (k : ℕ). handed_in now k ≡ true) is new.joins in
+    let past : nat_lt (count_in before + 1) (count_in before) ≡ false = grind (arith, nat_tests) in
+    let next : handed_in now (count_in before + 1) ≡ false = new.handed (count_in before + 1) (λ e. (let no : ⊥ = omega (arith, e, is) in no)) ∙ past in
+    grind (arith, nat_tests)
 
 -- ---- the one store that is kept
 
