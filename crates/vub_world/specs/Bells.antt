@@ -3,7 +3,7 @@ use Rattle.std.specs.Prelude.{ℕ, true, List}
 use Rattle.vub_base.specs.Bells.{BellState}
 use Rattle.vub_world.specs.declared.bell.WatchedBell.{WatchedBell}
 
--- the queues rung since the last restart
+-- the queues rung
 abbrev pub rung_in : WatchedBell → List ℕ
 rung_in b = b.rung.items
 

@@ -4,9 +4,8 @@ ghost use Rattle.std.specs.Prelude.{◌≡◌, ◌<◌, [], length};
 use arrayvec::ArrayVec;
 use vub_base::{Bell, Failed};
 
-/// The calls of a world's queues, all of which count as attached. It lists the queues rung since the
-/// last restart in a room for two: while it lists fewer, no call of it has failed. A third ring is
-/// refused, and ends the restarts.
+/// The calls of a world's queues, all of which count as attached. It lists the queues rung in a room
+/// for two: while it lists fewer, no call of it has failed. A third ring is refused.
 #[derive(Drop)]
 pub struct WatchedBell {
     rung: ArrayVec<u16, 2>,
@@ -33,15 +32,6 @@ impl WatchedBell {
         ensures { result.now ≡ rung_in self.now }
     {
         self.rung.as_slice()
-    }
-
-    /// Empties the list of a bell that lists fewer than two, of which no call has failed.
-    pub fn restart(&mut self)
-        requires { length (rung_in self.old) < 2 }
-        ensures rung { rung_in self.new ≡ [] }
-        ensures faults { faults_in self.new ≡ 0 }
-    {
-        self.rung.clear();
     }
 }
 

@@ -11,7 +11,6 @@ use vub_base::{Ask, Header1, Memory, Shape, Space, Tag};
 use vub_device::Entry;
 use vub_guest::layout::ring_of;
 use vub_guest::{Collected, Guest, GuestStep};
-use vub_infl_split::SplitRegion;
 use vub_queue::QueueSetup;
 use vub_report::Item;
 use vub_room::Room;
@@ -28,8 +27,6 @@ pub struct Front {
     pub setup: QueueSetup,
     /// The space of guest memory.
     pub space: Space,
-    /// Where the queue's part of the in-flight region lies.
-    pub region: SplitRegion,
     pub guest: Guest,
     /// The request that waits to be offered.
     pub asked: Option<Ask>,
@@ -74,10 +71,11 @@ impl Front {
             setup: QueueSetup {
                 index,
                 ring: ring_of(space, index, header.size),
+                region: region_of(inflight, index, header.size),
                 base: header.base,
+                bell: true,
             },
             space,
-            region: region_of(inflight, index, header.size),
             guest: Guest::new(alloc, header, index, space)?,
             asked: None,
             outstanding: OutstandingRequests::new(alloc, header.size)?,

@@ -28,8 +28,14 @@ use vub_shared::{Shared, SharedFault, WatchedShared};
 /// The most stores that a request takes, with the one that offers it.
 const MOST_STORES: u16 = 8;
 
+/// The most turns of a started queue that belong to no one request.
+const BESIDES: u64 = 3;
+
+/// Those of a queue that isn't started, beside one for each place.
+const BESIDES_START: u64 = 6;
+
 /// A life of the device; its queues are there once they are attached.
-#[derive(Debug, Drop)]
+#[derive(Drop)]
 struct Life {
     queues: Option<Vec<Queue>>,
 }
@@ -94,6 +100,16 @@ fn add_queue(queues: &mut Vec<Queue>, queue: Queue) -> Result<(), Memory>
     queues.push(queue).map_err(|_| Memory)
 }
 
+/// Whether there is a queue, and it was started.
+fn is_started(queue: Option<&Queue>) -> bool
+    ensures { result ≡ is_started_queue queue.now }
+{
+    match queue {
+        Some(queue) => queue.is_started(),
+        None => false,
+    }
+}
+
 /// The fronts of the header's queues, in the order of their numbers.
 fn new_fronts(
     alloc: Global,
@@ -123,7 +139,8 @@ impl Machine {
     ghost use Rattle.vub_world.specs.Machine.{IsSound, LendsSound};
     ghost use Rattle.vub_world.specs.MachineAt.{MachineAt, IsStanding, Performs, StandsOn, is_attached};
     ghost use Rattle.vub_world.specs.MachineDevice.{is_joining};
-    ghost use Rattle.vub_world.specs.MachineSteps.{PlaysSingle, PlaysTurns};
+    ghost use Rattle.vub_world.specs.Lives.{life_of, is_started_in};
+    ghost use Rattle.vub_world.specs.MachineSteps.{PlaysSingle, PlaysTurns, turns_besides};
     ghost use Rattle.vub_world.specs.Fronts.{offers_in};
     ghost use Rattle.vub_run.specs.Moments.{opening};
 
@@ -299,6 +316,25 @@ impl Machine {
         Ok(self.nothing())
     }
 
+    /// The most turns of a queue that belong to no one request.
+    fn turns_besides(&self, queue: u16) -> u64
+        ensures { result ≡ turns_besides self.now.header.size (is_started_in (life_of queue self.now.life)) }
+    {
+        let is_started = match &self.life {
+            Some(
+                Life {
+                    queues: Some(queues),
+                },
+            ) => is_started(queues.get(usize::from(queue))),
+            _ => false,
+        };
+        if is_started {
+            BESIDES
+        } else {
+            u64::from(self.header.size) + BESIDES_START
+        }
+    }
+
     /// A single turn, idle where it isn't ready.
     fn single(&mut self, queue: u16, turn: Turn) -> Result<Items, Memory>
         requires exists { queue < self.old.header.queues }
@@ -315,7 +351,8 @@ impl Machine {
         let place = usize::from(queue);
         let front = &self.fronts[place];
         let undone = front.outstanding.count();
-        let mut room = Room::for_turns(self.alloc, &mut self.spare, 1, undone)?;
+        let besides = self.turns_besides(queue);
+        let mut room = Room::for_turns(self.alloc, &mut self.spare, 1, undone, besides)?;
         let Some(
             Life {
                 queues: Some(queues),
@@ -354,7 +391,8 @@ impl Machine {
         let place = usize::from(queue);
         let front = &self.fronts[place];
         let undone = front.outstanding.count();
-        let mut room = Room::for_turns(self.alloc, &mut self.spare, count, undone)?;
+        let besides = self.turns_besides(queue);
+        let mut room = Room::for_turns(self.alloc, &mut self.spare, count, undone, besides)?;
         let Some(
             Life {
                 queues: Some(queues),

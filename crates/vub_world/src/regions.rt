@@ -2,6 +2,7 @@
 //! own.
 ghost use Rattle.std.specs.Prelude.{◌≡◌};
 ghost use Rattle.vub_driver.specs.Layout.{inflight_space};
+ghost use Rattle.vub_run.specs.Moments.{region_of};
 ghost use Rattle.vub_world.specs.Regions as regions;
 
 use vub_base::{Header1, Space};
@@ -18,7 +19,7 @@ pub fn inflight_size(header: &Header1) -> u64
 /// The part of a queue.
 pub fn region_of(space: Space, queue: u16, size: u16) -> SplitRegion
     requires { space.number ≡ inflight_space }
-    ensures { result ≡ regions.region_of queue size }
+    ensures { result ≡ region_of queue size }
 {
     SplitRegion {
         space,

@@ -44,10 +44,7 @@ fn lists_two_rings(rt: HostRuntime) {
     assert_eq!(rt; bell.attach(3, "call3").is_ok(), true);
     assert_eq!(rt; bell.ring(3).is_ok(), true);
     assert_eq!(rt; bell.rung(), [3].as_slice());
-    bell.restart();
-    assert_eq!(rt; bell.rung().is_empty(), true);
-    assert_eq!(rt; bell.ring(4).is_ok(), true);
     assert_eq!(rt; bell.ring(5).is_ok(), true);
     assert_eq!(rt; bell.ring(4).is_ok(), false);
-    assert_eq!(rt; bell.rung(), [4, 5].as_slice());
+    assert_eq!(rt; bell.rung(), [3, 5].as_slice());
 }
