@@ -26,7 +26,7 @@ use Rattle.vub_run.specs.Turns.{len_of}
 use Rattle.vub_queue.specs.QueueParts.{is_taken}
 use Rattle.vub_queue.specs.QueueState as states
 use Rattle.vub_queue.specs.QueueState.{QueueState}
-use Rattle.vub_queue_in_run.specs.QueueAt.{LiesAs, spot_of, left_of, TaskAt, QueueAt, KeepsHeads, kept_phase}
+use Rattle.vub_queue_in_run.specs.QueueAt.{spot_of, left_of, TaskAt, QueueAt, KeepsHeads, kept_phase}
 use Rattle.vub_rec_split.specs.Starts.{RecoveryState}
 use Rattle.vub_queue_in_run.proofs.QueueHeld.{words_kept, keeps_new, keeps_accepted, keeps_begun, keeps_shown}
 use Rattle.vub_facts.specs.Facts.{heads_in, without}
@@ -34,7 +34,6 @@ use Rattle.vub_facts.proofs.HeadLemmas.{without_map, number_of, among_get}
 use Rattle.vub_run.specs.Moments.{open_heads}
 use Rattle.vub_device.specs.Places.{are_distinct}
 use Rattle.vub_split.specs.Split.{used_side}
-use Rattle.vub_split.specs.declared.split.SplitRing.{SplitRing}
 use Rattle.vub_queue.specs.declared.queue.QueueSetup.{QueueSetup}
 use Rattle.vub_task.specs.declared.task.Task.{Task}
 use Rattle.vub_run_laws.proofs.RunOwn.{accepted_own, published_own, started_own}

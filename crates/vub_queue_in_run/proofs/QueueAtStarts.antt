@@ -1,11 +1,10 @@
 -- What a turn of a start says, makes and leaves in a run.
-use Rattle.std.proofs.Common.{◌≡◌, ◌≤◌, ◌<◌, ◌⊎◌, ℕ, ◌+◌, ◌*◌, ◌^◌, Bool, true, false, List, [], ◌∷◌, length, cond, refl, ap, sym, ◌∙◌, subst, inl, inr, arith}
-use Rattle.std.specs.Prelude.{Option, Some, None, slice_get, nat_lt, not, ◌&&◌}
+use Rattle.std.proofs.Common.{◌≡◌, ◌≤◌, ◌<◌, ℕ, ◌+◌, Bool, true, false, List, [], ◌∷◌, length, cond, refl, ap, sym, ◌∙◌, subst, inl, inr, arith}
+use Rattle.std.specs.Prelude.{Option, Some, None, slice_get, nat_lt}
 use Rattle.std.proofs.lemmas.Bool.{cases_Bool, cases_lt}
 use Rattle.std.proofs.lemmas.Bool.Decides.{nat_tests}
 use Rattle.vub_base.specs.declared.header.Header1.{Header1}
 use Rattle.vub_base.specs.declared.store.Area.TheVariants.{I}
-use Rattle.vub_base.specs.declared.reading.RegionFault.{RegionFault}
 use Rattle.vub_shared.specs.Bytes.{Bytes, word}
 use Rattle.vub_shared.specs.Stores.{after_store}
 use Rattle.vub_device.specs.declared.entry.Entry.{Entry}
@@ -16,12 +15,13 @@ use Rattle.vub_report.specs.declared.items.Item.TheVariants as items
 use Rattle.vub_inflight.specs.Links.{link_at}
 use Rattle.vub_infl_split.specs.declared.region.SplitRegion.{SplitRegion}
 use Rattle.vub_infl_split.specs.declared.region.SplitStore.{SplitStore}
+use Rattle.vub_infl_split.specs.declared.region.SplitStore.TheVariants.{SI1, SI2, SI3, SR1, SR2, SF1, SF2, SP3, SP4, SP6, SP7}
 use Rattle.vub_infl_split.specs.Region.{RegionWords, words_of}
-use Rattle.vub_infl_split.specs.Stores.{store_of, tag_of, words_after, NamesEntry, ValueFits}
+use Rattle.vub_infl_split.specs.Stores.{store_of, tag_of, words_after}
 use Rattle.vub_infl_split.proofs.WordLemmas.{words_stored}
 use Rattle.vub_region_facts.specs.Starts.{Left, InStart}
 use Rattle.vub_region_facts.specs.Phases.{NotStarted}
-use Rattle.vub_region_facts.proofs.StartLemmas.{start_begins, start_left}
+use Rattle.vub_region_facts.proofs.StartLemmas.{start_begins}
 use Rattle.vub_steps.specs.declared.steps.Phase.{Phase}
 use Rattle.vub_steps.specs.declared.steps.Phase.TheVariants as phases
 use Rattle.vub_steps.specs.declared.steps.Plan.{Plan}
@@ -39,7 +39,6 @@ use Rattle.vub_rec_split.specs.Starts.{RecoveryState, answer_in, due_in, state_a
 use Rattle.vub_rec_split.specs.Stands.{IsApart, StandsAt}
 use Rattle.vub_rec_split.specs.Places.{IsFresh, IsAt}
 use Rattle.vub_rec_split.proofs.PlaceLemmas.{planned, PlannedAlike, planned_alike, fresh_at, fresh_stands, at_stands, at_store, HasStore, at_stores, Stores, at_end, EndsStores, at_planned, state_queue}
-use Rattle.vub_driver.specs.Layout.{area_place}
 use Rattle.vub_facts.specs.Facts.{bells}
 use Rattle.vub_facts.proofs.FactStarts.{start_long}
 use Rattle.vub_queue.specs.declared.queue.Stepped.{Stepped}
@@ -51,12 +50,12 @@ use Rattle.vub_run.specs.Memory.{Scene, after_items}
 use Rattle.vub_run.specs.Moments.{Lane, Moment, region_of, used_in, region_in, open_heads, standing}
 use Rattle.vub_run.specs.Run.{one_turn}
 use Rattle.vub_run.specs.Turns.{Turned, turned, under_way, phase_goes_on}
-use Rattle.vub_run_laws.proofs.RunGood.{PhaseIs, StartIs}
-use Rattle.vub_run_laws.proofs.RunHolds.{Holds, starting, steps_in}
-use Rattle.vub_run_laws.proofs.RunPhases.{resting, rest_is, start_is}
+use Rattle.vub_run_laws.proofs.RunGood.{StartIs}
+use Rattle.vub_run_laws.proofs.RunHolds.{starting}
+use Rattle.vub_run_laws.proofs.RunPhases.{rest_is, start_is}
 use Rattle.vub_run_laws.proofs.RunTurns.{IsPlain, Good, phase_cases}
 use Rattle.vub_run_laws.proofs.RunQueue.{phase_at, queue_start}
-use Rattle.vub_run_laws.proofs.RunOwn.{at_own, started_own}
+use Rattle.vub_run_laws.proofs.RunOwn.{started_own}
 use Rattle.vub_queue_in_run.specs.QueueAt.{QueueAt, StartingAt, StartsAt, StartAt, LiesAs, QueueStands, kept_phase}
 use Rattle.vub_queue_in_run.proofs.StartTurns.{stores_turn, bell_turn, last_turn, store_in_place, stores_next, rings_next as run_rings, ends_next}
 use Rattle.vub_queue_in_run.proofs.QueueAtMoves.{at_started, at_starting}
@@ -250,6 +249,20 @@ starts_on q h setup m state plan done w r rung z same at is = record {
   begun = λ stopped. record { recovery = at; rung = is };
 }
 
+-- the item of a store tells it
+told_store : (q : ℕ) (h : Header1) (s : Scene) (y : SplitStore) → (after_items h (items.Store (tag_of y) I (store_of (region_of q h.size) y).place (store_of (region_of q h.size) y).bytes ∷ []) s).memory ≡ after_store (store_of (region_of q h.size) y) s.memory
+told_store q h s SI1 = refl
+told_store q h s (SI2 i) = refl
+told_store q h s (SI3 used) = refl
+told_store q h s (SR1 i) = refl
+told_store q h s (SR2 used) = refl
+told_store q h s (SF1 i counter) = refl
+told_store q h s (SF2 i) = refl
+told_store q h s (SP3 i next) = refl
+told_store q h s (SP4 head) = refl
+told_store q h s (SP6 i) = refl
+told_store q h s (SP7 used) = refl
+
 -- a store
 start_stores : (q : ℕ) (h : Header1) (setup : QueueSetup) (m : Moment) (x : Stepped) (state u state' : QueueState) (plan : Plan) (done : ℕ) → IsPlain h → Good q h m → LiesAs q setup h.size → QueueStands q h setup m state → started m.scene.past q ≡ false → IsStarting q h m state plan done
     → Answers m x state u → state' ≡ states.halted x u → done < length (plan_steps h.size plan) → HasStarted q h setup m x state state'
@@ -325,15 +338,15 @@ start_stores q h setup m x state u state' plan done plain good main z stopped un
     w' = region_in h q (after_items h (stores_turn q h l' done y).items m.scene)
 
     stored : words_after (planned r mem).region.size y (words_of r.region mem) ≡ w'
-    stored = sym (words_stored r.region y mem (omega (arith, size, plain.good.size.small)) has.within has.fits) ∙ ap (λ (g : SplitRegion). words_of g (after_store (store_of g y) mem)) over.region
+    stored = sym (words_stored r.region y mem (omega (arith, size, plain.good.size.small)) has.within has.fits) ∙ ap (λ (g : SplitRegion). words_of g (after_store (store_of g y) mem)) over.region ∙ ap (words_of (region_of q h.size)) (sym (told_store q h m.scene y))
 
     at_next : IsAt plan (done + 1) w' (state_after r mem)
     at_next = subst (λ (w : RegionWords). IsAt plan (done + 1) w (state_after r mem)) stored (subst (λ (s : RecoveryState). IsAt plan (done + 1) (words_after (planned r mem).region.size y (words_of r.region mem)) s) (sym under.alike.state) made.goes)
 
     rung : state.rung ≡ nat_lt (length (plan_steps h.size plan)) (done + 1)
     rung = let before : nat_lt (length (plan_steps h.size plan)) done ≡ false = grind (arith, nat_tests) in
-           let now : nat_lt (length (plan_steps h.size plan)) (done + 1) ≡ false = grind (arith, nat_tests) in
-           under.rung ∙ before ∙ sym now
+        let now : nat_lt (length (plan_steps h.size plan)) (done + 1) ≡ false = grind (arith, nat_tests) in
+        under.rung ∙ before ∙ sym now
 
 -- no store is left
 record NoneLeft (m : Moment) (state : QueueState) : Type 0 where

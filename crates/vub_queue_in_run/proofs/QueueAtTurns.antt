@@ -1,5 +1,5 @@
 -- Which turns of the queue are due at a moment of a run, and what a fetch leaves.
-use Rattle.std.proofs.Common.{◌≡◌, ◌≤◌, ◌<◌, ℕ, ◌+◌, ◌*◌, ◌%◌, Bool, true, false, List, [], ◌∷◌, length, cond, refl, ap, sym, ◌∙◌, subst, inl, inr, arith}
+use Rattle.std.proofs.Common.{◌≡◌, ◌≤◌, ◌<◌, ℕ, ◌+◌, ◌*◌, ◌%◌, Bool, true, false, List, [], ◌∷◌, length, refl, ap, sym, ◌∙◌, subst, inl, inr, arith}
 use Rattle.std.specs.Prelude.{Option, Some, slice_index, nat_lt, ⊤}
 use Rattle.std.proofs.lemmas.Bool.Decides.{nat_tests}
 use Rattle.std.proofs.lemmas.List.{length-map}
@@ -13,10 +13,12 @@ use Rattle.vub_steps.specs.declared.readiness.Standing.{Standing}
 use Rattle.vub_steps.specs.declared.readiness.Turn.{Turn}
 use Rattle.vub_steps.specs.declared.readiness.Turn.TheVariants as turns
 use Rattle.vub_ring.specs.Ring.{ahead, avail_idx}
-use Rattle.vub_steps.specs.Readiness.{is_ready, is_publication}
+use Rattle.vub_steps.specs.declared.readiness.Choice.{Choice}
+use Rattle.vub_steps.specs.declared.readiness.Choice.TheVariants.{Only, Any, Drain}
+use Rattle.vub_steps.specs.Readiness.{is_ready, is_publication, chosen}
 use Rattle.vub_device.specs.declared.entry.Entry.{Entry}
 use Rattle.vub_device.specs.declared.entry.Entry.TheVariants as entries
-use Rattle.vub_device.specs.Past.{accepted, published, collected, missing_below, open_numbers, started}
+use Rattle.vub_device.specs.Past.{accepted, published, collected, started}
 use Rattle.vub_report.specs.declared.items.Item.TheVariants as items
 use Rattle.vub_queue.specs.declared.queue.Stepped.{Stepped}
 use Rattle.vub_queue.specs.declared.queue.Stepped.TheVariants as says
@@ -32,19 +34,19 @@ use Rattle.vub_run.specs.Turns.{Turned, turned, under_way, phase_goes_on}
 use Rattle.vub_split.specs.Split.{avail_idx_word, head_word}
 use Rattle.vub_queue.specs.QueueParts.{is_taken}
 use Rattle.vub_queue.specs.QueueState as states
-use Rattle.vub_queue.specs.QueueState.{QueueState, standing_at, Fetches, Breaks, BreaksBy, Publishes, publishes, DoesOf, Unless, Turns, is_fault}
+use Rattle.vub_queue.specs.QueueState.{QueueState, standing_at, StartsIf, Fetches, Breaks, BreaksBy, Publishes, publishes, DoesOf, Unless, Turns, is_fault}
 use Rattle.vub_queue_in_run.specs.QueueAt.{spot_of, QueueAt, StartAt, LiesAs, QueueStands, kept_phase}
 use Rattle.vub_driver.specs.Layout.{area_place}
 use Rattle.vub_run_laws.proofs.RunOwn.{at_own}
 use Rattle.vub_run_laws.proofs.RunNumbers.{not_among-take}
 use Rattle.vub_run_laws.proofs.RingGood.{the_ring}
-use Rattle.vub_run_laws.proofs.RunGood.{IsOut, PhaseIs}
+use Rattle.vub_run_laws.proofs.RunGood.{IsOut}
 use Rattle.vub_run_laws.proofs.RunHolds.{Holds}
 use Rattle.vub_run_laws.proofs.RunFrames.{open_out}
 use Rattle.vub_run_laws.proofs.RunPhases.{resting, rest_is}
-use Rattle.vub_run_laws.proofs.RunTurns.{IsPlain, Good, phase_cases}
+use Rattle.vub_run_laws.proofs.RunTurns.{IsPlain, Good, running_cases}
 use Rattle.vub_queue_in_run.proofs.QueueAtMoves.{new_unpublished, count_is, avail_is, taken_open, at_fetch}
-use Rattle.vub_run_laws.proofs.RunQueue.{phase_at, queue_ahead, offered_head, head_below, heads_apart}
+use Rattle.vub_run_laws.proofs.RunQueue.{queue_ahead, offered_head, head_below, heads_apart}
 
 -- ---- how many wait
 
@@ -98,6 +100,22 @@ ready_kept s t = go s.phase t
 -- so the queue and the moment agree on it
 pub ready_same : (q : ℕ) (h : Header1) (setup : QueueSetup) (m : Moment) (state : QueueState) (t : Turn) → LiesAs q setup h.size → Holds q h m.scene (m.lanes q) → QueueStands q h setup m state → is_ready (standing_at state (states.waiting state m.scene.memory)) t ≡ is_ready (standing h q m) t
 ready_same q h setup m state t main holds z = ap (λ (s : Standing). is_ready s t) (standings q h setup m state main holds z) ∙ ready_kept (standing h q m) t
+
+-- and nothing of which turn comes next
+chosen_kept : (size : ℕ) (choice : Choice) (s : Standing) → chosen size choice (record s { phase = kept_phase s.phase }) ≡ chosen size choice s
+chosen_kept size choice s = go s.phase choice
+  where
+    go : (p : Phase) (c : Choice) → chosen size c (record s { phase = kept_phase p }) ≡ chosen size c (record s { phase = p })
+    go phases.Rest c = refl
+    go (phases.Start done) (Only turn) = refl
+    go (phases.Start done) Any = refl
+    go (phases.Start done) (Drain accepted) = refl
+    go (phases.Fetch done) c = refl
+    go (phases.Publish done) c = refl
+
+pub chosen_same : (q : ℕ) (h : Header1) (setup : QueueSetup) (m : Moment) (state : QueueState) (size : ℕ) (choice : Choice) → LiesAs q setup h.size → Holds q h m.scene (m.lanes q) → QueueStands q h setup m state
+    → chosen size choice (standing_at state (states.waiting state m.scene.memory)) ≡ chosen size choice (standing h q m)
+chosen_same q h setup m state size choice main holds z = ap (chosen size choice) (standings q h setup m state main holds z) ∙ chosen_kept size choice (standing h q m)
 
 -- ---- what a turn that didn't fail does
 
@@ -228,7 +246,7 @@ fetch_accepts q h setup m x state u plain good main z ready fine fetches = go x 
         record {
           says = ap says.Accepted is;
           leaves = does.0 ∙ ap (λ (d : ℕ). states.accepted d state) is;
-          small = omega (arith, is, finds.2, ap (λ (y : SplitRing). y.size) z.ring);
+          small = omega (arith, is, finds.2, ap (λ (y : SplitRing). y.size) z.at.ring);
           free = ap (is_taken state.taken) (sym is) ∙ finds.3;
         }
     go (says.Broken fault) f does = absurd (keeps_rules q h setup m state fault plain good main z (does.2 m.scene.memory refl))
@@ -241,12 +259,16 @@ fetch_accepts q h setup m x state u plain good main z ready fine fetches = go x 
     go (says.Completed head) f does = absurd does
     go says.Published f does = absurd does
     go says.Started f does = absurd does
+    go says.Belled f does = absurd does
+    go says.BellFault f does = absurd (let fails : true ≡ false = f in cc)
+    go (says.Damaged fault) f does = absurd does
 
 -- the lane is at rest where a fetch is ready
 fetch_rests : (q : ℕ) (h : Header1) (m : Moment) → Good q h m → is_ready (standing h q m) turns.Fetch ≡ true → resting (m.lanes q) ≡ m.lanes q
 fetch_rests q h m good ready =
     let l : Lane = m.lanes q in
-    elim (phase_cases l.batch l.phase (phase_at q h m.scene (m.lanes q) good.holds)) [
+    let run : started m.scene.past q ≡ true = grind (arith, nat_tests) in
+    elim (running_cases q h m.scene l run good.holds) [
       | inl rest ↦ rest_is l rest.0 rest.1
       | inr shows ↦
           let publishes_now : is_publication l.phase ≡ true = ap is_publication shows.1 in
@@ -263,14 +285,17 @@ fetch_stands q h setup m x state state' plain good main z ready fine made =
     let same : resting l ≡ l = fetch_rests q h m good ready in
     let accepts = fetch_accepts q h setup m x state made.0 plain good main z ready fine (does_of turns.Fetch (Some m.scene.memory) x state state' made fine) in
     let after : state' ≡ states.accepted head state = made.1 ∙ ap (λ (y : Stepped). states.halted y made.0) accepts.says ∙ accepts.leaves in
-    let at_rest : QueueAt q h setup past heads phases.Rest [] l.completed l.made state = subst (λ (y : Lane). QueueAt q h setup past heads y.phase y.batch y.completed y.made state) (sym same) z in
+    let at_rest : QueueAt q h setup past heads phases.Rest [] l.completed l.made state = subst (λ (y : Lane). QueueAt q h setup past heads y.phase y.batch y.completed y.made state) (sym same) z.at in
     let held : Holds q h m.scene (resting l) = subst (λ (y : Lane). Holds q h m.scene y) (sym same) good.holds in
-    let begins : StandsAfter q h setup m.scene (phase_goes_on h q m.scene (under_way turns.Fetch (resting l))) (states.accepted head state) = at_fetch q h setup past heads l.completed l.made state head held.known held.worked refl accepts.small accepts.free at_rest in
-    let stands : StandsAfter q h setup m.scene (turned h q turns.Fetch m) (states.accepted head state) = subst (λ (y : Lane). StandsAfter q h setup m.scene (phase_goes_on h q m.scene (under_way turns.Fetch y)) (states.accepted head state)) same begins in
+    let turn : turned h q turns.Fetch m ≡ record { items = items.Made (entries.Accept q (accepted past q)) ∷ []; lane = resting l } = sym (ap (λ (y : Lane). phase_goes_on h q m.scene (under_way h q m.scene turns.Fetch y)) same) in
+    let now : QueueAt q h setup (entries.Accept q (accepted past q) ∷ past) heads phases.Rest [] l.completed l.made (states.accepted head state) = at_fetch q h setup past heads l.completed l.made state head held.known held.worked refl accepts.small accepts.free at_rest in
+    let run : started past q ≡ true = grind (arith, nat_tests) in
     record {
       said = accepts.says;
-      made = sym (ap (λ (y : Lane). (phase_goes_on h q m.scene (under_way turns.Fetch y)).items) same);
-      stands = stands_after q h setup m turns.Fetch state' (subst (λ (y : QueueState). StandsAfter q h setup m.scene (turned h q turns.Fetch m) y) (sym after) stands);
+      made = ap (λ (t : Turned). t.items) turn;
+      stands = stands_next q h setup m turns.Fetch (record { items = items.Made (entries.Accept q (accepted past q)) ∷ []; lane = resting l }) state' turn
+          (subst (λ (y : QueueState). QueueAt q h setup (entries.Accept q (accepted past q) ∷ past) heads phases.Rest [] l.completed l.made y) (sym after) now)
+          (subst (λ (y : QueueState). StartAt q h setup (started past q) l.bell l.plan phases.Rest (region_in h q m.scene) y) (sym after) (runs_on q h setup m state (states.accepted head state) (started past q) l.bell l.plan l.plan phases.Rest (region_in h q m.scene) z run refl refl refl refl));
     }
 
 -- ---- a turn that isn't ready
@@ -280,11 +305,8 @@ abbrev pub IsPhaseTurn : Turn → Type 0
 IsPhaseTurn (turns.Work place) = ⊥
 IsPhaseTurn t = ⊤
 
-same_start : (state : QueueState) → state.started ≡ true → record state { started = true } ≡ state
-same_start state is = ap (λ (b : Bool). record state { started = b }) (sym is)
-
 idle_start : (state u : QueueState) (x : Stepped) (told : Option Bytes) → state.started ≡ true → DoesOf turns.Start told x state u → (x ≡ says.Idle) × (u ≡ state)
-idle_start state u x told is does = (does.0 ∙ ap (λ (b : Bool). cond {A = Stepped} b says.Idle says.Started) is, does.1 ∙ same_start state is)
+idle_start state u x told is does = subst (λ (b : Bool). StartsIf b told x state u) is does
 
 -- a fetch that finds something is ready
 ready_if : (state : QueueState) (n : ℕ) → states.may_fetch state ≡ true → 1 ≤ n → is_ready (standing_at state n) turns.Fetch ≡ true
@@ -309,6 +331,9 @@ idle_fetch state u (says.Faulted head) m unready f does = absurd does
 idle_fetch state u (says.Completed head) m unready f does = absurd does
 idle_fetch state u says.Published m unready f does = absurd does
 idle_fetch state u says.Started m unready f does = absurd does
+idle_fetch state u says.Belled m unready f does = absurd does
+idle_fetch state u says.BellFault m unready f does = absurd (let fails : true ≡ false = f in cc)
+idle_fetch state u (says.Damaged fault) m unready f does = absurd does
 
 idle_publish : (state u : QueueState) (x : Stepped) (most : ℕ) → publishes most state ≡ false → Publishes (publishes most state) x state (states.under_way most state) u → (x ≡ says.Idle) × (u ≡ state)
 idle_publish state u x most unready does = subst (λ (b : Bool). Publishes b x state (states.under_way most state) u) unready does

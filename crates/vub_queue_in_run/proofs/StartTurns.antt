@@ -1,10 +1,9 @@
 -- What each turn of a start makes, and the lane after it.
-use Rattle.std.proofs.Common.{◌≡◌, ◌≤◌, ◌<◌, ℕ, zero, suc, ◌+◌, Bool, true, false, List, [], ◌∷◌, ◌++◌, length, cond, refl, ap, sym, ◌∙◌, arith}
+use Rattle.std.proofs.Common.{◌≡◌, ◌<◌, ℕ, ◌+◌, Bool, true, false, List, [], ◌∷◌, ◌++◌, length, cond, refl, ap, sym, ◌∙◌, arith}
 use Rattle.std.specs.Prelude.{slice_get, nat_lt, Option, Some, None}
 use Rattle.std.proofs.lemmas.Bool.Decides.{nat_tests}
 use Rattle.vub_base.specs.declared.header.Header1.{Header1}
 use Rattle.vub_base.specs.declared.store.Area.TheVariants.{I}
-use Rattle.vub_shared.specs.Stores.{Store}
 use Rattle.vub_device.specs.declared.entry.Entry.TheVariants as entries
 use Rattle.vub_device.specs.Past.{open_numbers}
 use Rattle.vub_report.specs.declared.items.Item.{Item}
@@ -19,7 +18,7 @@ use Rattle.vub_steps.specs.declared.steps.Phase.TheVariants as phases
 use Rattle.vub_steps.specs.declared.steps.Plan.{Plan}
 use Rattle.vub_steps.specs.declared.steps.Step.{Step}
 use Rattle.vub_steps.specs.declared.steps.Step.TheVariants as steps
-use Rattle.vub_steps.specs.Steps.{plan_steps, bell_steps, start_steps, next_step, after_step, at_step}
+use Rattle.vub_steps.specs.Steps.{plan_steps, bell_steps, start_steps, after_step}
 use Rattle.vub_steps.specs.Rows.{Row, Sight, region_step, region_step_at, region_row, row_of}
 use Rattle.vub_steps.proofs.StartLemmas.{before, behind}
 use Rattle.vub_driver.specs.Layout.{ring_of}

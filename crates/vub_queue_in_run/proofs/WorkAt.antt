@@ -214,9 +214,9 @@ due_at q h m setup sizes state place k task plain good chained main room a run i
     let wide : IsWide h.capacity (Some request) = subst (λ (o : Option Asked). IsWide h.capacity o) meant.is (good.holds.known.wide k is_out.below) in
     let pending : IsPending (l.made k) (Some request) = subst (λ (o : Option Asked). IsPending (l.made k) o) meant.is (good.holds.worked.pending k where_open.0 where_open.1) in
     let next = some_step h request (l.made k) plain.back wide pending in
-    let stands : TaskAt q h setup m.scene.past (m.scene.heads q) k (l.made k) task = a.tasks place k task is at in
+    let stands : TaskAt q h setup m.scene.past (m.scene.heads q) k (l.made k) task = a.at.tasks place k task is at in
     let n : Making = making_of q h m k meant.links request next.0 in
-    let low : head < h.size = head_below q h m.scene (m.lanes q).driver (m.lanes q).batch (m.lanes q).phase k good.holds.queue is_out in
+    let low : head < h.size = head_below q h m.scene (m.lanes q).driver (m.lanes q).bell (m.lanes q).plan (m.lanes q).batch (m.lanes q).phase k good.holds.queue is_out in
     let is_next : IsNext h.capacity sizes setup.ring m.scene.memory n = record {
       means = meant.means;
       served = record { basic = wide_basic h.capacity request wide; capacity = refl; cached = plain.back };
@@ -234,11 +234,11 @@ due_at q h m setup sizes state place k task plain good chained main room a run i
       head = stands.head;
       is_open = where_open.0;
       due = record {
-        started = a.started ∙ run;
+        started = a.at.started ∙ run;
         at = at;
-        fits = subst (λ (x : SplitRing). (head_in task) < x.size) (sym a.ring) (omega (arith, main.size, stands.head, low));
-        next = subst (λ (x : SplitRing). IsNext h.capacity sizes x m.scene.memory n) (sym a.ring) is_next;
-        ready = subst (λ (x : SplitRing). IsReady x n task) (sym a.ring) ready;
+        fits = subst (λ (x : SplitRing). (head_in task) < x.size) (sym a.at.ring) (omega (arith, main.size, stands.head, low));
+        next = subst (λ (x : SplitRing). IsNext h.capacity sizes x m.scene.memory n) (sym a.at.ring) is_next;
+        ready = subst (λ (x : SplitRing). IsReady x n task) (sym a.at.ring) ready;
       };
     }
 
@@ -249,5 +249,5 @@ work_ready q h m setup sizes state place plain good chained main room a ready =
     let run : started m.scene.past q ≡ true = grind (arith, nat_tests) in
     let inside : place < length (unfinished q m) = grind (arith, nat_tests) in
     let is : slice_get (unfinished q m) place ≡ Some (slice_index (unfinished q m) place) = slice_get-get_or (unfinished q m) place 0 inside in
-    let at : slice_get state.unfinished place ≡ Some (get_or state.unfinished place (fresh_task 0)) = slice_get-get_or state.unfinished place (fresh_task 0) (omega (arith, inside, count_is q h setup m.scene.past (m.scene.heads q) (m.lanes q).phase (m.lanes q).batch (m.lanes q).completed (m.lanes q).made state good.holds.worked a)) in
+    let at : slice_get state.unfinished place ≡ Some (get_or state.unfinished place (fresh_task 0)) = slice_get-get_or state.unfinished place (fresh_task 0) (omega (arith, inside, count_is q h setup m.scene.past (m.scene.heads q) (m.lanes q).phase (m.lanes q).batch (m.lanes q).completed (m.lanes q).made state good.holds.worked a.at)) in
     due_at q h m setup sizes state place (slice_index (unfinished q m) place) (get_or state.unfinished place (fresh_task 0)) plain good chained main room a run is at

@@ -41,7 +41,7 @@ use Rattle.vub_run.specs.Run.{one_turn}
 use Rattle.vub_task.specs.TaskState.{Making, answer_in, memory_after, values_after, with_effect, head_in}
 use Rattle.vub_steps.specs.Tasks.{RequestStep, Look, Put, Act, Status, status_of}
 use Rattle.vub_run.specs.TaskItems.{task_items, look_items, act_items}
-use Rattle.vub_run.specs.Turns.{course_of, Turned, turned, work_turn, request_turn, task_turn, phase_turn, under_way, step_stores, row_items, entry_items}
+use Rattle.vub_run.specs.Turns.{course_of, Turned, turned, work_turn, request_turn, task_turn, phase_turn, under_way, step_stores, row_items, bell_items, entry_items}
 use Rattle.vub_facts.proofs.HeadLemmas.{among_get}
 use Rattle.vub_run_laws.proofs.RunGood.{IsWide, IsOut, IsPending}
 use Rattle.vub_run_laws.proofs.RunFrames.{open_out}
@@ -131,13 +131,13 @@ show_status q h m state v k task links request space =
     )
 
 ring_space : (q : ℕ) (h : Header1) (m : Moment) (setup : QueueSetup) (state : QueueState) → LiesAs q setup h.size → QueueStands q h setup m state → state.ring.desc.0.number ≡ 0
-ring_space q h m setup state main a = ap (λ (x : SplitRing). x.desc.0.number) a.ring ∙ main.desc_space
+ring_space q h m setup state main a = ap (λ (x : SplitRing). x.desc.0.number) a.at.ring ∙ main.desc_space
 
 -- before its store, what was read stands in the queue
 held_sector : (q : ℕ) (h : Header1) (sizes : ℕ → ℕ) (m : Moment) (setup : QueueSetup) (state : QueueState) (place p : ℕ) (w : WorkReady q h sizes m state place) → QueueStands q h setup m state → w.step ≡ Put p
     → sector_at state (head_in w.task) ≡ slice_range (bytes_read m.scene.past q w.k) (512 * p) (512 * p + 512)
 held_sector q h sizes m setup state place p w a put =
-    ap (sector_at state) w.head ∙ a.sectors w.k p w.request (among_get (unfinished q m) place w.k w.at) w.is (w.due.next.next ∙ ap (λ (s : RequestStep). Some s) put)
+    ap (sector_at state) w.head ∙ a.at.sectors w.k p w.request (among_get (unfinished q m) place w.k w.at) w.is (w.due.next.next ∙ ap (λ (s : RequestStep). Some s) put)
 
 show_step : (q : ℕ) (h : Header1) (sizes : ℕ → ℕ) (m : Moment) (setup : QueueSetup) (state : QueueState) (place : ℕ) (v : Values) (w : WorkReady q h sizes m state place) → LiesAs q setup h.size → QueueStands q h setup m state → DiskAt h.capacity m.scene.past v
     → Kind h w.request ((m.lanes q).made w.k) w.step → ShowsAt q h m state v w.k w.task w.links w.request w.step
@@ -250,16 +250,36 @@ quiet_row : (h : Header1) (o : Option Row) → AllByRecursion (IsQuiet h) (row_i
 quiet_row h None = tt
 quiet_row h (Some x) = (λ s t. refl, tt)
 
+quiet_bell : (q : ℕ) (h : Header1) (step : Step) → AllByRecursion (IsQuiet h) (bell_items q step)
+quiet_bell q h steps.Bell = (λ s t. refl, tt)
+quiet_bell q h steps.Features = tt
+quiet_bell q h (steps.Free i) = tt
+quiet_bell q h steps.Open = tt
+quiet_bell q h (steps.Settle place) = tt
+quiet_bell q h steps.SettleEnd = tt
+quiet_bell q h steps.Start = tt
+quiet_bell q h steps.Accept = tt
+quiet_bell q h (steps.Id e) = tt
+quiet_bell q h (steps.Len e) = tt
+quiet_bell q h steps.Index = tt
+
 quiet_entry : (q : ℕ) (h : Header1) (batch : List ℕ) (step : Step) (s : Scene) → AllByRecursion (IsQuiet h) (entry_items q batch step s)
 quiet_entry q h batch steps.Start s = (λ t x. refl, tt)
 quiet_entry q h batch steps.Accept s = (λ t x. refl, tt)
 quiet_entry q h batch steps.Index s = (λ t x. refl, tt)
+quiet_entry q h batch steps.Features s = tt
+quiet_entry q h batch (steps.Free i) s = tt
+quiet_entry q h batch steps.Open s = tt
+quiet_entry q h batch (steps.Settle place) s = tt
+quiet_entry q h batch steps.SettleEnd s = tt
+quiet_entry q h batch steps.Bell s = tt
 quiet_entry q h batch (steps.Id e) s = tt
 quiet_entry q h batch (steps.Len e) s = tt
 
 phase_quiet : (q : ℕ) (h : Header1) (s : Scene) (l : Lane) (o : Option Step) → AllByRecursion (IsQuiet h) (phase_turn h q s l o).items
 phase_quiet q h s l None = tt
-phase_quiet q h s l (Some step) = quiet_append h (step_stores h q l.batch step s) (entry_items q l.batch step (after_items h (step_stores h q l.batch step s) s)) (quiet_row h _) (quiet_entry q h l.batch step _)
+phase_quiet q h s l (Some step) =
+    quiet_append h (step_stores h q l step s) (entry_items q l.batch step (after_items h (step_stores h q l step s) s)) (quiet_append h _ (bell_items q step) (quiet_row h _) (quiet_bell q h step)) (quiet_entry q h l.batch step _)
 
 -- it isn't a turn of work
 abbrev pub IsNoWork : Turn → Type 0
@@ -267,9 +287,9 @@ IsNoWork (turns.Work place) = ⊥
 IsNoWork t = ⊤
 
 turn_quiet : (q : ℕ) (h : Header1) (m : Moment) (t : Turn) → IsNoWork t → AllByRecursion (IsQuiet h) (turned h q t m).items
-turn_quiet q h m turns.Start none = phase_quiet q h m.scene (under_way turns.Start (m.lanes q)) (next_step (course_of h (under_way turns.Start (m.lanes q))) (under_way turns.Start (m.lanes q)).phase)
-turn_quiet q h m turns.Fetch none = phase_quiet q h m.scene (under_way turns.Fetch (m.lanes q)) (next_step (course_of h (under_way turns.Fetch (m.lanes q))) (under_way turns.Fetch (m.lanes q)).phase)
-turn_quiet q h m (turns.Publish most) none = phase_quiet q h m.scene (under_way (turns.Publish most) (m.lanes q)) (next_step (course_of h (under_way (turns.Publish most) (m.lanes q))) (under_way (turns.Publish most) (m.lanes q)).phase)
+turn_quiet q h m turns.Start none = phase_quiet q h m.scene (under_way h q m.scene turns.Start (m.lanes q)) (next_step (course_of h (under_way h q m.scene turns.Start (m.lanes q))) (under_way h q m.scene turns.Start (m.lanes q)).phase)
+turn_quiet q h m turns.Fetch none = phase_quiet q h m.scene (under_way h q m.scene turns.Fetch (m.lanes q)) (next_step (course_of h (under_way h q m.scene turns.Fetch (m.lanes q))) (under_way h q m.scene turns.Fetch (m.lanes q)).phase)
+turn_quiet q h m (turns.Publish most) none = phase_quiet q h m.scene (under_way h q m.scene (turns.Publish most) (m.lanes q)) (next_step (course_of h (under_way h q m.scene (turns.Publish most) (m.lanes q))) (under_way h q m.scene (turns.Publish most) (m.lanes q)).phase)
 turn_quiet q h m (turns.Work place) none = absurd none
 
 -- any other turn leaves the disk

@@ -1,5 +1,5 @@
 -- Where the queue stands after a turn of work.
-use Rattle.std.proofs.Common.{◌≡◌, ◌≢◌, ◌<◌, ℕ, suc, ◌+◌, ◌*◌, ◌/◌, ◌%◌, true, false, not, List, [], ◌∷◌, ◌++◌, length, map, set, refl, ap, sym, ◌∙◌, subst, inl, inr, arith, length-set}
+use Rattle.std.proofs.Common.{◌≡◌, ◌≢◌, ◌<◌, ℕ, suc, ◌+◌, ◌*◌, ◌/◌, ◌%◌, Bool, true, false, not, List, [], ◌∷◌, ◌++◌, length, map, set, refl, ap, sym, ◌∙◌, subst, inl, inr, arith, length-set}
 use Rattle.std.specs.Prelude.{Option, Some, None, slice_index, slice_get, slice_range, get_or, filter, remove}
 use Rattle.std.proofs.lemmas.Bool.Decides.{nat_tests}
 use Rattle.std.proofs.lemmas.Bool.{cases_eq, cases_lt}
@@ -21,16 +21,17 @@ use Rattle.vub_device.specs.Requests.{look_at, effect_at}
 use Rattle.vub_split.specs.declared.split.SplitRing.{SplitRing}
 use Rattle.vub_queue.specs.declared.queue.QueueSetup.{QueueSetup}
 use Rattle.vub_task.specs.declared.task.Task.{Task}
-use Rattle.vub_run.specs.Memory.{with_at, after_items}
-use Rattle.vub_run.specs.Moments.{Lane, Moment, buffer_of, open_heads}
-use Rattle.vub_queue_in_run.specs.QueueAt.{QueueAt, KeepsHeads, QueueStands, DiskAt, TaskAt, spot_of, left_of}
+use Rattle.vub_infl_split.specs.Region.{RegionWords}
+use Rattle.vub_run.specs.Memory.{Scene, with_at, after_items}
+use Rattle.vub_run.specs.Moments.{Lane, Moment, region_in, buffer_of, open_heads}
+use Rattle.vub_queue_in_run.specs.QueueAt.{QueueAt, StartAt, KeepsHeads, QueueStands, DiskAt, TaskAt, spot_of, left_of}
 use Rattle.vub_queue.specs.QueueState.{QueueState, HasWorked, Advances, worked, done_at}
 use Rattle.vub_run.specs.Run.{one_turn}
 use Rattle.vub_direct_chain.specs.ChainState.{sector_of}
-use Rattle.vub_task.specs.TaskState.{IsTaskAt, HasMade, head_in}
+use Rattle.vub_task.specs.TaskState.{Making, IsTaskAt, HasMade, head_in}
 use Rattle.vub_steps.specs.Tasks.{RequestStep, Look, Put, Act, Sync, Status, task_steps, status_of, used_len}
 use Rattle.vub_run.specs.TaskItems.{task_items, look_items, act_items}
-use Rattle.vub_run.specs.Turns.{Turned, len_of, after_task_step}
+use Rattle.vub_run.specs.Turns.{Turned, len_of, after_task_step, task_turn}
 use Rattle.vub_run_laws.proofs.RunNumbers.{among_filter, missing-among}
 use Rattle.vub_run_laws.proofs.RunFrames.{open_out}
 use Rattle.vub_run_laws.proofs.RunGood.{IsReadTo}
@@ -39,7 +40,7 @@ use Rattle.vub_task.proofs.StepLemmas.{Puts, Acts, OfRequest, step_of}
 use Rattle.vub_run_laws.proofs.RunWork.{at_same, at_other, not_more, seen_more, sector_long, sector_byte}
 use Rattle.vub_run_laws.proofs.RunEnds.{missing_distinct}
 use Rattle.vub_run_laws.proofs.RunTurns.{IsPlain, Good}
-use Rattle.vub_queue_in_run.proofs.QueueAtTurns.{stands_after}
+use Rattle.vub_queue_in_run.proofs.QueueAtTurns.{stands_next, runs_on}
 use Rattle.vub_queue_in_run.proofs.WorkAt.{WorkReady, making, Kind, IsLook, IsPut, IsAct, IsSync}
 use Rattle.vub_queue_in_run.proofs.WorkAtItems.{work_turned, work_kind}
 use Rattle.vub_queue_in_run.proofs.QueueHeld.{keeps_worked, keeps_done}
@@ -84,7 +85,7 @@ open_same q past past' k j x o = record {
 -- requests that are left have heads of their own
 heads_differ : (q : ℕ) (h : Header1) (m : Moment) (j k : ℕ) → Good q h m → IsOpen m.scene.past q j → IsOpen m.scene.past q k → j ≢ k → slice_index (m.scene.heads q) j ≢ slice_index (m.scene.heads q) k
 heads_differ q h m j k good open_j open_k apart same =
-    apart (heads_apart q h m.scene (m.lanes q).driver (m.lanes q).batch (m.lanes q).phase j k good.holds.queue (open_out q h.size h.capacity m.scene.past (m.scene.heads q) j good.holds.known open_j) (open_out q h.size h.capacity m.scene.past (m.scene.heads q) k good.holds.known open_k) same)
+    apart (heads_apart q h m.scene (m.lanes q).driver (m.lanes q).bell (m.lanes q).plan (m.lanes q).batch (m.lanes q).phase j k good.holds.queue (open_out q h.size h.capacity m.scene.past (m.scene.heads q) j good.holds.known open_j) (open_out q h.size h.capacity m.scene.past (m.scene.heads q) k good.holds.known open_k) same)
 
 -- ---- one task
 
@@ -114,14 +115,14 @@ goes_on : (q : ℕ) (h : Header1) (sizes : ℕ → ℕ) (m : Moment) (setup : Qu
     → ((p : ℕ) → slice_get (task_steps h w.request) ((m.lanes q).made w.k + 1) ≡ Some (Put p) → sector ≡ slice_range (bytes_read past' q w.k) (512 * p) (512 * p + 512))
     → QueueAt q h setup past' (m.scene.heads q) (m.lanes q).phase (m.lanes q).batch (m.lanes q).completed (with_at (m.lanes q).made w.k ((m.lanes q).made w.k + 1)) (worked place next sector state)
 goes_on q h sizes m setup state place w past' next sector good a x head made put = record {
-  ring = a.ring;
-  runs = a.runs;
-  started = a.started ∙ sym x.runs;
-  used = a.used ∙ ap (λ (ps : List ℕ). (h.base + length ps) % 65536) (sym x.publishes);
-  phase = a.phase;
-  batch = a.batch ∙ spots_same q h past past' heads w.k l.batch x;
-  completed = a.completed ∙ spots_same q h past past' heads w.k l.completed x;
-  keeps = subst (λ (hs : List ℕ). KeepsHeads setup.ring.size hs (worked place next sector state)) (sym same_heads) (keeps_worked setup.ring.size (open_heads q past heads) state place next w.task sector w.due.at head a.keeps);
+  ring = a.at.ring;
+  runs = a.at.runs;
+  started = a.at.started ∙ sym x.runs;
+  used = a.at.used ∙ ap (λ (ps : List ℕ). (h.base + length ps) % 65536) (sym x.publishes);
+  phase = a.at.phase;
+  batch = a.at.batch ∙ spots_same q h past past' heads w.k l.batch x;
+  completed = a.at.completed ∙ spots_same q h past past' heads w.k l.completed x;
+  keeps = subst (λ (hs : List ℕ). KeepsHeads setup.ring.size hs (worked place next sector state)) (sym same_heads) (keeps_worked setup.ring.size (open_heads q past heads) state place next w.task sector w.due.at head a.at.keeps);
   tasks = λ i j t at_left at_task.
       let at_i : slice_get left i ≡ Some j = ap (λ (xs : List ℕ). slice_get xs i) (sym same) ∙ at_left in
       elim (cases_eq i place) [
@@ -132,22 +133,22 @@ goes_on q h sizes m setup state place w past' next sector good a x head made put
             let stored : slice_get (set state.unfinished place next) i ≡ Some next = ap (slice_get (set state.unfinished place next)) here ∙ slice_get-set_same state.unfinished place next inside in
             let is_t : next ≡ t = cc in
             let there : TaskAt q h setup past' heads w.k (with_at l.made w.k (l.made w.k + 1) w.k) next =
-            subst (λ (c : ℕ). TaskAt q h setup past' heads w.k c next) (sym (at_same l.made w.k (l.made w.k + 1) w.k refl)) (task_next q h sizes m setup state place w past' next a.ring x head made) in
+            subst (λ (c : ℕ). TaskAt q h setup past' heads w.k c next) (sym (at_same l.made w.k (l.made w.k + 1) w.k refl)) (task_next q h sizes m setup state place w past' next a.at.ring x head made) in
             subst (λ (y : Task). TaskAt q h setup past' heads j (with_at l.made w.k (l.made w.k + 1) j) y) is_t (subst (λ (n : ℕ). TaskAt q h setup past' heads n (with_at l.made w.k (l.made w.k + 1) n) next) is_k there)
         | inr apart ↦
             let differs : j ≢ w.k = λ e. apart (one_place left i place w.k (left_distinct q past l.completed l.batch) (at_i ∙ ap (λ (n : ℕ). Some n) e) w.at) in
             let old : slice_get state.unfinished i ≡ Some t = sym (slice_get-set_other state.unfinished place i next apart) ∙ at_task in
-            task_same q h setup past past' heads w.k j (l.made j) (with_at l.made w.k (l.made w.k + 1) j) t x (at_other l.made w.k (l.made w.k + 1) j differs) (a.tasks i j t at_i old)
+            task_same q h setup past past' heads w.k j (l.made j) (with_at l.made w.k (l.made w.k + 1) j) t x (at_other l.made w.k (l.made w.k + 1) j differs) (a.at.tasks i j t at_i old)
       ];
-  buffers = length-set state.sectors (head_in next) sector ∙ a.buffers;
-  places = a.places;
+  buffers = length-set state.sectors (head_in next) sector ∙ a.at.buffers;
+  places = a.at.places;
   sectors = λ j p request held is at_step.
       let left_j : is_among left j ≡ true = ap (λ (xs : List ℕ). is_among xs j) (sym same) ∙ held in
       let is_old : asked past q j ≡ Some request = ap (λ (f : ℕ → Option Asked). f j) (sym x.requests) ∙ is in
       elim (cases_eq j w.k) [
         | inl here ↦
             let at_head : slice_index heads j ≡ (head_in next) = ap (slice_index heads) here ∙ sym (head ∙ w.head) in
-            let fits : head_in next < length state.sectors = let low : head_in w.task < state.ring.size = w.due.fits in let size : state.ring.size ≡ setup.ring.size = ap (λ (y : SplitRing). y.size) a.ring in omega (arith, low, size, head, a.buffers) in
+            let fits : head_in next < length state.sectors = let low : head_in w.task < state.ring.size = w.due.fits in let size : state.ring.size ≡ setup.ring.size = ap (λ (y : SplitRing). y.size) a.at.ring in omega (arith, low, size, head, a.at.buffers) in
             let both : Some w.request ≡ Some request = sym w.is ∙ ap (asked past q) (sym here) ∙ is_old in
             let is_request : w.request ≡ request = cc in
             let now : with_at l.made w.k (l.made w.k + 1) j ≡ l.made w.k + 1 = at_same l.made w.k (l.made w.k + 1) j here in
@@ -157,7 +158,7 @@ goes_on q h sizes m setup state place w past' next sector good a x head made put
         | inr apart ↦
             let other : slice_index heads j ≢ (head_in next) = λ e. heads_differ q h m j w.k good (left_open q past l.completed l.batch j left_j) w.is_open apart (e ∙ head ∙ w.head) in
             let was : slice_get (task_steps h request) (l.made j) ≡ Some (Put p) = ap (slice_get (task_steps h request)) (sym (at_other l.made w.k (l.made w.k + 1) j apart)) ∙ at_step in
-            get_or-set_other state.sectors (head_in next) (slice_index heads j) sector [] other ∙ a.sectors j p request left_j is_old was
+            get_or-set_other state.sectors (head_in next) (slice_index heads j) sector [] other ∙ a.at.sectors j p request left_j is_old was
             ∙ ap (λ (xs : List ℕ). slice_range xs (512 * p) (512 * p + 512)) (sym (x.sees j apart))
       ];
 }
@@ -185,16 +186,16 @@ goes_on q h sizes m setup state place w past' next sector good a x head made put
 finished : (q : ℕ) (h : Header1) (sizes : ℕ → ℕ) (m : Moment) (setup : QueueSetup) (state : QueueState) (place : ℕ) (w : WorkReady q h sizes m state place) (sector : List ℕ) → Good q h m → QueueStands q h setup m state
     → QueueAt q h setup m.scene.past (m.scene.heads q) (m.lanes q).phase (m.lanes q).batch ((m.lanes q).completed ++ w.k ∷ []) (with_at (m.lanes q).made w.k ((m.lanes q).made w.k + 1)) (done_at place (head_in w.task) (used_len (status_of h w.request) w.request) sector state)
 finished q h sizes m setup state place w sector good a = record {
-  ring = a.ring;
-  runs = a.runs;
-  started = a.started;
-  used = a.used;
-  phase = a.phase;
-  batch = a.batch;
-  completed = ap (λ (xs : List (ℕ × ℕ)). xs ++ (head_in w.task, used_len (status_of h w.request) w.request) ∷ []) a.completed
+  ring = a.at.ring;
+  runs = a.at.runs;
+  started = a.at.started;
+  used = a.at.used;
+  phase = a.at.phase;
+  batch = a.at.batch;
+  completed = ap (λ (xs : List (ℕ × ℕ)). xs ++ (head_in w.task, used_len (status_of h w.request) w.request) ∷ []) a.at.completed
       ∙ ap (λ (e : ℕ × ℕ). map (spot_of q h past heads) l.completed ++ e ∷ []) element
       ∙ sym (map-append (spot_of q h past heads) l.completed (w.k ∷ []));
-  keeps = keeps_done setup.ring.size (open_heads q past heads) state place (used_len (status_of h w.request) w.request) w.task sector w.due.at a.keeps;
+  keeps = keeps_done setup.ring.size (open_heads q past heads) state place (used_len (status_of h w.request) w.request) w.task sector w.due.at a.at.keeps;
   tasks = λ i j t at_left at_task.
       let at_i : slice_get (remove left place) i ≡ Some j = ap (λ (xs : List ℕ). slice_get xs i) (sym less) ∙ at_left in
       elim (cases_lt i place) [
@@ -207,8 +208,8 @@ finished q h sizes m setup state place w sector good a = record {
             let task_old : slice_get state.unfinished (suc i) ≡ Some t = sym (slice_get-remove_above state.unfinished place i above inside) ∙ at_task in
             was (suc i) j t (λ e. omega (arith, above, e)) old task_old
       ];
-  buffers = length-set state.sectors (head_in w.task) sector ∙ a.buffers;
-  places = a.places;
+  buffers = length-set state.sectors (head_in w.task) sector ∙ a.at.buffers;
+  places = a.at.places;
   sectors = λ j p request held is at_step.
       let kept = among_filter (λ n. not (is_among ((l.completed ++ w.k ∷ []) ++ l.batch) n)) (open_numbers past q) j held in
       let out : is_among ((l.completed ++ w.k ∷ []) ++ l.batch) j ≡ false = let t : not (is_among ((l.completed ++ w.k ∷ []) ++ l.batch) j) ≡ true = kept.1 in grind (arith, nat_tests) in
@@ -217,7 +218,7 @@ finished q h sizes m setup state place w sector good a = record {
       let left_j : is_among left j ≡ true = among_kept (λ n. not (is_among (l.completed ++ l.batch) n)) (open_numbers past q) j kept.0 passes in
       let other : slice_index heads j ≢ (head_in w.task) = λ e. heads_differ q h m j w.k good (left_open q past l.completed l.batch j left_j) w.is_open parts.0 (e ∙ w.head) in
       let was_step : slice_get (task_steps h request) (l.made j) ≡ Some (Put p) = ap (slice_get (task_steps h request)) (sym (at_other l.made w.k (l.made w.k + 1) j parts.0)) ∙ at_step in
-      get_or-set_other state.sectors (head_in w.task) (slice_index heads j) sector [] other ∙ a.sectors j p request left_j is was_step;
+      get_or-set_other state.sectors (head_in w.task) (slice_index heads j) sector [] other ∙ a.at.sectors j p request left_j is was_step;
 }
   where
     l : Lane
@@ -250,7 +251,7 @@ finished q h sizes m setup state place w sector good a = record {
     was : (i j : ℕ) (t : Task) → i ≢ place → slice_get left i ≡ Some j → slice_get state.unfinished i ≡ Some t → TaskAt q h setup past heads j (with_at l.made w.k (l.made w.k + 1) j) t
     was i j t apart at_left at_task =
         let differs : j ≢ w.k = λ e. apart (one_place left i place w.k (left_distinct q past l.completed l.batch) (at_left ∙ ap (λ (n : ℕ). Some n) e) w.at) in
-        task_same q h setup past past heads w.k j (l.made j) (with_at l.made w.k (l.made w.k + 1) j) t nothing_new (at_other l.made w.k (l.made w.k + 1) j differs) (a.tasks i j t at_left at_task)
+        task_same q h setup past past heads w.k j (l.made j) (with_at l.made w.k (l.made w.k + 1) j) t nothing_new (at_other l.made w.k (l.made w.k + 1) j differs) (a.at.tasks i j t at_left at_task)
 
 -- ---- any step
 
@@ -389,9 +390,56 @@ step_stands q h sizes m setup state state' place v w plain good a disk made (inr
 step_stands q h sizes m setup state state' place v w plain good a disk made (inr (inr (inr (inl x)))) = sync_stands q h sizes m setup state state' place v w x plain good a made
 step_stands q h sizes m setup state state' place v w plain good a disk made (inr (inr (inr (inr x)))) = last_stands q h sizes m setup state state' place v w x.next good a made
 
+-- ---- its start is past
+
+worked_same : (v : Option Values) (place : ℕ) (task : Task) (n : Making) (s t : QueueState) → HasWorked v place task n s t → (t.index ≡ s.index) × ((t.bell ≡ s.bell) × (t.recovery ≡ s.recovery))
+worked_same v place task n s t made = go n.step made.state
+  where
+    alike : (u : QueueState) → t ≡ u → (u.index ≡ s.index) × ((u.bell ≡ s.bell) × (u.recovery ≡ s.recovery)) → (t.index ≡ s.index) × ((t.bell ≡ s.bell) × (t.recovery ≡ s.recovery))
+    alike u is same = subst (λ (y : QueueState). (y.index ≡ s.index) × ((y.bell ≡ s.bell) × (y.recovery ≡ s.recovery))) (sym is) same
+
+    go : (step : RequestStep) → Advances place task n made.sector step s t → (t.index ≡ s.index) × ((t.bell ≡ s.bell) × (t.recovery ≡ s.recovery))
+    go (Look p) is = alike (worked place is.0 made.sector s) is.3 (refl, (refl, refl))
+    go (Put p) is = alike (worked place is.0 made.sector s) is.3 (refl, (refl, refl))
+    go (Act p) is = alike (worked place is.0 made.sector s) is.3 (refl, (refl, refl))
+    go Sync is = alike (worked place is.0 made.sector s) is.3 (refl, (refl, refl))
+    go Status is = alike (done_at place (head_in task) (used_len (status_of n.header n.request) n.request) made.sector s) is (refl, (refl, refl))
+
+-- its entries start no queue
+look_still : (q : ℕ) (h : Header1) (k : ℕ) (s : Scene) (o : Option ℕ) → started (after_items h (look_items q k s.past o) s).past q ≡ started s.past q
+look_still q h k s None = refl
+look_still q h k s (Some sector) = refl
+
+act_still : (q : ℕ) (h : Header1) (k : ℕ) (s : Scene) (o : Option SectorValue) → started (after_items h (act_items q k o) s).past q ≡ started s.past q
+act_still q h k s None = refl
+act_still q h k s (Some x) = refl
+
+work_still : (q : ℕ) (h : Header1) (k : ℕ) (s : Scene) (request : Asked) (step : RequestStep) → started (after_items h (task_items h q k (buffer_of q k s) s.past request step) s).past q ≡ started s.past q
+work_still q h k s request (Look place) = look_still q h k s (look_at request place)
+work_still q h k s request (Put place) = refl
+work_still q h k s request (Act place) = act_still q h k s (effect_at request place)
+work_still q h k s request Sync = refl
+work_still q h k s request Status = refl
+
+-- and its lane keeps bell, plan and phase
+lane_starts : (q : ℕ) (h : Header1) (setup : QueueSetup) (k : ℕ) (l : Lane) (runs : Bool) (w : RegionWords) (state : QueueState) (step : RequestStep) → StartAt q h setup runs l.bell l.plan l.phase w state
+    → StartAt q h setup runs (after_task_step k step l).bell (after_task_step k step l).plan (after_task_step k step l).phase w state
+lane_starts q h setup k l runs w state (Look place) x = x
+lane_starts q h setup k l runs w state (Put place) x = x
+lane_starts q h setup k l runs w state (Act place) x = x
+lane_starts q h setup k l runs w state Sync x = x
+lane_starts q h setup k l runs w state Status x = x
+
 -- where the queue stands after a turn of work
 pub work_stands : (q : ℕ) (h : Header1) (sizes : ℕ → ℕ) (m : Moment) (setup : QueueSetup) (state state' : QueueState) (place : ℕ) (v : Values) (w : WorkReady q h sizes m state place) → IsPlain h → Good q h m → QueueStands q h setup m state → DiskAt h.capacity m.scene.past v
     → HasWorked (Some v) place w.task (making w) state state' → QueueStands q h setup (one_turn h q (turns.Work place) m).next state'
 work_stands q h sizes m setup state state' place v w plain good a disk made =
-    stands_after q h setup m (turns.Work place) state' (subst (λ (t : Turned). QueueAt q h setup (after_items h t.items m.scene).past ((after_items h t.items m.scene).heads q) t.lane.phase t.lane.batch t.lane.completed t.lane.made state') (sym (work_turned q h sizes m state place w))
-    (step_stands q h sizes m setup state state' place v w plain good a disk made (work_kind q h sizes m state place w plain good)))
+    let l : Lane = m.lanes q in
+    let t : Turned = task_turn h q m.scene l w.k w.request (Some w.step) in
+    let now : Scene = after_items h t.items m.scene in
+    let same = worked_same (Some v) place w.task (making w) state state' made in
+    let run : started now.past q ≡ true = work_still q h w.k m.scene w.request w.step ∙ sym a.at.started ∙ w.due.started in
+    stands_next q h setup m (turns.Work place) t state' (work_turned q h sizes m state place w)
+    (step_stands q h sizes m setup state state' place v w plain good a disk made (work_kind q h sizes m state place w plain good))
+    (lane_starts q h setup w.k l (started now.past q) (region_in h q now) state' w.step
+    (runs_on q h setup m state state' (started now.past q) l.bell l.plan l.plan l.phase (region_in h q now) a run refl same.0 same.1.0 same.1.1))

@@ -5,8 +5,9 @@ use Rattle.vub_steps.specs.declared.steps.Phase.{Phase}
 use Rattle.vub_steps.specs.declared.steps.Phase.TheVariants as phases
 use Rattle.vub_steps.specs.declared.steps.Plan.{Plan}
 use Rattle.vub_steps.specs.Steps.{plan_steps}
-use Rattle.vub_infl_split.specs.Region.{RegionWords, RegionLies}
+use Rattle.vub_infl_split.specs.Region.{RegionWords}
 use Rattle.vub_rec_split.specs.Places.{IsFresh, IsAt}
+use Rattle.vub_rec_split.specs.Starts.{StartLies}
 use Rattle.vub_driver.specs.Layout.{area_place, buffer_place}
 use Rattle.vub_device.specs.declared.entry.Asked.{Asked}
 use Rattle.vub_device.specs.declared.entry.Entry.{Entry}
@@ -17,12 +18,11 @@ use Rattle.vub_steps.specs.Tasks.{Put, task_steps}
 use Rattle.vub_run.specs.Moments.{Moment, region_of, region_in, open_heads}
 use Rattle.vub_run.specs.Turns.{len_of}
 use Rattle.vub_queue.specs.QueueParts.{is_taken}
-use Rattle.vub_queue.specs.QueueState.{QueueState, QueueLies, IsNew, state_of}
+use Rattle.vub_queue.specs.QueueState.{QueueState, QueueLies, IsNew, state_of, new_recovery}
 use Rattle.vub_task.specs.TaskState.{IsTaskAt, head_in}
 use Rattle.vub_queue.specs.declared.queue.Queue.{Queue}
 use Rattle.vub_queue.specs.declared.queue.QueueSetup.{QueueSetup}
 use Rattle.vub_queue.specs.Queue.{ring_in}
-use Rattle.vub_split.specs.Split.{RingLies}
 use Rattle.vub_task.specs.declared.task.Task.{Task}
 use Rattle.vub_facts.specs.Facts.{Words}
 use Rattle.vub_facts.specs.Held.{State, Held}
@@ -122,10 +122,8 @@ pub record LiesAs (q : ℕ) (setup : QueueSetup) (n : ℕ) : Type 0 where
   pub index : setup.index ≡ q
 
 -- its rings and its part of the in-flight region lie in shared memory, whose spaces have these sizes
-pub record SetupLies (sizes : ℕ → ℕ) (setup : QueueSetup) : Type 0 where
-  pub ring : RingLies sizes setup.ring
-  pub region : RegionLies sizes setup.region
-  pub same_size : setup.region.size ≡ setup.ring.size
+abbrev pub SetupLies : (ℕ → ℕ) → QueueSetup → Type 0
+SetupLies sizes setup = StartLies sizes (new_recovery setup)
 
 -- a queue is on the rings of the set-up
 abbrev pub IsOn : QueueSetup → Queue → Type 0
