@@ -1,4 +1,4 @@
--- Where the rings of a sound front lie.
+-- Where the rings and the region of a sound front lie.
 use Rattle.std.proofs.Common.{◌≡◌, ◌≤◌, ℕ, ◌+◌, sym, subst, ◌∙◌}
 use Rattle.std.specs.Prelude.{Option}
 use mathlib.Core.Path.{fun_ext}
@@ -36,8 +36,8 @@ still_sound before now f same unfailed sound = record {
   base = sound.base;
   space = sound.space;
   room = subst (λ (k : ℕ). area_place f.index + 1048576 ≤ k) (sym (same 0)) sound.room;
-  region = sound.region;
-  region_lies = region_lies_still (sizes_in before) (sizes_in now) f.region same sound.region_lies;
+  bell = sound.bell;
+  region = region_lies_still (sizes_in before) (sizes_in now) f.setup.region same sound.region;
   unfailed = unfailed;
 }
 
@@ -54,16 +54,16 @@ guest_sound before now f g same unfailed ring sound = record {
   base = sound.base;
   space = sound.space;
   room = subst (λ (k : ℕ). area_place f.index + 1048576 ≤ k) (sym (same 0)) sound.room;
-  region = sound.region;
-  region_lies = region_lies_still (sizes_in before) (sizes_in now) f.region same sound.region_lies;
+  bell = sound.bell;
+  region = region_lies_still (sizes_in before) (sizes_in now) f.setup.region same sound.region;
   unfailed = unfailed;
 }
 
--- its rings lie in guest memory
+-- its rings and its region lie in memory
 pub sound_lies : (memory : WatchedShared) (f : Front) → FrontSound memory f → SetupLies (sizes_in memory) f.setup
 sound_lies memory f sound =
     let laps = size_laps f.header.size sound.header.sized in
-    setup_lies f.index (sizes_in memory) f.setup f.header.size sound.room laps.0 laps.1 laps.2 sound.setup
+    setup_lies f.index (sizes_in memory) f.setup f.header.size sound.room sound.region laps.0 laps.1 laps.2 sound.setup
 
 -- ---- the queue of a life
 

@@ -8,11 +8,11 @@ use Rattle.vub_device.specs.declared.entry.Answered.{Answered}
 use Rattle.vub_world.specs.declared.outstanding.OutstandingRequests.{OutstandingRequests}
 use Rattle.vub_world.specs.OutstandingRequests.{slot_in}
 use Rattle.vub_room.specs.Rooms.{RoomState, SpendsAnswers, SpendsLists, SpendsUpTo}
-use Rattle.vub_queue.specs.QueueState.{course_in, QueueState}
-use Rattle.vub_steps.specs.Steps.{next_step}
+use Rattle.vub_queue.specs.QueueState.{steps_in, QueueState}
+use Rattle.vub_steps.specs.Steps.{next_of}
 use Rattle.vub_steps.specs.declared.steps.Step.TheVariants.{Index}
 use Rattle.vub_base.specs.declared.store.Tag.{Tag}
-use Rattle.vub_base.specs.declared.store.Area.TheVariants.{M}
+use Rattle.vub_base.specs.declared.store.Area.{Area}
 use Rattle.vub_shared.specs.Bytes.{Bytes, cleared}
 use Rattle.vub_shared.specs.Spaces.{HandsNew}
 use Rattle.vub_shared.specs.Stores.{Store, one_store}
@@ -21,7 +21,7 @@ use Rattle.vub_shared.specs.declared.watched_shared.WatchedShared.{WatchedShared
 use Rattle.vub_report.specs.declared.items.Item.{Item}
 use Rattle.vub_report.specs.declared.items.Item.TheVariants as items
 use Rattle.vub_world.specs.MachineDevice.{stored_items, answer_for, answers_for, is_index, is_showing}
-use Rattle.vub_world.specs.MachineFront.{IsSmall, OneSmall, store_item}
+use Rattle.vub_world.specs.MachineFront.{area_of, IsSmall, OneSmall, store_item}
 
 -- ---- memory
 
@@ -46,7 +46,7 @@ one_space_more before now space size new is =
 pub record IsOne (stores : List Store) : Type 0 where
   pub st : Store
   pub is : stores ≡ st ∷ []
-  pub small : IsSmall st
+  pub small : IsSmall (area_of st.space) st
 
 pub one_of : (stores : List Store) → OneSmall stores → IsOne stores
 one_of [] none = absurd none
@@ -58,13 +58,15 @@ pub one_item : (stores : List Store) (tag : Tag) (o : IsOne stores) → stored_i
 one_item stores tag o = ap (stored_items tag) o.is
 
 -- an item of it
-pub one_noted : (tag : Tag) (place : ℕ) (bytes kept : List ℕ) (stores : List Store) (o : IsOne stores) (space : ℕ) (before after noted : List Item) → one_store space place bytes ≡ o.st → kept ≡ bytes
-    → before ≡ noted → after ≡ before ++ items.Store tag M place kept ∷ [] → after ≡ noted ++ stored_items tag stores
-one_noted tag place bytes kept stores o space before after noted same copied goes is =
+pub one_noted : (tag : Tag) (area : Area) (place : ℕ) (bytes kept : List ℕ) (stores : List Store) (o : IsOne stores) (space : ℕ) (before after noted : List Item) → one_store space place bytes ≡ o.st → kept ≡ bytes → area ≡ area_of space
+    → before ≡ noted → after ≡ before ++ items.Store tag area place kept ∷ [] → after ≡ noted ++ stored_items tag stores
+one_noted tag area place bytes kept stores o space before after noted same copied in_area goes is =
+    let area_is : area ≡ area_of o.st.space = in_area ∙ ap (λ (st : Store). area_of st.space) same in
     let place_is : place ≡ o.st.place = ap (λ (st : Store). st.place) same in
     let bytes_is : kept ≡ o.st.bytes = copied ∙ ap (λ (st : Store). st.bytes) same in
-    let item : List Item → ℕ → List ℕ → List Item = λ front p bs. front ++ items.Store tag M p bs ∷ [] in
-    is ∙ ap (λ (front : List Item). item front place kept) goes ∙ ap (λ (p : ℕ). item noted p kept) place_is ∙ ap (item noted o.st.place) bytes_is
+    let item : List Item → Area → ℕ → List ℕ → List Item = λ front a p bs. front ++ items.Store tag a p bs ∷ [] in
+    is ∙ ap (λ (front : List Item). item front area place kept) goes ∙ ap (λ (a : Area). item noted a place kept) area_is ∙ ap (λ (p : ℕ). item noted (area_of o.st.space) p kept) place_is
+    ∙ ap (item noted (area_of o.st.space) o.st.place) bytes_is
     ∙ ap (λ (is : List Item). noted ++ is) (sym (one_item stores tag o))
 
 -- ---- the answers of a batch
@@ -108,7 +110,7 @@ spends_more count r s t so one = record {
 }
 
 -- what the next step shows
-pub spends_up : (state : QueueState) (r now : RoomState) → next_step (course_in state) state.phase ≡ Some Index → (is_showing state ≡ true → 1 ≤ length state.batch) → SpendsAnswers (length state.batch) r now
+pub spends_up : (state : QueueState) (r now : RoomState) → next_of (steps_in state) state.phase ≡ Some Index → (is_showing state ≡ true → 1 ≤ length state.batch) → SpendsAnswers (length state.batch) r now
     → SpendsUpTo (if is_showing state then length state.batch else 0) r now
 spends_up state r now next some spends =
     let shows : is_showing state ≡ true = ap is_index next in

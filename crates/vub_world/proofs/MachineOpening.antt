@@ -26,10 +26,10 @@ use Rattle.std.proofs.lemmas.Option.{slice_get_within}
 use Rattle.vub_queue.specs.declared.queue.Queue.{Queue}
 use Rattle.vub_world.specs.Machine.{IsSound, AreInLife}
 use Rattle.vub_world.specs.OutstandingRequests.{offered_in}
-use Rattle.vub_world.specs.Regions.{region_of, inflight_size}
+use Rattle.vub_world.specs.Regions.{inflight_size}
 use Rattle.vub_world.specs.MachineAt.{MachineAt, LifeAt}
 use Rattle.vub_run.specs.Memory.{opening_memory, opened, with_indexes}
-use Rattle.vub_run.specs.Moments.{opening}
+use Rattle.vub_run.specs.Moments.{opening, region_of}
 
 -- ---- the memory of a world in which nothing has happened
 
@@ -73,8 +73,8 @@ new_sound h q memory f is new low size inflight unfailed = record {
   base = new.base ∙ ap (λ (k : Header1). k.base) (sym new.header);
   space = new.space;
   room = omega (arith, new.index, low, size);
-  region = new.region ∙ ap (λ (k : Header1). region_of q k.size) (sym new.header) ∙ ap (λ (p : ℕ). region_of p f.header.size) (sym new.index);
-  region_lies = subst (λ (r : SplitRegion). RegionLies (sizes_in memory) r) (sym new.region) (part_lies h q (sizes_in memory) low inflight);
+  bell = new.bell;
+  region = subst (λ (r : SplitRegion). RegionLies (sizes_in memory) r) (sym new.setup.region) (part_lies h q (sizes_in memory) low inflight);
   unfailed = unfailed;
 }
 

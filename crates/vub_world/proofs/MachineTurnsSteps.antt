@@ -115,7 +115,10 @@ count_same x taken other = go x other
     go (says.Completed head) o = omega arith
     go says.Published o = omega arith
     go says.Started o = omega arith
+    go says.Belled o = omega arith
     go says.SharedFault o = omega arith
+    go says.BellFault o = omega arith
+    go (says.Damaged fault) o = omega arith
     go (says.Broken fault) o = omega arith
 
 -- ---- the step that comes next

@@ -100,16 +100,6 @@ fn add_queue(queues: &mut Vec<Queue>, queue: Queue) -> Result<(), Memory>
     queues.push(queue).map_err(|_| Memory)
 }
 
-/// Whether there is a queue, and it was started.
-fn is_started(queue: Option<&Queue>) -> bool
-    ensures { result ≡ is_started_queue queue.now }
-{
-    match queue {
-        Some(queue) => queue.is_started(),
-        None => false,
-    }
-}
-
 /// The fronts of the header's queues, in the order of their numbers.
 fn new_fronts(
     alloc: Global,
@@ -316,19 +306,29 @@ impl Machine {
         Ok(self.nothing())
     }
 
+    /// Whether a queue was started in this life.
+    fn is_started(&self, queue: u16) -> bool
+        ensures { result ≡ is_started_in (life_of queue self.now.life) }
+    {
+        let Some(
+            Life {
+                queues: Some(queues),
+            },
+        ) = &self.life
+        else {
+            return false;
+        };
+        match queues.get(usize::from(queue)) {
+            Some(queue) => queue.is_started(),
+            None => false,
+        }
+    }
+
     /// The most turns of a queue that belong to no one request.
     fn turns_besides(&self, queue: u16) -> u64
         ensures { result ≡ turns_besides self.now.header.size (is_started_in (life_of queue self.now.life)) }
     {
-        let is_started = match &self.life {
-            Some(
-                Life {
-                    queues: Some(queues),
-                },
-            ) => is_started(queues.get(usize::from(queue))),
-            _ => false,
-        };
-        if is_started {
+        if self.is_started(queue) {
             BESIDES
         } else {
             u64::from(self.header.size) + BESIDES_START
@@ -349,9 +349,9 @@ impl Machine {
             return self.idle();
         }
         let place = usize::from(queue);
+        let besides = self.turns_besides(queue);
         let front = &self.fronts[place];
         let undone = front.outstanding.count();
-        let besides = self.turns_besides(queue);
         let mut room = Room::for_turns(self.alloc, &mut self.spare, 1, undone, besides)?;
         let Some(
             Life {
@@ -389,9 +389,9 @@ impl Machine {
             return self.idle();
         }
         let place = usize::from(queue);
+        let besides = self.turns_besides(queue);
         let front = &self.fronts[place];
         let undone = front.outstanding.count();
-        let besides = self.turns_besides(queue);
         let mut room = Room::for_turns(self.alloc, &mut self.spare, count, undone, besides)?;
         let Some(
             Life {
