@@ -28,7 +28,7 @@ abbrev m4 : Moment
 m4 = (guest header 0 16 m3).next
 
 abbrev m5 : Moment
-m5 = (turns 8 (drain_choice header 0 0) header 0 m4).next
+m5 = (turns 15 (drain_choice header 0 0) header 0 m4).next
 
 abbrev m6 : Moment
 m6 = (collect header 0 m5).next
@@ -51,7 +51,7 @@ offers = refl
 
 serves : Plays header m4 (events.Drain 0) read_served m5
 unfolding bytes.word bytes.put zero.zeros
-serves = inr (refl, record { count = 8; made = refl; ends = refl })
+serves = inr (refl, record { count = 15; made = refl; ends = refl })
 
 collects : Plays header m5 (events.Collect 0) (items.Made (entries.Collect 0 0) ∷ []) m6
 unfolding bytes.word bytes.put zero.zeros
@@ -67,4 +67,4 @@ at_queue_0 s tracks (suc q) below = grind arith
 
 pub is_tracked : TracksAlways header read_records
 unfolding bytes.word bytes.put zero.zeros
-is_tracked = (tt, (tt, (tt, ((inr (at_queue_0 _ (record { sees = refl; waits = refl })), (inr (at_queue_0 _ (record { sees = refl; waits = refl })), (inr (at_queue_0 _ (record { sees = refl; waits = refl })), (inr (at_queue_0 _ (record { sees = refl; waits = refl })), (inr (at_queue_0 _ (record { sees = refl; waits = refl })), (inr (at_queue_0 _ (record { sees = refl; waits = refl })), (inl tt, (inr (at_queue_0 _ (record { sees = refl; waits = refl })), tt)))))))), ((inr (at_queue_0 _ (record { sees = refl; waits = refl })), (inr (at_queue_0 _ (record { sees = refl; waits = refl })), (inr (at_queue_0 _ (record { sees = refl; waits = refl })), (inr (at_queue_0 _ (record { sees = refl; waits = refl })), (inr (at_queue_0 _ (record { sees = refl; waits = refl })), (inr (at_queue_0 _ (record { sees = refl; waits = refl })), (inr (at_queue_0 _ (record { sees = refl; waits = refl })), (inl tt, (inr (at_queue_0 _ (record { sees = refl; waits = refl })), tt))))))))), ((inr (at_queue_0 _ (record { sees = refl; waits = refl })), tt), tt))))))
+is_tracked = (tt, (tt, (tt, ((inr (at_queue_0 _ (record { sees = refl; waits = refl })), (inr (at_queue_0 _ (record { sees = refl; waits = refl })), (inr (at_queue_0 _ (record { sees = refl; waits = refl })), (inr (at_queue_0 _ (record { sees = refl; waits = refl })), (inr (at_queue_0 _ (record { sees = refl; waits = refl })), (inr (at_queue_0 _ (record { sees = refl; waits = refl })), (inl tt, (inr (at_queue_0 _ (record { sees = refl; waits = refl })), tt)))))))), ((inr (at_queue_0 _ (record { sees = refl; waits = refl })), (inr (at_queue_0 _ (record { sees = refl; waits = refl })), (inr (at_queue_0 _ (record { sees = refl; waits = refl })), (inr (at_queue_0 _ (record { sees = refl; waits = refl })), (inr (at_queue_0 _ (record { sees = refl; waits = refl })), (inr (at_queue_0 _ (record { sees = refl; waits = refl })), (inr (at_queue_0 _ (record { sees = refl; waits = refl })), (inr (at_queue_0 _ (record { sees = refl; waits = refl })), (inr (at_queue_0 _ (record { sees = refl; waits = refl })), (inr (at_queue_0 _ (record { sees = refl; waits = refl })), (inr (at_queue_0 _ (record { sees = refl; waits = refl })), (inr (at_queue_0 _ (record { sees = refl; waits = refl })), (inr (at_queue_0 _ (record { sees = refl; waits = refl })), (inr (at_queue_0 _ (record { sees = refl; waits = refl })), (inl tt, (inr (at_queue_0 _ (record { sees = refl; waits = refl })), tt)))))))))))))))), ((inr (at_queue_0 _ (record { sees = refl; waits = refl })), tt), tt))))))
