@@ -1,6 +1,6 @@
 -- A turn of the device at a moment of a run: start, fetch and publication.
 use Rattle.std.proofs.Common.{◌≡◌, ◌≤◌, ◌<◌, ◌⊎◌, ℕ, ◌+◌, ◌*◌, Bool, true, false, List, [], ◌∷◌, ◌++◌, length, map, cond, refl, ap, sym, ◌∙◌, subst, inl, inr, arith}
-use Rattle.std.specs.Prelude.{Option, Some, None, Result, Ok, unwrap_or, slice_index, option_map, slice_get, not, ◌==◌, ◌||◌, if◌then◌else◌, ⊤}
+use Rattle.std.specs.Prelude.{Option, Some, None, Result, Ok, unwrap_or, slice_index, option_map, slice_get, ◌==◌, ◌||◌, ⊤}
 use Rattle.std.proofs.lemmas.Bool.Decides.{nat_tests}
 use Rattle.vub_run_laws.proofs.RunQueue.{phase_at, queue_ahead, head_below}
 use Rattle.vub_base.specs.declared.header.Header1.{Header1}
@@ -8,7 +8,6 @@ use Rattle.vub_base.specs.declared.store.Tag.{Tag}
 use Rattle.vub_base.specs.declared.store.Tag.TheVariants.{SP5}
 use Rattle.vub_base.specs.declared.store.Area.{Area}
 use Rattle.vub_base.specs.declared.store.Area.TheVariants.{M, I}
-use Rattle.byteorder.specs.Endian.{little_bytes}
 use Rattle.vub_shared.specs.Bytes.{Bytes, put, bytes_from}
 use Rattle.vub_shared.specs.Stores.{Store, Stores, Trails, after_store, after_in_trail}
 use Rattle.vub_shared.proofs.BytesLemmas.{put_other, bytes_from-put_other}
@@ -67,7 +66,7 @@ use Rattle.vub_run_laws.proofs.RunChainsEvents.{ChainedAt}
 use Rattle.vub_queue_in_run.proofs.QueueAtMoves.{new_unpublished}
 use Rattle.vub_queue_in_run.proofs.QueueAtStarts.{StartSays, Noted, Rung, Begun, StoresIn, MakesNone, start_stands}
 use Rattle.vub_queue_in_run.proofs.QueueAtTurns.{IsPhaseTurn, fetch_stands, idle_stands, ready_same}
-use Rattle.vub_queue_in_run.proofs.QueueAtRows.{HasPublished, HasShown, MadeElement, ShowsNext, row_stands, shown_stands, stored_stands, after_row, few_stored, shown_place}
+use Rattle.vub_queue_in_run.proofs.QueueAtRows.{HasPublished, HasShown, ShowsNext, row_stands, shown_stands, stored_stands, after_row, few_stored, shown_place}
 use Rattle.vub_queue_in_run.proofs.WorkAtItems.{IsNoWork, turn_disk}
 
 -- ---- what a turn is given, and what it does

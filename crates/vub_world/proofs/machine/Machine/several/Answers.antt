@@ -21,7 +21,7 @@ use Rattle.vub_world.proofs.MachineEvents.{ok_then}
 use Rattle.vub_world.proofs.MachineGuestCollects.{collects_within}
 use Rattle.vub_world.proofs.MachineParts.{TurnsBegin, HasTurned, found, parts_stand, turns_begin_at, turned_sound, turned_at, with_turned}
 use Rattle.vub_run_laws.proofs.Runs.{plain_header}
-use Rattle.vub_world.proofs.MachineLoops.{besides_small, besides_some}
+use Rattle.vub_world.proofs.MachineLoops.{besides_small}
 use Rattle.vub_world.proofs.MachineStarts.{unattached_on}
 use Rattle.vub_world.proofs.MachineTurnEvents.{standing_few, several_idle, several_made, several_none, turns_event_as, turns_event_of}
 use Rattle.vub_world.proofs.machine.Machine.several.Goals.{then-not-made, else-not-made}
