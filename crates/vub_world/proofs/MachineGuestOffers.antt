@@ -154,11 +154,17 @@ offered_life q h setup count m x r b life same heads good at = life_with q h set
     offered (Some None) at = at
     offered (Some (Some queue)) at =
         let stands = at_offer q h setup m.scene.past (m.scene.heads q) (m.lanes q).phase (m.lanes q).batch (m.lanes q).completed (m.lanes q).made (state_of queue) r x.head good.holds.known good.holds.worked at.1.2.at in
-        let words : region_in h q (offered_scene q h r b m.scene) ≡ region_in h q m.scene = same in
-        (at.0, (at.1.0, at.1.1, record {
-          at = subst (λ (hs : List ℕ). QueueAt q h setup (entries.Offer q r ∷ m.scene.past) hs (m.lanes q).phase (m.lanes q).batch (m.lanes q).completed (m.lanes q).made (state_of queue)) (sym heads) stands;
-          start = subst (λ (w : RegionWords). StartAt q h setup (started m.scene.past q) (m.lanes q).bell (m.lanes q).plan (m.lanes q).phase w (state_of queue)) (sym words) at.1.2.start;
-        }))
+        let words : region_in h q (offered_scene q h r b m.scene) ≡ region_in h q m.scene = same in (
+          at.0,
+          (
+            at.1.0,
+            at.1.1,
+            record {
+              at = subst (λ (hs : List ℕ). QueueAt q h setup (entries.Offer q r ∷ m.scene.past) hs (m.lanes q).phase (m.lanes q).batch (m.lanes q).completed (m.lanes q).made (state_of queue)) (sym heads) stands;
+              start = subst (λ (w : RegionWords). StartAt q h setup (started m.scene.past q) (m.lanes q).bell (m.lanes q).plan (m.lanes q).phase w (state_of queue)) (sym words) at.1.2.start;
+            },
+          ),
+        )
 
 -- stores that offer nothing are nothing to the device
 stored_life : (q : ℕ) (h : Header1) (setup : QueueSetup) (count : ℕ) (m : Moment) (x : Waiting) (b : Bytes) (life : Option (Option Queue)) → words_of (region_of q h.size) b ≡ region_in h q m.scene → LifeAt q h setup m life → LifeAt q h setup (moment_with q count x m (record m.scene { memory = b })) life
