@@ -6,8 +6,8 @@ use Rattle.vub_base.specs.declared.header.CacheMode.TheVariants.{Back}
 use Rattle.vub_base.specs.declared.request.Ask.{Ask}
 use Rattle.vub_base.specs.declared.request.Ask.TheVariants as asks
 use Rattle.vub_base.specs.declared.request.Shape.TheVariants.{Direct}
-use Rattle.vub_base.specs.declared.store.Tag.TheVariants.{G, T2, T5, SP1, SP2, SP5}
-use Rattle.vub_base.specs.declared.store.Area.TheVariants.{M}
+use Rattle.vub_base.specs.declared.store.Tag.TheVariants.{G, T2, T5, SI1, SI2, SI3, SP1, SP2, SP5}
+use Rattle.vub_base.specs.declared.store.Area.TheVariants.{M, I}
 use Rattle.vub_device.specs.declared.entry.Asked.TheVariants as requests
 use Rattle.vub_device.specs.declared.entry.Answered.{Answered}
 use Rattle.vub_device.specs.declared.entry.Entry.TheVariants as entries
@@ -59,10 +59,23 @@ write_offered =
     ∷ items.Made (entries.Offer 0 (requests.Write 0 sector))
     ∷ [])
 
+-- a start: features, an entry for each descriptor, version, number of descriptors and used.idx, and a bell
+abbrev pub started : List Item
+started =
+    items.Store SI1 I 0 (replicate 8 0)
+    ∷ items.Store SI2 I 16 (0 ∷ [])
+    ∷ items.Store SI2 I 32 (0 ∷ [])
+    ∷ items.Store SI2 I 48 (0 ∷ [])
+    ∷ items.Store SI2 I 64 (0 ∷ [])
+    ∷ items.Store SI3 I 8 (1 ∷ 0 ∷ 4 ∷ 0 ∷ 0 ∷ 0 ∷ 0 ∷ 0 ∷ [])
+    ∷ items.Bell 0
+    ∷ items.Made (entries.Start 0 [])
+    ∷ []
+
 abbrev pub write_served : List Item
 write_served =
-    items.Made (entries.Start 0 [])
-    ∷ items.Made (entries.Accept 0 0)
+    started
+    ++ items.Made (entries.Accept 0 0)
     ∷ items.Made (entries.Act 0 0 0 sector)
     ∷ items.Store T5 M 65552 (0 ∷ [])
     ∷ items.Store SP1 M 8196 (0 ∷ 0 ∷ 0 ∷ 0 ∷ [])
@@ -83,8 +96,8 @@ read_offered =
 
 abbrev pub read_served : List Item
 read_served =
-    items.Made (entries.Start 0 [])
-    ∷ items.Made (entries.Accept 0 0)
+    started
+    ++ items.Made (entries.Accept 0 0)
     ∷ items.Made (entries.Look 0 0 0 zero_sector)
     ∷ items.Store T2 M 69632 zero_sector
     ∷ items.Store T5 M 65552 (0 ∷ [])

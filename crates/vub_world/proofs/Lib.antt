@@ -1,3 +1,4 @@
+pub mod Bells
 pub mod MachineBatches
 pub mod MachineDrivers
 pub mod MachineEvents

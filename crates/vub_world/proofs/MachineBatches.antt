@@ -1,13 +1,13 @@
 -- What the room and the answers of a step of a drain need to know of the batch under way.
 use Rattle.std.proofs.Common.{◌≡◌, ◌≤◌, ◌<◌, ℕ, true, List, ◌++◌, length, refl, ap, sym, ◌∙◌, arith}
-use Rattle.std.specs.Prelude.{Option, Some, None, map, slice_get, slice_index, option_map}
+use Rattle.std.specs.Prelude.{Bool, Option, Some, None, map, slice_get, slice_index, option_map}
 use Rattle.std.proofs.lemmas.List.{length-map}
 use Rattle.std.proofs.lemmas.Option.{slice_get-map}
 use Rattle.vub_base.specs.declared.header.Header1.{Header1}
-use Rattle.vub_steps.specs.declared.steps.Course.{Course}
+use Rattle.vub_steps.specs.declared.steps.Plan.{Plan}
 use Rattle.vub_steps.specs.declared.steps.Phase.{Phase}
 use Rattle.vub_steps.specs.declared.steps.Phase.TheVariants as phases
-use Rattle.vub_steps.specs.Steps.{next_step}
+use Rattle.vub_steps.specs.Steps.{running_steps, next_of}
 use Rattle.vub_device.specs.declared.entry.Asked.{Asked}
 use Rattle.vub_device.specs.declared.entry.Asked.TheVariants as asks
 use Rattle.vub_device.specs.Past.{asked, is_among}
@@ -18,8 +18,8 @@ use Rattle.vub_world.specs.OutstandingRequests.{size_in, slot_in}
 use Rattle.vub_world.specs.MachineAt.{OutstandingAt, reads_of}
 use Rattle.vub_world.specs.MachineDevice.{BatchFits, ShowsSome, is_index}
 use Rattle.vub_run.specs.Moments.{Moment}
-use Rattle.vub_queue_in_run.specs.QueueAt.{QueueStands, spot_of}
-use Rattle.vub_queue.specs.QueueState.{course_in, QueueState}
+use Rattle.vub_queue_in_run.specs.QueueAt.{QueueStands, spot_of, kept_phase}
+use Rattle.vub_queue.specs.QueueState.{QueueState}
 use Rattle.vub_world.proofs.MachineTurns.{among_right}
 use Rattle.vub_run_laws.proofs.RunQueue.{phase_at, head_below}
 use Rattle.vub_run_laws.proofs.RunFrames.{open_out}
@@ -29,18 +29,19 @@ use Rattle.vub_run_laws.proofs.RunTurns.{Good}
 
 -- ---- a batch that is shown isn't empty
 
-phase_shows : (batch : List ℕ) (course : Course) (phase : Phase) → PhaseIs batch phase → is_index (next_step course phase) ≡ true → 0 < length batch
-phase_shows batch course phases.Rest is shows = absurd (cc shows)
-phase_shows batch course (phases.Start done) is shows = absurd is
-phase_shows batch course (phases.Fetch done) is shows = absurd is
-phase_shows batch course (phases.Publish done) is shows = is.0
+phase_shows : (n : ℕ) (bell : Bool) (plan : Plan) (batch : List ℕ) (many : ℕ) (phase : Phase) → PhaseIs n bell plan batch phase → is_index (next_of (running_steps many (kept_phase phase)) (kept_phase phase)) ≡ true → 0 < length batch
+phase_shows n bell plan batch many phases.Rest is shows = absurd (cc shows)
+phase_shows n bell plan batch many (phases.Start done) is shows = absurd (cc shows)
+phase_shows n bell plan batch many (phases.Fetch done) is shows = absurd is
+phase_shows n bell plan batch many (phases.Publish done) is shows = is.0
 
 pub queue_shows_some : (q : ℕ) (h : Header1) (setup : QueueSetup) (m : Moment) (state : QueueState) → Good q h m → QueueStands q h setup m state → ShowsSome state
 queue_shows_some q h setup m state good at shows =
     let lane = m.lanes q in
-    let here : is_index (next_step (course_in state) lane.phase) ≡ true = ap (λ (p : Phase). is_index (next_step (course_in state) p)) (sym at.phase) ∙ shows in
-    let some : 0 < length lane.batch = phase_shows lane.batch (course_in state) lane.phase (phase_at q h m.scene (m.lanes q) good.holds) here in
-    let long : length state.batch ≡ length lane.batch = ap length at.batch ∙ length-map lane.batch (spot_of q h m.scene.past (m.scene.heads q)) in
+    let many : ℕ = length state.batch in
+    let here : is_index (next_of (running_steps many (kept_phase lane.phase)) (kept_phase lane.phase)) ≡ true = ap (λ (p : Phase). is_index (next_of (running_steps many p) p)) (sym at.at.phase) ∙ shows in
+    let some : 0 < length lane.batch = phase_shows h.size lane.bell lane.plan lane.batch many lane.phase (phase_at q h m.scene (m.lanes q) good.holds) here in
+    let long : length state.batch ≡ length lane.batch = ap length at.at.batch ∙ length-map lane.batch (spot_of q h m.scene.past (m.scene.heads q)) in
     omega (arith, some, long)
 
 -- ---- its heads
@@ -59,7 +60,7 @@ queue_batch_fits q h setup m state outstanding small good at numbered i x found 
     let lane = m.lanes q in
     let past = m.scene.past in
     let heads = m.scene.heads q in
-    let spots : slice_get (map (spot_of q h past heads) lane.batch) i ≡ Some x = ap (λ (xs : List (ℕ × ℕ)). slice_get xs i) (sym at.batch) ∙ found in
+    let spots : slice_get (map (spot_of q h past heads) lane.batch) i ≡ Some x = ap (λ (xs : List (ℕ × ℕ)). slice_get xs i) (sym at.at.batch) ∙ found in
     let mapped : option_map (spot_of q h past heads) (slice_get lane.batch i) ≡ Some x = sym (slice_get-map (spot_of q h past heads) lane.batch i) ∙ spots in
     pick (slice_get lane.batch i) refl mapped
   where
@@ -73,7 +74,7 @@ queue_batch_fits q h setup m state outstanding small good at numbered i x found 
         let head : x.0 ≡ slice_index heads k = sym (ap (λ (y : ℕ × ℕ). y.0) same) in
         let among : is_among ((m.lanes q).completed ++ (m.lanes q).batch) k ≡ true = among_right (m.lanes q).completed (m.lanes q).batch k (among_get (m.lanes q).batch i k here) in
         let out : IsOut q past heads k = open_out q h.size h.capacity past heads k holds.known (holds.worked.opens k among) in
-        let below : slice_index heads k < h.size = head_below q h m.scene (m.lanes q).driver (m.lanes q).batch (m.lanes q).phase k holds.queue out in
+        let below : slice_index heads k < h.size = head_below q h m.scene (m.lanes q).driver (m.lanes q).bell (m.lanes q).plan (m.lanes q).batch (m.lanes q).phase k holds.queue out in
         let slot : (slot_in outstanding x.0).reads ≡ reads_of (asked past q k) = ap (λ (d : ℕ). (slot_in outstanding d).reads) head ∙ ap (λ (o : OutstandingRequest). o.reads) (numbered.slots k out.below out.kept) in
         let few : reads_of (asked past q k) ≤ 8 = few_reads h.capacity (asked past q k) (holds.known.wide k out.below) in
         (omega (arith, below, head, small), omega (arith, below, head, numbered.places), omega (arith, slot, few))

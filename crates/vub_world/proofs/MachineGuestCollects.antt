@@ -98,7 +98,7 @@ taken_life q h setup m x xs life at = life_with q h setup (taken_moment h q m) (
     taken : (life : Option (Option Queue)) → LifeAt q h setup m life → LifeAt q h setup (all_lanes (taken_lane q x.0 m) (taken_moment h q m)) life
     taken None at = at
     taken (Some None) at = at
-    taken (Some (Some queue)) at = (at.0, (at.1.0, at.1.1, at_collect q h setup m.scene.past (m.scene.heads q) (m.lanes q).phase (m.lanes q).batch (m.lanes q).completed (m.lanes q).made (state_of queue) (next_collected q m) at.1.2))
+    taken (Some (Some queue)) at = (at.0, (at.1.0, at.1.1, record { at = at_collect q h setup m.scene.past (m.scene.heads q) (m.lanes q).phase (m.lanes q).batch (m.lanes q).completed (m.lanes q).made (state_of queue) (next_collected q m) at.1.2.at; start = at.1.2.start }))
 
 head_plays : (q : ℕ) (h : Header1) (m : Moment) (x : ℕ × ℕ) (xs : List (ℕ × ℕ)) (number : ℕ) → number ≡ next_collected q m → sees q h m.scene ≡ x ∷ xs
     → played (items.Made (entries.Collect q number) ∷ []) (take_first h q (x ∷ xs) m).next ≡ collect h q m
@@ -120,7 +120,7 @@ is_first q w es rs m head low s at shown =
     let l : Lane = m.lanes q in
     let first : SeesFirst q h m.scene l head = queue_shown q h m.scene l (last_used_in w.front.guest) head (plain_header h s.header).good good.holds at.position (shown_there q w m (Some head) at shown) in
     let out : IsOut q m.scene.past (m.scene.heads q) (next_number q m.scene) = next_out q h m.scene l first.first.0 first.taken in
-    let below : slice_index (m.scene.heads q) (next_number q m.scene) < h.size = head_below q h m.scene l.driver l.batch l.phase (next_number q m.scene) good.holds.queue out in
+    let below : slice_index (m.scene.heads q) (next_number q m.scene) < h.size = head_below q h m.scene l.driver l.bell l.plan l.batch l.phase (next_number q m.scene) good.holds.queue out in
     record { shown = first; out = out; low = omega (arith, first.head_is, first.taken.head, below) }
 
 -- so the table of outstanding requests has a place for it, and one is left to be collected

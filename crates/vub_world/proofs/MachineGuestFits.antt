@@ -2,6 +2,7 @@
 use Rattle.std.proofs.Common.{◌≡◌, ℕ, refl, sym, subst, arith}
 use Rattle.std.specs.Prelude.{Option, Some, None}
 use Rattle.vub_base.specs.declared.header.Header1.{Header1}
+use Rattle.vub_base.specs.declared.store.Area.TheVariants.{M}
 use Rattle.vub_shared.specs.Stores.{Store}
 use Rattle.vub_driver.specs.Drivers.{Driver, Waiting}
 use Rattle.vub_world.specs.Fronts.{Parts}
@@ -39,11 +40,11 @@ front_fits q w standing = record {
 
     smalls : (o : Option Waiting) → (m.lanes q).driver.waiting ≡ o → AreSmall o
     smalls None e = tt
-    smalls (Some x) e = left_small IsSmall q h m x (λ (st : Store) space few. record { space = space; few = few }) good (stands_chained q h standing.0 standing.1 m standing.2.3 s) e
+    smalls (Some x) e = left_small (IsSmall M) q h m x (λ (st : Store) space few. record { space = space; few = few }) good (stands_chained q h standing.0 standing.1 m standing.2.3 s) e
 
     places : (o : Option Waiting) → (m.lanes q).driver.waiting ≡ o → HeadHasPlace w.front.outstanding o
     places None e = tt
     places (Some x) e =
         let l : Lane = m.lanes q in
-        let waits : IsWaiting q h.size h.capacity m.scene.past (m.scene.heads q) l.driver (record x { left = x.left }) = queue_waiting q h m.scene l.driver l.batch l.phase x e good.holds.queue in
+        let waits : IsWaiting q h.size h.capacity m.scene.past (m.scene.heads q) l.driver (record x { left = x.left }) = queue_waiting q h m.scene l.driver l.bell l.plan l.batch l.phase x e good.holds.queue in
         omega (arith, waits.below, at.outstanding.places)

@@ -7,13 +7,16 @@ use Rattle.std.proofs.lemmas.List.{length_push}
 use Rattle.vub_base.specs.declared.header.Header1.{Header1}
 use Rattle.vub_base.specs.declared.request.Ask.{Ask}
 use Rattle.vub_base.specs.declared.request.Ask.TheVariants as wants
-use Rattle.vub_shared.specs.Bytes.{Bytes}
+use Rattle.vub_infl_split.specs.Region.{RegionWords, words_of}
+use Rattle.vub_infl_split.proofs.WordLemmas.{words_elsewhere}
+use Rattle.vub_shared.specs.Bytes.{Bytes, put}
+use Rattle.vub_shared.specs.Stores.{Store, one_store}
 use Rattle.vub_shared.specs.declared.watched_shared.WatchedShared.{WatchedShared}
 use Rattle.vub_driver.specs.Drivers.{Waiting, after_stores}
 use Rattle.vub_device.specs.declared.entry.Asked.{Asked}
 use Rattle.vub_device.specs.declared.entry.Entry.{Entry}
 use Rattle.vub_device.specs.declared.entry.Entry.TheVariants as entries
-use Rattle.vub_device.specs.Past.{asked, published, collected, is_among}
+use Rattle.vub_device.specs.Past.{asked, published, collected, is_among, started}
 use Rattle.vub_schedule.specs.declared.types.Event.{Event}
 use Rattle.vub_schedule.specs.declared.types.Event.TheVariants as events
 use Rattle.vub_guest.specs.declared.guest.Guest.{Guest}
@@ -31,7 +34,7 @@ use Rattle.vub_world.specs.OutstandingRequests.{offered_in, slot_in, reads_in, n
 use Rattle.vub_world.specs.MachineAt.{FrontAt, LifeAt, OutstandingAt, PartsAt, reads_of}
 use Rattle.vub_world.specs.MachineFront.{GuestGoes}
 use Rattle.vub_run.specs.Memory.{Scene, after_item, after_items}
-use Rattle.vub_run.specs.Moments.{Lane, Moment}
+use Rattle.vub_run.specs.Moments.{Lane, Moment, region_of, region_in}
 use Rattle.vub_queue.specs.QueueState.{state_of}
 use Rattle.vub_run.specs.Run.{Stands, played, if_ready, with_lane, with_driver, guest_items, guest_stores, guest}
 use Rattle.vub_device.specs.Requests.{request_of}
@@ -46,7 +49,7 @@ use Rattle.vub_run_laws.proofs.RunsTo.{stands_good, stands_chained, stands_more}
 use Rattle.vub_run_laws.proofs.RunChainsStores.{put_all}
 use Rattle.vub_run_laws.proofs.RunChainsGuests.{guest_scene, part_scene}
 use Rattle.vub_queue_in_run.proofs.QueueAtMoves.{at_offer}
-use Rattle.vub_queue_in_run.specs.QueueAt.{QueueAt}
+use Rattle.vub_queue_in_run.specs.QueueAt.{QueueAt, StartAt}
 use Rattle.vub_world.proofs.MachineLanes.{all_lanes, life_with}
 
 -- ---- the outstanding requests
@@ -125,6 +128,13 @@ offered_outstanding q n cap past heads a head l now at known distinct offers =
 
 -- ---- the moment
 
+-- the driver's stores leave the in-flight region
+region_kept : (q : ℕ) (h : Header1) (stores : List Store) (m : Bytes) → words_of (region_of q h.size) (put_all stores m) ≡ words_of (region_of q h.size) m
+region_kept q h [] m = refl
+region_kept q h (st ∷ stores) m =
+    let first : words_of (region_of q h.size) (put m 0 st.place st.bytes) ≡ words_of (region_of q h.size) m = words_elsewhere (region_of q h.size) m (one_store 0 st.place st.bytes) (inl (λ e. omega (arith, e))) in
+    region_kept q h stores (put m 0 st.place st.bytes) ∙ first
+
 -- the lane after so many of the stores
 abbrev pub stored_lane : ℕ → ℕ → Waiting → Moment → Lane
 stored_lane q count x m = with_driver (after_stores count x (m.lanes q).driver) (m.lanes q)
@@ -136,24 +146,36 @@ offered_scene q h r b s = after_item h (items.Made (entries.Offer q r)) (record 
 abbrev pub moment_with : ℕ → ℕ → Waiting → Moment → Scene → Moment
 moment_with q count x m s = with_lane q (stored_lane q count x m) (record m { scene = s })
 
-offered_life : (q : ℕ) (h : Header1) (setup : QueueSetup) (count : ℕ) (m : Moment) (x : Waiting) (r : Asked) (b : Bytes) (life : Option (Option Queue)) → (offered_scene q h r b m.scene).heads q ≡ m.scene.heads q ++ x.head ∷ [] → Good q h m → LifeAt q h setup m life → LifeAt q h setup (moment_with q count x m (offered_scene q h r b m.scene)) life
-offered_life q h setup count m x r b life heads good at = life_with q h setup (record m { scene = offered_scene q h r b m.scene }) (stored_lane q count x m) life (offered life at)
+offered_life : (q : ℕ) (h : Header1) (setup : QueueSetup) (count : ℕ) (m : Moment) (x : Waiting) (r : Asked) (b : Bytes) (life : Option (Option Queue)) → words_of (region_of q h.size) b ≡ region_in h q m.scene → (offered_scene q h r b m.scene).heads q ≡ m.scene.heads q ++ x.head ∷ [] → Good q h m → LifeAt q h setup m life → LifeAt q h setup (moment_with q count x m (offered_scene q h r b m.scene)) life
+offered_life q h setup count m x r b life same heads good at = life_with q h setup (record m { scene = offered_scene q h r b m.scene }) (stored_lane q count x m) life (offered life at)
   where
     offered : (life : Option (Option Queue)) → LifeAt q h setup m life → LifeAt q h setup (all_lanes (stored_lane q count x m) (record m { scene = offered_scene q h r b m.scene })) life
     offered None at = at
     offered (Some None) at = at
     offered (Some (Some queue)) at =
-        let stands = at_offer q h setup m.scene.past (m.scene.heads q) (m.lanes q).phase (m.lanes q).batch (m.lanes q).completed (m.lanes q).made (state_of queue) r x.head good.holds.known good.holds.worked at.1.2 in
-        (at.0, (at.1.0, at.1.1, subst (λ (hs : List ℕ). QueueAt q h setup (entries.Offer q r ∷ m.scene.past) hs (m.lanes q).phase (m.lanes q).batch (m.lanes q).completed (m.lanes q).made (state_of queue)) (sym heads) stands))
+        let stands = at_offer q h setup m.scene.past (m.scene.heads q) (m.lanes q).phase (m.lanes q).batch (m.lanes q).completed (m.lanes q).made (state_of queue) r x.head good.holds.known good.holds.worked at.1.2.at in
+        let words : region_in h q (offered_scene q h r b m.scene) ≡ region_in h q m.scene = same in (
+          at.0,
+          (
+            at.1.0,
+            at.1.1,
+            record {
+              at = subst (λ (hs : List ℕ). QueueAt q h setup (entries.Offer q r ∷ m.scene.past) hs (m.lanes q).phase (m.lanes q).batch (m.lanes q).completed (m.lanes q).made (state_of queue)) (sym heads) stands;
+              start = subst (λ (w : RegionWords). StartAt q h setup (started m.scene.past q) (m.lanes q).bell (m.lanes q).plan (m.lanes q).phase w (state_of queue)) (sym words) at.1.2.start;
+            },
+          ),
+        )
 
 -- stores that offer nothing are nothing to the device
-stored_life : (q : ℕ) (h : Header1) (setup : QueueSetup) (count : ℕ) (m : Moment) (x : Waiting) (b : Bytes) (life : Option (Option Queue)) → LifeAt q h setup m life → LifeAt q h setup (moment_with q count x m (record m.scene { memory = b })) life
-stored_life q h setup count m x b life at = life_with q h setup (record m { scene = record m.scene { memory = b } }) (stored_lane q count x m) life (stored life at)
+stored_life : (q : ℕ) (h : Header1) (setup : QueueSetup) (count : ℕ) (m : Moment) (x : Waiting) (b : Bytes) (life : Option (Option Queue)) → words_of (region_of q h.size) b ≡ region_in h q m.scene → LifeAt q h setup m life → LifeAt q h setup (moment_with q count x m (record m.scene { memory = b })) life
+stored_life q h setup count m x b life same at = life_with q h setup (record m { scene = record m.scene { memory = b } }) (stored_lane q count x m) life (stored life at)
   where
     stored : (life : Option (Option Queue)) → LifeAt q h setup m life → LifeAt q h setup (all_lanes (stored_lane q count x m) (record m { scene = record m.scene { memory = b } })) life
     stored None at = at
     stored (Some None) at = at
-    stored (Some (Some queue)) at = at
+    stored (Some (Some queue)) at =
+        let start = subst (λ (w : RegionWords). StartAt q h setup (started m.scene.past q) (m.lanes q).bell (m.lanes q).plan (m.lanes q).phase w (state_of queue)) (sym same) at.1.2.start in
+        (at.0, (at.1.0, at.1.1, record { at = at.1.2.at; start = start }))
 
 -- the parts with another memory and front
 abbrev pub with_desk : Parts → WatchedShared → Front → Parts
@@ -196,11 +218,11 @@ offered_at q w memory guest' asked' outstanding es rs m x is count position low 
     let own : (offered_scene q h r b m.scene).heads q ≡ m.scene.heads q ++ x.head ∷ [] = left_offered q h m x r plain.good.size waits entry good.holds.queue in
     let lane : Lane = (moment_with q count x m (offered_scene q h r b m.scene)).lanes q in
     let apart : AreApart q (entries.Offer q r ∷ m.scene.past) (m.scene.heads q ++ x.head ∷ []) =
-    subst (λ (hs : List ℕ). AreApart q (entries.Offer q r ∷ m.scene.past) hs) own (λ j k. heads_apart q h (offered_scene q h r b m.scene) lane.driver lane.batch lane.phase j k good_next.holds.queue) in
+    subst (λ (hs : List ℕ). AreApart q (entries.Offer q r ∷ m.scene.past) hs) own (λ j k. heads_apart q h (offered_scene q h r b m.scene) lane.driver lane.bell lane.plan lane.batch lane.phase j k good_next.holds.queue) in
     let stands : PartsAt q now (moment_with q count x m (offered_scene q h r b m.scene)) = record {
       front = front;
       position = position ∙ at.position;
-      life = offered_life q h w.front.setup count m x r b w.life own good at.life;
+      life = offered_life q h w.front.setup count m x r b w.life (region_kept q h x.left m.scene.memory) own good at.life;
       disk = at.disk;
       outstanding = subst (λ (hs : List ℕ). OutstandingAt q h.size (entries.Offer q r ∷ m.scene.past) hs outstanding) (sym own)
           (offered_outstanding q h.size h.capacity m.scene.past (m.scene.heads q) x.ask x.head w.front.outstanding outstanding at.outstanding good.holds.known apart (goes.outstanding.offers few));
@@ -219,7 +241,7 @@ partly_at q w memory guest' asked' outstanding m x is count position at part goe
     let stands : PartsAt q now (moment_with q count x m (record m.scene { memory = b })) = record {
       front = subst (λ (n : Moment). FrontAt q (desk_of now) n) whole goes.front;
       position = position ∙ at.position;
-      life = stored_life q h w.front.setup count m x b w.life at.life;
+      life = stored_life q h w.front.setup count m x b w.life (region_kept q h (take count x.left) m.scene.memory) at.life;
       disk = at.disk;
       outstanding = subst (λ (l : OutstandingRequests). OutstandingAt q h.size m.scene.past (m.scene.heads q) l) (sym (goes.outstanding.before part)) at.outstanding;
     } in

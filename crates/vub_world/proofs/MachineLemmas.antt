@@ -1,10 +1,12 @@
--- Where the rings of a sound front lie.
+-- Where the rings and the region of a sound front lie.
 use Rattle.std.proofs.Common.{◌≡◌, ◌≤◌, ℕ, ◌+◌, sym, subst, ◌∙◌}
 use Rattle.std.specs.Prelude.{Option}
 use mathlib.Core.Path.{fun_ext}
 use Rattle.vub_driver.specs.Layout.{area_place}
 use Rattle.vub_guest.specs.declared.guest.Guest.{Guest}
 use Rattle.vub_guest.specs.GuestState.{ring_in}
+use Rattle.vub_infl_split.specs.Region.{RegionLies, region_size}
+use Rattle.vub_infl_split.specs.declared.region.SplitRegion.{SplitRegion}
 use Rattle.vub_queue.specs.declared.queue.Queue.{Queue}
 use Rattle.vub_queue_in_run.specs.QueueAt.{SetupLies}
 use Rattle.vub_queue_in_run.proofs.Setups.{setup_lies}
@@ -17,6 +19,13 @@ use Rattle.vub_world.specs.Lives.{LiesInLife}
 
 -- ---- parts that lie in memory
 
+-- a region lies where no size changes
+pub region_lies_still : (old new : ℕ → ℕ) (r : SplitRegion) → ((s : ℕ) → new s ≡ old s) → RegionLies old r → RegionLies new r
+region_lies_still old new r same lies = record {
+  room = subst (λ (k : ℕ). r.place + region_size r.size ≤ k) (sym (same r.space.number)) lies.room;
+  aligned = lies.aligned;
+}
+
 -- a front is sound where no size changes and nothing fails
 pub still_sound : (before now : WatchedShared) (f : Front) → ((s : ℕ) → sizes_in now s ≡ sizes_in before s) → IsUnfailed now → FrontSound before f → FrontSound now f
 still_sound before now f same unfailed sound = record {
@@ -27,6 +36,8 @@ still_sound before now f same unfailed sound = record {
   base = sound.base;
   space = sound.space;
   room = subst (λ (k : ℕ). area_place f.index + 1048576 ≤ k) (sym (same 0)) sound.room;
+  bell = sound.bell;
+  region = region_lies_still (sizes_in before) (sizes_in now) f.setup.region same sound.region;
   unfailed = unfailed;
 }
 
@@ -43,14 +54,16 @@ guest_sound before now f g same unfailed ring sound = record {
   base = sound.base;
   space = sound.space;
   room = subst (λ (k : ℕ). area_place f.index + 1048576 ≤ k) (sym (same 0)) sound.room;
+  bell = sound.bell;
+  region = region_lies_still (sizes_in before) (sizes_in now) f.setup.region same sound.region;
   unfailed = unfailed;
 }
 
--- its rings lie in guest memory
+-- its rings and its region lie in memory
 pub sound_lies : (memory : WatchedShared) (f : Front) → FrontSound memory f → SetupLies (sizes_in memory) f.setup
 sound_lies memory f sound =
     let laps = size_laps f.header.size sound.header.sized in
-    setup_lies f.index (sizes_in memory) f.setup f.header.size sound.room laps.0 laps.1 laps.2 sound.setup
+    setup_lies f.index (sizes_in memory) f.setup f.header.size sound.room sound.region laps.0 laps.1 laps.2 sound.setup
 
 -- ---- the queue of a life
 

@@ -7,13 +7,11 @@ use Rattle.vub_device.specs.Past.{accepted, started}
 use Rattle.vub_world.specs.Fronts.{Parts}
 use Rattle.vub_queue.specs.declared.queue.Queue.{Queue}
 use Rattle.vub_world.specs.MachineAt.{PartsAt, LifeAt, AttachedAt}
-use Rattle.vub_run.specs.Moments.{Lane, Moment, fresh}
-use Rattle.vub_queue_in_run.specs.QueueAt.{QueueStands, QueueAt, IsNewQueue}
-use Rattle.vub_queue.specs.QueueState.{state_of}
+use Rattle.vub_run.specs.Moments.{Lane, Moment, fresh, attached, region_in}
+use Rattle.vub_queue_in_run.specs.QueueAt.{QueueAt, StartAt, IsNewQueue}
+use Rattle.vub_queue.specs.QueueState.{QueueState, state_of}
 use Rattle.vub_run.specs.Run.{played, if_ready, boot, join}
 use Rattle.vub_queue_in_run.proofs.QueueAtMoves.{at_new}
-use Rattle.vub_run_laws.proofs.RunQueue.{phase_at}
-use Rattle.vub_run_laws.proofs.RunGood.{PhaseIs}
 use Rattle.vub_run_laws.proofs.RunTurns.{IsPlain, Good}
 
 -- the parts with that queue of a life
@@ -32,7 +30,7 @@ pub booted_at : (q : ℕ) (w : Parts) (m : Moment) → started m.scene.past q �
 booted_at q w m quiet at = record {
   front = record { memory = at.front.memory; driver = at.front.driver; asks = at.front.asks };
   position = at.position;
-  life = (refl, (refl, refl, quiet));
+  life = (refl, (refl, refl, quiet, refl));
   disk = at.disk;
   outstanding = at.outstanding;
 }
@@ -44,7 +42,7 @@ asleep_at q w m at none = subst (λ (l : Option (Option Queue)). LifeAt q w.fron
 -- ---- the queues are attached
 
 abbrev pub joined : Moment → Moment
-joined m = record m { joined = true; lanes = λ p. record (m.lanes p) { attached = true } }
+joined m = record m { joined = true; lanes = λ p. attached (m.lanes p) }
 
 pub join_plays : (m : Moment) → m.lives ≡ true → m.joined ≡ false → played [] (joined m) ≡ join m
 join_plays m lives new = sym (
@@ -55,25 +53,31 @@ join_plays m lives new = sym (
 pub joining_at : (q : ℕ) (w : Parts) (m : Moment) → PartsAt q w m → w.life ≡ Some None → (m.lives ≡ true) × AttachedAt q w.front.header w.front.setup m None
 joining_at q w m at new = subst (λ (l : Option (Option Queue)). LifeAt q w.front.header w.front.setup m l) new at.life
 
-at_rest : (batch : List ℕ) → PhaseIs batch phases.Rest → batch ≡ []
-at_rest batch is = is
-
-pub joined_at : (q : ℕ) (w : Parts) (m : Moment) (queue : Queue) → IsPlain w.front.header → Good q w.front.header m → w.front.header.base ≡ 0 → w.front.setup.base ≡ w.front.header.base → AttachedAt q w.front.header w.front.setup m None → m.lives ≡ true → IsNewQueue w.front.setup queue → PartsAt q w m
+pub joined_at : (q : ℕ) (w : Parts) (m : Moment) (queue : Queue) → IsPlain w.front.header → Good q w.front.header m → w.front.header.base ≡ 0 → w.front.setup.base ≡ w.front.header.base → w.front.setup.index ≡ q → w.front.setup.bell ≡ true → AttachedAt q w.front.header w.front.setup m None → m.lives ≡ true → IsNewQueue w.front.setup queue → PartsAt q w m
     → PartsAt q (with_life (Some queue) w) (joined m)
-joined_at q w m queue plain good base same new lives made at =
+joined_at q w m queue plain good base same index bell new lives made at =
     let l : Lane = m.lanes q in
     let quiet = good.holds.worked.quiet new.2 in
     let none : accepted m.scene.past q ≡ 0 = good.idle new.2 in
-    let batch : l.batch ≡ [] = subst (λ (p : Phase). PhaseIs l.batch p) quiet.0 (phase_at q w.front.header m.scene (m.lanes q) good.holds) in
     let begins : QueueAt q w.front.header w.front.setup m.scene.past (m.scene.heads q) phases.Rest [] [] l.made (state_of queue) =
     at_new q w.front.header w.front.setup m.scene.past (m.scene.heads q) l.made (state_of queue) (omega (arith, base)) good.holds.known.fewer none new.2 same made.state in
-    let stands : QueueStands q w.front.header w.front.setup (joined m) (state_of queue) =
-    subst (λ (p : Phase). QueueAt q w.front.header w.front.setup m.scene.past (m.scene.heads q) p l.batch l.completed l.made (state_of queue)) (sym quiet.0)
-    (subst (λ (bs : List ℕ). QueueAt q w.front.header w.front.setup m.scene.past (m.scene.heads q) phases.Rest bs l.completed l.made (state_of queue)) (sym batch)
-    (subst (λ (cs : List ℕ). QueueAt q w.front.header w.front.setup m.scene.past (m.scene.heads q) phases.Rest [] cs l.made (state_of queue)) (sym quiet.1.0) begins)) in record {
+    let at_rest : QueueAt q w.front.header w.front.setup m.scene.past (m.scene.heads q) l.phase l.batch l.completed l.made (state_of queue) =
+    subst (λ (p : Phase). QueueAt q w.front.header w.front.setup m.scene.past (m.scene.heads q) p l.batch l.completed l.made (state_of queue)) (sym new.3)
+    (subst (λ (bs : List ℕ). QueueAt q w.front.header w.front.setup m.scene.past (m.scene.heads q) phases.Rest bs l.completed l.made (state_of queue)) (sym quiet.0)
+    (subst (λ (cs : List ℕ). QueueAt q w.front.header w.front.setup m.scene.past (m.scene.heads q) phases.Rest [] cs l.made (state_of queue)) (sym quiet.1.0) begins)) in
+    let start : StartAt q w.front.header w.front.setup (started m.scene.past q) true l.plan l.phase (region_in w.front.header q m.scene) (state_of queue) =
+    subst (λ (p : Phase). StartAt q w.front.header w.front.setup (started m.scene.past q) true l.plan p (region_in w.front.header q m.scene) (state_of queue)) (sym new.3)
+    (subst (λ (s : QueueState). StartAt q w.front.header w.front.setup (started m.scene.past q) true l.plan phases.Rest (region_in w.front.header q m.scene) s) (sym made.state.is) (record {
+      index = index;
+      bell = bell;
+      ring = refl;
+      region = refl;
+      base = same;
+      begun = λ stopped. (record { no_plan = refl; none_done = refl; none_cleared = refl }, refl);
+    })) in record {
       front = record { memory = at.front.memory; driver = at.front.driver; asks = at.front.asks };
       position = at.position;
-      life = (lives, (refl, refl, stands));
+      life = (lives, (refl, refl, record { at = at_rest; start = start }));
       disk = at.disk;
       outstanding = at.outstanding;
     }

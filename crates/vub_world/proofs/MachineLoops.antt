@@ -1,15 +1,10 @@
 -- Where the machine stands in the middle of some turns, and at their end.
 use Rattle.std.proofs.Common.{◌≡◌, ◌≢◌, ◌≤◌, ◌<◌, ℕ, suc, ◌+◌, ◌-◌, ◌*◌, Bool, true, false, List, [], ◌++◌, length, refl, ap, sym, ◌∙◌, subst, inl, inr, arith}
-use Rattle.std.specs.Prelude.{if◌then◌else◌, slice_get, Option, Some, None, nat_lt, min}
+use Rattle.std.specs.Prelude.{Option, Some, None, nat_lt, min}
 use Rattle.std.proofs.lemmas.Bool.Decides.{nat_tests}
 use Rattle.std.proofs.lemmas.Bool.{cases_eq}
 use Rattle.std.proofs.lemmas.List.{append-nil, append_assoc, length-map}
 use Rattle.vub_base.specs.declared.header.Header1.{Header1}
-use Rattle.vub_steps.specs.Steps.{start_steps, fetch_steps, publish_steps}
-use Rattle.vub_steps.specs.declared.steps.Course.{Course}
-use Rattle.vub_run.specs.Turns.{course_of}
-use Rattle.vub_steps.specs.declared.steps.Phase.TheVariants as phases
-use Rattle.vub_steps.specs.declared.steps.Phase.{Phase}
 use Rattle.vub_steps.specs.declared.readiness.Turn.{Turn}
 use Rattle.vub_steps.specs.Readiness.{drain_turn}
 use Rattle.vub_device.specs.Past.{accepted, collected}
@@ -21,16 +16,17 @@ use Rattle.vub_report.specs.declared.items.Record.{Record}
 use Rattle.vub_queue.specs.declared.queue.QueueSetup.{QueueSetup}
 use Rattle.vub_room.specs.Rooms.{RoomState, HasTurnRoom, HasRoom, SpendsStep}
 use Rattle.vub_world.specs.MachineAt.{PartsAt, LifeAt, AttachedAt, IsReached}
-use Rattle.vub_world.specs.MachineDevice.{is_index, batch_in, shown_in, queue_batch, queue_shows}
+use Rattle.vub_world.specs.Lives.{is_started_in}
+use Rattle.vub_world.specs.MachineDevice.{batch_in, shown_in, queue_batch, queue_shows}
 use Rattle.vub_world.specs.declared.device.Sequence.{Sequence}
 use Rattle.vub_world.specs.declared.device.Sequence.TheVariants as sequences
 use Rattle.vub_world.specs.Sequences.{next_turn, choices_from}
-use Rattle.vub_world.specs.MachineSteps.{StepGoes, TurnsGo}
+use Rattle.vub_world.specs.MachineSteps.{StepGoes, TurnsGo, turns_besides}
 use Rattle.vub_run.specs.Moments.{Moment, standing}
 use Rattle.vub_queue_in_run.specs.QueueAt.{QueueStands, spot_of}
-use Rattle.vub_queue.specs.QueueState.{course_in, state_of}
+use Rattle.vub_queue.specs.QueueState.{state_of}
 use Rattle.vub_run.specs.Run.{Stands, Played, turns, one_turn, is_due, then_played}
-use Rattle.vub_world.proofs.MachineRooms.{shown_by, chosen_shows, undone, effort_bound, batch_undone}
+use Rattle.vub_world.proofs.MachineRooms.{shown_by, lane_shows, chosen_shows, undone, effort_bound, batch_undone}
 use Rattle.vub_run_laws.proofs.RunChainsTurns.{turn_gentle}
 use Rattle.vub_run_laws.proofs.RunEnds.{effort_at, effort_small, turn_falls, turns_more}
 use Rattle.vub_run_laws.proofs.RunTurns.{IsPlain, Good}
@@ -39,17 +35,8 @@ use Rattle.vub_run_laws.proofs.RunsTo.{stands_good, stands_turns}
 
 -- ---- what a life shows, and what its lane shows
 
-shows_same : (a b : Course) (p p' : Phase) → a.batch ≡ b.batch → p ≡ p' → shown_by a p ≡ shown_by b p'
-shows_same a b p p' e f = by_batch p ∙ ap (shown_by b) f
-  where
-    by_batch : (p : Phase) → shown_by a p ≡ shown_by b p
-    by_batch phases.Rest = refl
-    by_batch (phases.Start done) = ap (λ (n : ℕ). if is_index (slice_get start_steps done) then n else 0) e
-    by_batch (phases.Fetch done) = ap (λ (n : ℕ). if is_index (slice_get fetch_steps done) then n else 0) e
-    by_batch (phases.Publish done) = ap (λ (n : ℕ). if is_index (slice_get (publish_steps n) done) then n else 0) e
-
 batch_same : (q : ℕ) (h : Header1) (setup : QueueSetup) (m : Moment) (queue : Queue) → QueueStands q h setup m (state_of queue) → length (state_of queue).batch ≡ length (m.lanes q).batch
-batch_same q h setup m queue s = ap (λ (xs : List (ℕ × ℕ)). length xs) s.batch ∙ length-map (m.lanes q).batch (spot_of q h m.scene.past (m.scene.heads q))
+batch_same q h setup m queue s = ap (λ (xs : List (ℕ × ℕ)). length xs) s.at.batch ∙ length-map (m.lanes q).batch (spot_of q h m.scene.past (m.scene.heads q))
 
 pub batch_few : (q : ℕ) (h : Header1) (setup : QueueSetup) (m : Moment) (life : Option (Option Queue)) → LifeAt q h setup m life → length (batch_in life) ≤ length (m.lanes q).batch
 batch_few q h setup m None at = omega arith
@@ -59,13 +46,13 @@ batch_few q h setup m (Some l) at = go l at.1
     go None at = omega arith
     go (Some queue) at = omega (arith, batch_same q h setup m queue at.2)
 
-pub shown_is : (q : ℕ) (h : Header1) (setup : QueueSetup) (m : Moment) (life : Option (Option Queue)) → Good q h m → LifeAt q h setup m life → (m.lanes q).attached ≡ true → shown_in life ≡ shown_by (course_of h (m.lanes q)) (m.lanes q).phase
+pub shown_is : (q : ℕ) (h : Header1) (setup : QueueSetup) (m : Moment) (life : Option (Option Queue)) → Good q h m → LifeAt q h setup m life → (m.lanes q).attached ≡ true → shown_in life ≡ lane_shows (m.lanes q)
 shown_is q h setup m None good at attached = absurd (let asleep : (m.lanes q).attached ≡ false = (good.asleep at).0 in let both : true ≡ false = sym attached ∙ asleep in cc)
 shown_is q h setup m (Some l) good at attached = go l at.1
   where
-    go : (queue : Option Queue) → AttachedAt q h setup m queue → queue_shows queue ≡ shown_by (course_of h (m.lanes q)) (m.lanes q).phase
+    go : (queue : Option Queue) → AttachedAt q h setup m queue → queue_shows queue ≡ lane_shows (m.lanes q)
     go None at = absurd (let both : true ≡ false = sym attached ∙ at.1 in cc)
-    go (Some queue) at = shows_same (course_in (state_of queue)) (course_of h (m.lanes q)) (state_of queue).phase (m.lanes q).phase (batch_same q h setup m queue at.2) at.2.phase
+    go (Some queue) at = ap (λ (n : ℕ). shown_by n (state_of queue).phase) (batch_same q h setup m queue at.2) ∙ ap (shown_by (length (m.lanes q).batch)) at.2.at.phase
 
 -- ---- the loop
 
@@ -80,7 +67,7 @@ pub record TurnsAre (q : ℕ) (h : Header1) (sequence : Sequence) (m : Moment) (
   pub begun : 0 < done → is_due h q (choices_from q h sequence m m) m ≡ true
   pub taken_is : taken + accepted m.scene.past q ≡ accepted p.next.scene.past q
   pub heads_are : p.next.scene.heads q ≡ m.scene.heads q
-  pub falls : done + effort_at q p.next ≤ effort_at q m
+  pub falls : done + effort_at q h p.next ≤ effort_at q h m
   pub room : HasRoom (most - done) (undone q p.next) r
 
 abbrev pub TurnsAt : ℕ → Header1 → Sequence → Moment → ℕ → ℕ → Parts → List Item → List Item → ℕ → RoomState → Type 0
@@ -135,13 +122,25 @@ turn_is q h sequences.Drain m n taken is = ap (λ (a : ℕ). drain_turn h.size a
 
 -- how many turns a machine reserves for, where so many are asked for
 abbrev pub room_of : ℕ → Parts → ℕ
-room_of count w = min count (21 * (w.front.outstanding.offered - w.front.outstanding.collected) + 3)
+room_of count w = min count (21 * (w.front.outstanding.offered - w.front.outstanding.collected) + turns_besides w.front.header.size (is_started_in w.life))
+
+-- no more turns follow where so many are open, and a queue stands there
+pub turns_bound : (q : ℕ) (h : Header1) (setup : QueueSetup) (m : Moment) (queue : Queue) → Good q h m → LifeAt q h setup m (Some (Some queue)) → effort_at q h m + 1 ≤ 21 * undone q m + turns_besides h.size (state_of queue).started
+turns_bound q h setup m queue good at = subst (λ (b : Bool). effort_at q h m + 1 ≤ 21 * undone q m + turns_besides h.size b) (sym at.1.2.at.started) (effort_bound q h m good)
+
+-- that is few
+pub besides_small : (n : ℕ) (b : Bool) → n ≤ 64 → turns_besides n b ≤ 70
+besides_small n true few = omega arith
+besides_small n false few = omega (arith, few)
+
+pub besides_some : (n : ℕ) (b : Bool) → 1 ≤ turns_besides n b
+besides_some n true = omega arith
+besides_some n false = omega arith
 
 -- there is room for one turn more: for as many as are asked for, or for all that can follow
-pub room_left : (q : ℕ) (h : Header1) (sequence : Sequence) (es : List Event) (rs : List Record) (m : Moment) (count undone_all done : ℕ) (now : Parts) (before after : List Item) (taken : ℕ) (r : RoomState) → q < h.queues → Stands h es rs m → undone q m ≤ undone_all → done < count
-    → TurnsAt q h sequence m (min count (21 * undone_all + 3)) done now before after taken r → done < min count (21 * undone_all + 3)
-room_left q h sequence es rs m count all done now before after taken r low stands few more d =
-    let bound = effort_bound q h m (stands_good q h es rs m low stands) in
+pub room_left : (q : ℕ) (h : Header1) (sequence : Sequence) (es : List Event) (rs : List Record) (m : Moment) (count undone_all besides done : ℕ) (now : Parts) (before after : List Item) (taken : ℕ) (r : RoomState) → q < h.queues → Stands h es rs m → undone q m ≤ undone_all → effort_at q h m + 1 ≤ 21 * undone q m + besides → done < count
+    → TurnsAt q h sequence m (min count (21 * undone_all + besides)) done now before after taken r → done < min count (21 * undone_all + besides)
+room_left q h sequence es rs m count all besides done now before after taken r low stands few bound more d =
     omega (arith, bound, few, more, d.falls)
 
 pub turn_room : (q : ℕ) (h : Header1) (sequence : Sequence) (es : List Event) (rs : List Record) (m : Moment) (most done : ℕ) (now : Parts) (before after : List Item) (taken : ℕ) (r : RoomState) → q < h.queues → Stands h es rs m → now.front.header ≡ h → done < most
@@ -184,7 +183,7 @@ turns_go_on q h sequence es rs m most done now next before after after' taken ta
     let taken_are : taken' + accepted n.scene.past q ≡ taken + accepted (one_turn h q t n).next.scene.past q = subst (λ (k : Header1). taken' + accepted n.scene.past q ≡ taken + accepted (one_turn k q t n).next.scene.past q) same went.3 in
     let attached : (n.lanes q).attached ≡ true = grind (arith, nat_tests) in
     let life : LifeAt q h now.front.setup n now.life = subst (λ (k : Header1). LifeAt q k now.front.setup n now.life) same d.at.life in
-    let shown : shown_in now.life ≡ shown_by (course_of h (n.lanes q)) (n.lanes q).phase = shown_is q h now.front.setup n now.life good life attached in
+    let shown : shown_in now.life ≡ lane_shows (n.lanes q) = shown_is q h now.front.setup n now.life good life attached in
     let shows = chosen_shows q h n sequence taken good t (sym is) in
     let heads : (one_turn h q t n).next.scene.heads q ≡ n.scene.heads q = (turn_gentle q h t n plain good).heads in
     let many : length ((one_turn h q t n).next.scene.heads q) ≡ length (n.scene.heads q) = ap (λ (xs : List ℕ). length xs) heads in

@@ -1,23 +1,27 @@
 -- What is noted of a store, of an answer and of a batch, and what room it takes.
 use Rattle.std.proofs.Common.{◌≡◌, ◌<◌, ◌≤◌, ℕ, ◌+◌, ◌++◌, List, [], ◌∷◌, length, take, get_or, Bool, true, false, sym, ap, ◌∙◌, subst, arith, refl}
-use Rattle.std.specs.Prelude.{zero, suc, if◌then◌else◌, ◌==◌, map, slice_get, option_map, Option, Some, None}
+use Rattle.std.specs.Prelude.{zero, suc, if◌then◌else◌, ◌==◌, nat_lt, map, slice_get, option_map, Option, Some, None}
+use Rattle.std.proofs.lemmas.Bool.Decides.{nat_tests}
 use Rattle.std.proofs.lemmas.List.{map-append, take_more}
 use Rattle.std.proofs.lemmas.Option.{slice_get-get_or, slice_get_within, get_or_from_slice_get}
 use Rattle.vub_device.specs.declared.entry.Answered.{Answered}
 use Rattle.vub_world.specs.declared.outstanding.OutstandingRequests.{OutstandingRequests}
 use Rattle.vub_world.specs.OutstandingRequests.{slot_in}
 use Rattle.vub_room.specs.Rooms.{RoomState, SpendsAnswers, SpendsLists, SpendsUpTo}
-use Rattle.vub_queue.specs.QueueState.{course_in, QueueState}
-use Rattle.vub_steps.specs.Steps.{next_step}
+use Rattle.vub_queue.specs.QueueState.{steps_in, QueueState}
+use Rattle.vub_steps.specs.Steps.{next_of}
 use Rattle.vub_steps.specs.declared.steps.Step.TheVariants.{Index}
 use Rattle.vub_base.specs.declared.store.Tag.{Tag}
-use Rattle.vub_base.specs.declared.store.Area.TheVariants.{M}
+use Rattle.vub_base.specs.declared.store.Area.{Area}
 use Rattle.vub_shared.specs.Bytes.{Bytes, cleared}
+use Rattle.vub_shared.specs.Spaces.{HandsNew}
 use Rattle.vub_shared.specs.Stores.{Store, one_store}
+use Rattle.vub_shared.specs.Watched.{handed_in, sizes_in, count_in}
+use Rattle.vub_shared.specs.declared.watched_shared.WatchedShared.{WatchedShared}
 use Rattle.vub_report.specs.declared.items.Item.{Item}
 use Rattle.vub_report.specs.declared.items.Item.TheVariants as items
 use Rattle.vub_world.specs.MachineDevice.{stored_items, answer_for, answers_for, is_index, is_showing}
-use Rattle.vub_world.specs.MachineFront.{IsSmall, OneSmall, store_item}
+use Rattle.vub_world.specs.MachineFront.{area_of, IsSmall, OneSmall, store_item}
 
 -- ---- memory
 
@@ -29,12 +33,20 @@ if_zero false x e = e
 pub cleared_zero : (space : ℕ) (m now : Bytes) → ((s p : ℕ) → m s p ≡ 0) → now ≡ cleared space m → (s p : ℕ) → now s p ≡ 0
 cleared_zero space m now zeros is s p = ap (λ (f : Bytes). f s p) is ∙ if_zero (s == space) (m s p) (zeros s p)
 
+-- a create hands out one space more
+pub one_space_more : (before now : WatchedShared) (space size : ℕ) → HandsNew (handed_in before) (sizes_in before) (handed_in now) (sizes_in now) space size → space ≡ count_in before → count_in now ≡ count_in before + 1
+one_space_more before now space size new is =
+    let joins : handed_in now (count_in before) ≡ true = subst (λ (k : ℕ). handed_in now k ≡ true) is new.joins in
+    let past : nat_lt (count_in before + 1) (count_in before) ≡ false = grind (arith, nat_tests) in
+    let next : handed_in now (count_in before + 1) ≡ false = new.handed (count_in before + 1) (λ e. (let no : ⊥ = omega (arith, e, is) in no)) ∙ past in
+    grind (arith, nat_tests)
+
 -- ---- the one store that is kept
 
 pub record IsOne (stores : List Store) : Type 0 where
   pub st : Store
   pub is : stores ≡ st ∷ []
-  pub small : IsSmall st
+  pub small : IsSmall (area_of st.space) st
 
 pub one_of : (stores : List Store) → OneSmall stores → IsOne stores
 one_of [] none = absurd none
@@ -46,13 +58,15 @@ pub one_item : (stores : List Store) (tag : Tag) (o : IsOne stores) → stored_i
 one_item stores tag o = ap (stored_items tag) o.is
 
 -- an item of it
-pub one_noted : (tag : Tag) (place : ℕ) (bytes kept : List ℕ) (stores : List Store) (o : IsOne stores) (space : ℕ) (before after noted : List Item) → one_store space place bytes ≡ o.st → kept ≡ bytes
-    → before ≡ noted → after ≡ before ++ items.Store tag M place kept ∷ [] → after ≡ noted ++ stored_items tag stores
-one_noted tag place bytes kept stores o space before after noted same copied goes is =
+pub one_noted : (tag : Tag) (area : Area) (place : ℕ) (bytes kept : List ℕ) (stores : List Store) (o : IsOne stores) (space : ℕ) (before after noted : List Item) → one_store space place bytes ≡ o.st → kept ≡ bytes → area ≡ area_of space
+    → before ≡ noted → after ≡ before ++ items.Store tag area place kept ∷ [] → after ≡ noted ++ stored_items tag stores
+one_noted tag area place bytes kept stores o space before after noted same copied in_area goes is =
+    let area_is : area ≡ area_of o.st.space = in_area ∙ ap (λ (st : Store). area_of st.space) same in
     let place_is : place ≡ o.st.place = ap (λ (st : Store). st.place) same in
     let bytes_is : kept ≡ o.st.bytes = copied ∙ ap (λ (st : Store). st.bytes) same in
-    let item : List Item → ℕ → List ℕ → List Item = λ front p bs. front ++ items.Store tag M p bs ∷ [] in
-    is ∙ ap (λ (front : List Item). item front place kept) goes ∙ ap (λ (p : ℕ). item noted p kept) place_is ∙ ap (item noted o.st.place) bytes_is
+    let item : List Item → Area → ℕ → List ℕ → List Item = λ front a p bs. front ++ items.Store tag a p bs ∷ [] in
+    is ∙ ap (λ (front : List Item). item front area place kept) goes ∙ ap (λ (a : Area). item noted a place kept) area_is ∙ ap (λ (p : ℕ). item noted (area_of o.st.space) p kept) place_is
+    ∙ ap (item noted (area_of o.st.space) o.st.place) bytes_is
     ∙ ap (λ (is : List Item). noted ++ is) (sym (one_item stores tag o))
 
 -- ---- the answers of a batch
@@ -96,7 +110,7 @@ spends_more count r s t so one = record {
 }
 
 -- what the next step shows
-pub spends_up : (state : QueueState) (r now : RoomState) → next_step (course_in state) state.phase ≡ Some Index → (is_showing state ≡ true → 1 ≤ length state.batch) → SpendsAnswers (length state.batch) r now
+pub spends_up : (state : QueueState) (r now : RoomState) → next_of (steps_in state) state.phase ≡ Some Index → (is_showing state ≡ true → 1 ≤ length state.batch) → SpendsAnswers (length state.batch) r now
     → SpendsUpTo (if is_showing state then length state.batch else 0) r now
 spends_up state r now next some spends =
     let shows : is_showing state ≡ true = ap is_index next in

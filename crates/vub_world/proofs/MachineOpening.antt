@@ -1,5 +1,5 @@
 -- The machine at the opening.
-use Rattle.std.proofs.Common.{◌≡◌, ◌<◌, ℕ, ◌+◌, ◌-◌, ◌*◌, ◌%◌, length, Bool, true, false, sym, ap, ◌∙◌, subst, inl, inr, arith, refl, List, [], ◌∷◌, ◌++◌, ◌⊎◌}
+use Rattle.std.proofs.Common.{◌≡◌, ◌<◌, ◌≤◌, ℕ, ◌+◌, ◌-◌, ◌*◌, ◌%◌, length, Bool, true, false, sym, ap, ◌∙◌, subst, inl, inr, arith, refl, List, [], ◌∷◌, ◌++◌, ◌⊎◌}
 use Rattle.std.specs.Prelude.{zero, suc, if◌then◌else◌, ◌==◌, ◌&&◌, nat_lt, nat_le, slice_index, slice_get, replicate, Option, Some, None}
 use Rattle.byteorder.specs.Endian.{little_bytes}
 use mathlib.Core.Path.{fun_ext}
@@ -8,6 +8,8 @@ use Rattle.vub_shared.specs.Bytes.{Bytes, put}
 use Rattle.vub_shared.specs.Watched.{bytes_in, sizes_in, IsUnfailed}
 use Rattle.vub_device.specs.Requests.{zeros}
 use Rattle.vub_driver.specs.Layout.{ring_of}
+use Rattle.vub_infl_split.specs.Region.{RegionLies, region_size}
+use Rattle.vub_infl_split.specs.declared.region.SplitRegion.{SplitRegion}
 use Rattle.vub_memdisk.specs.MemDisks.{values_of, capacity_of}
 use Rattle.vub_ring.specs.Ring.{Ring}
 use Rattle.vub_schedule.specs.Spelling.{IsHeader}
@@ -18,14 +20,16 @@ use Rattle.vub_world.specs.declared.machine.Machine.{Machine}
 use Rattle.vub_world.specs.Fronts.{FrontSound, IsNewFront, AreNewFronts, AreNewQueues, offered_by}
 use Rattle.vub_world.specs.Lives.{IsOnInLife, LiesInLife, life_of}
 use Rattle.vub_world.specs.declared.machine.Life.{Life}
+use Rattle.std.proofs.Math.Nat.{mul-le-mul_right}
 use Rattle.std.proofs.lemmas.List.{length_push}
 use Rattle.std.proofs.lemmas.Option.{slice_get_within}
 use Rattle.vub_queue.specs.declared.queue.Queue.{Queue}
 use Rattle.vub_world.specs.Machine.{IsSound, AreInLife}
 use Rattle.vub_world.specs.OutstandingRequests.{offered_in}
+use Rattle.vub_world.specs.Regions.{inflight_size}
 use Rattle.vub_world.specs.MachineAt.{MachineAt, LifeAt}
 use Rattle.vub_run.specs.Memory.{opening_memory, opened, with_indexes}
-use Rattle.vub_run.specs.Moments.{opening}
+use Rattle.vub_run.specs.Moments.{opening, region_of}
 
 -- ---- the memory of a world in which nothing has happened
 
@@ -53,8 +57,15 @@ opening_zero h is s p = ap (λ (k : ℕ). opened h k s p) is.one ∙ indexes_zer
 
 -- ---- the world itself
 
-pub new_sound : (h : Header1) (q : ℕ) (memory : WatchedShared) (f : Front) → IsHeader h → IsNewFront h q f → q < h.queues → sizes_in memory 0 ≡ 1048576 * h.queues → IsUnfailed memory → FrontSound memory f
-new_sound h q memory f is new low size unfailed = record {
+-- the part of each queue lies in a space that has room for all of them
+pub part_lies : (h : Header1) (q : ℕ) (sizes : ℕ → ℕ) → q < h.queues → sizes 1 ≡ inflight_size h → RegionLies sizes (region_of q h.size)
+part_lies h q sizes low size = record {
+  room = let inside : (q + 1) * region_size h.size ≤ h.queues * region_size h.size = mul-le-mul_right (region_size h.size) (let e : q + 1 ≤ h.queues = omega (arith, low) in e) in omega (arith, size, inside);
+  aligned = omega arith;
+}
+
+pub new_sound : (h : Header1) (q : ℕ) (memory : WatchedShared) (f : Front) → IsHeader h → IsNewFront h q f → q < h.queues → sizes_in memory 0 ≡ 1048576 * h.queues → sizes_in memory 1 ≡ inflight_size h → IsUnfailed memory → FrontSound memory f
+new_sound h q memory f is new low size inflight unfailed = record {
   header = subst (λ (k : Header1). IsHeader k) (sym new.header) is;
   exists = omega (arith, new.index, low, ap (λ (k : Header1). k.queues) new.header);
   guest = new.guest ∙ ap (λ (k : Header1). ring_of q k.size) (sym new.header) ∙ ap (λ (p : ℕ). ring_of p f.header.size) (sym new.index);
@@ -62,6 +73,8 @@ new_sound h q memory f is new low size unfailed = record {
   base = new.base ∙ ap (λ (k : Header1). k.base) (sym new.header);
   space = new.space;
   room = omega (arith, new.index, low, size);
+  bell = new.bell;
+  region = subst (λ (r : SplitRegion). RegionLies (sizes_in memory) r) (sym new.setup.region) (part_lies h q (sizes_in memory) low inflight);
   unfailed = unfailed;
 }
 
@@ -130,8 +143,8 @@ one_queue_more count fronts queues f queue now new here made is = subst (λ (xs 
 
 -- ---- the world is sound
 
-pub opening_sound : (w : Machine) → IsHeader w.header → sizes_in w.memory 0 ≡ 1048576 * w.header.queues → IsUnfailed w.memory → AreNewFronts w.header w.header.queues w.fronts.items → w.life ≡ None → capacity_of w.disk ≡ w.header.capacity → IsSound w
-opening_sound w is size unfailed fronts life disk = record {
+pub opening_sound : (w : Machine) → IsHeader w.header → sizes_in w.memory 0 ≡ 1048576 * w.header.queues → sizes_in w.memory 1 ≡ inflight_size w.header → IsUnfailed w.memory → AreNewFronts w.header w.header.queues w.fronts.items → w.life ≡ None → capacity_of w.disk ≡ w.header.capacity → IsSound w
+opening_sound w is size inflight unfailed fronts life disk = record {
   header = is;
   many = fronts.many;
   attached = subst (λ (l : Option Life). AreInLife w.header.queues l) (sym life) tt;
@@ -142,7 +155,7 @@ opening_sound w is size unfailed fronts life disk = record {
       let low : q < w.header.queues = omega (arith, slice_get_within w.fronts.items q f there, fronts.many) in
       record {
         index = new.index;
-        front = new_sound w.header q w.memory f is new low size unfailed;
+        front = new_sound w.header q w.memory f is new low size inflight unfailed;
         queue = subst (λ (l : Option Life). IsOnInLife f.setup (life_of q l)) (sym life) tt;
         disk = disk ∙ ap (λ (h : Header1). h.capacity) (sym new.header);
         lies = subst (λ (l : Option Life). LiesInLife (sizes_in w.memory) (capacity_of w.disk) (life_of q l)) (sym life) tt;

@@ -150,7 +150,7 @@ front_sound w memory q f g sound is keeps front sizes = record {
 pub asked_sound : (w : Machine) (q : ℕ) (f g : Front) → IsSound w → slice_get w.fronts.items q ≡ Some f → g ≡ record f { guest = g.guest; asked = g.asked } → ring_in g.guest ≡ ring_in f.guest → IsSound (with_front_at w w.memory q g)
 asked_sound w q f g sound is frame ring =
     let old = (sound.parts q f is).front in
-    let asked : FrontSound w.memory (record f { guest = g.guest; asked = g.asked }) = record { header = old.header; exists = old.exists; guest = ring ∙ old.guest; setup = old.setup; base = old.base; space = old.space; room = old.room; unfailed = old.unfailed } in
+    let asked : FrontSound w.memory (record f { guest = g.guest; asked = g.asked }) = record { header = old.header; exists = old.exists; guest = ring ∙ old.guest; setup = old.setup; base = old.base; space = old.space; room = old.room; bell = old.bell; region = old.region; unfailed = old.unfailed } in
     front_sound w w.memory q f g sound is (record { header = ap (λ (x : Front). x.header) frame; index = ap (λ (x : Front). x.index) frame; setup = ap (λ (x : Front). x.setup) frame }) (subst (λ (x : Front). FrontSound w.memory x) (sym frame) asked) (λ s. refl)
 
 pub front_at : (w : Machine) (memory : WatchedShared) (q : ℕ) (f g : Front) (next : Moment) → IsSound w → slice_get w.fronts.items q ≡ Some f → PartsAt q (with_desk (parts_of q f w) memory g) next → MachineAt (with_front_at w memory q g) next

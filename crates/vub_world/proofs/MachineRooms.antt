@@ -1,5 +1,5 @@
 -- How much turns publish, and how much room their items need.
-use Rattle.std.proofs.Common.{◌≡◌, ◌≤◌, ℕ, zero, suc, ◌+◌, ◌-◌, ◌*◌, Bool, true, false, List, [], ◌∷◌, ◌++◌, length, map, refl, ap, sym, ◌∙◌, subst, inl, inr, arith, length-append}
+use Rattle.std.proofs.Common.{◌≡◌, ◌≤◌, ℕ, zero, suc, ◌+◌, ◌-◌, ◌*◌, Bool, true, false, cond, List, [], ◌∷◌, ◌++◌, length, map, refl, ap, sym, ◌∙◌, subst, inl, inr, arith, length-append}
 use Rattle.std.specs.Prelude.{◌||◌, if◌then◌else◌, Option, Some, None, take, slice_get, nat_lt, ⊤}
 use Rattle.std.proofs.lemmas.Bool.Decides.{nat_tests}
 use Rattle.std.proofs.lemmas.Bool.{cases_Bool}
@@ -12,9 +12,8 @@ use Rattle.vub_steps.specs.declared.readiness.Standing.{Standing}
 use Rattle.vub_steps.specs.declared.readiness.Turn.{Turn}
 use Rattle.vub_steps.specs.declared.readiness.Turn.TheVariants as turns
 use Rattle.vub_steps.specs.Readiness.{is_publication, any_turn, draining_turn}
-use Rattle.vub_steps.specs.Rows.{Row}
-use Rattle.vub_steps.specs.declared.steps.Course.{Course}
-use Rattle.vub_steps.specs.Steps.{publish_steps, next_step}
+use Rattle.vub_steps.specs.Rows.{Row, row_of}
+use Rattle.vub_steps.specs.Steps.{publish_steps, running_steps, next_of, next_step}
 use Rattle.vub_device.specs.declared.entry.Asked.{Asked}
 use Rattle.vub_device.specs.declared.entry.Entry.{Entry}
 use Rattle.vub_device.specs.declared.entry.SectorValue.{SectorValue}
@@ -25,18 +24,21 @@ use Rattle.vub_device.proofs.Numbers.{is_among_append}
 use Rattle.vub_world.specs.declared.device.Sequence.{Sequence}
 use Rattle.vub_world.specs.declared.device.Sequence.TheVariants as sequences
 use Rattle.vub_world.specs.Sequences.{next_turn}
+use Rattle.vub_driver.specs.Layout.{ring_of}
+use Rattle.vub_queue_in_run.specs.QueueAt.{kept_phase}
 use Rattle.vub_world.specs.MachineDevice.{is_index}
+use Rattle.vub_world.specs.MachineSteps.{turns_besides}
 use Rattle.vub_run.specs.Memory.{Scene, after_items}
-use Rattle.vub_run.specs.Moments.{Lane, Moment, standing, unfinished}
+use Rattle.vub_run.specs.Moments.{Lane, Moment, region_of, standing, unfinished}
 use Rattle.vub_run.specs.Run.{one_turn}
 use Rattle.vub_steps.specs.Tasks.{RequestStep, Look, Put, Act, Sync, Status, task_steps}
 use Rattle.vub_run.specs.TaskItems.{look_items, act_items}
-use Rattle.vub_run.specs.Turns.{course_of, turned, work_turn, request_turn, task_turn, phase_turn, phase_goes_on, under_way, begun, is_rest, row_items, step_stores, answer_at}
-use Rattle.vub_run_laws.proofs.RunQueue.{phase_at}
+use Rattle.vub_run.specs.Turns.{course_of, sight_of, turned, work_turn, request_turn, task_turn, phase_turn, phase_goes_on, under_way, begun, is_rest, row_items, step_stores, answer_at}
+use Rattle.vub_run_laws.proofs.RunQueue.{phase_at, queue_start}
 use Rattle.vub_run_laws.proofs.RunNumbers.{missing-among, distinct_join}
 use Rattle.vub_facts.proofs.HeadLemmas.{few_below}
 use Rattle.vub_run_laws.proofs.RunGood.{Known, Worked}
-use Rattle.vub_run_laws.proofs.RunEfforts.{weight, sum_below, weight_small}
+use Rattle.vub_run_laws.proofs.RunEfforts.{weight, sum_below, steps_left, weight_small}
 use Rattle.vub_run_laws.proofs.RunEnds.{effort_at, missing_distinct, phase_few, start_few}
 use Rattle.vub_device.specs.declared.entry.Answered.{Answered}
 use Rattle.vub_run_laws.proofs.RunOwn.{published_own}
@@ -72,33 +74,48 @@ work_shows : (q : ℕ) (h : Header1) (s : Scene) (l : Lane) (o : Option ℕ) →
 work_shows q h s l None = refl
 work_shows q h s l (Some k) = request_shows q h s l k (asked s.past q k)
 
--- how many answers the next step of a phase shows
-abbrev pub shown_by : Course → Phase → ℕ
-shown_by course p = if is_index (next_step course p) then course.batch else 0
+-- how many answers the next step of a queue in this phase shows, whose batch has so many requests
+abbrev pub shown_by : ℕ → Phase → ℕ
+shown_by batch p = if is_index (next_of (running_steps batch p) p) then batch else 0
+
+-- that of a lane; none in a start
+abbrev pub lane_shows : Lane → ℕ
+lane_shows l = shown_by (length l.batch) (kept_phase l.phase)
 
 abbrev step_shown : ℕ → Option Step → ℕ
 step_shown batch o = if is_index o then batch else 0
 
-row_shows : (q : ℕ) (h : Header1) (s : Scene) (o : Option Row) → count_in q (after_items h (row_items o ++ []) s) ≡ count_in q s
+row_shows : (q : ℕ) (h : Header1) (s : Scene) (o : Option Row) → count_in q (after_items h ((row_items o ++ []) ++ []) s) ≡ count_in q s
 row_shows q h s None = refl
 row_shows q h s (Some x) = refl
 
-stores_show : (q : ℕ) (h : Header1) (s : Scene) (batch : List ℕ) (step : Step) → count_in q (after_items h (step_stores h q batch step s ++ []) s) ≡ count_in q s
-stores_show q h s batch step = row_shows q h s _
-
 step_shows : (q : ℕ) (h : Header1) (s : Scene) (l : Lane) (step : Step) → count_in q (after_items h (phase_turn h q s l (Some step)).items s) ≡ count_in q s + step_shown (length l.batch) (Some step)
+step_shows q h s l steps.Features = omega arith
+step_shows q h s l (steps.Free i) = omega arith
+step_shows q h s l steps.Open = omega arith
+step_shows q h s l (steps.Settle place) = omega arith
+step_shows q h s l steps.SettleEnd = omega arith
+step_shows q h s l steps.Bell = omega arith
 step_shows q h s l steps.Start = omega arith
 step_shows q h s l steps.Accept = omega arith
-step_shows q h s l (steps.Id e) = stores_show q h s l.batch (steps.Id e) ∙ omega arith
-step_shows q h s l (steps.Len e) = stores_show q h s l.batch (steps.Len e) ∙ omega arith
+step_shows q h s l (steps.Id e) = row_shows q h s (row_of (ring_of q h.size) (region_of q h.size) (sight_of h q s l) (steps.Id e)) ∙ omega arith
+step_shows q h s l (steps.Len e) = row_shows q h s (row_of (ring_of q h.size) (region_of q h.size) (sight_of h q s l) (steps.Len e)) ∙ omega arith
 step_shows q h s l steps.Index =
-    let s' : Scene = after_items h (step_stores h q l.batch steps.Index s) s in
+    let s' : Scene = after_items h (step_stores h q l steps.Index s) s in
     let list : List Answered = map (answer_at q s') l.batch in
     ap (λ (ks : List ℕ). length ks) (published_own s.past q list) ∙ length-append (published s.past q) (numbers list) ∙ ap (λ (ks : List ℕ). length (published s.past q) + length ks) (numbers_answers q s' l.batch)
 
 phase_shows : (q : ℕ) (h : Header1) (s : Scene) (l : Lane) (o : Option Step) → count_in q (after_items h (phase_turn h q s l o).items s) ≡ count_in q s + step_shown (length l.batch) o
 phase_shows q h s l None = omega arith
 phase_shows q h s l (Some step) = step_shows q h s l step
+
+-- nothing is shown of no batch
+none_shown : (o : Option Step) (n : ℕ) → n ≡ 0 → step_shown n o ≡ 0
+none_shown o n none = go (is_index o)
+  where
+    go : (b : Bool) → (if b then n else 0) ≡ 0
+    go true = none
+    go false = refl
 
 -- a turn that isn't work on a request
 abbrev IsOfQueue : Turn → Type 0
@@ -112,19 +129,22 @@ begun_shows most l none = go (length (take most l.completed))
     go zero = refl
     go (suc n) = refl
 
-rests : (q : ℕ) (h : Header1) (s : Scene) (l : Lane) (t : Turn) → IsOfQueue t → is_rest l.phase ≡ true → l.batch ≡ [] → count_in q (after_items h (phase_goes_on h q s (under_way t l)).items s) ≡ count_in q s
-rests q h s l t of_queue rest none = subst (λ (b : Bool). count_in q (after_items h (phase_goes_on h q s (if b then begun t l else l)).items s) ≡ count_in q s) (sym rest) (go t of_queue)
+rests : (q : ℕ) (h : Header1) (s : Scene) (l : Lane) (t : Turn) → IsOfQueue t → is_rest l.phase ≡ true → l.batch ≡ [] → count_in q (after_items h (phase_goes_on h q s (under_way h q s t l)).items s) ≡ count_in q s
+rests q h s l t of_queue rest none = subst (λ (b : Bool). count_in q (after_items h (phase_goes_on h q s (if b then begun h q s t l else l)).items s) ≡ count_in q s) (sym rest) (go t of_queue)
   where
-    go : (t : Turn) → IsOfQueue t → count_in q (after_items h (phase_goes_on h q s (begun t l)).items s) ≡ count_in q s
-    go turns.Start is = refl
+    go : (t : Turn) → IsOfQueue t → count_in q (after_items h (phase_goes_on h q s (begun h q s t l)).items s) ≡ count_in q s
+    go turns.Start is =
+        let l' : Lane = begun h q s turns.Start l in
+        let o : Option Step = next_step (course_of h l') l'.phase in
+        phase_shows q h s l' o ∙ (let none' = none_shown o (length l.batch) (ap (λ (ks : List ℕ). length ks) none) in omega (arith, none'))
     go turns.Fetch is = refl
     go (turns.Publish most) is =
-        phase_shows q h s (begun (turns.Publish most) l) (slice_get (publish_steps (length (take most l.completed))) 0) ∙ (let none' = begun_shows most l none in omega (arith, none'))
+        phase_shows q h s (begun h q s (turns.Publish most) l) (slice_get (publish_steps (length (take most l.completed))) 0) ∙ (let none' = begun_shows most l none in omega (arith, none'))
     go (turns.Work place) is = absurd is
 
-goes_on : (q : ℕ) (h : Header1) (s : Scene) (l : Lane) (t : Turn) → is_rest l.phase ≡ false → count_in q (after_items h (phase_goes_on h q s (under_way t l)).items s) ≡ count_in q s + shown_by (course_of h l) l.phase
+goes_on : (q : ℕ) (h : Header1) (s : Scene) (l : Lane) (t : Turn) → is_rest l.phase ≡ false → count_in q (after_items h (phase_goes_on h q s (under_way h q s t l)).items s) ≡ count_in q s + step_shown (length l.batch) (next_step (course_of h l) l.phase)
 goes_on q h s l t busy =
-    subst (λ (b : Bool). count_in q (after_items h (phase_goes_on h q s (if b then begun t l else l)).items s) ≡ count_in q s + shown_by (course_of h l) l.phase) (sym busy)
+    subst (λ (b : Bool). count_in q (after_items h (phase_goes_on h q s (if b then begun h q s t l else l)).items s) ≡ count_in q s + step_shown (length l.batch) (next_step (course_of h l) l.phase)) (sym busy)
     (phase_shows q h s l (next_step (course_of h l) l.phase))
 
 -- while a batch is published no work on a request comes first
@@ -155,13 +175,21 @@ publishing_turn q h m sequences.Drain taken publishes =
 
 -- the turn that comes next publishes as many as its step shows
 pub chosen_shows : (q : ℕ) (h : Header1) (m : Moment) (sequence : Sequence) (taken : ℕ) → Good q h m → (t : Turn) → t ≡ next_turn q h sequence taken m
-    → length (published (one_turn h q t m).next.scene.past q) ≡ length (published m.scene.past q) + shown_by (course_of h (m.lanes q)) (m.lanes q).phase
-chosen_shows q h m sequence taken good t is = elim (phase_cases l.batch l.phase (phase_at q h m.scene (m.lanes q) good.holds)) [
+    → length (published (one_turn h q t m).next.scene.past q) ≡ length (published m.scene.past q) + lane_shows (m.lanes q)
+chosen_shows q h m sequence taken good t is = elim (phase_cases h.size l.bell l.plan l.batch l.phase (phase_at q h m.scene (m.lanes q) good.holds)) [
   | inl rest ↦
-      let none : shown_by (course_of h l) l.phase ≡ 0 = ap (λ (p : Phase). shown_by (course_of h l) p) rest.0 in
+      let none : lane_shows l ≡ 0 = ap (λ (p : Phase). shown_by (length l.batch) (kept_phase p)) rest.0 in
       let same : count_in q (after_items h (turned h q t m).items s) ≡ count_in q s = resting t (ap is_rest rest.0) rest.1 in
       omega (arith, none, same)
-  | inr shows ↦ publishes t (subst IsOfQueue (sym is) (publishing_turn q h m sequence taken (ap is_publication shows.1))) (ap is_rest shows.1)
+  | inr (inl shows) ↦
+      let here : step_shown (length l.batch) (next_step (course_of h l) l.phase) ≡ lane_shows l =
+      ap (λ (p : Phase). step_shown (length l.batch) (next_step (course_of h l) p)) shows.1.0 ∙ sym (ap (λ (p : Phase). shown_by (length l.batch) (kept_phase p)) shows.1.0) in
+      let more = goes_on_with t (subst IsOfQueue (sym is) (publishing_turn q h m sequence taken (ap is_publication shows.1.0))) (ap is_rest shows.1.0) in
+      omega (arith, here, more)
+  | inr (inr starts) ↦
+      let none : lane_shows l ≡ 0 = ap (λ (p : Phase). shown_by (length l.batch) (kept_phase p)) starts.1.0 in
+      let same : count_in q (after_items h (turned h q t m).items s) ≡ count_in q s = starting t (ap is_rest starts.1.0) starts.1.1 in
+      omega (arith, none, same)
 ]
   where
     s : Scene
@@ -176,11 +204,23 @@ chosen_shows q h m sequence taken good t is = elim (phase_cases l.batch l.phase 
     resting (turns.Publish most) rest none = rests q h s l (turns.Publish most) tt rest none
     resting (turns.Work place) rest none = work_shows q h s l (slice_get (unfinished q m) place)
 
-    publishes : (t : Turn) → IsOfQueue t → is_rest l.phase ≡ false → count_in q (after_items h (turned h q t m).items s) ≡ count_in q s + shown_by (course_of h l) l.phase
-    publishes turns.Start of_queue busy = goes_on q h s l turns.Start busy
-    publishes turns.Fetch of_queue busy = goes_on q h s l turns.Fetch busy
-    publishes (turns.Publish most) of_queue busy = goes_on q h s l (turns.Publish most) busy
-    publishes (turns.Work place) of_queue busy = absurd of_queue
+    goes_on_with : (t : Turn) → IsOfQueue t → is_rest l.phase ≡ false → count_in q (after_items h (turned h q t m).items s) ≡ count_in q s + step_shown (length l.batch) (next_step (course_of h l) l.phase)
+    goes_on_with turns.Start of_queue busy = goes_on q h s l turns.Start busy
+    goes_on_with turns.Fetch of_queue busy = goes_on q h s l turns.Fetch busy
+    goes_on_with (turns.Publish most) of_queue busy = goes_on q h s l (turns.Publish most) busy
+    goes_on_with (turns.Work place) of_queue busy = absurd of_queue
+
+    starting_with : (t : Turn) → IsOfQueue t → is_rest l.phase ≡ false → l.batch ≡ [] → count_in q (after_items h (turned h q t m).items s) ≡ count_in q s
+    starting_with t of_queue busy none =
+        let nothing : step_shown (length l.batch) (next_step (course_of h l) l.phase) ≡ 0 = none_shown (next_step (course_of h l) l.phase) (length l.batch) (ap (λ (ks : List ℕ). length ks) none) in
+        let more = goes_on_with t of_queue busy in
+        omega (arith, nothing, more)
+
+    starting : (t : Turn) → is_rest l.phase ≡ false → l.batch ≡ [] → count_in q (after_items h (turned h q t m).items s) ≡ count_in q s
+    starting turns.Start busy none = starting_with turns.Start tt busy none
+    starting turns.Fetch busy none = starting_with turns.Fetch tt busy none
+    starting (turns.Publish most) busy none = starting_with (turns.Publish most) tt busy none
+    starting (turns.Work place) busy none = work_shows q h s l (slice_get (unfinished q m) place)
 
 -- ---- how much is left to do, by how many requests are offered and not published
 
@@ -229,7 +269,11 @@ all_few q n cap past heads phase batch completed made known w =
 abbrev pub undone : ℕ → Moment → ℕ
 undone q m = length (m.scene.heads q) - length (published m.scene.past q)
 
-pub effort_bound : (q : ℕ) (h : Header1) (m : Moment) → Good q h m → effort_at q m ≤ 21 * undone q m + 2
+besides_few : (n : ℕ) (b : Bool) (x : ℕ) → cond {A = ℕ} b 0 x ≤ n + 4 → cond {A = ℕ} b 0 x + 2 ≤ turns_besides n b
+besides_few n true x few = omega arith
+besides_few n false x few = omega (arith, few)
+
+pub effort_bound : (q : ℕ) (h : Header1) (m : Moment) → Good q h m → effort_at q h m + 1 ≤ 21 * undone q m + turns_besides h.size (started m.scene.past q)
 effort_bound q h m good =
     let s : Scene = m.scene in
     let l : Lane = m.lanes q in
@@ -238,7 +282,7 @@ effort_bound q h m good =
     let all = all_few q h.size h.capacity s.past (s.heads q) l.phase l.batch l.completed l.made known good.holds.worked in
     let sum = sum_left (published s.past q) (l.completed ++ l.batch) l.made (accepted s.past q) in
     let stores = phase_few l.batch l.phase in
-    let begins = start_few (started s.past q) in
+    let begins = besides_few h.size (started s.past q) (steps_left h.size l.bell l.plan l.phase) (start_few (started s.past q) h.size l.bell l.plan l.phase (queue_start q h s l good.holds)) in
     omega (arith, all, sum, stores, begins)
 
 -- what a batch shows is not published yet

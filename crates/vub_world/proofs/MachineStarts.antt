@@ -104,7 +104,7 @@ joined_on w l qs es rs m sound new joining has stands at = record {
       let made = new.each q f there.0 is there.1 in
       let none = joining_at q (parts_of q f w) m (at.queues q f is) (life_joining w.life q joining) in
       subst (λ (o : Option (Option Queue)). PartsAt q (record (parts_of q f w) { life = o }) (joined m)) (sym life)
-      (joined_at q (parts_of q f w) m there.0 (plain_header h s.header) (stands_good q h es rs m (the_low w q f sound is) s) s.header.begins (sound.parts q f is).front.base none.1 none.0 made (at.queues q f is));
+      (joined_at q (parts_of q f w) m there.0 (plain_header h s.header) (stands_good q h es rs m (the_low w q f sound is) s) s.header.begins (sound.parts q f is).front.base ((sound.parts q f is).front.setup.index ∙ (sound.parts q f is).index) (sound.parts q f is).front.bell none.1 none.0 made (at.queues q f is));
 }
 
 -- ---- where they aren't ready

@@ -33,17 +33,17 @@ pub standing_few : (q : ℕ) (w : Parts) → PartsStand q w → w.front.outstand
 standing_few q w s = outstanding_few q w.front.header s.2.0 w (plain_header w.front.header s.2.1.header) (stands_good q w.front.header s.0 s.1 s.2.0 s.2.3 s.2.1) s.2.2
 
 -- room for one turn
-pub single_room : (q : ℕ) (w : Parts) (r : RoomState) → PartsStand q w → HasRoom (min 1 (21 * (w.front.outstanding.offered - w.front.outstanding.collected) + 3)) (w.front.outstanding.offered - w.front.outstanding.collected) r → HasTurnRoom (length (batch_in w.life)) r
-single_room q w r s room =
+pub single_room : (q : ℕ) (w : Parts) (besides : ℕ) (r : RoomState) → 1 ≤ besides → PartsStand q w → HasRoom (min 1 (21 * (w.front.outstanding.offered - w.front.outstanding.collected) + besides)) (w.front.outstanding.offered - w.front.outstanding.collected) r → HasTurnRoom (length (batch_in w.life)) r
+single_room q w besides r some s room =
     let m : Moment = s.2.0 in
     let good = stands_good q w.front.header s.0 s.1 m s.2.3 s.2.1 in
     let batch = batch_few q w.front.header w.front.setup m w.life s.2.2.life in
     let not_yet = batch_undone q w.front.header m good in
     let few = undone_few q w.front.header m w good s.2.2 in
     record {
-      items = omega (arith, room.items);
-      lists = omega (arith, room.lists, batch, not_yet, few);
-      answer_lists = omega (arith, room.answer_lists);
+      items = omega (arith, some, room.items);
+      lists = omega (arith, some, room.lists, batch, not_yet, few);
+      answer_lists = omega (arith, some, room.answer_lists);
       answers = omega (arith, room.answers, batch, not_yet, few);
     }
 

@@ -1,12 +1,13 @@
 -- A turn of the device at a moment of a run: start, fetch and publication.
 use Rattle.std.proofs.Common.{◌≡◌, ◌≤◌, ◌<◌, ◌⊎◌, ℕ, ◌+◌, ◌*◌, Bool, true, false, List, [], ◌∷◌, ◌++◌, length, map, cond, refl, ap, sym, ◌∙◌, subst, inl, inr, arith}
-use Rattle.std.specs.Prelude.{Option, Some, None, Result, Ok, unwrap_or, slice_index, ◌==◌, ◌||◌, ⊤}
+use Rattle.std.specs.Prelude.{Option, Some, None, Result, Ok, unwrap_or, slice_index, option_map, slice_get, ◌==◌, ◌||◌, ⊤}
 use Rattle.std.proofs.lemmas.Bool.Decides.{nat_tests}
 use Rattle.vub_run_laws.proofs.RunQueue.{phase_at, queue_ahead, head_below}
 use Rattle.vub_base.specs.declared.header.Header1.{Header1}
 use Rattle.vub_base.specs.declared.store.Tag.{Tag}
 use Rattle.vub_base.specs.declared.store.Tag.TheVariants.{SP5}
-use Rattle.vub_base.specs.declared.store.Area.TheVariants.{M}
+use Rattle.vub_base.specs.declared.store.Area.{Area}
+use Rattle.vub_base.specs.declared.store.Area.TheVariants.{M, I}
 use Rattle.vub_shared.specs.Bytes.{Bytes, put, bytes_from}
 use Rattle.vub_shared.specs.Stores.{Store, Stores, Trails, after_store, after_in_trail}
 use Rattle.vub_shared.proofs.BytesLemmas.{put_other, bytes_from-put_other}
@@ -19,8 +20,13 @@ use Rattle.vub_steps.specs.declared.readiness.Turn.TheVariants as turns
 use Rattle.vub_steps.specs.declared.steps.Step.{Step}
 use Rattle.vub_steps.specs.declared.steps.Step.TheVariants as steps
 use Rattle.vub_steps.specs.Readiness.{is_ready}
+use Rattle.vub_steps.specs.declared.steps.Plan.{Plan}
 use Rattle.vub_steps.specs.Rows.{Row}
-use Rattle.vub_steps.specs.Steps.{next_step}
+use Rattle.vub_steps.specs.Steps.{next_of}
+use Rattle.vub_infl_split.specs.declared.region.SplitRegion.{SplitRegion}
+use Rattle.vub_infl_split.specs.declared.region.SplitStore.{SplitStore}
+use Rattle.vub_infl_split.specs.declared.region.SplitStore.TheVariants as region_stores
+use Rattle.vub_infl_split.specs.Stores.{store_of, tag_of}
 use Rattle.vub_driver.specs.Layout.{area_place, buffer_place, status_place, sectors_place}
 use Rattle.vub_device.specs.declared.entry.Answered.{Answered}
 use Rattle.vub_device.specs.declared.entry.Asked.{Asked}
@@ -40,26 +46,28 @@ use Rattle.vub_task.specs.declared.task.Task.{Task}
 use Rattle.vub_world.specs.OutstandingRequests.{slot_in}
 use Rattle.vub_world.specs.MachineAt.{OutstandingAt, reads_of}
 use Rattle.vub_world.specs.MachineDevice.{Device, DeviceAt, TurnMade, IsMade, StoreFits, SectorFits, HeadFits, answer_for, answers_for, noted, stored_items, shown_of, is_index, accepts, number_at}
-use Rattle.vub_world.specs.MachineFront.{IsSmall, OneSmall}
-use Rattle.vub_run.specs.Memory.{after_items}
-use Rattle.vub_run.specs.Moments.{Lane, Moment, standing}
+use Rattle.vub_world.specs.MachineFront.{area_of, IsSmall, OneSmall}
+use Rattle.vub_run.specs.Memory.{space_of, after_items}
+use Rattle.vub_run.specs.Moments.{Lane, Moment, region_of, standing}
 use Rattle.vub_queue_in_run.specs.QueueAt.{spot_of, QueueStands, LiesAs, DiskAt}
+use Rattle.vub_rec_split.specs.Starts.{due_in}
 use Rattle.vub_queue.specs.QueueState as states
-use Rattle.vub_queue.specs.QueueState.{course_in, QueueState, row_if, publish_row, StoresRow, TrailsRow, Turns, DoesStore, DoesTrail, DoesDisk, IsDue, IfStepped, WorksOut, outcome, is_idle, is_fault}
+use Rattle.vub_queue.specs.QueueState.{steps_in, QueueState, row_at, row_if, next_row, publishes, publish_row, StoresRow, TrailsRow, StoresStep, TrailsStep, start_due, Turns, DoesStore, DoesTrail, DoesDisk, IsDue, IfStepped, WorksOut, outcome, is_idle, is_fault}
 use Rattle.vub_run.specs.Run.{one_turn}
 use Rattle.vub_task.specs.TaskState.{Making}
 use Rattle.vub_run.specs.Turns.{turned, answer_len, answer_at}
 use Rattle.vub_run_laws.proofs.RunNumbers.{not_among-take}
-use Rattle.vub_run_laws.proofs.RunFrames.{open_out}
+use Rattle.vub_run_laws.proofs.RunFrames.{open_out, length_little}
 use Rattle.vub_run_laws.proofs.RunGood.{IsWide, IsOut, PhaseIs}
 use Rattle.vub_run_laws.proofs.RunHolds.{Holds}
 use Rattle.vub_run_laws.proofs.RunOwn.{accepted_own}
 use Rattle.vub_run_laws.proofs.RunTurns.{IsPlain, Good}
 use Rattle.vub_run_laws.proofs.RunChainsEvents.{ChainedAt}
 use Rattle.vub_queue_in_run.proofs.QueueAtMoves.{new_unpublished}
-use Rattle.vub_queue_in_run.proofs.QueueAtTurns.{IsPhaseTurn, start_stands, fetch_stands, idle_stands, ready_same}
-use Rattle.vub_queue_in_run.proofs.QueueAtRows.{HasPublished, HasShown, MadeElement, ShowsNext, row_stands, shown_stands, stored_stands, after_row, few_stored, shown_place}
-use Rattle.vub_queue_in_run.proofs.WorkAtItems.{turn_disk}
+use Rattle.vub_queue_in_run.proofs.QueueAtStarts.{StartSays, Noted, Rung, Begun, StoresIn, MakesNone, start_stands}
+use Rattle.vub_queue_in_run.proofs.QueueAtTurns.{IsPhaseTurn, fetch_stands, idle_stands, ready_same}
+use Rattle.vub_queue_in_run.proofs.QueueAtRows.{HasPublished, HasShown, ShowsNext, row_stands, shown_stands, stored_stands, after_row, few_stored, shown_place}
+use Rattle.vub_queue_in_run.proofs.WorkAtItems.{IsNoWork, turn_disk}
 
 -- ---- what a turn is given, and what it does
 
@@ -84,7 +92,7 @@ pub record DeviceDoes (t : Turn) (cap : ℕ) (sizes : ℕ → ℕ) (d now : Devi
   pub served : NoDiskFault x
   pub does : Turns t (Some d.memory) x d.queue now.queue
   pub stores_are : DoesStore t (Some d.memory) (Some now.memory) x d.queue
-  pub trails : DoesTrail t (Some d.stores) (Some now.stores) x d.queue
+  pub trails : DoesTrail t (Some d.memory) (Some d.stores) (Some now.stores) x d.queue
   pub values_are : DoesDisk t (Some d.values) (Some now.values)
   pub made : (place : ℕ) (task : Task) (n : Making) → t ≡ turns.Work place → IsDue cap sizes d.queue d.memory place task n
       → IfStepped x (WorksOut place task n d.memory (Some now.memory) (Some d.stores) (Some now.stores) (Some d.values) (Some now.values) x d.queue now.queue)
@@ -96,44 +104,148 @@ some_is a b e = ap (λ o. unwrap_or o a) e
 pub disk_same : (cap : ℕ) (past : List Entry) (v w : Values) → w ≡ v → DiskAt cap past v → DiskAt cap past w
 disk_same cap past v w same disk = subst (λ (u : Values). DiskAt cap past u) (sym same) disk
 
+-- ---- a turn that stores
+
+-- the area of the space of an area's stores
+area_same : (area : Area) (space : ℕ) → space ≡ space_of area → area_of space ≡ area
+area_same M space is = ap area_of is
+area_same I space is = ap area_of is
+
+-- the turn made this store, a small one into that area
+pub record StoredIn (d now : Device) (area : Area) (st : Store) : Type 0 where
+  pub memory_is : now.memory ≡ after_store st d.memory
+  pub stores_are : now.stores ≡ st ∷ []
+  pub small : IsSmall area st
+
+stored_in : (d now : Device) (x : Stepped) (area : Area) (st : Store) → outcome x ≡ Ok tt → d.stores ≡ [] → IsSmall area st → Stores (Some d.memory) (Some now.memory) (outcome x) st → Trails (Some d.stores) (Some now.stores) (outcome x) st → StoredIn d now area st
+stored_in d now x area st fine fresh small left right =
+    let memory : Some now.memory ≡ Some (after_store st d.memory) = subst (λ (z : Result (Unit {0}) (Unit {0})). Stores (Some d.memory) (Some now.memory) z st) fine left in
+    let trail : Some now.stores ≡ Some (after_in_trail st d.stores) = subst (λ (z : Result (Unit {0}) (Unit {0})). Trails (Some d.stores) (Some now.stores) z st) fine right in
+    record {
+      memory_is = some_is now.memory (after_store st d.memory) memory;
+      stores_are = some_is now.stores (after_in_trail st d.stores) trail ∙ ap (after_in_trail st) fresh;
+      small = small;
+    }
+
+-- its items
+store_made : (d now : Device) (tag : Tag) (area : Area) (st : Store) → StoredIn d now area st → stored_items tag now.stores ≡ items.Store tag area st.place st.bytes ∷ []
+store_made d now tag area st s = ap (stored_items tag) s.stores_are ∙ ap (λ (a : Area). items.Store tag a st.place st.bytes ∷ []) (area_same area st.space s.small.space)
+
+one_small : (d now : Device) (area : Area) (st : Store) → StoredIn d now area st → OneSmall now.stores
+one_small d now area st s =
+    let here : IsSmall (area_of st.space) st = subst (λ (a : Area). IsSmall a st) (sym (area_same area st.space s.small.space)) s.small in
+    subst (λ (l : List Store). OneSmall l) (sym s.stores_are) here
+
+-- memory after it, as the items have it
+store_memory : (h : Header1) (m : Moment) (d now : Device) (tag : Tag) (area : Area) (st : Store) → d.memory ≡ m.scene.memory → StoredIn d now area st → now.memory ≡ (after_items h (items.Store tag area st.place st.bytes ∷ []) m.scene).memory
+store_memory h m d now tag area st same s =
+    s.memory_is ∙ ap (λ (b : Bytes). put b st.space st.place st.bytes) same ∙ ap (λ (k : ℕ). put m.scene.memory k st.place st.bytes) s.small.space
+
+-- what it leaves, where its store is the only one among its items
+left_at : (q : ℕ) (h : Header1) (setup : QueueSetup) (m : Moment) (outstanding : OutstandingRequests) (t : Turn) (d now : Device) (tag : Tag) (area : Area) (st : Store) → TurnAt q h setup m outstanding d → IsNoWork t → QueueStands q h setup (one_turn h q t m).next now.queue → now.values ≡ d.values
+    → StoredIn d now area st → (one_turn h q t m).next.scene.memory ≡ (after_items h (items.Store tag area st.place st.bytes ∷ []) m.scene).memory → DeviceAt q h setup (one_turn h q t m).next now
+left_at q h setup m outstanding t d now tag area st a none stands values s memory = record {
+  stands = stands;
+  memory_is = store_memory h m d now tag area st a.at.memory_is s ∙ sym memory;
+  disk = disk_same h.capacity (one_turn h q t m).next.scene.past d.values now.values values (turn_disk q h m t d.values none a.at.disk);
+}
+
+-- a turn whose one item is its store
+pub stored_turn : (q : ℕ) (h : Header1) (setup : QueueSetup) (m : Moment) (outstanding : OutstandingRequests) (t : Turn) (d now : Device) (tag : Tag) (area : Area) (st : Store) (x : Stepped) → TurnAt q h setup m outstanding d → IsNoWork t → QueueStands q h setup (one_turn h q t m).next now.queue → now.values ≡ d.values
+    → StoredIn d now area st → x ≡ says.Stored tag → (turned h q t m).items ≡ items.Store tag area st.place st.bytes ∷ [] → TurnMade q h setup m t outstanding d now x
+stored_turn q h setup m outstanding t d now tag area st x a none_of_work stands values s said made =
+    let none : accepts x ≡ 0 = ap accepts said in
+    let same : accepted (one_turn h q t m).next.scene.past q ≡ accepted m.scene.past q = ap (λ (is : List Item). accepted (after_items h is m.scene).past q) made in
+    record {
+      goes = ap is_idle said;
+      made = subst (λ (z : Stepped). IsMade z) (sym said) tt;
+      at = left_at q h setup m outstanding t d now tag area st a none_of_work stands values s (ap (λ (is : List Item). (after_items h is m.scene).memory) made);
+      items_are = made ∙ sym (store_made d now tag area st s) ∙ sym (ap (noted q outstanding now.values now.stores (shown_of q outstanding d.memory d.queue)) said);
+      store = subst (λ (z : Stepped). StoreFits z now.stores) (sym said) (one_small d now area st s);
+      sector = subst (λ (z : Stepped). SectorFits h.capacity z) (sym said) tt;
+      head = subst (λ (z : Stepped). HeadFits h.size z) (sym said) tt;
+      taken = omega (arith, none, same);
+    }
+
 -- ---- a start
+
+-- a store into a region of the in-flight space is small
+region_small : (g : SplitRegion) (x : SplitStore) → g.space.number ≡ 1 → IsSmall I (store_of g x)
+region_small g region_stores.SI1 there = record { space = there; few = omega (arith, length_little 8 0) }
+region_small g (region_stores.SI2 i) there = record { space = there; few = omega (arith, length_little 1 0) }
+region_small g (region_stores.SI3 used) there = record { space = there; few = omega (arith, length_little 8 (1 + 65536 * (g.size + 65536 * (0 + 65536 * used)))) }
+region_small g (region_stores.SR1 i) there = record { space = there; few = omega (arith, length_little 1 0) }
+region_small g (region_stores.SR2 used) there = record { space = there; few = omega (arith, length_little 2 used) }
+region_small g (region_stores.SF1 i counter) there = record { space = there; few = omega (arith, length_little 8 counter) }
+region_small g (region_stores.SF2 i) there = record { space = there; few = omega (arith, length_little 1 1) }
+region_small g (region_stores.SP3 i next) there = record { space = there; few = omega (arith, length_little 2 next) }
+region_small g (region_stores.SP4 head) there = record { space = there; few = omega (arith, length_little 2 head) }
+region_small g (region_stores.SP6 i) there = record { space = there; few = omega (arith, length_little 1 0) }
+region_small g (region_stores.SP7 used) there = record { space = there; few = omega (arith, length_little 2 used) }
+
+-- the store of a start
+start_stored : (q : ℕ) (h : Header1) (setup : QueueSetup) (m : Moment) (outstanding : OutstandingRequests) (cap : ℕ) (sizes : ℕ → ℕ) (d now : Device) (x : Stepped) → TurnAt q h setup m outstanding d → DeviceDoes turns.Start cap sizes d now x → (y : StoresIn q h m x d.queue) → StoredIn d now I (store_of (region_of q h.size) y.store)
+start_stored q h setup m outstanding cap sizes d now x a does y =
+    let due : start_due d.queue d.memory ≡ Some y.store = ap (start_due d.queue) a.at.memory_is ∙ y.due in
+    let left : StoresStep (Some d.memory) (Some now.memory) x d.queue.recovery.region (Some y.store) = subst (λ (o : Option SplitStore). StoresStep (Some d.memory) (Some now.memory) x d.queue.recovery.region o) due (does.stores_are d.memory refl) in
+    let right : TrailsStep (Some d.stores) (Some now.stores) x d.queue.recovery.region (Some y.store) = subst (λ (o : Option SplitStore). TrailsStep (Some d.stores) (Some now.stores) x d.queue.recovery.region o) due (does.trails.1 d.memory refl) in
+    stored_in d now x I (store_of (region_of q h.size) y.store) (ap outcome y.said) a.fresh (region_small (region_of q h.size) y.store refl)
+    (subst (λ (g : SplitRegion). Stores (Some d.memory) (Some now.memory) (outcome x) (store_of g y.store)) y.region left)
+    (subst (λ (g : SplitRegion). Trails (Some d.stores) (Some now.stores) (outcome x) (store_of g y.store)) y.region right)
+
+-- a turn of a start that stores nothing
+start_none : (q : ℕ) (h : Header1) (setup : QueueSetup) (m : Moment) (outstanding : OutstandingRequests) (cap : ℕ) (sizes : ℕ → ℕ) (d now : Device) (x what : Stepped) (item : Item) → TurnAt q h setup m outstanding d → DeviceDoes turns.Start cap sizes d now x
+    → QueueStands q h setup (one_turn h q turns.Start m).next now.queue → MakesNone q h m x what d.queue item → is_idle what ≡ false → IsMade what → StoreFits what now.stores → SectorFits h.capacity what → HeadFits h.size what → accepts what ≡ 0
+    → noted q outstanding now.values now.stores (shown_of q outstanding d.memory d.queue) what ≡ item ∷ [] → (after_items h (item ∷ []) m.scene).memory ≡ m.scene.memory → accepted (after_items h (item ∷ []) m.scene).past q ≡ accepted m.scene.past q
+    → TurnMade q h setup m turns.Start outstanding d now x
+start_none q h setup m outstanding cap sizes d now x what item a does stands y goes made store sector head takes notes memory same =
+    let none : accepts x ≡ 0 = ap accepts y.said ∙ takes in
+    let same_too : accepted (one_turn h q turns.Start m).next.scene.past q ≡ accepted m.scene.past q = ap (λ (is : List Item). accepted (after_items h is m.scene).past q) y.made ∙ same in
+    let due : start_due d.queue d.memory ≡ None = ap (start_due d.queue) a.at.memory_is ∙ y.due in
+    let kept : StoresStep (Some d.memory) (Some now.memory) x d.queue.recovery.region None = subst (λ (o : Option SplitStore). StoresStep (Some d.memory) (Some now.memory) x d.queue.recovery.region o) due (does.stores_are d.memory refl) in
+    record {
+      goes = ap is_idle y.said ∙ goes;
+      made = subst (λ (z : Stepped). IsMade z) (sym y.said) made;
+      at = record {
+        stands = stands;
+        memory_is = some_is now.memory d.memory kept ∙ a.at.memory_is ∙ sym memory ∙ sym (ap (λ (is : List Item). (after_items h is m.scene).memory) y.made);
+        disk = disk_same h.capacity (one_turn h q turns.Start m).next.scene.past d.values now.values (some_is now.values d.values does.values_are) (turn_disk q h m turns.Start d.values tt a.at.disk);
+      };
+      items_are = y.made ∙ sym notes ∙ sym (ap (noted q outstanding now.values now.stores (shown_of q outstanding d.memory d.queue)) y.said);
+      store = subst (λ (z : Stepped). StoreFits z now.stores) (sym y.said) store;
+      sector = subst (λ (z : Stepped). SectorFits h.capacity z) (sym y.said) sector;
+      head = subst (λ (z : Stepped). HeadFits h.size z) (sym y.said) head;
+      taken = omega (arith, none, same_too);
+    }
 
 pub start_made : (q : ℕ) (h : Header1) (setup : QueueSetup) (m : Moment) (outstanding : OutstandingRequests) (cap : ℕ) (sizes : ℕ → ℕ) (d now : Device) (x : Stepped) → TurnAt q h setup m outstanding d → is_ready (standing h q m) turns.Start ≡ true → DeviceDoes turns.Start cap sizes d now x
     → TurnMade q h setup m turns.Start outstanding d now x
 start_made q h setup m outstanding cap sizes d now x a ready does =
-    let s = start_stands q h setup m (Some d.memory) x d.queue now.queue a.plain a.good a.main a.at.stands ready does.fine does.does in
-    let none : accepts x ≡ 0 = ap accepts s.said in
-    let same : accepted (one_turn h q turns.Start m).next.scene.past q ≡ accepted m.scene.past q = ap (λ (is : List Item). accepted (after_items h is m.scene).past q) s.made in
-    record {
-      goes = ap is_idle s.said;
-      made = subst (λ (y : Stepped). IsMade y) (sym s.said) tt;
-      at = record {
-        stands = s.stands;
-        memory_is = some_is now.memory d.memory does.stores_are ∙ a.at.memory_is ∙ sym (ap (λ (is : List Item). (after_items h is m.scene).memory) s.made);
-        disk = disk_same h.capacity (one_turn h q turns.Start m).next.scene.past d.values now.values (some_is now.values d.values does.values_are) (turn_disk q h m turns.Start d.values tt a.at.disk);
-      };
-      items_are = s.made ∙ sym (ap (noted q outstanding now.values now.stores (shown_of q outstanding d.memory d.queue)) s.said);
-      store = subst (λ (y : Stepped). StoreFits y now.stores) (sym s.said) tt;
-      sector = subst (λ (y : Stepped). SectorFits h.capacity y) (sym s.said) tt;
-      head = subst (λ (y : Stepped). HeadFits h.size y) (sym s.said) tt;
-      taken = omega (arith, none, same);
-    }
+    let told : Turns turns.Start (Some m.scene.memory) x d.queue now.queue = subst (λ (b : Bytes). Turns turns.Start (Some b) x d.queue now.queue) a.at.memory_is does.does in
+    let s = start_stands q h setup m x d.queue now.queue a.plain a.good a.main a.at.stands ready does.fine told in
+    go s.says s.stands
+  where
+    go : StartSays q h m x d.queue → QueueStands q h setup (one_turn h q turns.Start m).next now.queue → TurnMade q h setup m turns.Start outstanding d now x
+    go (Noted y) stands =
+        stored_turn q h setup m outstanding turns.Start d now (tag_of y.store) I (store_of (region_of q h.size) y.store) x a tt stands (some_is now.values d.values does.values_are) (start_stored q h setup m outstanding cap sizes d now x a does y) y.said y.made
+    go (Rung y) stands = start_none q h setup m outstanding cap sizes d now x says.Belled (items.Bell q) a does stands y refl tt tt tt tt refl refl refl refl
+    go (Begun y) stands = start_none q h setup m outstanding cap sizes d now x says.Started (items.Made (entries.Start q [])) a does stands y refl tt tt tt tt refl refl refl refl
 
 -- ---- a fetch
 
 -- a fetch is at no phase of its own between two turns, so where it is ready something waits
-waits_there : (batch : List ℕ) (phase : Phase) (s : Bool) (w u c : ℕ) → PhaseIs batch phase → is_ready (record { started = s; phase = phase; waiting = w; unfinished = u; completed = c }) turns.Fetch ≡ true → 0 < w
-waits_there batch phases.Rest s w u c is ready = grind (arith, nat_tests)
-waits_there batch (phases.Publish done) s w u c is ready = absurd (let fails : true ≡ false = sym ready ∙ grind (arith, nat_tests) in cc)
-waits_there batch (phases.Start done) s w u c is ready = absurd is
-waits_there batch (phases.Fetch done) s w u c is ready = absurd is
+waits_there : (n : ℕ) (bell : Bool) (plan : Plan) (batch : List ℕ) (phase : Phase) (s : Bool) (w u c : ℕ) → PhaseIs n bell plan batch phase → is_ready (record { started = s; phase = phase; waiting = w; unfinished = u; completed = c }) turns.Fetch ≡ true → 0 < w
+waits_there n bell plan batch phases.Rest s w u c is ready = grind (arith, nat_tests)
+waits_there n bell plan batch (phases.Publish done) s w u c is ready = absurd (let fails : true ≡ false = sym ready ∙ grind (arith, nat_tests) in cc)
+waits_there n bell plan batch (phases.Start done) s w u c is ready = grind (arith, nat_tests)
+waits_there n bell plan batch (phases.Fetch done) s w u c is ready = absurd is
 
 -- where it is ready, one more is offered
 more_offered : (q : ℕ) (h : Header1) (m : Moment) → IsPlain h → Good q h m → is_ready (standing h q m) turns.Fetch ≡ true → accepted m.scene.past q < length (m.scene.heads q)
 more_offered q h m plain good ready =
     let st : Standing = standing h q m in
     let some = queue_ahead q h m.scene (m.lanes q) plain.good good.holds in
-    let waits = waits_there (m.lanes q).batch (m.lanes q).phase st.started st.waiting st.unfinished st.completed (phase_at q h m.scene (m.lanes q) good.holds) ready in
+    let waits = waits_there h.size (m.lanes q).bell (m.lanes q).plan (m.lanes q).batch (m.lanes q).phase st.started st.waiting st.unfinished st.completed (phase_at q h m.scene (m.lanes q) good.holds) ready in
     omega (arith, some, waits)
 
 pub fetch_made : (q : ℕ) (h : Header1) (setup : QueueSetup) (m : Moment) (outstanding : OutstandingRequests) (cap : ℕ) (sizes : ℕ → ℕ) (d now : Device) (x : Stepped) → TurnAt q h setup m outstanding d → is_ready (standing h q m) turns.Fetch ≡ true → DeviceDoes turns.Fetch cap sizes d now x
@@ -160,42 +272,53 @@ fetch_made q h setup m outstanding cap sizes d now x a ready does =
       items_are = s.made ∙ ap (λ (n : ℕ). items.Made (entries.Accept q n) ∷ []) (sym number) ∙ sym (ap (noted q outstanding now.values now.stores (shown_of q outstanding d.memory d.queue)) s.said);
       store = subst (λ (y : Stepped). StoreFits y now.stores) (sym s.said) tt;
       sector = subst (λ (y : Stepped). SectorFits h.capacity y) (sym s.said) tt;
-      head = subst (λ (y : Stepped). HeadFits h.size y) (sym s.said) (head_below q h m.scene (m.lanes q).driver (m.lanes q).batch (m.lanes q).phase k a.good.holds.queue (record { below = offered; kept = new }));
+      head = subst (λ (y : Stepped). HeadFits h.size y) (sym s.said) (head_below q h m.scene (m.lanes q).driver (m.lanes q).bell (m.lanes q).plan (m.lanes q).batch (m.lanes q).phase k a.good.holds.queue (record { below = offered; kept = new }));
       taken = omega (arith, one, more);
     }
 
 -- ---- a publication
 
--- memory and stores after the store of a row
-pub record StoredRow (d now : Device) (y : Row) : Type 0 where
-  pub memory_is : now.memory ≡ after_store y.store d.memory
-  pub stores_are : now.stores ≡ y.store ∷ []
-
-pub stored_row : (d now : Device) (x : Stepped) (o : Option Row) (y : Row) → outcome x ≡ Ok tt → o ≡ Some y → d.stores ≡ [] → StoresRow (Some d.memory) (Some now.memory) x o → TrailsRow (Some d.stores) (Some now.stores) x o → StoredRow d now y
-stored_row d now x o y fine is fresh stores trails =
+stored_row : (d now : Device) (x : Stepped) (o : Option Row) (y : Row) → outcome x ≡ Ok tt → o ≡ Some y → d.stores ≡ [] → IsSmall M y.store → StoresRow (Some d.memory) (Some now.memory) x o → TrailsRow (Some d.stores) (Some now.stores) x o → StoredIn d now M y.store
+stored_row d now x o y fine is fresh small stores trails =
     let left : StoresRow (Some d.memory) (Some now.memory) x (Some y) = subst (λ (z : Option Row). StoresRow (Some d.memory) (Some now.memory) x z) is stores in
     let right : TrailsRow (Some d.stores) (Some now.stores) x (Some y) = subst (λ (z : Option Row). TrailsRow (Some d.stores) (Some now.stores) x z) is trails in
-    let memory : Some now.memory ≡ Some (after_store y.store d.memory) = subst (λ (z : Result (Unit {0}) (Unit {0})). Stores (Some d.memory) (Some now.memory) z y.store) fine left in
-    let trail : Some now.stores ≡ Some (after_in_trail y.store d.stores) = subst (λ (z : Result (Unit {0}) (Unit {0})). Trails (Some d.stores) (Some now.stores) z y.store) fine right in
-    record {
-      memory_is = some_is now.memory (after_store y.store d.memory) memory;
-      stores_are = some_is now.stores (after_in_trail y.store d.stores) trail ∙ ap (after_in_trail y.store) fresh;
-    }
+    stored_in d now x M y.store fine fresh small left right
 
-small_row : (most : ℕ) (state : QueueState) (y : Row) → publish_row most state ≡ Some y → y.store.space ≡ 0 → IsSmall y.store
+small_row : (most : ℕ) (state : QueueState) (y : Row) → publish_row most state ≡ Some y → y.store.space ≡ 0 → IsSmall M y.store
 small_row most state y is space = record { space = space; few = omega (arith, few_stored most state y is) }
 
--- the items of a store
-store_made : (d now : Device) (tag : Tag) (y : Row) → StoredRow d now y → stored_items tag now.stores ≡ items.Store tag M y.store.place y.store.bytes ∷ []
-store_made d now tag y s = ap (stored_items tag) s.stores_are
+-- each is into guest memory
+area_get : (o : Option (ℕ × ℕ)) (f : ℕ × ℕ → Row) (y : Row) → ((z : ℕ × ℕ) → (f z).area ≡ M) → option_map f o ≡ Some y → y.area ≡ M
+area_get None f y each is = absurd (let fails : None ≡ Some y = is in cc)
+area_get (Some z) f y each is =
+    let both : Some (f z) ≡ Some y = is in
+    let here : f z ≡ y = cc both in
+    subst (λ (x : Row). x.area ≡ M) here (each z)
 
-one_small : (d now : Device) (y : Row) → StoredRow d now y → IsSmall y.store → OneSmall now.stores
-one_small d now y s small = subst (λ (l : List Store). OneSmall l) (sym s.stores_are) small
+area_in : (u : QueueState) (o : Option Step) (y : Row) → row_at u o ≡ Some y → y.area ≡ M
+area_in u None y is = absurd (let fails : None ≡ Some y = is in cc)
+area_in u (Some steps.Start) y is = absurd (let fails : None ≡ Some y = is in cc)
+area_in u (Some steps.Accept) y is = absurd (let fails : None ≡ Some y = is in cc)
+area_in u (Some steps.Features) y is = absurd (let fails : None ≡ Some y = is in cc)
+area_in u (Some (steps.Free i)) y is = absurd (let fails : None ≡ Some y = is in cc)
+area_in u (Some steps.Open) y is = absurd (let fails : None ≡ Some y = is in cc)
+area_in u (Some (steps.Settle place)) y is = absurd (let fails : None ≡ Some y = is in cc)
+area_in u (Some steps.SettleEnd) y is = absurd (let fails : None ≡ Some y = is in cc)
+area_in u (Some steps.Bell) y is = absurd (let fails : None ≡ Some y = is in cc)
+area_in u (Some (steps.Id e)) y is = area_get (slice_get u.batch e) _ y (λ z. refl) is
+area_in u (Some (steps.Len e)) y is = area_get (slice_get u.batch e) _ y (λ z. refl) is
+area_in u (Some steps.Index) y is = ap (λ (o : Option Row). go o) (sym is)
+  where
+    go : Option Row → Area
+    go None = M
+    go (Some x) = x.area
 
--- memory after the store, as the items have it
-row_memory : (h : Header1) (m : Moment) (d now : Device) (tag : Tag) (y : Row) → d.memory ≡ m.scene.memory → y.store.space ≡ 0 → StoredRow d now y → now.memory ≡ (after_items h (items.Store tag M y.store.place y.store.bytes ∷ []) m.scene).memory
-row_memory h m d now tag y same space s =
-    s.memory_is ∙ ap (λ (b : Bytes). put b y.store.space y.store.place y.store.bytes) same ∙ ap (λ (k : ℕ). put m.scene.memory k y.store.place y.store.bytes) space
+row_area : (most : ℕ) (state : QueueState) (y : Row) → publish_row most state ≡ Some y → y.area ≡ M
+row_area most state y is = let u : QueueState = states.under_way most state in area_in u (next_of (steps_in u) u.phase) y (row_in (publishes most state) u y is)
+  where
+    row_in : (b : Bool) (u : QueueState) (y : Row) → row_if b u ≡ Some y → next_row u ≡ Some y
+    row_in true u y is = is
+    row_in false u y is = absurd (let fails : None ≡ Some y = is in cc)
 
 -- ---- its answers
 
@@ -249,7 +372,7 @@ answers_same q h setup m outstanding d y a off =
     let heads : List ℕ = m.scene.heads q in
     let f : ℕ × ℕ → Answered = λ x. answer_for q (slot_in outstanding x.0) m.scene.memory x.0 in
     ap (λ (b : Bytes). answers_for q outstanding b d.queue.batch) a.at.memory_is
-    ∙ ap (λ (xs : List (ℕ × ℕ)). answers_for q outstanding m.scene.memory xs) a.at.stands.batch
+    ∙ ap (λ (xs : List (ℕ × ℕ)). answers_for q outstanding m.scene.memory xs) a.at.stands.at.batch
     ∙ map_over f (answer_at q (after_row h y m.scene)) (spot_of q h past heads) l.batch (λ k held.
     let done : is_among (l.completed ++ l.batch) k ≡ true = among_right l.completed l.batch k held in
     let out : IsOut q past heads k = open_out q h.size h.capacity past heads k a.good.holds.known (a.good.holds.worked.opens k done) in
@@ -261,20 +384,10 @@ answers_same q h setup m outstanding d y a off =
 shown_is : (q : ℕ) (outstanding : OutstandingRequests) (m : Bytes) (state : QueueState) → ShowsNext state → shown_of q outstanding m state ≡ answers_for q outstanding m state.batch
 shown_is q outstanding m state next = ap (λ (o : Option Step). cond {A = List Answered} (is_index o) (answers_for q outstanding m state.batch) []) next
 
--- what a turn of a publication leaves, whichever step it makes
-left_at : (q : ℕ) (h : Header1) (setup : QueueSetup) (m : Moment) (outstanding : OutstandingRequests) (most : ℕ) (d now : Device) (tag : Tag) (y : Row) → TurnAt q h setup m outstanding d → QueueStands q h setup (one_turn h q (turns.Publish most) m).next now.queue → now.values ≡ d.values
-    → y.store.space ≡ 0 → StoredRow d now y → (one_turn h q (turns.Publish most) m).next.scene.memory ≡ (after_items h (items.Store tag M y.store.place y.store.bytes ∷ []) m.scene).memory
-    → DeviceAt q h setup (one_turn h q (turns.Publish most) m).next now
-left_at q h setup m outstanding most d now tag y a stands values space s memory = record {
-  stands = stands;
-  memory_is = row_memory h m d now tag y a.at.memory_is space s ∙ sym memory;
-  disk = disk_same h.capacity (one_turn h q (turns.Publish most) m).next.scene.past d.values now.values values (turn_disk q h m (turns.Publish most) d.values tt a.at.disk);
-}
-
 -- the store that shows the batch
 show_made : (q : ℕ) (h : Header1) (setup : QueueSetup) (m : Moment) (outstanding : OutstandingRequests) (most : ℕ) (d now : Device) (x : Stepped) (y : Row) → TurnAt q h setup m outstanding d → DeviceAt q h setup (one_turn h q (turns.Publish most) m).next now → HasShown q h m most x y → ShowsNext d.queue
-    → StoredRow d now y → IsSmall y.store → y.store.place + length y.store.bytes ≤ area_place q + 65536 → TurnMade q h setup m (turns.Publish most) outstanding d now x
-show_made q h setup m outstanding most d now x y a at has next s small off =
+    → StoredIn d now M y.store → y.store.place + length y.store.bytes ≤ area_place q + 65536 → TurnMade q h setup m (turns.Publish most) outstanding d now x
+show_made q h setup m outstanding most d now x y a at has next s off =
     let list : List Answered = map (answer_at q (after_row h y m.scene)) (m.lanes q).batch in
     let none : accepts x ≡ 0 = ap accepts has.said in
     let same : accepted (one_turn h q (turns.Publish most) m).next.scene.past q ≡ accepted m.scene.past q = ap (λ (is : List Item). accepted (after_items h is m.scene).past q) has.items in
@@ -284,39 +397,28 @@ show_made q h setup m outstanding most d now x y a at has next s small off =
       made = subst (λ (z : Stepped). IsMade z) (sym has.said) tt;
       at = at;
       items_are = has.items
-          ∙ ap (λ (is : List Item). is ++ items.Made (entries.Publish q list) ∷ []) (sym (store_made d now SP5 y s))
+          ∙ ap (λ (is : List Item). is ++ items.Made (entries.Publish q list) ∷ []) (sym (store_made d now SP5 M y.store s))
           ∙ ap (λ (xs : List Answered). stored_items SP5 now.stores ++ items.Made (entries.Publish q xs) ∷ []) (sym answers)
           ∙ sym (ap (noted q outstanding now.values now.stores (shown_of q outstanding d.memory d.queue)) has.said);
-      store = subst (λ (z : Stepped). StoreFits z now.stores) (sym has.said) (one_small d now y s small);
+      store = subst (λ (z : Stepped). StoreFits z now.stores) (sym has.said) (one_small d now M y.store s);
       sector = subst (λ (z : Stepped). SectorFits h.capacity z) (sym has.said) tt;
       head = subst (λ (z : Stepped). HeadFits h.size z) (sym has.said) tt;
       taken = omega (arith, none, same);
     }
 
--- any other store
-part_made : (q : ℕ) (h : Header1) (setup : QueueSetup) (m : Moment) (outstanding : OutstandingRequests) (most : ℕ) (d now : Device) (x : Stepped) (y : Row) → DeviceAt q h setup (one_turn h q (turns.Publish most) m).next now
-    → MadeElement (states.under_way most d.queue) x (turned h q (turns.Publish most) m).items y → StoredRow d now y → IsSmall y.store → TurnMade q h setup m (turns.Publish most) outstanding d now x
-part_made q h setup m outstanding most d now x y at part s small =
-    let none : accepts x ≡ 0 = ap accepts part.said in
-    let same : accepted (one_turn h q (turns.Publish most) m).next.scene.past q ≡ accepted m.scene.past q = ap (λ (is : List Item). accepted (after_items h is m.scene).past q) part.items in
-    record {
-      goes = ap is_idle part.said;
-      made = subst (λ (z : Stepped). IsMade z) (sym part.said) tt;
-      at = at;
-      items_are = part.items ∙ sym (store_made d now y.tag y s) ∙ sym (ap (noted q outstanding now.values now.stores (shown_of q outstanding d.memory d.queue)) part.said);
-      store = subst (λ (z : Stepped). StoreFits z now.stores) (sym part.said) (one_small d now y s small);
-      sector = subst (λ (z : Stepped). SectorFits h.capacity z) (sym part.said) tt;
-      head = subst (λ (z : Stepped). HeadFits h.size z) (sym part.said) tt;
-      taken = omega (arith, none, same);
-    }
-
 -- whether the next step shows the batch
 shows_cases : (state : QueueState) → ShowsNext state ⊎ (ShowsNext state → ⊥)
-shows_cases state = go (next_step (course_in state) state.phase)
+shows_cases state = go (next_of (steps_in state) state.phase)
   where
     go : (o : Option Step) → (o ≡ Some steps.Index) ⊎ (o ≡ Some steps.Index → ⊥)
     go None = inr (λ e. let fails : None ≡ Some steps.Index = e in cc)
     go (Some steps.Start) = inr (λ e. let fails : Some steps.Start ≡ Some steps.Index = e in cc)
+    go (Some steps.Features) = inr (λ e. let fails : Some steps.Features ≡ Some steps.Index = e in cc)
+    go (Some (steps.Free i)) = inr (λ e. let fails : Some (steps.Free i) ≡ Some steps.Index = e in cc)
+    go (Some steps.Open) = inr (λ e. let fails : Some steps.Open ≡ Some steps.Index = e in cc)
+    go (Some (steps.Settle place)) = inr (λ e. let fails : Some (steps.Settle place) ≡ Some steps.Index = e in cc)
+    go (Some steps.SettleEnd) = inr (λ e. let fails : Some steps.SettleEnd ≡ Some steps.Index = e in cc)
+    go (Some steps.Bell) = inr (λ e. let fails : Some steps.Bell ≡ Some steps.Index = e in cc)
     go (Some steps.Accept) = inr (λ e. let fails : Some steps.Accept ≡ Some steps.Index = e in cc)
     go (Some (steps.Id k)) = inr (λ e. let fails : Some (steps.Id k) ≡ Some steps.Index = e in cc)
     go (Some (steps.Len k)) = inr (λ e. let fails : Some (steps.Len k) ≡ Some steps.Index = e in cc)
@@ -329,27 +431,26 @@ publish_made q h setup m outstanding cap sizes most d now x a ready does =
     let found = row_stands q h setup m most (Some d.memory) x d.queue now.queue a.plain a.good a.main a.at.stands ready does.fine does.does in
     let y : Row = found.0 in
     let p : HasPublished q h setup m most x d.queue now.queue y = found.1 in
-    let small : IsSmall y.store = small_row most d.queue y p.row p.space in
+    let small : IsSmall M y.store = small_row most d.queue y p.row p.space in
     let values : now.values ≡ d.values = some_is now.values d.values does.values_are in
     elim (shows_cases d.queue) [
       | inl next ↦
           let has : HasShown q h m most x y = shown_stands q h setup m most x d.queue now.queue y a.at.stands p next in
-          let s : StoredRow d now y = stored_row d now x (publish_row most d.queue) y (ap outcome has.said) p.row a.fresh does.stores_are does.trails in
+          let s : StoredIn d now M y.store = stored_row d now x (publish_row most d.queue) y (ap outcome has.said) p.row a.fresh small does.stores_are does.trails in
           let off = shown_place q h setup m most d.queue y a.main a.at.stands next p.row in
-          let at = left_at q h setup m outstanding most d now SP5 y a p.stands values p.space s (ap (λ (is : List Item). (after_items h is m.scene).memory) has.items) in
-          show_made q h setup m outstanding most d now x y a at has next s small off
+          let at = left_at q h setup m outstanding t d now SP5 M y.store a tt p.stands values s (ap (λ (is : List Item). (after_items h is m.scene).memory) has.items) in
+          show_made q h setup m outstanding most d now x y a at has next s off
       | inr other ↦
           let part = stored_stands q h setup m most x d.queue now.queue y a.good a.at.stands ready p other in
-          let s : StoredRow d now y = stored_row d now x (publish_row most d.queue) y (ap outcome part.said) p.row a.fresh does.stores_are does.trails in
-          let at = left_at q h setup m outstanding most d now y.tag y a p.stands values p.space s (ap (λ (is : List Item). (after_items h is m.scene).memory) part.items) in
-          part_made q h setup m outstanding most d now x y at part s small
+          let s : StoredIn d now M y.store = stored_row d now x (publish_row most d.queue) y (ap outcome part.said) p.row a.fresh small does.stores_are does.trails in
+          let in_guest : (turned h q t m).items ≡ items.Store y.tag M y.store.place y.store.bytes ∷ [] = part.items ∙ ap (λ (area : Area). items.Store y.tag area y.store.place y.store.bytes ∷ []) (row_area most d.queue y p.row) in
+          stored_turn q h setup m outstanding t d now y.tag M y.store x a tt p.stands values s part.said in_guest
     ]
 
 -- ---- a turn that isn't due
 
--- the turns that store nothing
+-- the turn that stores nothing
 abbrev IsEarly : Turn → Type 0
-IsEarly turns.Start = ⊤
 IsEarly turns.Fetch = ⊤
 IsEarly t = ⊥
 
@@ -359,15 +460,19 @@ idle_values turns.Fetch v w is does = some_is w v does
 idle_values (turns.Work place) v w is does = absurd is
 idle_values (turns.Publish most) v w is does = some_is w v does
 
--- whether a publication is ready doesn't depend on what waits
+-- whether a start or a publication is ready doesn't depend on what waits
 unready_still : (q : ℕ) (h : Header1) (setup : QueueSetup) (m : Moment) (t : Turn) (state : QueueState) → LiesAs q setup h.size → Holds q h m.scene (m.lanes q) → QueueStands q h setup m state → IsPhaseTurn t → is_ready (standing h q m) t ≡ false → (is_ready (states.standing_at state 0) t ≡ false) ⊎ IsEarly t
-unready_still q h setup m turns.Start state main holds z is unready = inr tt
+unready_still q h setup m turns.Start state main holds z is unready = inl (ready_same q h setup m state turns.Start main holds z ∙ unready)
 unready_still q h setup m turns.Fetch state main holds z is unready = inr tt
 unready_still q h setup m (turns.Work place) state main holds z is unready = absurd is
 unready_still q h setup m (turns.Publish most) state main holds z is unready = inl (ready_same q h setup m state (turns.Publish most) main holds z ∙ unready)
 
 idle_memory : (t : Turn) (d now : Device) (x : Stepped) → IsPhaseTurn t → (is_ready (states.standing_at d.queue 0) t ≡ false) ⊎ IsEarly t → DoesStore t (Some d.memory) (Some now.memory) x d.queue → now.memory ≡ d.memory
-idle_memory turns.Start d now x is unready stores = some_is now.memory d.memory stores
+idle_memory turns.Start d now x is (inl unready) stores =
+    let run : d.queue.started ≡ true = grind (arith, nat_tests) in
+    let none : start_due d.queue d.memory ≡ None = ap (λ (b : Bool). cond {A = Option SplitStore} b None (due_in d.queue.recovery d.memory)) run in
+    some_is now.memory d.memory (subst (λ (o : Option SplitStore). StoresStep (Some d.memory) (Some now.memory) x d.queue.recovery.region o) none (stores d.memory refl))
+idle_memory turns.Start d now x is (inr early) stores = absurd early
 idle_memory turns.Fetch d now x is unready stores = some_is now.memory d.memory stores
 idle_memory (turns.Work place) d now x is unready stores = absurd is
 idle_memory (turns.Publish most) d now x is (inl unready) stores =

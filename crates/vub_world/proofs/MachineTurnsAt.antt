@@ -82,7 +82,10 @@ noted_keeps q h outstanding v stores answers (says.Acted head sector) s = same_k
 noted_keeps q h outstanding v stores answers (says.Synced head) s = same_keeps q s _ (refl, refl, λ k. refl, refl)
 noted_keeps q h outstanding v stores answers (says.Faulted head) s = same_keeps q s _ (refl, refl, λ k. refl, refl)
 noted_keeps q h outstanding v stores answers says.Idle s = same_keeps q s _ (refl, refl, λ k. refl, refl)
+noted_keeps q h outstanding v stores answers says.Belled s = same_keeps q s _ (refl, refl, λ k. refl, refl)
 noted_keeps q h outstanding v stores answers says.SharedFault s = same_keeps q s _ (refl, refl, λ k. refl, refl)
+noted_keeps q h outstanding v stores answers says.BellFault s = same_keeps q s _ (refl, refl, λ k. refl, refl)
+noted_keeps q h outstanding v stores answers (says.Damaged fault) s = same_keeps q s _ (refl, refl, λ k. refl, refl)
 noted_keeps q h outstanding v stores answers (says.Broken fault) s = same_keeps q s _ (refl, refl, λ k. refl, refl)
 
 take_more : (xs ys : List ℕ) (n : ℕ) → n ≤ length xs → take n (xs ++ ys) ≡ take n xs

@@ -2,9 +2,9 @@
 use Rattle.std.proofs.Common.{◌≡◌, ℕ, ap, sym, ◌∙◌, subst}
 use Rattle.vub_base.specs.declared.header.Header1.{Header1}
 use Rattle.vub_shared.specs.Bytes.{Bytes}
-use Rattle.vub_steps.specs.declared.readiness.Standing.{Standing}
+use Rattle.vub_steps.specs.declared.readiness.Turn.{Turn}
 use Rattle.vub_steps.specs.declared.readiness.Choice.{Choice}
-use Rattle.vub_steps.specs.Readiness.{chosen}
+use Rattle.vub_steps.specs.Readiness.{is_ready, chosen}
 use Rattle.vub_queue.specs.declared.queue.QueueSetup.{QueueSetup}
 use Rattle.vub_world.specs.MachineAt.{IsReached}
 use Rattle.vub_world.specs.MachineDevice.{turn_here}
@@ -16,7 +16,7 @@ use Rattle.vub_run_laws.proofs.Runs.{plain_header}
 use Rattle.vub_run_laws.proofs.RunTurns.{IsPlain, Good}
 use Rattle.vub_run_laws.proofs.RunChainsEvents.{ChainedAt}
 use Rattle.vub_run_laws.proofs.RunsTo.{stands_turns}
-use Rattle.vub_queue_in_run.proofs.QueueAtTurns.{standings}
+use Rattle.vub_queue_in_run.proofs.QueueAtTurns.{ready_same, chosen_same}
 use Rattle.vub_queue_in_run.proofs.Setups.{places_are}
 
 -- ---- a moment of a run
@@ -29,19 +29,14 @@ reached_holds q h m is = subst (λ (n : Moment). Good q h n × ChainedAt q h n) 
 
 -- ---- which turn it is
 
--- readiness depends on the same in the queue and at the moment
-pub record IsAsHere (q : ℕ) (h : Header1) (m : Moment) (state : QueueState) (b : Bytes) : Type 0 where
-  pub size : state.ring.size ≡ h.size
-  pub standing_is : standing_at state (waiting state b) ≡ standing h q m
+-- the same turns are ready in the queue and at the moment
+pub ready_here : (q : ℕ) (h : Header1) (setup : QueueSetup) (m : Moment) (state : QueueState) (b : Bytes) (t : Turn) → LiesAs q setup h.size → Holds q h m.scene (m.lanes q) → QueueStands q h setup m state → b ≡ m.scene.memory → is_ready (standing_at state (waiting state b)) t ≡ is_ready (standing h q m) t
+ready_here q h setup m state b t main holds z memory = ap (λ (c : Bytes). is_ready (standing_at state (waiting state c)) t) memory ∙ ready_same q h setup m state t main holds z
 
-pub as_here : (q : ℕ) (h : Header1) (setup : QueueSetup) (m : Moment) (state : QueueState) (b : Bytes) → LiesAs q setup h.size → Holds q h m.scene (m.lanes q) → QueueStands q h setup m state → b ≡ m.scene.memory → IsAsHere q h m state b
-as_here q h setup m state b main holds z memory = record {
-  size = places_are q h setup m state main z;
-  standing_is = ap (λ (c : Bytes). standing_at state (waiting state c)) memory ∙ standings q h setup m state main holds z;
-}
-
+-- and the same is chosen
 pub turn_same : (q : ℕ) (h : Header1) (setup : QueueSetup) (m : Moment) (state : QueueState) (b : Bytes) (choice : Choice) → LiesAs q setup h.size → Holds q h m.scene (m.lanes q) → QueueStands q h setup m state → b ≡ m.scene.memory
     → chosen state.ring.size choice (standing_at state (waiting state b)) ≡ turn_here q h choice m
 turn_same q h setup m state b choice main holds z memory =
-    let here = as_here q h setup m state b main holds z memory in
-    ap (λ (n : ℕ). chosen n choice (standing_at state (waiting state b))) here.size ∙ ap (λ (s : Standing). chosen h.size choice s) here.standing_is
+    ap (λ (n : ℕ). chosen n choice (standing_at state (waiting state b))) (places_are q h setup m state main z)
+    ∙ ap (λ (c : Bytes). chosen h.size choice (standing_at state (waiting state c))) memory
+    ∙ chosen_same q h setup m state h.size choice main holds z

@@ -57,6 +57,9 @@ stepped_out (says.Synced head) P fine served p = p
 stepped_out (says.Completed head) P fine served p = p
 stepped_out says.Published P fine served p = p
 stepped_out says.Started P fine served p = p
+stepped_out says.Belled P fine served p = p
+stepped_out says.BellFault P fine served p = p
+stepped_out (says.Damaged fault) P fine served p = p
 stepped_out (says.Broken fault) P fine served p = p
 
 -- what a step of work says fits: a look leaves the disk's values, and each sector is on the disk
@@ -165,6 +168,9 @@ work_noted q h m t outstanding d now k task n (says.Synced head) g shows =
 work_noted q h m t outstanding d now k task n (says.Faulted head) g shows = absurd shows
 work_noted q h m t outstanding d now k task n says.Published g shows = absurd shows
 work_noted q h m t outstanding d now k task n says.Started g shows = absurd shows
+work_noted q h m t outstanding d now k task n says.Belled g shows = absurd shows
+work_noted q h m t outstanding d now k task n says.BellFault g shows = absurd shows
+work_noted q h m t outstanding d now k task n (says.Damaged fault) g shows = absurd shows
 work_noted q h m t outstanding d now k task n says.SharedFault g shows = absurd shows
 work_noted q h m t outstanding d now k task n (says.Broken fault) g shows = absurd shows
 
@@ -182,7 +188,7 @@ work_made q h setup m outstanding sizes place d now x a room ready does =
     let shows : Shows q d.values state w.k w.task n (turned h q (turns.Work place) m).items x =
     subst (λ (y : Stepped). Shows q d.values state w.k w.task n (turned h q (turns.Work place) m).items y) (sym out.says) (work_items q h sizes m setup state place d.values w a.plain a.good a.main a.at.stands a.at.disk) in
     let is_out : IsOut q m.scene.past (m.scene.heads q) w.k = open_out q h.size h.capacity m.scene.past (m.scene.heads q) w.k a.good.holds.known w.is_open in
-    let below : head_in w.task < h.size = omega (arith, w.head, head_below q h m.scene (m.lanes q).driver (m.lanes q).batch (m.lanes q).phase w.k a.good.holds.queue is_out) in
+    let below : head_in w.task < h.size = omega (arith, w.head, head_below q h m.scene (m.lanes q).driver (m.lanes q).bell (m.lanes q).plan (m.lanes q).batch (m.lanes q).phase w.k a.good.holds.queue is_out) in
     let number : number_at outstanding (head_in w.task) ≡ w.k = ap (number_at outstanding) w.head ∙ ap (λ (o : OutstandingRequest). o.number) (a.numbered.slots w.k is_out.below is_out.kept) in
     let values : now.values ≡ values_after w.request w.step d.values = some_is now.values (values_after w.request w.step d.values) out.values in
     let notes : NotesWork q h m (turns.Work place) outstanding d now x = work_noted q h m (turns.Work place) outstanding d now w.k w.task n x (record { fresh = a.fresh; below = below; number = number; values_are = values; trails = out.trails; looks = well_too.looks }) shows in

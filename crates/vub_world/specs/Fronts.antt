@@ -1,10 +1,11 @@
 -- The parts of a world that belong to one queue.
-use Rattle.std.specs.Prelude.{◌≡◌, ◌<◌, ◌≤◌, ℕ, ◌+◌, List, [], ◌∷◌, length, slice_get, Option, Some, None}
+use Rattle.std.specs.Prelude.{◌≡◌, ◌<◌, ◌≤◌, ℕ, ◌+◌, true, List, [], ◌∷◌, length, slice_get, Option, Some, None}
 use Rattle.vub_base.specs.declared.header.Header1.{Header1}
 use Rattle.vub_driver.specs.Drivers.{new_driver}
 use Rattle.vub_driver.specs.Layout.{ring_of, area_place}
 use Rattle.vub_guest.specs.GuestState.{driver_in, last_used_in}
 use Rattle.vub_guest.specs.GuestState.{ring_in as guest_ring}
+use Rattle.vub_infl_split.specs.Region.{RegionLies}
 use Rattle.vub_memdisk.specs.MemDisks.{capacity_of}
 use Rattle.vub_memdisk.specs.declared.mem_disk.MemDisk.{MemDisk}
 use Rattle.vub_queue.specs.declared.queue.Queue.{Queue}
@@ -58,8 +59,8 @@ offers_in w = offered_by w.fronts.items
 
 -- ---- between two steps
 
--- the queue is one of the header's, driver and set-up are those of its area, which memory has, and no call of memory has
--- failed
+-- the queue is one of the header's, driver and set-up are those of its area and of its part of the in-flight region, it has
+-- a bell, memory has both, and no call of memory has failed
 pub record FrontSound (memory : WatchedShared) (front : Front) : Type 0 where
   pub header : IsHeader front.header
   pub exists : front.index < front.header.queues
@@ -68,6 +69,8 @@ pub record FrontSound (memory : WatchedShared) (front : Front) : Type 0 where
   pub base : front.setup.base ≡ front.header.base
   pub space : front.space.number ≡ 0
   pub room : area_place front.index + 1048576 ≤ sizes_in memory 0
+  pub bell : front.setup.bell ≡ true
+  pub region : RegionLies (sizes_in memory) front.setup.region
   pub unfailed : IsUnfailed memory
 
 -- the front is the one of queue q, an attached queue is on its rings and lies where it should, and the disk has the
@@ -89,6 +92,7 @@ pub record IsNewFront (h : Header1) (q : ℕ) (front : Front) : Type 0 where
   pub setup : LiesAs q front.setup h.size
   pub base : front.setup.base ≡ h.base
   pub space : front.space.number ≡ 0
+  pub bell : front.setup.bell ≡ true
   pub driver : driver_in front.guest ≡ new_driver h.base
   pub position : last_used_in front.guest ≡ h.base
   pub asked : front.asked ≡ None

@@ -1,3 +1,4 @@
+pub mod Bells
 pub mod Fronts
 pub mod Lives
 pub mod Machine
@@ -6,5 +7,6 @@ pub mod MachineDevice
 pub mod MachineFront
 pub mod MachineSteps
 pub mod OutstandingRequests
+pub mod Regions
 pub mod Sequences
 pub mod World

@@ -4,6 +4,7 @@ use Rattle.vub_base.specs.declared.header.Header1.{Header1}
 use Rattle.vub_base.specs.declared.request.Ask.{Ask}
 use Rattle.vub_shared.specs.Watched.{bytes_in}
 use Rattle.vub_steps.specs.declared.readiness.Turn.{Turn}
+use Rattle.vub_steps.specs.declared.steps.Phase.TheVariants.{Rest}
 use Rattle.vub_driver.specs.Drivers.{Waiting}
 use Rattle.vub_device.specs.declared.entry.Asked.{Asked}
 use Rattle.vub_device.specs.declared.entry.Asked.TheVariants as requests
@@ -40,9 +41,9 @@ pub record FrontAt (q : ℕ) (d : Desk) (m : Moment) : Type 0 where
   pub driver : driver_in d.front.guest ≡ (m.lanes q).driver
   pub asks : AskAt (m.lanes q).driver.waiting d.front.asked
 
--- a queue that isn't attached wasn't started
+-- a queue that isn't attached wasn't started, and none of its phases is under way
 abbrev pub AttachedAt : ℕ → Header1 → QueueSetup → Moment → Option Queue → Type 0
-AttachedAt q h setup m None = (m.joined ≡ false) × ((m.lanes q).attached ≡ false) × (started m.scene.past q ≡ false)
+AttachedAt q h setup m None = (m.joined ≡ false) × ((m.lanes q).attached ≡ false) × (started m.scene.past q ≡ false) × ((m.lanes q).phase ≡ Rest)
 AttachedAt q h setup m (Some queue) = (m.joined ≡ true) × ((m.lanes q).attached ≡ true) × QueueStands q h setup m (state_of queue)
 
 abbrev pub LifeAt : ℕ → Header1 → QueueSetup → Moment → Option (Option Queue) → Type 0

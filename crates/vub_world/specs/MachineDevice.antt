@@ -10,7 +10,7 @@ use Rattle.vub_shared.specs.declared.watched_shared.WatchedShared.{WatchedShared
 use Rattle.vub_disk.specs.Values.{Values}
 use Rattle.vub_steps.specs.declared.readiness.Turn.{Turn}
 use Rattle.vub_steps.specs.Readiness.{is_ready}
-use Rattle.vub_steps.specs.Steps.{next_step}
+use Rattle.vub_steps.specs.Steps.{next_of}
 use Rattle.vub_steps.specs.declared.steps.Step.{Step}
 use Rattle.vub_steps.specs.declared.steps.Step.TheVariants.{Index}
 use Rattle.vub_driver.specs.Layout.{guest_space, area_place, buffer_place, status_place, sectors_place}
@@ -32,7 +32,7 @@ use Rattle.vub_world.specs.OutstandingRequests.{size_in, slot_in}
 use Rattle.vub_run.specs.Moments.{Moment, standing}
 use Rattle.vub_steps.specs.declared.readiness.Choice.{Choice}
 use Rattle.vub_steps.specs.Readiness.{chosen}
-use Rattle.vub_queue.specs.QueueState.{course_in, QueueState, state_of, is_idle}
+use Rattle.vub_queue.specs.QueueState.{steps_in, QueueState, state_of, is_idle}
 use Rattle.vub_queue_in_run.specs.QueueAt.{QueueStands, DiskAt}
 use Rattle.vub_run.specs.Run.{one_turn}
 use Rattle.vub_world.specs.MachineFront.{store_item, OneSmall}
@@ -64,6 +64,7 @@ abbrev pub noted : ℕ → OutstandingRequests → Values → List Store → Lis
 noted q outstanding v stores answers (says.Stored tag) = stored_items tag stores
 noted q outstanding v stores answers (says.Completed head) = stored_items T5 stores
 noted q outstanding v stores answers says.Published = stored_items SP5 stores ++ items.Made (entries.Publish q answers) ∷ []
+noted q outstanding v stores answers says.Belled = items.Bell q ∷ []
 noted q outstanding v stores answers says.Started = items.Made (entries.Start q []) ∷ []
 noted q outstanding v stores answers (says.Accepted head) = items.Made (entries.Accept q (number_at outstanding head)) ∷ []
 noted q outstanding v stores answers (says.Looked head sector) = items.Made (entries.Look q (number_at outstanding head) sector (v sector)) ∷ []
@@ -94,7 +95,7 @@ is_index (Some Index) = true
 is_index step = false
 
 abbrev pub is_showing : QueueState → Bool
-is_showing state = is_index (next_step (course_in state) state.phase)
+is_showing state = is_index (next_of (steps_in state) state.phase)
 
 -- the answers to the batch that the next step shows, if it shows one
 abbrev pub shown_of : ℕ → OutstandingRequests → Bytes → QueueState → List Answered
@@ -105,7 +106,9 @@ abbrev pub IsMade : Stepped → Type 0
 IsMade says.Idle = ⊥
 IsMade (says.Faulted head) = ⊥
 IsMade says.SharedFault = ⊥
+IsMade says.BellFault = ⊥
 IsMade (says.Broken fault) = ⊥
+IsMade (says.Damaged fault) = ⊥
 IsMade x = ⊤
 
 -- a turn that says so stores once, a sector at most

@@ -1,8 +1,9 @@
 -- What a step of the driver leaves in the machine, and which items it notes.
-use Rattle.std.specs.Prelude.{◌≡◌, ◌<◌, ◌≤◌, ℕ, ◌+◌, Bool, false, nat_lt, List, [], ◌∷◌, ◌++◌, length, Option, Some, None, ⊤}
+use Rattle.std.specs.Prelude.{◌≡◌, ◌<◌, ◌≤◌, ℕ, ◌+◌, ◌==◌, if◌then◌else◌, Bool, false, nat_lt, List, [], ◌∷◌, ◌++◌, length, Option, Some, None, ⊤}
 use Rattle.std.specs.List.{AllByRecursion}
 use Rattle.vub_base.specs.declared.store.Tag.{Tag}
-use Rattle.vub_base.specs.declared.store.Area.TheVariants.{M}
+use Rattle.vub_base.specs.declared.store.Area.{Area}
+use Rattle.vub_base.specs.declared.store.Area.TheVariants.{M, I}
 use Rattle.vub_shared.specs.Stores.{Store}
 use Rattle.vub_shared.specs.Bytes.{Bytes}
 use Rattle.vub_driver.specs.Drivers.{Waiting}
@@ -14,18 +15,24 @@ use Rattle.vub_world.specs.declared.outstanding.OutstandingRequests.{Outstanding
 use Rattle.vub_world.specs.Fronts.{Desk}
 use Rattle.vub_world.specs.OutstandingRequests.{offered_in, collected_in, size_in, slot_in, Offers}
 use Rattle.vub_guest.specs.GuestState.{ring_in, driver_in, last_used_in, Shows, Collects}
+use Rattle.vub_run.specs.Memory.{space_of}
 use Rattle.vub_run.specs.Moments.{Moment}
 use Rattle.vub_run.specs.Run.{guest_stores}
 use Rattle.vub_world.specs.MachineAt.{AskAt, FrontAt}
 
--- a store into guest memory of eight sectors at most
-pub record IsSmall (st : Store) : Type 0 where
-  pub space : st.space ≡ 0
+-- the area that a space is
+abbrev pub area_of : ℕ → Area
+area_of space = if space == 0 then M else I
+
+-- a store into this area of eight sectors at most
+pub record IsSmall (area : Area) (st : Store) : Type 0 where
+  pub space : st.space ≡ space_of area
   pub few : length st.bytes ≤ 4096
 
+-- the driver's are into guest memory
 abbrev pub AreSmall : Option Waiting → Type 0
 AreSmall None = ⊤
-AreSmall (Some w) = AllByRecursion IsSmall w.left
+AreSmall (Some w) = AllByRecursion (IsSmall M) w.left
 
 -- the head of the request that waits has a place in the table of outstanding requests
 abbrev pub HeadHasPlace : OutstandingRequests → Option Waiting → Type 0
@@ -39,11 +46,11 @@ pub record FrontFits (front : Front) : Type 0 where
   pub place : HeadHasPlace front.outstanding (driver_in front.guest).waiting
 
 abbrev pub store_item : Tag → Store → Item
-store_item tag st = items.Store tag M st.place st.bytes
+store_item tag st = items.Store tag (area_of st.space) st.place st.bytes
 
 -- the one store that is kept is small
 abbrev pub OneSmall : List Store → Type 0
-OneSmall (st ∷ []) = IsSmall st
+OneSmall (st ∷ []) = IsSmall (area_of st.space) st
 OneSmall sts = ⊥
 
 -- the outstanding requests after so many stores of a request: it is one of them with its last store, under its head

@@ -13,6 +13,7 @@ ghost use Rattle.vub_queue.specs.Queue.{ring_in};
 ghost use Rattle.vub_queue_in_run.specs.QueueAt.{LiesAs};
 ghost use Rattle.vub_queue.specs.QueueState.{QueueLies, state_of};
 
+use crate::bell::WatchedBell;
 use vub_memdisk::MemDisk;
 use vub_queue::{Choice, Queue, Stepped};
 use vub_shared::WatchedShared;
@@ -40,7 +41,8 @@ impl Sequence {
     }
 }
 
-/// A turn of a queue. Where memory keeps no store yet and hasn't failed, nothing fails in it.
+/// A turn of a queue, with a bell of its own. Where memory keeps no store yet and hasn't failed, nothing
+/// fails in it.
 pub fn turn_queue(
     queue: &mut Queue,
     choice: Choice,
@@ -59,5 +61,6 @@ pub fn turn_queue(
         → DeviceAt q h setup m (device queue.old memory.old disk.old) → OutstandingAt q h.size m.scene.past (m.scene.heads q) outstanding
         → DeviceTurns q h setup m (turn_here q h choice m) outstanding (device queue.old memory.old disk.old) (device queue.new memory.new disk.new) result }
 {
-    queue.turn(choice, memory, disk)
+    let mut bell = WatchedBell::new();
+    queue.turn(choice, memory, disk, &mut bell)
 }

@@ -5,6 +5,7 @@ ghost use Rattle.vub_shared.specs.Watched.{bytes_in, stores_in, sizes_in};
 
 use crate::notes::{asked_of, note_store};
 use crate::outstanding::OutstandingRequests;
+use crate::regions::region_of;
 use std::alloc::Global;
 use vub_base::{Ask, Header1, Memory, Shape, Space, Tag};
 use vub_device::Entry;
@@ -36,6 +37,7 @@ impl Front {
     ghost use Rattle.vub_device.specs.Requests.{request_of};
     ghost use Rattle.vub_device.specs.declared.entry.Entry.TheVariants as entries;
     ghost use Rattle.vub_driver.specs.Drivers.{Waiting, can_take, after_ask};
+    ghost use Rattle.vub_driver.specs.Layout.{guest_space, inflight_space};
     ghost use Rattle.vub_guest.specs.declared.guest.GuestStep.TheVariants as answers;
     ghost use Rattle.vub_guest.specs.declared.guest.Collected.TheVariants as takes;
     ghost use Rattle.vub_guest.specs.GuestState.{ring_in, driver_in, last_used_in, next_store, Steps, Shows, Collects};
@@ -48,11 +50,18 @@ impl Front {
     ghost use Rattle.vub_world.specs.MachineFront.{FrontFits, GuestSteps, GuestGoes, HasPlaces, TakesFirst};
     ghost use Rattle.vub_world.specs.OutstandingRequests.{offered_in, size_in, Offers};
 
-    /// That of a queue of the header, whose area lies in this space.
-    pub fn new(alloc: Global, header: &Header1, index: u16, space: Space) -> Result<Front, Memory>
+    /// That of a queue of the header, whose area lies in `space` and its region in `inflight`.
+    pub fn new(
+        alloc: Global,
+        header: &Header1,
+        index: u16,
+        space: Space,
+        inflight: Space,
+    ) -> Result<Front, Memory>
         requires header { IsHeader header.now }
         requires exists { index < header.now.queues }
-        requires space { space.number ≡ 0 }
+        requires space { space.number ≡ guest_space }
+        requires inflight { inflight.number ≡ inflight_space }
         ensures { IfOk result (IsNewFront header.now index) }
     {
         Ok(Front {
@@ -62,7 +71,9 @@ impl Front {
             setup: QueueSetup {
                 index,
                 ring: ring_of(space, index, header.size),
+                region: region_of(inflight, index, header.size),
                 base: header.base,
+                bell: true,
             },
             space,
             guest: Guest::new(alloc, header, index, space)?,

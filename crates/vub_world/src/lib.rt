@@ -2,11 +2,13 @@
 //! of what happens between them.
 #![tactic(auto)]
 
+mod bell;
 mod device;
 mod front;
 mod machine;
 mod notes;
 mod outstanding;
+mod regions;
 #[cfg(test)]
 mod tests;
 mod turns;

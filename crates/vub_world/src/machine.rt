@@ -1,20 +1,23 @@
 //! The parts of a world, and what each event does with them.
-ghost use Rattle.std.specs.Prelude.{◌≡◌, ◌<◌, ◌≤◌, ◌+◌, ◌-◌, ◌*◌, ◌^◌, ◌++◌, ◌∷◌, [], ℕ, List, IfOk, OnOk, OnErr, length, true, false, Some, None};
+ghost use Rattle.std.specs.Prelude.{◌≡◌, ◌<◌, ◌≤◌, ◌+◌, ◌-◌, ◌*◌, ◌^◌, ◌++◌, ◌∷◌, [], ◌≢◌, ℕ, List, IfOk, OnOk, OnErr, length, true, false, Some, None};
 ghost use Rattle.vub_base.specs.declared.header.Header1.{Header1};
-ghost use Rattle.vub_shared.specs.Watched.{bytes_in, sizes_in, IsUnfailed};
+ghost use Rattle.vub_driver.specs.Layout.{guest_space, inflight_space, area_place};
+ghost use Rattle.vub_shared.specs.Watched.{bytes_in, sizes_in, count_in, faults_in, IsUnfailed};
 ghost use Rattle.vub_schedule.specs.Spelling.{IsHeader, IsEvent};
 ghost use Rattle.vub_world.specs.declared.front.Front.{Front};
 ghost use Rattle.vub_world.specs.Fronts.{AreNewFronts};
+ghost use Rattle.vub_world.specs.Regions as regions;
 
 use crate::device::Sequence;
 use crate::front::Front;
+use crate::regions::inflight_size;
 use std::alloc::Global;
 use std::mem;
 use vub_base::standard::SECTOR_SIZE;
 use vub_base::{Ask, Header1, Memory, Shape, Space};
 use vub_device::Entry;
 use vub_disk::Disk;
-use vub_guest::layout::AREA;
+use vub_guest::layout::area_of;
 use vub_memdisk::MemDisk;
 use vub_queue::{Choice, Queue, Turn};
 use vub_report::{Item, Items, Record};
@@ -25,8 +28,14 @@ use vub_shared::{Shared, SharedFault, WatchedShared};
 /// The most stores that a request takes, with the one that offers it.
 const MOST_STORES: u16 = 8;
 
+/// The most turns of a started queue that belong to no one request.
+const BESIDES: u64 = 3;
+
+/// Those of a queue that isn't started, beside one for each place.
+const BESIDES_START: u64 = 6;
+
 /// A life of the device; its queues are there once they are attached.
-#[derive(Debug, Drop)]
+#[derive(Drop)]
 struct Life {
     queues: Option<Vec<Queue>>,
 }
@@ -45,19 +54,38 @@ pub struct Machine {
     spare: Spare,
 }
 
-/// Guest memory of zero bytes, an area for each queue, and its space.
-fn guest_memory(alloc: Global, queues: u16) -> Result<(WatchedShared, Space), Memory>
-    ensures space { IfOk result (λ m. m.1.number ≡ 0) }
-    ensures size { IfOk result (λ m. sizes_in m.0 0 ≡ AREA * queues) }
+/// A further space of a memory of zero bytes.
+fn add_space(memory: &mut WatchedShared, name: &str, size: u64) -> Result<Space, Memory>
+    requires few { count_in memory.old < 65535 }
+    requires zero { (s p : ℕ) → bytes_in memory.old s p ≡ 0 }
+    ensures number { IfOk result (λ space. space.number ≡ count_in memory.old) }
+    ensures count { OnOk result (count_in memory.new ≡ count_in memory.old + 1) }
+    ensures size { IfOk result (λ space. sizes_in memory.new space.number ≡ size) }
+    ensures others { OnOk result ((s : ℕ) → s ≢ count_in memory.old → sizes_in memory.new s ≡ sizes_in memory.old s) }
+    ensures zero { OnOk result ((s p : ℕ) → bytes_in memory.new s p ≡ 0) }
+    ensures faults { OnOk result (faults_in memory.new ≡ faults_in memory.old) }
+{
+    match memory.create(name, size) {
+        Ok(space) => Ok(space),
+        Err(SharedFault::Memory) => Err(Memory),
+        Err(SharedFault::Failed | SharedFault::NoSuch) => unreachable!(),
+    }
+}
+
+/// A memory of zero bytes: guest memory, with an area for each queue, and the in-flight region, with
+/// a part for each.
+fn shared_memory(alloc: Global, header: &Header1) -> Result<(WatchedShared, Space, Space), Memory>
+    ensures space { IfOk result (λ m. m.1.number ≡ guest_space) }
+    ensures inflight { IfOk result (λ m. m.2.number ≡ inflight_space) }
+    ensures size { IfOk result (λ m. sizes_in m.0 guest_space ≡ area_place header.now.queues) }
+    ensures inflight_size { IfOk result (λ m. sizes_in m.0 inflight_space ≡ regions.inflight_size header.now) }
     ensures zero { IfOk result (λ m. (s p : ℕ) → bytes_in m.0 s p ≡ 0) }
     ensures unfailed { IfOk result (λ m. IsUnfailed m.0) }
 {
     let mut memory = WatchedShared::new(alloc)?;
-    match memory.create("mem", AREA * u64::from(queues)) {
-        Ok(space) => Ok((memory, space)),
-        Err(SharedFault::Memory) => Err(Memory),
-        Err(SharedFault::Failed | SharedFault::NoSuch) => unreachable!(),
-    }
+    let space = add_space(&mut memory, "mem", area_of(header.queues))?;
+    let inflight = add_space(&mut memory, "inflight", inflight_size(header))?;
+    Ok((memory, space, inflight))
 }
 
 fn add_front(fronts: &mut Vec<Front>, front: Front) -> Result<(), Memory>
@@ -73,14 +101,20 @@ fn add_queue(queues: &mut Vec<Queue>, queue: Queue) -> Result<(), Memory>
 }
 
 /// The fronts of the header's queues, in the order of their numbers.
-fn new_fronts(alloc: Global, header: &Header1, space: Space) -> Result<Vec<Front>, Memory>
+fn new_fronts(
+    alloc: Global,
+    header: &Header1,
+    space: Space,
+    inflight: Space,
+) -> Result<Vec<Front>, Memory>
     requires header { IsHeader header.now }
-    requires space { space.number ≡ 0 }
+    requires space { space.number ≡ guest_space }
+    requires inflight { inflight.number ≡ inflight_space }
     ensures { IfOk result (λ fronts. AreNewFronts header.now header.now.queues fronts.items) }
 {
     let mut fronts = Vec::with_capacity(alloc, usize::from(header.queues)).map_err(|_| Memory)?;
     for queue in 0..header.queues {
-        let front = Front::new(alloc, header, queue, space)?;
+        let front = Front::new(alloc, header, queue, space, inflight)?;
         add_front(&mut fronts, front)?;
     }
     Ok(fronts)
@@ -95,7 +129,8 @@ impl Machine {
     ghost use Rattle.vub_world.specs.Machine.{IsSound, LendsSound};
     ghost use Rattle.vub_world.specs.MachineAt.{MachineAt, IsStanding, Performs, StandsOn, is_attached};
     ghost use Rattle.vub_world.specs.MachineDevice.{is_joining};
-    ghost use Rattle.vub_world.specs.MachineSteps.{PlaysSingle, PlaysTurns};
+    ghost use Rattle.vub_world.specs.Lives.{life_of, is_started_in};
+    ghost use Rattle.vub_world.specs.MachineSteps.{PlaysSingle, PlaysTurns, turns_besides};
     ghost use Rattle.vub_world.specs.Fronts.{offers_in};
     ghost use Rattle.vub_run.specs.Moments.{opening};
 
@@ -107,12 +142,12 @@ impl Machine {
         ensures stands { IfOk result (λ m. MachineAt m (opening header.now)) }
         ensures offers { IfOk result (λ m. offers_in m ≡ 0) }
     {
-        let (memory, space) = guest_memory(alloc, header.queues)?;
+        let (memory, space, inflight) = shared_memory(alloc, header)?;
         Ok(Machine {
             alloc,
             header: *header,
             memory,
-            fronts: new_fronts(alloc, header, space)?,
+            fronts: new_fronts(alloc, header, space, inflight)?,
             life: None,
             disk: MemDisk::new(alloc, header.capacity)?,
             last: Record {
@@ -271,6 +306,35 @@ impl Machine {
         Ok(self.nothing())
     }
 
+    /// Whether a queue was started in this life.
+    fn is_started(&self, queue: u16) -> bool
+        ensures { result ≡ is_started_in (life_of queue self.now.life) }
+    {
+        let Some(
+            Life {
+                queues: Some(queues),
+            },
+        ) = &self.life
+        else {
+            return false;
+        };
+        match queues.get(usize::from(queue)) {
+            Some(queue) => queue.is_started(),
+            None => false,
+        }
+    }
+
+    /// The most turns of a queue that belong to no one request.
+    fn turns_besides(&self, queue: u16) -> u64
+        ensures { result ≡ turns_besides self.now.header.size (is_started_in (life_of queue self.now.life)) }
+    {
+        if self.is_started(queue) {
+            BESIDES
+        } else {
+            u64::from(self.header.size) + BESIDES_START
+        }
+    }
+
     /// A single turn, idle where it isn't ready.
     fn single(&mut self, queue: u16, turn: Turn) -> Result<Items, Memory>
         requires exists { queue < self.old.header.queues }
@@ -285,9 +349,10 @@ impl Machine {
             return self.idle();
         }
         let place = usize::from(queue);
+        let besides = self.turns_besides(queue);
         let front = &self.fronts[place];
         let undone = front.outstanding.count();
-        let mut room = Room::for_turns(self.alloc, &mut self.spare, 1, undone)?;
+        let mut room = Room::for_turns(self.alloc, &mut self.spare, 1, undone, besides)?;
         let Some(
             Life {
                 queues: Some(queues),
@@ -324,9 +389,10 @@ impl Machine {
             return self.idle();
         }
         let place = usize::from(queue);
+        let besides = self.turns_besides(queue);
         let front = &self.fronts[place];
         let undone = front.outstanding.count();
-        let mut room = Room::for_turns(self.alloc, &mut self.spare, count, undone)?;
+        let mut room = Room::for_turns(self.alloc, &mut self.spare, count, undone, besides)?;
         let Some(
             Life {
                 queues: Some(queues),

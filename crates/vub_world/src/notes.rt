@@ -4,9 +4,9 @@ ghost use Rattle.vub_shared.specs.Watched.{stores_in};
 ghost use Rattle.vub_device.specs.Requests.{request_of};
 ghost use Rattle.vub_room.specs.Rooms.{Spends, SpendsLists};
 ghost use Rattle.vub_world.specs.MachineDevice.{stored_items};
-ghost use Rattle.vub_world.specs.MachineFront.{OneSmall};
+ghost use Rattle.vub_world.specs.MachineFront.{OneSmall, area_of};
 
-use vub_base::{Area, Ask, Tag};
+use vub_base::{Area, Ask, Space, Tag};
 use vub_device::Asked;
 use vub_report::Item;
 use vub_room::Room;
@@ -31,7 +31,14 @@ pub fn asked_of(ask: Ask, room: &mut Room) -> Asked
     }
 }
 
-/// Notes the store that was made last: it is one into guest memory.
+/// The area that a space is.
+fn area_of(space: Space) -> Area
+    ensures { result ≡ area_of space.number }
+{
+    if space.number == 0 { Area::M } else { Area::I }
+}
+
+/// Notes the store that was made last.
 pub fn note_store(memory: &WatchedShared, tag: Tag, room: &mut Room)
     requires one { OneSmall (stores_in memory.now) }
     requires items { 1 ≤ room.old.item_room }
@@ -39,13 +46,13 @@ pub fn note_store(memory: &WatchedShared, tag: Tag, room: &mut Room)
     ensures items { room.new.items ≡ room.old.items ++ stored_items tag (stores_in memory.now) }
     ensures spent { Spends 1 1 room.old room.new }
 {
-    let Some((_, place, bytes)) = memory.last_store() else {
+    let Some((space, place, bytes)) = memory.last_store() else {
         unreachable!();
     };
     let bytes = room.copy(bytes);
     room.note(Item::Store {
         tag,
-        area: Area::M,
+        area: area_of(space),
         place,
         bytes,
     });

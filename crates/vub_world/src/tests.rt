@@ -1,6 +1,7 @@
 use crate::World;
+use crate::bell::WatchedBell;
 use std::test::Fail;
-use vub_base::{CacheMode, Format, Header1};
+use vub_base::{Bell, CacheMode, Format, Header1};
 use vub_report::{head_text, record_text};
 use vub_schedule::Event;
 
@@ -35,4 +36,15 @@ fn boots(rt: HostRuntime) -> Result<(), Fail> {
     let text = record_text(rt.alloc(), made).ok().ok_or("text")?;
     assert_eq!(rt; text.as_slice(), b"> boot\n".as_slice());
     Ok(())
+}
+
+#[test]
+fn lists_two_rings(rt: HostRuntime) {
+    let mut bell = WatchedBell::new();
+    assert_eq!(rt; bell.attach(3, "call3").is_ok(), true);
+    assert_eq!(rt; bell.ring(3).is_ok(), true);
+    assert_eq!(rt; bell.rung(), [3].as_slice());
+    assert_eq!(rt; bell.ring(5).is_ok(), true);
+    assert_eq!(rt; bell.ring(4).is_ok(), false);
+    assert_eq!(rt; bell.rung(), [3, 5].as_slice());
 }

@@ -11,7 +11,7 @@ ghost use Rattle.vub_shared.specs.Watched.{bytes_in, stores_in, sizes_in};
 ghost use Rattle.vub_world.specs.Fronts.{FrontSound, PartsSound, parts};
 ghost use Rattle.vub_world.specs.MachineAt.{PartsAt, PartsStand, IsReached};
 ghost use Rattle.vub_world.specs.MachineDevice.{BatchFits, ShowsSome, IsMade, StoreFits, SectorFits, HeadFits, answer_for, answers_for, shown_of, shows_in, number_at, noted, accepts, turn_here};
-ghost use Rattle.vub_world.specs.MachineSteps.{TurnGoes, StepGoes, TurnsGo};
+ghost use Rattle.vub_world.specs.MachineSteps.{TurnGoes, StepGoes, TurnsGo, turns_besides};
 ghost use Rattle.vub_world.specs.OutstandingRequests.{offered_in, collected_in, size_in, slot_in};
 ghost use Rattle.vub_world.specs.Sequences.{next_turn};
 
@@ -143,6 +143,7 @@ impl Front {
                 note_store(memory, Tag::SP5, room);
                 Entry::Publish(queue, AnswerList::new(answers))
             }
+            Stepped::Belled => return room.note(Item::Bell(queue)),
             Stepped::Started => Entry::Start(queue, NumberList::new(Vec::new(self.alloc))),
             Stepped::Accepted(head) => Entry::Accept(queue, self.number(head)),
             Stepped::Looked(head, sector) => {
@@ -152,8 +153,12 @@ impl Front {
                 Entry::Act(queue, self.number(head), sector, *disk.sector(sector))
             }
             Stepped::Synced(head) => Entry::Sync(queue, self.number(head)),
-            Stepped::Idle | Stepped::Faulted(_) | Stepped::SharedFault | Stepped::Broken(_) =>
-                unreachable!(),
+            Stepped::Idle
+            | Stepped::Faulted(_)
+            | Stepped::SharedFault
+            | Stepped::BellFault
+            | Stepped::Broken(_)
+            | Stepped::Damaged(_) => unreachable!(),
         };
         room.note(Item::Made(entry));
     }
@@ -223,7 +228,7 @@ impl Front {
     ) -> bool
         requires sound { PartsSound self.now.index (parts memory.old self.now queue.old disk.old) }
         requires some { 1 ≤ count }
-        requires room { HasRoom (min count (21 * (offered_in self.now.outstanding - collected_in self.now.outstanding) + 3)) (offered_in self.now.outstanding - collected_in self.now.outstanding) room.old }
+        requires room { HasRoom (min count (21 * (offered_in self.now.outstanding - collected_in self.now.outstanding) + turns_besides self.now.header.size (state_of queue.old).started)) (offered_in self.now.outstanding - collected_in self.now.outstanding) room.old }
         requires stands { PartsStand self.now.index (parts memory.old self.now queue.old disk.old) }
         ensures sound { PartsSound self.now.index (parts memory.new self.now queue.new disk.new) }
         ensures sizes { (s : ℕ) → sizes_in memory.new s ≡ sizes_in memory.old s }

@@ -7,8 +7,9 @@ use std::alloc::Global;
 use std::test::Fail;
 
 /// The size of the queue, the events and the entries, with `;` between them. Beside events there stand
-/// `setup` for `boot`, `join` and `start 0`, and `flush` and `write S VV` for such a request with all
-/// stores of the driver.
+/// `setup` for `boot`, `join` and as many `start 0` as the start of a queue of eight places takes, and
+/// `flush` and `write S VV` for such a request with all stores of the driver. A start takes a turn for
+/// each place and four more.
 type Row = (&'static str, &'static str, &'static str);
 
 const ROWS: [Row; 28] = [
@@ -49,7 +50,7 @@ const ROWS: [Row; 28] = [
     // Turns before a life, and before the queue is attached.
     (
         "4",
-        "fetch 0;start 0;turn 0 5;drain 0;boot;start 0;turn 0 1;join;turn 0 1",
+        "fetch 0;start 0;turn 0 5;drain 0;boot;start 0;turn 0 1;join;turn 0 8",
         "start 0 -",
     ),
     // A collect finds nothing until the index of the used ring is stored.
@@ -94,19 +95,19 @@ const ROWS: [Row; 28] = [
     // A request can't be asked for while one waits; all turns up to the end.
     (
         "4",
-        "boot;join;ask 0 d flush;ask 0 d flush;guest 0 16;guest 0 16;turn 0 9;turn 0 1",
+        "boot;join;ask 0 d flush;ask 0 d flush;guest 0 16;guest 0 16;turn 0 16;turn 0 1",
         "offer 0 flush;start 0 -;accept 0 0;sync 0 0;publish 0 0:0",
     ),
     // So many turns and no more; a fetch comes before work.
     (
         "4",
-        "boot;join;flush;turn 0 2;flush;turn 0 1;turn 0 2;turn 0 1",
+        "boot;join;flush;turn 0 9;flush;turn 0 1;turn 0 2;turn 0 1",
         "offer 0 flush;start 0 -;accept 0 0;offer 0 flush;accept 0 1;sync 0 0;sync 0 1",
     ),
     // A publication under way comes before a fetch.
     (
         "4",
-        "boot;join;flush;turn 0 5;flush;turn 0 2;turn 0 1",
+        "boot;join;flush;turn 0 12;flush;turn 0 2;turn 0 1",
         "offer 0 flush;start 0 -;accept 0 0;sync 0 0;offer 0 flush;publish 0 0:0;accept 0 1",
     ),
     // No more is fetched than is offered.
@@ -168,16 +169,17 @@ const ROWS: [Row; 28] = [
         "setup;ask 0 d read 0 1;guest 0 16;drain 0",
         "start 0 -",
     ),
-    // Requests that were offered before the start.
+    // Requests that were offered before the start, and in the middle of it.
     (
         "4",
-        "flush;boot;join;fetch 0;flush;start 0;fetch 0;fetch 0;fetch 0",
+        "flush;boot;join;fetch 0;start 0;start 0;start 0;fetch 0;flush;start 0;start 0;start 0;\
+         start 0;fetch 0;start 0;fetch 0;fetch 0;fetch 0",
         "offer 0 flush;offer 0 flush;start 0 -;accept 0 0;accept 0 1",
     ),
     // A drain ends what turns began, and leaves a request that isn't offered.
     (
         "4",
-        "boot;join;flush;turn 0 3;ask 0 d flush;guest 0 3;drain 0;guest 0 16;drain 0",
+        "boot;join;flush;turn 0 10;ask 0 d flush;guest 0 3;drain 0;guest 0 16;drain 0",
         "offer 0 flush;start 0 -;accept 0 0;sync 0 0;publish 0 0:0;offer 0 flush;accept 0 1;\
          sync 0 1;publish 0 1:0",
     ),
@@ -224,7 +226,12 @@ const ROWS: [Row; 28] = [
 /// Appends a part of a row as lines.
 fn put_part(text: &mut String, part: &str) -> Result<(), Fail> {
     match part {
-        "setup" => text.push_str("boot\njoin\nstart 0\n")?,
+        "setup" => {
+            text.push_str("boot\njoin\n")?;
+            for _ in 0..12 {
+                text.push_str("start 0\n")?;
+            }
+        }
         "flush" => text.push_str("ask 0 d flush\nguest 0 16\n")?,
         _ if part.starts_with("write") => {
             text.push_str("ask 0 d ")?;

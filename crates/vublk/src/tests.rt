@@ -40,6 +40,13 @@ const RECORDS: &str = "record 1 split 1 4 8 0 back
 . G m 1002 0100
 ! offer 0 write 0 aa*512
 > drain 0
+. SI1 i 0 0000000000000000
+. SI2 i 10 00
+. SI2 i 20 00
+. SI2 i 30 00
+. SI2 i 40 00
+. SI3 i 8 0100040000000000
++ bell 0
 ! start 0 -
 ! accept 0 0
 ! act 0 0 0 aa*512

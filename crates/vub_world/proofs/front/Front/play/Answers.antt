@@ -1,4 +1,4 @@
-use Rattle.std.proofs.Common.{◌≡◌, ap, sym, ◌∙◌, subst, true, false, not, Bool, ◌++◌, ℕ}
+use Rattle.std.proofs.Common.{◌≡◌, ap, sym, ◌∙◌, subst, true, false, not, Bool, ◌++◌, ℕ, length}
 use Rattle.vub_memdisk.specs.MemDisks.{values_of}
 use Rattle.vub_steps.specs.declared.readiness.Turn.{Turn}
 use Rattle.vub_shared.specs.Watched.{stores_in}
@@ -9,7 +9,7 @@ use Rattle.vub_world.specs.MachineSteps.{StepGoes, MachineTurns}
 use Rattle.vub_queue.specs.QueueState.{state_of, is_idle}
 use Rattle.vub_world.proofs.MachineBatches.{queue_batch_fits, queue_shows_some}
 use Rattle.vub_world.proofs.MachineTurnsNext.{reached_plain, reached_holds}
-use Rattle.vub_world.proofs.MachineTurnsSteps.{same_items, same_room, spends_none, spends_turn, step_ends, step_goes, step_made}
+use Rattle.vub_world.proofs.MachineTurnsSteps.{same_items, same_room, items_left, list_left, shows_few, spends_none, spends_turn, step_ends, step_goes, step_made}
 use Rattle.vub_world.proofs.front.Front.play.Goals as goal
 
 pub answers-answers-requires-clause-fits : goal.answers-answers-requires-clause-fits
@@ -25,6 +25,16 @@ answers-answers-requires-clause-some c =
     let w : Parts = parts c.args.memory.now c.args.self.now c.args.queue.now c.args.disk.now in
     let s = c.requires.stands in
     queue_shows_some q w.front.header w.front.setup s.0 (state_of c.args.queue.now) (reached_holds q w.front.header s.0 s.1).0 s.2.life.1.2
+
+pub note_turn-requires-clause-items : goal.note_turn-requires-clause-items
+note_turn-requires-clause-items c =
+    let state = state_of c.args.queue.now in
+    items_left (shows_in state) (length state.batch) c.args.room.now c.answers-answers.new.room c.requires.room c.answers-answers.ensures.room
+
+pub note_turn-requires-clause-lists : goal.note_turn-requires-clause-lists
+note_turn-requires-clause-lists c =
+    let state = state_of c.args.queue.now in
+    list_left (shows_in state) (length state.batch) c.args.room.now c.answers-answers.new.room (shows_few state) c.requires.room c.answers-answers.ensures.room
 
 pub note_turn-requires-clause-stores : goal.note_turn-requires-clause-stores
 note_turn-requires-clause-stores c =
