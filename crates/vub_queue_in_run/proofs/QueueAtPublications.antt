@@ -1,13 +1,14 @@
 -- What a turn of a publication says, makes and leaves in a run.
-use Rattle.std.proofs.Common.{◌≡◌, ◌<◌, ℕ, Bool, true, false, List, [], ◌++◌, length, take, drop, cond, refl, ap, sym, ◌∙◌, subst, arith}
-use Rattle.std.specs.Prelude.{Option, Some, slice_index, ◌||◌}
+use Rattle.std.proofs.Common.{◌≡◌, ◌<◌, ℕ, Bool, true, false, List, [], ◌++◌, length, take, drop, cond, refl, ap, sym, ◌∙◌, subst, arith, ◌*◌}
+use Rattle.std.specs.Prelude.{Option, Some, None, slice_index, ◌||◌}
 use Rattle.std.proofs.lemmas.Bool.{or_right}
 use Rattle.std.proofs.lemmas.Bool.Decides.{nat_tests}
-use Rattle.std.proofs.lemmas.List.{take-map}
+use Rattle.std.proofs.lemmas.List.{take-map, length-map, length-take}
 use Rattle.vub_base.specs.declared.header.Header1.{Header1}
 use Rattle.vub_steps.specs.declared.steps.Phase.{Phase}
 use Rattle.vub_steps.specs.declared.steps.Phase.TheVariants as phases
 use Rattle.vub_steps.specs.declared.steps.Step.{Step}
+use Rattle.vub_steps.specs.declared.steps.Step.TheVariants as steps
 use Rattle.vub_steps.specs.declared.readiness.Turn.{Turn}
 use Rattle.vub_steps.specs.declared.readiness.Turn.TheVariants as turns
 use Rattle.vub_steps.specs.Readiness.{is_ready, is_fetch, is_publication}
@@ -15,14 +16,16 @@ use Rattle.vub_steps.specs.Rows.{Row}
 use Rattle.vub_device.specs.declared.entry.Entry.{Entry}
 use Rattle.vub_device.specs.Past.{accepted, is_among, IsOpen, started}
 use Rattle.vub_device.proofs.Numbers.{is_among_append}
-use Rattle.vub_facts.specs.Facts.{IsDue}
+use Rattle.vub_facts.specs.Facts.{Side, IsDue}
+use Rattle.vub_facts.proofs.Places.{Place, place_of}
 use Rattle.vub_facts.proofs.FactSteps.{publication_due}
 use Rattle.vub_queue.specs.declared.queue.Stepped.{Stepped}
+use Rattle.vub_queue.specs.declared.queue.Stepped.TheVariants as says
 use Rattle.vub_queue.specs.declared.queue.QueueSetup.{QueueSetup}
 use Rattle.vub_queue.specs.QueueState as states
-use Rattle.vub_queue.specs.QueueState.{QueueState, row_at, next_row, step_in, publishes, publish_row, Publishes, Moves, MovesBy, Turns, is_fault}
+use Rattle.vub_queue.specs.QueueState.{QueueState, seen_by, row_at, next_row, row_said, step_said, step_in, publishes, publish_row, Publishes, Moves, MovesBy, Turns, is_fault}
 use Rattle.vub_run.specs.Moments.{Lane, Moment, region_in, standing}
-use Rattle.vub_run.specs.Turns.{under_way, phase_turn, phase_goes_on}
+use Rattle.vub_run.specs.Turns.{under_way, phase_turn, phase_goes_on, element_of}
 use Rattle.vub_run_laws.proofs.RunGood.{Known, hidden}
 use Rattle.vub_run_laws.proofs.RunHolds.{Holds, publishing}
 use Rattle.vub_run_laws.proofs.RunPhases.{resting, rest_is, taking, taking_holds}
@@ -47,12 +50,45 @@ record Publishing (q : ℕ) (h : Header1) (setup : QueueSetup) (m : Moment) (don
   pub at : QueueAt q h setup m.scene.past (m.scene.heads q) (phases.Publish done) (hidden_part (phases.Publish done) l.batch) l.completed l.made u
   pub phase : PhaseAt q h setup m.scene.past (m.scene.heads q) l.bell l.plan l.counter l.batch (phases.Publish done) (region_in h q m.scene) u
 
+row_never : {A : Type 0} (row : Option Row) → row_said row ≡ says.Published → A
+row_never None e = absurd (cc)
+row_never (Some y) e = absurd (cc)
+
+-- only the store of used.idx says that a batch is published
+index_said : (head : ℕ) (row : Option Row) (step : Step) → step_said head row step ≡ says.Published → step ≡ steps.Index
+index_said head row steps.Index e = refl
+index_said head row steps.Accept e = absurd (cc)
+index_said head row steps.Bell e = absurd (cc)
+index_said head row steps.Features e = row_never row e
+index_said head row (steps.Free i) e = row_never row e
+index_said head row steps.Open e = row_never row e
+index_said head row (steps.Settle i) e = row_never row e
+index_said head row steps.SettleEnd e = row_never row e
+index_said head row steps.Start e = row_never row e
+index_said head row steps.Count e = row_never row e
+index_said head row (steps.Id e') e = row_never row e
+index_said head row (steps.Len e') e = row_never row e
+index_said head row (steps.Link e') e = row_never row e
+index_said head row (steps.Head e') e = row_never row e
+index_said head row (steps.Clear e') e = row_never row e
+index_said head row steps.Note e = row_never row e
+
 -- what a step that is due does of the queue
 abbrev Does : Moment → Stepped → QueueState → QueueState → Type 0
 Does m x u t = MovesBy (step_in u) m.scene.memory x u t
 
+-- the next step is the store of used.idx
+record AtIndex (done : ℕ) (l : Lane) (u : QueueState) : Type 0 where
+  pub next : step_in u ≡ Some steps.Index
+  pub place : done ≡ 4 * length l.batch
+
+-- what a step leaves, and where it was the store of used.idx
+record Goes (q : ℕ) (h : Header1) (setup : QueueSetup) (m : Moment) (turn : Turn) (x : Stepped) (row : Option Row) (done : ℕ) (l : Lane) (u t : QueueState) : Type 0 where
+  pub step : StepStands q h setup m turn x row l.batch t
+  pub shows : x ≡ says.Published → AtIndex done l u
+
 goes : (q : ℕ) (h : Header1) (setup : QueueSetup) (m : Moment) (most : ℕ) (x : Stepped) (row : Option Row) (done : ℕ) (l : Lane) (u t : QueueState) → Publishing q h setup m done l u → under_way h q m.scene (turns.Publish most) (m.lanes q) ≡ publishing done l → Does m x u t → row ≡ row_at u m.scene.memory (step_in u)
-    → StepStands q h setup m (turns.Publish most) x row l.batch t
+    → Goes q h setup m (turns.Publish most) x row done l u t
 goes q h setup m most x row done l u t f lane does is_row = go due.0 due.1
   where
     due : (step : Step) × IsDue h.size step (side_of q h m.scene l.bell l.plan l.counter l.batch (phases.Publish done))
@@ -74,18 +110,29 @@ goes q h setup m most x row done l u t f lane does is_row = go due.0 due.1
       phase = f.phase;
     }
 
-    go : (step : Step) → IsDue h.size step (side_of q h m.scene l.bell l.plan l.counter l.batch (phases.Publish done)) → StepStands q h setup m (turns.Publish most) x row l.batch t
+    at_index : (step : Step) → IsDue h.size step (side_of q h m.scene l.bell l.plan l.counter l.batch (phases.Publish done)) → step_in u ≡ Some step → step ≡ steps.Index → AtIndex done l u
+    at_index step is_due next same =
+        let side : Side = side_of q h m.scene l.bell l.plan l.counter l.batch (phases.Publish done) in
+        let place : Place h.size steps.Index side = subst (λ (y : Step). Place h.size y side) same (place_of h.size step side is_due) in
+        let at : phases.Publish done ≡ phases.Publish (4 * length side.batch) = place.place in
+        let many : done ≡ 4 * length side.batch = cc in
+        record { next = next ∙ ap (λ (y : Step). Some y) same; place = omega (arith, many, length-map l.batch (element_of h q m.scene)) }
+
+    go : (step : Step) → IsDue h.size step (side_of q h m.scene l.bell l.plan l.counter l.batch (phases.Publish done)) → Goes q h setup m (turns.Publish most) x row done l u t
     go step is_due =
         let w = way step is_due in
         let next : step_in u ≡ Some step = queue_next q h setup m.scene (publishing done l) step u w in
         let moves : MovesBy (Some step) m.scene.memory x u t = subst (λ (o : Option Step). MovesBy o m.scene.memory x u t) next does in
-        step_stands q h setup m (turns.Publish most) (publishing done l) step u t x row (record {
-          way = w;
-          is = ap (phase_goes_on h q m.scene) lane ∙ ap (phase_turn h q m.scene (publishing done l)) (lane_next q h setup m.scene (publishing done l) step u w);
-          said = moves.0;
-          leaves = moves.1;
-          is_row = is_row ∙ ap (row_at u m.scene.memory) next;
-        })
+        record {
+          step = step_stands q h setup m (turns.Publish most) (publishing done l) step u t x row (record {
+            way = w;
+            is = ap (phase_goes_on h q m.scene) lane ∙ ap (phase_turn h q m.scene (publishing done l)) (lane_next q h setup m.scene (publishing done l) step u w);
+            said = moves.0;
+            leaves = moves.1;
+            is_row = is_row ∙ ap (row_at u m.scene.memory) next;
+          });
+          shows = λ says_so. at_index step is_due next (index_said (seen_by u m.scene.memory).head (row_at u m.scene.memory (Some step)) step (sym moves.0 ∙ says_so));
+        }
 
 -- ---- its turns
 
@@ -149,8 +196,19 @@ goes_on q h setup m done state good main z run phase =
 
 -- ---- a turn
 
+-- the next step of a queue and its lane shows their batch, which is the one under way
+pub record ShowsBatch (q : ℕ) (h : Header1) (m : Moment) (most : ℕ) (state : QueueState) : Type 0 where
+  pub next : step_in state ≡ Some steps.Index
+  pub place : (m.lanes q).phase ≡ phases.Publish (4 * length (m.lanes q).batch)
+  pub batch : (under_way h q m.scene (turns.Publish most) (m.lanes q)).batch ≡ (m.lanes q).batch
+
+-- what a publication leaves, and where it showed the batch
+pub record PublishStands (q : ℕ) (h : Header1) (setup : QueueSetup) (m : Moment) (most : ℕ) (x : Stepped) (row : Option Row) (state state' : QueueState) : Type 0 where
+  pub step : StepStands q h setup m (turns.Publish most) x row (under_way h q m.scene (turns.Publish most) (m.lanes q)).batch state'
+  pub shows : x ≡ says.Published → ShowsBatch q h m most state
+
 shows_stands : (q : ℕ) (h : Header1) (setup : QueueSetup) (m : Moment) (most : ℕ) (x : Stepped) (state t : QueueState) → IsPlain h → Good q h m → LiesAs q setup h.size → QueueStands q h setup m state → is_ready (standing h q m) (turns.Publish most) ≡ true → Does m x (states.under_way most state) t
-    → StepStands q h setup m (turns.Publish most) x (next_row (states.under_way most state) m.scene.memory) (under_way h q m.scene (turns.Publish most) (m.lanes q)).batch t
+    → PublishStands q h setup m most x (next_row (states.under_way most state) m.scene.memory) state t
 shows_stands q h setup m most x state t plain good main z ready does = go (running_cases q h m.scene (m.lanes q) run good.holds)
   where
     l : Lane
@@ -165,42 +223,53 @@ shows_stands q h setup m most x state t plain good main z ready does = go (runni
     run : started m.scene.past q ≡ true
     run = grind (arith, nat_tests)
 
-    on : (done : ℕ) (l' : Lane) (u : QueueState) → Publishing q h setup m done l' u → v ≡ u → under_way h q m.scene turn l ≡ publishing done l' → StepStands q h setup m turn x (next_row v m.scene.memory) (under_way h q m.scene turn l).batch t
-    on done l' u f same lane =
-        subst (λ (y : Lane). StepStands q h setup m turn x (next_row v m.scene.memory) y.batch t) (sym lane)
-        (goes q h setup m most x (next_row v m.scene.memory) done l' u t f lane (subst (λ (y : QueueState). Does m x y t) same does) (ap (λ (y : QueueState). next_row y m.scene.memory) same))
+    on : (done : ℕ) (l' : Lane) (u : QueueState) → Publishing q h setup m done l' u → v ≡ u → under_way h q m.scene turn l ≡ publishing done l' → Goes q h setup m turn x (next_row v m.scene.memory) done l' u t
+    on done l' u f same lane = goes q h setup m most x (next_row v m.scene.memory) done l' u t f lane (subst (λ (y : QueueState). Does m x y t) same does) (ap (λ (y : QueueState). next_row y m.scene.memory) same)
 
-    go : RunningCases l.batch l.phase → StepStands q h setup m turn x (next_row v m.scene.memory) (under_way h q m.scene turn l).batch t
+    with_batch : (done : ℕ) (l' : Lane) → under_way h q m.scene turn l ≡ publishing done l' → StepStands q h setup m turn x (next_row v m.scene.memory) l'.batch t → StepStands q h setup m turn x (next_row v m.scene.memory) (under_way h q m.scene turn l).batch t
+    with_batch done l' lane y = subst (λ (k : Lane). StepStands q h setup m turn x (next_row v m.scene.memory) k.batch t) (sym lane) y
+
+    go : RunningCases l.batch l.phase → PublishStands q h setup m most x (next_row v m.scene.memory) state t
     go (AtRest phase none) =
-        on 0 (taking most l) (states.begun most state) (begins q h setup m most state plain good main z ready phase none) (ap (λ (b : Bool). cond {A = QueueState} b state (states.begun most state)) (ap is_publication (z.at.phase ∙ ap kept_phase phase)))
-        (sym (ap (under_way h q m.scene turn) (rest_is l phase none)))
+        let quiet : is_publication l.phase ≡ false = ap is_publication phase in
+        let some : 0 < most = grind (arith, nat_tests) in
+        let any : 0 < length l.completed = grind (arith, nat_tests) in
+        let lane : under_way h q m.scene turn l ≡ publishing 0 (taking most l) = sym (ap (under_way h q m.scene turn) (rest_is l phase none)) in
+        let y = on 0 (taking most l) (states.begun most state) (begins q h setup m most state plain good main z ready phase none) (ap (λ (b : Bool). cond {A = QueueState} b state (states.begun most state)) (ap is_publication (z.at.phase ∙ ap kept_phase phase))) lane in
+        record {
+          step = with_batch 0 (taking most l) lane y.step;
+          shows = λ says_so. absurd (omega (arith, (y.shows says_so).place, length-take most l.completed, some, any));
+        }
     go (InFetch phase none) =
         let fetches : is_fetch l.phase ≡ true = ap is_fetch phase in
         absurd (grind (arith, nat_tests))
     go (InPublication done phase some) =
         let same : publishing done l ≡ l = ap (λ (p : Phase). record l { phase = p }) (sym phase) in
-        on done l state (goes_on q h setup m done state good main z run phase) (ap (λ (b : Bool). cond {A = QueueState} b state (states.begun most state)) (ap is_publication (z.at.phase ∙ ap kept_phase phase)))
-        (sym (ap (under_way h q m.scene turn) same))
+        let lane : under_way h q m.scene turn l ≡ publishing done l = sym (ap (under_way h q m.scene turn) same) in
+        let y = on done l state (goes_on q h setup m done state good main z run phase) (ap (λ (b : Bool). cond {A = QueueState} b state (states.begun most state)) (ap is_publication (z.at.phase ∙ ap kept_phase phase))) lane in
+        record {
+          step = with_batch done l lane y.step;
+          shows = λ says_so. record { next = (y.shows says_so).next; place = phase ∙ ap (λ (n : ℕ). phases.Publish n) (y.shows says_so).place; batch = ap (λ (k : Lane). k.batch) lane };
+        }
 
 -- a turn that says what its row has doesn't stop the queue
 pub says_on : (q : ℕ) (h : Header1) (m : Moment) (turn : Turn) (x : Stepped) (row : Option Row) (head : ℕ) (batch : List ℕ) (t : QueueState) → TurnSays q h m turn x row head batch → states.halted x t ≡ t
 says_on q h m turn x row head batch t (Notes y s) = ap (λ (z : Stepped). states.halted z t) s.said
 says_on q h m turn x row head batch t (Accepts y tag s) = ap (λ (z : Stepped). states.halted z t) s.said
-says_on q h m turn x row head batch t (Shows y tag s) = ap (λ (z : Stepped). states.halted z t) s.said
+says_on q h m turn x row head batch t (Shows y tag low s) = ap (λ (z : Stepped). states.halted z t) s.said
 says_on q h m turn x row head batch t (Rings s) = ap (λ (z : Stepped). states.halted z t) s.said
 says_on q h m turn x row head batch t (Starts s) = ap (λ (z : Stepped). states.halted z t) s.said
 
 -- a publication that is ready and doesn't fail makes its next step
 pub publish_stands : (q : ℕ) (h : Header1) (setup : QueueSetup) (m : Moment) (most : ℕ) (x : Stepped) (state state' : QueueState) → IsPlain h → Good q h m → LiesAs q setup h.size → QueueStands q h setup m state → is_ready (standing h q m) (turns.Publish most) ≡ true → is_fault x ≡ false
-    → Turns (turns.Publish most) (Some m.scene.memory) x state state' → StepStands q h setup m (turns.Publish most) x (publish_row most state m.scene.memory) (under_way h q m.scene (turns.Publish most) (m.lanes q)).batch state'
+    → Turns (turns.Publish most) (Some m.scene.memory) x state state' → PublishStands q h setup m most x (publish_row most state m.scene.memory) state state'
 publish_stands q h setup m most x state state' plain good main z ready fine made =
     let t : QueueState = made.0 in
     let u : QueueState = states.under_way most state in
     let batch : List ℕ = (under_way h q m.scene (turns.Publish most) (m.lanes q)).batch in
     let shows : publishes most state ≡ true = ready_same q h setup m state (turns.Publish most) main good.holds z ∙ ready in
     let does : Moves (Some m.scene.memory) x u t = subst (λ (b : Bool). Publishes b (Some m.scene.memory) x state u t) shows (does_of (turns.Publish most) (Some m.scene.memory) x state state' made fine) in
-    let step = shows_stands q h setup m most x state t plain good main z ready (does m.scene.memory refl) in
-    let same : state' ≡ t = made.1 ∙ says_on q h m (turns.Publish most) x (next_row u m.scene.memory) (slice_index (m.scene.heads q) (accepted m.scene.past q)) batch t step.says in
+    let y : PublishStands q h setup m most x (next_row u m.scene.memory) state t = shows_stands q h setup m most x state t plain good main z ready (does m.scene.memory refl) in
+    let same : state' ≡ t = made.1 ∙ says_on q h m (turns.Publish most) x (next_row u m.scene.memory) (slice_index (m.scene.heads q) (accepted m.scene.past q)) batch t y.step.says in
     let row : next_row u m.scene.memory ≡ publish_row most state m.scene.memory = sym (ap (λ (b : Bool). states.row_if b u m.scene.memory) shows) in
-    subst (λ (s : QueueState). StepStands q h setup m (turns.Publish most) x (publish_row most state m.scene.memory) batch s) (sym same)
-    (subst (λ (r : Option Row). StepStands q h setup m (turns.Publish most) x r batch t) row step)
+    subst (λ (s : QueueState). PublishStands q h setup m most x (publish_row most state m.scene.memory) state s) (sym same) (subst (λ (r : Option Row). PublishStands q h setup m most x r state t) row y)

@@ -44,6 +44,7 @@ use Rattle.vub_run.specs.Memory.{Scene, after_items}
 use Rattle.vub_run.specs.Moments.{Lane, Moment, region_of, used_in, region_in, next_head}
 use Rattle.vub_run.specs.Run.{one_turn}
 use Rattle.vub_run.specs.Turns.{Turned, course_of, sight_of, turned, row_items, bell_items, entry_items, step_items, with_phase, counted, next_counter_in, phase_turn, element_of, answer_at}
+use Rattle.vub_run_laws.proofs.RunFrames.{length_little}
 use Rattle.vub_run_laws.proofs.RunElements.{get_map}
 use Rattle.vub_run_laws.proofs.RunGood.{Known, Worked}
 use Rattle.vub_run_laws.proofs.RingGood.{the_ring, side_of}
@@ -277,7 +278,7 @@ accept_says q h setup m turn l u x row made w fetching said is =
 index_says : (q : ℕ) (h : Header1) (setup : QueueSetup) (m : Moment) (turn : Turn) (l : Lane) (u : QueueState) (x : Stepped) (row : Option Row) (head : ℕ) → (turned h q turn m).items ≡ step_items h q l steps.Index m.scene → IsUnderWay q h setup m.scene l steps.Index u
     → x ≡ says.Published → row ≡ row_at u m.scene.memory (Some steps.Index) → TurnSays q h m turn x row head l.batch
 index_says q h setup m turn l u x row head made w said is =
-    Publishes (index_row q h m.scene l) refl (record {
+    Publishes (index_row q h m.scene l) refl (omega (arith, length_little 2 ((used_in h q m.scene + length (map (element_of h q m.scene) l.batch)) % 65536))) (record {
       is_row = is ∙ row_there q h setup m.scene l steps.Index u w;
       fits = ring_fits (the_ring q h.size) SP5 (used_idx_place (the_ring q h.size)) 2 ((used_in h q m.scene + length (map (element_of h q m.scene) l.batch)) % 65536) refl (omega arith);
       said = said;

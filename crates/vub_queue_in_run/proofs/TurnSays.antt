@@ -14,6 +14,7 @@ use Rattle.vub_infl_split.specs.declared.region.SplitStore.{SplitStore}
 use Rattle.vub_infl_split.specs.declared.region.SplitStore.TheVariants.{SI1, SI2, SI3, SR1, SR2, SF1, SF2 as SplitSF2, SP3, SP4, SP6, SP7}
 use Rattle.vub_steps.specs.declared.readiness.Turn.{Turn}
 use Rattle.vub_steps.specs.Rows.{Row, row, region_row}
+use Rattle.vub_driver.specs.Layout.{area_place}
 use Rattle.vub_queue.specs.declared.queue.Stepped.{Stepped}
 use Rattle.vub_queue.specs.declared.queue.Stepped.TheVariants as says
 use Rattle.vub_run.specs.Memory.{Scene, space_of, after_items}
@@ -67,10 +68,11 @@ pub record StoresNone (q : ℕ) (h : Header1) (m : Moment) (turn : Turn) (x what
 abbrev pub after_stored : Header1 → Row → Scene → Scene
 after_stored h y s = after_items h (row_item y ∷ []) s
 
--- a store; the acceptance of the head that waits longest, and the publication of a batch, each with its store; the bell; the end of a start
+-- a store; the acceptance of the head that waits longest, and the publication of a batch, whose store lies before all buffers, each
+-- with its store; the bell; the end of a start
 pub data TurnSays (q : ℕ) (h : Header1) (m : Moment) (turn : Turn) (x : Stepped) (row : Option Row) (head : ℕ) (batch : List ℕ) : Type 0 where
   Notes : (y : Row) → StoresRow q h m turn x (says.Stored y.tag) row y [] → TurnSays q h m turn x row head batch
   Accepts : (y : Row) → y.tag ≡ SF2 → StoresRow q h m turn x (says.Accepted head) row y (items.Made (entries.Accept q (accepted m.scene.past q)) ∷ []) → TurnSays q h m turn x row head batch
-  Publishes : (y : Row) → y.tag ≡ SP5 → StoresRow q h m turn x says.Published row y (items.Made (entries.Publish q (map (answer_at q (after_stored h y m.scene)) batch)) ∷ []) → TurnSays q h m turn x row head batch
+  Publishes : (y : Row) → y.tag ≡ SP5 → y.store.place + length y.store.bytes ≤ area_place q + 65536 → StoresRow q h m turn x says.Published row y (items.Made (entries.Publish q (map (answer_at q (after_stored h y m.scene)) batch)) ∷ []) → TurnSays q h m turn x row head batch
   Rings : StoresNone q h m turn x says.Belled row (items.Bell q) → TurnSays q h m turn x row head batch
   Starts : StoresNone q h m turn x says.Started row (items.Made (entries.Start q [])) → TurnSays q h m turn x row head batch

@@ -2,7 +2,7 @@
 use Rattle.std.specs.Prelude.{◌≡◌, ◌<◌, ◌≤◌, ℕ, ◌+◌, ◌*◌, Bool, true, false, not, ◌==◌, if◌then◌else◌, List, [], ◌∷◌, ◌++◌, length, map, slice_get, Option, Some, None, is_some, ⊤}
 use Rattle.vub_base.specs.declared.header.Header1.{Header1}
 use Rattle.vub_base.specs.declared.store.Tag.{Tag}
-use Rattle.vub_base.specs.declared.store.Tag.TheVariants.{SP5, T5}
+use Rattle.vub_base.specs.declared.store.Tag.TheVariants.{SF2, SP5, T5}
 use Rattle.vub_shared.specs.Bytes.{Bytes, bytes_from}
 use Rattle.vub_shared.specs.Stores.{Store}
 use Rattle.vub_shared.specs.Watched.{bytes_in, stores_in}
@@ -66,7 +66,7 @@ noted q outstanding v stores answers (says.Completed head) = stored_items T5 sto
 noted q outstanding v stores answers says.Published = stored_items SP5 stores ++ items.Made (entries.Publish q answers) ∷ []
 noted q outstanding v stores answers says.Belled = items.Bell q ∷ []
 noted q outstanding v stores answers says.Started = items.Made (entries.Start q []) ∷ []
-noted q outstanding v stores answers (says.Accepted head) = items.Made (entries.Accept q (number_at outstanding head)) ∷ []
+noted q outstanding v stores answers (says.Accepted head) = stored_items SF2 stores ++ items.Made (entries.Accept q (number_at outstanding head)) ∷ []
 noted q outstanding v stores answers (says.Looked head sector) = items.Made (entries.Look q (number_at outstanding head) sector (v sector)) ∷ []
 noted q outstanding v stores answers (says.Acted head sector) = items.Made (entries.Act q (number_at outstanding head) sector (v sector)) ∷ []
 noted q outstanding v stores answers (says.Synced head) = items.Made (entries.Sync q (number_at outstanding head)) ∷ []
@@ -115,6 +115,7 @@ IsMade x = ⊤
 abbrev pub StoreFits : Stepped → List Store → Type 0
 StoreFits (says.Stored tag) stores = OneSmall stores
 StoreFits (says.Completed head) stores = OneSmall stores
+StoreFits (says.Accepted head) stores = OneSmall stores
 StoreFits says.Published stores = OneSmall stores
 StoreFits x stores = ⊤
 

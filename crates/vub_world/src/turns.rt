@@ -145,7 +145,10 @@ impl Front {
             }
             Stepped::Belled => return room.note(Item::Bell(queue)),
             Stepped::Started => Entry::Start(queue, NumberList::new(Vec::new(self.alloc))),
-            Stepped::Accepted(head) => Entry::Accept(queue, self.number(head)),
+            Stepped::Accepted(head) => {
+                note_store(memory, Tag::SF2, room);
+                Entry::Accept(queue, self.number(head))
+            }
             Stepped::Looked(head, sector) => {
                 Entry::Look(queue, self.number(head), sector, *disk.sector(sector))
             }
