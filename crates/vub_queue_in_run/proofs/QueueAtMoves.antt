@@ -403,7 +403,7 @@ at_show q h setup past heads phase batch completed made state list done is opens
 
 -- ---- an offer
 
-offered_spot : (q : ℕ) (h : Header1) (past : List Entry) (heads : List ℕ) (request : Asked) (x k : ℕ) → Known q h.size h.capacity past heads → k < accepted past q → spot_of q h (entries.Offer q request ∷ past) (heads ++ x ∷ []) k ≡ spot_of q h past heads k
+pub offered_spot : (q : ℕ) (h : Header1) (past : List Entry) (heads : List ℕ) (request : Asked) (x k : ℕ) → Known q h.size h.capacity past heads → k < accepted past q → spot_of q h (entries.Offer q request ∷ past) (heads ++ x ∷ []) k ≡ spot_of q h past heads k
 offered_spot q h past heads request x k known low =
     let head : slice_index (heads ++ x ∷ []) k ≡ slice_index heads k = same_head heads x k (omega (arith, low, known.offered)) in
     let asks_it : asked (entries.Offer q request ∷ past) q k ≡ asked past q k = same_asked q past request k (omega (arith, low, known.offered, known.offers_are)) in

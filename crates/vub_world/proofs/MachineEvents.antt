@@ -1,5 +1,6 @@
 -- An event leads from where the machine stood to where it stands.
 use Rattle.std.proofs.Common.{◌≡◌, ◌≤◌, ◌<◌, ℕ, zero, suc, ◌+◌, true, List, [], ◌∷◌, ◌++◌, length, refl, sym, ◌∙◌, subst, arith}
+use Rattle.std.proofs.lemmas.List.{length_push}
 use Rattle.std.specs.Prelude.{Vec, Result, Ok, Err, IfOk, Option, Some, None, is_some, slice_get, ⊤}
 use Rattle.vub_base.specs.declared.header.Header1.{Header1}
 use Rattle.vub_schedule.specs.declared.types.Event.{Event}
@@ -21,7 +22,7 @@ use Rattle.vub_run.specs.Run.{Stands, Plays}
 use Rattle.vub_run_laws.proofs.RunEntries.{event_offers, run_offers}
 use Rattle.vub_run_laws.proofs.RunServes.{drain_serves, stands_legal}
 use Rattle.vub_run_laws.proofs.RunsLegal.{opening_held}
-use Rattle.vub_run_laws.proofs.RunsTo.{stands_more, stands_held}
+use Rattle.vub_run_laws.proofs.RunsTo.{stands_more, stands_held, run_length}
 use Rattle.vub_world.proofs.MachineParts.{found_there, offered_only}
 
 pub ok_then : {T E : Type 0} (P Q : T → Type 0) (r : Result T E) → ((x : T) → P x → Q x) → IfOk r P → IfOk r Q
@@ -60,7 +61,8 @@ attached_at w q m sound is_zero at is = go w.life sound.attached is (at.queues q
     go (Some l) many is here = attached_with front.0.header q w.header.queues front.0.setup m l.queues many (omega (arith, is_zero, sound.header.one)) is here
 
 serves_all : (w : Machine) (e : Event) (es : List Event) (rs : List Record) (m k : Moment) (r : Record) → IsSound w → IsEvent w.header e → MachineAt w m → Stands w.header es rs m → Stands w.header (es ++ e ∷ []) (rs ++ r ∷ []) k → Plays w.header m e r.items k → ServesAll w e (rs ++ r ∷ [])
-serves_all w (events.Drain q) es rs m k r sound fits at stands next plays = λ is. drain_serves q w.header es rs m k r (omega (arith, fits, sound.header.one)) stands next (attached_at w q m sound fits at is) plays
+serves_all w (events.Drain q) es rs m k r sound fits at stands next plays = λ is counts.
+    drain_serves q w.header es rs m k r (omega (arith, fits, sound.header.one)) stands next (omega (arith, counts, length_push rs r, run_length w.header (opening w.header) es rs m stands.run)) (attached_at w q m sound fits at is) plays
 serves_all w (events.Ask q shape a) es rs m k r sound fits at stands next plays = tt
 serves_all w (events.Guest q n) es rs m k r sound fits at stands next plays = tt
 serves_all w (events.Collect q) es rs m k r sound fits at stands next plays = tt

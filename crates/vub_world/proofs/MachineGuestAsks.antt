@@ -28,7 +28,7 @@ life_driven q h setup m v life at = life_with q h setup m (with_driver v (m.lane
     same : (life : Option (Option Queue)) → LifeAt q h setup m life → LifeAt q h setup (all_lanes (with_driver v (m.lanes q)) m) life
     same None at = at
     same (Some None) at = at
-    same (Some (Some queue)) at = (at.0, (at.1.0, at.1.1, record { at = at.1.2.at; start = at.1.2.start }))
+    same (Some (Some queue)) at = (at.0, (at.1.0, at.1.1, record { at = at.1.2.at; phase = at.1.2.phase }))
 
 pub ask_performs : (q : ℕ) (w : Parts) (guest' : Guest) (m : Moment) (shape : Shape) (a : Ask) (ready : Bool) → ring_in w.front.guest ≡ ring_of q w.front.header.size → PartsAt q w m → ready ≡ can_take (ring_in w.front.guest).size shape a (driver_in w.front.guest) → ready ≡ true
     → driver_in guest' ≡ cond ready (after_ask (ring_in w.front.guest) a (driver_in w.front.guest)) (driver_in w.front.guest) → last_used_in guest' ≡ last_used_in w.front.guest

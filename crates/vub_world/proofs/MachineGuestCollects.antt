@@ -10,6 +10,7 @@ use Rattle.vub_shared.specs.declared.watched_shared.WatchedShared.{WatchedShared
 use Rattle.vub_ring.specs.Ring.{Ring}
 use Rattle.vub_driver.specs.Drivers.{Driver, after_collect}
 use Rattle.vub_driver.specs.Shown.{ShowsNext}
+use Rattle.vub_device.specs.declared.entry.Entry.{Entry}
 use Rattle.vub_device.specs.declared.entry.Entry.TheVariants as entries
 use Rattle.vub_device.specs.Past.{published, collected, is_among}
 use Rattle.vub_device.proofs.Numbers.{is_among_append}
@@ -34,8 +35,10 @@ use Rattle.vub_report.specs.declared.items.Record.{Record}
 use Rattle.vub_guest.specs.GuestState.{ring_in, driver_in, last_used_in, Shows}
 use Rattle.vub_world.specs.OutstandingRequests.{offered_in, collected_in, slot_in}
 use Rattle.vub_world.specs.MachineAt.{AskAt, LifeAt, PartsAt, PartsStand}
-use Rattle.vub_run.specs.Moments.{Lane, Moment}
-use Rattle.vub_queue.specs.QueueState.{state_of}
+use Rattle.vub_run.specs.Moments.{Lane, Moment, region_in}
+use Rattle.vub_queue.specs.QueueState.{QueueState, state_of}
+use Rattle.vub_queue_in_run.specs.QueueAt.{PhaseAt, hidden_part}
+use Rattle.vub_infl_split.specs.Region.{RegionWords}
 use Rattle.vub_run.specs.Run.{Stands, played, with_driver, next_collected, take_first, collect}
 use Rattle.vub_run_laws.proofs.RunGood.{IsOut}
 use Rattle.vub_run_laws.proofs.RunQueue.{sees, SeesFirst, queue_none, queue_shown, queue_free, head_below}
@@ -92,13 +95,32 @@ taken_lane q x m = with_driver (after_collect x (m.lanes q).driver) (m.lanes q)
 abbrev taken_moment : Header1 → ℕ → Moment → Moment
 taken_moment h q m = record m { scene = after_items h (items.Made (entries.Collect q (next_collected q m)) ∷ []) m.scene }
 
+-- a collection leaves what a queue keeps of its phase
+phase_collected : (q : ℕ) (h : Header1) (setup : QueueSetup) (past : List Entry) (heads : List ℕ) (l : Lane) (w : RegionWords) (state : QueueState) (k : ℕ) → PhaseAt q h setup past heads l.bell l.plan l.counter l.batch l.phase w state
+    → PhaseAt q h setup (entries.Collect q k ∷ past) heads l.bell l.plan l.counter l.batch l.phase w state
+phase_collected q h setup past heads l w state k z = record {
+  index = z.index;
+  bell = z.bell;
+  ring = z.ring;
+  region = z.region;
+  base = z.base;
+  begun = z.begun;
+  counter = z.counter;
+  fetching = z.fetching;
+  batch = z.batch;
+}
+
 taken_life : (q : ℕ) (h : Header1) (setup : QueueSetup) (m : Moment) (x : ℕ × ℕ) (xs : List (ℕ × ℕ)) (life : Option (Option Queue)) → LifeAt q h setup m life → LifeAt q h setup (take_first h q (x ∷ xs) m).next life
 taken_life q h setup m x xs life at = life_with q h setup (taken_moment h q m) (taken_lane q x.0 m) life (taken life at)
   where
     taken : (life : Option (Option Queue)) → LifeAt q h setup m life → LifeAt q h setup (all_lanes (taken_lane q x.0 m) (taken_moment h q m)) life
     taken None at = at
     taken (Some None) at = at
-    taken (Some (Some queue)) at = (at.0, (at.1.0, at.1.1, record { at = at_collect q h setup m.scene.past (m.scene.heads q) (m.lanes q).phase (m.lanes q).batch (m.lanes q).completed (m.lanes q).made (state_of queue) (next_collected q m) at.1.2.at; start = at.1.2.start }))
+    taken (Some (Some queue)) at =
+        let l : Lane = m.lanes q in
+        let stands = at_collect q h setup m.scene.past (m.scene.heads q) l.phase (hidden_part l.phase l.batch) l.completed l.made (state_of queue) (next_collected q m) at.1.2.at in
+        let phase = phase_collected q h setup m.scene.past (m.scene.heads q) l (region_in h q m.scene) (state_of queue) (next_collected q m) at.1.2.phase in
+        (at.0, (at.1.0, at.1.1, record { at = stands; phase = phase }))
 
 head_plays : (q : ℕ) (h : Header1) (m : Moment) (x : ℕ × ℕ) (xs : List (ℕ × ℕ)) (number : ℕ) → number ≡ next_collected q m → sees q h m.scene ≡ x ∷ xs
     → played (items.Made (entries.Collect q number) ∷ []) (take_first h q (x ∷ xs) m).next ≡ collect h q m
@@ -120,7 +142,7 @@ is_first q w es rs m head low s at shown =
     let l : Lane = m.lanes q in
     let first : SeesFirst q h m.scene l head = queue_shown q h m.scene l (last_used_in w.front.guest) head (plain_header h s.header).good good.holds at.position (shown_there q w m (Some head) at shown) in
     let out : IsOut q m.scene.past (m.scene.heads q) (next_number q m.scene) = next_out q h m.scene l first.first.0 first.taken in
-    let below : slice_index (m.scene.heads q) (next_number q m.scene) < h.size = head_below q h m.scene l.driver l.bell l.plan l.batch l.phase (next_number q m.scene) good.holds.queue out in
+    let below : slice_index (m.scene.heads q) (next_number q m.scene) < h.size = head_below q h m.scene l.driver l.bell l.plan l.counter l.batch l.phase (next_number q m.scene) good.holds.queue out in
     record { shown = first; out = out; low = omega (arith, first.head_is, first.taken.head, below) }
 
 -- so the table of outstanding requests has a place for it, and one is left to be collected

@@ -46,5 +46,5 @@ front_fits q w standing = record {
     places None e = tt
     places (Some x) e =
         let l : Lane = m.lanes q in
-        let waits : IsWaiting q h.size h.capacity m.scene.past (m.scene.heads q) l.driver (record x { left = x.left }) = queue_waiting q h m.scene l.driver l.bell l.plan l.batch l.phase x e good.holds.queue in
+        let waits : IsWaiting q h.size h.capacity m.scene.past (m.scene.heads q) l.driver (record x { left = x.left }) = queue_waiting q h m.scene l.driver l.bell l.plan l.counter l.batch l.phase x e good.holds.queue in
         omega (arith, waits.below, at.outstanding.places)

@@ -16,7 +16,7 @@ use Rattle.vub_driver.specs.Drivers.{Waiting, after_stores}
 use Rattle.vub_device.specs.declared.entry.Asked.{Asked}
 use Rattle.vub_device.specs.declared.entry.Entry.{Entry}
 use Rattle.vub_device.specs.declared.entry.Entry.TheVariants as entries
-use Rattle.vub_device.specs.Past.{asked, published, collected, is_among, started}
+use Rattle.vub_device.specs.Past.{asked, accepted, published, collected, is_among}
 use Rattle.vub_schedule.specs.declared.types.Event.{Event}
 use Rattle.vub_schedule.specs.declared.types.Event.TheVariants as events
 use Rattle.vub_guest.specs.declared.guest.Guest.{Guest}
@@ -35,21 +35,26 @@ use Rattle.vub_world.specs.MachineAt.{FrontAt, LifeAt, OutstandingAt, PartsAt, r
 use Rattle.vub_world.specs.MachineFront.{GuestGoes}
 use Rattle.vub_run.specs.Memory.{Scene, after_item, after_items}
 use Rattle.vub_run.specs.Moments.{Lane, Moment, region_of, region_in}
-use Rattle.vub_queue.specs.QueueState.{state_of}
+use Rattle.vub_queue.specs.QueueState.{state_of, QueueState}
 use Rattle.vub_run.specs.Run.{Stands, played, if_ready, with_lane, with_driver, guest_items, guest_stores, guest}
 use Rattle.vub_device.specs.Requests.{request_of}
-use Rattle.vub_run_laws.proofs.RunGood.{Known, IsOut}
+use Rattle.vub_run_laws.proofs.RunGood.{Known, IsOut, IsSize, BetweenTurns}
 use Rattle.vub_run_laws.proofs.RunOffers.{same_head, new_head, same_asked, new_asked}
 use Rattle.vub_run_laws.proofs.RunTurns.{IsPlain, Good}
 use Rattle.vub_run_laws.proofs.RunHolds.{EntryStands}
-use Rattle.vub_run_laws.proofs.RunQueue.{heads_apart, left_offered}
+use Rattle.vub_run_laws.proofs.RunQueue.{heads_apart, left_offered, fetch_more}
 use Rattle.vub_run_laws.proofs.RunChainsEvents.{chained_entry}
 use Rattle.vub_run_laws.proofs.Runs.{plain_header}
 use Rattle.vub_run_laws.proofs.RunsTo.{stands_good, stands_chained, stands_more}
 use Rattle.vub_run_laws.proofs.RunChainsStores.{put_all}
 use Rattle.vub_run_laws.proofs.RunChainsGuests.{guest_scene, part_scene}
-use Rattle.vub_queue_in_run.proofs.QueueAtMoves.{at_offer}
-use Rattle.vub_queue_in_run.specs.QueueAt.{QueueAt, StartAt}
+use Rattle.vub_steps.specs.declared.steps.Phase.{Phase}
+use Rattle.vub_steps.specs.declared.steps.Phase.TheVariants as phases
+use Rattle.vub_run_laws.proofs.RunCarries.{batch_taken}
+use Rattle.vub_run_laws.proofs.RingFacts.{map_alike}
+use Rattle.vub_queue_in_run.proofs.QueueAtMoves.{at_offer, offered_spot}
+use Rattle.vub_queue_in_run.proofs.QueueAtTurns.{worked_at}
+use Rattle.vub_queue_in_run.specs.QueueAt.{QueueAt, PhaseAt, hidden_part, kept_head, spot_of}
 use Rattle.vub_world.proofs.MachineLanes.{all_lanes, life_with}
 
 -- ---- the outstanding requests
@@ -146,22 +151,65 @@ offered_scene q h r b s = after_item h (items.Made (entries.Offer q r)) (record 
 abbrev pub moment_with : ℕ → ℕ → Waiting → Moment → Scene → Moment
 moment_with q count x m s = with_lane q (stored_lane q count x m) (record m { scene = s })
 
-offered_life : (q : ℕ) (h : Header1) (setup : QueueSetup) (count : ℕ) (m : Moment) (x : Waiting) (r : Asked) (b : Bytes) (life : Option (Option Queue)) → words_of (region_of q h.size) b ≡ region_in h q m.scene → (offered_scene q h r b m.scene).heads q ≡ m.scene.heads q ++ x.head ∷ [] → Good q h m → LifeAt q h setup m life → LifeAt q h setup (moment_with q count x m (offered_scene q h r b m.scene)) life
-offered_life q h setup count m x r b life same heads good at = life_with q h setup (record m { scene = offered_scene q h r b m.scene }) (stored_lane q count x m) life (offered life at)
+-- the head of a fetch that is under way was offered before
+fetched_kept : (q : ℕ) (h : Header1) (m : Moment) (x : ℕ) → IsSize h.size → Good q h m
+    → kept_head (m.lanes q).phase (slice_index (m.scene.heads q) (accepted m.scene.past q)) ≡ kept_head (m.lanes q).phase (slice_index (m.scene.heads q ++ x ∷ []) (accepted m.scene.past q))
+fetched_kept q h m x size good = go (m.lanes q).phase good.holds.worked.between refl
+  where
+    a : ℕ
+    a = accepted m.scene.past q
+
+    heads : List ℕ
+    heads = m.scene.heads q
+
+    go : (p : Phase) → BetweenTurns p → (m.lanes q).phase ≡ p → kept_head p (slice_index heads a) ≡ kept_head p (slice_index (heads ++ x ∷ []) a)
+    go phases.Rest between is = refl
+    go (phases.Start done) between is = refl
+    go (phases.Fetch zero) between is = refl
+    go (phases.Fetch (suc done)) between is = ap (λ (d : ℕ). Some d) (sym (same_head heads x a (fetch_more q h m.scene (m.lanes q) size (is ∙ ap (λ (n : ℕ). phases.Fetch n) between) good.holds)))
+    go (phases.Publish done) between is = refl
+
+-- an offer leaves what a queue keeps of its phase
+phase_offered : (q : ℕ) (h : Header1) (setup : QueueSetup) (m : Moment) (state : QueueState) (r : Asked) (x : ℕ) → IsSize h.size → Good q h m
+    → PhaseAt q h setup m.scene.past (m.scene.heads q) (m.lanes q).bell (m.lanes q).plan (m.lanes q).counter (m.lanes q).batch (m.lanes q).phase (region_in h q m.scene) state
+    → PhaseAt q h setup (entries.Offer q r ∷ m.scene.past) (m.scene.heads q ++ x ∷ []) (m.lanes q).bell (m.lanes q).plan (m.lanes q).counter (m.lanes q).batch (m.lanes q).phase (region_in h q m.scene) state
+phase_offered q h setup m state r x size good z =
+    let l : Lane = m.lanes q in
+    let past : List Entry = m.scene.past in
+    let heads : List ℕ = m.scene.heads q in
+    let low : (k : ℕ) → is_among l.batch k ≡ true → k < accepted past q = λ k held. batch_taken q past l.counter l.phase l.batch l.completed good.holds.worked.opens good.holds.known.below good.holds.carries k held in
+    record {
+      index = z.index;
+      bell = z.bell;
+      ring = z.ring;
+      region = z.region;
+      base = z.base;
+      begun = z.begun;
+      counter = z.counter;
+      fetching = z.fetching ∙ fetched_kept q h m x size good;
+      batch = z.batch ∙ map_alike (spot_of q h past heads) (spot_of q h (entries.Offer q r ∷ past) (heads ++ x ∷ [])) l.batch (λ k held. sym (offered_spot q h past heads r x k good.holds.known (low k held)));
+    }
+
+offered_life : (q : ℕ) (h : Header1) (setup : QueueSetup) (count : ℕ) (m : Moment) (x : Waiting) (r : Asked) (b : Bytes) (life : Option (Option Queue)) → words_of (region_of q h.size) b ≡ region_in h q m.scene → (offered_scene q h r b m.scene).heads q ≡ m.scene.heads q ++ x.head ∷ [] → IsSize h.size → Good q h m → LifeAt q h setup m life → LifeAt q h setup (moment_with q count x m (offered_scene q h r b m.scene)) life
+offered_life q h setup count m x r b life same heads size good at = life_with q h setup (record m { scene = offered_scene q h r b m.scene }) (stored_lane q count x m) life (offered life at)
   where
     offered : (life : Option (Option Queue)) → LifeAt q h setup m life → LifeAt q h setup (all_lanes (stored_lane q count x m) (record m { scene = offered_scene q h r b m.scene })) life
     offered None at = at
     offered (Some None) at = at
     offered (Some (Some queue)) at =
-        let stands = at_offer q h setup m.scene.past (m.scene.heads q) (m.lanes q).phase (m.lanes q).batch (m.lanes q).completed (m.lanes q).made (state_of queue) r x.head good.holds.known good.holds.worked at.1.2.at in
+        let l : Lane = m.lanes q in
+        let past' : List Entry = entries.Offer q r ∷ m.scene.past in
+        let stands = at_offer q h setup m.scene.past (m.scene.heads q) l.phase (hidden_part l.phase l.batch) l.completed l.made (state_of queue) r x.head good.holds.known (worked_at q h m good.holds) at.1.2.at in
+        let phase = phase_offered q h setup m (state_of queue) r x.head size good at.1.2.phase in
         let words : region_in h q (offered_scene q h r b m.scene) ≡ region_in h q m.scene = same in (
           at.0,
           (
             at.1.0,
             at.1.1,
             record {
-              at = subst (λ (hs : List ℕ). QueueAt q h setup (entries.Offer q r ∷ m.scene.past) hs (m.lanes q).phase (m.lanes q).batch (m.lanes q).completed (m.lanes q).made (state_of queue)) (sym heads) stands;
-              start = subst (λ (w : RegionWords). StartAt q h setup (started m.scene.past q) (m.lanes q).bell (m.lanes q).plan (m.lanes q).phase w (state_of queue)) (sym words) at.1.2.start;
+              at = subst (λ (hs : List ℕ). QueueAt q h setup past' hs l.phase (hidden_part l.phase l.batch) l.completed l.made (state_of queue)) (sym heads) stands;
+              phase = subst (λ (hs : List ℕ). PhaseAt q h setup past' hs l.bell l.plan l.counter l.batch l.phase (region_in h q (offered_scene q h r b m.scene)) (state_of queue)) (sym heads)
+                  (subst (λ (w : RegionWords). PhaseAt q h setup past' (m.scene.heads q ++ x.head ∷ []) l.bell l.plan l.counter l.batch l.phase w (state_of queue)) (sym words) phase);
             },
           ),
         )
@@ -174,8 +222,9 @@ stored_life q h setup count m x b life same at = life_with q h setup (record m {
     stored None at = at
     stored (Some None) at = at
     stored (Some (Some queue)) at =
-        let start = subst (λ (w : RegionWords). StartAt q h setup (started m.scene.past q) (m.lanes q).bell (m.lanes q).plan (m.lanes q).phase w (state_of queue)) (sym same) at.1.2.start in
-        (at.0, (at.1.0, at.1.1, record { at = at.1.2.at; start = start }))
+        let l : Lane = m.lanes q in
+        let phase = subst (λ (w : RegionWords). PhaseAt q h setup m.scene.past (m.scene.heads q) l.bell l.plan l.counter l.batch l.phase w (state_of queue)) (sym same) at.1.2.phase in
+        (at.0, (at.1.0, at.1.1, record { at = at.1.2.at; phase = phase }))
 
 -- the parts with another memory and front
 abbrev pub with_desk : Parts → WatchedShared → Front → Parts
@@ -218,11 +267,11 @@ offered_at q w memory guest' asked' outstanding es rs m x is count position low 
     let own : (offered_scene q h r b m.scene).heads q ≡ m.scene.heads q ++ x.head ∷ [] = left_offered q h m x r plain.good.size waits entry good.holds.queue in
     let lane : Lane = (moment_with q count x m (offered_scene q h r b m.scene)).lanes q in
     let apart : AreApart q (entries.Offer q r ∷ m.scene.past) (m.scene.heads q ++ x.head ∷ []) =
-    subst (λ (hs : List ℕ). AreApart q (entries.Offer q r ∷ m.scene.past) hs) own (λ j k. heads_apart q h (offered_scene q h r b m.scene) lane.driver lane.bell lane.plan lane.batch lane.phase j k good_next.holds.queue) in
+    subst (λ (hs : List ℕ). AreApart q (entries.Offer q r ∷ m.scene.past) hs) own (λ j k. heads_apart q h (offered_scene q h r b m.scene) lane.driver lane.bell lane.plan lane.counter lane.batch lane.phase j k good_next.holds.queue) in
     let stands : PartsAt q now (moment_with q count x m (offered_scene q h r b m.scene)) = record {
       front = front;
       position = position ∙ at.position;
-      life = offered_life q h w.front.setup count m x r b w.life (region_kept q h x.left m.scene.memory) own good at.life;
+      life = offered_life q h w.front.setup count m x r b w.life (region_kept q h x.left m.scene.memory) own plain.good.size good at.life;
       disk = at.disk;
       outstanding = subst (λ (hs : List ℕ). OutstandingAt q h.size (entries.Offer q r ∷ m.scene.past) hs outstanding) (sym own)
           (offered_outstanding q h.size h.capacity m.scene.past (m.scene.heads q) x.ask x.head w.front.outstanding outstanding at.outstanding good.holds.known apart (goes.outstanding.offers few));

@@ -5,8 +5,7 @@ use Rattle.vub_base.specs.declared.header.Header1.{Header1}
 use Rattle.vub_driver.specs.Drivers.{Waiting, after_stores}
 use Rattle.vub_queue.specs.declared.queue.Queue.{Queue}
 use Rattle.vub_queue.specs.QueueState.{state_of}
-use Rattle.vub_device.specs.Past.{started}
-use Rattle.vub_queue_in_run.specs.QueueAt.{QueueAt, StartAt}
+use Rattle.vub_queue_in_run.specs.QueueAt.{QueueAt, PhaseAt, hidden_part}
 use Rattle.vub_run.specs.Moments.{Lane, Moment, region_in}
 use Rattle.vub_run.specs.Run.{with_lane, with_driver, guest_stores}
 use Rattle.vub_run_laws.proofs.RunOwn.{at_own}
@@ -27,8 +26,8 @@ life_with q h setup m l (Some (Some queue)) at = (
     at.1.0,
     ap (λ (k : Lane). k.attached) (at_own m.lanes q l) ∙ at.1.1,
     record {
-      at = subst (λ (k : Lane). QueueAt q h setup m.scene.past (m.scene.heads q) k.phase k.batch k.completed k.made (state_of queue)) (sym (at_own m.lanes q l)) at.1.2.at;
-      start = subst (λ (k : Lane). StartAt q h setup (started m.scene.past q) k.bell k.plan k.phase (region_in h q m.scene) (state_of queue)) (sym (at_own m.lanes q l)) at.1.2.start;
+      at = subst (λ (k : Lane). QueueAt q h setup m.scene.past (m.scene.heads q) k.phase (hidden_part k.phase k.batch) k.completed k.made (state_of queue)) (sym (at_own m.lanes q l)) at.1.2.at;
+      phase = subst (λ (k : Lane). PhaseAt q h setup m.scene.past (m.scene.heads q) k.bell k.plan k.counter k.batch k.phase (region_in h q m.scene) (state_of queue)) (sym (at_own m.lanes q l)) at.1.2.phase;
     },
   ),
 )

@@ -1,17 +1,21 @@
 -- Where the machine stands after a life begins, and after its queues are attached.
-use Rattle.std.proofs.Common.{◌≡◌, ℕ, true, false, List, [], refl, ap, sym, ◌∙◌, subst, arith}
+use Rattle.std.proofs.Common.{◌≡◌, ◌≤◌, ℕ, true, false, List, [], map, refl, ap, sym, ◌∙◌, subst, arith}
 use Rattle.std.specs.Prelude.{Bool, not, ◌&&◌, Option, Some, None}
+use Rattle.vub_base.specs.declared.header.Header1.{Header1}
 use Rattle.vub_steps.specs.declared.steps.Phase.{Phase}
 use Rattle.vub_steps.specs.declared.steps.Phase.TheVariants as phases
+use Rattle.vub_device.specs.declared.entry.Entry.{Entry}
 use Rattle.vub_device.specs.Past.{accepted, started}
 use Rattle.vub_world.specs.Fronts.{Parts}
 use Rattle.vub_queue.specs.declared.queue.Queue.{Queue}
+use Rattle.vub_queue.specs.declared.queue.QueueSetup.{QueueSetup}
 use Rattle.vub_world.specs.MachineAt.{PartsAt, LifeAt, AttachedAt}
 use Rattle.vub_run.specs.Moments.{Lane, Moment, fresh, attached, region_in}
-use Rattle.vub_queue_in_run.specs.QueueAt.{QueueAt, StartAt, IsNewQueue}
+use Rattle.vub_queue_in_run.specs.QueueAt.{QueueAt, PhaseAt, IsNewQueue, hidden_part, spot_of}
 use Rattle.vub_queue.specs.QueueState.{QueueState, state_of}
 use Rattle.vub_run.specs.Run.{played, if_ready, boot, join}
 use Rattle.vub_queue_in_run.proofs.QueueAtMoves.{at_new}
+use Rattle.vub_run_laws.proofs.RunGood.{IsLow}
 use Rattle.vub_run_laws.proofs.RunTurns.{IsPlain, Good}
 
 -- the parts with that queue of a life
@@ -57,27 +61,34 @@ pub joined_at : (q : ℕ) (w : Parts) (m : Moment) (queue : Queue) → IsPlain w
     → PartsAt q (with_life (Some queue) w) (joined m)
 joined_at q w m queue plain good base same index bell new lives made at =
     let l : Lane = m.lanes q in
+    let h : Header1 = w.front.header in
+    let setup : QueueSetup = w.front.setup in
+    let past : List Entry = m.scene.past in
+    let heads : List ℕ = m.scene.heads q in
     let quiet = good.holds.worked.quiet new.2 in
-    let none : accepted m.scene.past q ≡ 0 = good.idle new.2 in
-    let begins : QueueAt q w.front.header w.front.setup m.scene.past (m.scene.heads q) phases.Rest [] [] l.made (state_of queue) =
-    at_new q w.front.header w.front.setup m.scene.past (m.scene.heads q) l.made (state_of queue) (omega (arith, base)) good.holds.known.fewer none new.2 same made.state in
-    let at_rest : QueueAt q w.front.header w.front.setup m.scene.past (m.scene.heads q) l.phase l.batch l.completed l.made (state_of queue) =
-    subst (λ (p : Phase). QueueAt q w.front.header w.front.setup m.scene.past (m.scene.heads q) p l.batch l.completed l.made (state_of queue)) (sym new.3)
-    (subst (λ (bs : List ℕ). QueueAt q w.front.header w.front.setup m.scene.past (m.scene.heads q) phases.Rest bs l.completed l.made (state_of queue)) (sym quiet.0)
-    (subst (λ (cs : List ℕ). QueueAt q w.front.header w.front.setup m.scene.past (m.scene.heads q) phases.Rest [] cs l.made (state_of queue)) (sym quiet.1.0) begins)) in
-    let start : StartAt q w.front.header w.front.setup (started m.scene.past q) true l.plan l.phase (region_in w.front.header q m.scene) (state_of queue) =
-    subst (λ (p : Phase). StartAt q w.front.header w.front.setup (started m.scene.past q) true l.plan p (region_in w.front.header q m.scene) (state_of queue)) (sym new.3)
-    (subst (λ (s : QueueState). StartAt q w.front.header w.front.setup (started m.scene.past q) true l.plan phases.Rest (region_in w.front.header q m.scene) s) (sym made.state.is) (record {
+    let none : accepted past q ≡ 0 = good.idle new.2 in
+    let begins : QueueAt q h setup past heads phases.Rest [] [] l.made (state_of queue) =
+    at_new q h setup past heads l.made (state_of queue) (omega (arith, base)) good.holds.known.fewer none new.2 same made.state in
+    let at_rest : QueueAt q h setup past heads l.phase (hidden_part l.phase l.batch) l.completed l.made (state_of queue) =
+    subst (λ (p : Phase). QueueAt q h setup past heads p (hidden_part p l.batch) l.completed l.made (state_of queue)) (sym new.3)
+    (subst (λ (cs : List ℕ). QueueAt q h setup past heads phases.Rest [] cs l.made (state_of queue)) (sym quiet.1.0) begins) in
+    let low : l.counter ≤ accepted past q = subst (λ (p : Phase). IsLow (accepted past q) l.counter p) new.3 good.holds.carries.low in
+    let phase : PhaseAt q h setup past heads true l.plan l.counter l.batch l.phase (region_in h q m.scene) (state_of queue) =
+    subst (λ (p : Phase). PhaseAt q h setup past heads true l.plan l.counter l.batch p (region_in h q m.scene) (state_of queue)) (sym new.3)
+    (subst (λ (s : QueueState). PhaseAt q h setup past heads true l.plan l.counter l.batch phases.Rest (region_in h q m.scene) s) (sym made.state.is) (record {
       index = index;
       bell = bell;
       ring = refl;
       region = refl;
       base = same;
       begun = λ stopped. (record { no_plan = refl; none_done = refl; none_cleared = refl }, refl);
+      counter = omega (arith, low, none);
+      fetching = refl;
+      batch = ap (λ (ks : List ℕ). map (spot_of q h past heads) ks) (sym (good.holds.carries.quiet new.2));
     })) in record {
       front = record { memory = at.front.memory; driver = at.front.driver; asks = at.front.asks };
       position = at.position;
-      life = (lives, (refl, refl, record { at = at_rest; start = start }));
+      life = (lives, (refl, refl, record { at = at_rest; phase = phase }));
       disk = at.disk;
       outstanding = at.outstanding;
     }

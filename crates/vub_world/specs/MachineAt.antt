@@ -4,6 +4,7 @@ use Rattle.vub_base.specs.declared.header.Header1.{Header1}
 use Rattle.vub_base.specs.declared.request.Ask.{Ask}
 use Rattle.vub_shared.specs.Watched.{bytes_in}
 use Rattle.vub_steps.specs.declared.readiness.Turn.{Turn}
+use Rattle.vub_steps.specs.Readiness.{last_counter}
 use Rattle.vub_steps.specs.declared.steps.Phase.TheVariants.{Rest}
 use Rattle.vub_driver.specs.Drivers.{Waiting}
 use Rattle.vub_device.specs.declared.entry.Asked.{Asked}
@@ -95,9 +96,9 @@ abbrev pub is_attached : Option Life → Bool
 is_attached None = false
 is_attached (Some l) = is_some l.queues
 
--- a drain of an attached queue serves all
+-- A drain of an attached queue serves all. A counter is left for each request, since there are fewer records than counters.
 abbrev pub ServesAll : Machine → Event → List Record → Type 0
-ServesAll w (events.Drain q) rs = is_attached w.life ≡ true → IsServed q rs
+ServesAll w (events.Drain q) rs = is_attached w.life ≡ true → length rs < last_counter → IsServed q rs
 ServesAll w e rs = ⊤
 
 -- what an event with its record leads to, after these events and records
