@@ -256,7 +256,7 @@ shows_stands q h setup m most x state t plain good main z ready does = go (runni
 pub says_on : (q : ℕ) (h : Header1) (m : Moment) (turn : Turn) (x : Stepped) (row : Option Row) (head : ℕ) (batch : List ℕ) (t : QueueState) → TurnSays q h m turn x row head batch → states.halted x t ≡ t
 says_on q h m turn x row head batch t (Notes y s) = ap (λ (z : Stepped). states.halted z t) s.said
 says_on q h m turn x row head batch t (Accepts y tag s) = ap (λ (z : Stepped). states.halted z t) s.said
-says_on q h m turn x row head batch t (Shows y tag low s) = ap (λ (z : Stepped). states.halted z t) s.said
+says_on q h m turn x row head batch t (Shows y shown s) = ap (λ (z : Stepped). states.halted z t) s.said
 says_on q h m turn x row head batch t (Rings s) = ap (λ (z : Stepped). states.halted z t) s.said
 says_on q h m turn x row head batch t (Starts s) = ap (λ (z : Stepped). states.halted z t) s.said
 

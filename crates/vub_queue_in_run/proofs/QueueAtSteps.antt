@@ -278,7 +278,7 @@ accept_says q h setup m turn l u x row made w fetching said is =
 index_says : (q : ℕ) (h : Header1) (setup : QueueSetup) (m : Moment) (turn : Turn) (l : Lane) (u : QueueState) (x : Stepped) (row : Option Row) (head : ℕ) → (turned h q turn m).items ≡ step_items h q l steps.Index m.scene → IsUnderWay q h setup m.scene l steps.Index u
     → x ≡ says.Published → row ≡ row_at u m.scene.memory (Some steps.Index) → TurnSays q h m turn x row head l.batch
 index_says q h setup m turn l u x row head made w said is =
-    Publishes (index_row q h m.scene l) refl (omega (arith, length_little 2 ((used_in h q m.scene + length (map (element_of h q m.scene) l.batch)) % 65536))) (record {
+    Publishes (index_row q h m.scene l) (record { tag = refl; area = refl; low = omega (arith, length_little 2 ((used_in h q m.scene + length (map (element_of h q m.scene) l.batch)) % 65536)) }) (record {
       is_row = is ∙ row_there q h setup m.scene l steps.Index u w;
       fits = ring_fits (the_ring q h.size) SP5 (used_idx_place (the_ring q h.size)) 2 ((used_in h q m.scene + length (map (element_of h q m.scene) l.batch)) % 65536) refl (omega arith);
       said = said;

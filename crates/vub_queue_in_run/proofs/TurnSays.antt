@@ -5,6 +5,7 @@ use Rattle.byteorder.specs.Endian.{little_bytes}
 use Rattle.vub_base.specs.declared.header.Header1.{Header1}
 use Rattle.vub_base.specs.declared.store.Tag.{Tag}
 use Rattle.vub_base.specs.declared.store.Tag.TheVariants.{SF2, SP5}
+use Rattle.vub_base.specs.declared.store.Area.TheVariants.{M}
 use Rattle.vub_device.specs.declared.entry.Entry.TheVariants as entries
 use Rattle.vub_device.specs.Past.{accepted}
 use Rattle.vub_report.specs.declared.items.Item.{Item}
@@ -68,11 +69,16 @@ pub record StoresNone (q : ℕ) (h : Header1) (m : Moment) (turn : Turn) (x what
 abbrev pub after_stored : Header1 → Row → Scene → Scene
 after_stored h y s = after_items h (row_item y ∷ []) s
 
--- a store; the acceptance of the head that waits longest, and the publication of a batch, whose store lies before all buffers, each
--- with its store; the bell; the end of a start
+-- the row that stores used.idx, before all buffers of the queue
+pub record ShowsRow (q : ℕ) (y : Row) : Type 0 where
+  pub tag : y.tag ≡ SP5
+  pub area : y.area ≡ M
+  pub low : y.store.place + length y.store.bytes ≤ area_place q + 65536
+
+-- a store; the acceptance of the head that waits longest, and the publication of a batch, each with its store; the bell; the end of a start
 pub data TurnSays (q : ℕ) (h : Header1) (m : Moment) (turn : Turn) (x : Stepped) (row : Option Row) (head : ℕ) (batch : List ℕ) : Type 0 where
   Notes : (y : Row) → StoresRow q h m turn x (says.Stored y.tag) row y [] → TurnSays q h m turn x row head batch
   Accepts : (y : Row) → y.tag ≡ SF2 → StoresRow q h m turn x (says.Accepted head) row y (items.Made (entries.Accept q (accepted m.scene.past q)) ∷ []) → TurnSays q h m turn x row head batch
-  Publishes : (y : Row) → y.tag ≡ SP5 → y.store.place + length y.store.bytes ≤ area_place q + 65536 → StoresRow q h m turn x says.Published row y (items.Made (entries.Publish q (map (answer_at q (after_stored h y m.scene)) batch)) ∷ []) → TurnSays q h m turn x row head batch
+  Publishes : (y : Row) → ShowsRow q y → StoresRow q h m turn x says.Published row y (items.Made (entries.Publish q (map (answer_at q (after_stored h y m.scene)) batch)) ∷ []) → TurnSays q h m turn x row head batch
   Rings : StoresNone q h m turn x says.Belled row (items.Bell q) → TurnSays q h m turn x row head batch
   Starts : StoresNone q h m turn x says.Started row (items.Made (entries.Start q [])) → TurnSays q h m turn x row head batch

@@ -5,7 +5,7 @@ use Rattle.std.proofs.lemmas.Bool.Decides.{nat_tests}
 use Rattle.vub_run_laws.proofs.RunQueue.{phase_at, queue_ahead, head_below}
 use Rattle.vub_base.specs.declared.header.Header1.{Header1}
 use Rattle.vub_base.specs.declared.store.Tag.{Tag}
-use Rattle.vub_base.specs.declared.store.Tag.TheVariants.{SP5}
+use Rattle.vub_base.specs.declared.store.Tag.TheVariants.{SF2, SP5}
 use Rattle.vub_base.specs.declared.store.Area.{Area}
 use Rattle.vub_base.specs.declared.store.Area.TheVariants.{M, I}
 use Rattle.vub_shared.specs.Bytes.{Bytes, put, bytes_from}
@@ -47,26 +47,31 @@ use Rattle.vub_world.specs.OutstandingRequests.{slot_in}
 use Rattle.vub_world.specs.MachineAt.{OutstandingAt, reads_of}
 use Rattle.vub_world.specs.MachineDevice.{Device, DeviceAt, TurnMade, IsMade, StoreFits, SectorFits, HeadFits, answer_for, answers_for, noted, stored_items, shown_of, is_index, accepts, number_at}
 use Rattle.vub_world.specs.MachineFront.{area_of, IsSmall, OneSmall}
-use Rattle.vub_run.specs.Memory.{space_of, after_items}
+use Rattle.vub_run.specs.Memory.{Scene, space_of, after_items}
 use Rattle.vub_run.specs.Moments.{Lane, Moment, region_of, standing}
 use Rattle.vub_queue_in_run.specs.QueueAt.{spot_of, QueueStands, LiesAs, DiskAt}
-use Rattle.vub_rec_split.specs.Starts.{due_in}
+use Rattle.vub_rec_split.specs.declared.recovery.Recovered.{Recovered}
+use Rattle.vub_rec_split.specs.declared.recovery.Recovered.TheVariants as recovered
+use Rattle.vub_rec_split.specs.Starts.{due_in, answer_in}
 use Rattle.vub_queue.specs.QueueState as states
-use Rattle.vub_queue.specs.QueueState.{steps_in, QueueState, row_at, row_if, next_row, publishes, publish_row, StoresRow, TrailsRow, StoresStep, TrailsStep, start_due, Turns, DoesStore, DoesTrail, DoesDisk, IsDue, IfStepped, WorksOut, outcome, is_idle, is_fault}
+use Rattle.vub_queue.specs.QueueState.{steps_in, QueueState, row_at, row_if, next_row, publishes, publish_row, TrailsRow, StoresStep, start_due, start_said, rings_next, step_in, fetch_row, Fetches, StartsIf, StoresBy, TrailsBy, Turns, DoesStore, DoesTrail, DoesDisk, IsDue, IfStepped, WorksOut, outcome, is_idle, is_fault}
 use Rattle.vub_run.specs.Run.{one_turn}
 use Rattle.vub_task.specs.TaskState.{Making}
-use Rattle.vub_run.specs.Turns.{turned, answer_len, answer_at}
+use Rattle.vub_run.specs.Turns.{turned, under_way, answer_len, answer_at}
 use Rattle.vub_run_laws.proofs.RunNumbers.{not_among-take}
 use Rattle.vub_run_laws.proofs.RunFrames.{open_out, length_little}
-use Rattle.vub_run_laws.proofs.RunGood.{IsWide, IsOut, PhaseIs}
+use Rattle.vub_run_laws.proofs.RunGood.{IsWide, IsOut, hidden}
 use Rattle.vub_run_laws.proofs.RunHolds.{Holds}
 use Rattle.vub_run_laws.proofs.RunOwn.{accepted_own}
-use Rattle.vub_run_laws.proofs.RunTurns.{IsPlain, Good}
+use Rattle.vub_run_laws.proofs.RunTurns.{IsPlain, Good, turn_fine}
 use Rattle.vub_run_laws.proofs.RunChainsEvents.{ChainedAt}
 use Rattle.vub_queue_in_run.proofs.QueueAtMoves.{new_unpublished}
-use Rattle.vub_queue_in_run.proofs.QueueAtStarts.{StartSays, Noted, Rung, Begun, StoresIn, MakesNone, start_stands}
-use Rattle.vub_queue_in_run.proofs.QueueAtTurns.{IsPhaseTurn, fetch_stands, idle_stands, ready_same}
-use Rattle.vub_queue_in_run.proofs.QueueAtRows.{HasPublished, HasShown, ShowsNext, row_stands, shown_stands, stored_stands, after_row, few_stored, shown_place}
+use Rattle.vub_queue_in_run.proofs.QueueAtStarts.{start_row, start_stores_row, start_trails_row, start_stands}
+use Rattle.vub_queue_in_run.proofs.QueueAtTurns.{IsPhaseTurn, does_of, hidden_is, idle_stands, ready_same}
+use Rattle.vub_queue_in_run.proofs.QueueAtFetches.{fetch_stands}
+use Rattle.vub_queue_in_run.proofs.QueueAtPublications.{publish_stands}
+use Rattle.vub_queue_in_run.proofs.QueueAtSteps.{hides}
+use Rattle.vub_queue_in_run.proofs.TurnSays.{RowFits, row_item, after_stored, ShowsRow, StoresRow, StoresNone, TurnSays, Notes, Accepts, Publishes, Rings, Starts}
 use Rattle.vub_queue_in_run.proofs.WorkAtItems.{IsNoWork, turn_disk}
 
 -- ---- what a turn is given, and what it does
@@ -150,177 +155,7 @@ left_at q h setup m outstanding t d now tag area st a none stands values s memor
   disk = disk_same h.capacity (one_turn h q t m).next.scene.past d.values now.values values (turn_disk q h m t d.values none a.at.disk);
 }
 
--- a turn whose one item is its store
-pub stored_turn : (q : ℕ) (h : Header1) (setup : QueueSetup) (m : Moment) (outstanding : OutstandingRequests) (t : Turn) (d now : Device) (tag : Tag) (area : Area) (st : Store) (x : Stepped) → TurnAt q h setup m outstanding d → IsNoWork t → QueueStands q h setup (one_turn h q t m).next now.queue → now.values ≡ d.values
-    → StoredIn d now area st → x ≡ says.Stored tag → (turned h q t m).items ≡ items.Store tag area st.place st.bytes ∷ [] → TurnMade q h setup m t outstanding d now x
-stored_turn q h setup m outstanding t d now tag area st x a none_of_work stands values s said made =
-    let none : accepts x ≡ 0 = ap accepts said in
-    let same : accepted (one_turn h q t m).next.scene.past q ≡ accepted m.scene.past q = ap (λ (is : List Item). accepted (after_items h is m.scene).past q) made in
-    record {
-      goes = ap is_idle said;
-      made = subst (λ (z : Stepped). IsMade z) (sym said) tt;
-      at = left_at q h setup m outstanding t d now tag area st a none_of_work stands values s (ap (λ (is : List Item). (after_items h is m.scene).memory) made);
-      items_are = made ∙ sym (store_made d now tag area st s) ∙ sym (ap (noted q outstanding now.values now.stores (shown_of q outstanding d.memory d.queue)) said);
-      store = subst (λ (z : Stepped). StoreFits z now.stores) (sym said) (one_small d now area st s);
-      sector = subst (λ (z : Stepped). SectorFits h.capacity z) (sym said) tt;
-      head = subst (λ (z : Stepped). HeadFits h.size z) (sym said) tt;
-      taken = omega (arith, none, same);
-    }
-
--- ---- a start
-
--- a store into a region of the in-flight space is small
-region_small : (g : SplitRegion) (x : SplitStore) → g.space.number ≡ 1 → IsSmall I (store_of g x)
-region_small g region_stores.SI1 there = record { space = there; few = omega (arith, length_little 8 0) }
-region_small g (region_stores.SI2 i) there = record { space = there; few = omega (arith, length_little 1 0) }
-region_small g (region_stores.SI3 used) there = record { space = there; few = omega (arith, length_little 8 (1 + 65536 * (g.size + 65536 * (0 + 65536 * used)))) }
-region_small g (region_stores.SR1 i) there = record { space = there; few = omega (arith, length_little 1 0) }
-region_small g (region_stores.SR2 used) there = record { space = there; few = omega (arith, length_little 2 used) }
-region_small g (region_stores.SF1 i counter) there = record { space = there; few = omega (arith, length_little 8 counter) }
-region_small g (region_stores.SF2 i) there = record { space = there; few = omega (arith, length_little 1 1) }
-region_small g (region_stores.SP3 i next) there = record { space = there; few = omega (arith, length_little 2 next) }
-region_small g (region_stores.SP4 head) there = record { space = there; few = omega (arith, length_little 2 head) }
-region_small g (region_stores.SP6 i) there = record { space = there; few = omega (arith, length_little 1 0) }
-region_small g (region_stores.SP7 used) there = record { space = there; few = omega (arith, length_little 2 used) }
-
--- the store of a start
-start_stored : (q : ℕ) (h : Header1) (setup : QueueSetup) (m : Moment) (outstanding : OutstandingRequests) (cap : ℕ) (sizes : ℕ → ℕ) (d now : Device) (x : Stepped) → TurnAt q h setup m outstanding d → DeviceDoes turns.Start cap sizes d now x → (y : StoresIn q h m x d.queue) → StoredIn d now I (store_of (region_of q h.size) y.store)
-start_stored q h setup m outstanding cap sizes d now x a does y =
-    let due : start_due d.queue d.memory ≡ Some y.store = ap (start_due d.queue) a.at.memory_is ∙ y.due in
-    let left : StoresStep (Some d.memory) (Some now.memory) x d.queue.recovery.region (Some y.store) = subst (λ (o : Option SplitStore). StoresStep (Some d.memory) (Some now.memory) x d.queue.recovery.region o) due (does.stores_are d.memory refl) in
-    let right : TrailsStep (Some d.stores) (Some now.stores) x d.queue.recovery.region (Some y.store) = subst (λ (o : Option SplitStore). TrailsStep (Some d.stores) (Some now.stores) x d.queue.recovery.region o) due (does.trails.1 d.memory refl) in
-    stored_in d now x I (store_of (region_of q h.size) y.store) (ap outcome y.said) a.fresh (region_small (region_of q h.size) y.store refl)
-    (subst (λ (g : SplitRegion). Stores (Some d.memory) (Some now.memory) (outcome x) (store_of g y.store)) y.region left)
-    (subst (λ (g : SplitRegion). Trails (Some d.stores) (Some now.stores) (outcome x) (store_of g y.store)) y.region right)
-
--- a turn of a start that stores nothing
-start_none : (q : ℕ) (h : Header1) (setup : QueueSetup) (m : Moment) (outstanding : OutstandingRequests) (cap : ℕ) (sizes : ℕ → ℕ) (d now : Device) (x what : Stepped) (item : Item) → TurnAt q h setup m outstanding d → DeviceDoes turns.Start cap sizes d now x
-    → QueueStands q h setup (one_turn h q turns.Start m).next now.queue → MakesNone q h m x what d.queue item → is_idle what ≡ false → IsMade what → StoreFits what now.stores → SectorFits h.capacity what → HeadFits h.size what → accepts what ≡ 0
-    → noted q outstanding now.values now.stores (shown_of q outstanding d.memory d.queue) what ≡ item ∷ [] → (after_items h (item ∷ []) m.scene).memory ≡ m.scene.memory → accepted (after_items h (item ∷ []) m.scene).past q ≡ accepted m.scene.past q
-    → TurnMade q h setup m turns.Start outstanding d now x
-start_none q h setup m outstanding cap sizes d now x what item a does stands y goes made store sector head takes notes memory same =
-    let none : accepts x ≡ 0 = ap accepts y.said ∙ takes in
-    let same_too : accepted (one_turn h q turns.Start m).next.scene.past q ≡ accepted m.scene.past q = ap (λ (is : List Item). accepted (after_items h is m.scene).past q) y.made ∙ same in
-    let due : start_due d.queue d.memory ≡ None = ap (start_due d.queue) a.at.memory_is ∙ y.due in
-    let kept : StoresStep (Some d.memory) (Some now.memory) x d.queue.recovery.region None = subst (λ (o : Option SplitStore). StoresStep (Some d.memory) (Some now.memory) x d.queue.recovery.region o) due (does.stores_are d.memory refl) in
-    record {
-      goes = ap is_idle y.said ∙ goes;
-      made = subst (λ (z : Stepped). IsMade z) (sym y.said) made;
-      at = record {
-        stands = stands;
-        memory_is = some_is now.memory d.memory kept ∙ a.at.memory_is ∙ sym memory ∙ sym (ap (λ (is : List Item). (after_items h is m.scene).memory) y.made);
-        disk = disk_same h.capacity (one_turn h q turns.Start m).next.scene.past d.values now.values (some_is now.values d.values does.values_are) (turn_disk q h m turns.Start d.values tt a.at.disk);
-      };
-      items_are = y.made ∙ sym notes ∙ sym (ap (noted q outstanding now.values now.stores (shown_of q outstanding d.memory d.queue)) y.said);
-      store = subst (λ (z : Stepped). StoreFits z now.stores) (sym y.said) store;
-      sector = subst (λ (z : Stepped). SectorFits h.capacity z) (sym y.said) sector;
-      head = subst (λ (z : Stepped). HeadFits h.size z) (sym y.said) head;
-      taken = omega (arith, none, same_too);
-    }
-
-pub start_made : (q : ℕ) (h : Header1) (setup : QueueSetup) (m : Moment) (outstanding : OutstandingRequests) (cap : ℕ) (sizes : ℕ → ℕ) (d now : Device) (x : Stepped) → TurnAt q h setup m outstanding d → is_ready (standing h q m) turns.Start ≡ true → DeviceDoes turns.Start cap sizes d now x
-    → TurnMade q h setup m turns.Start outstanding d now x
-start_made q h setup m outstanding cap sizes d now x a ready does =
-    let told : Turns turns.Start (Some m.scene.memory) x d.queue now.queue = subst (λ (b : Bytes). Turns turns.Start (Some b) x d.queue now.queue) a.at.memory_is does.does in
-    let s = start_stands q h setup m x d.queue now.queue a.plain a.good a.main a.at.stands ready does.fine told in
-    go s.says s.stands
-  where
-    go : StartSays q h m x d.queue → QueueStands q h setup (one_turn h q turns.Start m).next now.queue → TurnMade q h setup m turns.Start outstanding d now x
-    go (Noted y) stands =
-        stored_turn q h setup m outstanding turns.Start d now (tag_of y.store) I (store_of (region_of q h.size) y.store) x a tt stands (some_is now.values d.values does.values_are) (start_stored q h setup m outstanding cap sizes d now x a does y) y.said y.made
-    go (Rung y) stands = start_none q h setup m outstanding cap sizes d now x says.Belled (items.Bell q) a does stands y refl tt tt tt tt refl refl refl refl
-    go (Begun y) stands = start_none q h setup m outstanding cap sizes d now x says.Started (items.Made (entries.Start q [])) a does stands y refl tt tt tt tt refl refl refl refl
-
--- ---- a fetch
-
--- a fetch is at no phase of its own between two turns, so where it is ready something waits
-waits_there : (n : ℕ) (bell : Bool) (plan : Plan) (batch : List ℕ) (phase : Phase) (s : Bool) (w u c : ℕ) → PhaseIs n bell plan batch phase → is_ready (record { started = s; phase = phase; waiting = w; unfinished = u; completed = c }) turns.Fetch ≡ true → 0 < w
-waits_there n bell plan batch phases.Rest s w u c is ready = grind (arith, nat_tests)
-waits_there n bell plan batch (phases.Publish done) s w u c is ready = absurd (let fails : true ≡ false = sym ready ∙ grind (arith, nat_tests) in cc)
-waits_there n bell plan batch (phases.Start done) s w u c is ready = grind (arith, nat_tests)
-waits_there n bell plan batch (phases.Fetch done) s w u c is ready = absurd is
-
--- where it is ready, one more is offered
-more_offered : (q : ℕ) (h : Header1) (m : Moment) → IsPlain h → Good q h m → is_ready (standing h q m) turns.Fetch ≡ true → accepted m.scene.past q < length (m.scene.heads q)
-more_offered q h m plain good ready =
-    let st : Standing = standing h q m in
-    let some = queue_ahead q h m.scene (m.lanes q) plain.good good.holds in
-    let waits = waits_there h.size (m.lanes q).bell (m.lanes q).plan (m.lanes q).batch (m.lanes q).phase st.started st.waiting st.unfinished st.completed (phase_at q h m.scene (m.lanes q) good.holds) ready in
-    omega (arith, some, waits)
-
-pub fetch_made : (q : ℕ) (h : Header1) (setup : QueueSetup) (m : Moment) (outstanding : OutstandingRequests) (cap : ℕ) (sizes : ℕ → ℕ) (d now : Device) (x : Stepped) → TurnAt q h setup m outstanding d → is_ready (standing h q m) turns.Fetch ≡ true → DeviceDoes turns.Fetch cap sizes d now x
-    → TurnMade q h setup m turns.Fetch outstanding d now x
-fetch_made q h setup m outstanding cap sizes d now x a ready does =
-    let k : ℕ = accepted m.scene.past q in
-    let head : ℕ = slice_index (m.scene.heads q) k in
-    let told : Turns turns.Fetch (Some m.scene.memory) x d.queue now.queue = subst (λ (b : Bytes). Turns turns.Fetch (Some b) x d.queue now.queue) a.at.memory_is does.does in
-    let s = fetch_stands q h setup m x d.queue now.queue a.plain a.good a.main a.at.stands ready does.fine told in
-    let new = not_among-take (published m.scene.past q) (collected m.scene.past q) k (new_unpublished q h.size h.capacity m.scene.past (m.scene.heads q) a.good.holds.known) in
-    let offered : k < length (m.scene.heads q) = more_offered q h m a.plain a.good ready in
-    let slot = a.numbered.slots k offered new in
-    let number : number_at outstanding head ≡ k = ap (λ (o : OutstandingRequest). o.number) slot in
-    let one : accepts x ≡ 1 = ap accepts s.said in
-    let more : accepted (one_turn h q turns.Fetch m).next.scene.past q ≡ k + 1 = ap (λ (is : List Item). accepted (after_items h is m.scene).past q) s.made ∙ accepted_own m.scene.past q k in
-    record {
-      goes = ap is_idle s.said;
-      made = subst (λ (y : Stepped). IsMade y) (sym s.said) tt;
-      at = record {
-        stands = s.stands;
-        memory_is = some_is now.memory d.memory does.stores_are ∙ a.at.memory_is ∙ sym (ap (λ (is : List Item). (after_items h is m.scene).memory) s.made);
-        disk = disk_same h.capacity (one_turn h q turns.Fetch m).next.scene.past d.values now.values (some_is now.values d.values does.values_are) (turn_disk q h m turns.Fetch d.values tt a.at.disk);
-      };
-      items_are = s.made ∙ ap (λ (n : ℕ). items.Made (entries.Accept q n) ∷ []) (sym number) ∙ sym (ap (noted q outstanding now.values now.stores (shown_of q outstanding d.memory d.queue)) s.said);
-      store = subst (λ (y : Stepped). StoreFits y now.stores) (sym s.said) tt;
-      sector = subst (λ (y : Stepped). SectorFits h.capacity y) (sym s.said) tt;
-      head = subst (λ (y : Stepped). HeadFits h.size y) (sym s.said) (head_below q h m.scene (m.lanes q).driver (m.lanes q).bell (m.lanes q).plan (m.lanes q).batch (m.lanes q).phase k a.good.holds.queue (record { below = offered; kept = new }));
-      taken = omega (arith, one, more);
-    }
-
--- ---- a publication
-
-stored_row : (d now : Device) (x : Stepped) (o : Option Row) (y : Row) → outcome x ≡ Ok tt → o ≡ Some y → d.stores ≡ [] → IsSmall M y.store → StoresRow (Some d.memory) (Some now.memory) x o → TrailsRow (Some d.stores) (Some now.stores) x o → StoredIn d now M y.store
-stored_row d now x o y fine is fresh small stores trails =
-    let left : StoresRow (Some d.memory) (Some now.memory) x (Some y) = subst (λ (z : Option Row). StoresRow (Some d.memory) (Some now.memory) x z) is stores in
-    let right : TrailsRow (Some d.stores) (Some now.stores) x (Some y) = subst (λ (z : Option Row). TrailsRow (Some d.stores) (Some now.stores) x z) is trails in
-    stored_in d now x M y.store fine fresh small left right
-
-small_row : (most : ℕ) (state : QueueState) (y : Row) → publish_row most state ≡ Some y → y.store.space ≡ 0 → IsSmall M y.store
-small_row most state y is space = record { space = space; few = omega (arith, few_stored most state y is) }
-
--- each is into guest memory
-area_get : (o : Option (ℕ × ℕ)) (f : ℕ × ℕ → Row) (y : Row) → ((z : ℕ × ℕ) → (f z).area ≡ M) → option_map f o ≡ Some y → y.area ≡ M
-area_get None f y each is = absurd (let fails : None ≡ Some y = is in cc)
-area_get (Some z) f y each is =
-    let both : Some (f z) ≡ Some y = is in
-    let here : f z ≡ y = cc both in
-    subst (λ (x : Row). x.area ≡ M) here (each z)
-
-area_in : (u : QueueState) (o : Option Step) (y : Row) → row_at u o ≡ Some y → y.area ≡ M
-area_in u None y is = absurd (let fails : None ≡ Some y = is in cc)
-area_in u (Some steps.Start) y is = absurd (let fails : None ≡ Some y = is in cc)
-area_in u (Some steps.Accept) y is = absurd (let fails : None ≡ Some y = is in cc)
-area_in u (Some steps.Features) y is = absurd (let fails : None ≡ Some y = is in cc)
-area_in u (Some (steps.Free i)) y is = absurd (let fails : None ≡ Some y = is in cc)
-area_in u (Some steps.Open) y is = absurd (let fails : None ≡ Some y = is in cc)
-area_in u (Some (steps.Settle place)) y is = absurd (let fails : None ≡ Some y = is in cc)
-area_in u (Some steps.SettleEnd) y is = absurd (let fails : None ≡ Some y = is in cc)
-area_in u (Some steps.Bell) y is = absurd (let fails : None ≡ Some y = is in cc)
-area_in u (Some (steps.Id e)) y is = area_get (slice_get u.batch e) _ y (λ z. refl) is
-area_in u (Some (steps.Len e)) y is = area_get (slice_get u.batch e) _ y (λ z. refl) is
-area_in u (Some steps.Index) y is = ap (λ (o : Option Row). go o) (sym is)
-  where
-    go : Option Row → Area
-    go None = M
-    go (Some x) = x.area
-
-row_area : (most : ℕ) (state : QueueState) (y : Row) → publish_row most state ≡ Some y → y.area ≡ M
-row_area most state y is = let u : QueueState = states.under_way most state in area_in u (next_of (steps_in u) u.phase) y (row_in (publishes most state) u y is)
-  where
-    row_in : (b : Bool) (u : QueueState) (y : Row) → row_if b u ≡ Some y → next_row u ≡ Some y
-    row_in true u y is = is
-    row_in false u y is = absurd (let fails : None ≡ Some y = is in cc)
-
--- ---- its answers
+-- ---- the answers of a batch
 
 same_answer : (k st st' : ℕ) (bs bs' : List ℕ) → st ≡ st' → bs ≡ bs' → ◌≡◌ {A = Answered} (record { number = k; status = st; bytes = bs }) (record { number = k; status = st'; bytes = bs' })
 same_answer k st st' bs bs' es eb = cc
@@ -364,88 +199,202 @@ map_over f g spot (k ∷ ks) same =
 pub among_right : (xs ys : List ℕ) (k : ℕ) → is_among ys k ≡ true → is_among (xs ++ ys) k ≡ true
 among_right xs ys k held = let joined : is_among (xs ++ ys) k ≡ (is_among xs k || is_among ys k) = is_among_append xs ys k in grind (arith, nat_tests)
 
-answers_same : (q : ℕ) (h : Header1) (setup : QueueSetup) (m : Moment) (outstanding : OutstandingRequests) (d : Device) (y : Row) → TurnAt q h setup m outstanding d → y.store.place + length y.store.bytes ≤ area_place q + 65536
-    → answers_for q outstanding d.memory d.queue.batch ≡ map (answer_at q (after_row h y m.scene)) (m.lanes q).batch
-answers_same q h setup m outstanding d y a off =
+-- while a batch isn't shown
+abbrev NotShown : ℕ → Moment → Type 0
+NotShown q m = (m.lanes q).phase ≡ phases.Publish (4 * length (m.lanes q).batch)
+
+answers_same : (q : ℕ) (h : Header1) (setup : QueueSetup) (m : Moment) (outstanding : OutstandingRequests) (d : Device) (y : Row) → TurnAt q h setup m outstanding d → NotShown q m → ShowsRow q y
+    → answers_for q outstanding d.memory d.queue.batch ≡ map (answer_at q (after_stored h y m.scene)) (m.lanes q).batch
+answers_same q h setup m outstanding d y a not_shown w =
     let l : Lane = m.lanes q in
     let past : List Entry = m.scene.past in
     let heads : List ℕ = m.scene.heads q in
-    let f : ℕ × ℕ → Answered = λ x. answer_for q (slot_in outstanding x.0) m.scene.memory x.0 in
+    let all : hidden l.batch l.phase ≡ l.batch = ap (hidden l.batch) not_shown ∙ hidden_is l.batch (phases.Publish (4 * length l.batch)) ∙ hides l.batch (4 * length l.batch) (omega arith) in
+    let scene : after_stored h y m.scene ≡ after_stored h (record y { area = M }) m.scene = ap (λ (area : Area). after_stored h (record y { area = area }) m.scene) w.area in
     ap (λ (b : Bytes). answers_for q outstanding b d.queue.batch) a.at.memory_is
-    ∙ ap (λ (xs : List (ℕ × ℕ)). answers_for q outstanding m.scene.memory xs) a.at.stands.at.batch
-    ∙ map_over f (answer_at q (after_row h y m.scene)) (spot_of q h past heads) l.batch (λ k held.
-    let done : is_among (l.completed ++ l.batch) k ≡ true = among_right l.completed l.batch k held in
+    ∙ ap (λ (xs : List (ℕ × ℕ)). answers_for q outstanding m.scene.memory xs) a.at.stands.phase.batch
+    ∙ map_over (λ x. answer_for q (slot_in outstanding x.0) m.scene.memory x.0) (answer_at q (after_stored h (record y { area = M }) m.scene)) (spot_of q h past heads) l.batch (λ k held.
+    let part : is_among (hidden l.batch l.phase) k ≡ true = ap (λ (ks : List ℕ). is_among ks k) all ∙ held in
+    let done : is_among (l.completed ++ hidden l.batch l.phase) k ≡ true = among_right l.completed (hidden l.batch l.phase) k part in
     let out : IsOut q past heads k = open_out q h.size h.capacity past heads k a.good.holds.known (a.good.holds.worked.opens k done) in
     let head : ℕ = slice_index heads k in
     ap (λ (o : OutstandingRequest). answer_for q o m.scene.memory head) (a.numbered.slots k out.below out.kept)
-    ∙ answer_same q h.capacity (asked past q k) m.scene.memory y.store.place y.store.bytes k head (a.good.holds.known.wide k out.below) off (a.good.holds.stored.status k done))
+    ∙ answer_same q h.capacity (asked past q k) m.scene.memory y.store.place y.store.bytes k head (a.good.holds.known.wide k out.below) w.low (a.good.holds.stored.status k done))
+    ∙ ap (λ (s : Scene). map (answer_at q s) l.batch) (sym scene)
 
 -- which answers a turn notes
-shown_is : (q : ℕ) (outstanding : OutstandingRequests) (m : Bytes) (state : QueueState) → ShowsNext state → shown_of q outstanding m state ≡ answers_for q outstanding m state.batch
+shown_is : (q : ℕ) (outstanding : OutstandingRequests) (m : Bytes) (state : QueueState) → step_in state ≡ Some steps.Index → shown_of q outstanding m state ≡ answers_for q outstanding m state.batch
 shown_is q outstanding m state next = ap (λ (o : Option Step). cond {A = List Answered} (is_index o) (answers_for q outstanding m state.batch) []) next
 
--- the store that shows the batch
-show_made : (q : ℕ) (h : Header1) (setup : QueueSetup) (m : Moment) (outstanding : OutstandingRequests) (most : ℕ) (d now : Device) (x : Stepped) (y : Row) → TurnAt q h setup m outstanding d → DeviceAt q h setup (one_turn h q (turns.Publish most) m).next now → HasShown q h m most x y → ShowsNext d.queue
-    → StoredIn d now M y.store → y.store.place + length y.store.bytes ≤ area_place q + 65536 → TurnMade q h setup m (turns.Publish most) outstanding d now x
-show_made q h setup m outstanding most d now x y a at has next s off =
-    let list : List Answered = map (answer_at q (after_row h y m.scene)) (m.lanes q).batch in
-    let none : accepts x ≡ 0 = ap accepts has.said in
-    let same : accepted (one_turn h q (turns.Publish most) m).next.scene.past q ≡ accepted m.scene.past q = ap (λ (is : List Item). accepted (after_items h is m.scene).past q) has.items in
-    let answers : shown_of q outstanding d.memory d.queue ≡ list = shown_is q outstanding d.memory d.queue next ∙ answers_same q h setup m outstanding d y a off in
-    record {
-      goes = ap is_idle has.said;
-      made = subst (λ (z : Stepped). IsMade z) (sym has.said) tt;
-      at = at;
-      items_are = has.items
-          ∙ ap (λ (is : List Item). is ++ items.Made (entries.Publish q list) ∷ []) (sym (store_made d now SP5 M y.store s))
-          ∙ ap (λ (xs : List Answered). stored_items SP5 now.stores ++ items.Made (entries.Publish q xs) ∷ []) (sym answers)
-          ∙ sym (ap (noted q outstanding now.values now.stores (shown_of q outstanding d.memory d.queue)) has.said);
-      store = subst (λ (z : Stepped). StoreFits z now.stores) (sym has.said) (one_small d now M y.store s);
-      sector = subst (λ (z : Stepped). SectorFits h.capacity z) (sym has.said) tt;
-      head = subst (λ (z : Stepped). HeadFits h.size z) (sym has.said) tt;
-      taken = omega (arith, none, same);
-    }
+-- ---- a turn of a phase
 
--- whether the next step shows the batch
-shows_cases : (state : QueueState) → ShowsNext state ⊎ (ShowsNext state → ⊥)
-shows_cases state = go (next_of (steps_in state) state.phase)
-  where
-    go : (o : Option Step) → (o ≡ Some steps.Index) ⊎ (o ≡ Some steps.Index → ⊥)
-    go None = inr (λ e. let fails : None ≡ Some steps.Index = e in cc)
-    go (Some steps.Start) = inr (λ e. let fails : Some steps.Start ≡ Some steps.Index = e in cc)
-    go (Some steps.Features) = inr (λ e. let fails : Some steps.Features ≡ Some steps.Index = e in cc)
-    go (Some (steps.Free i)) = inr (λ e. let fails : Some (steps.Free i) ≡ Some steps.Index = e in cc)
-    go (Some steps.Open) = inr (λ e. let fails : Some steps.Open ≡ Some steps.Index = e in cc)
-    go (Some (steps.Settle place)) = inr (λ e. let fails : Some (steps.Settle place) ≡ Some steps.Index = e in cc)
-    go (Some steps.SettleEnd) = inr (λ e. let fails : Some steps.SettleEnd ≡ Some steps.Index = e in cc)
-    go (Some steps.Bell) = inr (λ e. let fails : Some steps.Bell ≡ Some steps.Index = e in cc)
-    go (Some steps.Accept) = inr (λ e. let fails : Some steps.Accept ≡ Some steps.Index = e in cc)
-    go (Some (steps.Id k)) = inr (λ e. let fails : Some (steps.Id k) ≡ Some steps.Index = e in cc)
-    go (Some (steps.Len k)) = inr (λ e. let fails : Some (steps.Len k) ≡ Some steps.Index = e in cc)
-    go (Some steps.Index) = inl refl
+-- what is told of its row
+record RowTold (d now : Device) (x : Stepped) (row : Option Row) : Type 0 where
+  pub stores : states.StoresRow (Some d.memory) (Some now.memory) x row
+  pub trails : TrailsRow (Some d.stores) (Some now.stores) x row
+
+-- where its row stores, the device did
+stored_row : (d now : Device) (x : Stepped) (row : Option Row) (y : Row) → RowTold d now x row → row ≡ Some y → outcome x ≡ Ok tt → d.stores ≡ [] → RowFits y → StoredIn d now y.area y.store
+stored_row d now x row y told is fine fresh fits =
+    let left : states.StoresRow (Some d.memory) (Some now.memory) x (Some y) = subst (λ (z : Option Row). states.StoresRow (Some d.memory) (Some now.memory) x z) is told.stores in
+    let right : TrailsRow (Some d.stores) (Some now.stores) x (Some y) = subst (λ (z : Option Row). TrailsRow (Some d.stores) (Some now.stores) x z) is told.trails in
+    stored_in d now x y.area y.store fine fresh (record { space = fits.space; few = omega (arith, fits.few) }) left right
+
+-- what a turn is told to do and to leave
+record PhaseTurn (q : ℕ) (h : Header1) (setup : QueueSetup) (m : Moment) (outstanding : OutstandingRequests) (t : Turn) (d now : Device) (x : Stepped) (row : Option Row) : Type 0 where
+  pub given : TurnAt q h setup m outstanding d
+  pub none : IsNoWork t
+  pub ready : is_ready (standing h q m) t ≡ true
+  pub stands : QueueStands q h setup (one_turn h q t m).next now.queue
+  pub values : now.values ≡ d.values
+  pub told : RowTold d now x row
+
+-- where the queue says this, with these items
+made_as : (q : ℕ) (h : Header1) (setup : QueueSetup) (m : Moment) (outstanding : OutstandingRequests) (t : Turn) (d now : Device) (x what : Stepped) (row : Option Row) (list : List Item) → PhaseTurn q h setup m outstanding t d now x row → x ≡ what → (turned h q t m).items ≡ list → is_idle what ≡ false → IsMade what
+    → list ≡ noted q outstanding now.values now.stores (shown_of q outstanding d.memory d.queue) what → StoreFits what now.stores → SectorFits h.capacity what → HeadFits h.size what → now.memory ≡ (after_items h list m.scene).memory → accepts what + accepted m.scene.past q ≡ accepted (after_items h list m.scene).past q
+    → TurnMade q h setup m t outstanding d now x
+made_as q h setup m outstanding t d now x what row list p said made goes fine notes store sector head memory takes = record {
+  goes = ap is_idle said ∙ goes;
+  made = subst (λ (z : Stepped). IsMade z) (sym said) fine;
+  at = record {
+    stands = p.stands;
+    memory_is = memory ∙ sym (ap (λ (is : List Item). (after_items h is m.scene).memory) made);
+    disk = disk_same h.capacity (one_turn h q t m).next.scene.past d.values now.values p.values (turn_disk q h m t d.values p.none p.given.at.disk);
+  };
+  items_are = made ∙ notes ∙ sym (ap (noted q outstanding now.values now.stores (shown_of q outstanding d.memory d.queue)) said);
+  store = subst (λ (z : Stepped). StoreFits z now.stores) (sym said) store;
+  sector = subst (λ (z : Stepped). SectorFits h.capacity z) (sym said) sector;
+  head = subst (λ (z : Stepped). HeadFits h.size z) (sym said) head;
+  taken = ap (λ (z : Stepped). accepts z + accepted m.scene.past q) said ∙ takes ∙ sym (ap (λ (is : List Item). accepted (after_items h is m.scene).past q) made);
+}
+
+-- a store and nothing else
+notes_made : (q : ℕ) (h : Header1) (setup : QueueSetup) (m : Moment) (outstanding : OutstandingRequests) (t : Turn) (d now : Device) (x : Stepped) (row : Option Row) (y : Row) → PhaseTurn q h setup m outstanding t d now x row → StoresRow q h m t x (says.Stored y.tag) row y [] → TurnMade q h setup m t outstanding d now x
+notes_made q h setup m outstanding t d now x row y p s =
+    let st : StoredIn d now y.area y.store = stored_row d now x row y p.told s.is_row (ap outcome s.said) p.given.fresh s.fits in
+    made_as q h setup m outstanding t d now x (says.Stored y.tag) row (row_item y ∷ []) p s.said s.made refl tt (sym (store_made d now y.tag y.area y.store st)) (one_small d now y.area y.store st) tt tt
+    (store_memory h m d now y.tag y.area y.store p.given.at.memory_is st) refl
+
+-- nothing but the bell, or the end of a start
+none_made : (q : ℕ) (h : Header1) (setup : QueueSetup) (m : Moment) (outstanding : OutstandingRequests) (t : Turn) (d now : Device) (x what : Stepped) (row : Option Row) (item : Item) → PhaseTurn q h setup m outstanding t d now x row → StoresNone q h m t x what row item → is_idle what ≡ false → IsMade what
+    → item ∷ [] ≡ noted q outstanding now.values now.stores (shown_of q outstanding d.memory d.queue) what → StoreFits what now.stores → SectorFits h.capacity what → HeadFits h.size what → (after_items h (item ∷ []) m.scene).memory ≡ m.scene.memory
+    → accepts what + accepted m.scene.past q ≡ accepted (after_items h (item ∷ []) m.scene).past q → TurnMade q h setup m t outstanding d now x
+none_made q h setup m outstanding t d now x what row item p s goes fine notes store sector head memory takes =
+    let kept : states.StoresRow (Some d.memory) (Some now.memory) x None = subst (λ (z : Option Row). states.StoresRow (Some d.memory) (Some now.memory) x z) s.is_row p.told.stores in
+    made_as q h setup m outstanding t d now x what row (item ∷ []) p s.said s.made goes fine notes store sector head (some_is now.memory d.memory kept ∙ p.given.at.memory_is ∙ sym memory) takes
+
+-- the request that is accepted is offered: it is so after the turn
+more_offered : (q : ℕ) (h : Header1) (setup : QueueSetup) (m : Moment) (outstanding : OutstandingRequests) (t : Turn) (d now : Device) (x : Stepped) (row : Option Row) (y : Row) → PhaseTurn q h setup m outstanding t d now x row
+    → (turned h q t m).items ≡ row_item y ∷ items.Made (entries.Accept q (accepted m.scene.past q)) ∷ [] → accepted m.scene.past q < length (m.scene.heads q)
+more_offered q h setup m outstanding t d now x row y p made =
+    let after = turn_fine q h t m p.given.plain p.given.good p.ready in
+    let many : accepted (after_items h (turned h q t m).items m.scene).past q ≡ accepted m.scene.past q + 1 = ap (λ (is : List Item). accepted (after_items h is m.scene).past q) made ∙ accepted_own m.scene.past q (accepted m.scene.past q) in
+    let same : (after_items h (turned h q t m).items m.scene).heads q ≡ m.scene.heads q = ap (λ (is : List Item). (after_items h is m.scene).heads q) made in
+    omega (arith, after.holds.known.offered, many, ap (λ (hs : List ℕ). length hs) same)
+
+-- the acceptance of a head, with its store
+accepts_made : (q : ℕ) (h : Header1) (setup : QueueSetup) (m : Moment) (outstanding : OutstandingRequests) (t : Turn) (d now : Device) (x : Stepped) (row : Option Row) (y : Row) → PhaseTurn q h setup m outstanding t d now x row → y.tag ≡ SF2
+    → StoresRow q h m t x (says.Accepted (slice_index (m.scene.heads q) (accepted m.scene.past q))) row y (items.Made (entries.Accept q (accepted m.scene.past q)) ∷ []) → TurnMade q h setup m t outstanding d now x
+accepts_made q h setup m outstanding t d now x row y p tag s =
+    let k : ℕ = accepted m.scene.past q in
+    let head : ℕ = slice_index (m.scene.heads q) k in
+    let st : StoredIn d now y.area y.store = stored_row d now x row y p.told s.is_row (ap outcome s.said) p.given.fresh s.fits in
+    let new = not_among-take (published m.scene.past q) (collected m.scene.past q) k (new_unpublished q h.size h.capacity m.scene.past (m.scene.heads q) p.given.good.holds.known) in
+    let offered : k < length (m.scene.heads q) = more_offered q h setup m outstanding t d now x row y p s.made in
+    let number : number_at outstanding head ≡ k = ap (λ (o : OutstandingRequest). o.number) (p.given.numbered.slots k offered new) in
+    let entry : ℕ → List Item = λ n. items.Made (entries.Accept q n) ∷ [] in
+    made_as q h setup m outstanding t d now x (says.Accepted head) row (row_item y ∷ entry k) p s.said s.made refl tt
+    (ap (λ (is : List Item). is ++ entry k) (sym (store_made d now y.tag y.area y.store st)) ∙ ap (λ (z : Tag). stored_items z now.stores ++ entry k) tag ∙ ap (λ (n : ℕ). stored_items SF2 now.stores ++ entry n) (sym number)) (one_small d now y.area y.store st) tt
+    (head_below q h m.scene (m.lanes q).driver (m.lanes q).bell (m.lanes q).plan (m.lanes q).counter (m.lanes q).batch (m.lanes q).phase k p.given.good.holds.queue (record { below = offered; kept = new }))
+    (store_memory h m d now y.tag y.area y.store p.given.at.memory_is st) (omega (arith, accepted_own m.scene.past q k))
+
+-- the next step of queue and lane shows this batch
+record ShowsNow (q : ℕ) (m : Moment) (d : Device) (batch : List ℕ) : Type 0 where
+  pub next : step_in d.queue ≡ Some steps.Index
+  pub place : NotShown q m
+  pub batch_is : batch ≡ (m.lanes q).batch
+
+-- the store that shows a batch
+shows_made : (q : ℕ) (h : Header1) (setup : QueueSetup) (m : Moment) (outstanding : OutstandingRequests) (t : Turn) (d now : Device) (x : Stepped) (row : Option Row) (y : Row) (batch : List ℕ) → PhaseTurn q h setup m outstanding t d now x row → ShowsRow q y
+    → StoresRow q h m t x says.Published row y (items.Made (entries.Publish q (map (answer_at q (after_stored h y m.scene)) batch)) ∷ []) → ShowsNow q m d batch → TurnMade q h setup m t outstanding d now x
+shows_made q h setup m outstanding t d now x row y batch p w s shows =
+    let st : StoredIn d now y.area y.store = stored_row d now x row y p.told s.is_row (ap outcome s.said) p.given.fresh s.fits in
+    let entry : List Answered → List Item = λ list. items.Made (entries.Publish q list) ∷ [] in
+    let list : List Answered = map (answer_at q (after_stored h y m.scene)) batch in
+    let answers : shown_of q outstanding d.memory d.queue ≡ list =
+    shown_is q outstanding d.memory d.queue shows.next ∙ answers_same q h setup m outstanding d y p.given shows.place w ∙ ap (map (answer_at q (after_stored h y m.scene))) (sym shows.batch_is) in
+    made_as q h setup m outstanding t d now x says.Published row (row_item y ∷ entry list) p s.said s.made refl tt
+    (ap (λ (is : List Item). is ++ entry list) (sym (store_made d now y.tag y.area y.store st)) ∙ ap (λ (z : Tag). stored_items z now.stores ++ entry list) w.tag ∙ ap (λ (xs : List Answered). stored_items SP5 now.stores ++ entry xs) (sym answers)) (one_small d now y.area y.store st) tt tt
+    (store_memory h m d now y.tag y.area y.store p.given.at.memory_is st) refl
+
+-- whichever it is
+phase_made : (q : ℕ) (h : Header1) (setup : QueueSetup) (m : Moment) (outstanding : OutstandingRequests) (t : Turn) (d now : Device) (x : Stepped) (row : Option Row) (batch : List ℕ) → PhaseTurn q h setup m outstanding t d now x row → (x ≡ says.Published → ShowsNow q m d batch)
+    → TurnSays q h m t x row (slice_index (m.scene.heads q) (accepted m.scene.past q)) batch → TurnMade q h setup m t outstanding d now x
+phase_made q h setup m outstanding t d now x row batch p shows (Notes y s) = notes_made q h setup m outstanding t d now x row y p s
+phase_made q h setup m outstanding t d now x row batch p shows (Accepts y tag s) = accepts_made q h setup m outstanding t d now x row y p tag s
+phase_made q h setup m outstanding t d now x row batch p shows (Publishes y w s) = shows_made q h setup m outstanding t d now x row y batch p w s (shows s.said)
+phase_made q h setup m outstanding t d now x row batch p shows (Rings s) = none_made q h setup m outstanding t d now x says.Belled row (items.Bell q) p s refl tt refl tt tt tt refl refl
+phase_made q h setup m outstanding t d now x row batch p shows (Starts s) = none_made q h setup m outstanding t d now x says.Started row (items.Made (entries.Start q [])) p s refl tt refl tt tt tt refl refl
+
+-- what the device was told, at the moment
+told_now : (q : ℕ) (h : Header1) (setup : QueueSetup) (m : Moment) (outstanding : OutstandingRequests) (cap : ℕ) (sizes : ℕ → ℕ) (t : Turn) (d now : Device) (x : Stepped) → TurnAt q h setup m outstanding d → DeviceDoes t cap sizes d now x → Turns t (Some m.scene.memory) x d.queue now.queue
+told_now q h setup m outstanding cap sizes t d now x a does = subst (λ (b : Bytes). Turns t (Some b) x d.queue now.queue) a.at.memory_is does.does
+
+row_now : (d now : Device) (x : Stepped) (row : Bytes → Option Row) (m : Bytes) → d.memory ≡ m → StoresBy (Some d.memory) (Some now.memory) x row → TrailsBy (Some d.memory) (Some d.stores) (Some now.stores) x row → RowTold d now x (row m)
+row_now d now x row m same stores trails = subst (λ (b : Bytes). RowTold d now x (row b)) same (record { stores = stores d.memory refl; trails = trails.1 d.memory refl })
+
+-- a start publishes nothing
+start_never : {A : Type 0} (rings : Bool) (answer : Recovered) → start_said rings answer ≡ says.Published → A
+start_never rings (recovered.Stored tag) e = absurd (cc)
+start_never true recovered.Done e = absurd (let fails : says.Belled ≡ says.Published = e in cc)
+start_never false recovered.Done e = absurd (let fails : says.Started ≡ says.Published = e in cc)
+start_never rings (recovered.Damaged fault) e = absurd (cc)
+start_never rings recovered.Failed e = absurd (cc)
+
+pub start_made : (q : ℕ) (h : Header1) (setup : QueueSetup) (m : Moment) (outstanding : OutstandingRequests) (cap : ℕ) (sizes : ℕ → ℕ) (d now : Device) (x : Stepped) → TurnAt q h setup m outstanding d → is_ready (standing h q m) turns.Start ≡ true → DeviceDoes turns.Start cap sizes d now x
+    → TurnMade q h setup m turns.Start outstanding d now x
+start_made q h setup m outstanding cap sizes d now x a ready does =
+    let told : Turns turns.Start (Some m.scene.memory) x d.queue now.queue = told_now q h setup m outstanding cap sizes turns.Start d now x a does in
+    let s = start_stands q h setup m x d.queue now.queue a.plain a.good a.main a.at.stands ready does.fine told in
+    let stopped : d.queue.started ≡ false = a.at.stands.at.started ∙ grind (arith, nat_tests) in
+    let starts : StartsIf false (Some m.scene.memory) x d.queue told.0 = subst (λ (b : Bool). StartsIf b (Some m.scene.memory) x d.queue told.0) stopped (does_of turns.Start (Some m.scene.memory) x d.queue now.queue told does.fine) in
+    phase_made q h setup m outstanding turns.Start d now x (start_row d.queue m.scene.memory) [] (record {
+      given = a;
+      none = tt;
+      ready = ready;
+      stands = s.stands;
+      values = some_is now.values d.values does.values_are;
+      told = row_now d now x (start_row d.queue) m.scene.memory a.at.memory_is (start_stores_row (Some d.memory) (Some now.memory) x d.queue does.stores_are) (start_trails_row (Some d.memory) (Some d.stores) (Some now.stores) x d.queue does.trails);
+    }) (λ e. start_never (rings_next d.queue) (answer_in d.queue.recovery m.scene.memory) (sym (starts m.scene.memory refl).0 ∙ e)) (s.says (slice_index (m.scene.heads q) (accepted m.scene.past q)))
+
+pub fetch_made : (q : ℕ) (h : Header1) (setup : QueueSetup) (m : Moment) (outstanding : OutstandingRequests) (cap : ℕ) (sizes : ℕ → ℕ) (d now : Device) (x : Stepped) → TurnAt q h setup m outstanding d → is_ready (standing h q m) turns.Fetch ≡ true → DeviceDoes turns.Fetch cap sizes d now x
+    → TurnMade q h setup m turns.Fetch outstanding d now x
+fetch_made q h setup m outstanding cap sizes d now x a ready does =
+    let told : Turns turns.Fetch (Some m.scene.memory) x d.queue now.queue = told_now q h setup m outstanding cap sizes turns.Fetch d now x a does in
+    let s = fetch_stands q h setup m x d.queue now.queue a.plain a.good a.main a.at.stands ready does.fine told in
+    let fetches : Fetches (Some m.scene.memory) x d.queue told.0 = does_of turns.Fetch (Some m.scene.memory) x d.queue now.queue told does.fine in
+    phase_made q h setup m outstanding turns.Fetch d now x (fetch_row x d.queue m.scene.memory) [] (record {
+      given = a;
+      none = tt;
+      ready = ready;
+      stands = s.stands;
+      values = some_is now.values d.values does.values_are;
+      told = row_now d now x (fetch_row x d.queue) m.scene.memory a.at.memory_is does.stores_are does.trails;
+    }) (λ e. absurd (subst (λ (z : Stepped). Fetches (Some m.scene.memory) z d.queue told.0) e fetches)) s.says
 
 pub publish_made : (q : ℕ) (h : Header1) (setup : QueueSetup) (m : Moment) (outstanding : OutstandingRequests) (cap : ℕ) (sizes : ℕ → ℕ) (most : ℕ) (d now : Device) (x : Stepped) → TurnAt q h setup m outstanding d → is_ready (standing h q m) (turns.Publish most) ≡ true
     → DeviceDoes (turns.Publish most) cap sizes d now x → TurnMade q h setup m (turns.Publish most) outstanding d now x
 publish_made q h setup m outstanding cap sizes most d now x a ready does =
     let t : Turn = turns.Publish most in
-    let found = row_stands q h setup m most (Some d.memory) x d.queue now.queue a.plain a.good a.main a.at.stands ready does.fine does.does in
-    let y : Row = found.0 in
-    let p : HasPublished q h setup m most x d.queue now.queue y = found.1 in
-    let small : IsSmall M y.store = small_row most d.queue y p.row p.space in
-    let values : now.values ≡ d.values = some_is now.values d.values does.values_are in
-    elim (shows_cases d.queue) [
-      | inl next ↦
-          let has : HasShown q h m most x y = shown_stands q h setup m most x d.queue now.queue y a.at.stands p next in
-          let s : StoredIn d now M y.store = stored_row d now x (publish_row most d.queue) y (ap outcome has.said) p.row a.fresh small does.stores_are does.trails in
-          let off = shown_place q h setup m most d.queue y a.main a.at.stands next p.row in
-          let at = left_at q h setup m outstanding t d now SP5 M y.store a tt p.stands values s (ap (λ (is : List Item). (after_items h is m.scene).memory) has.items) in
-          show_made q h setup m outstanding most d now x y a at has next s off
-      | inr other ↦
-          let part = stored_stands q h setup m most x d.queue now.queue y a.good a.at.stands ready p other in
-          let s : StoredIn d now M y.store = stored_row d now x (publish_row most d.queue) y (ap outcome part.said) p.row a.fresh small does.stores_are does.trails in
-          let in_guest : (turned h q t m).items ≡ items.Store y.tag M y.store.place y.store.bytes ∷ [] = part.items ∙ ap (λ (area : Area). items.Store y.tag area y.store.place y.store.bytes ∷ []) (row_area most d.queue y p.row) in
-          stored_turn q h setup m outstanding t d now y.tag M y.store x a tt p.stands values s part.said in_guest
-    ]
+    let s = publish_stands q h setup m most x d.queue now.queue a.plain a.good a.main a.at.stands ready does.fine (told_now q h setup m outstanding cap sizes t d now x a does) in
+    phase_made q h setup m outstanding t d now x (publish_row most d.queue m.scene.memory) (under_way h q m.scene t (m.lanes q)).batch (record {
+      given = a;
+      none = tt;
+      ready = ready;
+      stands = s.step.stands;
+      values = some_is now.values d.values does.values_are;
+      told = row_now d now x (publish_row most d.queue) m.scene.memory a.at.memory_is does.stores_are does.trails;
+    }) (λ e. let shown = s.shows e in record { next = shown.next; place = shown.place; batch_is = shown.batch }) s.step.says
 
 -- ---- a turn that isn't due
 
@@ -476,8 +425,8 @@ idle_memory turns.Start d now x is (inr early) stores = absurd early
 idle_memory turns.Fetch d now x is unready stores = some_is now.memory d.memory stores
 idle_memory (turns.Work place) d now x is unready stores = absurd is
 idle_memory (turns.Publish most) d now x is (inl unready) stores =
-    let none : publish_row most d.queue ≡ None = ap (λ (b : Bool). row_if b (states.under_way most d.queue)) unready in
-    some_is now.memory d.memory (subst (λ (o : Option Row). StoresRow (Some d.memory) (Some now.memory) x o) none stores)
+    let none : publish_row most d.queue d.memory ≡ None = ap (λ (b : Bool). row_if b (states.under_way most d.queue) d.memory) unready in
+    some_is now.memory d.memory (subst (λ (o : Option Row). states.StoresRow (Some d.memory) (Some now.memory) x o) none (stores d.memory refl))
 idle_memory (turns.Publish most) d now x is (inr early) stores = absurd early
 
 pub idle_made : (q : ℕ) (h : Header1) (setup : QueueSetup) (m : Moment) (outstanding : OutstandingRequests) (cap : ℕ) (sizes : ℕ → ℕ) (t : Turn) (d now : Device) (x : Stepped) → TurnAt q h setup m outstanding d → IsPhaseTurn t → is_ready (standing h q m) t ≡ false
