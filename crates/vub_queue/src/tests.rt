@@ -58,7 +58,10 @@ fn waiting_queue<M: Shared>(
         base: 7,
         bell: true,
     };
-    Queue::new(alloc, &setup).ok()
+    let Ok(queue) = Queue::new(alloc, &setup) else {
+        return None;
+    };
+    Some(queue)
 }
 
 // The turn of it that comes first.
