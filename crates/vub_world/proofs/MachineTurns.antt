@@ -50,8 +50,8 @@ use Rattle.vub_world.specs.MachineFront.{area_of, IsSmall, OneSmall}
 use Rattle.vub_run.specs.Memory.{Scene, space_of, after_items}
 use Rattle.vub_run.specs.Moments.{Lane, Moment, region_of, standing}
 use Rattle.vub_queue_in_run.specs.QueueAt.{spot_of, QueueStands, LiesAs, DiskAt}
-use Rattle.vub_rec_split.specs.declared.recovery.Recovered.{Recovered}
-use Rattle.vub_rec_split.specs.declared.recovery.Recovered.TheVariants as recovered
+use Rattle.vub_rec_split.specs.declared.plan.Recovered.{Recovered}
+use Rattle.vub_rec_split.specs.declared.plan.Recovered.TheVariants as recovered
 use Rattle.vub_rec_split.specs.Starts.{due_in, answer_in}
 use Rattle.vub_queue.specs.QueueState as states
 use Rattle.vub_queue.specs.QueueState.{steps_in, QueueState, row_at, row_if, next_row, publishes, publish_row, TrailsRow, StoresStep, start_due, start_said, rings_next, step_in, fetch_row, Fetches, StartsIf, StoresBy, TrailsBy, Turns, DoesStore, DoesTrail, DoesDisk, IsDue, IfStepped, WorksOut, outcome, is_idle, is_fault}

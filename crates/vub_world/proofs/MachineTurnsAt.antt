@@ -5,7 +5,7 @@ use Rattle.std.proofs.lemmas.Bool.Decides.{nat_tests}
 use Rattle.std.proofs.lemmas.List.{append-nil}
 use Rattle.vub_base.specs.declared.header.Header1.{Header1}
 use Rattle.vub_base.specs.declared.store.Tag.{Tag}
-use Rattle.vub_base.specs.declared.store.Tag.TheVariants.{SP5, T5}
+use Rattle.vub_base.specs.declared.store.Tag.TheVariants.{SF2, SP5, T5}
 use Rattle.vub_shared.specs.Bytes.{Bytes}
 use Rattle.vub_shared.specs.Stores.{Store}
 use Rattle.vub_shared.specs.Watched as watched
@@ -33,7 +33,7 @@ use Rattle.vub_report.specs.declared.items.Item.{Item}
 use Rattle.vub_report.specs.declared.items.Item.TheVariants as items
 use Rattle.vub_world.specs.OutstandingRequests.{slot_in}
 use Rattle.vub_world.specs.MachineAt.{AskAt, AttachedAt, LifeAt, OutstandingAt, PartsAt, reads_of}
-use Rattle.vub_world.specs.MachineDevice.{Device, device, DeviceAt, TurnMade, DeviceTurns, noted, stored_items, shown_of, answers_shown}
+use Rattle.vub_world.specs.MachineDevice.{Device, device, DeviceAt, TurnMade, DeviceTurns, noted, number_at, stored_items, shown_of, answers_shown}
 use Rattle.vub_world.specs.MachineSteps.{TurnGoes}
 use Rattle.vub_run.specs.Memory.{Scene, after_items}
 use Rattle.vub_run.specs.Moments.{Lane, Moment, standing}
@@ -66,6 +66,11 @@ stores_same q h tag [] s = (refl, refl, λ k. refl, refl)
 stores_same q h tag (st ∷ []) s = (refl, refl, λ k. refl, refl)
 stores_same q h tag (st ∷ more ∷ stores) s = (refl, refl, λ k. refl, refl)
 
+accepts_same : (q : ℕ) (h : Header1) (tag : Tag) (stores : List Store) (number : ℕ) (s : Scene) → Same q s (after_items h (stored_items tag stores ++ items.Made (entries.Accept q number) ∷ []) s)
+accepts_same q h tag [] number s = (refl, refl, λ k. refl, refl)
+accepts_same q h tag (st ∷ []) number s = (refl, refl, λ k. refl, refl)
+accepts_same q h tag (st ∷ more ∷ stores) number s = (refl, refl, λ k. refl, refl)
+
 shows_keeps : (q : ℕ) (h : Header1) (tag : Tag) (stores : List Store) (answers : List Answered) (s : Scene) → Keeps q s (after_items h (stored_items tag stores ++ items.Made (entries.Publish q answers) ∷ []) s)
 shows_keeps q h tag [] answers s = record { heads_are = refl; collects = refl; asked_are = λ k. refl; more = numbers answers; shown = published_own s.past q answers }
 shows_keeps q h tag (st ∷ []) answers s = record { heads_are = refl; collects = refl; asked_are = λ k. refl; more = numbers answers; shown = published_own s.past q answers }
@@ -76,7 +81,7 @@ noted_keeps q h outstanding v stores answers (says.Stored tag) s = same_keeps q 
 noted_keeps q h outstanding v stores answers (says.Completed head) s = same_keeps q s _ (stores_same q h T5 stores s)
 noted_keeps q h outstanding v stores answers says.Published s = shows_keeps q h SP5 stores answers s
 noted_keeps q h outstanding v stores answers says.Started s = same_keeps q s _ (refl, refl, λ k. refl, refl)
-noted_keeps q h outstanding v stores answers (says.Accepted head) s = same_keeps q s _ (refl, refl, λ k. refl, refl)
+noted_keeps q h outstanding v stores answers (says.Accepted head) s = same_keeps q s _ (accepts_same q h SF2 stores (number_at outstanding head) s)
 noted_keeps q h outstanding v stores answers (says.Looked head sector) s = same_keeps q s _ (refl, refl, λ k. refl, refl)
 noted_keeps q h outstanding v stores answers (says.Acted head sector) s = same_keeps q s _ (refl, refl, λ k. refl, refl)
 noted_keeps q h outstanding v stores answers (says.Synced head) s = same_keeps q s _ (refl, refl, λ k. refl, refl)
