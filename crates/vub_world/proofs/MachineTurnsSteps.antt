@@ -40,20 +40,12 @@ spends_none (suc shown) r now spent = record {
 }
 
 -- behind the answers that a turn shows there is room for its items
-pub items_left : (shown batch : ℕ) (r now : RoomState) → HasTurnRoom batch r → SpendsUpTo shown r now → 2 ≤ now.item_room
-items_left shown batch r now has spent = let same : now.item_room ≡ r.item_room = same_room shown r now spent in omega (arith, same, has.items)
+pub items_left : (shown : ℕ) (r now : RoomState) → HasTurnRoom shown r → SpendsUpTo shown r now → 2 ≤ now.item_room
+items_left shown r now has spent = let same : now.item_room ≡ r.item_room = same_room shown r now spent in omega (arith, same, has.items)
 
-pub list_left : (shown batch : ℕ) (r now : RoomState) → shown ≤ batch → HasTurnRoom batch r → SpendsUpTo shown r now → 1 ≤ now.lists
-list_left zero batch r now few has spent = let same : now.lists ≡ r.lists = ap (λ (x : RoomState). x.lists) spent in omega (arith, same, has.lists)
-list_left (suc shown) batch r now few has spent = omega (arith, few, has.lists, spent.lists_left)
-
--- it shows no more than its batch
-pub shows_few : (state : QueueState) → shows_in state ≤ length state.batch
-shows_few state = go (is_showing state)
-  where
-    go : (b : Bool) → (if b then length state.batch else 0) ≤ length state.batch
-    go true = omega arith
-    go false = omega arith
+pub list_left : (shown : ℕ) (r now : RoomState) → HasTurnRoom shown r → SpendsUpTo shown r now → 1 ≤ now.lists
+list_left zero r now has spent = let same : now.lists ≡ r.lists = ap (λ (x : RoomState). x.lists) spent in omega (arith, same, has.lists)
+list_left (suc shown) r now has spent = omega (arith, has.lists, spent.lists_left)
 
 pub spends_turn : (shown : ℕ) (r mid now : RoomState) → SpendsUpTo shown r mid → SpendsTurn mid now → SpendsStep shown r now
 spends_turn zero r mid now spent turn = record {
