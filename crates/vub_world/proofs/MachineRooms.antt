@@ -1,7 +1,6 @@
 -- How much turns publish, and how much room their items need.
-use Rattle.std.proofs.Common.{◌≡◌, ◌≤◌, ℕ, zero, suc, ◌+◌, ◌-◌, ◌*◌, Bool, true, false, cond, List, [], ◌∷◌, ◌++◌, length, map, refl, ap, sym, ◌∙◌, subst, inl, inr, arith, length-append}
+use Rattle.std.proofs.Common.{◌≡◌, ◌≤◌, ℕ, zero, suc, ◌+◌, ◌-◌, ◌*◌, Bool, true, false, cond, List, [], ◌++◌, length, map, refl, ap, sym, ◌∙◌, subst, inl, inr, arith, length-append}
 use Rattle.std.specs.Prelude.{◌&&◌, ◌==◌, if◌then◌else◌, Option, Some, None, take, slice_get, nat_lt, ⊤}
-use Rattle.std.proofs.lemmas.Bool.Decides.{nat_tests}
 use Rattle.std.proofs.lemmas.Bool.{cases_lt}
 use Rattle.vub_base.specs.declared.header.Header1.{Header1}
 use Rattle.vub_steps.specs.declared.steps.Phase.{Phase}
@@ -16,7 +15,6 @@ use Rattle.vub_steps.specs.Readiness.{is_publication, any_turn, draining_turn}
 use Rattle.vub_steps.specs.Rows.{Row, row_of}
 use Rattle.vub_steps.specs.Steps.{publish_steps, shown_step, running_steps, next_of, next_step}
 use Rattle.vub_device.specs.declared.entry.Asked.{Asked}
-use Rattle.vub_device.specs.declared.entry.Entry.{Entry}
 use Rattle.vub_device.specs.declared.entry.SectorValue.{SectorValue}
 use Rattle.vub_device.specs.Past.{asked, accepted, published, started, numbers}
 use Rattle.vub_device.specs.Requests.{look_at, effect_at}

@@ -1,5 +1,5 @@
 -- A step: what its turn leaves.
-use Rattle.std.proofs.Common.{◌≡◌, ◌<◌, ◌≤◌, ℕ, zero, suc, ◌+◌, Bool, true, false, List, ◌++◌, length, refl, ap, sym, ◌∙◌, subst, inl, inr, arith, min}
+use Rattle.std.proofs.Common.{◌≡◌, ◌<◌, ◌≤◌, ℕ, zero, suc, ◌+◌, Bool, true, false, List, ◌++◌, refl, ap, sym, ◌∙◌, subst, inl, inr, arith, min}
 use Rattle.std.specs.Prelude.{if◌then◌else◌}
 use Rattle.std.proofs.lemmas.Bool.{cases_Bool}
 use Rattle.std.proofs.lemmas.Bool.Decides.{nat_tests}
@@ -13,11 +13,11 @@ use Rattle.vub_queue.specs.declared.queue.Stepped.{Stepped}
 use Rattle.vub_queue.specs.declared.queue.Stepped.TheVariants as says
 use Rattle.vub_report.specs.declared.items.Item.{Item}
 use Rattle.vub_world.specs.MachineAt.{PartsAt}
-use Rattle.vub_world.specs.MachineDevice.{noted, answers_shown, is_showing, shows_in, accepts}
+use Rattle.vub_world.specs.MachineDevice.{noted, answers_shown, accepts}
 use Rattle.vub_world.specs.MachineSteps.{TurnGoes, MachineTurns, StepGoes}
 use Rattle.vub_room.specs.Rooms.{HasTurnRoom, SpendsUpTo, SpendsTurn, SpendsStep, RoomState}
 use Rattle.vub_run.specs.Moments.{Moment}
-use Rattle.vub_queue.specs.QueueState.{QueueState, is_idle}
+use Rattle.vub_queue.specs.QueueState.{is_idle}
 use Rattle.vub_run.specs.Run.{is_due}
 
 pub same_items : (shown : ℕ) (r now : RoomState) → SpendsUpTo shown r now → now.items ≡ r.items
