@@ -1,4 +1,5 @@
-use Rattle.std.proofs.Common.{◌≡◌, ◌∙◌, arith, refl, suc, ◌+◌, ◌-◌, ℕ, subst}
+use Rattle.std.proofs.Common.{◌≡◌, ◌∙◌, arith, refl, suc, ◌+◌, ◌-◌, ℕ, false, subst}
+use Rattle.std.specs.Prelude.{nat_lt}
 use Rattle.std.proofs.lemmas.Bool.Decides.{nat_tests}
 use Rattle.vub_base.specs.declared.header.Header1.{Header1}
 use Rattle.vub_world.specs.Fronts.{Parts, parts}
@@ -90,7 +91,10 @@ returns-clause-turns c es rs m stands at =
     record { low = c.requires.sound.front.exists; stands = stands; same = refl; here = d } in
     turns_all q w.front.header c.args.sequence es rs m (room_of c.args.count w) c.loop-done.done c.args.count here c.args.room.now.items c.loop-done.room.items c.loop-done.accepted c.loop-done.room ends c.requires.some all
 
+none_done : (n : ℕ) → nat_lt 0 n ≡ false → n ≡ 0
+none_done n none = grind (arith, nat_tests)
+
 pub returns-then-not-play_next-clause-idle : goal.returns-then-not-play_next-clause-idle
 returns-then-not-play_next-clause-idle c none =
-    let zero_done : c.loop-done.done ≡ 0 = grind (arith, nat_tests) in
+    let zero_done : c.loop-done.done ≡ 0 = none_done c.loop-done.done none in
     c.play_next.ensures.idle c.if-not-play_next.true ∙ c.loop-done.invariant.idle zero_done
