@@ -12,11 +12,11 @@ pub record RoomState : Type 0 where
   pub answers : ℕ
 
 -- there is room for the items of one turn, which shows at most so many answers
-pub record HasTurnRoom (batch : ℕ) (r : RoomState) : Type 0 where
+pub record HasTurnRoom (shown : ℕ) (r : RoomState) : Type 0 where
   pub items : 2 ≤ r.item_room
-  pub lists : batch + 1 ≤ r.lists
+  pub lists : shown + 1 ≤ r.lists
   pub answer_lists : 1 ≤ r.answer_lists
-  pub answers : batch ≤ r.answers
+  pub answers : shown ≤ r.answers
 
 -- so many items and lists
 pub record Spends (items lists : ℕ) (r now : RoomState) : Type 0 where

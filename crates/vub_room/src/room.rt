@@ -10,7 +10,7 @@ use vub_device::Answered;
 use vub_report::{Item, Items};
 
 /// The most turns that a request takes from its offer to the end of its publication.
-const TURNS_OF_REQUEST: u64 = 21;
+const TURNS_OF_REQUEST: u64 = 27;
 
 /// Items so far, with room for so many more, for so many lists of bytes of eight sectors, and for so
 /// many lists of answers.
@@ -35,7 +35,7 @@ impl Model for Room {
 
     ghost view = { λ r. record { items = r.items.items; item_room = r.item_room; lists = r.list_room; answer_lists = length r.answer_lists.items; answers = r.answers } };
 
-    ghost invariant = { λ r. (vec_len r.items + r.item_room ≤ vec_capacity r.items) × (r.list_room ≤ length r.lists.items) × (length r.lists.items ≤ 1478) × All (λ l. (l.items ≡ []) × (4096 ≤ vec_capacity l)) r.lists.items × All (λ l. (l.items ≡ []) × (r.answers ≤ vec_capacity l)) r.answer_lists.items };
+    ghost invariant = { λ r. (vec_len r.items + r.item_room ≤ vec_capacity r.items) × (r.list_room ≤ length r.lists.items) × (length r.lists.items ≤ 1863) × All (λ l. (l.items ≡ []) × (4096 ≤ vec_capacity l)) r.lists.items × All (λ l. (l.items ≡ []) × (r.answers ≤ vec_capacity l)) r.answer_lists.items };
 }
 
 /// So many lists of answers, each with room for so many.
@@ -107,7 +107,7 @@ impl Room {
     }
 
     /// Room for the items of so many turns, or of all that can follow one another where so many
-    /// requests are offered and not published: at most 21 for each of these, and so many besides. A turn
+    /// requests are offered and not published: at most 27 for each of these, and so many besides. A turn
     /// has two items at most and one list of bytes; each answer takes a list more.
     pub fn for_turns(
         alloc: Global,
@@ -117,9 +117,9 @@ impl Room {
         besides: u64,
     ) -> Result<Room, Memory>
         requires few { undone ≤ 64 }
-        requires few_besides { besides ≤ 70 }
+        requires few_besides { besides ≤ 71 }
         ensures empty { IfOk result (λ r. r.items ≡ []) }
-        ensures room { IfOk result (HasRoom (min turns (21 * undone + besides)) undone) }
+        ensures room { IfOk result (HasRoom (min turns (27 * undone + besides)) undone) }
     {
         let turns = turns.min(TURNS_OF_REQUEST * undone + besides) as usize;
         let undone = undone as usize;

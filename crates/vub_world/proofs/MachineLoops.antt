@@ -16,8 +16,7 @@ use Rattle.vub_report.specs.declared.items.Record.{Record}
 use Rattle.vub_queue.specs.declared.queue.QueueSetup.{QueueSetup}
 use Rattle.vub_room.specs.Rooms.{RoomState, HasTurnRoom, HasRoom, SpendsStep}
 use Rattle.vub_world.specs.MachineAt.{PartsAt, LifeAt, AttachedAt, IsReached}
-use Rattle.vub_world.specs.Lives.{is_started_in}
-use Rattle.vub_world.specs.MachineDevice.{batch_in, shown_in, queue_batch, queue_shows}
+use Rattle.vub_world.specs.MachineDevice.{shown_in, queue_shows}
 use Rattle.vub_world.specs.declared.device.Sequence.{Sequence}
 use Rattle.vub_world.specs.declared.device.Sequence.TheVariants as sequences
 use Rattle.vub_world.specs.Sequences.{next_turn, choices_from}
@@ -26,7 +25,7 @@ use Rattle.vub_run.specs.Moments.{Moment, standing}
 use Rattle.vub_queue_in_run.specs.QueueAt.{QueueStands, spot_of}
 use Rattle.vub_queue.specs.QueueState.{state_of}
 use Rattle.vub_run.specs.Run.{Stands, Played, turns, one_turn, is_due, then_played}
-use Rattle.vub_world.proofs.MachineRooms.{shown_by, lane_shows, chosen_shows, undone, effort_bound, batch_undone}
+use Rattle.vub_world.proofs.MachineRooms.{shown_by, lane_shows, chosen_shows, undone, shown_undone}
 use Rattle.vub_run_laws.proofs.RunChainsTurns.{turn_gentle}
 use Rattle.vub_run_laws.proofs.RunEnds.{effort_at, effort_small, turn_falls, turns_more}
 use Rattle.vub_run_laws.proofs.RunTurns.{IsPlain, Good}
@@ -36,15 +35,11 @@ use Rattle.vub_run_laws.proofs.RunsTo.{stands_good, stands_turns}
 -- ---- what a life shows, and what its lane shows
 
 batch_same : (q : ℕ) (h : Header1) (setup : QueueSetup) (m : Moment) (queue : Queue) → QueueStands q h setup m (state_of queue) → length (state_of queue).batch ≡ length (m.lanes q).batch
-batch_same q h setup m queue s = ap (λ (xs : List (ℕ × ℕ)). length xs) s.at.batch ∙ length-map (m.lanes q).batch (spot_of q h m.scene.past (m.scene.heads q))
+batch_same q h setup m queue s = ap (λ (xs : List (ℕ × ℕ)). length xs) s.phase.batch ∙ length-map (m.lanes q).batch (spot_of q h m.scene.past (m.scene.heads q))
 
-pub batch_few : (q : ℕ) (h : Header1) (setup : QueueSetup) (m : Moment) (life : Option (Option Queue)) → LifeAt q h setup m life → length (batch_in life) ≤ length (m.lanes q).batch
-batch_few q h setup m None at = omega arith
-batch_few q h setup m (Some l) at = go l at.1
-  where
-    go : (queue : Option Queue) → AttachedAt q h setup m queue → length (queue_batch queue) ≤ length (m.lanes q).batch
-    go None at = omega arith
-    go (Some queue) at = omega (arith, batch_same q h setup m queue at.2)
+queue_shows_is : (q : ℕ) (h : Header1) (setup : QueueSetup) (m : Moment) (queue : Queue) → QueueStands q h setup m (state_of queue) → queue_shows (Some queue) ≡ lane_shows (m.lanes q)
+queue_shows_is q h setup m queue s =
+    ap (λ (n : ℕ). shown_by n (state_of queue).bell (state_of queue).phase) (batch_same q h setup m queue s) ∙ ap (λ (b : Bool). shown_by (length (m.lanes q).batch) b (state_of queue).phase) s.phase.bell ∙ ap (shown_by (length (m.lanes q).batch) (m.lanes q).bell) s.at.phase
 
 pub shown_is : (q : ℕ) (h : Header1) (setup : QueueSetup) (m : Moment) (life : Option (Option Queue)) → Good q h m → LifeAt q h setup m life → (m.lanes q).attached ≡ true → shown_in life ≡ lane_shows (m.lanes q)
 shown_is q h setup m None good at attached = absurd (let asleep : (m.lanes q).attached ≡ false = (good.asleep at).0 in let both : true ≡ false = sym attached ∙ asleep in cc)
@@ -52,7 +47,16 @@ shown_is q h setup m (Some l) good at attached = go l at.1
   where
     go : (queue : Option Queue) → AttachedAt q h setup m queue → queue_shows queue ≡ lane_shows (m.lanes q)
     go None at = absurd (let both : true ≡ false = sym attached ∙ at.1 in cc)
-    go (Some queue) at = ap (λ (n : ℕ). shown_by n (state_of queue).phase) (batch_same q h setup m queue at.2) ∙ ap (shown_by (length (m.lanes q).batch)) at.2.at.phase
+    go (Some queue) at = queue_shows_is q h setup m queue at.2
+
+-- what the next step shows is not published yet
+pub shown_few : (q : ℕ) (h : Header1) (setup : QueueSetup) (m : Moment) (life : Option (Option Queue)) → Good q h m → LifeAt q h setup m life → shown_in life ≤ undone q m
+shown_few q h setup m None good at = omega arith
+shown_few q h setup m (Some l) good at = go l at.1
+  where
+    go : (queue : Option Queue) → AttachedAt q h setup m queue → queue_shows queue ≤ undone q m
+    go None at = omega arith
+    go (Some queue) at = omega (arith, queue_shows_is q h setup m queue at.2, shown_undone q h m good)
 
 -- ---- the loop
 
@@ -122,38 +126,32 @@ turn_is q h sequences.Drain m n taken is = ap (λ (a : ℕ). drain_turn h.size a
 
 -- how many turns a machine reserves for, where so many are asked for
 abbrev pub room_of : ℕ → Parts → ℕ
-room_of count w = min count (21 * (w.front.outstanding.offered - w.front.outstanding.collected) + turns_besides w.front.header.size (is_started_in w.life))
+room_of count w = min count (27 * (w.front.outstanding.offered - w.front.outstanding.collected) + turns_besides w.front.header.size)
 
--- no more turns follow where so many are open, and a queue stands there
-pub turns_bound : (q : ℕ) (h : Header1) (setup : QueueSetup) (m : Moment) (queue : Queue) → Good q h m → LifeAt q h setup m (Some (Some queue)) → effort_at q h m + 1 ≤ 21 * undone q m + turns_besides h.size (state_of queue).started
-turns_bound q h setup m queue good at = subst (λ (b : Bool). effort_at q h m + 1 ≤ 21 * undone q m + turns_besides h.size b) (sym at.1.2.at.started) (effort_bound q h m good)
+-- few belong to no one request
+pub besides_small : (n : ℕ) → n ≤ 64 → turns_besides n ≤ 71
+besides_small n few = omega (arith, few)
 
--- that is few
-pub besides_small : (n : ℕ) (b : Bool) → n ≤ 64 → turns_besides n b ≤ 70
-besides_small n true few = omega arith
-besides_small n false few = omega (arith, few)
-
-pub besides_some : (n : ℕ) (b : Bool) → 1 ≤ turns_besides n b
-besides_some n true = omega arith
-besides_some n false = omega arith
+pub besides_some : (n : ℕ) → 1 ≤ turns_besides n
+besides_some n = omega arith
 
 -- there is room for one turn more: for as many as are asked for, or for all that can follow
-pub room_left : (q : ℕ) (h : Header1) (sequence : Sequence) (es : List Event) (rs : List Record) (m : Moment) (count undone_all besides done : ℕ) (now : Parts) (before after : List Item) (taken : ℕ) (r : RoomState) → q < h.queues → Stands h es rs m → undone q m ≤ undone_all → effort_at q h m + 1 ≤ 21 * undone q m + besides → done < count
-    → TurnsAt q h sequence m (min count (21 * undone_all + besides)) done now before after taken r → done < min count (21 * undone_all + besides)
+pub room_left : (q : ℕ) (h : Header1) (sequence : Sequence) (es : List Event) (rs : List Record) (m : Moment) (count undone_all besides done : ℕ) (now : Parts) (before after : List Item) (taken : ℕ) (r : RoomState) → q < h.queues → Stands h es rs m → undone q m ≤ undone_all → effort_at q h m + 1 ≤ 27 * undone q m + besides → done < count
+    → TurnsAt q h sequence m (min count (27 * undone_all + besides)) done now before after taken r → done < min count (27 * undone_all + besides)
 room_left q h sequence es rs m count all besides done now before after taken r low stands few bound more d =
     omega (arith, bound, few, more, d.falls)
 
 pub turn_room : (q : ℕ) (h : Header1) (sequence : Sequence) (es : List Event) (rs : List Record) (m : Moment) (most done : ℕ) (now : Parts) (before after : List Item) (taken : ℕ) (r : RoomState) → q < h.queues → Stands h es rs m → now.front.header ≡ h → done < most
-    → TurnsAt q h sequence m most done now before after taken r → HasTurnRoom (length (batch_in now.life)) r
+    → TurnsAt q h sequence m most done now before after taken r → HasTurnRoom (shown_in now.life) r
 turn_room q h sequence es rs m most done now before after taken r low stands same left d =
     let n : Moment = (so_far q h sequence m done).next in
     let good = (stands_turns q h es rs m done (choices_from q h sequence m) low stands).0 in
-    let few = batch_few q now.front.header now.front.setup n now.life d.at.life in
-    let not_yet = batch_undone q h n good in record {
+    let life : LifeAt q h now.front.setup n now.life = subst (λ (k : Header1). LifeAt q k now.front.setup n now.life) same d.at.life in
+    let not_yet = shown_few q h now.front.setup n now.life good life in record {
       items = omega (arith, left, d.room.items);
-      lists = omega (arith, left, d.room.lists, few, not_yet);
+      lists = omega (arith, left, d.room.lists, not_yet);
       answer_lists = omega (arith, left, d.room.answer_lists);
-      answers = omega (arith, d.room.answers, few, not_yet);
+      answers = omega (arith, d.room.answers, not_yet);
     }
 
 -- the room after one turn more, which shows so many answers

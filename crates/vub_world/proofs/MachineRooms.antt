@@ -1,11 +1,11 @@
 -- How much turns publish, and how much room their items need.
-use Rattle.std.proofs.Common.{◌≡◌, ◌≤◌, ℕ, zero, suc, ◌+◌, ◌-◌, ◌*◌, Bool, true, false, cond, List, [], ◌∷◌, ◌++◌, length, map, refl, ap, sym, ◌∙◌, subst, inl, inr, arith, length-append}
-use Rattle.std.specs.Prelude.{◌||◌, if◌then◌else◌, Option, Some, None, take, slice_get, nat_lt, ⊤}
-use Rattle.std.proofs.lemmas.Bool.Decides.{nat_tests}
-use Rattle.std.proofs.lemmas.Bool.{cases_Bool}
+use Rattle.std.proofs.Common.{◌≡◌, ◌≤◌, ℕ, zero, suc, ◌+◌, ◌-◌, ◌*◌, Bool, true, false, cond, List, [], ◌++◌, length, map, refl, ap, sym, ◌∙◌, subst, inl, inr, arith, length-append}
+use Rattle.std.specs.Prelude.{◌&&◌, ◌==◌, if◌then◌else◌, Option, Some, None, take, slice_get, nat_lt, ⊤}
+use Rattle.std.proofs.lemmas.Bool.{cases_lt}
 use Rattle.vub_base.specs.declared.header.Header1.{Header1}
 use Rattle.vub_steps.specs.declared.steps.Phase.{Phase}
 use Rattle.vub_steps.specs.declared.steps.Phase.TheVariants as phases
+use Rattle.vub_steps.specs.declared.steps.Plan.{Plan}
 use Rattle.vub_steps.specs.declared.steps.Step.{Step}
 use Rattle.vub_steps.specs.declared.steps.Step.TheVariants as steps
 use Rattle.vub_steps.specs.declared.readiness.Standing.{Standing}
@@ -13,14 +13,11 @@ use Rattle.vub_steps.specs.declared.readiness.Turn.{Turn}
 use Rattle.vub_steps.specs.declared.readiness.Turn.TheVariants as turns
 use Rattle.vub_steps.specs.Readiness.{is_publication, any_turn, draining_turn}
 use Rattle.vub_steps.specs.Rows.{Row, row_of}
-use Rattle.vub_steps.specs.Steps.{publish_steps, running_steps, next_of, next_step}
+use Rattle.vub_steps.specs.Steps.{publish_steps, shown_step, running_steps, next_of, next_step}
 use Rattle.vub_device.specs.declared.entry.Asked.{Asked}
-use Rattle.vub_device.specs.declared.entry.Entry.{Entry}
 use Rattle.vub_device.specs.declared.entry.SectorValue.{SectorValue}
-use Rattle.vub_device.specs.Past.{asked, accepted, published, is_among, missing_below, started, numbers}
-use Rattle.vub_device.specs.Places.{are_distinct}
+use Rattle.vub_device.specs.Past.{asked, accepted, published, started, numbers}
 use Rattle.vub_device.specs.Requests.{look_at, effect_at}
-use Rattle.vub_device.proofs.Numbers.{is_among_append}
 use Rattle.vub_world.specs.declared.device.Sequence.{Sequence}
 use Rattle.vub_world.specs.declared.device.Sequence.TheVariants as sequences
 use Rattle.vub_world.specs.Sequences.{next_turn}
@@ -34,16 +31,16 @@ use Rattle.vub_run.specs.Run.{one_turn}
 use Rattle.vub_steps.specs.Tasks.{RequestStep, Look, Put, Act, Sync, Status, task_steps}
 use Rattle.vub_run.specs.TaskItems.{look_items, act_items}
 use Rattle.vub_run.specs.Turns.{course_of, sight_of, turned, work_turn, request_turn, task_turn, phase_turn, phase_goes_on, under_way, begun, is_rest, row_items, step_stores, answer_at}
-use Rattle.vub_run_laws.proofs.RunQueue.{phase_at, queue_start}
-use Rattle.vub_run_laws.proofs.RunNumbers.{missing-among, distinct_join}
-use Rattle.vub_facts.proofs.HeadLemmas.{few_below}
-use Rattle.vub_run_laws.proofs.RunGood.{Known, Worked}
-use Rattle.vub_run_laws.proofs.RunEfforts.{weight, sum_below, steps_left, weight_small}
-use Rattle.vub_run_laws.proofs.RunEnds.{effort_at, missing_distinct, phase_few, start_few}
+use Rattle.vub_run_laws.proofs.RunQueue.{phase_at, queue_start, queue_batch}
+use Rattle.vub_steps.proofs.StepLemmas.{shows_at}
+use Rattle.vub_run_laws.proofs.RunCarries.{all_hidden}
+use Rattle.vub_run_laws.proofs.RunGood.{Known, StartIs, hidden}
+use Rattle.vub_run_laws.proofs.RunEfforts.{steps_left, phase_left, start_short}
+use Rattle.vub_run_laws.proofs.RunEnds.{effort_at, all_left, sum_left, phase_few}
 use Rattle.vub_device.specs.declared.entry.Answered.{Answered}
 use Rattle.vub_run_laws.proofs.RunOwn.{published_own}
 use Rattle.vub_run_laws.proofs.RunTracks.{numbers_answers}
-use Rattle.vub_run_laws.proofs.RunTurns.{Good, phase_cases}
+use Rattle.vub_run_laws.proofs.RunTurns.{Good, PhaseCases, Rests, Starts, Fetches, Publishes, phase_cases}
 
 -- ---- how many answers a turn shows
 
@@ -75,12 +72,12 @@ work_shows q h s l None = refl
 work_shows q h s l (Some k) = request_shows q h s l k (asked s.past q k)
 
 -- how many answers the next step of a queue in this phase shows, whose batch has so many requests
-abbrev pub shown_by : ℕ → Phase → ℕ
-shown_by batch p = if is_index (next_of (running_steps batch p) p) then batch else 0
+abbrev pub shown_by : ℕ → Bool → Phase → ℕ
+shown_by batch bell p = if is_index (next_of (running_steps batch bell p) p) then batch else 0
 
 -- that of a lane; none in a start
 abbrev pub lane_shows : Lane → ℕ
-lane_shows l = shown_by (length l.batch) (kept_phase l.phase)
+lane_shows l = shown_by (length l.batch) l.bell (kept_phase l.phase)
 
 abbrev step_shown : ℕ → Option Step → ℕ
 step_shown batch o = if is_index o then batch else 0
@@ -98,8 +95,13 @@ step_shows q h s l steps.SettleEnd = omega arith
 step_shows q h s l steps.Bell = omega arith
 step_shows q h s l steps.Start = omega arith
 step_shows q h s l steps.Accept = omega arith
+step_shows q h s l steps.Count = row_shows q h s (row_of (ring_of q h.size) (region_of q h.size) (sight_of h q s l) steps.Count) ∙ omega arith
+step_shows q h s l steps.Note = row_shows q h s (row_of (ring_of q h.size) (region_of q h.size) (sight_of h q s l) steps.Note) ∙ omega arith
 step_shows q h s l (steps.Id e) = row_shows q h s (row_of (ring_of q h.size) (region_of q h.size) (sight_of h q s l) (steps.Id e)) ∙ omega arith
 step_shows q h s l (steps.Len e) = row_shows q h s (row_of (ring_of q h.size) (region_of q h.size) (sight_of h q s l) (steps.Len e)) ∙ omega arith
+step_shows q h s l (steps.Link e) = row_shows q h s (row_of (ring_of q h.size) (region_of q h.size) (sight_of h q s l) (steps.Link e)) ∙ omega arith
+step_shows q h s l (steps.Head e) = row_shows q h s (row_of (ring_of q h.size) (region_of q h.size) (sight_of h q s l) (steps.Head e)) ∙ omega arith
+step_shows q h s l (steps.Clear e) = row_shows q h s (row_of (ring_of q h.size) (region_of q h.size) (sight_of h q s l) (steps.Clear e)) ∙ omega arith
 step_shows q h s l steps.Index =
     let s' : Scene = after_items h (step_stores h q l steps.Index s) s in
     let list : List Answered = map (answer_at q s') l.batch in
@@ -122,10 +124,10 @@ abbrev IsOfQueue : Turn → Type 0
 IsOfQueue (turns.Work place) = ⊥
 IsOfQueue t = ⊤
 
-begun_shows : (most : ℕ) (l : Lane) → l.batch ≡ [] → step_shown (length (take most l.completed)) (slice_get (publish_steps (length (take most l.completed))) 0) ≡ 0
+begun_shows : (most : ℕ) (l : Lane) → l.batch ≡ [] → step_shown (length (take most l.completed)) (slice_get (publish_steps (length (take most l.completed)) l.bell) 0) ≡ 0
 begun_shows most l none = go (length (take most l.completed))
   where
-    go : (n : ℕ) → step_shown n (slice_get (publish_steps n) 0) ≡ 0
+    go : (n : ℕ) → step_shown n (slice_get (publish_steps n l.bell) 0) ≡ 0
     go zero = refl
     go (suc n) = refl
 
@@ -139,7 +141,7 @@ rests q h s l t of_queue rest none = subst (λ (b : Bool). count_in q (after_ite
         phase_shows q h s l' o ∙ (let none' = none_shown o (length l.batch) (ap (λ (ks : List ℕ). length ks) none) in omega (arith, none'))
     go turns.Fetch is = refl
     go (turns.Publish most) is =
-        phase_shows q h s (begun h q s (turns.Publish most) l) (slice_get (publish_steps (length (take most l.completed))) 0) ∙ (let none' = begun_shows most l none in omega (arith, none'))
+        phase_shows q h s (begun h q s (turns.Publish most) l) (slice_get (publish_steps (length (take most l.completed)) l.bell) 0) ∙ (let none' = begun_shows most l none in omega (arith, none'))
     go (turns.Work place) is = absurd is
 
 goes_on : (q : ℕ) (h : Header1) (s : Scene) (l : Lane) (t : Turn) → is_rest l.phase ≡ false → count_in q (after_items h (phase_goes_on h q s (under_way h q s t l)).items s) ≡ count_in q s + step_shown (length l.batch) (next_step (course_of h l) l.phase)
@@ -148,49 +150,35 @@ goes_on q h s l t busy =
     (phase_shows q h s l (next_step (course_of h l) l.phase))
 
 -- while a batch is published no work on a request comes first
-any_publishes : (size waiting unfinished completed : ℕ) (started : Bool) (phase : Phase) → is_publication phase ≡ true
-    → IsOfQueue (any_turn size (record { started = started; phase = phase; waiting = waiting; unfinished = unfinished; completed = completed }))
-any_publishes size waiting unfinished completed false phase publishes = tt
-any_publishes size waiting unfinished completed true (phases.Publish done) publishes = tt
-any_publishes size waiting unfinished completed true phases.Rest publishes = absurd (cc publishes)
-any_publishes size waiting unfinished completed true (phases.Start done) publishes = absurd (cc publishes)
-any_publishes size waiting unfinished completed true (phases.Fetch done) publishes = absurd (cc publishes)
+any_publishes : (size waiting unfinished completed : ℕ) (started counts : Bool) (phase : Phase) → is_publication phase ≡ true
+    → IsOfQueue (any_turn size (record { started = started; phase = phase; waiting = waiting; counts = counts; unfinished = unfinished; completed = completed }))
+any_publishes size waiting unfinished completed false counts phase publishes = tt
+any_publishes size waiting unfinished completed true counts (phases.Publish done) publishes = tt
+any_publishes size waiting unfinished completed true counts phases.Rest publishes = absurd (cc publishes)
+any_publishes size waiting unfinished completed true counts (phases.Start done) publishes = absurd (cc publishes)
+any_publishes size waiting unfinished completed true counts (phases.Fetch done) publishes = absurd (cc publishes)
 
-drain_publishes : (size waiting unfinished completed : ℕ) (started : Bool) (phase : Phase) (b : Bool) → is_publication phase ≡ true
-    → IsOfQueue (if b then any_turn size (record { started = started; phase = phase; waiting = waiting; unfinished = unfinished; completed = completed }) else draining_turn size (record { started = started; phase = phase; waiting = waiting; unfinished = unfinished; completed = completed }))
-drain_publishes size waiting unfinished completed started phase true publishes = any_publishes size waiting unfinished completed started phase publishes
-drain_publishes size waiting unfinished completed false (phases.Publish done) false publishes = tt
-drain_publishes size waiting unfinished completed true (phases.Publish done) false publishes = tt
-drain_publishes size waiting unfinished completed started phases.Rest false publishes = absurd (cc publishes)
-drain_publishes size waiting unfinished completed started (phases.Start done) false publishes = absurd (cc publishes)
-drain_publishes size waiting unfinished completed started (phases.Fetch done) false publishes = absurd (cc publishes)
+drain_publishes : (size waiting unfinished completed : ℕ) (started counts : Bool) (phase : Phase) (b : Bool) → is_publication phase ≡ true
+    → IsOfQueue (if b then any_turn size (record { started = started; phase = phase; waiting = waiting; counts = counts; unfinished = unfinished; completed = completed }) else draining_turn size (record { started = started; phase = phase; waiting = waiting; counts = counts; unfinished = unfinished; completed = completed }))
+drain_publishes size waiting unfinished completed started counts phase true publishes = any_publishes size waiting unfinished completed started counts phase publishes
+drain_publishes size waiting unfinished completed false counts (phases.Publish done) false publishes = tt
+drain_publishes size waiting unfinished completed true counts (phases.Publish done) false publishes = tt
+drain_publishes size waiting unfinished completed started counts phases.Rest false publishes = absurd (cc publishes)
+drain_publishes size waiting unfinished completed started counts (phases.Start done) false publishes = absurd (cc publishes)
+drain_publishes size waiting unfinished completed started counts (phases.Fetch done) false publishes = absurd (cc publishes)
 
 publishing_turn : (q : ℕ) (h : Header1) (m : Moment) (sequence : Sequence) (taken : ℕ) → is_publication (m.lanes q).phase ≡ true → IsOfQueue (next_turn q h sequence taken m)
 publishing_turn q h m sequences.Any taken publishes =
     let s : Standing = standing h q m in
-    any_publishes h.size s.waiting s.unfinished s.completed s.started (m.lanes q).phase publishes
+    any_publishes h.size s.waiting s.unfinished s.completed s.started s.counts (m.lanes q).phase publishes
 publishing_turn q h m sequences.Drain taken publishes =
     let s : Standing = standing h q m in
-    drain_publishes h.size s.waiting s.unfinished s.completed s.started (m.lanes q).phase (nat_lt taken h.size) publishes
+    drain_publishes h.size s.waiting s.unfinished s.completed s.started s.counts (m.lanes q).phase (nat_lt taken h.size) publishes
 
 -- the turn that comes next publishes as many as its step shows
 pub chosen_shows : (q : ℕ) (h : Header1) (m : Moment) (sequence : Sequence) (taken : ℕ) → Good q h m → (t : Turn) → t ≡ next_turn q h sequence taken m
     → length (published (one_turn h q t m).next.scene.past q) ≡ length (published m.scene.past q) + lane_shows (m.lanes q)
-chosen_shows q h m sequence taken good t is = elim (phase_cases h.size l.bell l.plan l.batch l.phase (phase_at q h m.scene (m.lanes q) good.holds)) [
-  | inl rest ↦
-      let none : lane_shows l ≡ 0 = ap (λ (p : Phase). shown_by (length l.batch) (kept_phase p)) rest.0 in
-      let same : count_in q (after_items h (turned h q t m).items s) ≡ count_in q s = resting t (ap is_rest rest.0) rest.1 in
-      omega (arith, none, same)
-  | inr (inl shows) ↦
-      let here : step_shown (length l.batch) (next_step (course_of h l) l.phase) ≡ lane_shows l =
-      ap (λ (p : Phase). step_shown (length l.batch) (next_step (course_of h l) p)) shows.1.0 ∙ sym (ap (λ (p : Phase). shown_by (length l.batch) (kept_phase p)) shows.1.0) in
-      let more = goes_on_with t (subst IsOfQueue (sym is) (publishing_turn q h m sequence taken (ap is_publication shows.1.0))) (ap is_rest shows.1.0) in
-      omega (arith, here, more)
-  | inr (inr starts) ↦
-      let none : lane_shows l ≡ 0 = ap (λ (p : Phase). shown_by (length l.batch) (kept_phase p)) starts.1.0 in
-      let same : count_in q (after_items h (turned h q t m).items s) ≡ count_in q s = starting t (ap is_rest starts.1.0) starts.1.1 in
-      omega (arith, none, same)
-]
+chosen_shows q h m sequence taken good t is = go (phase_cases h.size l.bell l.plan l.batch l.phase (phase_at q h m.scene (m.lanes q) good.holds))
   where
     s : Scene
     s = m.scene
@@ -210,85 +198,103 @@ chosen_shows q h m sequence taken good t is = elim (phase_cases h.size l.bell l.
     goes_on_with (turns.Publish most) of_queue busy = goes_on q h s l (turns.Publish most) busy
     goes_on_with (turns.Work place) of_queue busy = absurd of_queue
 
-    starting_with : (t : Turn) → IsOfQueue t → is_rest l.phase ≡ false → l.batch ≡ [] → count_in q (after_items h (turned h q t m).items s) ≡ count_in q s
-    starting_with t of_queue busy none =
+    with_none : (t : Turn) → IsOfQueue t → is_rest l.phase ≡ false → l.batch ≡ [] → count_in q (after_items h (turned h q t m).items s) ≡ count_in q s
+    with_none t of_queue busy none =
         let nothing : step_shown (length l.batch) (next_step (course_of h l) l.phase) ≡ 0 = none_shown (next_step (course_of h l) l.phase) (length l.batch) (ap (λ (ks : List ℕ). length ks) none) in
         let more = goes_on_with t of_queue busy in
         omega (arith, nothing, more)
 
-    starting : (t : Turn) → is_rest l.phase ≡ false → l.batch ≡ [] → count_in q (after_items h (turned h q t m).items s) ≡ count_in q s
-    starting turns.Start busy none = starting_with turns.Start tt busy none
-    starting turns.Fetch busy none = starting_with turns.Fetch tt busy none
-    starting (turns.Publish most) busy none = starting_with (turns.Publish most) tt busy none
-    starting (turns.Work place) busy none = work_shows q h s l (slice_get (unfinished q m) place)
+    without_batch : (t : Turn) → is_rest l.phase ≡ false → l.batch ≡ [] → count_in q (after_items h (turned h q t m).items s) ≡ count_in q s
+    without_batch turns.Start busy none = with_none turns.Start tt busy none
+    without_batch turns.Fetch busy none = with_none turns.Fetch tt busy none
+    without_batch (turns.Publish most) busy none = with_none (turns.Publish most) tt busy none
+    without_batch (turns.Work place) busy none = work_shows q h s l (slice_get (unfinished q m) place)
+
+    go : PhaseCases l.batch l.phase → count_in q (after_items h (turned h q t m).items s) ≡ count_in q s + lane_shows l
+    go (Rests rest none) =
+        let nothing : lane_shows l ≡ 0 = ap (λ (p : Phase). shown_by (length l.batch) l.bell (kept_phase p)) rest in
+        let same : count_in q (after_items h (turned h q t m).items s) ≡ count_in q s = resting t (ap is_rest rest) none in
+        omega (arith, nothing, same)
+    go (Starts done at none) =
+        let nothing : lane_shows l ≡ 0 = ap (λ (p : Phase). shown_by (length l.batch) l.bell (kept_phase p)) at in
+        let same : count_in q (after_items h (turned h q t m).items s) ≡ count_in q s = without_batch t (ap is_rest at) none in
+        omega (arith, nothing, same)
+    go (Fetches at none) =
+        let nothing : lane_shows l ≡ 0 = ap (λ (p : Phase). shown_by (length l.batch) l.bell (kept_phase p)) at in
+        let same : count_in q (after_items h (turned h q t m).items s) ≡ count_in q s = without_batch t (ap is_rest at) none in
+        omega (arith, nothing, same)
+    go (Publishes done at some) =
+        let here : step_shown (length l.batch) (next_step (course_of h l) l.phase) ≡ lane_shows l =
+        ap (λ (p : Phase). step_shown (length l.batch) (next_step (course_of h l) p)) at ∙ sym (ap (λ (p : Phase). shown_by (length l.batch) l.bell (kept_phase p)) at) in
+        let more = goes_on_with t (subst IsOfQueue (sym is) (publishing_turn q h m sequence taken (ap is_publication at))) (ap is_rest at) in
+        omega (arith, here, more)
+
+-- ---- a batch that comes to be shown is hidden until then
+
+-- behind used.idx no step shows a batch
+none_behind : (batch : ℕ) (bell : Bool) (place : ℕ) → is_index (shown_step batch bell (suc place)) ≡ false
+none_behind batch bell place = go (nat_lt place batch) (place == batch) (bell && (place == batch + 1))
+  where
+    go : (clears notes rings : Bool) → is_index (if clears then Some (steps.Clear place) else if notes then Some steps.Note else if rings then Some steps.Bell else None) ≡ false
+    go true notes rings = refl
+    go false true rings = refl
+    go false false true = refl
+    go false false false = refl
+
+index_place : (batch : ℕ) (bell : Bool) (done : ℕ) → is_index (slice_get (publish_steps batch bell) done) ≡ true → done ≤ 4 * batch
+index_place batch bell done shows = elim (cases_lt (4 * batch) done) [
+  | inl past ↦
+      let place : ℕ = done - 4 * batch - 1 in
+      let at : done ≡ 4 * batch + suc place = omega (arith, past) in
+      let there : slice_get (publish_steps batch bell) done ≡ shown_step batch bell (suc place) = ap (slice_get (publish_steps batch bell)) at ∙ shows_at batch bell (suc place) in
+      absurd (let fails : true ≡ false = sym shows ∙ ap is_index there ∙ none_behind batch bell place in cc)
+  | inr before ↦ omega (arith, before)
+]
+
+pub shows_hidden : (batch : List ℕ) (bell : Bool) (p : Phase) → is_index (next_of (running_steps (length batch) bell (kept_phase p)) (kept_phase p)) ≡ true → hidden batch p ≡ batch
+shows_hidden batch bell phases.Rest shows = absurd (cc shows)
+shows_hidden batch bell (phases.Start done) shows = absurd (cc shows)
+shows_hidden batch bell (phases.Fetch zero) shows = absurd (cc shows)
+shows_hidden batch bell (phases.Fetch (suc zero)) shows = absurd (cc shows)
+shows_hidden batch bell (phases.Fetch (suc (suc done))) shows = absurd (cc shows)
+shows_hidden batch bell (phases.Publish done) shows = all_hidden batch done (index_place (length batch) bell done shows)
 
 -- ---- how much is left to do, by how many requests are offered and not published
-
-weight_done : (gone done : List ℕ) (made : ℕ → ℕ) (k : ℕ) → is_among (gone ++ done) k ≡ true → weight gone done made k ≡ 0
-weight_done gone done made k held =
-    let joined : is_among (gone ++ done) k ≡ (is_among gone k || is_among done k) = is_among_append gone done k in
-    grind (arith, nat_tests)
-
-sum_left : (gone done : List ℕ) (made : ℕ → ℕ) (a : ℕ) → sum_below (weight gone done made) a ≤ 20 * length (missing_below (gone ++ done) a)
-sum_left gone done made zero = omega arith
-sum_left gone done made (suc a) =
-    let rest : sum_below (weight gone done made) a ≤ 20 * length (missing_below (gone ++ done) a) = sum_left gone done made a in
-    elim (cases_Bool (is_among (gone ++ done) a)) [
-      | inl there ↦
-          let none : weight gone done made a ≡ 0 = weight_done gone done made a there in
-          let same : missing_below (gone ++ done) (suc a) ≡ missing_below (gone ++ done) a = grind (arith, nat_tests) in
-          omega (arith, none, ap (λ (xs : List ℕ). length xs) same)
-      | inr out ↦
-          let more : missing_below (gone ++ done) (suc a) ≡ missing_below (gone ++ done) a ++ a ∷ [] = grind (arith, nat_tests) in
-          omega (arith, weight_small gone done made a, ap (λ (xs : List ℕ). length xs) more, length-append (missing_below (gone ++ done) a) (a ∷ []))
-    ]
-
--- published, completed and left are no more than were accepted
-all_few : (q : ℕ) (n cap : ℕ) (past : List Entry) (heads : List ℕ) (phase : Phase) (batch completed : List ℕ) (made : ℕ → ℕ) → Known q n cap past heads → Worked q past phase batch completed made
-    → length (published past q) + (length completed + length batch) + length (missing_below (published past q ++ (completed ++ batch)) (accepted past q)) ≤ accepted past q
-all_few q n cap past heads phase batch completed made known w =
-    let ps : List ℕ = published past q in
-    let ds : List ℕ = completed ++ batch in
-    let a : ℕ = accepted past q in
-    let ls : List ℕ = missing_below (ps ++ ds) a in
-    let d : are_distinct (ps ++ ds) ≡ true = distinct_join ps ds known.distinct w.distinct (λ k held. (w.opens k held).unpublished) in
-    let e : are_distinct ((ps ++ ds) ++ ls) ≡ true = distinct_join (ps ++ ds) ls d (missing_distinct (ps ++ ds) a) (λ k held. (missing-among (ps ++ ds) a k held).1) in
-    let few : length ((ps ++ ds) ++ ls) ≤ a = few_below ((ps ++ ds) ++ ls) a e (λ k held. elim (cases_Bool (is_among ls k)) [
-      | inl there ↦ (missing-among (ps ++ ds) a k there).0
-      | inr out ↦ elim (cases_Bool (is_among ds k)) [
-        | inl there ↦ (w.opens k there).taken
-        | inr not_done ↦ known.below k (
-            let joined : is_among ((ps ++ ds) ++ ls) k ≡ (is_among (ps ++ ds) k || is_among ls k) = is_among_append (ps ++ ds) ls k in
-            let front : is_among (ps ++ ds) k ≡ (is_among ps k || is_among ds k) = is_among_append ps ds k in
-            grind (arith, nat_tests))
-      ]
-    ]) in
-    omega (arith, few, length-append (ps ++ ds) ls, length-append ps ds, length-append completed batch)
 
 -- the requests that are offered and not published
 abbrev pub undone : ℕ → Moment → ℕ
 undone q m = length (m.scene.heads q) - length (published m.scene.past q)
 
-besides_few : (n : ℕ) (b : Bool) (x : ℕ) → cond {A = ℕ} b 0 x ≤ n + 4 → cond {A = ℕ} b 0 x + 2 ≤ turns_besides n b
-besides_few n true x few = omega arith
-besides_few n false x few = omega (arith, few)
+-- the steps that are left of a phase, with those of a start, where it isn't started
+left_few : (b : Bool) (n : ℕ) (bell : Bool) (plan : Plan) (batch : List ℕ) (phase : Phase) → length batch ≤ n → StartIs b n bell plan phase → cond {A = ℕ} b 0 (steps_left n bell plan phase) + phase_left batch phase ≤ 5 * length (hidden batch phase) + n + 6
+left_few true n bell plan batch phase few is = omega (arith, phase_few n batch phase few)
+left_few false n bell plan batch phases.Rest few is = omega arith
+left_few false n bell plan batch (phases.Start done) few is = omega (arith, start_short n bell plan is.few)
+left_few false n bell plan batch (phases.Fetch done) few is = absurd (cc is)
+left_few false n bell plan batch (phases.Publish done) few is = absurd (cc is)
 
-pub effort_bound : (q : ℕ) (h : Header1) (m : Moment) → Good q h m → effort_at q h m + 1 ≤ 21 * undone q m + turns_besides h.size (started m.scene.past q)
+pub effort_bound : (q : ℕ) (h : Header1) (m : Moment) → Good q h m → effort_at q h m + 1 ≤ 27 * undone q m + turns_besides h.size
 effort_bound q h m good =
     let s : Scene = m.scene in
     let l : Lane = m.lanes q in
     let known : Known q h.size h.capacity s.past (s.heads q) = good.holds.known in
     let offered : accepted s.past q ≤ length (s.heads q) = known.offered in
-    let all = all_few q h.size h.capacity s.past (s.heads q) l.phase l.batch l.completed l.made known good.holds.worked in
-    let sum = sum_left (published s.past q) (l.completed ++ l.batch) l.made (accepted s.past q) in
-    let stores = phase_few l.batch l.phase in
-    let begins = besides_few h.size (started s.past q) (steps_left h.size l.bell l.plan l.phase) (start_few (started s.past q) h.size l.bell l.plan l.phase (queue_start q h s l good.holds)) in
-    omega (arith, all, sum, stores, begins)
+    let all = all_left q h.size h.capacity s.past (s.heads q) l.phase (hidden l.batch l.phase) l.completed l.made known good.holds.worked in
+    let sum = sum_left (published s.past q) (l.completed ++ hidden l.batch l.phase) l.made (accepted s.past q) in
+    let left = left_few (started s.past q) h.size l.bell l.plan l.batch l.phase (queue_batch q h s l good.holds) (queue_start q h s l good.holds) in
+    omega (arith, all, sum, left, offered)
 
--- what a batch shows is not published yet
-pub batch_undone : (q : ℕ) (h : Header1) (m : Moment) → Good q h m → length (m.lanes q).batch ≤ undone q m
-batch_undone q h m good =
-    let known = good.holds.known in
-    let offered : accepted m.scene.past q ≤ length (m.scene.heads q) = known.offered in
-    let all = all_few q h.size h.capacity m.scene.past (m.scene.heads q) (m.lanes q).phase (m.lanes q).batch (m.lanes q).completed (m.lanes q).made known good.holds.worked in
-    omega (arith, all, offered)
+-- what the next step shows is not published yet
+pub shown_undone : (q : ℕ) (h : Header1) (m : Moment) → Good q h m → lane_shows (m.lanes q) ≤ undone q m
+shown_undone q h m good = go (is_index (next_of (running_steps (length l.batch) l.bell (kept_phase l.phase)) (kept_phase l.phase))) refl
+  where
+    l : Lane
+    l = m.lanes q
+
+    go : (b : Bool) → is_index (next_of (running_steps (length l.batch) l.bell (kept_phase l.phase)) (kept_phase l.phase)) ≡ b → (if b then length l.batch else 0) ≤ undone q m
+    go false none = omega arith
+    go true shows =
+        let known = good.holds.known in
+        let offered : accepted m.scene.past q ≤ length (m.scene.heads q) = known.offered in
+        let all = all_left q h.size h.capacity m.scene.past (m.scene.heads q) l.phase (hidden l.batch l.phase) l.completed l.made known good.holds.worked in
+        omega (arith, all, offered, ap (λ (ks : List ℕ). length ks) (shows_hidden l.batch l.bell l.phase shows))

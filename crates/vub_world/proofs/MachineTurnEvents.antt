@@ -1,5 +1,5 @@
 -- The events of turns: what the machine's steps in them are in the run.
-use Rattle.std.proofs.Common.{◌≡◌, ◌≤◌, ◌<◌, ℕ, zero, suc, ◌+◌, ◌-◌, ◌*◌, Bool, true, false, cond, List, [], ◌∷◌, ◌++◌, length, refl, ap, sym, ◌∙◌, subst, inl, inr, arith}
+use Rattle.std.proofs.Common.{◌≡◌, ◌≤◌, ◌<◌, ℕ, zero, suc, ◌+◌, ◌-◌, ◌*◌, Bool, true, false, cond, List, [], ◌∷◌, ◌++◌, refl, ap, sym, ◌∙◌, subst, inl, inr, arith}
 use Rattle.std.specs.Prelude.{min}
 use Rattle.vub_base.specs.declared.header.Header1.{Header1}
 use Rattle.vub_steps.specs.declared.readiness.Turn.{Turn}
@@ -15,13 +15,12 @@ use Rattle.vub_report.specs.declared.items.Item.TheVariants as items
 use Rattle.vub_report.specs.declared.items.Record.{Record}
 use Rattle.vub_world.specs.Sequences.{choices_from}
 use Rattle.vub_world.specs.MachineAt.{MachineAt, PartsAt, PartsStand, IsReached, Performs}
-use Rattle.vub_world.specs.MachineDevice.{batch_in}
+use Rattle.vub_world.specs.MachineDevice.{shown_in}
 use Rattle.vub_world.specs.MachineSteps.{StepGoes, TurnsGo, TurnsMade, TurnsEvent, PlaysTurns}
 use Rattle.vub_run.specs.Moments.{Moment}
 use Rattle.vub_room.specs.Rooms.{RoomState, HasRoom, HasTurnRoom}
 use Rattle.vub_run.specs.Run.{Stands, Played, played, single, turns, one_turn, is_due, if_ready, up_to, then_played, any_choice, drain_choice, Drains}
-use Rattle.vub_world.proofs.MachineLoops.{batch_few, undone_few, outstanding_few}
-use Rattle.vub_world.proofs.MachineRooms.{batch_undone}
+use Rattle.vub_world.proofs.MachineLoops.{shown_few, undone_few, outstanding_few}
 use Rattle.vub_world.proofs.MachineTurnsAt.{undue}
 use Rattle.vub_run_laws.proofs.Runs.{plain_header}
 use Rattle.vub_run_laws.proofs.RunsTo.{stands_good}
@@ -33,18 +32,17 @@ pub standing_few : (q : ℕ) (w : Parts) → PartsStand q w → w.front.outstand
 standing_few q w s = outstanding_few q w.front.header s.2.0 w (plain_header w.front.header s.2.1.header) (stands_good q w.front.header s.0 s.1 s.2.0 s.2.3 s.2.1) s.2.2
 
 -- room for one turn
-pub single_room : (q : ℕ) (w : Parts) (besides : ℕ) (r : RoomState) → 1 ≤ besides → PartsStand q w → HasRoom (min 1 (21 * (w.front.outstanding.offered - w.front.outstanding.collected) + besides)) (w.front.outstanding.offered - w.front.outstanding.collected) r → HasTurnRoom (length (batch_in w.life)) r
+pub single_room : (q : ℕ) (w : Parts) (besides : ℕ) (r : RoomState) → 1 ≤ besides → PartsStand q w → HasRoom (min 1 (27 * (w.front.outstanding.offered - w.front.outstanding.collected) + besides)) (w.front.outstanding.offered - w.front.outstanding.collected) r → HasTurnRoom (shown_in w.life) r
 single_room q w besides r some s room =
     let m : Moment = s.2.0 in
     let good = stands_good q w.front.header s.0 s.1 m s.2.3 s.2.1 in
-    let batch = batch_few q w.front.header w.front.setup m w.life s.2.2.life in
-    let not_yet = batch_undone q w.front.header m good in
+    let not_yet = shown_few q w.front.header w.front.setup m w.life good s.2.2.life in
     let few = undone_few q w.front.header m w good s.2.2 in
     record {
       items = omega (arith, some, room.items);
-      lists = omega (arith, some, room.lists, batch, not_yet, few);
+      lists = omega (arith, some, room.lists, not_yet, few);
       answer_lists = omega (arith, some, room.answer_lists);
-      answers = omega (arith, room.answers, batch, not_yet, few);
+      answers = omega (arith, room.answers, not_yet, few);
     }
 
 -- where a run leads is reached

@@ -1,6 +1,5 @@
 -- A step: what its turn leaves.
-use Rattle.std.proofs.Common.{◌≡◌, ◌<◌, ◌≤◌, ℕ, zero, suc, ◌+◌, Bool, true, false, List, ◌++◌, length, refl, ap, sym, ◌∙◌, subst, inl, inr, arith, min}
-use Rattle.std.specs.Prelude.{if◌then◌else◌}
+use Rattle.std.proofs.Common.{◌≡◌, ◌<◌, ◌≤◌, ℕ, zero, suc, ◌+◌, Bool, true, false, List, ◌++◌, refl, ap, sym, ◌∙◌, subst, inl, inr, arith, min}
 use Rattle.std.proofs.lemmas.Bool.{cases_Bool}
 use Rattle.std.proofs.lemmas.Bool.Decides.{nat_tests}
 use Rattle.vub_base.specs.declared.header.Header1.{Header1}
@@ -13,11 +12,11 @@ use Rattle.vub_queue.specs.declared.queue.Stepped.{Stepped}
 use Rattle.vub_queue.specs.declared.queue.Stepped.TheVariants as says
 use Rattle.vub_report.specs.declared.items.Item.{Item}
 use Rattle.vub_world.specs.MachineAt.{PartsAt}
-use Rattle.vub_world.specs.MachineDevice.{noted, answers_shown, is_showing, shows_in, accepts}
+use Rattle.vub_world.specs.MachineDevice.{noted, answers_shown, accepts}
 use Rattle.vub_world.specs.MachineSteps.{TurnGoes, MachineTurns, StepGoes}
 use Rattle.vub_room.specs.Rooms.{HasTurnRoom, SpendsUpTo, SpendsTurn, SpendsStep, RoomState}
 use Rattle.vub_run.specs.Moments.{Moment}
-use Rattle.vub_queue.specs.QueueState.{QueueState, is_idle}
+use Rattle.vub_queue.specs.QueueState.{is_idle}
 use Rattle.vub_run.specs.Run.{is_due}
 
 pub same_items : (shown : ℕ) (r now : RoomState) → SpendsUpTo shown r now → now.items ≡ r.items
@@ -40,20 +39,12 @@ spends_none (suc shown) r now spent = record {
 }
 
 -- behind the answers that a turn shows there is room for its items
-pub items_left : (shown batch : ℕ) (r now : RoomState) → HasTurnRoom batch r → SpendsUpTo shown r now → 2 ≤ now.item_room
-items_left shown batch r now has spent = let same : now.item_room ≡ r.item_room = same_room shown r now spent in omega (arith, same, has.items)
+pub items_left : (shown : ℕ) (r now : RoomState) → HasTurnRoom shown r → SpendsUpTo shown r now → 2 ≤ now.item_room
+items_left shown r now has spent = let same : now.item_room ≡ r.item_room = same_room shown r now spent in omega (arith, same, has.items)
 
-pub list_left : (shown batch : ℕ) (r now : RoomState) → shown ≤ batch → HasTurnRoom batch r → SpendsUpTo shown r now → 1 ≤ now.lists
-list_left zero batch r now few has spent = let same : now.lists ≡ r.lists = ap (λ (x : RoomState). x.lists) spent in omega (arith, same, has.lists)
-list_left (suc shown) batch r now few has spent = omega (arith, few, has.lists, spent.lists_left)
-
--- it shows no more than its batch
-pub shows_few : (state : QueueState) → shows_in state ≤ length state.batch
-shows_few state = go (is_showing state)
-  where
-    go : (b : Bool) → (if b then length state.batch else 0) ≤ length state.batch
-    go true = omega arith
-    go false = omega arith
+pub list_left : (shown : ℕ) (r now : RoomState) → HasTurnRoom shown r → SpendsUpTo shown r now → 1 ≤ now.lists
+list_left zero r now has spent = let same : now.lists ≡ r.lists = ap (λ (x : RoomState). x.lists) spent in omega (arith, same, has.lists)
+list_left (suc shown) r now has spent = omega (arith, has.lists, spent.lists_left)
 
 pub spends_turn : (shown : ℕ) (r mid now : RoomState) → SpendsUpTo shown r mid → SpendsTurn mid now → SpendsStep shown r now
 spends_turn zero r mid now spent turn = record {

@@ -1,5 +1,5 @@
 -- A life of the device, and what one queue has of it.
-use Rattle.std.specs.Prelude.{ℕ, Vec, Bool, false, slice_get, Option, Some, None, ⊤}
+use Rattle.std.specs.Prelude.{ℕ, Vec, slice_get, Option, Some, None, ⊤}
 use Rattle.vub_queue.specs.declared.queue.Queue.{Queue}
 use Rattle.vub_queue.specs.declared.queue.QueueSetup.{QueueSetup}
 use Rattle.vub_world.specs.declared.machine.Life.{Life}
@@ -15,15 +15,6 @@ queue_of q (Some queues) = slice_get queues.items q
 abbrev pub life_of : ℕ → Option Life → Option (Option Queue)
 life_of q None = None
 life_of q (Some l) = Some (queue_of q l.queues)
-
--- whether it was started
-abbrev pub is_started_queue : Option Queue → Bool
-is_started_queue None = false
-is_started_queue (Some queue) = (state_of queue).started
-
-abbrev pub is_started_in : Option (Option Queue) → Bool
-is_started_in None = false
-is_started_in (Some queue) = is_started_queue queue
 
 -- the queue of a life is on the rings of a set-up, where it is attached
 abbrev pub IsAttachedOn : QueueSetup → Option Queue → Type 0

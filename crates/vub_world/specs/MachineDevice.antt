@@ -173,6 +173,10 @@ ShowsSome state = is_showing state ≡ true → 1 ≤ length state.batch
 abbrev pub BatchFits : OutstandingRequests → List (ℕ × ℕ) → Type 0
 BatchFits outstanding batch = (i : ℕ) (x : ℕ × ℕ) → slice_get batch i ≡ Some x → (x.0 < 64) × (x.0 < size_in outstanding) × ((slot_in outstanding x.0).reads ≤ 8)
 
+-- so does each head of a batch that it shows
+abbrev pub ShownFits : OutstandingRequests → QueueState → Type 0
+ShownFits outstanding state = is_showing state ≡ true → BatchFits outstanding state.batch
+
 -- ---- a life
 
 abbrev pub queue_batch : Option Queue → List (ℕ × ℕ)

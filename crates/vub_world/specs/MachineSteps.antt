@@ -1,5 +1,5 @@
 -- What the turns of the device leave in the machine, and which items they note.
-use Rattle.std.specs.Prelude.{◌≡◌, ◌≤◌, ◌⊎◌, ℕ, ◌+◌, Bool, true, false, if◌then◌else◌, List, [], ◌∷◌, ◌++◌}
+use Rattle.std.specs.Prelude.{◌≡◌, ◌≤◌, ◌⊎◌, ℕ, ◌+◌, Bool, true, false, List, [], ◌∷◌, ◌++◌}
 use Rattle.vub_base.specs.declared.header.Header1.{Header1}
 use Rattle.vub_shared.specs.Watched.{bytes_in, stores_in}
 use Rattle.vub_steps.specs.declared.readiness.Turn.{Turn}
@@ -46,9 +46,10 @@ StepGoes q true t w now m before after taken taken_after =
     (is_due w.front.header q t m ≡ true) × PartsAt q now (one_turn w.front.header q t m).next × (after ≡ before ++ (one_turn w.front.header q t m).items)
     × (taken_after + accepted m.scene.past q ≡ taken + accepted (one_turn w.front.header q t m).next.scene.past q)
 
--- the most turns of a queue of n places that belong to no one request: with those of its start, where it isn't started
-abbrev pub turns_besides : ℕ → Bool → ℕ
-turns_besides n started = if started then 3 else n + 6
+-- the most turns of a queue of n places that belong to no one request: those of its start, or, once it is started, those of a
+-- publication behind used.idx
+abbrev pub turns_besides : ℕ → ℕ
+turns_besides n = n + 7
 
 -- so many turns were made, and no more are due than are asked for; There tells what stands where they lead
 pub record TurnsMade (q : ℕ) (h : Header1) (choose : Moment → Turn) (most : ℕ) (There : Moment → Type 0) (m : Moment) (before after : List Item) : Type 0 where

@@ -28,11 +28,8 @@ use vub_shared::{Shared, SharedFault, WatchedShared};
 /// The most stores that a request takes, with the one that offers it.
 const MOST_STORES: u16 = 8;
 
-/// The most turns of a started queue that belong to no one request.
-const BESIDES: u64 = 3;
-
-/// Those of a queue that isn't started, beside one for each place.
-const BESIDES_START: u64 = 6;
+/// The most turns of a queue that belong to no one request, beside one for each place.
+const BESIDES: u64 = 7;
 
 /// A life of the device; its queues are there once they are attached.
 #[derive(Drop)]
@@ -129,7 +126,6 @@ impl Machine {
     ghost use Rattle.vub_world.specs.Machine.{IsSound, LendsSound};
     ghost use Rattle.vub_world.specs.MachineAt.{MachineAt, IsStanding, Performs, StandsOn, is_attached};
     ghost use Rattle.vub_world.specs.MachineDevice.{is_joining};
-    ghost use Rattle.vub_world.specs.Lives.{life_of, is_started_in};
     ghost use Rattle.vub_world.specs.MachineSteps.{PlaysSingle, PlaysTurns, turns_besides};
     ghost use Rattle.vub_world.specs.Fronts.{offers_in};
     ghost use Rattle.vub_run.specs.Moments.{opening};
@@ -306,33 +302,11 @@ impl Machine {
         Ok(self.nothing())
     }
 
-    /// Whether a queue was started in this life.
-    fn is_started(&self, queue: u16) -> bool
-        ensures { result ≡ is_started_in (life_of queue self.now.life) }
-    {
-        let Some(
-            Life {
-                queues: Some(queues),
-            },
-        ) = &self.life
-        else {
-            return false;
-        };
-        match queues.get(usize::from(queue)) {
-            Some(queue) => queue.is_started(),
-            None => false,
-        }
-    }
-
     /// The most turns of a queue that belong to no one request.
-    fn turns_besides(&self, queue: u16) -> u64
-        ensures { result ≡ turns_besides self.now.header.size (is_started_in (life_of queue self.now.life)) }
+    fn turns_besides(&self) -> u64
+        ensures { result ≡ turns_besides self.now.header.size }
     {
-        if self.is_started(queue) {
-            BESIDES
-        } else {
-            u64::from(self.header.size) + BESIDES_START
-        }
+        u64::from(self.header.size) + BESIDES
     }
 
     /// A single turn, idle where it isn't ready.
@@ -349,7 +323,7 @@ impl Machine {
             return self.idle();
         }
         let place = usize::from(queue);
-        let besides = self.turns_besides(queue);
+        let besides = self.turns_besides();
         let front = &self.fronts[place];
         let undone = front.outstanding.count();
         let mut room = Room::for_turns(self.alloc, &mut self.spare, 1, undone, besides)?;
@@ -389,7 +363,7 @@ impl Machine {
             return self.idle();
         }
         let place = usize::from(queue);
-        let besides = self.turns_besides(queue);
+        let besides = self.turns_besides();
         let front = &self.fronts[place];
         let undone = front.outstanding.count();
         let mut room = Room::for_turns(self.alloc, &mut self.spare, count, undone, besides)?;

@@ -10,7 +10,7 @@ ghost use Rattle.vub_schedule.specs.declared.types.Event.{Event};
 ghost use Rattle.vub_shared.specs.Watched.{bytes_in, stores_in, sizes_in};
 ghost use Rattle.vub_world.specs.Fronts.{FrontSound, PartsSound, parts};
 ghost use Rattle.vub_world.specs.MachineAt.{PartsAt, PartsStand, IsReached};
-ghost use Rattle.vub_world.specs.MachineDevice.{BatchFits, ShowsSome, IsMade, StoreFits, SectorFits, HeadFits, answer_for, answers_for, shown_of, shows_in, number_at, noted, accepts, turn_here};
+ghost use Rattle.vub_world.specs.MachineDevice.{BatchFits, ShownFits, ShowsSome, IsMade, StoreFits, SectorFits, HeadFits, answer_for, answers_for, shown_of, shows_in, number_at, noted, accepts, turn_here};
 ghost use Rattle.vub_world.specs.MachineSteps.{TurnGoes, StepGoes, TurnsGo, turns_besides};
 ghost use Rattle.vub_world.specs.OutstandingRequests.{offered_in, collected_in, size_in, slot_in};
 ghost use Rattle.vub_world.specs.Sequences.{next_turn};
@@ -78,9 +78,9 @@ impl Front {
     /// The answers of the batch that the next step shows; none if it shows none.
     fn answers(&self, queue: &Queue, memory: &WatchedShared, room: &mut Room) -> Vec<Answered>
         requires sound { FrontSound memory.now self.now }
-        requires fits { BatchFits self.now.outstanding (state_of queue.now).batch }
+        requires fits { ShownFits self.now.outstanding (state_of queue.now) }
         requires some { ShowsSome (state_of queue.now) }
-        requires room { HasTurnRoom (length (state_of queue.now).batch) room.old }
+        requires room { HasTurnRoom (shows_in (state_of queue.now)) room.old }
         ensures answers { result.items ≡ shown_of self.now.index self.now.outstanding (bytes_in memory.now) (state_of queue.now) }
         ensures room { SpendsUpTo (shows_in (state_of queue.now)) room.old room.new }
     {
@@ -177,7 +177,7 @@ impl Front {
     ) -> Stepped
         requires sound { PartsSound self.now.index (parts memory.old self.now queue.old disk.old) }
         requires stands { (m : Moment) × IsReached self.now.index self.now.header m × PartsAt self.now.index (parts memory.old self.now queue.old disk.old) m }
-        requires room { HasTurnRoom (length (state_of queue.old).batch) room.old }
+        requires room { HasTurnRoom (shows_in (state_of queue.old)) room.old }
         ensures sound { PartsSound self.now.index (parts memory.new self.now queue.new disk.new) }
         ensures sizes { (s : ℕ) → sizes_in memory.new s ≡ sizes_in memory.old s }
         ensures goes { (m : Moment) → IsReached self.now.index self.now.header m → PartsAt self.now.index (parts memory.old self.now queue.old disk.old) m → StepGoes self.now.index (not (is_idle result)) (turn_here self.now.index self.now.header choice m) (parts memory.old self.now queue.old disk.old) (parts memory.new self.now queue.new disk.new) m room.old.items room.new.items 0 (accepts result) }
@@ -205,7 +205,7 @@ impl Front {
     ) -> bool
         requires sound { PartsSound self.now.index (parts memory.old self.now queue.old disk.old) }
         requires stands { (m : Moment) × IsReached self.now.index self.now.header m × PartsAt self.now.index (parts memory.old self.now queue.old disk.old) m }
-        requires room { HasTurnRoom (length (state_of queue.old).batch) room.old }
+        requires room { HasTurnRoom (shows_in (state_of queue.old)) room.old }
         ensures sound { PartsSound self.now.index (parts memory.new self.now queue.new disk.new) }
         ensures sizes { (s : ℕ) → sizes_in memory.new s ≡ sizes_in memory.old s }
         ensures goes { (m : Moment) → IsReached self.now.index self.now.header m → PartsAt self.now.index (parts memory.old self.now queue.old disk.old) m → accepted.old < 65535 → StepGoes self.now.index result (next_turn self.now.index self.now.header sequence accepted.old m) (parts memory.old self.now queue.old disk.old) (parts memory.new self.now queue.new disk.new) m room.old.items room.new.items accepted.old accepted.new }
@@ -231,7 +231,7 @@ impl Front {
     ) -> bool
         requires sound { PartsSound self.now.index (parts memory.old self.now queue.old disk.old) }
         requires some { 1 ≤ count }
-        requires room { HasRoom (min count (21 * (offered_in self.now.outstanding - collected_in self.now.outstanding) + turns_besides self.now.header.size (state_of queue.old).started)) (offered_in self.now.outstanding - collected_in self.now.outstanding) room.old }
+        requires room { HasRoom (min count (27 * (offered_in self.now.outstanding - collected_in self.now.outstanding) + turns_besides self.now.header.size)) (offered_in self.now.outstanding - collected_in self.now.outstanding) room.old }
         requires stands { PartsStand self.now.index (parts memory.old self.now queue.old disk.old) }
         ensures sound { PartsSound self.now.index (parts memory.new self.now queue.new disk.new) }
         ensures sizes { (s : ℕ) → sizes_in memory.new s ≡ sizes_in memory.old s }

@@ -1,4 +1,4 @@
-use Rattle.std.proofs.Common.{◌≡◌, ap, sym, ◌∙◌, subst, true, false, not, Bool, ◌++◌, ℕ, length}
+use Rattle.std.proofs.Common.{◌≡◌, ap, sym, ◌∙◌, subst, true, false, not, Bool, ◌++◌, ℕ}
 use Rattle.vub_memdisk.specs.MemDisks.{values_of}
 use Rattle.vub_steps.specs.declared.readiness.Turn.{Turn}
 use Rattle.vub_shared.specs.Watched.{stores_in}
@@ -7,9 +7,9 @@ use Rattle.vub_queue.specs.declared.queue.Stepped.{Stepped}
 use Rattle.vub_world.specs.MachineDevice.{noted, shown_in, shows_in, accepts, turn_here, SectorFits, HeadFits}
 use Rattle.vub_world.specs.MachineSteps.{StepGoes, MachineTurns}
 use Rattle.vub_queue.specs.QueueState.{state_of, is_idle}
-use Rattle.vub_world.proofs.MachineBatches.{queue_batch_fits, queue_shows_some}
+use Rattle.vub_world.proofs.MachineBatches.{queue_shown_fits, queue_shows_some}
 use Rattle.vub_world.proofs.MachineTurnsNext.{reached_plain, reached_holds}
-use Rattle.vub_world.proofs.MachineTurnsSteps.{same_items, same_room, items_left, list_left, shows_few, spends_none, spends_turn, step_ends, step_goes, step_made}
+use Rattle.vub_world.proofs.MachineTurnsSteps.{same_items, same_room, items_left, list_left, spends_none, spends_turn, step_ends, step_goes, step_made}
 use Rattle.vub_world.proofs.front.Front.play.Goals as goal
 
 pub answers-answers-requires-clause-fits : goal.answers-answers-requires-clause-fits
@@ -17,7 +17,7 @@ answers-answers-requires-clause-fits c =
     let q : ℕ = c.args.self.now.index in
     let w : Parts = parts c.args.memory.now c.args.self.now c.args.queue.now c.args.disk.now in
     let s = c.requires.stands in
-    queue_batch_fits q w.front.header w.front.setup s.0 (state_of c.args.queue.now) w.front.outstanding (reached_plain q w.front.header s.0 s.1).good.size.small (reached_holds q w.front.header s.0 s.1).0 s.2.life.1.2 s.2.outstanding
+    queue_shown_fits q w.front.header w.front.setup s.0 (state_of c.args.queue.now) w.front.outstanding (reached_plain q w.front.header s.0 s.1).good.size.small (reached_holds q w.front.header s.0 s.1).0 s.2.life.1.2 s.2.outstanding
 
 pub answers-answers-requires-clause-some : goal.answers-answers-requires-clause-some
 answers-answers-requires-clause-some c =
@@ -29,12 +29,12 @@ answers-answers-requires-clause-some c =
 pub note_turn-requires-clause-items : goal.note_turn-requires-clause-items
 note_turn-requires-clause-items c =
     let state = state_of c.args.queue.now in
-    items_left (shows_in state) (length state.batch) c.args.room.now c.answers-answers.new.room c.requires.room c.answers-answers.ensures.room
+    items_left (shows_in state) c.args.room.now c.answers-answers.new.room c.requires.room c.answers-answers.ensures.room
 
 pub note_turn-requires-clause-lists : goal.note_turn-requires-clause-lists
 note_turn-requires-clause-lists c =
     let state = state_of c.args.queue.now in
-    list_left (shows_in state) (length state.batch) c.args.room.now c.answers-answers.new.room (shows_few state) c.requires.room c.answers-answers.ensures.room
+    list_left (shows_in state) c.args.room.now c.answers-answers.new.room c.requires.room c.answers-answers.ensures.room
 
 pub note_turn-requires-clause-stores : goal.note_turn-requires-clause-stores
 note_turn-requires-clause-stores c =

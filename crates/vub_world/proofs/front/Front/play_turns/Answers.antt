@@ -1,11 +1,12 @@
-use Rattle.std.proofs.Common.{◌≡◌, ◌∙◌, arith, refl, suc, ◌+◌, ◌-◌, ℕ, subst}
+use Rattle.std.proofs.Common.{◌≡◌, ◌∙◌, arith, refl, suc, ◌+◌, ◌-◌, ℕ, false, subst}
+use Rattle.std.specs.Prelude.{nat_lt}
 use Rattle.std.proofs.lemmas.Bool.Decides.{nat_tests}
 use Rattle.vub_base.specs.declared.header.Header1.{Header1}
 use Rattle.vub_world.specs.Fronts.{Parts, parts}
-use Rattle.vub_queue.specs.QueueState.{state_of}
 use Rattle.vub_run.specs.Moments.{Moment}
 use Rattle.vub_world.specs.MachineSteps.{turns_besides}
-use Rattle.vub_world.proofs.MachineLoops.{TurnsAt, EndsAt, room_of, turns_bound, undone_few, turns_begin, turns_taken, room_left, turn_room, turns_go_on, turns_stop, turns_all, reached, so_far}
+use Rattle.vub_world.proofs.MachineLoops.{TurnsAt, EndsAt, room_of, undone_few, turns_begin, turns_taken, room_left, turn_room, turns_go_on, turns_stop, turns_all, reached, so_far}
+use Rattle.vub_world.proofs.MachineRooms.{effort_bound}
 use Rattle.vub_run_laws.proofs.RunsTo.{stands_good}
 use Rattle.vub_world.proofs.front.Front.play_turns.Goals as goal
 
@@ -37,8 +38,8 @@ play_next-requires-clause-room c =
     let here : Parts = parts c.loop-done.memory c.args.self.now c.loop-done.queue c.loop-done.disk in
     let d = c.loop-done.invariant.goes s.0 s.1 s.2.0 s.2.1 s.2.2 in
     let few = undone_few q w.front.header s.2.0 w (stands_good q w.front.header s.0 s.1 s.2.0 c.requires.sound.front.exists s.2.1) s.2.2 in
-    let bound = turns_bound q w.front.header w.front.setup s.2.0 c.args.queue.now (stands_good q w.front.header s.0 s.1 s.2.0 c.requires.sound.front.exists s.2.1) s.2.2.life in
-    let left = room_left q w.front.header c.args.sequence s.0 s.1 s.2.0 c.args.count (w.front.outstanding.offered - w.front.outstanding.collected) (turns_besides w.front.header.size (state_of c.args.queue.now).started) c.loop-done.done here c.args.room.now.items c.loop-done.room.items c.loop-done.accepted c.loop-done.room c.requires.sound.front.exists s.2.1 few bound c.loop-done-test.true d in
+    let bound = effort_bound q w.front.header s.2.0 (stands_good q w.front.header s.0 s.1 s.2.0 c.requires.sound.front.exists s.2.1) in
+    let left = room_left q w.front.header c.args.sequence s.0 s.1 s.2.0 c.args.count (w.front.outstanding.offered - w.front.outstanding.collected) (turns_besides w.front.header.size) c.loop-done.done here c.args.room.now.items c.loop-done.room.items c.loop-done.accepted c.loop-done.room c.requires.sound.front.exists s.2.1 few bound c.loop-done-test.true d in
     turn_room q w.front.header c.args.sequence s.0 s.1 s.2.0 (room_of c.args.count w) c.loop-done.done here c.args.room.now.items c.loop-done.room.items c.loop-done.accepted c.loop-done.room c.requires.sound.front.exists s.2.1 refl left d
 
 pub returns-then-not-play_next-clause-turns : goal.returns-then-not-play_next-clause-turns
@@ -70,8 +71,8 @@ loop-done-preserved c = record {
       let there = reached q w.front.header c.args.sequence es rs m c.loop-done.done c.requires.sound.front.exists stands in
       let few = turns_taken q w.front.header c.args.sequence es rs m (room_of c.args.count w) c.loop-done.done here c.args.room.now.items c.loop-done.room.items c.loop-done.accepted c.loop-done.room c.requires.sound.front.exists stands d in
       let undone_are = undone_few q w.front.header m w (stands_good q w.front.header es rs m c.requires.sound.front.exists stands) at in
-      let bound = turns_bound q w.front.header w.front.setup m c.args.queue.now (stands_good q w.front.header es rs m c.requires.sound.front.exists stands) at.life in
-      let left = room_left q w.front.header c.args.sequence es rs m c.args.count (w.front.outstanding.offered - w.front.outstanding.collected) (turns_besides w.front.header.size (state_of c.args.queue.now).started) c.loop-done.done here c.args.room.now.items c.loop-done.room.items c.loop-done.accepted c.loop-done.room c.requires.sound.front.exists stands undone_are bound c.loop-done-test.true d in
+      let bound = effort_bound q w.front.header m (stands_good q w.front.header es rs m c.requires.sound.front.exists stands) in
+      let left = room_left q w.front.header c.args.sequence es rs m c.args.count (w.front.outstanding.offered - w.front.outstanding.collected) (turns_besides w.front.header.size) c.loop-done.done here c.args.room.now.items c.loop-done.room.items c.loop-done.accepted c.loop-done.room c.requires.sound.front.exists stands undone_are bound c.loop-done-test.true d in
       let next : suc c.loop-done.done ≡ c.loop-done.done + 1 = omega arith in
       subst (λ (k : ℕ). TurnsAt q w.front.header c.args.sequence m (room_of c.args.count w) k now c.args.room.now.items c.play_next.new.room.items c.play_next.new.accepted c.play_next.new.room) next
       (turns_go_on q w.front.header c.args.sequence es rs m (room_of c.args.count w) c.loop-done.done here now c.args.room.now.items c.loop-done.room.items c.play_next.new.room.items c.loop-done.accepted c.play_next.new.accepted c.loop-done.room c.play_next.new.room c.requires.sound.front.exists stands refl left d
@@ -90,7 +91,10 @@ returns-clause-turns c es rs m stands at =
     record { low = c.requires.sound.front.exists; stands = stands; same = refl; here = d } in
     turns_all q w.front.header c.args.sequence es rs m (room_of c.args.count w) c.loop-done.done c.args.count here c.args.room.now.items c.loop-done.room.items c.loop-done.accepted c.loop-done.room ends c.requires.some all
 
+none_done : (n : ℕ) → nat_lt 0 n ≡ false → n ≡ 0
+none_done n none = grind (arith, nat_tests)
+
 pub returns-then-not-play_next-clause-idle : goal.returns-then-not-play_next-clause-idle
 returns-then-not-play_next-clause-idle c none =
-    let zero_done : c.loop-done.done ≡ 0 = grind (arith, nat_tests) in
+    let zero_done : c.loop-done.done ≡ 0 = none_done c.loop-done.done none in
     c.play_next.ensures.idle c.if-not-play_next.true ∙ c.loop-done.invariant.idle zero_done

@@ -7,13 +7,12 @@ use Rattle.vub_queue.specs.declared.queue.Queue.{Queue}
 use Rattle.vub_queue_in_run.proofs.WorkAtLists.{slice_get-set_same}
 use Rattle.vub_report.specs.declared.items.Item.{Item}
 use Rattle.vub_room.specs.Rooms.{RoomState, HasRoom}
-use Rattle.vub_queue.specs.QueueState.{state_of}
 use Rattle.vub_run.specs.Run.{Stands}
 use Rattle.vub_world.specs.declared.front.Front.{Front}
 use Rattle.vub_world.specs.declared.machine.Life.{Life}
 use Rattle.vub_world.specs.declared.machine.Machine.{Machine}
 use Rattle.vub_world.specs.Fronts.{Parts, PartsSound, parts, parts_of}
-use Rattle.vub_world.specs.Lives.{queue_of, life_of, is_started_in}
+use Rattle.vub_world.specs.Lives.{queue_of}
 use Rattle.vub_world.specs.Machine.{IsSound, AreAttached, AreInLife}
 use Rattle.vub_world.specs.MachineAt.{MachineAt, PartsAt}
 use Rattle.vub_world.specs.MachineSteps.{TurnsGo, TurnsEvent, PlaysTurns, turns_besides}
@@ -45,7 +44,7 @@ for_turns-requires c =
     let is : slice_get w.fronts.items q ≡ Some f = found w.fronts.items q f (omega (arith, c.requires.exists, sound.many)) (c.index-front.ensures ∙ ap (λ (k : ℕ). get_or w.fronts.items k f) c.from-place.ensures) in
     record {
       few = subst (λ (n : ℕ). n ≤ 64) (sym c.count-undone.ensures) (standing_few q (parts_of q f w) (parts_stand w q f sound is c.requires.stands));
-      few_besides = subst (λ (n : ℕ). n ≤ 70) (sym c.turns_besides-besides.ensures) (besides_small w.header.size (is_started_in (life_of q w.life)) (plain_header w.header sound.header).good.size.small);
+      few_besides = subst (λ (n : ℕ). n ≤ 71) (sym c.turns_besides-besides.ensures) (besides_small w.header.size (plain_header w.header sound.header).good.size.small);
     }
 
 pub returns-then-not-is_attached-clause-plays : goal.returns-then-not-is_attached-clause-plays
@@ -98,11 +97,9 @@ play_turns-made-requires-clause-room c =
     let many : length c.in-Some-Some.queues.items ≡ w.header.queues = subst (λ o. AreAttached w.header.queues o) joined (subst (λ o. AreInLife w.header.queues o) c.in-Some-Some.is sound.attached) in
     let there : slice_get c.in-Some-Some.queues.items q ≡ Some u = found c.in-Some-Some.queues.items q u (omega (arith, c.requires.exists, many)) (c.index_mut.ensures.value ∙ ap (λ (j : ℕ). get_or c.in-Some-Some.queues.items j u) c.from-place.ensures) in
     let b : TurnsBegin w q f u = turns_begin_at w q f k c.in-Some-Some.queues.items u sound c.requires.stands is c.in-Some-Some.is (ap (queue_of q) joined) there in
-    let runs : is_started_in (life_of q w.life) ≡ (state_of u).started = ap (λ o. is_started_in (life_of q o)) c.in-Some-Some.is ∙ ap (λ o. is_started_in (Some (queue_of q o))) joined ∙ ap (λ o. is_started_in (Some o)) there in
-    let besides : c.turns_besides-besides.result ≡ turns_besides f.header.size (state_of u).started =
-    c.turns_besides-besides.ensures ∙ ap (turns_besides w.header.size) runs ∙ ap (λ (h : Header1). turns_besides h.size (state_of u).started) (sym b.header) in
-    subst (λ (n : ℕ). HasRoom (min c.args.count (21 * n + turns_besides f.header.size (state_of u).started)) n c.in_ok-room.room) c.count-undone.ensures
-    (subst (λ (n : ℕ). HasRoom (min c.args.count (21 * c.count-undone.result + n)) c.count-undone.result c.in_ok-room.room) besides c.in_ok-room.ensures.room)
+    let besides : c.turns_besides-besides.result ≡ turns_besides f.header.size = c.turns_besides-besides.ensures ∙ ap (λ (h : Header1). turns_besides h.size) (sym b.header) in
+    subst (λ (n : ℕ). HasRoom (min c.args.count (27 * n + turns_besides f.header.size)) n c.in_ok-room.room) c.count-undone.ensures
+    (subst (λ (n : ℕ). HasRoom (min c.args.count (27 * c.count-undone.result + n)) c.count-undone.result c.in_ok-room.room) besides c.in_ok-room.ensures.room)
 
 pub returns-clause-sound : goal.returns-clause-sound
 returns-clause-sound c =

@@ -16,7 +16,7 @@ use Rattle.vub_world.specs.declared.front.Front.{Front}
 use Rattle.vub_world.specs.declared.machine.Life.{Life}
 use Rattle.vub_world.specs.declared.machine.Machine.{Machine}
 use Rattle.vub_world.specs.Fronts.{Parts, PartsSound, parts, parts_of}
-use Rattle.vub_world.specs.Lives.{queue_of, life_of, is_started_in}
+use Rattle.vub_world.specs.Lives.{queue_of}
 use Rattle.vub_world.specs.Machine.{IsSound, AreAttached, AreInLife}
 use Rattle.vub_world.specs.MachineAt.{MachineAt, PartsAt}
 use Rattle.vub_world.specs.MachineDevice.{accepts}
@@ -49,7 +49,7 @@ for_turns-requires c =
     let is : slice_get w.fronts.items q ≡ Some f = found w.fronts.items q f (omega (arith, c.requires.exists, sound.many)) (c.index-front.ensures ∙ ap (λ (k : ℕ). get_or w.fronts.items k f) c.from-place.ensures) in
     record {
       few = subst (λ (n : ℕ). n ≤ 64) (sym c.count-undone.ensures) (standing_few q (parts_of q f w) (parts_stand w q f sound is c.requires.stands));
-      few_besides = subst (λ (n : ℕ). n ≤ 70) (sym c.turns_besides-besides.ensures) (besides_small w.header.size (is_started_in (life_of q w.life)) (plain_header w.header sound.header).good.size.small);
+      few_besides = subst (λ (n : ℕ). n ≤ 71) (sym c.turns_besides-besides.ensures) (besides_small w.header.size (plain_header w.header sound.header).good.size.small);
     }
 
 pub returns-then-not-is_attached-clause-plays : goal.returns-then-not-is_attached-clause-plays
@@ -103,8 +103,8 @@ play-stepped-requires-clause-room c =
     let there : slice_get c.in-Some-Some.queues.items q ≡ Some u = found c.in-Some-Some.queues.items q u (omega (arith, c.requires.exists, many)) (c.index_mut.ensures.value ∙ ap (λ (j : ℕ). get_or c.in-Some-Some.queues.items j u) c.from-place.ensures) in
     let b : TurnsBegin w q f u = turns_begin_at w q f k c.in-Some-Some.queues.items u sound c.requires.stands is c.in-Some-Some.is (ap (queue_of q) joined) there in
     let besides : ℕ = c.turns_besides-besides.result in
-    let some : 1 ≤ besides = subst (λ (n : ℕ). 1 ≤ n) (sym c.turns_besides-besides.ensures) (besides_some w.header.size (is_started_in (life_of q w.life))) in
-    single_room f.index (parts w.memory f u w.disk) besides c.in_ok-room.room some b.stands (subst (λ (n : ℕ). HasRoom (min 1 (21 * n + besides)) n c.in_ok-room.room) c.count-undone.ensures c.in_ok-room.ensures.room)
+    let some : 1 ≤ besides = subst (λ (n : ℕ). 1 ≤ n) (sym c.turns_besides-besides.ensures) (besides_some w.header.size) in
+    single_room f.index (parts w.memory f u w.disk) besides c.in_ok-room.room some b.stands (subst (λ (n : ℕ). HasRoom (min 1 (27 * n + besides)) n c.in_ok-room.room) c.count-undone.ensures c.in_ok-room.ensures.room)
 
 pub returns-clause-sound : goal.returns-clause-sound
 returns-clause-sound c =
