@@ -28,20 +28,11 @@ few_gained : (now : List Store) → GainsOne (Some []) (Some now) → length now
 few_gained now (inl none) = no_store now none
 few_gained now (inr one) = omega (arith, ap (λ (l : List Store). length l) (some_is now (after_in_trail one.0 []) one.1))
 
-few_trail : (now : List Store) (o : Result (Unit {0}) (Unit {0})) (st : Store) → Trails (Some []) (Some now) o st → length now ≤ 1
-few_trail now (Ok x) st trails = omega (arith, ap (λ (l : List Store). length l) (some_is now (st ∷ []) trails))
-few_trail now (Err e) st (inl none) = no_store now none
-few_trail now (Err e) st (inr one) = omega (arith, ap (λ (l : List Store). length l) (some_is now (st ∷ []) one))
-
-few_row_trail : (now : List Store) (x : Stepped) (o : Option Row) → TrailsRow (Some []) (Some now) x o → length now ≤ 1
-few_row_trail now x None trails = no_store now trails
-few_row_trail now x (Some y) trails = few_trail now (outcome x) y.store trails
-
 few_turn : (t : Turn) (b : Bytes) (now : List Store) (x : Stepped) (state : QueueState) → DoesTrail t (Some b) (Some []) (Some now) x state → length now ≤ 1
 few_turn turns.Start b now x state trails = few_gained now trails.0
-few_turn turns.Fetch b now x state trails = no_store now trails
+few_turn turns.Fetch b now x state trails = few_gained now trails.0
 few_turn (turns.Work place) b now x state trails = few_gained now trails
-few_turn (turns.Publish most) b now x state trails = few_row_trail now x (publish_row most state) trails
+few_turn (turns.Publish most) b now x state trails = few_gained now trails.0
 
 -- a turn makes one store at most, before which the list was empty; a stopped queue makes none
 pub turn_stores : (before now : List Store) (b : Bytes) (t : Turn) (x : Stepped) (state : QueueState) (stopped : Bool) → before ≡ [] → (stopped ≡ true → Some now ≡ Some before) → (stopped ≡ false → DoesTrail t (Some b) (Some before) (Some now) x state) → length now ≤ 1

@@ -249,6 +249,10 @@ record PhaseTurn (q : ℕ) (h : Header1) (setup : QueueSetup) (m : Moment) (outs
   pub values : now.values ≡ d.values
   pub told : RowTold d now x row
 
+-- nothing is accepted
+none_taken : (a b : ℕ) → b ≡ a → 0 + a ≡ b
+none_taken a b same = omega (arith, same)
+
 -- where the queue says this, with these items
 made_as : (q : ℕ) (h : Header1) (setup : QueueSetup) (m : Moment) (outstanding : OutstandingRequests) (t : Turn) (d now : Device) (x what : Stepped) (row : Option Row) (list : List Item) → PhaseTurn q h setup m outstanding t d now x row → x ≡ what → (turned h q t m).items ≡ list → is_idle what ≡ false → IsMade what
     → list ≡ noted q outstanding now.values now.stores (shown_of q outstanding d.memory d.queue) what → StoreFits what now.stores → SectorFits h.capacity what → HeadFits h.size what → now.memory ≡ (after_items h list m.scene).memory → accepts what + accepted m.scene.past q ≡ accepted (after_items h list m.scene).past q
@@ -273,7 +277,7 @@ notes_made : (q : ℕ) (h : Header1) (setup : QueueSetup) (m : Moment) (outstand
 notes_made q h setup m outstanding t d now x row y p s =
     let st : StoredIn d now y.area y.store = stored_row d now x row y p.told s.is_row (ap outcome s.said) p.given.fresh s.fits in
     made_as q h setup m outstanding t d now x (says.Stored y.tag) row (row_item y ∷ []) p s.said s.made refl tt (sym (store_made d now y.tag y.area y.store st)) (one_small d now y.area y.store st) tt tt
-    (store_memory h m d now y.tag y.area y.store p.given.at.memory_is st) refl
+    (store_memory h m d now y.tag y.area y.store p.given.at.memory_is st) (none_taken (accepted m.scene.past q) (accepted m.scene.past q) refl)
 
 -- nothing but the bell, or the end of a start
 none_made : (q : ℕ) (h : Header1) (setup : QueueSetup) (m : Moment) (outstanding : OutstandingRequests) (t : Turn) (d now : Device) (x what : Stepped) (row : Option Row) (item : Item) → PhaseTurn q h setup m outstanding t d now x row → StoresNone q h m t x what row item → is_idle what ≡ false → IsMade what
@@ -325,7 +329,7 @@ shows_made q h setup m outstanding t d now x row y batch p w s shows =
     shown_is q outstanding d.memory d.queue shows.next ∙ answers_same q h setup m outstanding d y p.given shows.place w ∙ ap (map (answer_at q (after_stored h y m.scene))) (sym shows.batch_is) in
     made_as q h setup m outstanding t d now x says.Published row (row_item y ∷ entry list) p s.said s.made refl tt
     (ap (λ (is : List Item). is ++ entry list) (sym (store_made d now y.tag y.area y.store st)) ∙ ap (λ (z : Tag). stored_items z now.stores ++ entry list) w.tag ∙ ap (λ (xs : List Answered). stored_items SP5 now.stores ++ entry xs) (sym answers)) (one_small d now y.area y.store st) tt tt
-    (store_memory h m d now y.tag y.area y.store p.given.at.memory_is st) refl
+    (store_memory h m d now y.tag y.area y.store p.given.at.memory_is st) (none_taken (accepted m.scene.past q) (accepted m.scene.past q) refl)
 
 -- whichever it is
 phase_made : (q : ℕ) (h : Header1) (setup : QueueSetup) (m : Moment) (outstanding : OutstandingRequests) (t : Turn) (d now : Device) (x : Stepped) (row : Option Row) (batch : List ℕ) → PhaseTurn q h setup m outstanding t d now x row → (x ≡ says.Published → ShowsNow q m d batch)
@@ -333,8 +337,8 @@ phase_made : (q : ℕ) (h : Header1) (setup : QueueSetup) (m : Moment) (outstand
 phase_made q h setup m outstanding t d now x row batch p shows (Notes y s) = notes_made q h setup m outstanding t d now x row y p s
 phase_made q h setup m outstanding t d now x row batch p shows (Accepts y tag s) = accepts_made q h setup m outstanding t d now x row y p tag s
 phase_made q h setup m outstanding t d now x row batch p shows (Publishes y w s) = shows_made q h setup m outstanding t d now x row y batch p w s (shows s.said)
-phase_made q h setup m outstanding t d now x row batch p shows (Rings s) = none_made q h setup m outstanding t d now x says.Belled row (items.Bell q) p s refl tt refl tt tt tt refl refl
-phase_made q h setup m outstanding t d now x row batch p shows (Starts s) = none_made q h setup m outstanding t d now x says.Started row (items.Made (entries.Start q [])) p s refl tt refl tt tt tt refl refl
+phase_made q h setup m outstanding t d now x row batch p shows (Rings s) = none_made q h setup m outstanding t d now x says.Belled row (items.Bell q) p s refl tt refl tt tt tt refl (none_taken (accepted m.scene.past q) (accepted m.scene.past q) refl)
+phase_made q h setup m outstanding t d now x row batch p shows (Starts s) = none_made q h setup m outstanding t d now x says.Started row (items.Made (entries.Start q [])) p s refl tt refl tt tt tt refl (none_taken (accepted m.scene.past q) (accepted m.scene.past q) refl)
 
 -- what the device was told, at the moment
 told_now : (q : ℕ) (h : Header1) (setup : QueueSetup) (m : Moment) (outstanding : OutstandingRequests) (cap : ℕ) (sizes : ℕ → ℕ) (t : Turn) (d now : Device) (x : Stepped) → TurnAt q h setup m outstanding d → DeviceDoes t cap sizes d now x → Turns t (Some m.scene.memory) x d.queue now.queue
@@ -416,18 +420,20 @@ unready_still q h setup m turns.Fetch state main holds z is unready = inr tt
 unready_still q h setup m (turns.Work place) state main holds z is unready = absurd is
 unready_still q h setup m (turns.Publish most) state main holds z is unready = inl (ready_same q h setup m state (turns.Publish most) main holds z ∙ unready)
 
-idle_memory : (t : Turn) (d now : Device) (x : Stepped) → IsPhaseTurn t → (is_ready (states.standing_at d.queue 0) t ≡ false) ⊎ IsEarly t → DoesStore t (Some d.memory) (Some now.memory) x d.queue → now.memory ≡ d.memory
-idle_memory turns.Start d now x is (inl unready) stores =
+idle_memory : (t : Turn) (d now : Device) (x : Stepped) → IsPhaseTurn t → (is_ready (states.standing_at d.queue 0) t ≡ false) ⊎ IsEarly t → x ≡ says.Idle → DoesStore t (Some d.memory) (Some now.memory) x d.queue → now.memory ≡ d.memory
+idle_memory turns.Start d now x is (inl unready) idle stores =
     let run : d.queue.started ≡ true = grind (arith, nat_tests) in
     let none : start_due d.queue d.memory ≡ None = ap (λ (b : Bool). cond {A = Option SplitStore} b None (due_in d.queue.recovery d.memory)) run in
     some_is now.memory d.memory (subst (λ (o : Option SplitStore). StoresStep (Some d.memory) (Some now.memory) x d.queue.recovery.region o) none (stores d.memory refl))
-idle_memory turns.Start d now x is (inr early) stores = absurd early
-idle_memory turns.Fetch d now x is unready stores = some_is now.memory d.memory stores
-idle_memory (turns.Work place) d now x is unready stores = absurd is
-idle_memory (turns.Publish most) d now x is (inl unready) stores =
+idle_memory turns.Start d now x is (inr early) idle stores = absurd early
+idle_memory turns.Fetch d now x is unready idle stores =
+    let none : StoresBy (Some d.memory) (Some now.memory) says.Idle (fetch_row says.Idle d.queue) = subst (λ (z : Stepped). StoresBy (Some d.memory) (Some now.memory) z (fetch_row z d.queue)) idle stores in
+    some_is now.memory d.memory (none d.memory refl)
+idle_memory (turns.Work place) d now x is unready idle stores = absurd is
+idle_memory (turns.Publish most) d now x is (inl unready) idle stores =
     let none : publish_row most d.queue d.memory ≡ None = ap (λ (b : Bool). row_if b (states.under_way most d.queue) d.memory) unready in
     some_is now.memory d.memory (subst (λ (o : Option Row). states.StoresRow (Some d.memory) (Some now.memory) x o) none (stores d.memory refl))
-idle_memory (turns.Publish most) d now x is (inr early) stores = absurd early
+idle_memory (turns.Publish most) d now x is (inr early) idle stores = absurd early
 
 pub idle_made : (q : ℕ) (h : Header1) (setup : QueueSetup) (m : Moment) (outstanding : OutstandingRequests) (cap : ℕ) (sizes : ℕ → ℕ) (t : Turn) (d now : Device) (x : Stepped) → TurnAt q h setup m outstanding d → IsPhaseTurn t → is_ready (standing h q m) t ≡ false
     → DeviceDoes t cap sizes d now x → (x ≡ says.Idle) × DeviceAt q h setup m now
@@ -438,7 +444,7 @@ idle_made q h setup m outstanding cap sizes t d now x a is unready does =
       idle.0,
       record {
         stands = subst (λ (state : QueueState). QueueStands q h setup m state) (sym idle.1) a.at.stands;
-        memory_is = idle_memory t d now x is (unready_still q h setup m t d.queue a.main a.good.holds a.at.stands is unready) does.stores_are ∙ a.at.memory_is;
+        memory_is = idle_memory t d now x is (unready_still q h setup m t d.queue a.main a.good.holds a.at.stands is unready) idle.0 does.stores_are ∙ a.at.memory_is;
         disk = disk_same h.capacity m.scene.past d.values now.values values a.at.disk;
       },
     )

@@ -188,7 +188,7 @@ work_made q h setup m outstanding sizes place d now x a room ready does =
     let shows : Shows q d.values state w.k w.task n (turned h q (turns.Work place) m).items x =
     subst (λ (y : Stepped). Shows q d.values state w.k w.task n (turned h q (turns.Work place) m).items y) (sym out.says) (work_items q h sizes m setup state place d.values w a.plain a.good a.main a.at.stands a.at.disk) in
     let is_out : IsOut q m.scene.past (m.scene.heads q) w.k = open_out q h.size h.capacity m.scene.past (m.scene.heads q) w.k a.good.holds.known w.is_open in
-    let below : head_in w.task < h.size = omega (arith, w.head, head_below q h m.scene (m.lanes q).driver (m.lanes q).bell (m.lanes q).plan (m.lanes q).batch (m.lanes q).phase w.k a.good.holds.queue is_out) in
+    let below : head_in w.task < h.size = omega (arith, w.head, head_below q h m.scene (m.lanes q).driver (m.lanes q).bell (m.lanes q).plan (m.lanes q).counter (m.lanes q).batch (m.lanes q).phase w.k a.good.holds.queue is_out) in
     let number : number_at outstanding (head_in w.task) ≡ w.k = ap (number_at outstanding) w.head ∙ ap (λ (o : OutstandingRequest). o.number) (a.numbered.slots w.k is_out.below is_out.kept) in
     let values : now.values ≡ values_after w.request w.step d.values = some_is now.values (values_after w.request w.step d.values) out.values in
     let notes : NotesWork q h m (turns.Work place) outstanding d now x = work_noted q h m (turns.Work place) outstanding d now w.k w.task n x (record { fresh = a.fresh; below = below; number = number; values_are = values; trails = out.trails; looks = well_too.looks }) shows in
