@@ -3,7 +3,7 @@ use Rattle.std.specs.Prelude.{◌≡◌, ◌<◌, ◌≤◌, ℕ, length, Option
 use Rattle.vub_inflight.specs.Links.{link_at}
 use Rattle.vub_infl_split.specs.Region.{RegionWords}
 use Rattle.vub_steps.specs.declared.steps.Plan.{Plan}
-use Rattle.vub_steps.specs.declared.steps.Plan.TheVariants.{New, Settles, Settled}
+use Rattle.vub_steps.specs.declared.steps.Plan.TheVariants.{Settles, Settled}
 use Rattle.vub_steps.specs.Steps.{plan_steps}
 use Rattle.vub_rec_split.specs.Starts.{RecoveryState, link_after}
 

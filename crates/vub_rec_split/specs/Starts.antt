@@ -1,6 +1,6 @@
 -- A start of a split queue over its in-flight region: what its first step finds, and its stores, one a step (vhost-user,
 -- "Inflight I/O tracking").
-use Rattle.std.specs.Prelude.{◌≡◌, ◌<◌, ◌≤◌, ℕ, ◌+◌, ◌-◌, ◌==◌, ◌&&◌, Bool, nat_lt, nat_le, if◌then◌else◌, zero, suc, List, [], ◌∷◌, ◌++◌, map, Option, Some, None, Result, Ok, Err, ⊤}
+use Rattle.std.specs.Prelude.{◌≡◌, ◌<◌, ◌≤◌, ℕ, ◌+◌, ◌-◌, ◌==◌, ◌&&◌, Bool, nat_lt, nat_le, if◌then◌else◌, List, Option, Some, None, Result, Ok, Err, ⊤}
 use Rattle.std.specs.Option.{option_map}
 use Rattle.vub_base.specs.declared.reading.RegionFault.{RegionFault}
 use Rattle.vub_base.specs.declared.reading.RegionFault.TheVariants.{BadBase}
@@ -9,12 +9,11 @@ use Rattle.vub_shared.specs.Bytes.{Bytes}
 use Rattle.vub_shared.specs.Spaces.{Names}
 use Rattle.vub_shared.specs.Stores.{Store, after_store}
 use Rattle.vub_shared.specs.Frames.{OnlyLoads, MakesStore}
-use Rattle.vub_ring.specs.Ring.{ahead}
 use Rattle.vub_split.specs.declared.split.SplitRing.{SplitRing}
 use Rattle.vub_split.specs.Split.{RingLies, used_idx_word}
 use Rattle.vub_infl_split.specs.declared.region.SplitRegion.{SplitRegion}
 use Rattle.vub_infl_split.specs.declared.region.SplitStore.{SplitStore}
-use Rattle.vub_infl_split.specs.declared.region.SplitStore.TheVariants.{SI1, SI2, SI3, SR1, SR2, SF1, SF2, SP3, SP4, SP6, SP7}
+use Rattle.vub_infl_split.specs.declared.region.SplitStore.TheVariants.{SI1, SI2, SI3, SR1, SR2}
 use Rattle.vub_infl_split.specs.Region.{RegionWords, RegionLies, words_of}
 use Rattle.vub_infl_split.specs.Stores.{store_of, tag_of, NamesEntry}
 use Rattle.vub_infl_split.specs.Readings.{made_fault, split_entries, unchecked_entries}

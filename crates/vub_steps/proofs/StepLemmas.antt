@@ -1,12 +1,12 @@
 -- Where each step of a publication stands in its list.
-use Rattle.std.proofs.Common.{◌≡◌, ℕ, zero, suc, ◌+◌, ◌*◌, ◌<◌, ◌≤◌, ◌-◌, ◌/◌, ◌%◌, Bool, true, false, List, [], ◌∷◌, ◌++◌, length, refl, ap, ◌∙◌, sym, arith, length-append, inl, inr}
-use Rattle.std.specs.Prelude.{slice_get, Some, None}
+use Rattle.std.proofs.Common.{◌≡◌, ℕ, zero, suc, ◌+◌, ◌*◌, ◌<◌, ◌≤◌, ◌-◌, ◌/◌, ◌%◌, Bool, true, false, List, ◌∷◌, ◌++◌, length, refl, ap, ◌∙◌, sym, arith, length-append, inl, inr}
+use Rattle.std.specs.Prelude.{slice_get, Some}
 use Rattle.std.proofs.lemmas.Bool.Decides.{nat_tests}
 use Rattle.std.proofs.lemmas.Bool.{cases_lt}
 use Rattle.vub_steps.specs.declared.steps.Step.{Step}
-use Rattle.vub_steps.specs.declared.steps.Step.TheVariants.{Index, Clear, Note, Bell}
+use Rattle.vub_steps.specs.declared.steps.Step.TheVariants.{Clear, Note}
 use Rattle.vub_steps.specs.Steps.{element_step, shown_step, element_steps, clear_steps, bell_steps, show_steps, publish_steps}
-use Rattle.vub_steps.proofs.StartLemmas.{behind, first_behind}
+use Rattle.vub_steps.proofs.StartLemmas.{behind}
 
 -- the steps of an element are four
 pub element_at : (from count e k i : ℕ) (tail : List Step) → i ≡ 4 * e + k → k < 4 → e < count → slice_get (element_steps from count ++ tail) i ≡ Some (element_step k (from + e))
