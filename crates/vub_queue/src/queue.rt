@@ -254,13 +254,6 @@ impl Queue {
         })
     }
 
-    /// Whether it was started in this life.
-    pub fn is_started(&self) -> bool
-        ensures { result ≡ (state_of self.now).started }
-    {
-        self.started
-    }
-
     /// Whether a batch is being published.
     pub fn is_publishing(&self) -> bool
         ensures { result ≡ is_publication self.now.phase }
