@@ -48,13 +48,20 @@ const RECORDS: &str = "record 1 split 1 4 8 0 back
 . SI3 i 8 0100040000000000
 + bell 0
 ! start 0 -
+. SF1 i 18 0000000000000000
+. SF2 i 10 01
 ! accept 0 0
 ! act 0 0 0 aa*512
 . T5 m 10010 00
 . SP1 m 2004 00000000
 . SP2 m 2008 01000000
+. SP3 i 16 0000
+. SP4 i c 0000
 . SP5 m 2002 0100
 ! publish 0 0:0
+. SP6 i 10 00
+. SP7 i e 0100
++ bell 0
 > collect 0
 ! collect 0 0
 > ask 0 d read 0 1
@@ -68,14 +75,21 @@ const RECORDS: &str = "record 1 split 1 4 8 0 back
 . G m 1002 0200
 ! offer 0 read 0 1
 > drain 0
+. SF1 i 18 0100000000000000
+. SF2 i 10 01
 ! accept 0 1
 ! look 0 1 0 aa*512
 . T2 m 11000 aa*512
 . T5 m 10010 00
 . SP1 m 200c 00000000
 . SP2 m 2010 01020000
+. SP3 i 16 0000
+. SP4 i c 0000
 . SP5 m 2002 0200
 ! publish 0 1:0:aa*512
+. SP6 i 10 00
+. SP7 i e 0200
++ bell 0
 > collect 0
 ! collect 0 1
 ";
