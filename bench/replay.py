@@ -49,7 +49,7 @@ def steps(number):
     """A batch of flushes, each step of the device for itself."""
     start = b"start 0\n" * 68 if number == 0 else b""
     asks = b"ask 0 d flush\nguest 0 16\n" * BATCH
-    work = b"fetch 0\n" * BATCH + b"work 0 0\n" * (2 * BATCH) + b"publish 0 64\n" * (2 * BATCH + 1)
+    work = b"fetch 0\n" * (2 * BATCH) + b"work 0 0\n" * (2 * BATCH) + b"publish 0 64\n" * (5 * BATCH + 3)
     return start + asks + work + b"collect 0\n" * BATCH, BATCH
 
 
