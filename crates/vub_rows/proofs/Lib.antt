@@ -1,3 +1,4 @@
 pub mod ReadRow
+pub mod Tracked
 pub mod Turns
 pub mod WriteRow

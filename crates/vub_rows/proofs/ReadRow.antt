@@ -1,8 +1,8 @@
 -- The records of the read are a run of its schedule, and memory tracks their history: both by computing.
 use Rattle.std.specs.Prelude.{replicate}
-use Rattle.std.proofs.Common.{◌≡◌, [], ◌∷◌, zero, suc, refl, inl, inr, arith}
+use Rattle.std.proofs.Common.{◌≡◌, [], ◌∷◌, refl, inl, inr}
 use Rattle.vub_base.specs.declared.request.Shape.TheVariants.{Direct}
-use Rattle.vub_base.specs.declared.store.Tag.TheVariants.{SI1, SI2, SI3, T2, T5, SP1, SP2, SP5}
+use Rattle.vub_base.specs.declared.store.Tag.TheVariants.{SI1, SI2, SI3, T2, T5, SF1, SF2, SP1, SP2, SP3, SP4, SP5, SP6, SP7}
 use Rattle.vub_base.specs.declared.store.Area.TheVariants.{M, I}
 use Rattle.vub_shared.specs.Bytes as bytes
 use Rattle.vub_shared.specs.Bytes.{put}
@@ -12,10 +12,11 @@ use Rattle.vub_device.specs.Requests as zero
 use Rattle.vub_device.specs.declared.entry.Entry.TheVariants as entries
 use Rattle.vub_schedule.specs.declared.types.Event.TheVariants as events
 use Rattle.vub_report.specs.declared.items.Item.TheVariants as items
-use Rattle.vub_run.specs.Memory.{Scene, with_at}
+use Rattle.vub_run.specs.Memory.{with_at}
 use Rattle.vub_run.specs.Moments.{Moment, opening}
 use Rattle.vub_run.specs.Run.{Run, Plays, played, boot, join, ask, guest, collect, turns, drain_choice}
-use Rattle.vub_run.specs.Tracking.{Tracks, EveryTracks, TracksAlways}
+use Rattle.vub_run.specs.Tracking.{TracksAlways}
+use Rattle.vub_rows.proofs.Tracked.{undamaged, at_queue_0}
 use Rattle.vub_rows.proofs.Turns.{turned_to, Turns, turn_first}
 use Rattle.vub_rows.specs.WriteAndRead.{header, zero_sector, answer, read, read_offered, read_served, read_records, schedule_of}
 
@@ -36,52 +37,70 @@ m4 = (guest header 0 16 m3).next
 
 -- after each turn of the drain
 abbrev n1 : Moment
-n1 = turned_to (put m4.scene.memory 1 0 (replicate 8 0)) m4.scene.past (phases.Start 1) [] [] (λ k. 0) m4
+n1 = turned_to (put m4.scene.memory 1 0 (replicate 8 0)) m4.scene.past (phases.Start 1) 0 [] [] (λ k. 0) m4
 
 abbrev n2 : Moment
-n2 = turned_to (put n1.scene.memory 1 16 (0 ∷ [])) n1.scene.past (phases.Start 2) [] [] (λ k. 0) n1
+n2 = turned_to (put n1.scene.memory 1 16 (0 ∷ [])) n1.scene.past (phases.Start 2) 0 [] [] (λ k. 0) n1
 
 abbrev n3 : Moment
-n3 = turned_to (put n2.scene.memory 1 32 (0 ∷ [])) n2.scene.past (phases.Start 3) [] [] (λ k. 0) n2
+n3 = turned_to (put n2.scene.memory 1 32 (0 ∷ [])) n2.scene.past (phases.Start 3) 0 [] [] (λ k. 0) n2
 
 abbrev n4 : Moment
-n4 = turned_to (put n3.scene.memory 1 48 (0 ∷ [])) n3.scene.past (phases.Start 4) [] [] (λ k. 0) n3
+n4 = turned_to (put n3.scene.memory 1 48 (0 ∷ [])) n3.scene.past (phases.Start 4) 0 [] [] (λ k. 0) n3
 
 abbrev n5 : Moment
-n5 = turned_to (put n4.scene.memory 1 64 (0 ∷ [])) n4.scene.past (phases.Start 5) [] [] (λ k. 0) n4
+n5 = turned_to (put n4.scene.memory 1 64 (0 ∷ [])) n4.scene.past (phases.Start 5) 0 [] [] (λ k. 0) n4
 
 abbrev n6 : Moment
-n6 = turned_to (put n5.scene.memory 1 8 (1 ∷ 0 ∷ 4 ∷ 0 ∷ 0 ∷ 0 ∷ 0 ∷ 0 ∷ [])) n5.scene.past (phases.Start 6) [] [] (λ k. 0) n5
+n6 = turned_to (put n5.scene.memory 1 8 (1 ∷ 0 ∷ 4 ∷ 0 ∷ 0 ∷ 0 ∷ 0 ∷ 0 ∷ [])) n5.scene.past (phases.Start 6) 0 [] [] (λ k. 0) n5
 
 abbrev n7 : Moment
-n7 = turned_to n6.scene.memory n6.scene.past (phases.Start 7) [] [] (λ k. 0) n6
+n7 = turned_to n6.scene.memory n6.scene.past (phases.Start 7) 0 [] [] (λ k. 0) n6
 
 abbrev n8 : Moment
-n8 = turned_to n7.scene.memory (entries.Start 0 [] ∷ n7.scene.past) phases.Rest [] [] (λ k. 0) n7
+n8 = turned_to n7.scene.memory (entries.Start 0 [] ∷ n7.scene.past) phases.Rest 0 [] [] (λ k. 0) n7
 
 abbrev n9 : Moment
-n9 = turned_to n8.scene.memory (entries.Accept 0 0 ∷ n8.scene.past) phases.Rest [] [] (λ k. 0) n8
+n9 = turned_to (put n8.scene.memory 1 24 (replicate 8 0)) n8.scene.past (phases.Fetch 1) 1 [] [] (λ k. 0) n8
 
 abbrev n10 : Moment
-n10 = turned_to n9.scene.memory (entries.Look 0 0 0 zero_sector ∷ n9.scene.past) phases.Rest [] [] (with_at (λ k. 0) 0 1) n9
+n10 = turned_to (put n9.scene.memory 1 16 (1 ∷ [])) (entries.Accept 0 0 ∷ n9.scene.past) phases.Rest 1 [] [] (λ k. 0) n9
 
 abbrev n11 : Moment
-n11 = turned_to (put n10.scene.memory 0 69632 zero_sector) n10.scene.past phases.Rest [] [] (with_at (with_at (λ k. 0) 0 1) 0 2) n10
+n11 = turned_to n10.scene.memory (entries.Look 0 0 0 zero_sector ∷ n10.scene.past) phases.Rest 1 [] [] (with_at (λ k. 0) 0 1) n10
 
 abbrev n12 : Moment
-n12 = turned_to (put n11.scene.memory 0 65552 (0 ∷ [])) n11.scene.past phases.Rest [] (0 ∷ []) (with_at (with_at (with_at (λ k. 0) 0 1) 0 2) 0 3) n11
+n12 = turned_to (put n11.scene.memory 0 69632 zero_sector) n11.scene.past phases.Rest 1 [] [] (with_at (with_at (λ k. 0) 0 1) 0 2) n11
 
 abbrev n13 : Moment
-n13 = turned_to (put n12.scene.memory 0 8196 (0 ∷ 0 ∷ 0 ∷ 0 ∷ [])) n12.scene.past (phases.Publish 1) (0 ∷ []) [] (with_at (with_at (with_at (λ k. 0) 0 1) 0 2) 0 3) n12
+n13 = turned_to (put n12.scene.memory 0 65552 (0 ∷ [])) n12.scene.past phases.Rest 1 [] (0 ∷ []) (with_at (with_at (with_at (λ k. 0) 0 1) 0 2) 0 3) n12
 
 abbrev n14 : Moment
-n14 = turned_to (put n13.scene.memory 0 8200 (1 ∷ 2 ∷ 0 ∷ 0 ∷ [])) n13.scene.past (phases.Publish 2) (0 ∷ []) [] (with_at (with_at (with_at (λ k. 0) 0 1) 0 2) 0 3) n13
+n14 = turned_to (put n13.scene.memory 0 8196 (0 ∷ 0 ∷ 0 ∷ 0 ∷ [])) n13.scene.past (phases.Publish 1) 1 (0 ∷ []) [] (with_at (with_at (with_at (λ k. 0) 0 1) 0 2) 0 3) n13
 
 abbrev n15 : Moment
-n15 = turned_to (put n14.scene.memory 0 8194 (1 ∷ 0 ∷ [])) (entries.Publish 0 (answer 0 zero_sector ∷ []) ∷ n14.scene.past) phases.Rest [] [] (with_at (with_at (with_at (λ k. 0) 0 1) 0 2) 0 3) n14
+n15 = turned_to (put n14.scene.memory 0 8200 (1 ∷ 2 ∷ 0 ∷ 0 ∷ [])) n14.scene.past (phases.Publish 2) 1 (0 ∷ []) [] (with_at (with_at (with_at (λ k. 0) 0 1) 0 2) 0 3) n14
+
+abbrev n16 : Moment
+n16 = turned_to (put n15.scene.memory 1 22 (0 ∷ 0 ∷ [])) n15.scene.past (phases.Publish 3) 1 (0 ∷ []) [] (with_at (with_at (with_at (λ k. 0) 0 1) 0 2) 0 3) n15
+
+abbrev n17 : Moment
+n17 = turned_to (put n16.scene.memory 1 12 (0 ∷ 0 ∷ [])) n16.scene.past (phases.Publish 4) 1 (0 ∷ []) [] (with_at (with_at (with_at (λ k. 0) 0 1) 0 2) 0 3) n16
+
+abbrev n18 : Moment
+n18 = turned_to (put n17.scene.memory 0 8194 (1 ∷ 0 ∷ [])) (entries.Publish 0 (answer 0 zero_sector ∷ []) ∷ n17.scene.past) (phases.Publish 5) 1 (0 ∷ []) [] (with_at (with_at (with_at (λ k. 0) 0 1) 0 2) 0 3) n17
+
+abbrev n19 : Moment
+n19 = turned_to (put n18.scene.memory 1 16 (0 ∷ [])) n18.scene.past (phases.Publish 6) 1 (0 ∷ []) [] (with_at (with_at (with_at (λ k. 0) 0 1) 0 2) 0 3) n18
+
+abbrev n20 : Moment
+n20 = turned_to (put n19.scene.memory 1 14 (1 ∷ 0 ∷ [])) n19.scene.past (phases.Publish 7) 1 (0 ∷ []) [] (with_at (with_at (with_at (λ k. 0) 0 1) 0 2) 0 3) n19
+
+abbrev n21 : Moment
+n21 = turned_to n20.scene.memory n20.scene.past phases.Rest 1 [] [] (with_at (with_at (with_at (λ k. 0) 0 1) 0 2) 0 3) n20
 
 abbrev m5 : Moment
-m5 = n15
+m5 = n21
 
 abbrev m6 : Moment
 m6 = (collect header 0 m5).next
@@ -137,56 +156,86 @@ t8 : Turns header choose n7 (items.Made (entries.Start 0 []) ∷ []) n8
 unfolding bytes.word bytes.put zero.zeros
 t8 = (refl, refl)
 
-t9 : Turns header choose n8 (items.Made (entries.Accept 0 0) ∷ []) n9
+t9 : Turns header choose n8 (items.Store SF1 I 24 (replicate 8 0) ∷ []) n9
 unfolding bytes.word bytes.put zero.zeros
 t9 = (refl, refl)
 
-t10 : Turns header choose n9 (items.Made (entries.Look 0 0 0 zero_sector) ∷ []) n10
+t10 : Turns header choose n9 (items.Store SF2 I 16 (1 ∷ []) ∷ items.Made (entries.Accept 0 0) ∷ []) n10
 unfolding bytes.word bytes.put zero.zeros
 t10 = (refl, refl)
 
-t11 : Turns header choose n10 (items.Store T2 M 69632 zero_sector ∷ []) n11
+t11 : Turns header choose n10 (items.Made (entries.Look 0 0 0 zero_sector) ∷ []) n11
 unfolding bytes.word bytes.put zero.zeros
 t11 = (refl, refl)
 
-t12 : Turns header choose n11 (items.Store T5 M 65552 (0 ∷ []) ∷ []) n12
+t12 : Turns header choose n11 (items.Store T2 M 69632 zero_sector ∷ []) n12
 unfolding bytes.word bytes.put zero.zeros
 t12 = (refl, refl)
 
-t13 : Turns header choose n12 (items.Store SP1 M 8196 (0 ∷ 0 ∷ 0 ∷ 0 ∷ []) ∷ []) n13
+t13 : Turns header choose n12 (items.Store T5 M 65552 (0 ∷ []) ∷ []) n13
 unfolding bytes.word bytes.put zero.zeros
 t13 = (refl, refl)
 
-t14 : Turns header choose n13 (items.Store SP2 M 8200 (1 ∷ 2 ∷ 0 ∷ 0 ∷ []) ∷ []) n14
+t14 : Turns header choose n13 (items.Store SP1 M 8196 (0 ∷ 0 ∷ 0 ∷ 0 ∷ []) ∷ []) n14
 unfolding bytes.word bytes.put zero.zeros
 t14 = (refl, refl)
 
-t15 : Turns header choose n14 (items.Store SP5 M 8194 (1 ∷ 0 ∷ []) ∷ items.Made (entries.Publish 0 (answer 0 zero_sector ∷ [])) ∷ []) n15
+t15 : Turns header choose n14 (items.Store SP2 M 8200 (1 ∷ 2 ∷ 0 ∷ 0 ∷ []) ∷ []) n15
 unfolding bytes.word bytes.put zero.zeros
 t15 = (refl, refl)
 
+t16 : Turns header choose n15 (items.Store SP3 I 22 (0 ∷ 0 ∷ []) ∷ []) n16
+unfolding bytes.word bytes.put zero.zeros
+t16 = (refl, refl)
+
+t17 : Turns header choose n16 (items.Store SP4 I 12 (0 ∷ 0 ∷ []) ∷ []) n17
+unfolding bytes.word bytes.put zero.zeros
+t17 = (refl, refl)
+
+t18 : Turns header choose n17 (items.Store SP5 M 8194 (1 ∷ 0 ∷ []) ∷ items.Made (entries.Publish 0 (answer 0 zero_sector ∷ [])) ∷ []) n18
+unfolding bytes.word bytes.put zero.zeros
+t18 = (refl, refl)
+
+t19 : Turns header choose n18 (items.Store SP6 I 16 (0 ∷ []) ∷ []) n19
+unfolding bytes.word bytes.put zero.zeros
+t19 = (refl, refl)
+
+t20 : Turns header choose n19 (items.Store SP7 I 14 (1 ∷ 0 ∷ []) ∷ []) n20
+unfolding bytes.word bytes.put zero.zeros
+t20 = (refl, refl)
+
+t21 : Turns header choose n20 (items.Bell 0 ∷ []) n21
+unfolding bytes.word bytes.put zero.zeros
+t21 = (refl, refl)
+
 -- all of them
-all_turns : played read_served m5 ≡ turns 15 choose header 0 m4
+all_turns : played read_served m5 ≡ turns 21 choose header 0 m4
 all_turns =
-    turn_first header choose 14 m4 n1 n15 (items.Store SI1 I 0 (replicate 8 0) ∷ []) _ t1 (
-    turn_first header choose 13 n1 n2 n15 (items.Store SI2 I 16 (0 ∷ []) ∷ []) _ t2 (
-    turn_first header choose 12 n2 n3 n15 (items.Store SI2 I 32 (0 ∷ []) ∷ []) _ t3 (
-    turn_first header choose 11 n3 n4 n15 (items.Store SI2 I 48 (0 ∷ []) ∷ []) _ t4 (
-    turn_first header choose 10 n4 n5 n15 (items.Store SI2 I 64 (0 ∷ []) ∷ []) _ t5 (
-    turn_first header choose 9 n5 n6 n15 (items.Store SI3 I 8 (1 ∷ 0 ∷ 4 ∷ 0 ∷ 0 ∷ 0 ∷ 0 ∷ 0 ∷ []) ∷ []) _ t6 (
-    turn_first header choose 8 n6 n7 n15 (items.Bell 0 ∷ []) _ t7 (
-    turn_first header choose 7 n7 n8 n15 (items.Made (entries.Start 0 []) ∷ []) _ t8 (
-    turn_first header choose 6 n8 n9 n15 (items.Made (entries.Accept 0 0) ∷ []) _ t9 (
-    turn_first header choose 5 n9 n10 n15 (items.Made (entries.Look 0 0 0 zero_sector) ∷ []) _ t10 (
-    turn_first header choose 4 n10 n11 n15 (items.Store T2 M 69632 zero_sector ∷ []) _ t11 (
-    turn_first header choose 3 n11 n12 n15 (items.Store T5 M 65552 (0 ∷ []) ∷ []) _ t12 (
-    turn_first header choose 2 n12 n13 n15 (items.Store SP1 M 8196 (0 ∷ 0 ∷ 0 ∷ 0 ∷ []) ∷ []) _ t13 (
-    turn_first header choose 1 n13 n14 n15 (items.Store SP2 M 8200 (1 ∷ 2 ∷ 0 ∷ 0 ∷ []) ∷ []) _ t14 (
-    turn_first header choose 0 n14 n15 n15 (items.Store SP5 M 8194 (1 ∷ 0 ∷ []) ∷ items.Made (entries.Publish 0 (answer 0 zero_sector ∷ [])) ∷ []) _ t15 refl))))))))))))))
+    turn_first header choose 20 m4 n1 n21 (items.Store SI1 I 0 (replicate 8 0) ∷ []) _ t1 (
+    turn_first header choose 19 n1 n2 n21 (items.Store SI2 I 16 (0 ∷ []) ∷ []) _ t2 (
+    turn_first header choose 18 n2 n3 n21 (items.Store SI2 I 32 (0 ∷ []) ∷ []) _ t3 (
+    turn_first header choose 17 n3 n4 n21 (items.Store SI2 I 48 (0 ∷ []) ∷ []) _ t4 (
+    turn_first header choose 16 n4 n5 n21 (items.Store SI2 I 64 (0 ∷ []) ∷ []) _ t5 (
+    turn_first header choose 15 n5 n6 n21 (items.Store SI3 I 8 (1 ∷ 0 ∷ 4 ∷ 0 ∷ 0 ∷ 0 ∷ 0 ∷ 0 ∷ []) ∷ []) _ t6 (
+    turn_first header choose 14 n6 n7 n21 (items.Bell 0 ∷ []) _ t7 (
+    turn_first header choose 13 n7 n8 n21 (items.Made (entries.Start 0 []) ∷ []) _ t8 (
+    turn_first header choose 12 n8 n9 n21 (items.Store SF1 I 24 (replicate 8 0) ∷ []) _ t9 (
+    turn_first header choose 11 n9 n10 n21 (items.Store SF2 I 16 (1 ∷ []) ∷ items.Made (entries.Accept 0 0) ∷ []) _ t10 (
+    turn_first header choose 10 n10 n11 n21 (items.Made (entries.Look 0 0 0 zero_sector) ∷ []) _ t11 (
+    turn_first header choose 9 n11 n12 n21 (items.Store T2 M 69632 zero_sector ∷ []) _ t12 (
+    turn_first header choose 8 n12 n13 n21 (items.Store T5 M 65552 (0 ∷ []) ∷ []) _ t13 (
+    turn_first header choose 7 n13 n14 n21 (items.Store SP1 M 8196 (0 ∷ 0 ∷ 0 ∷ 0 ∷ []) ∷ []) _ t14 (
+    turn_first header choose 6 n14 n15 n21 (items.Store SP2 M 8200 (1 ∷ 2 ∷ 0 ∷ 0 ∷ []) ∷ []) _ t15 (
+    turn_first header choose 5 n15 n16 n21 (items.Store SP3 I 22 (0 ∷ 0 ∷ []) ∷ []) _ t16 (
+    turn_first header choose 4 n16 n17 n21 (items.Store SP4 I 12 (0 ∷ 0 ∷ []) ∷ []) _ t17 (
+    turn_first header choose 3 n17 n18 n21 (items.Store SP5 M 8194 (1 ∷ 0 ∷ []) ∷ items.Made (entries.Publish 0 (answer 0 zero_sector ∷ [])) ∷ []) _ t18 (
+    turn_first header choose 2 n18 n19 n21 (items.Store SP6 I 16 (0 ∷ []) ∷ []) _ t19 (
+    turn_first header choose 1 n19 n20 n21 (items.Store SP7 I 14 (1 ∷ 0 ∷ []) ∷ []) _ t20 (
+    turn_first header choose 0 n20 n21 n21 (items.Bell 0 ∷ []) _ t21 refl))))))))))))))))))))
 
 serves : Plays header m4 (events.Drain 0) read_served m5
 unfolding bytes.word bytes.put zero.zeros
-serves = inr (t1.0, record { count = 15; made = all_turns; ends = refl })
+serves = inr (t1.0, record { count = 21; made = all_turns; ends = refl })
 
 collects : Plays header m5 (events.Collect 0) (items.Made (entries.Collect 0 0) ∷ []) m6
 unfolding bytes.word bytes.put zero.zeros
@@ -195,11 +244,42 @@ collects = refl
 pub is_run : Run (schedule_of read) read_records
 is_run = (refl, (m1, boots, (refl, (m2, joins, (refl, (m3, takes, (refl, (m4, offers, (refl, (m5, serves, (refl, (m6, collects, tt))))))))))))
 
--- there is one queue
-at_queue_0 : (s : Scene) → Tracks header 0 s → EveryTracks header s
-at_queue_0 s tracks zero below = tracks
-at_queue_0 s tracks (suc q) below = grind arith
-
 pub is_tracked : TracksAlways header read_records
 unfolding bytes.word bytes.put zero.zeros
-is_tracked = (tt, (tt, (tt, ((inr (at_queue_0 _ (record { sees = refl; waits = refl })), (inr (at_queue_0 _ (record { sees = refl; waits = refl })), (inr (at_queue_0 _ (record { sees = refl; waits = refl })), (inr (at_queue_0 _ (record { sees = refl; waits = refl })), (inr (at_queue_0 _ (record { sees = refl; waits = refl })), (inr (at_queue_0 _ (record { sees = refl; waits = refl })), (inl tt, (inr (at_queue_0 _ (record { sees = refl; waits = refl })), tt)))))))), ((inr (at_queue_0 _ (record { sees = refl; waits = refl })), (inr (at_queue_0 _ (record { sees = refl; waits = refl })), (inr (at_queue_0 _ (record { sees = refl; waits = refl })), (inr (at_queue_0 _ (record { sees = refl; waits = refl })), (inr (at_queue_0 _ (record { sees = refl; waits = refl })), (inr (at_queue_0 _ (record { sees = refl; waits = refl })), (inr (at_queue_0 _ (record { sees = refl; waits = refl })), (inr (at_queue_0 _ (record { sees = refl; waits = refl })), (inr (at_queue_0 _ (record { sees = refl; waits = refl })), (inr (at_queue_0 _ (record { sees = refl; waits = refl })), (inr (at_queue_0 _ (record { sees = refl; waits = refl })), (inr (at_queue_0 _ (record { sees = refl; waits = refl })), (inr (at_queue_0 _ (record { sees = refl; waits = refl })), (inr (at_queue_0 _ (record { sees = refl; waits = refl })), (inl tt, (inr (at_queue_0 _ (record { sees = refl; waits = refl })), tt)))))))))))))))), ((inr (at_queue_0 _ (record { sees = refl; waits = refl })), tt), tt))))))
+is_tracked =
+    (tt, (tt, (tt, (
+    -- the offer
+    (inr (at_queue_0 _ (record { reads = record { undamaged = undamaged _ refl; heads = refl }; sees = refl; waits = refl })),
+    (inr (at_queue_0 _ (record { reads = record { undamaged = undamaged _ refl; heads = refl }; sees = refl; waits = refl })),
+    (inr (at_queue_0 _ (record { reads = record { undamaged = undamaged _ refl; heads = refl }; sees = refl; waits = refl })),
+    (inr (at_queue_0 _ (record { reads = record { undamaged = undamaged _ refl; heads = refl }; sees = refl; waits = refl })),
+    (inr (at_queue_0 _ (record { reads = record { undamaged = undamaged _ refl; heads = refl }; sees = refl; waits = refl })),
+    (inr (at_queue_0 _ (record { reads = record { undamaged = undamaged _ refl; heads = refl }; sees = refl; waits = refl })),
+    (inl tt,
+    (inr (at_queue_0 _ (record { reads = record { undamaged = undamaged _ refl; heads = refl }; sees = refl; waits = refl })), tt)))))))), (
+    -- the drain
+    (inr (at_queue_0 _ (record { reads = record { undamaged = undamaged _ refl; heads = refl }; sees = refl; waits = refl })),
+    (inr (at_queue_0 _ (record { reads = record { undamaged = undamaged _ refl; heads = refl }; sees = refl; waits = refl })),
+    (inr (at_queue_0 _ (record { reads = record { undamaged = undamaged _ refl; heads = refl }; sees = refl; waits = refl })),
+    (inr (at_queue_0 _ (record { reads = record { undamaged = undamaged _ refl; heads = refl }; sees = refl; waits = refl })),
+    (inr (at_queue_0 _ (record { reads = record { undamaged = undamaged _ refl; heads = refl }; sees = refl; waits = refl })),
+    (inr (at_queue_0 _ (record { reads = record { undamaged = undamaged _ refl; heads = refl }; sees = refl; waits = refl })),
+    (inr (at_queue_0 _ (record { reads = record { undamaged = undamaged _ refl; heads = refl }; sees = refl; waits = refl })),
+    (inr (at_queue_0 _ (record { reads = record { undamaged = undamaged _ refl; heads = refl }; sees = refl; waits = refl })),
+    (inr (at_queue_0 _ (record { reads = record { undamaged = undamaged _ refl; heads = refl }; sees = refl; waits = refl })),
+    (inl tt,
+    (inr (at_queue_0 _ (record { reads = record { undamaged = undamaged _ refl; heads = refl }; sees = refl; waits = refl })),
+    (inr (at_queue_0 _ (record { reads = record { undamaged = undamaged _ refl; heads = refl }; sees = refl; waits = refl })),
+    (inr (at_queue_0 _ (record { reads = record { undamaged = undamaged _ refl; heads = refl }; sees = refl; waits = refl })),
+    (inr (at_queue_0 _ (record { reads = record { undamaged = undamaged _ refl; heads = refl }; sees = refl; waits = refl })),
+    (inr (at_queue_0 _ (record { reads = record { undamaged = undamaged _ refl; heads = refl }; sees = refl; waits = refl })),
+    (inr (at_queue_0 _ (record { reads = record { undamaged = undamaged _ refl; heads = refl }; sees = refl; waits = refl })),
+    (inr (at_queue_0 _ (record { reads = record { undamaged = undamaged _ refl; heads = refl }; sees = refl; waits = refl })),
+    (inr (at_queue_0 _ (record { reads = record { undamaged = undamaged _ refl; heads = refl }; sees = refl; waits = refl })),
+    (inl tt,
+    (inr (at_queue_0 _ (record { reads = record { undamaged = undamaged _ refl; heads = refl }; sees = refl; waits = refl })),
+    (inr (at_queue_0 _ (record { reads = record { undamaged = undamaged _ refl; heads = refl }; sees = refl; waits = refl })),
+    (inr (at_queue_0 _ (record { reads = record { undamaged = undamaged _ refl; heads = refl }; sees = refl; waits = refl })),
+    (inr (at_queue_0 _ (record { reads = record { undamaged = undamaged _ refl; heads = refl }; sees = refl; waits = refl })), tt))))))))))))))))))))))), (
+    -- the collection
+    (inr (at_queue_0 _ (record { reads = record { undamaged = undamaged _ refl; heads = refl }; sees = refl; waits = refl })), tt), tt))))))

@@ -12,10 +12,10 @@ use Rattle.vub_run.specs.Moments.{Moment}
 use Rattle.vub_run.specs.Run.{Played, played, then_played, one_turn, turns, is_due}
 
 -- the moment after a turn: memory and history, and the lane of queue 0
-abbrev pub turned_to : Bytes → List Entry → Phase → List ℕ → List ℕ → (ℕ → ℕ) → Moment → Moment
-turned_to memory past phase batch completed made m = record m {
+abbrev pub turned_to : Bytes → List Entry → Phase → ℕ → List ℕ → List ℕ → (ℕ → ℕ) → Moment → Moment
+turned_to memory past phase counter batch completed made m = record m {
   scene = record m.scene { memory = memory; past = past };
-  lanes = with_at m.lanes 0 (record { driver = (m.lanes 0).driver; attached = true; bell = true; phase = phase; plan = New; batch = batch; completed = completed; made = made });
+  lanes = with_at m.lanes 0 (record { driver = (m.lanes 0).driver; attached = true; bell = true; phase = phase; plan = New; counter = counter; batch = batch; completed = completed; made = made });
 }
 
 -- the turn that is chosen is due, has these items, and leads there

@@ -6,7 +6,7 @@ use Rattle.vub_base.specs.declared.header.CacheMode.TheVariants.{Back}
 use Rattle.vub_base.specs.declared.request.Ask.{Ask}
 use Rattle.vub_base.specs.declared.request.Ask.TheVariants as asks
 use Rattle.vub_base.specs.declared.request.Shape.TheVariants.{Direct}
-use Rattle.vub_base.specs.declared.store.Tag.TheVariants.{G, T2, T5, SI1, SI2, SI3, SP1, SP2, SP5}
+use Rattle.vub_base.specs.declared.store.Tag.TheVariants.{G, T2, T5, SI1, SI2, SI3, SF1, SF2, SP1, SP2, SP3, SP4, SP5, SP6, SP7}
 use Rattle.vub_base.specs.declared.store.Area.TheVariants.{M, I}
 use Rattle.vub_device.specs.declared.entry.Asked.TheVariants as requests
 use Rattle.vub_device.specs.declared.entry.Answered.{Answered}
@@ -72,17 +72,35 @@ started =
     ∷ items.Made (entries.Start 0 [])
     ∷ []
 
+-- a fetch: the counter of the entry, and that it is in flight
+abbrev pub fetched : List Item
+fetched =
+    items.Store SF1 I 24 (replicate 8 0)
+    ∷ items.Store SF2 I 16 (1 ∷ [])
+    ∷ items.Made (entries.Accept 0 0)
+    ∷ []
+
+-- a publication: the element with this length, the link and the head of the batch, used.idx, the entry, used_idx, and a bell
+abbrev pub published : ℕ → List ℕ → List Item
+published written read_bytes =
+    items.Store SP1 M 8196 (0 ∷ 0 ∷ 0 ∷ 0 ∷ [])
+    ∷ items.Store SP2 M 8200 (1 ∷ written ∷ 0 ∷ 0 ∷ [])
+    ∷ items.Store SP3 I 22 (0 ∷ 0 ∷ [])
+    ∷ items.Store SP4 I 12 (0 ∷ 0 ∷ [])
+    ∷ items.Store SP5 M 8194 (1 ∷ 0 ∷ [])
+    ∷ items.Made (entries.Publish 0 (answer 0 read_bytes ∷ []))
+    ∷ items.Store SP6 I 16 (0 ∷ [])
+    ∷ items.Store SP7 I 14 (1 ∷ 0 ∷ [])
+    ∷ items.Bell 0
+    ∷ []
+
 abbrev pub write_served : List Item
 write_served =
     started
-    ++ items.Made (entries.Accept 0 0)
-    ∷ items.Made (entries.Act 0 0 0 sector)
+    ++ (fetched
+    ++ items.Made (entries.Act 0 0 0 sector)
     ∷ items.Store T5 M 65552 (0 ∷ [])
-    ∷ items.Store SP1 M 8196 (0 ∷ 0 ∷ 0 ∷ 0 ∷ [])
-    ∷ items.Store SP2 M 8200 (1 ∷ 0 ∷ 0 ∷ 0 ∷ [])
-    ∷ items.Store SP5 M 8194 (1 ∷ 0 ∷ [])
-    ∷ items.Made (entries.Publish 0 (answer 0 [] ∷ []))
-    ∷ []
+    ∷ published 0 [])
 
 abbrev pub read_offered : List Item
 read_offered =
@@ -97,15 +115,11 @@ read_offered =
 abbrev pub read_served : List Item
 read_served =
     started
-    ++ items.Made (entries.Accept 0 0)
-    ∷ items.Made (entries.Look 0 0 0 zero_sector)
+    ++ (fetched
+    ++ items.Made (entries.Look 0 0 0 zero_sector)
     ∷ items.Store T2 M 69632 zero_sector
     ∷ items.Store T5 M 65552 (0 ∷ [])
-    ∷ items.Store SP1 M 8196 (0 ∷ 0 ∷ 0 ∷ 0 ∷ [])
-    ∷ items.Store SP2 M 8200 (1 ∷ 2 ∷ 0 ∷ 0 ∷ [])
-    ∷ items.Store SP5 M 8194 (1 ∷ 0 ∷ [])
-    ∷ items.Made (entries.Publish 0 (answer 0 zero_sector ∷ []))
-    ∷ []
+    ∷ published 2 zero_sector)
 
 -- a life, the request, its stores, a drain, and a collection
 abbrev pub events_of : Ask → List Event
