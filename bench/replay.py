@@ -11,7 +11,7 @@ PROGRAM is the built program, crates/vublk/out/vublk by default. It replays, on 
   steps    the same batches, but each step of the device is an event of its own
 
 Each time the output goes to a file, and `sha256sum` runs over that file, each five times in turn and on
-one processor; the best time of each counts. Prints both, their ratio, which may be at most 2, and how much memory the
+one processor; the best time of each counts. Prints both, their ratio, which may be at most 2.5, and how much memory the
 program took at most beyond the input, which may be 200 MB. Ends with status 1 where one is more.
 
 Where a second program OTHER is given, it runs in the same turns on each schedule that it accepts, and
@@ -28,7 +28,7 @@ import time
 ROOT = os.path.dirname(os.path.dirname(os.path.abspath(__file__)))
 LIMIT = 16_777_216
 RUNS = 5
-MOST_RATIO = 2.0
+MOST_RATIO = 2.5
 MOST_MEMORY = 200_000_000
 CAPACITY = 4096
 BATCH = 32
