@@ -246,40 +246,112 @@ is_run = (refl, (m1, boots, (refl, (m2, joins, (refl, (m3, takes, (refl, (m4, of
 
 pub is_tracked : TracksAlways header read_records
 unfolding bytes.word bytes.put zero.zeros
-is_tracked =
-    (tt, (tt, (tt, (
-    -- the offer
-    (inr (at_queue_0 _ (record { reads = record { undamaged = undamaged _ refl; heads = refl }; sees = refl; waits = refl })),
-    (inr (at_queue_0 _ (record { reads = record { undamaged = undamaged _ refl; heads = refl }; sees = refl; waits = refl })),
-    (inr (at_queue_0 _ (record { reads = record { undamaged = undamaged _ refl; heads = refl }; sees = refl; waits = refl })),
-    (inr (at_queue_0 _ (record { reads = record { undamaged = undamaged _ refl; heads = refl }; sees = refl; waits = refl })),
-    (inr (at_queue_0 _ (record { reads = record { undamaged = undamaged _ refl; heads = refl }; sees = refl; waits = refl })),
-    (inr (at_queue_0 _ (record { reads = record { undamaged = undamaged _ refl; heads = refl }; sees = refl; waits = refl })),
-    (inl tt,
-    (inr (at_queue_0 _ (record { reads = record { undamaged = undamaged _ refl; heads = refl }; sees = refl; waits = refl })), tt)))))))), (
-    -- the drain
-    (inr (at_queue_0 _ (record { reads = record { undamaged = undamaged _ refl; heads = refl }; sees = refl; waits = refl })),
-    (inr (at_queue_0 _ (record { reads = record { undamaged = undamaged _ refl; heads = refl }; sees = refl; waits = refl })),
-    (inr (at_queue_0 _ (record { reads = record { undamaged = undamaged _ refl; heads = refl }; sees = refl; waits = refl })),
-    (inr (at_queue_0 _ (record { reads = record { undamaged = undamaged _ refl; heads = refl }; sees = refl; waits = refl })),
-    (inr (at_queue_0 _ (record { reads = record { undamaged = undamaged _ refl; heads = refl }; sees = refl; waits = refl })),
-    (inr (at_queue_0 _ (record { reads = record { undamaged = undamaged _ refl; heads = refl }; sees = refl; waits = refl })),
-    (inr (at_queue_0 _ (record { reads = record { undamaged = undamaged _ refl; heads = refl }; sees = refl; waits = refl })),
-    (inr (at_queue_0 _ (record { reads = record { undamaged = undamaged _ refl; heads = refl }; sees = refl; waits = refl })),
-    (inr (at_queue_0 _ (record { reads = record { undamaged = undamaged _ refl; heads = refl }; sees = refl; waits = refl })),
-    (inl tt,
-    (inr (at_queue_0 _ (record { reads = record { undamaged = undamaged _ refl; heads = refl }; sees = refl; waits = refl })),
-    (inr (at_queue_0 _ (record { reads = record { undamaged = undamaged _ refl; heads = refl }; sees = refl; waits = refl })),
-    (inr (at_queue_0 _ (record { reads = record { undamaged = undamaged _ refl; heads = refl }; sees = refl; waits = refl })),
-    (inr (at_queue_0 _ (record { reads = record { undamaged = undamaged _ refl; heads = refl }; sees = refl; waits = refl })),
-    (inr (at_queue_0 _ (record { reads = record { undamaged = undamaged _ refl; heads = refl }; sees = refl; waits = refl })),
-    (inr (at_queue_0 _ (record { reads = record { undamaged = undamaged _ refl; heads = refl }; sees = refl; waits = refl })),
-    (inr (at_queue_0 _ (record { reads = record { undamaged = undamaged _ refl; heads = refl }; sees = refl; waits = refl })),
-    (inr (at_queue_0 _ (record { reads = record { undamaged = undamaged _ refl; heads = refl }; sees = refl; waits = refl })),
-    (inl tt,
-    (inr (at_queue_0 _ (record { reads = record { undamaged = undamaged _ refl; heads = refl }; sees = refl; waits = refl })),
-    (inr (at_queue_0 _ (record { reads = record { undamaged = undamaged _ refl; heads = refl }; sees = refl; waits = refl })),
-    (inr (at_queue_0 _ (record { reads = record { undamaged = undamaged _ refl; heads = refl }; sees = refl; waits = refl })),
-    (inr (at_queue_0 _ (record { reads = record { undamaged = undamaged _ refl; heads = refl }; sees = refl; waits = refl })), tt))))))))))))))))))))))), (
-    -- the collection
-    (inr (at_queue_0 _ (record { reads = record { undamaged = undamaged _ refl; heads = refl }; sees = refl; waits = refl })), tt), tt))))))
+is_tracked = (
+  tt,
+  (
+    tt,
+    (
+      tt,
+      (
+        -- the offer
+        (
+          inr (at_queue_0 _ (record { reads = record { undamaged = undamaged _ refl; heads = refl }; sees = refl; waits = refl })),
+          (
+            inr (at_queue_0 _ (record { reads = record { undamaged = undamaged _ refl; heads = refl }; sees = refl; waits = refl })),
+            (
+              inr (at_queue_0 _ (record { reads = record { undamaged = undamaged _ refl; heads = refl }; sees = refl; waits = refl })),
+              (
+                inr (at_queue_0 _ (record { reads = record { undamaged = undamaged _ refl; heads = refl }; sees = refl; waits = refl })),
+                (
+                  inr (at_queue_0 _ (record { reads = record { undamaged = undamaged _ refl; heads = refl }; sees = refl; waits = refl })),
+                  (
+                    inr (at_queue_0 _ (record { reads = record { undamaged = undamaged _ refl; heads = refl }; sees = refl; waits = refl })),
+                    (
+                      inl tt,
+                      (inr (at_queue_0 _ (record { reads = record { undamaged = undamaged _ refl; heads = refl }; sees = refl; waits = refl })), tt),
+                    ),
+                  ),
+                ),
+              ),
+            ),
+          ),
+        ),
+        (
+          -- the drain
+          (
+            inr (at_queue_0 _ (record { reads = record { undamaged = undamaged _ refl; heads = refl }; sees = refl; waits = refl })),
+            (
+              inr (at_queue_0 _ (record { reads = record { undamaged = undamaged _ refl; heads = refl }; sees = refl; waits = refl })),
+              (
+                inr (at_queue_0 _ (record { reads = record { undamaged = undamaged _ refl; heads = refl }; sees = refl; waits = refl })),
+                (
+                  inr (at_queue_0 _ (record { reads = record { undamaged = undamaged _ refl; heads = refl }; sees = refl; waits = refl })),
+                  (
+                    inr (at_queue_0 _ (record { reads = record { undamaged = undamaged _ refl; heads = refl }; sees = refl; waits = refl })),
+                    (
+                      inr (at_queue_0 _ (record { reads = record { undamaged = undamaged _ refl; heads = refl }; sees = refl; waits = refl })),
+                      (
+                        inr (at_queue_0 _ (record { reads = record { undamaged = undamaged _ refl; heads = refl }; sees = refl; waits = refl })),
+                        (
+                          inr (at_queue_0 _ (record { reads = record { undamaged = undamaged _ refl; heads = refl }; sees = refl; waits = refl })),
+                          (
+                            inr (at_queue_0 _ (record { reads = record { undamaged = undamaged _ refl; heads = refl }; sees = refl; waits = refl })),
+                            (
+                              inl tt,
+                              (
+                                inr (at_queue_0 _ (record { reads = record { undamaged = undamaged _ refl; heads = refl }; sees = refl; waits = refl })),
+                                (
+                                  inr (at_queue_0 _ (record { reads = record { undamaged = undamaged _ refl; heads = refl }; sees = refl; waits = refl })),
+                                  (
+                                    inr (at_queue_0 _ (record { reads = record { undamaged = undamaged _ refl; heads = refl }; sees = refl; waits = refl })),
+                                    (
+                                      inr (at_queue_0 _ (record { reads = record { undamaged = undamaged _ refl; heads = refl }; sees = refl; waits = refl })),
+                                      (
+                                        inr (at_queue_0 _ (record { reads = record { undamaged = undamaged _ refl; heads = refl }; sees = refl; waits = refl })),
+                                        (
+                                          inr (at_queue_0 _ (record { reads = record { undamaged = undamaged _ refl; heads = refl }; sees = refl; waits = refl })),
+                                          (
+                                            inr (at_queue_0 _ (record { reads = record { undamaged = undamaged _ refl; heads = refl }; sees = refl; waits = refl })),
+                                            (
+                                              inr (at_queue_0 _ (record { reads = record { undamaged = undamaged _ refl; heads = refl }; sees = refl; waits = refl })),
+                                              (
+                                                inl tt,
+                                                (
+                                                  inr (at_queue_0 _ (record { reads = record { undamaged = undamaged _ refl; heads = refl }; sees = refl; waits = refl })),
+                                                  (
+                                                    inr (at_queue_0 _ (record { reads = record { undamaged = undamaged _ refl; heads = refl }; sees = refl; waits = refl })),
+                                                    (
+                                                      inr (at_queue_0 _ (record { reads = record { undamaged = undamaged _ refl; heads = refl }; sees = refl; waits = refl })),
+                                                      (inr (at_queue_0 _ (record { reads = record { undamaged = undamaged _ refl; heads = refl }; sees = refl; waits = refl })), tt),
+                                                    ),
+                                                  ),
+                                                ),
+                                              ),
+                                            ),
+                                          ),
+                                        ),
+                                      ),
+                                    ),
+                                  ),
+                                ),
+                              ),
+                            ),
+                          ),
+                        ),
+                      ),
+                    ),
+                  ),
+                ),
+              ),
+            ),
+          ),
+          (
+            -- the collection
+            (inr (at_queue_0 _ (record { reads = record { undamaged = undamaged _ refl; heads = refl }; sees = refl; waits = refl })), tt),
+            tt,
+          ),
+        ),
+      ),
+    ),
+  ),
+)
