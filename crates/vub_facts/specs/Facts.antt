@@ -77,8 +77,8 @@ head_next heads w = w.ring.heads (w.ring.used + length heads)
 
 -- ---- the facts
 
--- a fetch of which so many steps were made: something waits at the avail position, and until its counter is stored its head
--- is a free one of n and a counter is left
+-- a fetch of which so many steps were made: something waits at the avail position, whose head is a free one of n, and until
+-- its counter is stored a counter is left
 pub record InFetching (n : ℕ) (heads : List ℕ) (counter : ℕ) (batch : List (ℕ × ℕ)) (done : ℕ) (w : Words) : Type 0 where
   pub none : batch ≡ []
   pub waits : 0 < ahead w.ring.avail (w.ring.used + length heads)

@@ -8,7 +8,7 @@ use Rattle.vub_facts.specs.Facts.{heads_in, without, Words}
 
 -- the state of a queue, as far as the open heads are concerned
 pub record State : Type 0 where
-  -- head and used length of each request that is being published
+  -- head and used length of each request of a batch that isn't shown yet
   pub batch : List (ℕ × ℕ)
   -- the index of the avail entry that is fetched next
   pub avail : ℕ

@@ -1,4 +1,4 @@
--- Which turns of the queue are due at a moment of a run, and what a fetch leaves.
+-- Which turns of the queue are due at a moment of a run.
 use Rattle.std.proofs.Common.{◌≡◌, ◌<◌, ℕ, ◌+◌, ◌*◌, ◌%◌, Bool, true, false, List, [], ◌∷◌, length, refl, ap, sym, ◌∙◌, subst, inl, inr, arith, filter, not, ◌++◌}
 use Rattle.std.specs.Prelude.{Option, Some, slice_index, nat_lt, ⊤}
 use Rattle.std.proofs.lemmas.Bool.Decides.{nat_tests}

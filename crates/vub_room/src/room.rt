@@ -107,7 +107,7 @@ impl Room {
     }
 
     /// Room for the items of so many turns, or of all that can follow one another where so many
-    /// requests are offered and not published: at most 27 for each of these, and so many besides. A turn
+    /// requests are offered and not collected: at most 27 for each of these, and so many besides. A turn
     /// has two items at most and one list of bytes; each answer takes a list more.
     pub fn for_turns(
         alloc: Global,

@@ -12,7 +12,7 @@ use vub_report::{Item, Items};
 const LIST: usize = 4096;
 
 /// The most lists that are spare: as many as the turns of one event can need (`Room::for_turns`),
-/// with 64 requests that aren't published and 71 turns besides.
+/// with 64 requests that aren't collected and 71 turns besides.
 pub const MOST_LISTS: usize = 1863;
 
 /// Vectors that no record holds. Contracts see nothing of it.

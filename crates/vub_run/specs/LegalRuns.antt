@@ -6,7 +6,7 @@ use Rattle.vub_device.specs.declared.entry.Entry.{Entry}
 use Rattle.vub_device.specs.Legal.{Legal, after}
 use Rattle.vub_device.specs.Past.{accepted, offers, open_numbers}
 use Rattle.vub_schedule.specs.declared.types.Event.{Event}
-use Rattle.vub_schedule.specs.declared.types.Event.TheVariants.{Boot, Join, Drain}
+use Rattle.vub_schedule.specs.declared.types.Event.TheVariants.{Boot, Join, Drain, Kill}
 use Rattle.vub_report.specs.declared.items.Item.{Item}
 use Rattle.vub_report.specs.declared.items.Record.{Record}
 use Rattle.vub_report.specs.Entries.{IsEntry}
@@ -22,11 +22,12 @@ use Rattle.vub_steps.specs.Readiness.{last_counter}
 abbrev pub past_of : List Record → List Entry
 past_of rs = after [] (history_of rs)
 
--- whether the queues are attached after an event with these items: a join that isn't idle attaches them, and with a boot
--- that isn't idle a life begins in which they aren't yet
+-- whether the queues are attached after an event with these items: a join that isn't idle attaches them, with a boot that
+-- isn't idle a life begins in which they aren't yet, and after a kill there is no life
 abbrev pub attached_after : Event → List Item → Bool → Bool
 attached_after Join [] before = true
 attached_after Boot [] before = false
+attached_after Kill is before = false
 attached_after e is before = before
 
 -- and after records
@@ -55,7 +56,7 @@ EveryDrainServes rs = (before : List Record) (r : Record) (later : List Record) 
 
 -- Under this header the records are a run of the events. Their history has none but entries that there are, and is
 -- legal; every queue tracks it after each item, taken together with the entry that it makes; and each drain of an
--- attached queue serves it.
+-- attached queue serves it, while a counter is left.
 pub record IsLegalRun (h : Header1) (es : List Event) (rs : List Record) : Type 0 where
   pub run : RunFrom h (opening h) es rs
   pub entries : AllByRecursion IsEntry (history_of rs)

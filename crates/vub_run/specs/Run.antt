@@ -95,6 +95,14 @@ boot m = if_ready (not m.lives) (played [] (record m { lives = true; joined = fa
 abbrev pub join : Moment → Played
 join m = if_ready (m.lives && not m.joined) (played [] (record m { joined = true; lanes = λ q. attached (m.lanes q) })) m
 
+-- there is no life: nothing is under way on any queue, and memory and history stand
+abbrev pub ended : Moment → Moment
+ended m = record m { lives = false; joined = false; lanes = λ q. fresh (m.lanes q) }
+
+-- a life ends, whatever is under way
+abbrev pub kill : Header1 → Moment → Played
+kill h m = if_ready m.lives (played (items.Made entries.Kill ∷ []) (ended (record m { scene = after_items h (items.Made entries.Kill ∷ []) m.scene }))) m
+
 -- ---- turns
 
 abbrev pub one_turn : Header1 → ℕ → Turn → Moment → Played
@@ -159,6 +167,7 @@ Plays h m (events.Work q place) is next = played is next ≡ single h q (Work pl
 Plays h m (events.Publish q most) is next = played is next ≡ single h q (Publish most) m
 Plays h m (events.Turn q count) is next = played is next ≡ up_to count (any_choice h q) h q m
 Plays h m (events.Drain q) is next = Drains h q m (drain_choice h q (accepted m.scene.past q)) is next
+Plays h m events.Kill is next = played is next ≡ kill h m
 
 -- the records' events are these in order, and each has the items that it has where the ones before lead
 abbrev pub RunFrom : Header1 → Moment → List Event → List Record → Type 0

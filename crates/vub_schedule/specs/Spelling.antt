@@ -87,6 +87,7 @@ event_text (events.Work q j) = codes "work " ++ decimal q ++ codes " " ++ decima
 event_text (events.Publish q m) = codes "publish " ++ decimal q ++ codes " " ++ decimal m
 event_text (events.Turn q k) = codes "turn " ++ decimal q ++ codes " " ++ decimal k
 event_text (events.Drain q) = codes "drain " ++ decimal q
+event_text events.Kill = codes "kill"
 
 unfoldable pub event_line : Event → List ℕ
 event_line e = line (event_text e)
@@ -101,14 +102,14 @@ spelling s = header_line s.header ++ flat_map event_line s.events
 abbrev pub is_size : ℕ → Bool
 is_size n = (n == 2) || (n == 4) || (n == 8) || (n == 16) || (n == 32) || (n == 64)
 
--- one split queue that begins at index 0, and a disk of 1 to 4096 sectors whose writes may be cached
+-- one split queue that begins at any index, and a disk of 1 to 4096 sectors whose writes may be cached
 pub record IsHeader (h : Header1) : Type 0 where
   pub split : h.format ≡ Split
   pub one : h.queues ≡ 1
   pub sized : is_size h.size ≡ true
   pub some : 1 ≤ h.capacity
   pub few : h.capacity ≤ 4096
-  pub begins : h.base ≡ 0
+  pub begins : h.base < 65536
   pub back : h.mode ≡ Back
 
 -- reads and writes of one to eight sectors up to the end of the disk, and flushes
@@ -134,6 +135,7 @@ IsEvent h (events.Work q j) = (q ≡ 0) × (j < 64)
 IsEvent h (events.Publish q m) = (q ≡ 0) × (1 ≤ m) × (m ≤ 64)
 IsEvent h (events.Turn q k) = (q ≡ 0) × (1 ≤ k) × (k < 65536)
 IsEvent h (events.Drain q) = q ≡ 0
+IsEvent h events.Kill = Unit {0}
 
 -- its header and each of its events are of the grammar
 pub record IsSchedule (s : Schedule) : Type 0 where

@@ -33,6 +33,8 @@ pub enum Event {
     Turn(u16, u16),
     /// `drain`: the device serves the queue until nothing waits there.
     Drain(u16),
+    /// `kill`: the life of the device ends at once, whatever it is doing.
+    Kill,
 }
 
 impl Event {
