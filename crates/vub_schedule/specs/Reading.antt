@@ -153,7 +153,8 @@ word_at bytes =
     (decide (tag (codes "drain 0") bytes) (as_event (events.Drain 0))
     (decide (tag (codes "collect 0") bytes) (as_event (events.Collect 0))
     (decide (tag (codes "boot") bytes) (as_event events.Boot)
-    (tag (codes "join") bytes >>= as_event events.Join)))))
+    (decide (tag (codes "join") bytes) (as_event events.Join)
+    (tag (codes "kill") bytes >>= as_event events.Kill))))))
 
 -- an event, up to the end of its line
 unfoldable pub event_text_at : Header1 → List ℕ → Option (Event × List ℕ)

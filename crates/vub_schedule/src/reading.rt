@@ -233,8 +233,11 @@ fn word_at(bytes: &[u8]) -> Option<(Event, &[u8])>
     if let Some(rest) = tag(bytes, b"boot") {
         return Some((Event::Boot, rest));
     }
-    let rest = tag(bytes, b"join")?;
-    Some((Event::Join, rest))
+    if let Some(rest) = tag(bytes, b"join") {
+        return Some((Event::Join, rest));
+    }
+    let rest = tag(bytes, b"kill")?;
+    Some((Event::Kill, rest))
 }
 
 /// An event, up to the end of its line.

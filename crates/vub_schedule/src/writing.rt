@@ -188,6 +188,7 @@ fn put_event_text(out: &mut Vec<u8>, event: &Event) -> Result<(), Memory>
         Event::Publish(queue, most) => put_counted(out, b"publish ", *queue, *most),
         Event::Turn(queue, turns) => put_counted(out, b"turn ", *queue, *turns),
         Event::Drain(queue) => put_on_queue(out, b"drain ", *queue),
+        Event::Kill => put_text(out, b"kill"),
     }
 }
 
