@@ -18,7 +18,7 @@ use Rattle.vub_base.specs.declared.request.Ask.{Ask}
 use Rattle.vub_schedule.specs.declared.types.Event.{Event}
 use Rattle.vub_schedule.specs.declared.types.Event.TheVariants as events
 use Rattle.vub_schedule.specs.Spelling.{line, ask_text, event_text, header_text, header_line, event_line, is_size, IsHeader, IsAsk, IsEvent}
-use Rattle.vub_schedule.specs.Reading.{◌>>=◌, decide, tag, number_at, count_at, ask_at, as_event, with_ask, with_number, asked_at, numbered_at, word_at, event_text_at, event_at, plain_header, header_of, header_at, with_header, back_at, middle_at}
+use Rattle.vub_schedule.specs.Reading.{base_at, capacity_at, ◌>>=◌, decide, tag, number_at, count_at, ask_at, as_event, with_ask, with_number, asked_at, numbered_at, word_at, event_text_at, event_at, plain_header, header_of, header_at, with_header, back_at, middle_at}
 use Rattle.vub_schedule.proofs.Fields.{bind_some, some_is, both, tag_takes, tag_again, number_takes, number_again, count_takes, count_again}
 use Rattle.vub_schedule.proofs.Requests.{decided, ask_takes, ask_again}
 
@@ -80,6 +80,10 @@ join_text : event_text events.Join ≡ codes "join"
 unfolding event_text
 join_text = refl
 
+kill_text : event_text events.Kill ≡ codes "kill"
+unfolding event_text
+kill_text = refl
+
 -- the text of an event, with a newline behind it, is read as that event
 Again : Header1 → Event → List ℕ → Type 0
 Again h e rest = event_text_at h (event_text e ++ 10 ∷ rest) ≡ Some (e, 10 ∷ rest)
@@ -128,6 +132,10 @@ join_0 : (h : Header1) (rest : List ℕ) → Again h events.Join rest
 unfolding Again event_text_at asked_at numbered_at word_at tag
 join_0 h rest = rw join_text refl
 
+kill_0 : (h : Header1) (rest : List ℕ) → Again h events.Kill rest
+unfolding Again event_text_at asked_at numbered_at word_at tag
+kill_0 h rest = rw kill_text refl
+
 -- the queue of an event of the grammar is queue 0
 on_queue : (h : Header1) (event : ℕ → Event) (q : ℕ) (rest : List ℕ) → q ≡ 0 → Again h (event 0) rest → Again h (event q) rest
 on_queue h event q rest zero again = subst (λ (k : ℕ). Again h (event k) rest) (sym zero) again
@@ -145,6 +153,7 @@ text_again h (events.Work q j) rest fits is = on_queue h (λ n. events.Work n j)
 text_again h (events.Publish q m) rest fits is = on_queue h (λ n. events.Publish n m) q rest is.0 (publish_0 h m rest is.1 is.2)
 text_again h (events.Turn q k) rest fits is = on_queue h (λ n. events.Turn n k) q rest is.0 (turn_0 h k rest is.1 is.2)
 text_again h (events.Drain q) rest fits is = on_queue h events.Drain q rest is (drain_0 h rest)
+text_again h events.Kill rest fits is = kill_0 h rest
 
 -- an event that is always the same text
 word_found : (h : Header1) (text bytes after : List ℕ) (e : Event) (x : Event × List ℕ) → event_text e ≡ text → IsEvent h e → tag text bytes ≡ Some after → as_event e after ≡ Some x → Found h bytes x
@@ -191,7 +200,8 @@ word_takes h bytes x =
     or_else h _ bytes _ _ x (λ after t is. word_found h _ bytes after (events.Drain 0) x drain_text refl t is) (
     or_else h _ bytes _ _ x (λ after t is. word_found h _ bytes after (events.Collect 0) x collect_text refl t is) (
     or_else h _ bytes _ _ x (λ after t is. word_found h _ bytes after events.Boot x boot_text tt t is) (
-    λ is. let j = bind_some (tag (codes "join") bytes) (as_event events.Join) x is in word_found h _ bytes j.0 events.Join x join_text tt j.1 j.2)))))
+    or_else h _ bytes _ _ x (λ after t is. word_found h _ bytes after events.Join x join_text tt t is) (
+    λ is. let k = bind_some (tag (codes "kill") bytes) (as_event events.Kill) x is in word_found h _ bytes k.0 events.Kill x kill_text tt k.1 k.2))))))
 
 -- which of two options it was
 which : {A : Type 0} (o other : Option A) (x : A) → option_or o other ≡ Some x → (o ≡ Some x) ⊎ (other ≡ Some x)
@@ -229,26 +239,26 @@ event_takes h bytes e rest fits is =
 
 -- ---- the first line
 
-pub record HeaderIs (size capacity : ℕ) (h : Header1) : Type 0 where
-  pub same : plain_header size capacity ≡ h
+pub record HeaderIs (size capacity base : ℕ) (h : Header1) : Type 0 where
+  pub same : plain_header size capacity base ≡ h
   pub is : IsHeader h
 
-header_is : (size capacity : ℕ) (h : Header1) → header_of size capacity ≡ Some h → capacity < 4097 → HeaderIs size capacity h
+header_is : (size capacity base : ℕ) (h : Header1) → header_of size capacity base ≡ Some h → capacity < 4097 → base < 65536 → HeaderIs size capacity base h
 unfolding header_of
-header_is size capacity h e few =
-    let p = cond_some (is_size size && leb 1 capacity) (plain_header size capacity) h e in
+header_is size capacity base h e few begins =
+    let p = cond_some (is_size size && leb 1 capacity) (plain_header size capacity base) h e in
     let tests = both (is_size size) (leb 1 capacity) p.0 in
-    let good : IsHeader (plain_header size capacity) = record { split = refl; one = refl; sized = tests.0; some = leb-true 1 capacity tests.1; few = omega arith; begins = refl; back = refl } in
-    subst (λ (x : Header1). HeaderIs size capacity x) p.1 (record { same = refl; is = good })
+    let good : IsHeader (plain_header size capacity base) = record { split = refl; one = refl; sized = tests.0; some = leb-true 1 capacity tests.1; few = omega arith; begins = begins; back = refl } in
+    subst (λ (x : Header1). HeaderIs size capacity base x) p.1 (record { same = refl; is = good })
 
-plain : (f : Format) (q n k b : ℕ) (m : CacheMode) → f ≡ Split → q ≡ 1 → b ≡ 0 → m ≡ Back → plain_header n k ≡ record { format = f; queues = q; size = n; capacity = k; base = b; mode = m }
-plain f q n k b m e1 e2 e3 e4 = rw (e1, e2, e3, e4) refl
+plain : (f : Format) (q n k b : ℕ) (m : CacheMode) → f ≡ Split → q ≡ 1 → m ≡ Back → plain_header n k b ≡ record { format = f; queues = q; size = n; capacity = k; base = b; mode = m }
+plain f q n k b m e1 e2 e3 = rw (e1, e2, e3) refl
 
--- a header of the grammar is the plain one of its size and capacity
-is_plain : (h : Header1) → IsHeader h → plain_header h.size h.capacity ≡ h
-is_plain h is = plain h.format h.queues h.size h.capacity h.base h.mode is.split is.one is.begins is.back
+-- a header of the grammar is the plain one of its size, capacity and base
+is_plain : (h : Header1) → IsHeader h → plain_header h.size h.capacity h.base ≡ h
+is_plain h is = plain h.format h.queues h.size h.capacity h.base h.mode is.split is.one is.back
 
-header_known : (h : Header1) → IsHeader h → header_of h.size h.capacity ≡ Some h
+header_known : (h : Header1) → IsHeader h → header_of h.size h.capacity h.base ≡ Some h
 unfolding header_of
 header_known h is = rw (is.sized, le-leb 1 h.capacity is.some) (ap (λ (x : Header1). Some x) (is_plain h is))
 
@@ -258,42 +268,61 @@ size_small n e = grind (arith, nat_tests)
 one_text : decimal 1 ≡ codes "1"
 one_text = decimal_digit 1 (omega arith)
 
-plain_grouped : (n k : ℕ) (rest : List ℕ) → header_line (plain_header n k) ++ rest ≡ codes "vub 1 split 1 " ++ (decimal n ++ (codes " " ++ (decimal k ++ ((codes " 0 back" ++ 10 ∷ []) ++ rest))))
-unfolding header_line header_text
-plain_grouped n k rest = rw (one_text, zero_text) (header_pieces (codes "vub 1 ") (codes "split") (codes " ") (codes "1") (decimal n) (decimal k) (codes "0") (codes "back") (10 ∷ []) rest)
+-- what stands behind the base, behind the capacity and behind the size
+behind_base : List ℕ → List ℕ
+behind_base rest = (codes " back" ++ 10 ∷ []) ++ rest
 
-header_grouped : (h : Header1) (rest : List ℕ) → IsHeader h → header_line h ++ rest ≡ codes "vub 1 split 1 " ++ (decimal h.size ++ (codes " " ++ (decimal h.capacity ++ ((codes " 0 back" ++ 10 ∷ []) ++ rest))))
-header_grouped h rest is = ap (λ (x : Header1). header_line x ++ rest) (sym (is_plain h is)) ∙ plain_grouped h.size h.capacity rest
+behind_capacity : ℕ → List ℕ → List ℕ
+behind_capacity b rest = codes " " ++ (decimal b ++ behind_base rest)
+
+behind_size : ℕ → ℕ → List ℕ → List ℕ
+behind_size k b rest = codes " " ++ (decimal k ++ behind_capacity b rest)
+
+plain_grouped : (n k b : ℕ) (rest : List ℕ) → header_line (plain_header n k b) ++ rest ≡ codes "vub 1 split 1 " ++ (decimal n ++ behind_size k b rest)
+unfolding header_line header_text behind_base behind_capacity behind_size
+plain_grouped n k b rest = rw one_text (header_pieces (codes "vub 1 ") (codes "split") (codes " ") (codes "1") (decimal n) (decimal k) (decimal b) (codes "back") (10 ∷ []) rest)
+
+header_grouped : (h : Header1) (rest : List ℕ) → IsHeader h → header_line h ++ rest ≡ codes "vub 1 split 1 " ++ (decimal h.size ++ behind_size h.capacity h.base rest)
+header_grouped h rest is = ap (λ (x : Header1). header_line x ++ rest) (sym (is_plain h is)) ∙ plain_grouped h.size h.capacity h.base rest
 
 pub header_again : (h : Header1) (rest : List ℕ) → IsHeader h → header_at (header_line h ++ rest) ≡ Some (h, rest)
-unfolding header_at
+unfolding header_at base_at behind_base behind_capacity behind_size
 header_again h rest is =
     ap header_at (header_grouped h rest is) ∙
     rw (
-      tag_again (codes "vub 1 split 1 ") (decimal h.size ++ (codes " " ++ (decimal h.capacity ++ ((codes " 0 back" ++ 10 ∷ []) ++ rest)))),
-      number_again 65 h.size (codes " " ++ (decimal h.capacity ++ ((codes " 0 back" ++ 10 ∷ []) ++ rest))) (lit≤ tt) (size_small h.size is.sized) refl,
-      tag_again (codes " ") (decimal h.capacity ++ ((codes " 0 back" ++ 10 ∷ []) ++ rest)),
-      number_again 4097 h.capacity ((codes " 0 back" ++ 10 ∷ []) ++ rest) (lit≤ tt) (omega (arith, is.few)) refl,
-      tag_again (codes " 0 back" ++ 10 ∷ []) rest,
+      tag_again (codes "vub 1 split 1 ") (decimal h.size ++ behind_size h.capacity h.base rest),
+      number_again 65 h.size (behind_size h.capacity h.base rest) (lit≤ tt) (size_small h.size is.sized) refl,
+      tag_again (codes " ") (decimal h.capacity ++ behind_capacity h.base rest),
+      number_again 4097 h.capacity (behind_capacity h.base rest) (lit≤ tt) (omega (arith, is.few)) refl,
+      tag_again (codes " ") (decimal h.base ++ behind_base rest),
+      number_again 65536 h.base (behind_base rest) (lit≤ tt) is.begins refl,
+      tag_again (codes " back" ++ 10 ∷ []) rest,
       header_known h is,
     ) refl
 
-head_text : (bytes a b c d rest : List ℕ) (s k : ℕ) → bytes ≡ codes "vub 1 split 1 " ++ a → a ≡ decimal s ++ b → b ≡ codes " " ++ c → c ≡ decimal k ++ d → d ≡ (codes " 0 back" ++ 10 ∷ []) ++ rest
-    → bytes ≡ header_line (plain_header s k) ++ rest
-head_text bytes a b c d rest s k e f g i j = rw (e, f, g, i, j) (sym (plain_grouped s k rest))
+-- each of these is the text that is read there, and what follows it
+head_text : (bytes a b c d e f rest : List ℕ) (s k base : ℕ) → bytes ≡ codes "vub 1 split 1 " ++ a → a ≡ decimal s ++ b → b ≡ codes " " ++ c → c ≡ decimal k ++ d → d ≡ codes " " ++ e → e ≡ decimal base ++ f
+    → f ≡ behind_base rest → bytes ≡ header_line (plain_header s k base) ++ rest
+unfolding behind_capacity behind_size
+head_text bytes a b c d e f rest s k base e1 e2 e3 e4 e5 e6 e7 = rw (e1, e2, e3, e4, e5, e6, e7) (sym (plain_grouped s k base rest))
 
 pub header_takes : (bytes : List ℕ) (h : Header1) (rest : List ℕ) → header_at bytes ≡ Some (h, rest) → (bytes ≡ header_line h ++ rest) × IsHeader h
-unfolding header_at
+unfolding header_at base_at behind_base
 header_takes bytes h rest e =
     let a = bind_some (tag (codes "vub 1 split 1 ") bytes) (λ front. number_at 65 front >>= middle_at) (h, rest) e in
     let b = bind_some (number_at 65 a.0) middle_at (h, rest) a.2 in
-    let c = bind_some (tag (codes " ") b.0.1) (λ middle. number_at 4097 middle >>= back_at b.0.0) (h, rest) b.2 in
-    let d = bind_some (number_at 4097 c.0) (back_at b.0.0) (h, rest) c.2 in
-    let f = bind_some (tag (codes " 0 back" ++ 10 ∷ []) d.0.1) (λ rest. header_of b.0.0 d.0.0 >>= λ header. with_header header rest) (h, rest) d.2 in
-    let g = bind_some (header_of b.0.0 d.0.0) (λ header. with_header header f.0) (h, rest) f.2 in
+    let c = bind_some (tag (codes " ") b.0.1) (λ middle. number_at 4097 middle >>= capacity_at b.0.0) (h, rest) b.2 in
+    let d = bind_some (number_at 4097 c.0) (capacity_at b.0.0) (h, rest) c.2 in
+    let f = bind_some (tag (codes " ") d.0.1) (λ middle. number_at 65536 middle >>= back_at b.0.0 d.0.0) (h, rest) d.2 in
+    let g = bind_some (number_at 65536 f.0) (back_at b.0.0 d.0.0) (h, rest) f.2 in
+    let i = bind_some (tag (codes " back" ++ 10 ∷ []) g.0.1) (λ rest. header_of b.0.0 d.0.0 g.0.0 >>= λ header. with_header header rest) (h, rest) g.2 in
+    let j = bind_some (header_of b.0.0 d.0.0 g.0.0) (λ header. with_header header i.0) (h, rest) i.2 in
     let size = number_takes 65 a.0 b.0.0 b.0.1 (lit≤ tt) b.1 in
     let capacity = number_takes 4097 c.0 d.0.0 d.0.1 (lit≤ tt) d.1 in
-    let is = header_is b.0.0 d.0.0 g.0 g.1 capacity.1 in
-    let text = head_text bytes a.0 b.0.1 c.0 d.0.1 f.0 b.0.0 d.0.0 (tag_takes (codes "vub 1 split 1 ") bytes a.0 a.1) size.0 (tag_takes (codes " ") b.0.1 c.0 c.1) capacity.0 (tag_takes (codes " 0 back" ++ 10 ∷ []) d.0.1 f.0 f.1) in
-    subst (λ (x : Header1 × List ℕ). (bytes ≡ header_line x.0 ++ x.1) × IsHeader x.0) (some_is (g.0, f.0) (h, rest) g.2)
-    (subst (λ (x : Header1). bytes ≡ header_line x ++ f.0) is.same text, is.is)
+    let base = number_takes 65536 f.0 g.0.0 g.0.1 (lit≤ tt) g.1 in
+    let is = header_is b.0.0 d.0.0 g.0.0 j.0 j.1 capacity.1 base.1 in
+    let text = head_text bytes a.0 b.0.1 c.0 d.0.1 f.0 g.0.1 i.0 b.0.0 d.0.0 g.0.0
+    (tag_takes (codes "vub 1 split 1 ") bytes a.0 a.1) size.0 (tag_takes (codes " ") b.0.1 c.0 c.1) capacity.0 (tag_takes (codes " ") d.0.1 f.0 f.1) base.0 (tag_takes (codes " back" ++ 10 ∷ []) g.0.1 i.0 i.1)
+    in
+    subst (λ (x : Header1 × List ℕ). (bytes ≡ header_line x.0 ++ x.1) × IsHeader x.0) (some_is (j.0, i.0) (h, rest) j.2)
+    (subst (λ (x : Header1). bytes ≡ header_line x ++ i.0) is.same text, is.is)

@@ -169,30 +169,40 @@ event_at h bytes = do
 
 -- ---- the first line
 
--- the header of the grammar with this size and capacity
-abbrev pub plain_header : ℕ → ℕ → Header1
-plain_header size capacity = record { format = Split; queues = 1; size = size; capacity = capacity; base = 0; mode = Back }
+-- the header of the grammar with this size, capacity and base
+abbrev pub plain_header : ℕ → ℕ → ℕ → Header1
+plain_header size capacity base = record { format = Split; queues = 1; size = size; capacity = capacity; base = base; mode = Back }
 
 -- where they are of the grammar
-unfoldable pub header_of : ℕ → ℕ → Option Header1
-header_of size capacity = if is_size size && nat_le 1 capacity then Some (plain_header size capacity) else None
+unfoldable pub header_of : ℕ → ℕ → ℕ → Option Header1
+header_of size capacity base = if is_size size && nat_le 1 capacity then Some (plain_header size capacity base) else None
 
 abbrev pub with_header : Header1 → List ℕ → Option (Header1 × List ℕ)
 with_header h rest = Some (h, rest)
 
--- behind the capacity
-abbrev pub back_at : ℕ → ℕ × List ℕ → Option (Header1 × List ℕ)
-back_at size capacity = do
-  rest ← tag (codes " 0 back" ++ 10 ∷ []) capacity.1
-  header ← header_of size capacity.0
+-- behind the base
+abbrev pub back_at : ℕ → ℕ → ℕ × List ℕ → Option (Header1 × List ℕ)
+back_at size capacity base = do
+  rest ← tag (codes " back" ++ 10 ∷ []) base.1
+  header ← header_of size capacity base.0
   with_header header rest
+
+-- behind the capacity
+unfoldable pub base_at : ℕ → ℕ → List ℕ → Option (Header1 × List ℕ)
+base_at size capacity bytes = do
+  middle ← tag (codes " ") bytes
+  base ← number_at 65536 middle
+  back_at size capacity base
+
+abbrev pub capacity_at : ℕ → ℕ × List ℕ → Option (Header1 × List ℕ)
+capacity_at size capacity = base_at size capacity.0 capacity.1
 
 -- behind the size
 abbrev pub middle_at : ℕ × List ℕ → Option (Header1 × List ℕ)
 middle_at size = do
   middle ← tag (codes " ") size.1
   capacity ← number_at 4097 middle
-  back_at size.0 capacity
+  capacity_at size.0 capacity
 
 -- the first line
 unfoldable pub header_at : List ℕ → Option (Header1 × List ℕ)

@@ -10,7 +10,7 @@ use crate::{Event, Events, Schedule, ScheduleFault};
 use std::alloc::Global;
 use vub_base::Header1;
 
-// The shortest lines are `boot` and `join` with their newlines.
+// The shortest lines are `boot`, `join` and `kill` with their newlines.
 const SHORTEST_LINE: usize = 5;
 
 // How many events to make room for: as many as there are newlines, but no more than fit.

@@ -5,7 +5,7 @@ ghost use Rattle.std.specs.Option.{option_copied};
 ghost use Rattle.std.specs.List.{take_while};
 ghost use Rattle.std.specs.Char.{is_ascii_digit};
 ghost use Rattle.std.specs.Str.Parse.{digits_value, AllDigits};
-ghost use Rattle.vub_schedule.specs.Reading.{Reads, tag, number_at, count_at, hex_value, pair_at, read_at, write_at, more_fills, fills_at, ask_at, asked_at, numbered_at, word_at, event_text_at, event_at, header_of, header_at};
+ghost use Rattle.vub_schedule.specs.Reading.{Reads, tag, number_at, count_at, hex_value, pair_at, read_at, write_at, more_fills, fills_at, ask_at, asked_at, numbered_at, word_at, event_text_at, event_at, header_of, base_at, header_at};
 
 use crate::Event;
 use arrayvec::ArrayVec;
@@ -260,10 +260,10 @@ pub fn event_at<'a>(header: &Header1, bytes: &'a [u8]) -> Option<(Event, &'a [u8
     Some((event, rest))
 }
 
-/// The header of the grammar with this size of its queue and this capacity.
+/// The header of the grammar with this size of its queue, this capacity and this base.
 #[tactic(auto, unfolding(crate::specs::Reading::header_of))]
-fn header_of(size: u64, capacity: u64) -> Option<Header1>
-    ensures { result ≡ header_of size capacity }
+fn header_of(size: u64, capacity: u64, base: u16) -> Option<Header1>
+    ensures { result ≡ header_of size capacity base }
 {
     if matches!(size, 2 | 4 | 8 | 16 | 32 | 64) && capacity >= 1 {
         Some(Header1 {
@@ -271,12 +271,25 @@ fn header_of(size: u64, capacity: u64) -> Option<Header1>
             queues: 1,
             size: size as u16,
             capacity,
-            base: 0,
+            base,
             mode: CacheMode::Back,
         })
     } else {
         None
     }
+}
+
+/// The header with this size and this capacity, whose base and mode stand at the front, the newline
+/// included.
+#[tactic(auto, unfolding(crate::specs::Reading::base_at))]
+fn base_at(size: u64, capacity: u64, bytes: &[u8]) -> Option<(Header1, &[u8])>
+    ensures { Reads result (base_at size capacity bytes.now) }
+{
+    let middle = tag(bytes, b" ")?;
+    let (base, back) = number_at(u64::from(u16::MAX) + 1, middle)?;
+    let rest = tag(back, b" back\n")?;
+    let header = header_of(size, capacity, base as u16)?;
+    Some((header, rest))
 }
 
 /// The header of the first line, its newline included.
@@ -288,7 +301,5 @@ pub fn header_at(bytes: &[u8]) -> Option<(Header1, &[u8])>
     let (size, middle) = number_at(u64::from(LARGEST_SIZE) + 1, front)?;
     let middle = tag(middle, b" ")?;
     let (capacity, back) = number_at(LARGEST_CAPACITY + 1, middle)?;
-    let rest = tag(back, b" 0 back\n")?;
-    let header = header_of(size, capacity)?;
-    Some((header, rest))
+    base_at(size, capacity, back)
 }

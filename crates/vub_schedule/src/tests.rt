@@ -51,10 +51,11 @@ publish 0 64
 turn 0 1
 drain 0
 collect 0
+kill
 ";
 
 // The longest requests and the least and largest numbers.
-const ENDS: &[u8] = b"vub 1 split 1 4 8 0 back
+const ENDS: &[u8] = b"vub 1 split 1 4 8 65535 back
 ask 0 d write 0 00,11,22,33,44,55,66,77
 ask 0 d write 7 99
 ask 0 d read 7 1
@@ -103,6 +104,7 @@ fn a_text_is_parsed_and_written(rt: HostRuntime) -> Result<(), Fail> {
         Event::Turn(0, 1),
         Event::Drain(0),
         Event::Collect(0),
+        Event::Kill,
     ];
     assert_eq!(rt; schedule.header, PLAIN);
     assert_eq!(rt; schedule.events.items(), events.as_slice());
@@ -196,7 +198,7 @@ flush;id;discard 9223372036854775807:10:0,0:4294967295:1;1234567c0record 1 packe
 }
 
 // Texts outside the grammar, with the number of the first line that is.
-const MALFORMED: [(&[u8], u64); 67] = [
+const MALFORMED: [(&[u8], u64); 68] = [
     (b"", 1),
     (b"\n", 1),
     (b"vub 1 split 1 4 8 0 back", 1),
@@ -214,7 +216,8 @@ const MALFORMED: [(&[u8], u64); 67] = [
     (b"vub 1 split 1 4 0 0 back\n", 1),
     (b"vub 1 split 1 4 4097 0 back\n", 1),
     (b"vub 1 split 1 4 18446744073709551617 0 back\n", 1),
-    (b"vub 1 split 1 4 8 1 back\n", 1),
+    (b"vub 1 split 1 4 8 65536 back\n", 1),
+    (b"vub 1 split 1 4 8 01 back\n", 1),
     (b"vub 1 split 1 4 8 0 ro\n", 1),
     (b"vub 1 split 1 4 8 0\n", 1),
     (b"boot\n", 1),
@@ -227,10 +230,7 @@ const MALFORMED: [(&[u8], u64); 67] = [
     (b"vub 1 split 1 4 8 0 back\nboot\xff\n", 2),
     (b"vub 1 split 1 4 8 0 back\n\xff\n", 2),
     (b"vub 1 split 1 4 8 0 back\nboot\nboot\n\nboot\n", 4),
-    (
-        b"vub 1 split 1 4 8 0 back\nboot\njoin\nkill\nboot\nkill\n",
-        4,
-    ),
+    (b"vub 1 split 1 4 8 0 back\nboot\nkill\nkill 0\n", 4),
     (b"vub 1 split 1 4 8 0 back\njoin\nfetchh 0\n", 3),
     (b"vub 1 split 1 4 8 0 back\ncollect 1\n", 2),
     (b"vub 1 split 1 4 8 0 back\ncollect 00\n", 2),
