@@ -9,10 +9,13 @@ PROGRAM is the built program, crates/vublk/out/vublk by default. It replays, on 
   batches  32 flushes open at once, as many as the queue has descriptors for, drained in one batch of
            32 and then collected
   steps    the same batches, but each step of the device is an event of its own
+  kills    one write after another, each met by a kill between its act and the used ring, and answered by
+           the next life
 
 Each time the output goes to a file, and `sha256sum` runs over that file, each five times in turn and on
-one processor; the best time of each counts. Prints both, their ratio, which may be at most 2.5, and how much memory the
-program took at most beyond the input, which may be 200 MB. Ends with status 1 where one is more.
+one processor; the best time of each counts. Prints both, their ratio, which may be at most 2.5 (3 for
+kills), and how much memory the program took at most beyond the input, which may be 200 MB. Ends with
+status 1 where one is more.
 
 Where a second program OTHER is given, it runs in the same turns on each schedule that it accepts, and
 the time that PROGRAM computes is printed as a part of that of OTHER, the best of each: 1.02 says that
@@ -29,6 +32,7 @@ ROOT = os.path.dirname(os.path.dirname(os.path.abspath(__file__)))
 LIMIT = 16_777_216
 RUNS = 5
 MOST_RATIO = 2.5
+MOST_RATIO_OF_KILLS = 3.0
 MOST_MEMORY = 200_000_000
 CAPACITY = 4096
 BATCH = 32
@@ -51,6 +55,14 @@ def steps(number):
     asks = b"ask 0 d flush\nguest 0 16\n" * BATCH
     work = b"fetch 0\n" * (2 * BATCH) + b"work 0 0\n" * (2 * BATCH) + b"publish 0 64\n" * (5 * BATCH + 3)
     return start + asks + work + b"collect 0\n" * BATCH, BATCH
+
+
+def kills(number):
+    """One write, whose life ends after its status is stored, and the life after it."""
+    sector = number * 7 % CAPACITY
+    start = b"drain 0\n" if number == 0 else b""
+    ask = b"ask 0 d write %d %02x\nguest 0 16\nturn 0 4\n" % (sector, number % 256)
+    return start + ask + b"kill\nboot\njoin\ndrain 0\ncollect 0\n", 1
 
 
 def schedule(group):
@@ -102,18 +114,18 @@ def measure(name, group, program, other, folder):
         computed.append(computes)
         memory = max(memory, held - len(text))
         sums.append(timed(["sha256sum"], records, digest)[0])
-    ratio = min(runs) / min(sums)
+    ratio, most = min(runs) / min(sums), MOST_RATIO_OF_KILLS if group is kills else MOST_RATIO
     print(f"{name}: {len(text):,} bytes, {requests:,} requests")
     print(f"  records    {os.path.getsize(records):>12,} bytes")
     print(f"  replay     {min(runs):>12.3f} s")
     print(f"  sha256sum  {min(sums):>12.3f} s")
-    print(f"  ratio      {ratio:>12.2f}   (at most {MOST_RATIO})")
+    print(f"  ratio      {ratio:>12.2f}   (at most {most})")
     print(f"  memory     {memory / 1e6:>12.1f} MB beyond the input (at most {MOST_MEMORY / 1e6:.0f})")
     if compares:
         print(f"  computes   {min(computed):>12.3f} s")
         print(f"  other      {min(others):>12.3f} s")
         print(f"  part       {min(computed) / min(others):>12.3f}")
-    return ratio <= MOST_RATIO and memory <= MOST_MEMORY
+    return ratio <= most and memory <= MOST_MEMORY
 
 
 def main():
@@ -121,7 +133,7 @@ def main():
     other = sys.argv[2] if len(sys.argv) > 2 else None
     os.sched_setaffinity(0, {max(os.sched_getaffinity(0))})
     with tempfile.TemporaryDirectory() as folder:
-        good = [measure(group.__name__, group, program, other, folder) for group in (single, batches, steps)]
+        good = [measure(group.__name__, group, program, other, folder) for group in (single, batches, steps, kills)]
     sys.exit(0 if all(good) else 1)
 
 
