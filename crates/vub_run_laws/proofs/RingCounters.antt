@@ -1,5 +1,5 @@
 -- The counters of a queue's open requests in its in-flight region, where the queue isn't started.
-use Rattle.std.proofs.Common.{◌≡◌, ◌≤◌, ◌<◌, ℕ, zero, suc, ◌+◌, Bool, true, false, List, [], ◌∷◌, ◌++◌, map, ap, sym, ◌∙◌, subst, inl, inr, arith}
+use Rattle.std.proofs.Common.{◌≡◌, ◌≤◌, ◌<◌, ℕ, zero, suc, ◌+◌, Bool, true, false, List, [], ◌∷◌, refl, ap, sym, ◌∙◌, subst, inl, inr, arith}
 use Rattle.std.specs.Prelude.{slice_index, if◌then◌else◌}
 use Rattle.std.specs.List.{AllByRecursion}
 use Rattle.std.proofs.lemmas.Bool.Decides.{nat_tests}
@@ -8,7 +8,7 @@ use Rattle.vub_base.specs.declared.header.Header1.{Header1}
 use Rattle.vub_base.specs.declared.pending.Pending.{Pending}
 use Rattle.vub_shared.specs.Stores.{one_store}
 use Rattle.vub_infl_split.proofs.WordLemmas.{words_elsewhere}
-use Rattle.vub_inflight.specs.Entries.{by_index, by_counter, entry_at, heads_of, CountersBelow, next_counter}
+use Rattle.vub_inflight.specs.Entries.{by_index, entry_at, heads_of, CountersBelow, next_counter}
 use Rattle.vub_inflight.proofs.Each.{all_sorted, all_append}
 use Rattle.vub_infl_split.specs.Region.{RegionWords}
 use Rattle.vub_infl_split.specs.Readings.{one_each, is_open, open_entries}
@@ -16,7 +16,7 @@ use Rattle.vub_region_facts.specs.Phases.{InLife}
 use Rattle.vub_steps.specs.declared.steps.Phase.{Phase}
 use Rattle.vub_steps.specs.declared.steps.Phase.TheVariants as phases
 use Rattle.vub_device.specs.declared.entry.Entry.TheVariants as entries
-use Rattle.vub_device.specs.Past.{started, accepted, published, is_among, IsOpen, open_numbers}
+use Rattle.vub_device.specs.Past.{started, accepted, published, is_among, open_numbers}
 use Rattle.vub_run.specs.Memory.{Scene}
 use Rattle.vub_run.specs.Moments.{Lane, region_of, used_in, region_in, open_heads}
 use Rattle.vub_run.specs.Turns.{next_counter_in}

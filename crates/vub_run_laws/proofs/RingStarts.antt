@@ -1,6 +1,6 @@
 -- A start of a queue, step by step, on a split ring and its in-flight region.
-use Rattle.std.proofs.Common.{◌≡◌, ◌≢◌, ◌≤◌, ◌<◌, ℕ, ◌+◌, Bool, true, false, List, [], ◌∷◌, ◌++◌, length, map, refl, ap, sym, ◌∙◌, subst, inl, inr, arith}
-use Rattle.std.specs.Prelude.{Some, slice_get, slice_index}
+use Rattle.std.proofs.Common.{◌≡◌, ◌≢◌, ◌≤◌, ◌<◌, ℕ, ◌+◌, Bool, true, false, List, [], ◌∷◌, ◌++◌, length, refl, ap, sym, ◌∙◌, subst, inl, inr, arith}
+use Rattle.std.specs.Prelude.{Some, slice_get}
 use Rattle.std.proofs.lemmas.Bool.{cases_lt, cases_eq}
 use Rattle.std.proofs.lemmas.Bool.Decides.{nat_tests}
 use Rattle.vub_base.specs.declared.header.Header1.{Header1}
@@ -14,9 +14,6 @@ use Rattle.vub_steps.specs.declared.steps.Plan.TheVariants as plans
 use Rattle.vub_steps.specs.declared.steps.Step.{Step}
 use Rattle.vub_steps.specs.declared.steps.Step.TheVariants as steps
 use Rattle.vub_steps.specs.Plans.{settles, plan_of}
-use Rattle.vub_base.specs.declared.pending.Pending.{Pending}
-use Rattle.vub_inflight.specs.Entries.{heads_of, next_counter}
-use Rattle.vub_infl_split.specs.Readings.{open_entries}
 use Rattle.vub_steps.specs.Steps.{plan_steps, bell_steps, start_steps, after_of}
 use Rattle.vub_steps.proofs.StartLemmas.{length_new, length_settles, behind, first_behind}
 use Rattle.vub_ring.specs.Ring.{ahead, avail_idx_place, avail_entry_place, used_idx_place, used_id_place, used_len_place}
@@ -28,12 +25,12 @@ use Rattle.vub_region_facts.specs.Starts.{Left}
 use Rattle.vub_driver.specs.Drivers.{Driver}
 use Rattle.vub_device.specs.declared.entry.Entry.{Entry}
 use Rattle.vub_device.specs.declared.entry.Entry.TheVariants as entries
-use Rattle.vub_device.specs.Past.{started, published, missing_below, open_numbers}
+use Rattle.vub_device.specs.Past.{started, open_numbers}
 use Rattle.vub_report.specs.declared.items.Item.TheVariants as items
 use Rattle.vub_run.specs.Memory.{Scene}
 use Rattle.vub_run.specs.Moments.{Lane, used_in, region_in, open_heads}
 use Rattle.vub_run.specs.Turns.{step_items, sight_of, counted, next_counter_in}
-use Rattle.vub_facts.specs.Facts.{Side, Words, words_at, Facts, IsDue}
+use Rattle.vub_facts.specs.Facts.{Side, Words, words_at, Facts, IsDue, after_row, words_after}
 use Rattle.vub_facts.specs.Facts.{with_phase as side_with}
 use Rattle.vub_facts.proofs.FactStarts.{start_begins}
 use Rattle.vub_facts.proofs.Places.{IsStarting, IsRunning, bells, place_of, start_long, start_goes}
@@ -44,6 +41,7 @@ use Rattle.vub_run_laws.proofs.RingGood.{the_ring, the_region, side_of, WordsAt,
 use Rattle.vub_run_laws.proofs.RunHolds.{starting, steps_in, noted_at, StartStores, StartRings, StartEnds, NextStart, Stores, Rings, Ends}
 use Rattle.vub_run_laws.proofs.RingFacts.{words_in, none_fit, StepWords, step_words, step_counters}
 use Rattle.vub_run_laws.proofs.RingCounters.{next_low}
+use Rattle.vub_steps.specs.Rows.{row_of}
 
 -- ---- it begins
 

@@ -26,10 +26,9 @@ use Rattle.vub_schedule.specs.declared.types.Event.{Event}
 use Rattle.vub_schedule.specs.declared.types.Event.TheVariants as events
 use Rattle.vub_schedule.specs.Spelling.{IsAsk, IsEvent}
 use Rattle.vub_report.specs.declared.items.Item.{Item}
-use Rattle.vub_report.specs.declared.items.Item.TheVariants as items
 use Rattle.vub_run.specs.Memory.{Scene, after_items}
 use Rattle.vub_run.specs.Moments.{Lane, Moment, opening}
-use Rattle.vub_run.specs.Run.{Played, played, if_ready, with_lane, with_driver, guest_items, guest, guest_stores, ask, collect, take_first, boot, join, one_turn, is_due, then_played, turns, single, up_to, any_choice, drain_choice, Drains, Plays, kill, ended}
+use Rattle.vub_run.specs.Run.{Played, played, if_ready, with_lane, with_driver, guest_items, guest, guest_stores, ask, collect, take_first, boot, join, one_turn, is_due, then_played, turns, single, up_to, any_choice, drain_choice, Drains, Plays, kill}
 use Rattle.vub_run.specs.Turns.{turned}
 use Rattle.vub_run_laws.proofs.RingGood.{the_ring, index_store, IsWaiting, WaitsWell, EntryWell, EntryStands}
 use Rattle.vub_run_laws.proofs.RingFrames.{same_entry}

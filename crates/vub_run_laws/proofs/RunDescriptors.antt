@@ -29,7 +29,7 @@ use Rattle.vub_report.specs.declared.items.Item.{Item}
 use Rattle.vub_report.specs.declared.items.Item.TheVariants as items
 use Rattle.vub_run.specs.Memory.{Scene, shown_head, after_item, after_items}
 use Rattle.vub_run.specs.Moments.{Moment, opening}
-use Rattle.vub_run.specs.Run.{Played, played, if_ready, guest, guest_stores, ask, collect, take_first, boot, join, one_turn, is_due, then_played, turns, single, up_to, any_choice, drain_choice, Drains, Plays, kill, ended}
+use Rattle.vub_run.specs.Run.{Played, played, if_ready, guest, guest_stores, ask, collect, take_first, boot, join, one_turn, is_due, then_played, turns, single, up_to, any_choice, drain_choice, Drains, Plays, kill}
 use Rattle.vub_run.specs.Turns.{turned}
 use Rattle.vub_run_laws.proofs.RunOwn.{at_own}
 use Rattle.vub_run_laws.proofs.RunQueues.{IsOn}

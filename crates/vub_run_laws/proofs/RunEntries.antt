@@ -313,7 +313,7 @@ join_makes : (m : Moment) → Makes (join m).items
 join_makes m = tested (m.lives && not m.joined) (played [] (record m { joined = true; lanes = λ q. attached (m.lanes q) })) m tt
 
 kill_makes : (h : Header1) (m : Moment) → Makes (kill h m).items
-kill_makes h m = tested m.lives (played (items.Made entries.Kill ∷ []) (ended (record m { scene = after_items h (items.Made entries.Kill ∷ []) m.scene }))) m (tt)
+kill_makes h m = tested m.lives (played (items.Made entries.Kill ∷ []) (ended (record m { scene = after_items h (items.Made entries.Kill ∷ []) m.scene }))) m (tt, tt)
 
 pub event_enters : (q : ℕ) (h : Header1) (m : Moment) (e : Event) (is : List Item) (next : Moment) → IsPlain h → Good q h m → IsOn q e → IsEvent h e → Plays h m e is next → Enters q m.scene.past is
 event_enters q h m (events.Ask p shape a) is next plain good on fits plays =

@@ -21,7 +21,7 @@ use Rattle.vub_device.specs.declared.entry.Asked.{Asked}
 use Rattle.vub_device.specs.declared.entry.Entry.{Entry}
 use Rattle.vub_device.specs.declared.entry.Entry.TheVariants as entries
 use Rattle.vub_device.specs.Legal.{LegalFrom, after}
-use Rattle.vub_device.specs.Past.{asked, accepted, is_among, started}
+use Rattle.vub_device.specs.Past.{asked, accepted, started}
 use Rattle.vub_schedule.specs.declared.types.Event.{Event}
 use Rattle.vub_schedule.specs.declared.types.Event.TheVariants as events
 use Rattle.vub_schedule.specs.Spelling.{IsAsk, IsEvent}
@@ -35,7 +35,7 @@ use Rattle.vub_run.specs.Tracking.{Tracks, AfterEach}
 use Rattle.vub_report.specs.Histories.{entries_of}
 use Rattle.vub_run.specs.Turns.{turned}
 use Rattle.vub_run_laws.proofs.RunQueue.{queue_rests, queue_attached, queue_left, queue_stands, queue_first, queue_free, takes, sees, queue_killed}
-use Rattle.vub_run_laws.proofs.RunGood.{IsPending, hidden, Worked, pending_none, Known}
+use Rattle.vub_run_laws.proofs.RunGood.{pending_none, Known}
 use Rattle.vub_run_laws.proofs.RunHolds.{Holds, EntryStands, QueueFacts}
 use Rattle.vub_run_laws.proofs.RunGuests.{holds_track, offered, Offered, guest_holds, Unoffered, part_holds, left_waits, rest_waits, waits_well}
 use Rattle.vub_run_laws.proofs.RunWork.{Fine}

@@ -1,6 +1,6 @@
 -- What holds of a queue at every moment of a run, part by part: its history, the work, what stands in buffers.
 use Rattle.std.proofs.Common.{◌≡◌, ◌≤◌, ◌<◌, ℕ, ◌+◌, ◌*◌, ◌/◌, ◌%◌, Bool, true, false, List, [], ◌++◌, length, take, arith}
-use Rattle.std.specs.Prelude.{Option, Some, slice_index, nat_lt, if◌then◌else◌, ⊤}
+use Rattle.std.specs.Prelude.{Option, Some, slice_index, nat_lt, if◌then◌else◌, ⊤, None}
 use Rattle.std.specs.Int.{◌∣◌}
 use Rattle.std.specs.List.{AllByRecursion}
 use Rattle.vub_base.specs.declared.header.Header1.{Header1}

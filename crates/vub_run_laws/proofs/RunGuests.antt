@@ -1,6 +1,6 @@
 -- The driver's stores keep what holds, up to the offer.
-use Rattle.std.proofs.Common.{◌≡◌, ◌≤◌, ◌<◌, ℕ, zero, suc, List, [], ◌∷◌, length, drop, refl, sym, subst, inl, inr, arith}
-use Rattle.std.specs.Prelude.{Some}
+use Rattle.std.proofs.Common.{◌≡◌, ◌≤◌, ◌<◌, ℕ, zero, suc, List, [], ◌∷◌, length, drop, refl, sym, subst, inl, inr, arith, ◌++◌, ap, ◌∙◌}
+use Rattle.std.specs.Prelude.{Some, slice_index}
 use Rattle.vub_base.specs.declared.header.CacheMode.{CacheMode}
 use Rattle.vub_base.specs.declared.header.Header1.{Header1}
 use Rattle.vub_shared.specs.Bytes.{Bytes}

@@ -102,7 +102,6 @@ event_attaches q h m (events.Turn p count) is next plain good on fits plays =
 event_attaches q h m (events.Drain p) is next plain good on fits plays =
     let here : Plays h m (events.Drain q) is next = subst (λ (p : ℕ). Plays h m (events.Drain p) is next) on plays in
     drain_stays q h m (drain_choice h q (accepted m.scene.past q)) is next plain good here
-
 event_attaches q h m events.Kill is next plain good on fits plays = made_stays_off q m is next (kill h m) plays (go m.lives refl)
   where
     go : (b : Bool) → m.lives ≡ b → is_on q (if_ready b (played (items.Made entries.Kill ∷ []) (ended (record m { scene = after_items h (items.Made entries.Kill ∷ []) m.scene }))) m).next ≡ false
