@@ -249,6 +249,7 @@ killed_known q n cap past heads a = record {
   values = a.values;
 }
 
+-- a life ends, whatever is under way
 kill_right : (q : ℕ) (h : Header1) (m : Moment) → IsPlain h → Good q h m → Leads q h m (kill h m)
 kill_right q h m plain good = tested q h m m.lives (played (items.Made entries.Kill ∷ []) (ended (record m { scene = s' }))) plain good (λ ready. record {
   good = record { holds = holds; asleep = λ dead. (refl, refl); counts = λ stopped. killed_counts q h m.scene (m.lanes q) good.holds good.counts };

@@ -187,6 +187,7 @@ pub record StartStores (q : ℕ) (h : Header1) (s : Scene) (l : Lane) (done : �
   pub stores : step_items h q (starting done l) step s ≡ items.Store tag I place bytes ∷ []
   pub counts : (next : ℕ) (x : Lane) → counted next step x ≡ x
   pub queue : QueueFacts q h (noted_at place bytes s) l.driver l.bell l.plan l.counter [] (phases.Start (done + 1))
+  -- the counters of the region stay
   pub kept : (d : ℕ) → (region_in h q (noted_at place bytes s)).counter d ≡ (region_in h q s).counter d
 
 -- the step that rings the bell

@@ -15,7 +15,7 @@ use Rattle.vub_run.specs.LegalRuns.{past_of}
 use Rattle.vub_run.specs.Moments.{Moment, opening}
 use Rattle.vub_run_laws.proofs.RunEntries.{event_offers, run_offers}
 use Rattle.vub_run.specs.Run.{turns, Plays, RunFrom, RunTo, Stands}
-use Rattle.vub_run.specs.Tracking.{TracksFrom}
+use Rattle.vub_run.specs.Tracking.{TracksFrom, reading_of}
 use Rattle.vub_report.specs.Histories.{entries_of, history_of}
 use Rattle.vub_run_laws.proofs.RunTurns.{Good}
 use Rattle.vub_run_laws.proofs.RunEvents.{Right}
@@ -26,7 +26,6 @@ use Rattle.vub_run_laws.proofs.RunsLegal.{IsHeld, opening_held, held_right, held
 use Rattle.vub_steps.specs.Readiness.{last_counter}
 use Rattle.vub_base.specs.declared.reading.Reading.TheVariants.{Damaged}
 use Rattle.vub_base.specs.declared.reading.RegionFault.{RegionFault}
-use Rattle.vub_run.specs.Tracking.{reading_of}
 use Rattle.vub_run_laws.proofs.RunGuests.{holds_track}
 
 pub run_of : (h : Header1) (m : Moment) (es : List Event) (rs : List Record) (n : Moment) → RunTo h m es rs n → RunFrom h m es rs
