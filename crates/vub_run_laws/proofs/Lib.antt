@@ -1,5 +1,6 @@
 pub mod RingAsks
 pub mod RingCollects
+pub mod RingCounters
 pub mod RingElements
 pub mod RingEntries
 pub mod RingFacts

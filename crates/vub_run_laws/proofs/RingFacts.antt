@@ -24,6 +24,7 @@ use Rattle.vub_run.specs.Memory.{Scene}
 use Rattle.vub_run.specs.Moments.{Lane, open_heads, next_head}
 use Rattle.vub_run.specs.Turns.{element_of, len_of, sight_of, next_counter_in}
 use Rattle.vub_steps.specs.declared.steps.Plan.{Plan}
+use Rattle.vub_steps.specs.declared.steps.Plan.TheVariants as plans
 use Rattle.vub_steps.specs.Steps.{publish_steps}
 use Rattle.vub_steps.proofs.StepLemmas.{length_publish}
 use Rattle.vub_infl_split.specs.declared.region.SplitRegion.{SplitRegion}
@@ -202,6 +203,22 @@ words_rests q h s bell bell' plan plan' counter counter' batch phase stopped f =
   batch = refl;
 }
 
+-- ---- a life ends
+
+-- whatever was under way, the next one finds what this one left
+pub facts_killed : (q : ℕ) (h : Header1) (s : Scene) (v : Driver) (bell : Bool) (plan : Plan) (counter : ℕ) (batch : List ℕ) (phase : Phase) → QueueFacts q h s v bell plan counter batch phase → QueueFacts q h (record s { past = entries.Kill ∷ s.past }) v false plans.New 0 [] phases.Rest
+facts_killed q h s v bell plan counter batch phase x = record {
+  ringed = ringed_entries q h.size h.base s.past (entries.Kill ∷ s.past) (s.heads q) s.memory (record { accepts = omega arith; shows = refl; collects = omega arith; asks = λ j. refl }) x.ringed;
+  driven = driven_same q h.size h.capacity h.base s.past (entries.Kill ∷ s.past) (s.heads q) v (λ j o. record { below = o.below; kept = o.kept }) x.driven;
+  words = record {
+    used_fits = x.words.used_fits;
+    not_started = λ off. facts_left h.size (open_heads q s.past (s.heads q)) h.base (side_of q h s bell plan counter batch phase) (words_at (the_ring q h.size) (the_region q h.size) s.memory) x.words;
+    in_life = λ on. absurd (let fails : false ≡ true = on in cc);
+    batch = refl;
+  };
+  start = tt;
+}
+
 -- ---- a fetch begins
 
 -- the head that waits at the avail position is a free one
@@ -341,6 +358,17 @@ step_words q h s l step size fit due f =
     let seen : Facts h.size (heads_after step (head_next heads words) elements heads) h.base (side_after h.size next step side) (words_at r g (after_row (row_of r g (sight_of h q s l) step) s.memory)) =
     subst (λ (z : Sight). Facts h.size (heads_after step (head_next heads words) elements heads) h.base (side_after h.size next step side) (words_at r g (after_row (row_of r g z step) s.memory))) (sym (sight_is q h s l)) now in
     subst (λ (d : ℕ). Facts h.size (heads_after step d elements heads) h.base (side_after h.size next step side) (words_at r g (after_row (row_of r g (sight_of h q s l) step) s.memory))) (sym (head_is q h s)) seen
+
+-- the counters that it leaves in the region
+pub step_counters : (q : ℕ) (h : Header1) (s : Scene) (l : Lane) (step : Step) (d : ℕ) → IsSize h.size → ElementsFit (map (element_of h q s) l.batch) → IsDue h.size step (side_of q h s l.bell l.plan l.counter l.batch l.phase) → WordsAt q h s l.bell l.plan l.counter l.batch l.phase
+    → (words_at (the_ring q h.size) (the_region q h.size) (after_row (row_of (the_ring q h.size) (the_region q h.size) (sight_of h q s l) step) s.memory)).region.counter d ≡ (words_after (the_ring q h.size) (sight_of h q s l) step (words_in q h s)).region.counter d
+step_counters q h s l step d size fit due f =
+    let r : Ring = the_ring q h.size in
+    let g : SplitRegion = the_region q h.size in
+    let heads : List ℕ = open_heads q s.past (s.heads q) in
+    let side : Side = side_of q h s l.bell l.plan l.counter l.batch l.phase in
+    subst (λ (z : Sight). (words_at r g (after_row (row_of r g z step) s.memory)).region.counter d ≡ (words_after r z step (words_in q h s)).region.counter d) (sym (sight_is q h s l))
+    (ap (λ (w : Words). w.region.counter d) (row_words r g heads h.base side step s.memory (lies_ring q h.size size) fit due f))
 
 -- ---- the elements of a batch
 

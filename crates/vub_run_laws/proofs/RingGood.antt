@@ -11,13 +11,13 @@ use Rattle.vub_ring.specs.Ring.{Ring, avail_idx, avail_idx_place, used_idx, head
 use Rattle.vub_driver.specs.Drivers.{Driver, Waiting}
 use Rattle.vub_driver.specs.Layout.{ring_of, area_place}
 use Rattle.vub_driver.specs.Stores.{offer_stores}
-use Rattle.vub_device.specs.Past.{started, accepted, published, collected}
+use Rattle.vub_device.specs.Past.{started, accepted, published, collected, IsOpen}
 use Rattle.vub_device.specs.Requests.{request_of}
 use Rattle.vub_device.specs.declared.entry.Entry.{Entry}
 use Rattle.vub_run.specs.Memory.{Scene}
 use Rattle.vub_infl_split.specs.declared.region.SplitRegion.{SplitRegion}
 use Rattle.vub_steps.specs.declared.steps.Plan.{Plan}
-use Rattle.vub_run.specs.Moments.{Moment, region_of, open_heads}
+use Rattle.vub_run.specs.Moments.{Moment, region_of, open_heads, region_in}
 use Rattle.vub_run.specs.Turns.{element_of}
 use Rattle.vub_facts.specs.Facts.{Side, Facts, words_at}
 use Rattle.vub_run_laws.proofs.RunGood.{IsWide, IsOut, StartIs, spot}
@@ -95,6 +95,10 @@ pub record QueueFacts (q : ℕ) (h : Header1) (s : Scene) (v : Driver) (bell : B
   pub driven : Driven q h.size h.capacity h.base s.past (s.heads q) v
   pub words : WordsAt q h s bell plan counter batch phase
   pub start : StartIs (started s.past q) h.size bell plan phase
+
+-- the counter of each open request is below the number of accepted ones
+abbrev pub CountsLow : ℕ → Header1 → Scene → Type 0
+CountsLow q h s = (k : ℕ) → IsOpen s.past q k → (region_in h q s).counter (slice_index (s.heads q) k) < accepted s.past q
 
 -- where the last store alone is left of a request, those before it stand
 abbrev pub LastStands : ℕ → Header1 → Scene → Waiting → Type 0

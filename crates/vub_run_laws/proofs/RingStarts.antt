@@ -1,6 +1,6 @@
 -- A start of a queue, step by step, on a split ring and its in-flight region.
-use Rattle.std.proofs.Common.{◌≡◌, ◌≢◌, ◌≤◌, ◌<◌, ℕ, ◌+◌, Bool, true, false, List, [], ◌∷◌, ◌++◌, length, map, refl, ap, sym, ◌∙◌, subst, inl, inr, arith}
-use Rattle.std.specs.Prelude.{Some, slice_get, slice_index}
+use Rattle.std.proofs.Common.{◌≡◌, ◌≢◌, ◌≤◌, ◌<◌, ℕ, ◌+◌, Bool, true, false, List, [], ◌∷◌, ◌++◌, length, refl, ap, sym, ◌∙◌, subst, inl, inr, arith}
+use Rattle.std.specs.Prelude.{Some, slice_get}
 use Rattle.std.proofs.lemmas.Bool.{cases_lt, cases_eq}
 use Rattle.std.proofs.lemmas.Bool.Decides.{nat_tests}
 use Rattle.vub_base.specs.declared.header.Header1.{Header1}
@@ -14,9 +14,6 @@ use Rattle.vub_steps.specs.declared.steps.Plan.TheVariants as plans
 use Rattle.vub_steps.specs.declared.steps.Step.{Step}
 use Rattle.vub_steps.specs.declared.steps.Step.TheVariants as steps
 use Rattle.vub_steps.specs.Plans.{settles, plan_of}
-use Rattle.vub_base.specs.declared.pending.Pending.{Pending}
-use Rattle.vub_inflight.specs.Entries.{heads_of, next_counter}
-use Rattle.vub_infl_split.specs.Readings.{open_entries}
 use Rattle.vub_steps.specs.Steps.{plan_steps, bell_steps, start_steps, after_of}
 use Rattle.vub_steps.proofs.StartLemmas.{length_new, length_settles, behind, first_behind}
 use Rattle.vub_ring.specs.Ring.{ahead, avail_idx_place, avail_entry_place, used_idx_place, used_id_place, used_len_place}
@@ -28,12 +25,12 @@ use Rattle.vub_region_facts.specs.Starts.{Left}
 use Rattle.vub_driver.specs.Drivers.{Driver}
 use Rattle.vub_device.specs.declared.entry.Entry.{Entry}
 use Rattle.vub_device.specs.declared.entry.Entry.TheVariants as entries
-use Rattle.vub_device.specs.Past.{started, published, missing_below, open_numbers}
+use Rattle.vub_device.specs.Past.{started, open_numbers}
 use Rattle.vub_report.specs.declared.items.Item.TheVariants as items
 use Rattle.vub_run.specs.Memory.{Scene}
 use Rattle.vub_run.specs.Moments.{Lane, used_in, region_in, open_heads}
 use Rattle.vub_run.specs.Turns.{step_items, sight_of, counted, next_counter_in}
-use Rattle.vub_facts.specs.Facts.{Side, Words, words_at, Facts, IsDue}
+use Rattle.vub_facts.specs.Facts.{Side, Words, words_at, Facts, IsDue, after_row, words_after}
 use Rattle.vub_facts.specs.Facts.{with_phase as side_with}
 use Rattle.vub_facts.proofs.FactStarts.{start_begins}
 use Rattle.vub_facts.proofs.Places.{IsStarting, IsRunning, bells, place_of, start_long, start_goes}
@@ -42,7 +39,9 @@ use Rattle.vub_run_laws.proofs.RunOwn.{started_own}
 use Rattle.vub_run_laws.proofs.RunGood.{IsSize}
 use Rattle.vub_run_laws.proofs.RingGood.{the_ring, the_region, side_of, WordsAt, Ringed, QueueFacts}
 use Rattle.vub_run_laws.proofs.RunHolds.{starting, steps_in, noted_at, StartStores, StartRings, StartEnds, NextStart, Stores, Rings, Ends}
-use Rattle.vub_run_laws.proofs.RingFacts.{words_in, none_fit, StepWords, step_words}
+use Rattle.vub_run_laws.proofs.RingFacts.{words_in, none_fit, StepWords, step_words, step_counters}
+use Rattle.vub_run_laws.proofs.RingCounters.{next_low}
+use Rattle.vub_steps.specs.Rows.{row_of}
 
 -- ---- it begins
 
@@ -121,11 +120,15 @@ more_left n plan bell done step is left apart = elim (cases_lt (done + 1) (lengt
 goes : (n : ℕ) (plan : Plan) (bell : Bool) (done : ℕ) → done + 1 < length (start_steps n plan bell) → after_of (start_steps n plan bell) (phases.Start done) ≡ phases.Start (done + 1)
 goes n plan bell done more = grind (arith, nat_tests)
 
+-- a store that leaves the counters of the region
+abbrev KeepsCounters : ℕ → Header1 → Scene → SplitStore → Type 0
+KeepsCounters q h s y = (d : ℕ) → (region_in h q (noted_at (store_of (the_region q h.size) y).place (store_of (the_region q h.size) y).bytes s)).counter d ≡ (region_in h q s).counter d
+
 -- a store of a start that keeps the facts of the words
 store_makes : (q : ℕ) (h : Header1) (s : Scene) (l : Lane) (done : ℕ) (step : Step) (y : SplitStore) → ((next : ℕ) (z : Lane) → counted next step z ≡ z) → QueueFacts q h s l.driver l.bell l.plan l.counter [] (phases.Start done)
     → step_items h q (starting done l) step s ≡ items.Store (tag_of y) I (store_of (the_region q h.size) y).place (store_of (the_region q h.size) y).bytes ∷ [] → done + 1 < length (steps_in h l)
-    → WordsAt q h (noted_at (store_of (the_region q h.size) y).place (store_of (the_region q h.size) y).bytes s) l.bell l.plan l.counter [] (phases.Start (done + 1)) → StartStores q h s l done step
-store_makes q h s l done step y counts x stores more words =
+    → WordsAt q h (noted_at (store_of (the_region q h.size) y).place (store_of (the_region q h.size) y).bytes s) l.bell l.plan l.counter [] (phases.Start (done + 1)) → KeepsCounters q h s y → StartStores q h s l done step
+store_makes q h s l done step y counts x stores more words kept =
     let st = store_of (the_region q h.size) y in record {
       more = more;
       tag = tag_of y;
@@ -139,6 +142,7 @@ store_makes q h s l done step y counts x stores more words =
         words = words;
         start = record { stopped = x.start.stopped; left = more; few = x.start.few };
       };
+      kept = kept;
     }
 
 bell_rings : (q : ℕ) (h : Header1) (s : Scene) (l : Lane) (done : ℕ) → QueueFacts q h s l.driver l.bell l.plan l.counter [] (phases.Start done) → done + 1 < length (steps_in h l)
@@ -154,11 +158,6 @@ bell_rings q h s l done x more words = record {
     start = record { stopped = x.start.stopped; left = more; few = x.start.few };
   };
 }
-
--- of no open request there is no counter
-none_counts : (entries : List Pending) → heads_of entries ≡ [] → next_counter entries ≡ 0
-none_counts [] none = refl
-none_counts (e ∷ entries) none = absurd (let fails : e.head ∷ heads_of entries ≡ [] = none in cc)
 
 start_ends : (q : ℕ) (h : Header1) (s : Scene) (l : Lane) (done : ℕ) → QueueFacts q h s l.driver l.bell l.plan l.counter [] (phases.Start done) → length (steps_in h l) ≤ done + 1
     → Facts h.size (open_heads q s.past (s.heads q)) h.base (record { started = true; bell = l.bell; phase = phases.Rest; plan = l.plan; counter = next_counter_in h q s; batch = [] }) (words_in q h s) → StartEnds q h s l done steps.Start
@@ -176,9 +175,7 @@ start_ends q h s l done x none words =
         words = subst (λ (b : Bool). Facts h.size heads h.base (record { started = b; bell = l.bell; phase = phases.Rest; plan = l.plan; counter = next_counter_in h q s; batch = [] }) (words_in q h s)) (sym on) words;
         start = tt;
       };
-      low = λ idle.
-          let empty : heads ≡ [] = ap (λ (a : ℕ). map (slice_index (s.heads q)) (missing_below (published s.past q) a)) idle in
-          none_counts (open_entries h.size (used_in h q s) (region_in h q s)) ((words.in_life refl).sound.reads ∙ empty);
+      low = next_low q h s (words.in_life refl).sound.reads;
     }
 
 -- a step of a start that is under way, as the facts of its words have it
@@ -196,6 +193,10 @@ next_start q h s l done size x =
     kept : (step : Step) → slice_get (steps_in h l) done ≡ Some step → StepWords q h s (starting done l) step
     kept step is = step_words q h s (starting done l) step size none_fit (due step is) x.words
 
+    counters : (step : Step) → slice_get (steps_in h l) done ≡ Some step → (d : ℕ)
+        → (words_in q h (record s { memory = after_row (row_of (the_ring q h.size) (the_region q h.size) (sight_of h q s (starting done l)) step) s.memory })).region.counter d ≡ (words_after (the_ring q h.size) (sight_of h q s (starting done l)) step (words_in q h s)).region.counter d
+    counters step is d = step_counters q h s (starting done l) step d size none_fit (due step is) x.words
+
     more : (step : Step) → slice_get (steps_in h l) done ≡ Some step → step ≢ steps.Start → done + 1 < length (steps_in h l)
     more step is apart = more_left h.size l.plan l.bell done step is x.start.left apart
 
@@ -207,17 +208,17 @@ next_start q h s l done size x =
 
     stores : (step : Step) (y : SplitStore) → ((next : ℕ) (z : Lane) → counted next step z ≡ z) → slice_get (steps_in h l) done ≡ Some step → step ≢ steps.Start
         → step_items h q (starting done l) step s ≡ items.Store (tag_of y) I (store_of (the_region q h.size) y).place (store_of (the_region q h.size) y).bytes ∷ []
-        → Facts h.size (open_heads q s.past (s.heads q)) h.base (side_with (after_of (steps_in h l) (phases.Start done)) side) (words_in q h (noted_at (store_of (the_region q h.size) y).place (store_of (the_region q h.size) y).bytes s)) → NextStart q h s l done (slice_get (steps_in h l) done)
-    stores step y counts is apart made words =
+        → Facts h.size (open_heads q s.past (s.heads q)) h.base (side_with (after_of (steps_in h l) (phases.Start done)) side) (words_in q h (noted_at (store_of (the_region q h.size) y).place (store_of (the_region q h.size) y).bytes s)) → KeepsCounters q h s y → NextStart q h s l done (slice_get (steps_in h l) done)
+    stores step y counts is apart made words same =
         let left : done + 1 < length (steps_in h l) = more step is apart in
-        Stores step is (store_makes q h s l done step y counts x made left (moved (phases.Start (done + 1)) (goes h.size l.plan l.bell done left) side (words_in q h (noted_at (store_of (the_region q h.size) y).place (store_of (the_region q h.size) y).bytes s)) words))
+        Stores step is (store_makes q h s l done step y counts x made left (moved (phases.Start (done + 1)) (goes h.size l.plan l.bell done left) side (words_in q h (noted_at (store_of (the_region q h.size) y).place (store_of (the_region q h.size) y).bytes s)) words) same)
 
     go : (step : Step) → slice_get (steps_in h l) done ≡ Some step → NextStart q h s l done (slice_get (steps_in h l) done)
-    go steps.Features is = stores steps.Features SI1 (λ next z. refl) is (λ e. cc) refl (kept steps.Features is)
-    go (steps.Free i) is = stores (steps.Free i) (SI2 i) (λ next z. refl) is (λ e. cc) refl (kept (steps.Free i) is)
-    go steps.Open is = stores steps.Open (SI3 (used_in h q s)) (λ next z. refl) is (λ e. cc) refl (kept steps.Open is)
-    go (steps.Settle i) is = stores (steps.Settle i) (SR1 (sight_of h q s (starting done l)).link) (λ next z. refl) is (λ e. cc) refl (kept (steps.Settle i) is)
-    go steps.SettleEnd is = stores steps.SettleEnd (SR2 (used_in h q s)) (λ next z. refl) is (λ e. cc) refl (kept steps.SettleEnd is)
+    go steps.Features is = stores steps.Features SI1 (λ next z. refl) is (λ e. cc) refl (kept steps.Features is) (counters steps.Features is)
+    go (steps.Free i) is = stores (steps.Free i) (SI2 i) (λ next z. refl) is (λ e. cc) refl (kept (steps.Free i) is) (counters (steps.Free i) is)
+    go steps.Open is = stores steps.Open (SI3 (used_in h q s)) (λ next z. refl) is (λ e. cc) refl (kept steps.Open is) (counters steps.Open is)
+    go (steps.Settle i) is = stores (steps.Settle i) (SR1 (sight_of h q s (starting done l)).link) (λ next z. refl) is (λ e. cc) refl (kept (steps.Settle i) is) (counters (steps.Settle i) is)
+    go steps.SettleEnd is = stores steps.SettleEnd (SR2 (used_in h q s)) (λ next z. refl) is (λ e. cc) refl (kept steps.SettleEnd is) (counters steps.SettleEnd is)
     go steps.Bell is =
         let left : done + 1 < length (steps_in h l) = more steps.Bell is (λ e. cc) in
         Rings steps.Bell is (bell_rings q h s l done x left (moved (phases.Start (done + 1)) (goes h.size l.plan l.bell done left) side (words_in q h s) (kept steps.Bell is)))

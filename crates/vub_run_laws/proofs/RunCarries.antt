@@ -59,7 +59,6 @@ carries_on q past past' counter phase batch completed runs accepts shows c = rec
   shown = λ k held out. ap (λ (ks : List ℕ). is_among ks k) shows ∙ c.shown k held out;
   quiet = λ stopped. c.quiet (sym runs ∙ stopped);
   low = subst (λ (n : ℕ). IsLow n counter phase) (sym accepts) c.low;
-  idle = λ stopped. accepts ∙ c.idle (sym runs ∙ stopped);
 }
 
 -- an open number that is neither completed nor hidden is in no batch
@@ -82,7 +81,6 @@ carries_done q past counter phase batch completed k is_open left c = record {
   shown = c.shown;
   quiet = c.quiet;
   low = c.low;
-  idle = c.idle;
 }
 
 -- what is in the batch was accepted
@@ -100,7 +98,6 @@ carries_phase q past counter counter' phase phase' completed low c = record {
   shown = λ k held out. absurd (let fails : false ≡ true = held in cc);
   quiet = c.quiet;
   low = low;
-  idle = c.idle;
 }
 
 -- ---- a step

@@ -28,7 +28,7 @@ use Rattle.vub_schedule.specs.Spelling.{IsAsk, IsEvent}
 use Rattle.vub_report.specs.declared.items.Item.{Item}
 use Rattle.vub_run.specs.Memory.{Scene, after_items}
 use Rattle.vub_run.specs.Moments.{Lane, Moment, opening}
-use Rattle.vub_run.specs.Run.{Played, played, if_ready, with_lane, with_driver, guest_items, guest, guest_stores, ask, collect, take_first, boot, join, one_turn, is_due, then_played, turns, single, up_to, any_choice, drain_choice, Drains, Plays}
+use Rattle.vub_run.specs.Run.{Played, played, if_ready, with_lane, with_driver, guest_items, guest, guest_stores, ask, collect, take_first, boot, join, one_turn, is_due, then_played, turns, single, up_to, any_choice, drain_choice, Drains, Plays, kill}
 use Rattle.vub_run.specs.Turns.{turned}
 use Rattle.vub_run_laws.proofs.RingGood.{the_ring, index_store, IsWaiting, WaitsWell, EntryWell, EntryStands}
 use Rattle.vub_run_laws.proofs.RingFrames.{same_entry}
@@ -100,6 +100,9 @@ boot_all q h m c = tested q h m (not m.lives) _ c (λ ready. record { linked = c
 
 join_all : (q : ℕ) (h : Header1) (m : Moment) → ChainedAt q h m → ChainedAt q h (join m).next
 join_all q h m c = tested q h m (m.lives && not m.joined) _ c (λ ready. record { linked = c.linked; waits = c.waits })
+
+kill_all : (q : ℕ) (h : Header1) (m : Moment) → ChainedAt q h m → ChainedAt q h (kill h m).next
+kill_all q h m c = tested q h m m.lives _ c (λ ready. record { linked = λ k out. c.linked k (record { below = out.below; kept = out.kept }); waits = c.waits })
 
 -- ---- turns
 
@@ -189,6 +192,7 @@ event_chained q h m (events.Collect p) is next plain few numbered good c on fits
     played_chained q h is next (collect h q m) here (collect_all q h m plain good c)
 event_chained q h m events.Boot is next plain few numbered good c on fits plays = played_chained q h is next (boot m) plays (boot_all q h m c)
 event_chained q h m events.Join is next plain few numbered good c on fits plays = played_chained q h is next (join m) plays (join_all q h m c)
+event_chained q h m events.Kill is next plain few numbered good c on fits plays = played_chained q h is next (kill h m) plays (kill_all q h m c)
 event_chained q h m (events.Start p) is next plain few numbered good c on fits plays =
     let here : Plays h m (events.Start q) is next = subst (λ (p : ℕ). Plays h m (events.Start p) is next) on plays in
     played_chained q h is next (single h q readiness.Start m) here (single_chained q h readiness.Start m plain good c)

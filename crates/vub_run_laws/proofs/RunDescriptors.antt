@@ -29,7 +29,7 @@ use Rattle.vub_report.specs.declared.items.Item.{Item}
 use Rattle.vub_report.specs.declared.items.Item.TheVariants as items
 use Rattle.vub_run.specs.Memory.{Scene, shown_head, after_item, after_items}
 use Rattle.vub_run.specs.Moments.{Moment, opening}
-use Rattle.vub_run.specs.Run.{Played, played, if_ready, guest, guest_stores, ask, collect, take_first, boot, join, one_turn, is_due, then_played, turns, single, up_to, any_choice, drain_choice, Drains, Plays}
+use Rattle.vub_run.specs.Run.{Played, played, if_ready, guest, guest_stores, ask, collect, take_first, boot, join, one_turn, is_due, then_played, turns, single, up_to, any_choice, drain_choice, Drains, Plays, kill}
 use Rattle.vub_run.specs.Turns.{turned}
 use Rattle.vub_run_laws.proofs.RunOwn.{at_own}
 use Rattle.vub_run_laws.proofs.RunQueues.{IsOn}
@@ -287,6 +287,8 @@ event_described q h m (events.Collect p) is next plain held x on fits plays =
     made_described q h is next (collect h q m) here (collect_all q h m plain held.good x)
 event_described q h m events.Boot is next plain held x on fits plays = made_described q h is next (boot m) plays (tested q h m (not m.lives) _ x (λ ready. x))
 event_described q h m events.Join is next plain held x on fits plays = made_described q h is next (join m) plays (tested q h m (m.lives && not m.joined) _ x (λ ready. x))
+event_described q h m events.Kill is next plain held x on fits plays =
+    made_described q h is next (kill h m) plays (tested q h m m.lives _ x (λ ready. record { many = x.many; stands = λ k out. x.stands k (record { below = out.below; kept = out.kept }) }))
 event_described q h m (events.Start p) is next plain held x on fits plays =
     let here : Plays h m (events.Start q) is next = subst (λ (p : ℕ). Plays h m (events.Start p) is next) on plays in
     made_described q h is next (single h q readiness.Start m) here (single_described q h readiness.Start m plain held.good held.chained x)

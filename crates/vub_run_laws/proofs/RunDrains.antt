@@ -26,7 +26,7 @@ use Rattle.vub_run_laws.proofs.RunCarries.{counted_is}
 use Rattle.vub_run_laws.proofs.RunNumbers.{filter_none}
 use Rattle.vub_run_laws.proofs.RunOwn.{at_own}
 use Rattle.vub_run_laws.proofs.RunGood.{Known, IsLow}
-use Rattle.vub_run_laws.proofs.RunWork.{Fine}
+use Rattle.vub_run_laws.proofs.RunWork.{IsIdle, Fine}
 use Rattle.vub_run_laws.proofs.RunQueue.{queue_ahead, fetch_more}
 use Rattle.vub_run_laws.proofs.RunTurns.{IsPlain, Good, RunningCases, AtRest, InFetch, InPublication, running_cases, turn_fine}
 use Rattle.vub_run_laws.proofs.RunEvents.{Right, turn_right, drain_right}
@@ -75,12 +75,14 @@ turned_stays q h turns.Fetch m = under_stays q h turns.Fetch m
 turned_stays q h (turns.Publish most) m = under_stays q h (turns.Publish most) m
 turned_stays q h (turns.Work place) m = work_stays q h m.scene (m.lanes q) (slice_get (unfinished q m) place)
 
--- a queue that is attached stays so, and nothing is collected
-abbrev pub Stays : ℕ → Moment → Moment → Type 0
-Stays q m n = ((n.lanes q).attached ≡ (m.lanes q).attached) × (collected n.scene.past q ≡ collected m.scene.past q)
+-- a queue that is attached stays so, nothing is collected, and one that isn't started has accepted nothing
+pub record Stays (q : ℕ) (m n : Moment) : Type 0 where
+  pub joined : (n.lanes q).attached ≡ (m.lanes q).attached
+  pub collects : collected n.scene.past q ≡ collected m.scene.past q
+  pub idle : started n.scene.past q ≡ false → (started m.scene.past q ≡ false) × (accepted n.scene.past q ≡ accepted m.scene.past q)
 
 pub turns_stay : (q count : ℕ) (choose : Moment → Turn) (h : Header1) (m : Moment) → IsPlain h → Good q h m → Stays q m (many_turns count choose h q m).next
-turns_stay q zero choose h m plain good = (refl, refl)
+turns_stay q zero choose h m plain good = record { joined = refl; collects = refl; idle = λ stopped. (stopped, refl) }
 turns_stay q (suc count) choose h m plain good = go (is_due h q (choose m) m) refl (λ good'. turns_stay q count choose h (one_turn h q (choose m) m).next plain good')
   where
     go : (b : Bool) → is_due h q (choose m) m ≡ b → (Good q h (one_turn h q (choose m) m).next → Stays q (one_turn h q (choose m) m).next (many_turns count choose h q (one_turn h q (choose m) m).next).next)
@@ -89,8 +91,15 @@ turns_stay q (suc count) choose h m plain good = go (is_due h q (choose m) m) re
         let ready : is_ready (standing h q m) (choose m) ≡ true = grind (arith, nat_tests) in
         let fine : Fine q h m.scene (m.lanes q) (turned h q (choose m) m) = turn_fine q h (choose m) m plain good ready in
         let later = rest (turn_right q h (choose m) m plain good due).good in
-        (later.0 ∙ ap (λ (l : Lane). l.attached) (at_own m.lanes q (turned h q (choose m) m).lane) ∙ turned_stays q h (choose m) m, later.1 ∙ fine.collects)
-    go false due rest = (refl, refl)
+        record {
+          joined = later.joined ∙ ap (λ (l : Lane). l.attached) (at_own m.lanes q (turned h q (choose m) m).lane) ∙ turned_stays q h (choose m) m;
+          collects = later.collects ∙ fine.collects;
+          idle = λ stopped.
+              let after = later.idle stopped in
+              let first : IsIdle q h m.scene (one_turn h q (choose m) m).next.scene = fine.idle after.0 in
+              (first.stopped, after.1 ∙ first.accepts);
+        }
+    go false due rest = record { joined = refl; collects = refl; idle = λ stopped. (stopped, refl) }
 
 -- ---- where no turn is due
 
@@ -138,9 +147,9 @@ counter_left q h n good rest few =
     grind (arith, nat_tests)
 
 -- a drain that began with so many accepted has nothing to do
-ends_drained : (q : ℕ) (h : Header1) (before : ℕ) (n : Moment) → IsPlain h → Good q h n → length (n.scene.heads q) < last_counter → (n.lanes q).attached ≡ true → collected n.scene.past q ≤ before → is_due h q (drain_choice h q before n) n ≡ false
+ends_drained : (q : ℕ) (h : Header1) (before : ℕ) (n : Moment) → IsPlain h → Good q h n → length (n.scene.heads q) < last_counter → (n.lanes q).attached ≡ true → collected n.scene.past q ≤ before → (started n.scene.past q ≡ false → accepted n.scene.past q ≡ before) → is_due h q (drain_choice h q before n) n ≡ false
     → (open_numbers n.scene.past q ≡ []) × (accepted n.scene.past q ≡ offers n.scene.past q)
-ends_drained q h before n plain good counts attached low ends =
+ends_drained q h before n plain good counts attached low idle ends =
     let l : Lane = n.lanes q in
     let st : Standing = standing h q n in
     let a : ℕ = accepted n.scene.past q - before in
@@ -168,7 +177,7 @@ ends_drained q h before n plain good counts attached low ends =
           let fetches : nat_lt a h.size ≡ false = grind (arith, nat_tests) in
           let none : NoneLeft h.size st = draining_unready h.size st (subst (λ (b : Bool). is_ready st (if b then any_turn h.size st else draining_turn h.size st) ≡ false) fetches unready) in
           elim (cases_Bool (started n.scene.past q)) [
-            | inr stopped ↦ absurd (let none : accepted n.scene.past q ≡ 0 = good.idle stopped in omega arith)
+            | inr stopped ↦ absurd (omega (arith, idle stopped, some, many))
             | inl run ↦
                 let other : l.phase ≡ phases.Fetch 1 → ⊥ = λ phase. omega (arith, fetch_more q h n.scene l plain.good.size phase good.holds, known.room) in
                 let rest = at_rest q h n good run other none.publish in
@@ -183,10 +192,10 @@ drained q h m is next plain good counts attached (inl none) =
     let same : next ≡ m = ap (λ (p : Played). p.next) none.1 in
     let known : Known q h.size h.capacity m.scene.past (m.scene.heads q) = good.holds.known in
     let low : collected m.scene.past q ≤ accepted m.scene.past q = omega (arith, known.shown, known.fewer) in
-    subst (λ (n : Moment). (open_numbers n.scene.past q ≡ []) × (accepted n.scene.past q ≡ offers n.scene.past q)) (sym same) (ends_drained q h (accepted m.scene.past q) m plain good (subst (λ (n : Moment). length (n.scene.heads q) < last_counter) same counts) attached low none.0)
+    subst (λ (n : Moment). (open_numbers n.scene.past q ≡ []) × (accepted n.scene.past q ≡ offers n.scene.past q)) (sym same) (ends_drained q h (accepted m.scene.past q) m plain good (subst (λ (n : Moment). length (n.scene.heads q) < last_counter) same counts) attached low (λ stopped. refl) none.0)
 drained q h m is next plain good counts attached (inr some) =
     let d : IsDrained h q m (drain_choice h q (accepted m.scene.past q)) is next = some.1 in
     let known : Known q h.size h.capacity m.scene.past (m.scene.heads q) = good.holds.known in
     let right : Right q h m is next = drain_right q h m (drain_choice h q (accepted m.scene.past q)) is next plain good (inr some) in
     let stays : Stays q m next = subst (λ (n : Moment). Stays q m n) (sym (ap (λ (p : Played). p.next) d.made)) (turns_stay q d.count (drain_choice h q (accepted m.scene.past q)) h m plain good) in
-    ends_drained q h (accepted m.scene.past q) next plain right.good counts (stays.0 ∙ attached) (omega (arith, stays.1, known.shown, known.fewer)) d.ends
+    ends_drained q h (accepted m.scene.past q) next plain right.good counts (stays.joined ∙ attached) (omega (arith, stays.collects, known.shown, known.fewer)) (λ stopped. (stays.idle stopped).1) d.ends

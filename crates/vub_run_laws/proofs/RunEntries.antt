@@ -38,7 +38,7 @@ use Rattle.vub_report.specs.Histories.{entries_of, history_of}
 use Rattle.vub_report.proofs.HistoryLemmas.{entries-append}
 use Rattle.vub_run.specs.Memory.{Scene, after_items}
 use Rattle.vub_run.specs.Moments.{Lane, Moment, fresh, attached, unfinished}
-use Rattle.vub_run.specs.Run.{Played, played, if_ready, ask, guest, guest_items, guest_stores, take_first, collect, boot, join, one_turn, is_due, then_played, turns as many_turns, single, up_to, any_choice, drain_choice, Drains, Plays, RunFrom, RunTo}
+use Rattle.vub_run.specs.Run.{Played, played, if_ready, ask, guest, guest_items, guest_stores, take_first, collect, boot, join, one_turn, is_due, then_played, turns as many_turns, single, up_to, any_choice, drain_choice, Drains, Plays, RunFrom, RunTo, kill, ended}
 use Rattle.vub_run.specs.TaskItems.{look_items, act_items}
 use Rattle.vub_run.specs.Turns.{course_of, turned, row_items, bell_items, entry_items, step_stores, phase_turn, phase_goes_on, under_way, work_turn, request_turn, task_turn}
 use Rattle.vub_run_laws.proofs.Runs.{plain_header}
@@ -312,6 +312,9 @@ boot_makes m = tested (not m.lives) (played [] (record m { lives = true; joined 
 join_makes : (m : Moment) → Makes (join m).items
 join_makes m = tested (m.lives && not m.joined) (played [] (record m { joined = true; lanes = λ q. attached (m.lanes q) })) m tt
 
+kill_makes : (h : Header1) (m : Moment) → Makes (kill h m).items
+kill_makes h m = tested m.lives (played (items.Made entries.Kill ∷ []) (ended (record m { scene = after_items h (items.Made entries.Kill ∷ []) m.scene }))) m (tt, tt)
+
 pub event_enters : (q : ℕ) (h : Header1) (m : Moment) (e : Event) (is : List Item) (next : Moment) → IsPlain h → Good q h m → IsOn q e → IsEvent h e → Plays h m e is next → Enters q m.scene.past is
 event_enters q h m (events.Ask p shape a) is next plain good on fits plays =
     made_enters q m.scene.past is (made_makes is next (ask h p shape a m) plays (tested (can_take h.size shape a (m.lanes p).driver) _ m tt))
@@ -323,6 +326,7 @@ event_enters q h m (events.Collect p) is next plain good on fits plays =
     made_enters q m.scene.past is (made_makes is next (collect h q m) here (taken_makes q h _ m))
 event_enters q h m events.Boot is next plain good on fits plays = made_enters q m.scene.past is (made_makes is next (boot m) plays (boot_makes m))
 event_enters q h m events.Join is next plain good on fits plays = made_enters q m.scene.past is (made_makes is next (join m) plays (join_makes m))
+event_enters q h m events.Kill is next plain good on fits plays = made_enters q m.scene.past is (made_makes is next (kill h m) plays (kill_makes h m))
 event_enters q h m (events.Start p) is next plain good on fits plays =
     let here : Plays h m (events.Start q) is next = subst (λ (p : ℕ). Plays h m (events.Start p) is next) on plays in
     made_enters q m.scene.past is (made_makes is next (single h q turns.Start m) here (single_makes q h turns.Start m good))

@@ -21,7 +21,7 @@ use Rattle.vub_device.specs.declared.entry.Asked.{Asked}
 use Rattle.vub_device.specs.declared.entry.Entry.{Entry}
 use Rattle.vub_device.specs.declared.entry.Entry.TheVariants as entries
 use Rattle.vub_device.specs.Legal.{LegalFrom, after}
-use Rattle.vub_device.specs.Past.{asked, accepted, is_among, started}
+use Rattle.vub_device.specs.Past.{asked, accepted, started}
 use Rattle.vub_schedule.specs.declared.types.Event.{Event}
 use Rattle.vub_schedule.specs.declared.types.Event.TheVariants as events
 use Rattle.vub_schedule.specs.Spelling.{IsAsk, IsEvent}
@@ -29,14 +29,14 @@ use Rattle.vub_report.specs.declared.items.Item.{Item}
 use Rattle.vub_report.specs.declared.items.Item.TheVariants as items
 use Rattle.vub_run.specs.Memory.{Scene, with_at, after_items}
 use Rattle.vub_run.specs.Moments.{Lane, Moment, fresh, attached, standing}
-use Rattle.vub_run.specs.Run.{Played, played, if_ready, with_lane, comes_about, with_driver, ask, guest, guest_items, guest_stores, take_first, collect, boot, join, one_turn, is_due, then_played, turns, single, up_to, any_choice, drain_choice, Drains, Plays}
+use Rattle.vub_run.specs.Run.{Played, played, if_ready, with_lane, comes_about, with_driver, ask, guest, guest_items, guest_stores, take_first, collect, boot, join, one_turn, is_due, then_played, turns, single, up_to, any_choice, drain_choice, Drains, Plays, ended, kill}
 use Rattle.vub_device.specs.Requests.{request_of}
 use Rattle.vub_run.specs.Tracking.{Tracks, AfterEach}
 use Rattle.vub_report.specs.Histories.{entries_of}
 use Rattle.vub_run.specs.Turns.{turned}
-use Rattle.vub_run_laws.proofs.RunQueue.{queue_rests, queue_attached, queue_left, queue_stands, queue_first, queue_free, takes, sees}
-use Rattle.vub_run_laws.proofs.RunGood.{IsPending, hidden, Worked}
-use Rattle.vub_run_laws.proofs.RunHolds.{Holds, EntryStands}
+use Rattle.vub_run_laws.proofs.RunQueue.{queue_rests, queue_attached, queue_left, queue_stands, queue_first, queue_free, takes, sees, queue_killed}
+use Rattle.vub_run_laws.proofs.RunGood.{pending_none, Known}
+use Rattle.vub_run_laws.proofs.RunHolds.{Holds, EntryStands, QueueFacts}
 use Rattle.vub_run_laws.proofs.RunGuests.{holds_track, offered, Offered, guest_holds, Unoffered, part_holds, left_waits, rest_waits, waits_well}
 use Rattle.vub_run_laws.proofs.RunWork.{Fine}
 use Rattle.vub_run_laws.proofs.RunItems.{after-append, each-append, legal-append, past_after}
@@ -45,6 +45,8 @@ use Rattle.vub_run_laws.proofs.RunTurns.{IsPlain, Good, turn_fine}
 use Rattle.vub_run_laws.proofs.RunAsks.{plain_ask, ask_holds}
 use Rattle.vub_run_laws.proofs.RunTaken.{IsTaken, next_number}
 use Rattle.vub_run_laws.proofs.RunCollects.{taken_holds, taken_legal}
+use Rattle.vub_run_laws.proofs.RingGood.{CountsLow}
+use Rattle.vub_run_laws.proofs.RingCounters.{killed_counts}
 
 -- items from one moment to another
 pub record Right (q : ℕ) (h : Header1) (m : Moment) (is : List Item) (next : Moment) : Type 0 where
@@ -88,17 +90,17 @@ tested q h m false p plain good then = idle_right q h m plain good
 -- ---- the driver
 
 -- what holds of a lane holds where it is set
-lane_good : (q : ℕ) (h : Header1) (n : Moment) (l : Lane) → Holds q h n.scene l → (n.lives ≡ false → (l.attached ≡ false) × (started n.scene.past q ≡ false)) → (started n.scene.past q ≡ false → accepted n.scene.past q ≡ 0) → Good q h (with_lane q l n)
-lane_good q h n l holds asleep idle =
+lane_good : (q : ℕ) (h : Header1) (n : Moment) (l : Lane) → Holds q h n.scene l → (n.lives ≡ false → (l.attached ≡ false) × (started n.scene.past q ≡ false)) → (started n.scene.past q ≡ false → CountsLow q h n.scene) → Good q h (with_lane q l n)
+lane_good q h n l holds asleep counts =
     let own : with_at n.lanes q l q ≡ l = at_own n.lanes q l in record {
       holds = subst (λ (x : Lane). Holds q h n.scene x) (sym own) holds;
       asleep = λ dead. (ap (λ (x : Lane). x.attached) own ∙ (asleep dead).0, (asleep dead).1);
-      idle = idle;
+      counts = counts;
     }
 
 ask_right : (q : ℕ) (h : Header1) (m : Moment) (a : Ask) → IsPlain h → Good q h m → IsAsk h a → Leads q h m (ask h q Direct a m)
 ask_right q h m a plain good is = tested q h m (can_take h.size Direct a (m.lanes q).driver) (played [] (with_lane q (with_driver (takes q h a (m.lanes q).driver) (m.lanes q)) m)) plain good (λ ready. record {
-  good = lane_good q h m (with_driver (takes q h a (m.lanes q).driver) (m.lanes q)) (ask_holds q h m.scene (m.lanes q) a plain.good (plain_ask h a is) ready good.holds) good.asleep good.idle;
+  good = lane_good q h m (with_driver (takes q h a (m.lanes q).driver) (m.lanes q)) (ask_holds q h m.scene (m.lanes q) a plain.good (plain_ask h a is) ready good.holds) good.asleep good.counts;
   each = tt;
   scene = refl;
   legal = tt;
@@ -109,7 +111,7 @@ offers_right : (q : ℕ) (h : Header1) (m : Moment) (r : Asked) (is : List Item)
 offers_right q h m r is good all = record {
   good = lane_good q h (record m { scene = after_items h is m.scene }) (offered (m.lanes q)) all.holds
       (λ dead. ((good.asleep dead).0, ap (λ (p : List Entry). started p q) all.past ∙ (good.asleep dead).1))
-      (λ stopped. ap (λ (p : List Entry). accepted p q) all.past ∙ good.idle (sym (ap (λ (p : List Entry). started p q) all.past) ∙ stopped));
+      (λ stopped. all.counts (good.counts (sym (ap (λ (p : List Entry). started p q) all.past) ∙ stopped)));
   each = all.each;
   scene = refl;
   legal = all.legal;
@@ -134,7 +136,7 @@ guest_part q h m w count plain good waiting less =
     let next : Leads q h m (comes_about h q is (with_driver v' l) m) = record {
       good = lane_good q h (record m { scene = s' }) (with_driver v' l) (rest_waits q h s' l w (drop count w.left) part.waits part.holds)
           (λ dead. ((good.asleep dead).0, ap (λ (p : List Entry). started p q) part.past ∙ (good.asleep dead).1))
-          (λ stopped. ap (λ (p : List Entry). accepted p q) part.past ∙ good.idle (sym (ap (λ (p : List Entry). started p q) part.past) ∙ stopped));
+          (λ stopped. part.counts (good.counts (sym (ap (λ (p : List Entry). started p q) part.past) ∙ stopped)));
       each = part.each;
       scene = refl;
       legal = subst (λ (es : List Entry). LegalFrom h.capacity h.mode m.scene.past es) (sym part.none) tt;
@@ -172,7 +174,7 @@ collect_right q h m plain good = go (sees q h m.scene) refl
         let v : Driver = record l.driver { owner = without_owner x.0 l.driver.owner } in
         let next = taken_holds q h m.scene l x.0 k t in
         let whole : Leads q h m (comes_about h q (items.Made (entries.Collect q k) ∷ []) (with_driver v l) m) = record {
-          good = lane_good q h (record m { scene = record m.scene { past = entries.Collect q k ∷ m.scene.past } }) (with_driver v l) next good.asleep good.idle;
+          good = lane_good q h (record m { scene = record m.scene { past = entries.Collect q k ∷ m.scene.past } }) (with_driver v l) next good.asleep (λ stopped j is_open. good.counts stopped j (record { taken = is_open.taken; unpublished = is_open.unpublished }));
           each = (inr (holds_track q h (record m.scene { past = entries.Collect q k ∷ m.scene.past }) (with_driver v l) plain.good next), tt);
           scene = refl;
           legal = (taken_legal q h m.scene l x.0 t, tt);
@@ -181,39 +183,38 @@ collect_right q h m plain good = go (sees q h m.scene) refl
 
 -- ---- lives
 
-fresh_worked : (q : ℕ) (past : List Entry) (l : Lane) → started past q ≡ false → Worked q past l.phase (hidden l.batch l.phase) l.completed l.made → Worked q past phases.Rest [] [] (λ k. 0)
-fresh_worked q past l stopped w =
-    let none : (k : ℕ) → l.made k ≡ 0 = (w.quiet stopped).1.1 in record {
-      distinct = refl;
-      opens = λ k held. absurd (let fails : false ≡ true = held in cc);
-      untouched = λ k high. refl;
-      progress = λ k. record { fresh = λ e. (w.progress k).fresh (none k); begun = λ some. absurd (omega arith) };
-      full = λ k held. absurd (let fails : false ≡ true = held in cc);
-      pending = λ k is_open out. subst (λ (c : ℕ). IsPending c (asked past q k)) (none k) (w.pending k is_open (ap (λ (xs : List ℕ). is_among (xs ++ hidden l.batch l.phase) k) (w.quiet stopped).1.0 ∙ ap (λ (xs : List ℕ). is_among xs k) (w.quiet stopped).0));
-      quiet = λ e. (refl, (refl, λ k. refl));
-      between = tt;
-    }
+-- nothing is under way on a queue that isn't started
+fresh_holds : (q : ℕ) (h : Header1) (s : Scene) (l : Lane) → started s.past q ≡ false → Known q h.size h.capacity s.past (s.heads q) → QueueFacts q h s l.driver false New 0 [] phases.Rest → Holds q h s (fresh l)
+fresh_holds q h s l stopped known queue = record {
+  known = known;
+  worked = record {
+    distinct = refl;
+    opens = λ k held. absurd (let fails : false ≡ true = held in cc);
+    untouched = λ k high. refl;
+    progress = λ on. absurd (let fails : true ≡ false = sym on ∙ stopped in cc);
+    full = λ k held. absurd (let fails : false ≡ true = held in cc);
+    pending = λ k is_open out. pending_none (asked s.past q k);
+    quiet = λ e. (refl, (refl, λ k. refl));
+    between = tt;
+  };
+  stored = record { sectors = λ k i is_open kept read. absurd (omega (arith, kept.put)); status = λ k held. absurd (let fails : false ≡ true = held in cc) };
+  carries = record {
+    distinct = refl;
+    shown = λ k held out. absurd (let fails : false ≡ true = held in cc);
+    quiet = λ e. refl;
+    low = omega arith;
+  };
+  queue = queue;
+}
 
 boot_right : (q : ℕ) (h : Header1) (m : Moment) → IsPlain h → Good q h m → Leads q h m (boot m)
 boot_right q h m plain good = tested q h m (not m.lives) (played [] (record m { lives = true; joined = false; lanes = λ q. fresh (m.lanes q) })) plain good (λ ready.
     let dead : m.lives ≡ false = grind (arith, nat_tests) in
     let stopped : started m.scene.past q ≡ false = (good.asleep dead).1 in record {
       good = record {
-        holds = record {
-          known = good.holds.known;
-          worked = fresh_worked q m.scene.past (m.lanes q) stopped good.holds.worked;
-          stored = record { sectors = λ k i is_open kept read. absurd (omega (arith, kept.put)); status = λ k held. absurd (let fails : false ≡ true = held in cc) };
-          carries = record {
-            distinct = refl;
-            shown = λ k held out. absurd (let fails : false ≡ true = held in cc);
-            quiet = λ e. refl;
-            low = omega arith;
-            idle = good.holds.carries.idle;
-          };
-          queue = queue_rests q h m.scene (m.lanes q).driver (m.lanes q).bell false (m.lanes q).plan New (m.lanes q).counter 0 (m.lanes q).batch (m.lanes q).phase stopped good.holds.queue;
-        };
+        holds = fresh_holds q h m.scene (m.lanes q) stopped good.holds.known (queue_rests q h m.scene (m.lanes q).driver (m.lanes q).bell false (m.lanes q).plan New (m.lanes q).counter 0 (m.lanes q).batch (m.lanes q).phase stopped good.holds.queue);
         asleep = λ e. absurd (let fails : true ≡ false = e in cc);
-        idle = good.idle;
+        counts = good.counts;
       };
       each = tt;
       scene = refl;
@@ -225,12 +226,43 @@ join_right q h m plain good = tested q h m (m.lives && not m.joined) (played [] 
   good = record {
     holds = record { known = good.holds.known; worked = good.holds.worked; stored = good.holds.stored; carries = good.holds.carries; queue = queue_attached q h m.scene (m.lanes q).driver (m.lanes q).bell (m.lanes q).plan (m.lanes q).counter (m.lanes q).batch (m.lanes q).phase good.holds.queue };
     asleep = λ dead. absurd (grind (arith, nat_tests));
-    idle = good.idle;
+    counts = good.counts;
   };
   each = tt;
   scene = refl;
   legal = tt;
 })
+
+-- what was offered, accepted and shown stands
+killed_known : (q n cap : ℕ) (past : List Entry) (heads : List ℕ) → Known q n cap past heads → Known q n cap (entries.Kill ∷ past) heads
+killed_known q n cap past heads a = record {
+  offers_are = a.offers_are;
+  offered = a.offered;
+  distinct = a.distinct;
+  below = a.below;
+  shown = a.shown;
+  fewer = a.fewer;
+  room = a.room;
+  good = a.good;
+  wide = a.wide;
+  unfaulted = a.unfaulted;
+  values = a.values;
+}
+
+-- a life ends, whatever is under way
+kill_right : (q : ℕ) (h : Header1) (m : Moment) → IsPlain h → Good q h m → Leads q h m (kill h m)
+kill_right q h m plain good = tested q h m m.lives (played (items.Made entries.Kill ∷ []) (ended (record m { scene = s' }))) plain good (λ ready. record {
+  good = record { holds = holds; asleep = λ dead. (refl, refl); counts = λ stopped. killed_counts q h m.scene (m.lanes q) good.holds good.counts };
+  each = (inr (holds_track q h s' (fresh (m.lanes q)) plain.good holds), tt);
+  scene = refl;
+  legal = (tt, tt);
+})
+  where
+    s' : Scene
+    s' = after_items h (items.Made entries.Kill ∷ []) m.scene
+
+    holds : Holds q h s' (fresh (m.lanes q))
+    holds = fresh_holds q h s' (m.lanes q) refl (killed_known q h.size h.capacity m.scene.past (m.scene.heads q) good.holds.known) (queue_killed q h m.scene (m.lanes q) good.holds.queue)
 
 -- ---- turns
 
@@ -241,7 +273,7 @@ turn_right q h t m plain good due =
     let fine : Fine q h m.scene (m.lanes q) (turned h q t m) = turn_fine q h t m plain good ready in record {
       good = lane_good q h (record m { scene = after_items h (turned h q t m).items m.scene }) (turned h q t m).lane fine.holds
           (λ dead. absurd (let fails : true ≡ false = sym joined ∙ (good.asleep dead).0 in cc))
-          (λ stopped. (fine.idle stopped).1 ∙ good.idle (fine.idle stopped).0);
+          (λ stopped. (fine.idle stopped).counts);
       each = fine.each;
       scene = refl;
       legal = fine.legal;
@@ -288,6 +320,7 @@ event_right q h m (events.Collect p) is next plain good entry on fits plays =
     made_right q h m is next (collect h q m) here (collect_right q h m plain good)
 event_right q h m events.Boot is next plain good entry on fits plays = made_right q h m is next (boot m) plays (boot_right q h m plain good)
 event_right q h m events.Join is next plain good entry on fits plays = made_right q h m is next (join m) plays (join_right q h m plain good)
+event_right q h m events.Kill is next plain good entry on fits plays = made_right q h m is next (kill h m) plays (kill_right q h m plain good)
 event_right q h m (events.Start p) is next plain good entry on fits plays =
     let here : Plays h m (events.Start q) is next = subst (λ (p : ℕ). Plays h m (events.Start p) is next) on plays in
     made_right q h m is next (single h q Start m) here (single_right q h Start m plain good)

@@ -14,7 +14,7 @@ use Rattle.vub_report.specs.declared.items.Item.{Item}
 use Rattle.vub_report.specs.declared.items.Item.TheVariants as items
 use Rattle.vub_report.specs.declared.items.Record.{Record}
 use Rattle.vub_run.specs.Moments.{Moment, opening}
-use Rattle.vub_run.specs.Run.{Played, played, ask, guest, collect, boot, join, one_turn, is_due, then_played, turns, single, up_to, any_choice, drain_choice, Drains, Plays, RunFrom, Run}
+use Rattle.vub_run.specs.Run.{Played, played, ask, guest, collect, boot, join, kill, one_turn, is_due, then_played, turns, single, up_to, any_choice, drain_choice, Drains, Plays, RunFrom, Run}
 use Rattle.vub_run_laws.proofs.RunTurns.{IsPlain, Good}
 use Rattle.vub_run_laws.proofs.RunEvents.{turn_right}
 use Rattle.vub_run_laws.proofs.RunEnds.{effort_at, turn_falls}
@@ -68,6 +68,7 @@ event_plays q h m (events.Fetch p) plain good on fits = record { items = (single
 event_plays q h m (events.Work p place) plain good on fits = record { items = (single h p (Work place) m).items; next = (single h p (Work place) m).next; plays = refl }
 event_plays q h m (events.Publish p most) plain good on fits = record { items = (single h p (Publish most) m).items; next = (single h p (Publish most) m).next; plays = refl }
 event_plays q h m (events.Turn p count) plain good on fits = record { items = (up_to count (any_choice h p) h p m).items; next = (up_to count (any_choice h p) h p m).next; plays = refl }
+event_plays q h m events.Kill plain good on fits = record { items = (kill h m).items; next = (kill h m).next; plays = refl }
 event_plays q h m (events.Drain p) plain good on fits =
     let d = drain_plays q h m (drain_choice h q (accepted m.scene.past q)) plain good in
     record { items = d.0; next = d.1; plays = subst (λ (p : ℕ). Plays h m (events.Drain p) d.0 d.1) (sym on) d.2 }

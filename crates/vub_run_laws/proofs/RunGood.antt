@@ -1,6 +1,6 @@
 -- What holds of a queue at every moment of a run, part by part: its history, the work, what stands in buffers.
-use Rattle.std.proofs.Common.{◌≡◌, ◌≤◌, ◌<◌, ℕ, ◌+◌, ◌*◌, ◌/◌, ◌%◌, Bool, true, false, List, [], ◌++◌, length, take}
-use Rattle.std.specs.Prelude.{Option, Some, slice_index, nat_lt, if◌then◌else◌, ⊤}
+use Rattle.std.proofs.Common.{◌≡◌, ◌≤◌, ◌<◌, ℕ, ◌+◌, ◌*◌, ◌/◌, ◌%◌, Bool, true, false, List, [], ◌++◌, length, take, arith}
+use Rattle.std.specs.Prelude.{Option, Some, slice_index, nat_lt, if◌then◌else◌, ⊤, None}
 use Rattle.std.specs.Int.{◌∣◌}
 use Rattle.std.specs.List.{AllByRecursion}
 use Rattle.vub_base.specs.declared.header.Header1.{Header1}
@@ -114,6 +114,16 @@ IsPending made (Some (asks.Write s bytes)) = made ≤ length bytes / 512
 IsPending made (Some asks.Flush) = made ≤ 1
 IsPending made r = ⊤
 
+-- before the first one all of them are
+pub pending_none : (o : Option Asked) → IsPending 0 o
+pending_none (Some (asks.Read s n)) = omega arith
+pending_none (Some (asks.Write s bytes)) = omega arith
+pending_none (Some asks.Flush) = omega arith
+pending_none (Some asks.Id) = tt
+pending_none (Some (asks.Discard parts)) = tt
+pending_none (Some (asks.Zero parts)) = tt
+pending_none None = tt
+
 -- between turns a queue is at rest, in a start, in a fetch whose counter is stored, or in a publication
 abbrev pub BetweenTurns : Phase → Type 0
 BetweenTurns (phases.Fetch done) = done ≡ 1
@@ -143,12 +153,12 @@ StartIs runs n bell plan phases.Rest = ⊤
 StartIs runs n bell plan (phases.Start done) = InStart runs n bell plan done
 StartIs runs n bell plan phase = runs ≡ true
 
--- of the numbers that are completed, or in a batch that isn't shown
+-- of the numbers that are completed, or in a batch that isn't shown. What a request has done is counted from the start of its queue on
 pub record Worked (q : ℕ) (past : List Entry) (phase : Phase) (batch completed : List ℕ) (made : ℕ → ℕ) : Type 0 where
   pub distinct : are_distinct (completed ++ batch) ≡ true
   pub opens : (k : ℕ) → is_among (completed ++ batch) k ≡ true → IsOpen past q k
   pub untouched : (k : ℕ) → accepted past q ≤ k → made k ≡ 0
-  pub progress : (k : ℕ) → Progress (made k) (looks past q k) (acts past q k) (bytes_read past q k) (synced past q k) (asked past q k)
+  pub progress : started past q ≡ true → (k : ℕ) → Progress (made k) (looks past q k) (acts past q k) (bytes_read past q k) (synced past q k) (asked past q k)
   pub full : (k : ℕ) → is_among (completed ++ batch) k ≡ true → IsFull (made k) (asked past q k)
   pub pending : (k : ℕ) → IsOpen past q k → is_among (completed ++ batch) k ≡ false → IsPending (made k) (asked past q k)
   pub quiet : started past q ≡ false → (batch ≡ []) × ((completed ≡ []) × ((k : ℕ) → made k ≡ 0))
@@ -160,13 +170,12 @@ IsLow taken counter (phases.Fetch done) = counter ≤ taken + done
 IsLow taken counter phase = counter ≤ taken
 
 -- The batch and the counter. No number of the batch is completed too, and none stands twice; where the batch is shown its
--- numbers are published. Before the start of a queue there is no batch, and nothing was accepted.
+-- numbers are published. Before the start of a queue there is no batch.
 pub record Carries (q : ℕ) (past : List Entry) (counter : ℕ) (phase : Phase) (batch completed : List ℕ) : Type 0 where
   pub distinct : are_distinct (completed ++ batch) ≡ true
   pub shown : (k : ℕ) → is_among batch k ≡ true → is_among (hidden batch phase) k ≡ false → is_among (published past q) k ≡ true
   pub quiet : started past q ≡ false → batch ≡ []
   pub low : IsLow (accepted past q) counter phase
-  pub idle : started past q ≡ false → accepted past q ≡ 0
 
 -- ---- what stands in buffers
 

@@ -1,6 +1,6 @@
 -- The driver's stores keep what holds, up to the offer.
-use Rattle.std.proofs.Common.{◌≡◌, ◌≤◌, ◌<◌, ℕ, zero, suc, List, [], ◌∷◌, length, drop, refl, sym, subst, inl, inr, arith}
-use Rattle.std.specs.Prelude.{Some}
+use Rattle.std.proofs.Common.{◌≡◌, ◌≤◌, ◌<◌, ℕ, zero, suc, List, [], ◌∷◌, length, drop, refl, sym, subst, inl, inr, arith, ◌++◌, ap, ◌∙◌}
+use Rattle.std.specs.Prelude.{Some, slice_index}
 use Rattle.vub_base.specs.declared.header.CacheMode.{CacheMode}
 use Rattle.vub_base.specs.declared.header.Header1.{Header1}
 use Rattle.vub_shared.specs.Bytes.{Bytes}
@@ -14,15 +14,18 @@ use Rattle.vub_device.specs.Requests.{request_of}
 use Rattle.vub_report.specs.declared.items.Item.{Item}
 use Rattle.vub_report.specs.Histories.{entries_of}
 use Rattle.vub_run.specs.Memory.{Scene, after_items}
-use Rattle.vub_run.specs.Moments.{Lane}
+use Rattle.vub_run.specs.Moments.{Lane, region_in}
 use Rattle.vub_run.specs.Run.{guest_items, with_driver}
 use Rattle.vub_run.specs.Tracking.{Tracks, AfterEach}
 use Rattle.vub_run_laws.proofs.RunGood.{Known, hidden, Stored, stored_at, IsGood}
 use Rattle.vub_run_laws.proofs.RunHolds.{Holds, StoresBefore, offered_scene, StoresLast, offered_by, IsWaiting, LastStands}
 use Rattle.vub_run_laws.proofs.RunQueue.{queue_waiting, queue_waits, queue_before, queue_last, queue_tracks}
 use Rattle.vub_run_laws.proofs.RunFrames.{open_out, stored_elsewhere}
-use Rattle.vub_run_laws.proofs.RunOffers.{offer_known, offer_worked, offer_stored}
+use Rattle.vub_run_laws.proofs.RunOffers.{offer_known, offer_worked, offer_stored, same_head}
 use Rattle.vub_run_laws.proofs.RunCarries.{carries_on, batch_taken}
+use Rattle.vub_run_laws.proofs.RingGood.{CountsLow}
+use Rattle.vub_run_laws.proofs.RingCounters.{stored_counter}
+use Rattle.vub_device.specs.Past.{IsOpen, accepted}
 
 pub holds_track : (q : ℕ) (h : Header1) (s : Scene) (l : Lane) → IsGood h → Holds q h s l → Tracks h q s
 holds_track q h s l good holds = queue_tracks q h s l.driver l.bell l.plan l.counter l.batch l.phase good.size holds.known holds.queue
@@ -55,12 +58,24 @@ last_holds q h s l w st left waits holds next =
       queue = next.queue;
     }
 
+-- the counters of open requests: a store into guest memory leaves them, and an offer makes none
+counts_stored : (q : ℕ) (h : Header1) (s : Scene) (p : ℕ) (bs : List ℕ) → CountsLow q h s → CountsLow q h (stored_at p bs s)
+counts_stored q h s p bs low k is_open = omega (arith, low k is_open, stored_counter q h s p bs (slice_index (s.heads q) k))
+
+counts_offered : (q : ℕ) (h : Header1) (s : Scene) (l : Lane) (w : Waiting) (st : Store) → Holds q h s l → (offered_scene q h w st s).heads q ≡ s.heads q ++ w.head ∷ [] → CountsLow q h s → CountsLow q h (offered_scene q h w st s)
+counts_offered q h s l w st holds heads low k is_open =
+    let before : IsOpen s.past q k = record { taken = is_open.taken; unpublished = is_open.unpublished } in
+    let head : slice_index ((offered_scene q h w st s).heads q) k ≡ slice_index (s.heads q) k =
+    ap (λ (hs : List ℕ). slice_index hs k) heads ∙ same_head (s.heads q) w.head k (omega (arith, is_open.taken, holds.known.offered)) in
+    subst (λ (d : ℕ). (region_in h q (stored_at st.place st.bytes s)).counter d < accepted s.past q) (sym head) (counts_stored q h s st.place st.bytes low k before)
+
 -- ---- all that are left, up to the offer
 
 -- what all stores that are left and the offer leave
 pub record Offered (q : ℕ) (h : Header1) (mode : CacheMode) (s : Scene) (l : Lane) (r : Asked) (is : List Item) : Type 0 where
   pub each : AfterEach h (Tracks h q) s is
   pub holds : Holds q h (after_items h is s) (offered l)
+  pub counts : CountsLow q h s → CountsLow q h (after_items h is s)
   pub legal : LegalFrom h.capacity mode s.past (entries_of is)
   pub past : (after_items h is s).past ≡ entries.Offer q r ∷ s.past
 
@@ -73,6 +88,7 @@ guest_holds q h mode s l w (suc count) (st ∷ []) good waits stands some enough
     let done = last_holds q h s l w st (st ∷ []) waits holds next in record {
       each = (inl tt, (inr (holds_track q h (offered_scene q h w st s) (offered l) good done), tt));
       holds = done;
+      counts = counts_offered q h s l w st holds next.heads;
       legal = (tt, tt);
       past = refl;
     }
@@ -83,6 +99,7 @@ guest_holds q h mode s l w (suc count) (st ∷ st' ∷ left) good waits stands s
     let rest = guest_holds q h mode s' l w count (st' ∷ left) good next.waits next.last (omega arith) (omega arith) then in record {
       each = (inr (holds_track q h s' l good then), rest.each);
       holds = rest.holds;
+      counts = λ low. rest.counts (counts_stored q h s st.place st.bytes low);
       legal = rest.legal;
       past = rest.past;
     }
@@ -99,12 +116,13 @@ pub record Unoffered (q : ℕ) (h : Header1) (s : Scene) (l : Lane) (w : Waiting
   pub holds : Holds q h (after_items h is s) l
   pub waits : IsWaiting q h.size h.capacity (after_items h is s).past ((after_items h is s).heads q) l.driver (record w { left = left })
   pub none : entries_of is ≡ []
+  pub counts : CountsLow q h s → CountsLow q h (after_items h is s)
   pub past : (after_items h is s).past ≡ s.past
 
 -- fewer stores than are left
 pub part_holds : (q : ℕ) (h : Header1) (s : Scene) (l : Lane) (w : Waiting) (count : ℕ) (left : List Store) → IsGood h → IsWaiting q h.size h.capacity s.past (s.heads q) l.driver (record w { left = left }) → count < length left → Holds q h s l
     → Unoffered q h s l w (guest_items count q w.ask left) (drop count left)
-part_holds q h s l w zero left good waits few holds = record { each = tt; holds = holds; waits = waits; none = refl; past = refl }
+part_holds q h s l w zero left good waits few holds = record { each = tt; holds = holds; waits = waits; none = refl; counts = λ low. low; past = refl }
 part_holds q h s l w (suc count) [] good waits few holds = absurd (omega arith)
 part_holds q h s l w (suc count) (st ∷ []) good waits few holds = absurd (omega arith)
 part_holds q h s l w (suc count) (st ∷ st' ∷ left) good waits few holds =
@@ -116,6 +134,7 @@ part_holds q h s l w (suc count) (st ∷ st' ∷ left) good waits few holds =
       holds = rest.holds;
       waits = rest.waits;
       none = rest.none;
+      counts = λ low. rest.counts (counts_stored q h s st.place st.bytes low);
       past = rest.past;
     }
 

@@ -22,10 +22,10 @@ use Rattle.vub_device.specs.Past.{started, accepted, published, collected, is_am
 use Rattle.vub_device.specs.Requests.{request_of}
 use Rattle.vub_report.specs.declared.items.Item.TheVariants as items
 use Rattle.vub_run.specs.Memory.{Scene, after_item}
-use Rattle.vub_run.specs.Moments.{Lane}
+use Rattle.vub_run.specs.Moments.{Lane, region_in}
 use Rattle.vub_run.specs.Turns.{step_items, answer_at, with_phase, counted, next_counter_in}
 use Rattle.vub_run_laws.proofs.RunGood.{IsSize, Known, hidden, Worked, Carries, Stored, IsOut, stored_at}
-pub use Rattle.vub_run_laws.proofs.RingGood.{EntryStands, QueueFacts, IsWaiting, LastStands, offered_by}
+pub use Rattle.vub_run_laws.proofs.RingGood.{EntryStands, QueueFacts, IsWaiting, LastStands, offered_by, CountsLow}
 use Rattle.vub_run_laws.proofs.RunFrames.{OffBuffer}
 
 -- counts, numbers and answers; work; what stands in buffers; and the queue
@@ -187,6 +187,8 @@ pub record StartStores (q : ℕ) (h : Header1) (s : Scene) (l : Lane) (done : �
   pub stores : step_items h q (starting done l) step s ≡ items.Store tag I place bytes ∷ []
   pub counts : (next : ℕ) (x : Lane) → counted next step x ≡ x
   pub queue : QueueFacts q h (noted_at place bytes s) l.driver l.bell l.plan l.counter [] (phases.Start (done + 1))
+  -- the counters of the region stay
+  pub kept : (d : ℕ) → (region_in h q (noted_at place bytes s)).counter d ≡ (region_in h q s).counter d
 
 -- the step that rings the bell
 pub record StartRings (q : ℕ) (h : Header1) (s : Scene) (l : Lane) (done : ℕ) (step : Step) : Type 0 where
@@ -201,7 +203,7 @@ pub record StartEnds (q : ℕ) (h : Header1) (s : Scene) (l : Lane) (done : ℕ)
   pub starts : step_items h q (starting done l) step s ≡ items.Made (entries.Start q (open_numbers s.past q)) ∷ []
   pub counts : (next : ℕ) (x : Lane) → counted next step x ≡ record x { counter = next }
   pub queue : QueueFacts q h (record s { past = entries.Start q (open_numbers s.past q) ∷ s.past }) l.driver l.bell l.plan (next_counter_in h q s) [] phases.Rest
-  pub low : accepted s.past q ≡ 0 → next_counter_in h q s ≡ 0
+  pub low : CountsLow q h s → next_counter_in h q s ≤ accepted s.past q
 
 -- the step after so many of a start, with what it leaves
 pub data NextStart : ℕ → Header1 → Scene → Lane → ℕ → Option Step → Type 0 where

@@ -193,6 +193,7 @@ event_lawful q h m (events.Ask p shape a) is next plain held x on plays = quiet_
 event_lawful q h m (events.Collect p) is next plain held x on plays = quiet_lawful h (events.Collect p) m.scene is (event_quiet h m (events.Collect p) is next (λ guest. guest) plays)
 event_lawful q h m events.Boot is next plain held x on plays = quiet_lawful h events.Boot m.scene is (event_quiet h m events.Boot is next (λ guest. guest) plays)
 event_lawful q h m events.Join is next plain held x on plays = quiet_lawful h events.Join m.scene is (event_quiet h m events.Join is next (λ guest. guest) plays)
+event_lawful q h m events.Kill is next plain held x on plays = quiet_lawful h events.Kill m.scene is (event_quiet h m events.Kill is next (λ guest. guest) plays)
 event_lawful q h m (events.Start p) is next plain held x on plays = quiet_lawful h (events.Start p) m.scene is (event_quiet h m (events.Start p) is next (λ guest. guest) plays)
 event_lawful q h m (events.Fetch p) is next plain held x on plays = quiet_lawful h (events.Fetch p) m.scene is (event_quiet h m (events.Fetch p) is next (λ guest. guest) plays)
 event_lawful q h m (events.Work p place) is next plain held x on plays = quiet_lawful h (events.Work p place) m.scene is (event_quiet h m (events.Work p place) is next (λ guest. guest) plays)

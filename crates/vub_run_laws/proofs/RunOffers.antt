@@ -50,10 +50,10 @@ offer_worked q n cap past heads r phase batch completed made known worked = reco
   distinct = worked.distinct;
   opens = λ k held. record { taken = (worked.opens k held).taken; unpublished = (worked.opens k held).unpublished };
   untouched = worked.untouched;
-  progress = λ k. record {
-    fresh = (worked.progress k).fresh;
+  progress = λ on k. record {
+    fresh = (worked.progress on k).fresh;
     begun = λ some. elim (cases_lt k (offers past q)) [
-      | inl low ↦ subst (λ (o : Option Asked). IsBegun (made k) (looks past q k) (acts past q k) (bytes_read past q k) (synced past q k) o) (sym (same_asked q past r k low)) ((worked.progress k).begun some)
+      | inl low ↦ subst (λ (o : Option Asked). IsBegun (made k) (looks past q k) (acts past q k) (bytes_read past q k) (synced past q k) o) (sym (same_asked q past r k low)) ((worked.progress on k).begun some)
       | inr high ↦ absurd (let none : made k ≡ 0 = worked.untouched k (omega (arith, known.offers_are, known.offered)) in omega arith)
     ];
   };

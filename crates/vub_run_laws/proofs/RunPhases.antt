@@ -1,6 +1,6 @@
 -- The steps of a start and a fetch keep what holds, and so does the begin of a publication.
 use Rattle.std.proofs.Common.{◌≡◌, ◌≤◌, ◌<◌, ℕ, true, false, List, [], ◌∷◌, ◌++◌, length, take, drop, refl, ap, sym, ◌∙◌, subst, inl, inr, arith, Bool}
-use Rattle.std.specs.Prelude.{Option, Some, None, ◌+◌, ◌-◌, ◌||◌, if◌then◌else◌, nat_lt, slice_get}
+use Rattle.std.specs.Prelude.{Option, Some, ◌+◌, ◌-◌, ◌||◌, if◌then◌else◌, nat_lt, slice_get, slice_index}
 use Rattle.vub_base.specs.declared.store.Area.TheVariants.{I}
 use Rattle.vub_shared.specs.Bytes.{Bytes, put}
 use Rattle.vub_shared.proofs.BytesLemmas.{put_other}
@@ -15,8 +15,6 @@ use Rattle.vub_base.specs.declared.header.Header1.{Header1}
 use Rattle.vub_steps.specs.declared.steps.Phase.{Phase}
 use Rattle.vub_steps.specs.declared.steps.Phase.TheVariants as phases
 use Rattle.vub_steps.specs.declared.readiness.Turn.TheVariants as turns
-use Rattle.vub_device.specs.declared.entry.Asked.{Asked}
-use Rattle.vub_device.specs.declared.entry.Asked.TheVariants as asks
 use Rattle.vub_device.specs.declared.entry.Entry.{Entry}
 use Rattle.vub_device.specs.declared.entry.Entry.TheVariants as entries
 use Rattle.vub_device.specs.Legal.{MayStart, MayAccept}
@@ -29,7 +27,7 @@ use Rattle.vub_run.specs.Turns.{Turned, step_items, phase_turn, with_phase, begu
 use Rattle.vub_run_laws.proofs.RunOwn.{accepted_own, started_own, looks_start, acts_start, bytes_start, synced_start, faulted_start}
 use Rattle.vub_run_laws.proofs.RunNumbers.{distinct_join}
 use Rattle.vub_facts.proofs.HeadLemmas.{distinct_parts}
-use Rattle.vub_run_laws.proofs.RunGood.{IsPending, StartIs, BetweenTurns, hidden, Worked, Stored, IsGood, buffer}
+use Rattle.vub_run_laws.proofs.RunGood.{IsPending, StartIs, BetweenTurns, hidden, Worked, Stored, IsGood, buffer, pending_none}
 use Rattle.vub_run_laws.proofs.RunHolds.{Holds, QueueFacts, fetching, FetchCounts, FetchAccepts, starting, steps_in, noted_at, StartStores, StartRings, StartEnds, NextStart, Stores, Rings, Ends}
 use Rattle.vub_run_laws.proofs.RunEfforts.{weight, steps_left, effort, start_short, sum_below, sum_more, weight_small, sum_moved}
 use Rattle.vub_run_laws.proofs.RunGuests.{holds_track}
@@ -37,6 +35,7 @@ use Rattle.vub_run_laws.proofs.RunWork.{Fine}
 use Rattle.vub_run_laws.proofs.RunCarries.{all_hidden, carries_phase}
 use Rattle.vub_run_laws.proofs.RunQueue.{queue_begins, queue_start, queue_start_begins, queue_start_step, queue_fetch_begins, queue_counts, queue_accepts}
 use Rattle.vub_steps.specs.Readiness.{last_counter}
+use Rattle.vub_run_laws.proofs.RingGood.{CountsLow}
 
 -- the lane at rest
 abbrev pub resting : Lane → Lane
@@ -95,14 +94,14 @@ start_worked q past list completed made phase stopped w =
       distinct = w.distinct;
       opens = λ j held. record { taken = (w.opens j held).taken; unpublished = (w.opens j held).unpublished };
       untouched = w.untouched;
-      progress = λ k. record { fresh = λ e. (looks_start past q list k, (acts_start past q list k, (bytes_start past q list k, synced_start past q list k))); begun = λ some. absurd (let zero_made : made k ≡ 0 = none k in omega arith) };
+      progress = λ on k. record { fresh = λ e. (looks_start past q list k, (acts_start past q list k, (bytes_start past q list k, synced_start past q list k))); begun = λ some. absurd (let zero_made : made k ≡ 0 = none k in omega arith) };
       full = w.full;
       pending = λ j is_open out. w.pending j (record { taken = is_open.taken; unpublished = is_open.unpublished }) out;
       quiet = λ stops. absurd (let fails : true ≡ false = sym (started_own past q list) ∙ stops in cc);
       between = tt;
     }
 
-start_holds : (q : ℕ) (h : Header1) (s : Scene) (l : Lane) (list : List ℕ) (done counter : ℕ) → started s.past q ≡ false → Holds q h s (starting done l) → (accepted s.past q ≡ 0 → counter ≡ 0) → QueueFacts q h (record s { past = entries.Start q list ∷ s.past }) l.driver l.bell l.plan counter [] phases.Rest
+start_holds : (q : ℕ) (h : Header1) (s : Scene) (l : Lane) (list : List ℕ) (done counter : ℕ) → started s.past q ≡ false → Holds q h s (starting done l) → counter ≤ accepted s.past q → QueueFacts q h (record s { past = entries.Start q list ∷ s.past }) l.driver l.bell l.plan counter [] phases.Rest
     → Holds q h (record s { past = entries.Start q list ∷ s.past }) (record (resting l) { counter = counter })
 start_holds q h s l list done counter stopped x low queue = record {
   known = record {
@@ -123,8 +122,7 @@ start_holds q h s l list done counter stopped x low queue = record {
     distinct = x.carries.distinct;
     shown = λ k held out. absurd (let fails : false ≡ true = held in cc);
     quiet = λ stops. refl;
-    low = omega (arith, low (x.carries.idle stopped));
-    idle = λ stops. absurd (let fails : true ≡ false = sym (started_own s.past q list) ∙ stops in cc);
+    low = low;
   };
   stored = record {
     sectors = λ k i is_open kept read. absurd (let zero_made : l.made k ≡ 0 = (x.worked.quiet stopped).1.1 k in omega (arith, kept.put));
@@ -152,8 +150,8 @@ start_is_fine q h s l done step is b x items_are more counts fine =
     let two : StartFine q h s l done (start_turn (step_items h q (starting done l) step s) done x (nat_lt (done + 1) (length (steps_in h l)))) = subst (λ (t : Bool). StartFine q h s l done (start_turn (step_items h q (starting done l) step s) done x t)) (sym more) one in
     subst (λ (y : Lane). StartFine q h s l done (start_turn (step_items h q (starting done l) step s) done y (nat_lt (done + 1) (length (steps_in h l))))) (sym counts) two
 
-stores_fine : (q : ℕ) (h : Header1) (s : Scene) (l : Lane) (done : ℕ) (step : Step) → IsGood h → started s.past q ≡ false → Holds q h s (starting done l) → StartStores q h s l done step → StartFine q h s l done (phase_turn h q s (starting done l) (Some step))
-stores_fine q h s l done step good stopped x y =
+stores_fine : (q : ℕ) (h : Header1) (s : Scene) (l : Lane) (done : ℕ) (step : Step) → IsGood h → started s.past q ≡ false → CountsLow q h s → Holds q h s (starting done l) → StartStores q h s l done step → StartFine q h s l done (phase_turn h q s (starting done l) (Some step))
+stores_fine q h s l done step good stopped low x y =
     let holds : Holds q h (noted_at y.place y.bytes s) (starting (done + 1) l) = noted_holds q h s l done y.place y.bytes x y.queue in
     let more : nat_lt (done + 1) (length (steps_in h l)) ≡ true = let low : done + 1 < length (steps_in h l) = y.more in grind (arith, nat_tests) in
     let before : left_of h.size (starting done l) (started s.past q) ≡ length (steps_in h l) - done = ap (left_of h.size (starting done l)) stopped in
@@ -162,13 +160,13 @@ stores_fine q h s l done step good stopped x y =
       each = (inr (holds_track q h (noted_at y.place y.bytes s) (starting (done + 1) l) good holds), tt);
       holds = holds;
       legal = tt;
-      idle = λ stops. (stops, refl);
+      idle = λ stops. record { stopped = stops; accepts = refl; counts = λ k is_open. omega (arith, y.kept (slice_index (s.heads q) k), low k (record { taken = is_open.taken; unpublished = is_open.unpublished })) };
       collects = refl;
       falls = omega (arith, before, after, y.more);
     })
 
-rings_fine : (q : ℕ) (h : Header1) (s : Scene) (l : Lane) (done : ℕ) (step : Step) → IsGood h → started s.past q ≡ false → Holds q h s (starting done l) → StartRings q h s l done step → StartFine q h s l done (phase_turn h q s (starting done l) (Some step))
-rings_fine q h s l done step good stopped x y =
+rings_fine : (q : ℕ) (h : Header1) (s : Scene) (l : Lane) (done : ℕ) (step : Step) → IsGood h → started s.past q ≡ false → CountsLow q h s → Holds q h s (starting done l) → StartRings q h s l done step → StartFine q h s l done (phase_turn h q s (starting done l) (Some step))
+rings_fine q h s l done step good stopped low x y =
     let holds : Holds q h s (starting (done + 1) l) = moving_holds q h s l done x y.queue in
     let more : nat_lt (done + 1) (length (steps_in h l)) ≡ true = let low : done + 1 < length (steps_in h l) = y.more in grind (arith, nat_tests) in
     let before : left_of h.size (starting done l) (started s.past q) ≡ length (steps_in h l) - done = ap (left_of h.size (starting done l)) stopped in
@@ -177,16 +175,16 @@ rings_fine q h s l done step good stopped x y =
       each = (inr (holds_track q h s (starting (done + 1) l) good holds), tt);
       holds = holds;
       legal = tt;
-      idle = λ stops. (stops, refl);
+      idle = λ stops. record { stopped = stops; accepts = refl; counts = low };
       collects = refl;
       falls = omega (arith, before, after, y.more);
     })
 
-ends_fine : (q : ℕ) (h : Header1) (s : Scene) (l : Lane) (done : ℕ) (step : Step) → IsGood h → started s.past q ≡ false → done < length (steps_in h l) → Holds q h s (starting done l) → StartEnds q h s l done step → StartFine q h s l done (phase_turn h q s (starting done l) (Some step))
-ends_fine q h s l done step good stopped low x y =
+ends_fine : (q : ℕ) (h : Header1) (s : Scene) (l : Lane) (done : ℕ) (step : Step) → IsGood h → started s.past q ≡ false → CountsLow q h s → done < length (steps_in h l) → Holds q h s (starting done l) → StartEnds q h s l done step → StartFine q h s l done (phase_turn h q s (starting done l) (Some step))
+ends_fine q h s l done step good stopped counts low x y =
     let list : List ℕ = open_numbers s.past q in
     let next : ℕ = next_counter_in h q s in
-    let holds : Holds q h (record s { past = entries.Start q list ∷ s.past }) (record (resting l) { counter = next }) = start_holds q h s l list done next stopped x y.low y.queue in
+    let holds : Holds q h (record s { past = entries.Start q list ∷ s.past }) (record (resting l) { counter = next }) = start_holds q h s l list done next stopped x (y.low counts) y.queue in
     let may : MayStart s.past q list = record { stopped = stopped; resubmits = refl } in
     let none : nat_lt (done + 1) (length (steps_in h l)) ≡ false = let all : length (steps_in h l) ≤ done + 1 = y.none in grind (arith, nat_tests) in
     let before : left_of h.size (starting done l) (started s.past q) ≡ length (steps_in h l) - done = ap (left_of h.size (starting done l)) stopped in
@@ -201,13 +199,13 @@ ends_fine q h s l done step good stopped low x y =
     })
 
 -- the next step of a start that is under way
-pub start_goes_on : (q : ℕ) (h : Header1) (s : Scene) (l : Lane) (done : ℕ) → IsGood h → started s.past q ≡ false → done < length (steps_in h l) → Holds q h s (starting done l) → StartFine q h s l done (phase_goes_on h q s (starting done l))
-start_goes_on q h s l done good stopped low x = go (slice_get (steps_in h l) done) (queue_start_step q h s l done good.size x.queue)
+pub start_goes_on : (q : ℕ) (h : Header1) (s : Scene) (l : Lane) (done : ℕ) → IsGood h → started s.past q ≡ false → CountsLow q h s → done < length (steps_in h l) → Holds q h s (starting done l) → StartFine q h s l done (phase_goes_on h q s (starting done l))
+start_goes_on q h s l done good stopped counts low x = go (slice_get (steps_in h l) done) (queue_start_step q h s l done good.size x.queue)
   where
     go : (o : Option Step) → NextStart q h s l done o → StartFine q h s l done (phase_turn h q s (starting done l) o)
-    go o (Stores step is y) = subst (λ (p : Option Step). StartFine q h s l done (phase_turn h q s (starting done l) p)) (sym is) (stores_fine q h s l done step good stopped x y)
-    go o (Rings step is y) = subst (λ (p : Option Step). StartFine q h s l done (phase_turn h q s (starting done l) p)) (sym is) (rings_fine q h s l done step good stopped x y)
-    go o (Ends step is y) = subst (λ (p : Option Step). StartFine q h s l done (phase_turn h q s (starting done l) p)) (sym is) (ends_fine q h s l done step good stopped low x y)
+    go o (Stores step is y) = subst (λ (p : Option Step). StartFine q h s l done (phase_turn h q s (starting done l) p)) (sym is) (stores_fine q h s l done step good stopped counts x y)
+    go o (Rings step is y) = subst (λ (p : Option Step). StartFine q h s l done (phase_turn h q s (starting done l) p)) (sym is) (rings_fine q h s l done step good stopped counts x y)
+    go o (Ends step is y) = subst (λ (p : Option Step). StartFine q h s l done (phase_turn h q s (starting done l) p)) (sym is) (ends_fine q h s l done step good stopped counts low x y)
 
 -- the lane in which a start begins
 abbrev planned : ℕ → Header1 → Scene → Lane → Lane
@@ -223,12 +221,12 @@ planned_holds q h s l stopped x = record {
 }
 
 -- a start begins with its first step
-pub start_fine : (q : ℕ) (h : Header1) (s : Scene) (l : Lane) → IsGood h → started s.past q ≡ false → Holds q h s (resting l) → Fine q h s (resting l) (phase_goes_on h q s (under_way h q s turns.Start (resting l)))
-start_fine q h s l good stopped x =
+pub start_fine : (q : ℕ) (h : Header1) (s : Scene) (l : Lane) → IsGood h → started s.past q ≡ false → CountsLow q h s → Holds q h s (resting l) → Fine q h s (resting l) (phase_goes_on h q s (under_way h q s turns.Start (resting l)))
+start_fine q h s l good stopped counts x =
     let l' : Lane = planned q h s l in
     let begins : Holds q h s (starting 0 l') = planned_holds q h s l stopped x in
     let start : StartIs (started s.past q) h.size l'.bell l'.plan (phases.Start 0) = queue_start q h s (starting 0 l') begins in
-    let from_there : StartFine q h s l' 0 (phase_goes_on h q s (starting 0 l')) = start_goes_on q h s l' 0 good stopped start.left begins in
+    let from_there : StartFine q h s l' 0 (phase_goes_on h q s (starting 0 l')) = start_goes_on q h s l' 0 good stopped counts start.left begins in
     let before : left_of h.size (resting l) (started s.past q) ≡ h.size + 4 = ap (left_of h.size (resting l)) stopped in
     let after : left_of h.size (starting 0 l') (started s.past q) ≡ length (steps_in h l') - 0 = ap (left_of h.size (starting 0 l')) stopped in
     record {
@@ -256,15 +254,6 @@ accept_worked q past k batch completed made phase w = record {
   quiet = w.quiet;
   between = w.between;
 }
-  where
-    pending_none : (o : Option Asked) → IsPending 0 o
-    pending_none (Some (asks.Read s n)) = omega arith
-    pending_none (Some (asks.Write s bytes)) = omega arith
-    pending_none (Some asks.Flush) = omega arith
-    pending_none (Some asks.Id) = tt
-    pending_none (Some (asks.Discard parts)) = tt
-    pending_none (Some (asks.Zero parts)) = tt
-    pending_none None = tt
 
 -- the first step stores the counter
 count_fine : (q : ℕ) (h : Header1) (s : Scene) (l : Lane) → IsGood h → started s.past q ≡ true → Holds q h s (resting l) → FetchCounts q h s l → Fine q h s (resting l) (phase_goes_on h q s (fetching 0 l))
@@ -316,7 +305,6 @@ accept_holds q h s l run x y =
         shown = λ j held out. absurd (let fails : false ≡ true = held in cc);
         quiet = λ stopped. refl;
         low = omega (arith, x.carries.low, accepted_own s.past q k);
-        idle = λ stopped. absurd (let fails : true ≡ false = sym run ∙ stopped in cc);
       };
       stored = record {
         sectors = λ j i is_open kept read. stored.sectors j i (record {
@@ -402,7 +390,6 @@ taking_holds q h s l most some any run x =
         shown = λ k held out. absurd (let fails : true ≡ false = sym held ∙ ap (λ (ks : List ℕ). is_among ks k) (sym all) ∙ out in cc);
         quiet = λ stopped. absurd (let fails : true ≡ false = sym run ∙ stopped in cc);
         low = x.carries.low;
-        idle = λ stopped. absurd (let fails : true ≡ false = sym run ∙ stopped in cc);
       };
       stored = subst (λ (ks : List ℕ). Stored q s.past (s.heads q) s.memory ks rest l.made) (sym all) stored;
       queue = queue_begins q h s l.driver l.bell l.plan l.counter batch run x.known (omega (arith, some, any, length-take most l.completed)) (distinct_parts rest batch distinct).second (λ k held.

@@ -73,6 +73,7 @@ read_stands m p n read long each =
 
 -- a request of the batch, with what stands in its buffer
 record IsShown (q : ℕ) (h : Header1) (past : List Entry) (heads : List ℕ) (m : Bytes) (batch completed : List ℕ) (made : ℕ → ℕ) (phase : Phase) (k : ℕ) (r : Asked) : Type 0 where
+  pub runs : started past q ≡ true
   pub worked : Worked q past phase batch completed made
   pub stored : Stored q past heads m batch completed made
   pub held : is_among (completed ++ batch) k ≡ true
@@ -91,7 +92,7 @@ read_answer : (q : ℕ) (h : Header1) (past : List Entry) (heads : List ℕ) (m 
 read_answer q h past heads m batch completed made phase k sector c x =
     let is_open : IsOpen past q k = x.worked.opens k x.held in
     let enough : 2 * c ≤ made k = subst (λ (o : Option Asked). IsFull (made k) o) x.is (x.worked.full k x.held) in
-    let to : IsReadTo c (made k) (looks past q k) (bytes_read past q k) = read_to sector c (made k) (looks past q k) (acts past q k) (bytes_read past q k) (synced past q k) (asked past q k) x.is (x.worked.progress k) in
+    let to : IsReadTo c (made k) (looks past q k) (bytes_read past q k) = read_to sector c (made k) (looks past q k) (acts past q k) (bytes_read past q k) (synced past q k) (asked past q k) x.is (x.worked.progress x.runs k) in
     let looked : looks past q k ≡ c = to.whole enough in
     let long : length (bytes_read past q k) ≡ 512 * c = omega (arith, to.long, looked) in
     let few : c ≤ 8 = x.wide.few in
@@ -105,7 +106,7 @@ write_answer : (q : ℕ) (h : Header1) (past : List Entry) (heads : List ℕ) (m
     → IsDone h.mode past q k (asks.Write sector bytes) (answer_bytes q past heads m k)
 write_answer q h past heads m batch completed made phase k sector bytes back x =
     let enough : length bytes / 512 ≤ made k = subst (λ (o : Option Asked). IsFull (made k) o) x.is (x.worked.full k x.held) in
-    let to : IsWrittenTo (length bytes / 512) (made k) (acts past q k) = written_to sector (made k) (looks past q k) (acts past q k) bytes (bytes_read past q k) (synced past q k) (asked past q k) x.is (x.worked.progress k) in (
+    let to : IsWrittenTo (length bytes / 512) (made k) (acts past q k) = written_to sector (made k) (looks past q k) (acts past q k) bytes (bytes_read past q k) (synced past q k) (asked past q k) x.is (x.worked.progress x.runs k) in (
       ap (effect_at (asks.Write sector bytes)) (to.whole enough) ∙ effects_end sector bytes,
       (λ through. absurd (let fails : Back ≡ Through = sym back ∙ through in cc)),
       answer_bytes_are q h past heads m batch completed made phase k (asks.Write sector bytes) x,
@@ -114,7 +115,7 @@ write_answer q h past heads m batch completed made phase k sector bytes back x =
 flush_answer : (q : ℕ) (h : Header1) (past : List Entry) (heads : List ℕ) (m : Bytes) (batch completed : List ℕ) (made : ℕ → ℕ) (phase : Phase) (k : ℕ) → IsShown q h past heads m batch completed made phase k asks.Flush → IsDone h.mode past q k asks.Flush (answer_bytes q past heads m k)
 flush_answer q h past heads m batch completed made phase k x =
     let enough : 1 ≤ made k = subst (λ (o : Option Asked). IsFull (made k) o) x.is (x.worked.full k x.held) in (
-      flushed_to (made k) (looks past q k) (acts past q k) (bytes_read past q k) (synced past q k) (asked past q k) x.is enough (x.worked.progress k),
+      flushed_to (made k) (looks past q k) (acts past q k) (bytes_read past q k) (synced past q k) (asked past q k) x.is enough (x.worked.progress x.runs k),
       answer_bytes_are q h past heads m batch completed made phase k asks.Flush x,
     )
 
@@ -135,7 +136,7 @@ answer_right q h s l done m k x before st held =
     let wide : IsWide h.capacity (asked s.past q k) = batch_wide q h s l done k x held in
     let asks_it = wide_some h.capacity (asked s.past q k) wide in
     let is_wide : IsWide h.capacity (Some asks_it.0) = subst (λ (o : Option Asked). IsWide h.capacity o) asks_it.1 wide in
-    let shown : IsShown q h s.past (s.heads q) m batch l.completed l.made (phases.Publish done) k asks_it.0 = record { worked = x.holds.worked; stored = st; held = among; is = asks_it.1; wide = is_wide } in
+    let shown : IsShown q h s.past (s.heads q) m batch l.completed l.made (phases.Publish done) k asks_it.0 = record { runs = x.started; worked = x.holds.worked; stored = st; held = among; is = asks_it.1; wide = is_wide } in
     record {
       request = asks_it.0;
       offered = asks_it.1;

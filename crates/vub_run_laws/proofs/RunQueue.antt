@@ -30,7 +30,7 @@ use Rattle.vub_run_laws.proofs.RingFetches.{fetch_counts, fetch_accepts}
 use Rattle.vub_run_laws.proofs.RingRows.{next_row}
 use Rattle.vub_run_laws.proofs.RingTracks.{tracks, some_waits}
 use Rattle.vub_run_laws.proofs.RingStores.{stores_before, stores_last, some_left}
-use Rattle.vub_run_laws.proofs.RingFacts.{words_same, words_attached, start_attached, words_rests, words_fetch, words_begin, batch_begins_at, facts_entry, facts_elsewhere}
+use Rattle.vub_run_laws.proofs.RingFacts.{words_same, words_attached, start_attached, words_rests, words_fetch, words_begin, batch_begins_at, facts_entry, facts_elsewhere, facts_killed}
 pub use Rattle.vub_run_laws.proofs.RingFacts.{phase_at}
 use Rattle.vub_run_laws.proofs.RingFacts.{batch_small}
 use Rattle.vub_run_laws.proofs.RingPositions.{fetch_waits}
@@ -51,6 +51,7 @@ use Rattle.vub_run.specs.Before.{BeforeEach}
 use Rattle.vub_run.specs.Spared.{IsSparing}
 use Rattle.vub_run_laws.proofs.RingSpares.{step_spares}
 use Rattle.vub_steps.specs.Readiness.{last_counter}
+use Rattle.vub_steps.specs.declared.steps.Plan.TheVariants as plans
 
 -- ---- the opening
 
@@ -96,6 +97,10 @@ queue_shown q h s l position head good holds at shown = shown_seen q h s l posit
 -- nothing is under way any more
 pub queue_rests : (q : ℕ) (h : Header1) (s : Scene) (v : Driver) (bell bell' : Bool) (plan plan' : Plan) (counter counter' : ℕ) (batch : List ℕ) (phase : Phase) → started s.past q ≡ false → QueueFacts q h s v bell plan counter batch phase → QueueFacts q h s v bell' plan' counter' [] phases.Rest
 queue_rests q h s v bell bell' plan plan' counter counter' batch phase stopped x = record { ringed = x.ringed; driven = x.driven; words = words_rests q h s bell bell' plan plan' counter counter' batch phase stopped x.words; start = tt }
+
+-- a life ends, whatever is under way
+pub queue_killed : (q : ℕ) (h : Header1) (s : Scene) (l : Lane) → QueueFacts q h s l.driver l.bell l.plan l.counter l.batch l.phase → QueueFacts q h (record s { past = entries.Kill ∷ s.past }) l.driver false plans.New 0 [] phases.Rest
+queue_killed q h s l x = facts_killed q h s l.driver l.bell l.plan l.counter l.batch l.phase x
 
 -- it gets a bell
 pub queue_attached : (q : ℕ) (h : Header1) (s : Scene) (v : Driver) (bell : Bool) (plan : Plan) (counter : ℕ) (batch : List ℕ) (phase : Phase) → QueueFacts q h s v bell plan counter batch phase → QueueFacts q h s v true plan counter batch phase

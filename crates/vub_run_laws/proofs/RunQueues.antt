@@ -6,13 +6,14 @@ use Rattle.vub_schedule.specs.Spelling.{IsHeader, IsEvent}
 use Rattle.vub_schedule.specs.declared.types.Event.{Event}
 use Rattle.vub_schedule.specs.declared.types.Event.TheVariants as events
 
--- the event is of queue q; the begin of a life and its join are of every queue
+-- the event is of queue q; the begin of a life, its join and its end are of every queue
 abbrev pub IsOn : ℕ → Event → Type 0
 IsOn q (events.Ask p shape ask) = p ≡ q
 IsOn q (events.Guest p count) = p ≡ q
 IsOn q (events.Collect p) = p ≡ q
 IsOn q events.Boot = ⊤
 IsOn q events.Join = ⊤
+IsOn q events.Kill = ⊤
 IsOn q (events.Start p) = p ≡ q
 IsOn q (events.Fetch p) = p ≡ q
 IsOn q (events.Work p place) = p ≡ q
@@ -33,6 +34,7 @@ on_one h q e header low fits = go e fits
     go (events.Collect p) is = is ∙ sym one
     go events.Boot is = tt
     go events.Join is = tt
+    go events.Kill is = tt
     go (events.Start p) is = is ∙ sym one
     go (events.Fetch p) is = is ∙ sym one
     go (events.Work p place) is = is.0 ∙ sym one

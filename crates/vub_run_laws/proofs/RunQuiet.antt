@@ -15,13 +15,14 @@ use Rattle.vub_device.specs.Past.{asked, accepted}
 use Rattle.vub_device.specs.Requests.{look_at, effect_at}
 use Rattle.vub_schedule.specs.declared.types.Event.{Event}
 use Rattle.vub_schedule.specs.declared.types.Event.TheVariants as events
+use Rattle.vub_device.specs.declared.entry.Entry.TheVariants as entries
 use Rattle.vub_report.specs.declared.items.Item.{Item}
 use Rattle.vub_report.specs.declared.items.Item.TheVariants as items
 use Rattle.vub_run.specs.Before.{BeforeEach}
 use Rattle.vub_run.specs.Lawful.{IsLawfulItem}
 use Rattle.vub_run.specs.Memory.{Scene, after_item, after_items}
 use Rattle.vub_run.specs.Moments.{Lane, Moment, fresh, attached, unfinished}
-use Rattle.vub_run.specs.Run.{Played, played, if_ready, ask, take_first, collect, boot, join, one_turn, is_due, then_played, turns as many_turns, single, up_to, any_choice, drain_choice, Drains, Plays}
+use Rattle.vub_run.specs.Run.{Played, played, if_ready, ask, take_first, collect, boot, join, one_turn, is_due, then_played, turns as many_turns, single, up_to, any_choice, drain_choice, Drains, Plays, kill, ended}
 use Rattle.vub_run.specs.TaskItems.{look_items, act_items}
 use Rattle.vub_run.specs.Turns.{course_of, turned, phase_turn, phase_goes_on, under_way, work_turn, request_turn, task_turn}
 use Rattle.vub_run_laws.proofs.RunChainsMade.{all_append}
@@ -113,6 +114,9 @@ boot_quiet h m = tested h (not m.lives) (played [] (record m { lives = true; joi
 join_quiet : (h : Header1) (m : Moment) → AreQuiet h (join m).items
 join_quiet h m = tested h (m.lives && not m.joined) (played [] (record m { joined = true; lanes = λ q. attached (m.lanes q) })) m tt
 
+kill_quiet : (h : Header1) (m : Moment) → AreQuiet h (kill h m).items
+kill_quiet h m = tested h m.lives (played (items.Made entries.Kill ∷ []) (ended (record m { scene = after_items h (items.Made entries.Kill ∷ []) m.scene }))) m (record { lawful = λ e s. tt; kept = λ s. refl }, tt)
+
 -- the event is one of the driver's stores
 abbrev pub IsGuest : Event → Type 0
 IsGuest (events.Guest q count) = ⊤
@@ -124,6 +128,7 @@ event_quiet h m (events.Guest q k) is next other plays = absurd (other tt)
 event_quiet h m (events.Collect q) is next other plays = made_quiet h is next (collect h q m) plays (taken_quiet q h _ m)
 event_quiet h m events.Boot is next other plays = made_quiet h is next (boot m) plays (boot_quiet h m)
 event_quiet h m events.Join is next other plays = made_quiet h is next (join m) plays (join_quiet h m)
+event_quiet h m events.Kill is next other plays = made_quiet h is next (kill h m) plays (kill_quiet h m)
 event_quiet h m (events.Start q) is next other plays = made_quiet h is next (single h q turns.Start m) plays (single_quiet q h turns.Start m)
 event_quiet h m (events.Fetch q) is next other plays = made_quiet h is next (single h q turns.Fetch m) plays (single_quiet q h turns.Fetch m)
 event_quiet h m (events.Work q place) is next other plays = made_quiet h is next (single h q (turns.Work place) m) plays (single_quiet q h (turns.Work place) m)

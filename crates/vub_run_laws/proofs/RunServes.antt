@@ -11,11 +11,14 @@ use Rattle.vub_device.specs.Past.{accepted, offers, open_numbers}
 use Rattle.vub_schedule.specs.declared.types.Event.{Event}
 use Rattle.vub_schedule.specs.declared.types.Event.TheVariants as events
 use Rattle.vub_schedule.specs.Spelling.{IsHeader, IsEvent}
+use Rattle.vub_device.specs.declared.entry.Entry.TheVariants as entries
 use Rattle.vub_report.specs.declared.items.Item.{Item}
+use Rattle.vub_report.specs.declared.items.Item.TheVariants as items
 use Rattle.vub_report.specs.declared.items.Record.{Record}
 use Rattle.vub_run.specs.LegalRuns.{past_of, attached_after, attached_from, IsServed, EveryDrainServes, IsLegalRun}
+use Rattle.vub_run.specs.Memory.{after_items}
 use Rattle.vub_run.specs.Moments.{Lane, Moment, opening, fresh, attached}
-use Rattle.vub_run.specs.Run.{Played, played, if_ready, ask, guest, guest_stores, take_first, collect, one_turn, is_due, turns as many_turns, single, up_to, any_choice, drain_choice, Drains, Plays, RunFrom, RunTo, Stands}
+use Rattle.vub_run.specs.Run.{Played, played, ended, kill, if_ready, ask, guest, guest_stores, take_first, collect, one_turn, is_due, turns as many_turns, single, up_to, any_choice, drain_choice, Drains, Plays, RunFrom, RunTo, Stands}
 use Rattle.vub_run_laws.proofs.RunOwn.{at_own}
 use Rattle.vub_run_laws.proofs.RunEntries.{run_enters}
 use Rattle.vub_run_laws.proofs.RunTurns.{IsPlain, Good}
@@ -41,6 +44,10 @@ tested q false p m stays = refl
 made_stays : (q : ℕ) (m : Moment) (is : List Item) (next : Moment) (p : Played) → played is next ≡ p → Stays q m p.next → Stays q m next
 made_stays q m is next p e stays = subst (λ (x : Played). Stays q m x.next) (sym e) stays
 
+-- none is attached after it
+made_stays_off : (q : ℕ) (m : Moment) (is : List Item) (next : Moment) (p : Played) → played is next ≡ p → is_on q p.next ≡ false → is_on q next ≡ false
+made_stays_off q m is next p e off = subst (λ (x : Played). is_on q x.next ≡ false) (sym e) off
+
 stores_stay : (q : ℕ) (h : Header1) (m : Moment) (count : ℕ) (o : Option Waiting) → Stays q m (guest_stores h q count o m).next
 stores_stay q h m count None = refl
 stores_stay q h m count (Some w) = ap (λ (l : Lane). l.attached) (at_own m.lanes q _)
@@ -54,7 +61,7 @@ single_stays q h m t = tested q (is_due h q t m) (one_turn h q t m) m (ap (λ (l
 
 drain_stays : (q : ℕ) (h : Header1) (m : Moment) (choose : Moment → Turn) (is : List Item) (next : Moment) → IsPlain h → Good q h m → Drains h q m choose is next → Stays q m next
 drain_stays q h m choose is next plain good (inl none) = ap (λ (p : Played). is_on q p.next) none.1
-drain_stays q h m choose is next plain good (inr some) = made_stays q m is next (many_turns some.1.count choose h q m) some.1.made (turns_stay q some.1.count choose h m plain good).0
+drain_stays q h m choose is next plain good (inr some) = made_stays q m is next (many_turns some.1.count choose h q m) some.1.made (turns_stay q some.1.count choose h m plain good).joined
 
 -- items and moment of an event that has a test are these
 tested_is : (P : List Item → Moment → Type 0) (test : Bool) (p : Played) (m : Moment) (is : List Item) (next : Moment) → played is next ≡ if_ready test p m → P p.items p.next → P (if_ready false p m).items m → P is next
@@ -91,10 +98,15 @@ event_attaches q h m (events.Publish p most) is next plain good on fits plays =
 event_attaches q h m (events.Turn p count) is next plain good on fits plays =
     let here : Plays h m (events.Turn q count) is next = subst (λ (p : ℕ). Plays h m (events.Turn p count) is next) on plays in
     made_stays q m is next (up_to count (any_choice h q) h q m) here
-    (tested q (is_due h q (any_choice h q m) m) (many_turns count (any_choice h q) h q m) m (turns_stay q count (any_choice h q) h m plain good).0)
+    (tested q (is_due h q (any_choice h q m) m) (many_turns count (any_choice h q) h q m) m (turns_stay q count (any_choice h q) h m plain good).joined)
 event_attaches q h m (events.Drain p) is next plain good on fits plays =
     let here : Plays h m (events.Drain q) is next = subst (λ (p : ℕ). Plays h m (events.Drain p) is next) on plays in
     drain_stays q h m (drain_choice h q (accepted m.scene.past q)) is next plain good here
+event_attaches q h m events.Kill is next plain good on fits plays = made_stays_off q m is next (kill h m) plays (go m.lives refl)
+  where
+    go : (b : Bool) → m.lives ≡ b → is_on q (if_ready b (played (items.Made entries.Kill ∷ []) (ended (record m { scene = after_items h (items.Made entries.Kill ∷ []) m.scene }))) m).next ≡ false
+    go true on = refl
+    go false off = (good.asleep off).0
 
 -- and after a run
 run_attaches : (q : ℕ) (h : Header1) (m : Moment) (es : List Event) (rs : List Record) (n : Moment) → IsHeader h → q < h.queues → IsHeld h m → AllByRecursion (IsEvent h) es → RunTo h m es rs n → is_on q n ≡ attached_from (is_on q m) rs

@@ -53,14 +53,12 @@ carries_moved q past l done true same c = record {
   shown = λ k held out. c.shown k held (ap (λ (ks : List ℕ). is_among ks k) same ∙ out);
   quiet = c.quiet;
   low = c.low;
-  idle = c.idle;
 }
 carries_moved q past l done false same c = record {
   distinct = ap are_distinct (append-nil l.completed) ∙ (distinct_parts l.completed l.batch c.distinct).first;
   shown = λ k held out. absurd (let fails : false ≡ true = held in cc);
   quiet = λ stopped. refl;
   low = c.low;
-  idle = c.idle;
 }
 
 sum_hidden : (q : ℕ) (past : List Entry) (l : Lane) (ks ks' : List ℕ) → ks ≡ ks' → sum_below (weight (published past q) (l.completed ++ ks') l.made) (accepted past q) ≡ sum_below (weight (published past q) (l.completed ++ ks) l.made) (accepted past q)
@@ -168,7 +166,6 @@ shown_holds q h p bs s l done u at off queue =
         shown = λ k held out. ap (λ (ks : List ℕ). is_among ks k) (shown_published q h p bs s l) ∙ is_among_append (published s.past q) l.batch k ∙ or_right (is_among (published s.past q) k) (is_among l.batch k) held;
         quiet = λ stopped. absurd (let fails : true ≡ false = sym u.started ∙ stopped in cc);
         low = u.holds.carries.low;
-        idle = λ stopped. absurd (let fails : true ≡ false = sym u.started ∙ stopped in cc);
       };
       stored = subst (λ (ks : List ℕ). Stored q past' (s.heads q) (stored_at p bs s).memory ks l.completed l.made) (sym none) stored;
       queue = queue;

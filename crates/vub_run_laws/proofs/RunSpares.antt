@@ -23,13 +23,14 @@ use Rattle.vub_schedule.specs.declared.types.Event.{Event}
 use Rattle.vub_schedule.specs.declared.types.Event.TheVariants as events
 use Rattle.vub_schedule.specs.declared.types.Schedule.{Schedule}
 use Rattle.vub_schedule.specs.Spelling.{IsHeader, IsEvent, IsSchedule}
+use Rattle.vub_device.specs.declared.entry.Entry.TheVariants as entries
 use Rattle.vub_report.specs.declared.items.Item.{Item}
 use Rattle.vub_report.specs.declared.items.Item.TheVariants as items
 use Rattle.vub_report.specs.declared.items.Record.{Record}
 use Rattle.vub_run.specs.Before.{BeforeEach}
-use Rattle.vub_run.specs.Memory.{Scene, after_item}
+use Rattle.vub_run.specs.Memory.{Scene, after_item, after_items}
 use Rattle.vub_run.specs.Moments.{Lane, Moment, opening, fresh, attached, unfinished}
-use Rattle.vub_run.specs.Run.{Played, played, if_ready, ask, guest_items, guest_stores, guest, take_first, collect, boot, join, one_turn, is_due, then_played, turns as many_turns, single, up_to, any_choice, drain_choice, Drains, Plays, RunFrom, Run}
+use Rattle.vub_run.specs.Run.{Played, played, if_ready, ask, guest_items, guest_stores, guest, take_first, collect, boot, join, one_turn, is_due, then_played, turns as many_turns, single, up_to, any_choice, drain_choice, Drains, Plays, RunFrom, Run, kill, ended}
 use Rattle.vub_run.specs.Spared.{IsSparing, SparedFrom, EveryAnswerIsSpared}
 use Rattle.vub_run.specs.TaskItems.{look_items, act_items}
 use Rattle.vub_run.specs.Turns.{course_of, turned, phase_turn, phase_goes_on, under_way, work_turn, request_turn, task_turn}
@@ -174,6 +175,7 @@ event_spares q h m (events.Collect p) is next plain good on plays =
     made_spares q h m is next (collect h q m) here (taken_spares q h _ m)
 event_spares q h m events.Boot is next plain good on plays = made_spares q h m is next (boot m) plays (tested q h (not m.lives) (played [] (record m { lives = true; joined = false; lanes = λ q. fresh (m.lanes q) })) m tt)
 event_spares q h m events.Join is next plain good on plays = made_spares q h m is next (join m) plays (tested q h (m.lives && not m.joined) (played [] (record m { joined = true; lanes = λ q. attached (m.lanes q) })) m tt)
+event_spares q h m events.Kill is next plain good on plays = made_spares q h m is next (kill h m) plays (tested q h m.lives (played (items.Made entries.Kill ∷ []) (ended (record m { scene = after_items h (items.Made entries.Kill ∷ []) m.scene }))) m (tt, tt))
 event_spares q h m (events.Start p) is next plain good on plays =
     let here : Plays h m (events.Start q) is next = subst (λ (p : ℕ). Plays h m (events.Start p) is next) on plays in
     made_spares q h m is next (single h q turns.Start m) here (single_spares q h turns.Start m plain good)

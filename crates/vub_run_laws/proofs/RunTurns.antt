@@ -25,6 +25,7 @@ use Rattle.vub_run_laws.proofs.RunPhases.{resting, rest_is, start_is, start_goes
 use Rattle.vub_run_laws.proofs.RunQueue.{queue_ahead, queue_start, fetch_runs, phase_at}
 use Rattle.vub_run_laws.proofs.RunHolds.{publishing}
 use Rattle.vub_run_laws.proofs.RunShown.{publication_fine}
+use Rattle.vub_run_laws.proofs.RingGood.{CountsLow}
 
 -- a header of this grammar
 pub record IsPlain (h : Header1) : Type 0 where
@@ -35,7 +36,8 @@ pub record IsPlain (h : Header1) : Type 0 where
 pub record Good (q : ℕ) (h : Header1) (m : Moment) : Type 0 where
   pub holds : Holds q h m.scene (m.lanes q)
   pub asleep : m.lives ≡ false → ((m.lanes q).attached ≡ false) × (started m.scene.past q ≡ false)
-  pub idle : started m.scene.past q ≡ false → accepted m.scene.past q ≡ 0
+  -- until it is started, the counters of its open requests are below the number of accepted ones
+  pub counts : started m.scene.past q ≡ false → CountsLow q h m.scene
 
 below_all : {a b c : ℕ} → a ≤ b → b ≤ c → a ≤ c
 below_all p q = omega arith
@@ -82,14 +84,14 @@ start_due q h m plain good ready =
     go stopped (Rests phase batch) =
         let same : resting l ≡ l = rest_is l phase batch in
         let at_rest : Holds q h m.scene (resting l) = subst (λ (x : Lane). Holds q h m.scene x) (sym same) good.holds in
-        subst (λ (x : Lane). Fine q h m.scene x (phase_goes_on h q m.scene (under_way h q m.scene turns.Start x))) same (start_fine q h m.scene l plain.good stopped at_rest)
+        subst (λ (x : Lane). Fine q h m.scene x (phase_goes_on h q m.scene (under_way h q m.scene turns.Start x))) same (start_fine q h m.scene l plain.good stopped (good.counts stopped) at_rest)
     go stopped (Publishes done phase some) = absurd (let none : l.batch ≡ [] = good.holds.carries.quiet stopped in omega (arith, some, ap (λ (ks : List ℕ). length ks) none))
     go stopped (Fetches phase batch) = absurd (let run : started m.scene.past q ≡ true = fetch_runs q h m.scene l phase good.holds in let fails : true ≡ false = sym run ∙ stopped in cc)
     go stopped (Starts done phase batch) =
         let same : starting done l ≡ l = start_is done l phase batch in
         let under : Holds q h m.scene (starting done l) = subst (λ (x : Lane). Holds q h m.scene x) (sym same) good.holds in
         let start : StartIs (started m.scene.past q) h.size l.bell l.plan (phases.Start done) = queue_start q h m.scene (starting done l) under in
-        subst (λ (x : Lane). Fine q h m.scene x (phase_goes_on h q m.scene (under_way h q m.scene turns.Start x))) same (start_goes_on q h m.scene l done plain.good stopped start.left under)
+        subst (λ (x : Lane). Fine q h m.scene x (phase_goes_on h q m.scene (under_way h q m.scene turns.Start x))) same (start_goes_on q h m.scene l done plain.good stopped (good.counts stopped) start.left under)
 
 fetch_due : (q : ℕ) (h : Header1) (m : Moment) → IsPlain h → Good q h m → is_ready (standing h q m) turns.Fetch ≡ true → Fine q h m.scene (m.lanes q) (turned h q turns.Fetch m)
 fetch_due q h m plain good ready =

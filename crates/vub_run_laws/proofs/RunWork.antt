@@ -39,6 +39,7 @@ use Rattle.vub_run_laws.proofs.RunEfforts.{effort, step_falls, status_falls}
 use Rattle.vub_run_laws.proofs.RunFrames.{open_out, OffBuffer, sector_elsewhere, status_elsewhere, other_buffer}
 use Rattle.vub_run_laws.proofs.RunQueue.{queue_same, queue_elsewhere, heads_apart}
 use Rattle.vub_run_laws.proofs.RunGuests.{holds_track}
+use Rattle.vub_run_laws.proofs.RingGood.{CountsLow}
 
 -- ---- requests
 
@@ -50,12 +51,18 @@ at_other f k x j e = grind (arith, nat_tests)
 
 -- ---- turns
 
+-- a queue that isn't started wasn't before either: it accepts nothing, and the counters of its open requests stay low
+pub record IsIdle (q : ℕ) (h : Header1) (s s' : Scene) : Type 0 where
+  pub stopped : started s.past q ≡ false
+  pub accepts : accepted s'.past q ≡ accepted s.past q
+  pub counts : CountsLow q h s'
+
 -- from that lane on these items and their lane are right, and less is left to do
 pub record Fine (q : ℕ) (h : Header1) (s : Scene) (l : Lane) (t : Turned) : Type 0 where
   pub each : AfterEach h (Tracks h q) s t.items
   pub holds : Holds q h (after_items h t.items s) t.lane
   pub legal : LegalFrom h.capacity h.mode s.past (entries_of t.items)
-  pub idle : started (after_items h t.items s).past q ≡ false → (started s.past q ≡ false) × (accepted (after_items h t.items s).past q ≡ accepted s.past q)
+  pub idle : started (after_items h t.items s).past q ≡ false → IsIdle q h s (after_items h t.items s)
   pub collects : collected (after_items h t.items s).past q ≡ collected s.past q
   pub falls : effort q h.size (after_items h t.items s).past (length ((after_items h t.items s).heads q)) t.lane + 1 ≤ effort q h.size s.past (length (s.heads q)) l
 
@@ -136,9 +143,9 @@ step_worked q past later phase batch completed made k f is_open left begun next 
   distinct = w.distinct;
   opens = λ j held. open_later q past later k j f (w.opens j held);
   untouched = λ j high. at_other made k (made k + 1) j (λ same. omega (arith, is_open.taken, f.accepts)) ∙ w.untouched j (omega (arith, f.accepts));
-  progress = λ j. elim (cases_eq j k) [
+  progress = λ on j. elim (cases_eq j k) [
     | inl same ↦ far_same q past later made k j same f begun
-    | inr apart ↦ far_other q past later made k j f apart (w.progress j)
+    | inr apart ↦ far_other q past later made k j f apart (w.progress f.runs j)
   ];
   full = λ j held. subst (λ (c : ℕ). IsFull c (asked later q j)) (sym (at_other made k (made k + 1) j (among_apart (completed ++ batch) j k held left))) (subst (λ (o : Option Asked). IsFull (made j) o) (sym (f.asks_same j)) (w.full j held));
   pending = λ j is_open_j out. subst (λ (o : Option Asked). IsPending (with_at made k (made k + 1) j) o) (sym (f.asks_same j)) (elim (cases_eq j k) [
@@ -207,7 +214,7 @@ record IsReading (q : ℕ) (h : Header1) (s : Scene) (l : Lane) (k sector c : �
   pub is : asked s.past q k ≡ Some (asks.Read sector c)
 
 reading_to : (q : ℕ) (h : Header1) (s : Scene) (l : Lane) (k sector c : ℕ) → IsReading q h s l k sector c → IsReadTo c (l.made k) (looks s.past q k) (bytes_read s.past q k)
-reading_to q h s l k sector c x = read_to sector c (l.made k) (looks s.past q k) (acts s.past q k) (bytes_read s.past q k) (synced s.past q k) (asked s.past q k) x.is (x.left.holds.worked.progress k)
+reading_to q h s l k sector c x = read_to sector c (l.made k) (looks s.past q k) (acts s.past q k) (bytes_read s.past q k) (synced s.past q k) (asked s.past q k) x.is (x.left.holds.worked.progress x.left.started k)
 
 look_worked : (q : ℕ) (h : Header1) (s : Scene) (l : Lane) (k sector c p place : ℕ) (v : List ℕ) → IsReading q h s l k sector c → p < c → l.made k ≡ 2 * p → length v ≡ 512
     → Worked q (entries.Look q k place v ∷ s.past) l.phase (hidden l.batch l.phase) l.completed (with_at l.made k (l.made k + 1))
@@ -313,7 +320,7 @@ record IsWriting (q : ℕ) (h : Header1) (s : Scene) (l : Lane) (k sector : ℕ)
   pub is : asked s.past q k ≡ Some (asks.Write sector bytes)
 
 writing_to : (q : ℕ) (h : Header1) (s : Scene) (l : Lane) (k sector : ℕ) (bytes : List ℕ) → IsWriting q h s l k sector bytes → IsWrittenTo (length bytes / 512) (l.made k) (acts s.past q k)
-writing_to q h s l k sector bytes x = written_to sector (l.made k) (looks s.past q k) (acts s.past q k) bytes (bytes_read s.past q k) (synced s.past q k) (asked s.past q k) x.is (x.left.holds.worked.progress k)
+writing_to q h s l k sector bytes x = written_to sector (l.made k) (looks s.past q k) (acts s.past q k) bytes (bytes_read s.past q k) (synced s.past q k) (asked s.past q k) x.is (x.left.holds.worked.progress x.left.started k)
 
 write_never : (sector : ℕ) (bytes : List ℕ) (o : Option Asked) → o ≡ Some (asks.Write sector bytes) → IsRead o → ⊥
 write_never sector bytes o is read = subst (λ (x : Option Asked). IsRead x) is read
@@ -429,7 +436,7 @@ sync_fine q h s l k x is none =
     let may : MaySync h.capacity h.mode s.past q k = record {
       request = asks.Flush;
       works = at_work q h s l k asks.Flush x is (wide_served h asks.Flush x.back tt);
-      first = ((x.holds.worked.progress k).fresh none).1.1.1;
+      first = ((x.holds.worked.progress x.started k).fresh none).1.1.1;
       due = tt;
     } in
     record {
@@ -580,9 +587,9 @@ status_worked q past phase batch completed made k run is_open left whole w = rec
     | inr old ↦ w.opens j old
   ];
   untouched = λ j high. at_other made k (made k + 1) j (λ same. omega (arith, is_open.taken)) ∙ w.untouched j high;
-  progress = λ j. elim (cases_eq j k) [
-    | inl same ↦ far_same q past past made k j same (same_follows q past k run) (full_begun q past made k (asked past q k) refl whole (w.progress k))
-    | inr apart ↦ far_other q past past made k j (same_follows q past k run) apart (w.progress j)
+  progress = λ on j. elim (cases_eq j k) [
+    | inl same ↦ far_same q past past made k j same (same_follows q past k run) (full_begun q past made k (asked past q k) refl whole (w.progress run k))
+    | inr apart ↦ far_other q past past made k j (same_follows q past k run) apart (w.progress run j)
   ];
   full = λ j held. elim (among_more completed batch k j held) [
     | inl same ↦ subst (λ (i : ℕ). IsFull (with_at made k (made k + 1) i) (asked past q i)) (sym same)

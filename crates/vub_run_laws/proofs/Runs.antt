@@ -38,7 +38,7 @@ opening_holds q h plain low = record {
     distinct = refl;
     opens = λ k held. absurd (let fails : false ≡ true = held in cc);
     untouched = λ k high. refl;
-    progress = λ k. record { fresh = λ e. (refl, (refl, (refl, refl))); begun = λ some. absurd (omega arith) };
+    progress = λ on. absurd (let fails : false ≡ true = on in cc);
     full = λ k held. absurd (let fails : false ≡ true = held in cc);
     pending = λ k is_open out. tt;
     quiet = λ e. (refl, (refl, λ k. refl));
@@ -50,14 +50,13 @@ opening_holds q h plain low = record {
     shown = λ k held out. absurd (let fails : false ≡ true = held in cc);
     quiet = λ stopped. refl;
     low = omega arith;
-    idle = λ stopped. refl;
   };
   queue = queue_opens q h plain.good.base low;
 }
 
 -- a run begins well
 pub opening_good : (q : ℕ) (h : Header1) → IsPlain h → q < h.queues → Good q h (opening h)
-opening_good q h plain low = record { holds = opening_holds q h plain low; asleep = λ dead. (refl, refl); idle = λ stopped. refl }
+opening_good q h plain low = record { holds = opening_holds q h plain low; asleep = λ dead. (refl, refl); counts = λ stopped k is_open. absurd (omega (arith, is_open.taken)) }
 
 -- what the grammar says of a header
 pub plain_header : (h : Header1) → IsHeader h → IsPlain h

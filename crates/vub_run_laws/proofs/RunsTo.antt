@@ -1,5 +1,5 @@
 -- Runs with the moment to which they lead.
-use Rattle.std.proofs.Common.{◌≡◌, ◌≤◌, ◌<◌, ℕ, ◌+◌, true, List, [], ◌∷◌, ◌++◌, length, refl, ap, sym, ◌∙◌, subst, arith}
+use Rattle.std.proofs.Common.{◌≢◌, ◌≡◌, ◌≤◌, ◌<◌, ℕ, ◌+◌, true, List, [], ◌∷◌, ◌++◌, length, refl, ap, sym, ◌∙◌, subst, arith}
 use Rattle.std.specs.List.{AllByRecursion}
 use Rattle.vub_base.specs.declared.header.Header1.{Header1}
 use Rattle.vub_steps.specs.declared.readiness.Turn.{Turn}
@@ -15,7 +15,7 @@ use Rattle.vub_run.specs.LegalRuns.{past_of}
 use Rattle.vub_run.specs.Moments.{Moment, opening}
 use Rattle.vub_run_laws.proofs.RunEntries.{event_offers, run_offers}
 use Rattle.vub_run.specs.Run.{turns, Plays, RunFrom, RunTo, Stands}
-use Rattle.vub_run.specs.Tracking.{TracksFrom}
+use Rattle.vub_run.specs.Tracking.{TracksFrom, reading_of}
 use Rattle.vub_report.specs.Histories.{entries_of, history_of}
 use Rattle.vub_run_laws.proofs.RunTurns.{Good}
 use Rattle.vub_run_laws.proofs.RunEvents.{Right}
@@ -24,6 +24,9 @@ use Rattle.vub_run_laws.proofs.RunDrains.{drained}
 use Rattle.vub_run_laws.proofs.Runs.{plain_header}
 use Rattle.vub_run_laws.proofs.RunsLegal.{IsHeld, opening_held, held_right, held_next, right_past, some_queue, run_from}
 use Rattle.vub_steps.specs.Readiness.{last_counter}
+use Rattle.vub_base.specs.declared.reading.Reading.TheVariants.{Damaged}
+use Rattle.vub_base.specs.declared.reading.RegionFault.{RegionFault}
+use Rattle.vub_run_laws.proofs.RunGuests.{holds_track}
 
 pub run_of : (h : Header1) (m : Moment) (es : List Event) (rs : List Record) (n : Moment) → RunTo h m es rs n → RunFrom h m es rs
 run_of h m [] [] n run = tt
@@ -87,6 +90,10 @@ stands_chained q h es rs n low s = (stands_held h es rs n s q low).chained
 -- also after any number of turns from there on, as in the middle of a drain
 pub stands_turns : (q : ℕ) (h : Header1) (es : List Event) (rs : List Record) (n : Moment) (count : ℕ) (choose : Moment → Turn) → q < h.queues → Stands h es rs n → Good q h (turns count choose h q n).next × ChainedAt q h (turns count choose h q n).next
 stands_turns q h es rs n count choose low s = turns_chained q count choose h n (plain_header h s.header) (stands_good q h es rs n low s) (stands_chained q h es rs n low s)
+
+-- no in-flight region is damaged
+pub stands_undamaged : (q : ℕ) (h : Header1) (es : List Event) (rs : List Record) (n : Moment) (fault : RegionFault) → q < h.queues → Stands h es rs n → reading_of h q n.scene ≢ Damaged fault
+stands_undamaged q h es rs n fault low s = (holds_track q h n.scene (n.lanes q) (plain_header h s.header).good (stands_good q h es rs n low s).holds).reads.undamaged fault
 
 -- its history is that of the records
 pub stands_past : (h : Header1) (es : List Event) (rs : List Record) (n : Moment) → Stands h es rs n → n.scene.past ≡ past_of rs

@@ -1,7 +1,9 @@
 //! Laws of all runs.
-ghost use Rattle.std.specs.Prelude.{◌≡◌, ◌<◌, ℕ, ◌+◌, true, false, List, [], length, get_or, slice_index};
+ghost use Rattle.std.specs.Prelude.{◌≡◌, ◌≢◌, ◌<◌, ℕ, ◌+◌, true, false, List, [], length, get_or, slice_index};
 ghost use Rattle.std.specs.List.{AllByRecursion};
 ghost use Rattle.vub_base.specs.declared.header.Header1.{Header1};
+ghost use Rattle.vub_base.specs.declared.reading.Reading.TheVariants.{Damaged};
+ghost use Rattle.vub_base.specs.declared.reading.RegionFault.{RegionFault};
 ghost use Rattle.vub_driver.specs.Layout.{ring_of};
 ghost use Rattle.vub_driver.specs.TableChain.{chain_in};
 ghost use Rattle.vub_device.specs.Legal.{Legal};
@@ -15,7 +17,7 @@ ghost use Rattle.vub_split.specs.declared.split.SplitRing.{SplitRing};
 ghost use Rattle.vub_direct_chain.specs.ChainState.{IsRingOf, Meant};
 ghost use Rattle.vub_run.specs.Moments.{Moment};
 ghost use Rattle.vub_run.specs.Run.{Run, Stands, Plays};
-ghost use Rattle.vub_run.specs.Tracking.{TracksAlways};
+ghost use Rattle.vub_run.specs.Tracking.{TracksAlways, reading_of};
 ghost use Rattle.vub_report.specs.Entries.{IsEntry};
 ghost use Rattle.vub_report.specs.Histories.{history_of};
 ghost use Rattle.vub_run.specs.Lawful.{IsOutstanding, EveryStoreIsLawful};
@@ -29,6 +31,12 @@ ghost use Rattle.vub_steps.specs.Readiness.{last_counter};
 pub fn every_run_is_legal()
     ensures legal { (s : Schedule) (records : List Record) → IsSchedule s → Run s records → Legal s.header.capacity s.header.mode (history_of records) }
     ensures tracked { (s : Schedule) (records : List Record) → IsSchedule s → Run s records → TracksAlways s.header records }
+{}
+
+/// Where a run leads, whatever was killed on the way, no in-flight region is damaged: the start of a
+/// next life finds nothing wrong with it.
+pub fn no_region_is_damaged()
+    ensures { (h : Header1) (es : List Event) (rs : List Record) (m : Moment) (q : ℕ) (fault : RegionFault) → q < h.queues → Stands h es rs m → reading_of h q m.scene ≢ Damaged fault }
 {}
 
 /// The entries of every run of a schedule are of those that there are: no read or write is of no
