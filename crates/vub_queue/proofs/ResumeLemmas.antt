@@ -26,9 +26,12 @@ pub none_before : (started : Bool) (taken : List Bool) → started ≡ true → 
 none_before true taken is = refl
 none_before false taken is = absurd (cc is)
 
-pub none_at_first : (n : ℕ) → taken_count (replicate n false) ≡ 0
+none_at_first : (n : ℕ) → taken_count (replicate n false) ≡ 0
 none_at_first zero = refl
 none_at_first (suc n) = none_at_first n
+
+pub none_in_new : (taken : List Bool) (n : ℕ) → taken ≡ replicate n false → takes_none_before false taken ≡ true
+none_in_new taken n is = ap (λ (xs : List Bool). taken_count xs == 0) is ∙ ap (λ (k : ℕ). k == 0) (none_at_first n)
 
 pub rests_before : (p : Phase) (n : ℕ) (bell started : Bool) → started ≡ false → phase_fits p n bell started ≡ true → p ≡ Rest
 rests_before Rest n bell started resting fits = refl
