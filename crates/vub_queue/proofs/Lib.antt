@@ -4,4 +4,5 @@ pub mod LyingLemmas
 pub mod MoveLemmas
 pub mod StableLemmas
 pub mod StartLemmas
+pub mod ResumeLemmas
 pub mod TaskLemmas
