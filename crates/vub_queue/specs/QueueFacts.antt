@@ -1,12 +1,10 @@
 -- What the device's side of one queue keeps agrees with the words of its ring and of its in-flight region, wherever these
 -- lie: no history, no number of a request and no driver occurs in it.
-use Rattle.std.specs.Prelude.{◌≡◌, ◌⊎◌, ◌<◌, ◌*◌, ℕ, suc, Bool, true, false, nat_lt, if◌then◌else◌, List, [], ◌∷◌, ◌++◌, length, map, Option, Some, None, ⊤}
-use Rattle.vub_base.specs.Told.{WhereTold}
+use Rattle.std.specs.Prelude.{◌≡◌, ◌⊎◌, ◌*◌, ℕ, suc, false, nat_lt, if◌then◌else◌, List, [], ◌∷◌, ◌++◌, length, map, Option, Some, None, ⊤}
 use Rattle.vub_shared.specs.Bytes.{Bytes}
 use Rattle.vub_shared.specs.Stores.{Store, after_store}
 use Rattle.vub_ring.specs.Ring.{Ring}
 use Rattle.vub_split.specs.Split.{IsInOneSpace, used_side, used_idx_word}
-use Rattle.vub_infl_split.specs.declared.region.SplitRegion.{SplitRegion}
 use Rattle.vub_infl_split.specs.Region.{RegionWords, words_of}
 use Rattle.vub_steps.specs.declared.steps.Phase.{Phase}
 use Rattle.vub_steps.specs.declared.steps.Phase.TheVariants as phases
@@ -81,21 +79,29 @@ words_in s m = words_at (ring_of s) s.recovery.region m
 abbrev pub side_of : Plan → Phase → QueueState → Side
 side_of plan phase s = record { started = s.started; bell = s.bell; phase = phase; plan = plan; counter = s.counter; batch = s.batch }
 
--- the facts of its phase hold of the words, and what it keeps agrees with them and with the open heads
-pub record FactsAt (heads : List ℕ) (base : ℕ) (s : QueueState) (m : Bytes) : Type 0 where
-  pub plan : Plan
-  pub phase : Phase
+-- its ring and its region lie apart, one of them as long as the other, and its start began at the base
+pub record IsLaid (base : ℕ) (s : QueueState) : Type 0 where
   pub lies : Lies (ring_of s) s.recovery.region
   pub one_space : IsInOneSpace s.ring
   pub same_ring : s.recovery.ring ≡ s.ring
   pub base_is : s.recovery.base ≡ base
   pub places : length s.taken ≡ s.ring.size
+
+-- what it keeps agrees with these open heads where used.idx is `used`, in this phase of which the head that waits next is that one
+pub record Keeps (heads : List ℕ) (used next : ℕ) (phase : Phase) (s : QueueState) : Type 0 where
   pub in_phase : IsInPhase s.started phase
   pub kept : s.phase ≡ kept_phase phase
+  pub fetching : s.fetching ≡ kept_head phase next
+  pub held : KeepsHeads s.ring.size heads used s
+
+-- the facts of its phase hold of the words, and what it keeps agrees with them and with the open heads
+pub record FactsAt (heads : List ℕ) (base : ℕ) (s : QueueState) (m : Bytes) : Type 0 where
+  pub plan : Plan
+  pub phase : Phase
+  pub laid : IsLaid base s
+  pub keeps : Keeps heads (used_idx_word s.ring m) (head_next heads (words_in s m)) phase s
   pub begun : s.started ≡ false → StartsAt s.ring.size plan phase (words_of s.recovery.region m) s
-  pub fetching : s.fetching ≡ kept_head phase (head_next heads (words_in s m))
   pub facts : Facts s.ring.size heads base (side_of plan phase s) (words_in s m)
-  pub held : KeepsHeads s.ring.size heads (used_idx_word s.ring m) s
 
 -- ---- a turn carries them on
 
