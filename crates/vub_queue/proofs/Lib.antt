@@ -1,4 +1,6 @@
 pub mod CounterLemmas
+pub mod FactsLemmas
+pub mod QueueHeld
 pub mod QueueLemmas
 pub mod LyingLemmas
 pub mod MoveLemmas

@@ -1,3 +1,4 @@
 pub mod Queue
+pub mod QueueFacts
 pub mod QueueParts
 pub mod QueueState

@@ -4,7 +4,6 @@ pub mod QueueAtPublications
 pub mod QueueAtStarts
 pub mod QueueAtSteps
 pub mod QueueAtTurns
-pub mod QueueHeld
 pub mod Setups
 pub mod StartTurns
 pub mod TurnSays

@@ -30,8 +30,9 @@ use Rattle.vub_run_laws.proofs.RunQueue.{queue_ahead, queue_fetch_begins, fetch_
 use Rattle.vub_run_laws.proofs.RingGood.{side_of, QueueFacts}
 use Rattle.vub_run_laws.proofs.RingFacts.{words_in}
 use Rattle.vub_run_laws.proofs.RingPositions.{at_position, at_heads, head_there}
-use Rattle.vub_queue_in_run.specs.QueueAt.{spot_of, hidden_part, hidden_in, kept_head, kept_phase, used_after, QueueAt, PhaseAt, LiesAs, QueueStands}
-use Rattle.vub_queue_in_run.proofs.QueueHeld.{words_with}
+use Rattle.vub_queue.specs.QueueFacts.{hidden_part, hidden_in, kept_head, kept_phase}
+use Rattle.vub_queue_in_run.specs.QueueAt.{spot_of, used_after, QueueAt, PhaseAt, LiesAs, QueueStands}
+use Rattle.vub_queue.proofs.QueueHeld.{words_with}
 use Rattle.vub_queue_in_run.proofs.QueueAtMoves.{at_goes}
 use Rattle.vub_queue_in_run.proofs.QueueAtTurns.{ready_same, does_of, head_is, keeps_rules, worked_at}
 use Rattle.vub_queue_in_run.proofs.QueueAtSteps.{IsUnderWay, StepStands, step_stands, lane_next, queue_next}

@@ -25,9 +25,10 @@ use Rattle.vub_run.specs.Turns.{len_of}
 use Rattle.vub_queue.specs.QueueParts.{is_taken}
 use Rattle.vub_queue.specs.QueueState as states
 use Rattle.vub_queue.specs.QueueState.{QueueState}
-use Rattle.vub_queue_in_run.specs.QueueAt.{spot_of, left_of, TaskAt, QueueAt, KeepsHeads, kept_phase, hidden_in, hidden_part, used_after}
+use Rattle.vub_queue.specs.QueueFacts.{KeepsHeads, kept_phase, hidden_in, hidden_part}
+use Rattle.vub_queue_in_run.specs.QueueAt.{spot_of, left_of, TaskAt, QueueAt, used_after}
 use Rattle.vub_rec_split.specs.Starts.{RecoveryState}
-use Rattle.vub_queue_in_run.proofs.QueueHeld.{words_with, fetched, shown, keeps_new, keeps_accepted, keeps_begun, keeps_alike, keeps_shown, all_hidden}
+use Rattle.vub_queue.proofs.QueueHeld.{words_with, fetched, shown, keeps_new, keeps_accepted, keeps_begun, keeps_alike, keeps_shown, all_hidden}
 use Rattle.vub_facts.specs.Facts.{heads_in, without}
 use Rattle.vub_facts.proofs.HeadLemmas.{without_map, number_of, among_get}
 use Rattle.vub_run.specs.Moments.{open_heads}

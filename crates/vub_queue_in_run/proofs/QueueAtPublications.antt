@@ -32,7 +32,8 @@ use Rattle.vub_run_laws.proofs.RunPhases.{resting, rest_is, taking, taking_holds
 use Rattle.vub_run_laws.proofs.RunTurns.{IsPlain, Good, running_cases, RunningCases, AtRest, InFetch, InPublication}
 use Rattle.vub_run_laws.proofs.RingGood.{side_of, QueueFacts}
 use Rattle.vub_run_laws.proofs.RingFacts.{words_in}
-use Rattle.vub_queue_in_run.specs.QueueAt.{spot_of, hidden_part, kept_head, kept_phase, QueueAt, PhaseAt, LiesAs, QueueStands}
+use Rattle.vub_queue.specs.QueueFacts.{hidden_part, kept_head, kept_phase}
+use Rattle.vub_queue_in_run.specs.QueueAt.{spot_of, QueueAt, PhaseAt, LiesAs, QueueStands}
 use Rattle.vub_queue_in_run.proofs.TurnSays.{TurnSays, Notes, Accepts, Publishes as Shows, Rings, Starts}
 use Rattle.vub_queue_in_run.proofs.QueueAtMoves.{at_begin}
 use Rattle.vub_queue_in_run.proofs.QueueAtTurns.{ready_same, does_of, worked_at, hidden_is}

@@ -58,7 +58,8 @@ use Rattle.vub_run_laws.proofs.RunTurns as between
 use Rattle.vub_run_laws.proofs.RunTurns.{IsPlain, Good, PhaseCases, phase_cases}
 use Rattle.vub_run_laws.proofs.RunQueue.{phase_at, queue_start}
 use Rattle.vub_run_laws.proofs.RunOwn.{started_own}
-use Rattle.vub_queue_in_run.specs.QueueAt.{QueueAt, StartingAt, StartsAt, PhaseAt, LiesAs, QueueStands, kept_phase, kept_head, hidden_part, spot_of}
+use Rattle.vub_queue.specs.QueueFacts.{StartingAt, StartsAt, kept_phase, kept_head, hidden_part}
+use Rattle.vub_queue_in_run.specs.QueueAt.{QueueAt, PhaseAt, LiesAs, QueueStands, spot_of}
 use Rattle.vub_queue_in_run.proofs.StartTurns.{stores_turn, bell_turn, last_turn, store_in_place, stores_next, rings_next as run_rings, ends_next}
 use Rattle.vub_queue_in_run.proofs.QueueAtMoves.{at_started, at_starting}
 use Rattle.vub_queue_in_run.proofs.QueueAtTurns.{does_of, stands_next}

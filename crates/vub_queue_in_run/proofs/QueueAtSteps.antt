@@ -49,9 +49,10 @@ use Rattle.vub_run_laws.proofs.RunElements.{get_map}
 use Rattle.vub_run_laws.proofs.RunGood.{Known, Worked}
 use Rattle.vub_run_laws.proofs.RingGood.{the_ring, side_of}
 use Rattle.vub_run_laws.proofs.RunTracks.{numbers_answers}
-use Rattle.vub_queue_in_run.specs.QueueAt.{spot_of, hidden_part, hidden_in, kept_phase, kept_head, QueueAt, PhaseAt, LiesAs, QueueStands}
+use Rattle.vub_queue.specs.QueueFacts.{hidden_part, hidden_in, kept_phase, kept_head}
+use Rattle.vub_queue_in_run.specs.QueueAt.{spot_of, QueueAt, PhaseAt, LiesAs, QueueStands}
 use Rattle.vub_queue_in_run.proofs.TurnSays.{RowFits, ring_fits, region_fits, row_item, after_stored, TurnSays, Notes, Accepts, Publishes, Rings}
-use Rattle.vub_queue_in_run.proofs.QueueHeld.{fetched, shown}
+use Rattle.vub_queue.proofs.QueueHeld.{fetched, shown}
 use Rattle.vub_queue_in_run.proofs.QueueAtMoves.{at_goes, at_fetch, at_show}
 use Rattle.vub_queue_in_run.proofs.QueueAtTurns.{stands_next}
 

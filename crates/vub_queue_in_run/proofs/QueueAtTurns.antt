@@ -29,7 +29,8 @@ use Rattle.vub_run.specs.Turns.{Turned, turned}
 use Rattle.vub_split.specs.Split.{avail_idx_word, head_word}
 use Rattle.vub_queue.specs.QueueState as states
 use Rattle.vub_queue.specs.QueueState.{QueueState, standing_at, StartsIf, Fetches, Breaks, BreaksBy, Publishes, publishes, DoesOf, Unless, Turns, is_fault}
-use Rattle.vub_queue_in_run.specs.QueueAt.{spot_of, QueueAt, LiesAs, QueueStands, kept_phase, PhaseAt, hidden_part, left_of}
+use Rattle.vub_queue.specs.QueueFacts.{kept_phase, hidden_part}
+use Rattle.vub_queue_in_run.specs.QueueAt.{spot_of, QueueAt, LiesAs, QueueStands, PhaseAt, left_of}
 use Rattle.vub_driver.specs.Layout.{area_place}
 use Rattle.vub_run_laws.proofs.RunOwn.{at_own}
 use Rattle.vub_run_laws.proofs.RunNumbers.{not_among-take, missing-among}

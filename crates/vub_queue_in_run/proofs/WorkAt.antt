@@ -18,7 +18,8 @@ use Rattle.vub_task.specs.declared.task.Task.{Task}
 use Rattle.vub_direct_chain.specs.ChainState.{IsRingOf, Meant}
 use Rattle.vub_driver.specs.GuestChain.{Links}
 use Rattle.vub_run.specs.Moments.{Lane, Moment, standing, unfinished}
-use Rattle.vub_queue_in_run.specs.QueueAt.{QueueStands, LiesAs, TaskAt, left_of, hidden_part}
+use Rattle.vub_queue.specs.QueueFacts.{hidden_part}
+use Rattle.vub_queue_in_run.specs.QueueAt.{QueueStands, LiesAs, TaskAt, left_of}
 use Rattle.vub_queue.specs.QueueState.{QueueState, IsDue}
 use Rattle.vub_task.specs.TaskState.{fresh_task, Making, IsBasic, IsNext, IsReady, head_in}
 use Rattle.vub_steps.specs.Tasks.{RequestStep, Look, Put, Act, Sync, Status, task_steps, disk_steps, look_steps, act_steps}

@@ -35,7 +35,8 @@ use Rattle.vub_task.specs.declared.task.Task.{Task}
 use Rattle.vub_driver.specs.GuestChain.{Links}
 use Rattle.vub_run.specs.Memory.{Scene, after_item, after_items}
 use Rattle.vub_run.specs.Moments.{Lane, Moment, buffer_of}
-use Rattle.vub_queue_in_run.specs.QueueAt.{QueueStands, LiesAs, DiskAt, left_of, hidden_part}
+use Rattle.vub_queue.specs.QueueFacts.{hidden_part}
+use Rattle.vub_queue_in_run.specs.QueueAt.{QueueStands, LiesAs, DiskAt, left_of}
 use Rattle.vub_queue.specs.QueueState.{QueueState, said, sector_at, due_store}
 use Rattle.vub_run.specs.Run.{one_turn}
 use Rattle.vub_task.specs.TaskState.{Making, answer_in, memory_after, values_after, with_effect, head_in}

@@ -27,7 +27,8 @@ use Rattle.vub_task.specs.declared.task.Task.{Task}
 use Rattle.vub_infl_split.specs.Region.{RegionWords}
 use Rattle.vub_run.specs.Memory.{Scene, with_at, after_items}
 use Rattle.vub_run.specs.Moments.{Lane, Moment, region_in, buffer_of, open_heads}
-use Rattle.vub_queue_in_run.specs.QueueAt.{QueueAt, PhaseAt, KeepsHeads, QueueStands, DiskAt, TaskAt, spot_of, left_of, hidden_part, kept_head, used_after}
+use Rattle.vub_queue.specs.QueueFacts.{KeepsHeads, hidden_part, kept_head}
+use Rattle.vub_queue_in_run.specs.QueueAt.{QueueAt, PhaseAt, QueueStands, DiskAt, TaskAt, spot_of, left_of, used_after}
 use Rattle.vub_queue.specs.QueueState.{QueueState, HasWorked, Advances, worked, done_at}
 use Rattle.vub_run.specs.Run.{one_turn}
 use Rattle.vub_direct_chain.specs.ChainState.{sector_of}
@@ -46,7 +47,7 @@ use Rattle.vub_run_laws.proofs.RunTurns.{IsPlain, Good}
 use Rattle.vub_queue_in_run.proofs.QueueAtTurns.{stands_next}
 use Rattle.vub_queue_in_run.proofs.WorkAt.{WorkReady, making, left_at, Kind, IsLook, IsPut, IsAct, IsSync}
 use Rattle.vub_queue_in_run.proofs.WorkAtItems.{work_turned, work_kind}
-use Rattle.vub_queue_in_run.proofs.QueueHeld.{keeps_worked, keeps_done}
+use Rattle.vub_queue.proofs.QueueHeld.{keeps_worked, keeps_done}
 use Rattle.vub_facts.proofs.HeadLemmas.{distinct_without}
 use Rattle.vub_queue_in_run.proofs.WorkAtLists.{slice_get-set_same, slice_get-set_other, slice_get-remove_below, slice_get-remove_above, one_place, one_less, among_kept}
 use Rattle.vub_run_laws.proofs.RunQueue.{heads_apart}

@@ -18,6 +18,7 @@ use Rattle.vub_steps.specs.Tasks.{Put, task_steps}
 use Rattle.vub_run.specs.Moments.{Moment, region_of, region_in, open_heads}
 use Rattle.vub_run.specs.Turns.{len_of}
 use Rattle.vub_queue.specs.QueueParts.{is_taken}
+use Rattle.vub_queue.specs.QueueFacts.{hidden_part, hidden_in, KeepsHeads, kept_phase, StartsAt, kept_head}
 use Rattle.vub_queue.specs.QueueState.{QueueState, QueueLies, IsNew, state_of, new_recovery}
 use Rattle.vub_task.specs.TaskState.{IsTaskAt, head_in}
 use Rattle.vub_queue.specs.declared.queue.Queue.{Queue}
@@ -26,30 +27,6 @@ use Rattle.vub_queue.specs.Queue.{ring_in}
 use Rattle.vub_task.specs.declared.task.Task.{Task}
 use Rattle.vub_facts.specs.Facts.{Words}
 use Rattle.vub_facts.specs.Held.{State, Held}
-
--- ---- what a queue keeps, by heads
-
--- the part of a batch that isn't shown: all of it until its publication has stored used.idx
-abbrev pub hidden_part : {A : Type 0} → Phase → List A → List A
-hidden_part (phases.Publish done) batch = if nat_lt (4 * length batch) done then [] else batch
-hidden_part phase batch = []
-
-abbrev pub hidden_in : QueueState → List (ℕ × ℕ)
-hidden_in s = hidden_part s.phase s.batch
-
--- its state, as far as the open heads are concerned
-abbrev pub held_in : QueueState → State
-held_in s = record {
-  batch = hidden_in s;
-  avail = s.next_avail;
-  taken = is_taken s.taken;
-  unfinished = map head_in s.unfinished;
-  completed = s.completed;
-}
-
--- what it keeps agrees with these open heads where used.idx is `used`, whatever stands beside it
-abbrev pub KeepsHeads : ℕ → List ℕ → ℕ → QueueState → Type 0
-KeepsHeads n heads used s = (w : Words) → w.ring.used ≡ used → Held n heads w (held_in s)
 
 -- ---- what it keeps, by the numbers of a run
 
@@ -65,11 +42,6 @@ left_of q past completed batch = filter (λ k. not (is_among (completed ++ batch
 pub record TaskAt (q : ℕ) (h : Header1) (setup : QueueSetup) (past : List Entry) (heads : List ℕ) (k made : ℕ) (task : Task) : Type 0 where
   pub head : head_in task ≡ slice_index heads k
   pub stands : (request : Asked) → asked past q k ≡ Some request → IsTaskAt h setup.ring (buffer_place (area_place q) (slice_index heads k)) request made task
-
--- the phase that a queue keeps: of a start its recovery keeps the place
-abbrev pub kept_phase : Phase → Phase
-kept_phase (phases.Start done) = phases.Rest
-kept_phase phase = phase
 
 -- used.idx, by what is published
 abbrev pub used_after : Header1 → ℕ → List Entry → ℕ
@@ -93,20 +65,6 @@ pub record QueueAt (q : ℕ) (h : Header1) (setup : QueueSetup) (past : List Ent
       → get_or state.sectors (slice_index heads k) [] ≡ slice_range (bytes_read past q k) (512 * place) (512 * place + 512)
 
 -- ---- its phase
-
--- so many steps of a start with this plan were made, on a queue of n descriptors whose region has these words
-pub record StartingAt (n : ℕ) (plan : Plan) (done : ℕ) (w : RegionWords) (state : QueueState) : Type 0 where
-  pub recovery : IsAt plan done w state.recovery
-  pub rung : state.rung ≡ nat_lt (length (plan_steps n plan)) done
-
-abbrev pub StartsAt : ℕ → Plan → Phase → RegionWords → QueueState → Type 0
-StartsAt n plan (phases.Start done) w state = StartingAt n plan done w state
-StartsAt n plan phase w state = IsFresh state.recovery × (state.rung ≡ false)
-
--- the head of a fetch is kept from its first step on
-abbrev pub kept_head : Phase → ℕ → Option ℕ
-kept_head (phases.Fetch (suc done)) head = Some head
-kept_head phase head = None
 
 -- of queue q, in this phase of its lane; the words of its region matter until it is started
 pub record PhaseAt (q : ℕ) (h : Header1) (setup : QueueSetup) (past : List Entry) (heads : List ℕ) (has_bell : Bool) (plan : Plan) (next : ℕ) (in_batch : List ℕ) (phase : Phase) (w : RegionWords) (state : QueueState) : Type 0 where

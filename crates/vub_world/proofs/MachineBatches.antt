@@ -18,7 +18,8 @@ use Rattle.vub_world.specs.OutstandingRequests.{size_in, slot_in}
 use Rattle.vub_world.specs.MachineAt.{OutstandingAt, reads_of}
 use Rattle.vub_world.specs.MachineDevice.{ShownFits, ShowsSome, is_showing, is_index}
 use Rattle.vub_run.specs.Moments.{Moment}
-use Rattle.vub_queue_in_run.specs.QueueAt.{QueueStands, spot_of, kept_phase}
+use Rattle.vub_queue.specs.QueueFacts.{kept_phase}
+use Rattle.vub_queue_in_run.specs.QueueAt.{QueueStands, spot_of}
 use Rattle.vub_queue.specs.QueueState.{QueueState}
 use Rattle.vub_world.proofs.MachineTurns.{among_right}
 use Rattle.vub_run_laws.proofs.RunQueue.{phase_at, head_below}

@@ -37,7 +37,8 @@ use Rattle.vub_world.specs.OutstandingRequests.{offered_in, collected_in, slot_i
 use Rattle.vub_world.specs.MachineAt.{AskAt, LifeAt, PartsAt, PartsStand}
 use Rattle.vub_run.specs.Moments.{Lane, Moment, region_in}
 use Rattle.vub_queue.specs.QueueState.{QueueState, state_of}
-use Rattle.vub_queue_in_run.specs.QueueAt.{PhaseAt, hidden_part}
+use Rattle.vub_queue.specs.QueueFacts.{hidden_part}
+use Rattle.vub_queue_in_run.specs.QueueAt.{PhaseAt}
 use Rattle.vub_infl_split.specs.Region.{RegionWords}
 use Rattle.vub_run.specs.Run.{Stands, played, with_driver, next_collected, take_first, collect}
 use Rattle.vub_run_laws.proofs.RunGood.{IsOut}

@@ -54,7 +54,8 @@ use Rattle.vub_run_laws.proofs.RunCarries.{batch_taken}
 use Rattle.vub_run_laws.proofs.RingFacts.{map_alike}
 use Rattle.vub_queue_in_run.proofs.QueueAtMoves.{at_offer, offered_spot}
 use Rattle.vub_queue_in_run.proofs.QueueAtTurns.{worked_at}
-use Rattle.vub_queue_in_run.specs.QueueAt.{QueueAt, PhaseAt, hidden_part, kept_head, spot_of}
+use Rattle.vub_queue.specs.QueueFacts.{hidden_part, kept_head}
+use Rattle.vub_queue_in_run.specs.QueueAt.{QueueAt, PhaseAt, spot_of}
 use Rattle.vub_world.proofs.MachineLanes.{all_lanes, life_with}
 
 -- ---- the outstanding requests

@@ -5,7 +5,8 @@ use Rattle.vub_base.specs.declared.header.Header1.{Header1}
 use Rattle.vub_driver.specs.Drivers.{Waiting, after_stores}
 use Rattle.vub_queue.specs.declared.queue.Queue.{Queue}
 use Rattle.vub_queue.specs.QueueState.{state_of}
-use Rattle.vub_queue_in_run.specs.QueueAt.{QueueAt, PhaseAt, hidden_part}
+use Rattle.vub_queue.specs.QueueFacts.{hidden_part}
+use Rattle.vub_queue_in_run.specs.QueueAt.{QueueAt, PhaseAt}
 use Rattle.vub_run.specs.Moments.{Lane, Moment, region_in}
 use Rattle.vub_run.specs.Run.{with_lane, with_driver, guest_stores}
 use Rattle.vub_run_laws.proofs.RunOwn.{at_own}

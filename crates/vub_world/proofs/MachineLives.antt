@@ -11,7 +11,8 @@ use Rattle.vub_queue.specs.declared.queue.Queue.{Queue}
 use Rattle.vub_queue.specs.declared.queue.QueueSetup.{QueueSetup}
 use Rattle.vub_world.specs.MachineAt.{PartsAt, LifeAt, AttachedAt}
 use Rattle.vub_run.specs.Moments.{Lane, Moment, fresh, attached, region_in}
-use Rattle.vub_queue_in_run.specs.QueueAt.{QueueAt, PhaseAt, IsNewQueue, hidden_part, spot_of}
+use Rattle.vub_queue.specs.QueueFacts.{hidden_part}
+use Rattle.vub_queue_in_run.specs.QueueAt.{QueueAt, PhaseAt, IsNewQueue, spot_of}
 use Rattle.vub_queue.specs.QueueState.{QueueState, state_of}
 use Rattle.vub_run.specs.Run.{played, if_ready, boot, join}
 use Rattle.vub_queue_in_run.proofs.QueueAtMoves.{at_new}

@@ -22,7 +22,7 @@ use Rattle.vub_world.specs.declared.device.Sequence.{Sequence}
 use Rattle.vub_world.specs.declared.device.Sequence.TheVariants as sequences
 use Rattle.vub_world.specs.Sequences.{next_turn}
 use Rattle.vub_driver.specs.Layout.{ring_of}
-use Rattle.vub_queue_in_run.specs.QueueAt.{kept_phase}
+use Rattle.vub_queue.specs.QueueFacts.{kept_phase}
 use Rattle.vub_world.specs.MachineDevice.{is_index}
 use Rattle.vub_world.specs.MachineSteps.{turns_besides}
 use Rattle.vub_run.specs.Memory.{Scene, after_items}

@@ -20,7 +20,7 @@ use Rattle.vub_queue.specs.QueueState.{QueueState, worked, done_at}
 use Rattle.vub_facts.specs.Facts.{Words, heads_in, without, words_after}
 use Rattle.vub_facts.specs.Held.{State, Held, state_after, completed_at, publication_begun}
 use Rattle.vub_facts.proofs.HeldSteps.{held_words, held_like, held_accept, held_index, held_publication_begun, held_completed}
-use Rattle.vub_queue_in_run.specs.QueueAt.{hidden_part, hidden_in, held_in, KeepsHeads}
+use Rattle.vub_queue.specs.QueueFacts.{hidden_part, hidden_in, held_in, KeepsHeads}
 
 -- ---- a new queue
 
