@@ -1,19 +1,33 @@
 -- A turn carries the facts of a queue on.
-use Rattle.std.proofs.Common.{◌≡◌, ◌≤◌, ◌<◌, ◌⊎◌, ℕ, ◌+◌, ◌*◌, ◌%◌, Bool, true, false, List, [], ◌∷◌, ◌++◌, length, cond, refl, ap, sym, ◌∙◌, subst, inl, inr, arith}
-use Rattle.std.specs.Prelude.{Some, nat_lt}
+use Rattle.std.proofs.Common.{◌≡◌, ◌≤◌, ◌<◌, ◌⊎◌, ℕ, zero, suc, ◌+◌, ◌*◌, ◌%◌, Bool, true, false, List, [], ◌∷◌, ◌++◌, length, map, set, take, drop, cond, refl, ap, sym, ◌∙◌, subst, inl, inr, arith}
+use Rattle.std.specs.Prelude.{Option, Some, None, slice_get, get_or, nat_lt, not, is_some, if◌then◌else◌}
 use Rattle.std.proofs.lemmas.Bool.Decides.{nat_tests}
+use Rattle.std.proofs.lemmas.Bool.{cases_Bool, cases_lt, cases_eq}
 use Rattle.std.proofs.lemmas.List.{length-set}
 use Rattle.vub_shared.specs.Bytes.{Bytes, word}
 use Rattle.vub_ring.specs.Ring.{Ring, head_at}
 use Rattle.vub_split.specs.Split.{used_idx_word, head_word}
 use Rattle.vub_split.proofs.SplitLemmas.{head_is, sides_are}
+use Rattle.vub_infl_split.specs.declared.region.SplitRegion.{SplitRegion}
+use Rattle.vub_infl_split.specs.declared.region.SplitStore.TheVariants.{SF1, SF2}
 use Rattle.vub_steps.specs.declared.steps.Phase.{Phase}
 use Rattle.vub_steps.specs.declared.steps.Phase.TheVariants as phases
+use Rattle.vub_steps.specs.declared.steps.Plan.{Plan}
+use Rattle.vub_steps.specs.declared.steps.Step.{Step}
+use Rattle.vub_steps.specs.declared.steps.Step.TheVariants as steps
+use Rattle.vub_steps.specs.Readiness.{is_fetch}
+use Rattle.vub_steps.specs.Rows.{Row, Sight, row_of, region_row}
+use Rattle.vub_steps.specs.Steps.{Course, running_steps, steps_of, done_of, at_step, next_of, after_of, next_step, after_step}
+use Rattle.vub_device.specs.Past.{is_among}
 use Rattle.vub_facts.specs.Facts.{Side, Words, words_at, heads_in, Lies, Facts, InFetching, InBatch, IsBuilt, BatchFacts, ElementsFit, IsInPhase, IsDue, course_in, head_next, heads_after, side_after, counted, next_counter_in, sight, words_after, after_row}
 use Rattle.vub_facts.specs.Facts as facts
-use Rattle.vub_queue.specs.QueueParts.{is_taken}
-use Rattle.vub_queue.specs.QueueState.{QueueState}
-use Rattle.vub_queue.specs.QueueFacts.{hidden_part, KeepsHeads, kept_head, ring_of, words_in, IsLaid, Keeps}
+use Rattle.vub_facts.proofs.Places.{Place, place_of, after_place, is_last}
+use Rattle.vub_facts.proofs.FactSteps.{batch_in, step_keeps}
+use Rattle.vub_facts.proofs.FactWords.{row_words}
+use Rattle.vub_queue.specs.QueueParts.{is_taken, without_heads}
+use Rattle.vub_queue.specs.QueueState as states
+use Rattle.vub_queue.specs.QueueState.{QueueState, seen_by, row_at, steps_in, step_in, kept_or, changed, moved}
+use Rattle.vub_queue.specs.QueueFacts.{hidden_part, hidden_in, KeepsHeads, kept_phase, kept_head, ring_of, words_in, side_of, IsLaid, Keeps, FactsAt}
 use Rattle.vub_queue.proofs.QueueHeld.{fetched, shown, keeps_accepted, keeps_alike, keeps_shown}
 use Rattle.vub_queue.proofs.QueueLemmas.{length_without}
 
@@ -55,7 +69,7 @@ pub record Runs (heads : List ℕ) (used next : ℕ) (s : QueueState) : Type 0 w
   pub places : length s.taken ≡ s.ring.size
 
 -- a step of a publication that shows nothing goes on
-still_on : (heads : List ℕ) (used next next' done : ℕ) (s : QueueState) → s.phase ≡ phases.Publish done → IsAside s.batch done → Runs heads used next s → Runs heads used next' (record s { phase = phases.Publish (done + 1) })
+pub still_on : (heads : List ℕ) (used next next' done : ℕ) (s : QueueState) → s.phase ≡ phases.Publish done → IsAside s.batch done → Runs heads used next s → Runs heads used next' (record s { phase = phases.Publish (done + 1) })
 still_on heads used next next' done s at aside k = record {
   on = k.on;
   keeps = record {
@@ -68,7 +82,7 @@ still_on heads used next next' done s at aside k = record {
 }
 
 -- or ends it
-still_ends : (heads : List ℕ) (used next next' done : ℕ) (s : QueueState) → s.phase ≡ phases.Publish done → 4 * length s.batch < done → Runs heads used next s → Runs heads used next' (record s { phase = phases.Rest; batch = [] })
+pub still_ends : (heads : List ℕ) (used next next' done : ℕ) (s : QueueState) → s.phase ≡ phases.Publish done → 4 * length s.batch < done → Runs heads used next s → Runs heads used next' (record s { phase = phases.Rest; batch = [] })
 still_ends heads used next next' done s at behind k = record {
   on = k.on;
   keeps = record {
@@ -81,7 +95,7 @@ still_ends heads used next next' done s at behind k = record {
 }
 
 -- the batch is shown
-index_shows : (r : Ring) (heads : List ℕ) (used many next next' : ℕ) (s : QueueState) → r.size ≡ s.ring.size → used < 65536 → s.phase ≡ phases.Publish (4 * length s.batch) → many ≡ (used + length s.batch) % 65536 → Runs heads used next s
+pub index_shows : (r : Ring) (heads : List ℕ) (used many next next' : ℕ) (s : QueueState) → r.size ≡ s.ring.size → used < 65536 → s.phase ≡ phases.Publish (4 * length s.batch) → many ≡ (used + length s.batch) % 65536 → Runs heads used next s
     → Runs (facts.without (heads_in s.batch) heads) many next' (shown (4 * length s.batch + 1) s)
 index_shows r heads used many next next' s size fits at is k =
     let done : ℕ = 4 * length s.batch in record {
@@ -97,7 +111,7 @@ index_shows r heads used many next next' s size fits at is k =
     }
 
 -- the head of a fetch is kept
-count_keeps : (heads : List ℕ) (used next head : ℕ) (s : QueueState) → s.phase ≡ phases.Fetch 0 → head ≡ next → Runs heads used next s → Runs heads used next (record s { counter = s.counter + 1; fetching = Some head; phase = phases.Fetch 1 })
+pub count_keeps : (heads : List ℕ) (used next head : ℕ) (s : QueueState) → s.phase ≡ phases.Fetch 0 → head ≡ next → Runs heads used next s → Runs heads used next (record s { counter = s.counter + 1; fetching = Some head; phase = phases.Fetch 1 })
 count_keeps heads used next head s at is k = record {
   on = k.on;
   keeps = record {
@@ -110,7 +124,7 @@ count_keeps heads used next head s at is k = record {
 }
 
 -- and accepted
-accept_keeps : (r : Ring) (heads : List ℕ) (used next next' head : ℕ) (s : QueueState) → r.size ≡ s.ring.size → s.phase ≡ phases.Fetch 1 → head < s.ring.size → is_taken s.taken head ≡ false → Runs heads used next s → Runs (heads ++ head ∷ []) used next' (fetched head s)
+pub accept_keeps : (r : Ring) (heads : List ℕ) (used next next' head : ℕ) (s : QueueState) → r.size ≡ s.ring.size → s.phase ≡ phases.Fetch 1 → head < s.ring.size → is_taken s.taken head ≡ false → Runs heads used next s → Runs (heads ++ head ∷ []) used next' (fetched head s)
 accept_keeps r heads used next next' head s size at low free k = record {
   on = k.on;
   keeps = record {

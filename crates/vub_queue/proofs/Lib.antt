@@ -5,5 +5,6 @@ pub mod QueueLemmas
 pub mod LyingLemmas
 pub mod MoveLemmas
 pub mod StableLemmas
+pub mod StepFacts
 pub mod StartLemmas
 pub mod TaskLemmas
