@@ -7,4 +7,5 @@ pub mod MoveLemmas
 pub mod StableLemmas
 pub mod StepFacts
 pub mod StartLemmas
+pub mod ResumeLemmas
 pub mod TaskLemmas

@@ -1,7 +1,10 @@
 -- A queue lies where it lay: its tasks one by one.
 use mathlib.Core.Path.{fun_ext}
 use Rattle.std.proofs.Common.{◌≡◌, ◌<◌, ℕ, zero, suc, List, [], ◌∷◌, ◌++◌, refl, ap, sym, ◌∙◌, subst}
-use Rattle.std.specs.Prelude.{Bool, true, false, if◌then◌else◌, take, drop, set, slice_get, Some, Ok}
+use Rattle.std.specs.Prelude.{Bool, true, false, if◌then◌else◌, map, take, drop, set, slice_get, Some, Ok}
+use Rattle.std.specs.List.{AllByRecursion}
+use Rattle.vub_base.specs.declared.pending.Pending.{Pending}
+use Rattle.vub_inflight.specs.Entries.{heads_of}
 use Rattle.vub_split.specs.Split.{RingLies}
 use Rattle.vub_split.specs.declared.split.SplitRing.{SplitRing}
 use Rattle.vub_steps.specs.declared.steps.Phase.{Phase}
@@ -63,6 +66,11 @@ lies_started s t same ring tasks sizes capacity h = record {
   tasks = subst (λ (r : SplitRing). TasksFit sizes capacity r t.unfinished) (sym ring) (subst (TasksFit sizes capacity s.ring) (sym tasks) h.tasks);
 }
 
+-- ring, recovery and tasks are as they were
+pub lies_same : (s t : QueueState) → t.ring ≡ s.ring → t.recovery ≡ s.recovery → t.unfinished ≡ s.unfinished → KeepsLying s t
+lies_same s t ring recovery tasks =
+    lies_started s t (record { ring = ap (λ (r : RecoveryState). r.ring) recovery; region = ap (λ (r : RecoveryState). r.region) recovery; base = ap (λ (r : RecoveryState). r.base) recovery }) ring tasks
+
 -- a queue that was set up
 pub lies_new : (sizes : ℕ → ℕ) (capacity : ℕ) (setup : QueueSetup) (s : QueueState) → s.ring ≡ setup.ring → s.recovery ≡ new_recovery setup → s.unfinished ≡ [] → StartLies sizes (new_recovery setup) → QueueLies sizes capacity s
 lies_new sizes capacity setup s ring recovery tasks h = record {
@@ -80,6 +88,16 @@ lies_accepted head s t below is sizes capacity h =
       same_ring = h.same_ring;
       tasks = fit_append sizes capacity s.ring s.unfinished (fresh_task head ∷ []) h.tasks ((tt, below), tt);
     })
+
+fresh_fit : (sizes : ℕ → ℕ) (capacity : ℕ) (r : SplitRing) (list : List Pending) → AllByRecursion (λ (e : Pending). e.head < r.size) list → TasksFit sizes capacity r (map fresh_task (heads_of list))
+fresh_fit sizes capacity r [] below = tt
+fresh_fit sizes capacity r (e ∷ list) below = ((tt, below.0), fresh_fit sizes capacity r list below.1)
+
+-- the tasks of open requests begin anew
+pub lies_resumed : (list : List Pending) (s t : QueueState) → AllByRecursion (λ (e : Pending). e.head < s.ring.size) list → t.ring ≡ s.ring → t.recovery ≡ s.recovery → t.unfinished ≡ map fresh_task (heads_of list) → KeepsLying s t
+lies_resumed list s t below ring recovery tasks sizes capacity h =
+    lies_same (record s { unfinished = map fresh_task (heads_of list) }) t ring recovery tasks sizes capacity
+    (record { ring = h.ring; start = h.start; same_ring = h.same_ring; tasks = fresh_fit sizes capacity s.ring list below })
 
 pub lies_worked : (sizes : ℕ → ℕ) (capacity place : ℕ) (task : Task) (sector : List ℕ) (s t : QueueState) → TaskFits sizes capacity s.ring task → t ≡ worked place task sector s → QueueLies sizes capacity s → QueueLies sizes capacity t
 lies_worked sizes capacity place task sector s t fits is h =
@@ -190,11 +208,6 @@ phase_tasks (Publish k) s sizes capacity h = record { ring = h.ring; start = h.s
 
 pub advanced_lies : (p : Phase) (s t : QueueState) → t ≡ with_phase p s → KeepsLying s t
 advanced_lies p s t is sizes capacity h = subst (QueueLies sizes capacity) (sym is) (phase_tasks p s sizes capacity h)
-
--- ring, recovery and tasks are as they were
-pub lies_same : (s t : QueueState) → t.ring ≡ s.ring → t.recovery ≡ s.recovery → t.unfinished ≡ s.unfinished → KeepsLying s t
-lies_same s t ring recovery tasks =
-    lies_started s t (record { ring = ap (λ (r : RecoveryState). r.ring) recovery; region = ap (λ (r : RecoveryState). r.region) recovery; base = ap (λ (r : RecoveryState). r.base) recovery }) ring tasks
 
 under_way_by : (t : Bool) (most : ℕ) (s : QueueState) → KeepsLying s (if t then s else begun most s)
 under_way_by true most s sizes capacity h = h

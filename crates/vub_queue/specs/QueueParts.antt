@@ -1,5 +1,5 @@
 -- Parts of the state of the device's side of one queue, and what always holds of them.
-use Rattle.std.specs.Prelude.{ℕ, ◌+◌, ◌*◌, Bool, true, false, not, ◌&&◌, ◌==◌, if◌then◌else◌, nat_lt, List, [], ◌∷◌, length, get_or, set, Option, Some, None}
+use Rattle.std.specs.Prelude.{ℕ, ◌+◌, ◌*◌, Bool, true, false, not, ◌&&◌, ◌||◌, ◌==◌, if◌then◌else◌, nat_lt, List, [], ◌∷◌, length, get_or, set, Option, Some, None}
 use Rattle.vub_steps.specs.declared.steps.Phase.{Phase}
 use Rattle.vub_steps.specs.declared.steps.Phase.TheVariants as phases
 use Rattle.vub_steps.specs.Steps.{publish_steps}
@@ -28,6 +28,15 @@ heads_below size (x ∷ xs) = nat_lt x.head size && heads_below size xs
 abbrev pub without_heads : List (ℕ × ℕ) → List Bool → List Bool
 without_heads [] taken = taken
 without_heads (x ∷ xs) taken = without_heads xs (set taken x.0 false)
+
+-- the heads of these are taken
+abbrev pub with_heads : List ℕ → List Bool → List Bool
+with_heads [] taken = taken
+with_heads (head ∷ heads) taken = with_heads heads (set taken head true)
+
+-- a queue that isn't started has taken no head
+abbrev pub takes_none_before : Bool → List Bool → Bool
+takes_none_before started taken = started || (taken_count taken == 0)
 
 -- none is under way, or a fetch between its two steps, or a publication before its last step; none begins before the start
 abbrev pub phase_fits : Phase → ℕ → Bool → Bool → Bool

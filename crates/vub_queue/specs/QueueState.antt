@@ -26,7 +26,7 @@ use Rattle.vub_infl_split.specs.declared.region.SplitRegion.{SplitRegion}
 use Rattle.vub_infl_split.specs.declared.region.SplitStore.{SplitStore}
 use Rattle.vub_infl_split.specs.Region.{words_of}
 use Rattle.vub_infl_split.specs.Stores.{store_of}
-use Rattle.vub_inflight.specs.Entries.{next_counter}
+use Rattle.vub_inflight.specs.Entries.{heads_of, next_counter}
 use Rattle.vub_rec_split.specs.declared.plan.Recovered.{Recovered}
 use Rattle.vub_rec_split.specs.declared.plan.Recovered.TheVariants as recovered
 use Rattle.vub_rec_split.specs.Starts.{RecoveryState, StartLies, sight_in, answer_in, due_in, state_after, unchecked_in}
@@ -38,7 +38,7 @@ use Rattle.vub_task.specs.declared.task.TaskStep.TheVariants as answers
 use Rattle.vub_steps.specs.Tasks as Tasks
 use Rattle.vub_steps.specs.Tasks.{Status, status_of, used_len}
 use Rattle.vub_task.specs.TaskState.{Making, IsNext, IsReady, HasMade, LooksAt, GainsOne, fresh_task, answer_in as task_answer, memory_after, values_after, store_in, with_maybe, head_in, is_begun, IfFaulted, TaskLies, OwesFailure, Begins, Worked}
-use Rattle.vub_queue.specs.QueueParts.{element, is_taken, without_heads}
+use Rattle.vub_queue.specs.QueueParts.{element, is_taken, with_heads, without_heads}
 use Rattle.vub_queue.specs.declared.queue.NoHead.{NoHead}
 use Rattle.vub_queue.specs.declared.queue.NoHead.TheVariants as misses
 use Rattle.vub_queue.specs.declared.queue.Stop.{Stop}
@@ -179,18 +179,30 @@ start_said rings recovered.Done = if rings then says.Belled else says.Started
 start_said rings (recovered.Damaged fault) = says.Damaged fault
 start_said rings recovered.Failed = says.SharedFault
 
--- the bell was rung, or the queue is started, whose requests are counted on from these open ones
-abbrev pub ended : Bool → List Pending → QueueState → QueueState
-ended rings list s = if rings then record s { rung = true } else record s { started = true; counter = next_counter list }
+-- a queue that goes on with these open requests, where used.idx is this: their tasks begin anew, in this order, and their heads
+-- are taken; each had one entry of the avail ring, and counters go on above theirs
+abbrev pub resumed : ℕ → List Pending → QueueState → QueueState
+resumed used list s = record s {
+  started = true;
+  next_avail = (used + length list) % 65536;
+  counter = next_counter list;
+  unfinished = map fresh_task (heads_of list);
+  taken = with_heads (heads_of list) s.taken;
+}
 
-abbrev pub start_state : Recovered → List Pending → QueueState → QueueState
-start_state recovered.Done list s = ended (rings_next s) list s
-start_state answer list s = s
+-- the bell was rung, or the queue goes on with these open requests
+abbrev pub ended : Bool → ℕ → List Pending → QueueState → QueueState
+ended rings used list s = if rings then record s { rung = true } else resumed used list s
 
--- the end of a start rings, or starts the queue; a bell that failed leaves all
-abbrev pub Ends : List Pending → Stepped → QueueState → QueueState → Type 0
-Ends list says.BellFault s t = t ≡ s
-Ends list x s t = (x ≡ start_said (rings_next s) recovered.Done) × (t ≡ ended (rings_next s) list s)
+abbrev pub start_state : Recovered → ℕ → List Pending → QueueState → QueueState
+start_state recovered.Done used list s = ended (rings_next s) used list s
+start_state answer used list s = s
+
+-- the end of a start rings, or starts the queue; a fault of the bell or of the memory leaves all
+abbrev pub Ends : Option Bytes → List Pending → Stepped → QueueState → QueueState → Type 0
+Ends told list says.BellFault s t = t ≡ s
+Ends told list says.SharedFault s t = t ≡ s
+Ends told list x s t = (x ≡ start_said (rings_next s) recovered.Done) × WhereTold told (λ m. t ≡ ended (rings_next s) (used_idx_word s.ring m) list s)
 
 -- whether a start says this
 abbrev pub is_starting : Stepped → Bool
@@ -203,16 +215,17 @@ is_starting says.BellFault = true
 is_starting (says.Damaged fault) = true
 is_starting x = false
 
--- the queue after the next step of its start, where its recovery answers so, is then this one, and finds these open
-abbrev pub start_after : Recovered → RecoveryState → List Pending → QueueState → QueueState
-start_after answer recovery list s = start_state answer list (record s { recovery = recovery })
+-- the queue after the next step of its start, where its recovery answers so, is then this one, and finds these open, and
+-- used.idx is this
+abbrev pub start_after : Recovered → RecoveryState → ℕ → List Pending → QueueState → QueueState
+start_after answer recovery used list s = start_state answer used list (record s { recovery = recovery })
 
 abbrev pub StartsIf : Bool → Option Bytes → Stepped → QueueState → QueueState → Type 0
 StartsIf true told x s t = (x ≡ says.Idle) × (t ≡ s)
-StartsIf false told x s t = WhereTold told (λ m. (x ≡ start_said (rings_next s) (answer_in s.recovery m)) × (t ≡ start_after (answer_in s.recovery m) (state_after s.recovery m) (unchecked_in s.recovery m) s))
+StartsIf false told x s t = WhereTold told (λ m. (x ≡ start_said (rings_next s) (answer_in s.recovery m)) × (t ≡ start_after (answer_in s.recovery m) (state_after s.recovery m) (used_idx_word s.ring m) (unchecked_in s.recovery m) s))
 
 -- what a step of a start says, and the queue before and after it: it makes the next store of its recovery; once none is left it
--- rings the bell of a queue that has one, and then the queue is started
+-- rings the bell of a queue that has one, and then the queue goes on with what is open
 abbrev pub Starts : Option Bytes → Stepped → QueueState → QueueState → Type 0
 Starts told x s t = StartsIf s.started told x s t
 

@@ -1,8 +1,9 @@
 //! The device's side of one split queue: each turn makes one step (VIRTIO 1.2, 2.7.7 and 2.7.8).
-ghost use Rattle.std.specs.Prelude.{◌≡◌, ◌<◌, ◌≤◌, ◌+◌, ℕ, true, false, Some, length, map, take, drop, set, slice_get, vec_len, vec_capacity, IfOk};
+ghost use Rattle.std.specs.Prelude.{◌≡◌, ◌<◌, ◌≤◌, ◌+◌, ◌++◌, ℕ, true, false, Some, length, map, take, drop, set, slice_get, vec_len, vec_capacity, IfOk};
 ghost use Rattle.vub_split.specs.Split.{RingLies};
-ghost use Rattle.vub_queue.specs.QueueParts.{element, is_taken, taken_count, without_heads, heads_below, phase_fits, head_fits, shown_of};
-ghost use Rattle.vub_inflight.specs.Entries.{next_counter};
+ghost use Rattle.vub_queue.specs.QueueParts.{element, is_taken, taken_count, takes_none_before, with_heads, without_heads, heads_below, phase_fits, head_fits, shown_of};
+ghost use Rattle.vub_inflight.specs.Entries.{AreEntries, heads_of, next_counter};
+ghost use Rattle.vub_task.specs.TaskState.{fresh_task};
 ghost use Rattle.vub_steps.specs.Readiness.{is_publication, last_counter};
 
 use std::alloc::Global;
@@ -126,6 +127,7 @@ pub struct Queue {
     ghost in_table: { heads_below ring.size completed.items ≡ true },
     ghost batched: { batch ≤ vec_len completed },
     ghost fits: { phase_fits phase batch bell started ≡ true },
+    ghost unstarted: { takes_none_before started taken.items ≡ true },
     ghost kept: { head_fits phase fetching ring.size taken.items ≡ true },
 }
 
@@ -159,6 +161,20 @@ fn release(taken: &mut [bool], batch: &[Completed])
 {
     for completed in batch {
         set_taken(taken, completed.head, false);
+    }
+}
+
+/// Begins the tasks of these anew, in their order, and takes their heads.
+fn begin_anew(unfinished: &mut Vec<Task>, taken: &mut [bool], pending: &[Pending])
+    requires room { vec_len unfinished.old + length pending.now ≤ vec_capacity unfinished.old }
+    requires entries { AreEntries (length taken.old) pending.now }
+    ensures tasks { unfinished.new.items ≡ unfinished.old.items ++ map fresh_task (heads_of pending.now) }
+    ensures capacity { vec_capacity unfinished.new ≡ vec_capacity unfinished.old }
+    ensures heads { taken.new ≡ with_heads (heads_of pending.now) taken.old }
+{
+    for request in pending {
+        unfinished.push_reserved(Task::new(request.head));
+        set_taken(taken, request.head, true);
     }
 }
 
@@ -206,7 +222,7 @@ impl Queue {
     ghost use Rattle.vub_steps.specs.Readiness.{is_ready, chosen};
     ghost use Rattle.vub_steps.specs.declared.readiness.Turn.{Turn};
     ghost use Rattle.vub_steps.specs.declared.readiness.Turn.TheVariants.{Fetch, Work};
-    ghost use Rattle.std.specs.Prelude.{not, ◌==◌, ◌⊎◌, ◌*◌, ◌↔◌, nat_lt, IsTrue, option_map, is_some, Option, Ok, remove, ◌++◌, ◌∷◌, []};
+    ghost use Rattle.std.specs.Prelude.{not, ◌==◌, ◌⊎◌, ◌*◌, ◌↔◌, nat_lt, IsTrue, option_map, is_some, Option, Ok, remove, ◌∷◌, []};
     ghost use Rattle.vub_steps.specs.Steps.{after_of, done_of};
     ghost use Rattle.vub_shared.specs.Bytes.{Bytes};
     ghost use Rattle.vub_base.specs.declared.store.Tag.TheVariants.{SF1};
@@ -222,7 +238,7 @@ impl Queue {
     ghost use Rattle.vub_steps.specs.declared.steps.Phase.TheVariants.{Rest};
     ghost use Rattle.vub_steps.specs.declared.steps.Step.TheVariants.{Count, Accept, Id, Len, Link, Head, Index, Clear, Note};
     ghost use Rattle.vub_queue.specs.Queue.{ring_in};
-    ghost use Rattle.vub_queue.specs.QueueState.{QueueState, QueueLies, KeepsLying, Owes, OwesAt, state_of, IsNew, new_recovery, Ends, is_starting, is_fetching, is_publishing, StoresStart, TrailsStart, RingsAt, has_rung, may_ring, bell_outcome, said, concluded, StepsAt, IsDue, IsDueAt, IfStepped, StepsOut, WorksOut, StepsTask, WorksTask, Rests, disk_outcome, standing_at, is_ready_at, waiting, IsFree, Finds, Fetches, fetch_row, fetch_under_way, begun, under_way, steps_in, step_in, next_row, moved, with_phase, Moves, outcome, found_outcome, MakesRow, publishes, publish_row, Publishes, is_idle, is_fault, Unless, Works, Does, DoesStore, DoesTrail, DoesDisk, StableAfter, halted, Turns};
+    ghost use Rattle.vub_queue.specs.QueueState.{QueueState, QueueLies, KeepsLying, Owes, OwesAt, state_of, IsNew, new_recovery, resumed, rings_next, Ends, is_starting, is_fetching, is_publishing, StoresStart, TrailsStart, RingsAt, has_rung, may_ring, bell_outcome, said, concluded, StepsAt, IsDue, IsDueAt, IfStepped, StepsOut, WorksOut, StepsTask, WorksTask, Rests, disk_outcome, standing_at, is_ready_at, waiting, IsFree, Finds, Fetches, fetch_row, fetch_under_way, begun, under_way, steps_in, step_in, next_row, moved, with_phase, Moves, outcome, found_outcome, MakesRow, publishes, publish_row, Publishes, is_idle, is_fault, Unless, Works, Does, DoesStore, DoesTrail, DoesDisk, StableAfter, halted, Turns};
 
     /// A queue that isn't started. All memory that it needs is reserved here.
     pub fn new(alloc: Global, setup: &QueueSetup) -> Result<Queue, Memory>
@@ -328,18 +344,56 @@ impl Queue {
         }
     }
 
-    /// Ends a start that has made its stores: rings its bell, and is started by the turn after it.
-    fn end_start<B: Bell>(&mut self, bell: &mut B) -> Stepped
+    /// Goes on with the open requests that the start found, where used.idx is this.
+    fn resume(&mut self, used: u16)
+        requires resting { self.old.started ≡ false }
+        requires entries { AreEntries self.old.ring.size self.old.pending.items }
         ensures ring { ring_in self.new ≡ ring_in self.old }
-        ensures ends { Ends self.old.pending.items result (state_of self.old) (state_of self.new) }
+        ensures state { state_of self.new ≡ resumed used self.old.pending.items (state_of self.old) }
         ensures lies { KeepsLying (state_of self.old) (state_of self.new) }
+    {
+        let pending = self.pending.items();
+        begin_anew(&mut self.unfinished, &mut self.taken, pending);
+        self.next_avail = used.wrapping_add(pending.len() as u16);
+        self.counter = next_counter(pending);
+        self.started = true;
+    }
+
+    /// Starts a queue that has nothing left to store or to ring.
+    fn start_anew<M: Shared>(&mut self, mem: &mut M) -> Stepped
+        requires ring { RingLies (M.sizes mem.old) (ring_in self.old) }
+        requires resting { self.old.started ≡ false }
+        requires silent { rings_next (state_of self.old) ≡ false }
+        requires entries { AreEntries self.old.ring.size self.old.pending.items }
+        ensures ring { ring_in self.new ≡ ring_in self.old }
+        ensures ends { Ends (M.told mem.old) self.old.pending.items result (state_of self.old) (state_of self.new) }
+        ensures lies { KeepsLying (state_of self.old) (state_of self.new) }
+        ensures says { (result ≡ stepped.Started) ⊎ (result ≡ stepped.SharedFault) }
+        ensures only_loads { OnlyLoads M.told M.trail M.names M.handed M.sizes mem.old mem.new }
+        ensures cause { HasCause (M.faults mem.old) (M.faults mem.new) (outcome result) }
+    {
+        let Ok(used) = self.ring.used_idx(mem) else {
+            return Stepped::SharedFault;
+        };
+        self.resume(used);
+        Stepped::Started
+    }
+
+    /// Ends a start that has made its stores: rings its bell, and is started by the turn after it.
+    fn end_start<M: Shared, B: Bell>(&mut self, mem: &mut M, bell: &mut B) -> Stepped
+        requires ring { RingLies (M.sizes mem.old) (ring_in self.old) }
+        requires resting { self.old.started ≡ false }
+        requires entries { AreEntries self.old.ring.size self.old.pending.items }
+        ensures ring { ring_in self.new ≡ ring_in self.old }
+        ensures ends { Ends (M.told mem.old) self.old.pending.items result (state_of self.old) (state_of self.new) }
+        ensures lies { KeepsLying (state_of self.old) (state_of self.new) }
+        ensures only_loads { OnlyLoads M.told M.trail M.names M.handed M.sizes mem.old mem.new }
+        ensures cause { HasCause (M.faults mem.old) (M.faults mem.new) (outcome result) }
         ensures rings { RingsAt (state_of self.old).index result (B.told bell.old) (B.told bell.new) }
         ensures bell_cause { HasCause (B.faults bell.old) (B.faults bell.new) (bell_outcome result) }
     {
         if !self.bell || self.rung {
-            self.started = true;
-            self.counter = next_counter(self.pending.items());
-            return Stepped::Started;
+            return self.start_anew(mem);
         }
         match bell.ring(self.index) {
             Ok(()) => {
@@ -353,6 +407,7 @@ impl Queue {
     /// Makes the next step of the start of a queue that isn't started.
     fn start_step<M: Shared, B: Bell>(&mut self, mem: &mut M, bell: &mut B) -> Stepped
         requires lies { StartLies (M.sizes mem.old) (state_of self.old).recovery }
+        requires same_ring { (state_of self.old).recovery.ring ≡ ring_in self.old }
         requires resting { self.old.started ≡ false }
         ensures ring { ring_in self.new ≡ ring_in self.old }
         ensures does { Does Start (M.told mem.old) result (state_of self.old) (state_of self.new) }
@@ -367,14 +422,15 @@ impl Queue {
     {
         match self.recovery.step(mem, &mut self.pending) {
             Recovered::Stored(tag) => Stepped::Stored(tag),
-            Recovered::Done => self.end_start(bell),
+            Recovered::Done => self.end_start(mem, bell),
             Recovered::Damaged(fault) => Stepped::Damaged(fault),
             Recovered::Failed => Stepped::SharedFault,
         }
     }
 
     fn start<M: Shared, B: Bell>(&mut self, mem: &mut M, bell: &mut B) -> Stepped
-        requires { StartLies (M.sizes mem.old) (state_of self.old).recovery }
+        requires lies { StartLies (M.sizes mem.old) (state_of self.old).recovery }
+        requires same_ring { (state_of self.old).recovery.ring ≡ ring_in self.old }
         ensures ring { ring_in self.new ≡ ring_in self.old }
         ensures does { Does Start (M.told mem.old) result (state_of self.old) (state_of self.new) }
         ensures stores { StoresStart (M.told mem.old) (M.told mem.new) result (state_of self.old) }

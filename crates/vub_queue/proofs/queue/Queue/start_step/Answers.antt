@@ -1,10 +1,19 @@
-use Rattle.std.proofs.Common.{refl, ap}
+use Rattle.std.proofs.Common.{ℕ, refl, ap, ◌∙◌, subst}
+use Rattle.vub_inflight.specs.Entries.{AreEntries}
+use Rattle.vub_split.specs.Split.{RingLies}
+use Rattle.vub_split.specs.declared.split.SplitRing.{SplitRing}
 use Rattle.vub_rec_split.specs.Starts.{outcome as recovered_outcome}
 use Rattle.vub_queue.specs.declared.queue.Stepped.TheVariants as says
 use Rattle.vub_queue.specs.QueueState.{QueueState, state_of}
 use Rattle.vub_queue.proofs.LyingLemmas.{lies_started}
 use Rattle.vub_queue.proofs.StartLemmas.{start_stores, start_trails}
 use Rattle.vub_queue.proofs.queue.Queue.start_step.Goals as goal
+
+pub end_start-requires-clause-ring : goal.end_start-requires-clause-ring
+end_start-requires-clause-ring g c = subst (RingLies (g.M.Shared.sizes c.step.new.mem)) (c.step.ensures.same_queue.ring ∙ c.requires.same_ring) c.step.ensures.lies.ring
+
+pub end_start-requires-clause-entries : goal.end_start-requires-clause-entries
+end_start-requires-clause-entries g c = subst (λ (n : ℕ). AreEntries n c.step.new.list.items) (c.requires.lies.same_size ∙ ap (λ (r : SplitRing). r.size) c.requires.same_ring) c.step.ensures.entries
 
 pub returns-in-Stored-clause-stores : goal.returns-in-Stored-clause-stores
 returns-in-Stored-clause-stores g c = start_stores (g.M.Shared.told) (g.M.Shared.trail) (g.M.Shared.names) (g.M.Shared.handed) (g.M.Shared.sizes) c.args.mem.now c.step.new.mem (says.Stored c.in-Stored.tag) c.step.result (state_of c.args.self.now) c.requires.resting (ap recovered_outcome c.in-Stored.is) c.step.ensures.due
