@@ -9,3 +9,4 @@ pub mod StepFacts
 pub mod StartLemmas
 pub mod ResumeLemmas
 pub mod TaskLemmas
+pub mod TurnFacts

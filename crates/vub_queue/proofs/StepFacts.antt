@@ -38,7 +38,7 @@ pub record InRun (heads : List ℕ) (base : ℕ) (plan : Plan) (s : QueueState) 
 
 -- its facts are those of a queue in its own phase
 pub run_facts : (heads : List ℕ) (base : ℕ) (plan : Plan) (s : QueueState) (m : Bytes) → InRun heads base plan s m → FactsAt heads base s m
-run_facts heads base plan s m x = record { plan = plan; phase = s.phase; laid = x.laid; keeps = x.runs.keeps; begun = λ off. runs_on x.runs.on off; facts = x.facts }
+run_facts heads base plan s m x = record { plan = plan; phase = s.phase; laid = x.laid; keeps = λ on. x.runs.keeps; begins = λ off. runs_on x.runs.on off; facts = x.facts }
 
 abbrev runs_side : Plan → QueueState → Side
 runs_side plan s = side_of plan s.phase s
