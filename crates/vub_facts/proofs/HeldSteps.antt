@@ -23,7 +23,7 @@ pub held_words : (n : ℕ) (heads : List ℕ) (v w : Words) (s : State) → v.ri
 held_words n heads v w s same x = record { distinct = x.distinct; below = x.below; avail = x.avail ∙ ap (λ (u : ℕ). (u + length heads) % 65536) (sym same); taken = x.taken; splits = x.splits }
 
 -- a store into the region leaves it
-same_used : (n : ℕ) (o : Option SplitStore) (w : Words) → (with_stored n o w).ring.used ≡ w.ring.used
+pub same_used : (n : ℕ) (o : Option SplitStore) (w : Words) → (with_stored n o w).ring.used ≡ w.ring.used
 same_used n None w = refl
 same_used n (Some st) w = refl
 

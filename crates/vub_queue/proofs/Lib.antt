@@ -5,6 +5,8 @@ pub mod QueueLemmas
 pub mod LyingLemmas
 pub mod MoveLemmas
 pub mod StableLemmas
+pub mod StepFacts
 pub mod StartLemmas
 pub mod ResumeLemmas
 pub mod TaskLemmas
+pub mod TurnFacts

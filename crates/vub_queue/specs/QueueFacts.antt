@@ -1,6 +1,6 @@
 -- What the device's side of one queue keeps agrees with the words of its ring and of its in-flight region, wherever these
 -- lie: no history, no number of a request and no driver occurs in it.
-use Rattle.std.specs.Prelude.{◌≡◌, ◌⊎◌, ◌*◌, ℕ, suc, false, nat_lt, if◌then◌else◌, List, [], ◌∷◌, ◌++◌, length, map, Option, Some, None, ⊤}
+use Rattle.std.specs.Prelude.{◌≡◌, ◌⊎◌, ◌<◌, ◌*◌, ℕ, suc, true, false, nat_lt, if◌then◌else◌, List, [], ◌∷◌, ◌++◌, length, map, Option, Some, None, ⊤}
 use Rattle.vub_shared.specs.Bytes.{Bytes}
 use Rattle.vub_shared.specs.Stores.{Store, after_store}
 use Rattle.vub_ring.specs.Ring.{Ring}
@@ -94,13 +94,28 @@ pub record Keeps (heads : List ℕ) (used next : ℕ) (phase : Phase) (s : Queue
   pub fetching : s.fetching ≡ kept_head phase next
   pub held : KeepsHeads s.ring.size heads used s
 
--- the facts of its phase hold of the words, and what it keeps agrees with them and with the open heads
+-- a queue that isn't started keeps nothing: of its start its recovery keeps the place
+pub record KeepsNothing (s : QueueState) : Type 0 where
+  pub rests : s.phase ≡ phases.Rest
+  pub no_head : s.fetching ≡ None
+  pub no_batch : s.batch ≡ []
+  pub none_completed : s.completed ≡ []
+  pub none_unfinished : s.unfinished ≡ []
+  pub none_taken : (head : ℕ) → head < s.ring.size → is_taken s.taken head ≡ false
+
+-- it is in a start with this plan, whose region has these words
+pub record IsBeginning (plan : Plan) (phase : Phase) (w : RegionWords) (s : QueueState) : Type 0 where
+  pub in_phase : IsInPhase s.started phase
+  pub starts : StartsAt s.ring.size plan phase w s
+  pub nothing : KeepsNothing s
+
+-- the facts of its phase hold of the words, and once it is started what it keeps agrees with them and with the open heads
 pub record FactsAt (heads : List ℕ) (base : ℕ) (s : QueueState) (m : Bytes) : Type 0 where
   pub plan : Plan
   pub phase : Phase
   pub laid : IsLaid base s
-  pub keeps : Keeps heads (used_idx_word s.ring m) (head_next heads (words_in s m)) phase s
-  pub begun : s.started ≡ false → StartsAt s.ring.size plan phase (words_of s.recovery.region m) s
+  pub keeps : s.started ≡ true → Keeps heads (used_idx_word s.ring m) (head_next heads (words_in s m)) phase s
+  pub begins : s.started ≡ false → IsBeginning plan phase (words_of s.recovery.region m) s
   pub facts : Facts s.ring.size heads base (side_of plan phase s) (words_in s m)
 
 -- ---- a turn carries them on
