@@ -1,8 +1,8 @@
 -- What a queue keeps that goes on with the open requests of its region.
-use Rattle.std.proofs.Common.{◌≡◌, ◌<◌, ◌≤◌, ℕ, zero, suc, ◌+◌, Bool, true, false, List, [], ◌∷◌, ◌++◌, length, map, drop, get_or, append_assoc, refl, ap, sym, ◌∙◌, subst, arith}
+use Rattle.std.proofs.Common.{◌≡◌, ◌<◌, ℕ, zero, suc, ◌+◌, Bool, true, false, List, [], ◌∷◌, ◌++◌, length, map, drop, append_assoc, refl, ap, sym, ◌∙◌, subst, arith}
 use Rattle.std.proofs.lemmas.Bool.Decides.{nat_tests}
 use Rattle.std.proofs.lemmas.List.{length-set, length-map}
-use Rattle.std.specs.Prelude.{not, ◌==◌, ◌&&◌, set, replicate, slice_index_or, vec_len}
+use Rattle.std.specs.Prelude.{◌==◌, set, replicate, slice_index_or}
 use Rattle.std.specs.List.{AllByRecursion}
 use Rattle.vub_base.specs.declared.pending.Pending.{Pending}
 use Rattle.vub_device.specs.Past.{is_among}
@@ -10,7 +10,6 @@ use Rattle.vub_device.specs.Places.{are_distinct}
 use Rattle.vub_inflight.specs.Entries.{AreEntries, heads_of}
 use Rattle.vub_steps.specs.declared.steps.Phase.{Phase}
 use Rattle.vub_steps.specs.declared.steps.Phase.TheVariants.{Rest, Start, Fetch, Publish}
-use Rattle.vub_steps.specs.Steps.{publish_steps}
 use Rattle.vub_task.specs.declared.task.Task.{Task}
 use Rattle.vub_task.specs.TaskState.{fresh_task}
 use Rattle.vub_queue.specs.QueueParts.{is_taken, taken_count, takes_none_before, with_heads, phase_fits}

@@ -1,4 +1,4 @@
-use Rattle.std.proofs.Common.{◌≡◌, ◌+◌, ℕ, length, drop, ◌∙◌, arith, rules}
+use Rattle.std.proofs.Common.{◌+◌, ◌∙◌, arith, rules}
 use Rattle.std.proofs.lemmas.List.{length-drop}
 use Rattle.vub_queue.proofs.ResumeLemmas.{tasks_next, taken_next, below_next}
 use Rattle.vub_queue.proofs.queue.begin_anew.Goals as goal

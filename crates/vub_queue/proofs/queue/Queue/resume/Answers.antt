@@ -1,6 +1,6 @@
-use Rattle.std.proofs.Common.{◌≡◌, ◌<◌, ◌≤◌, ◌+◌, ◌++◌, ℕ, true, false, length, map, List, [], refl, ap, sym, ◌∙◌, subst, arith}
+use Rattle.std.proofs.Common.{◌≡◌, ◌+◌, ◌++◌, ℕ, false, length, map, List, [], refl, ap, sym, ◌∙◌, subst, arith}
 use Rattle.std.specs.Prelude.{Bool, vec_len}
-use Rattle.std.proofs.lemmas.List.{with_items_is, length-append, length-map}
+use Rattle.std.proofs.lemmas.List.{with_items_is, length-map}
 use Rattle.vub_base.specs.declared.pending.Pending.{Pending}
 use Rattle.vub_inflight.specs.Entries.{AreEntries, heads_of}
 use Rattle.vub_steps.specs.declared.steps.Phase.{Phase}
