@@ -6,6 +6,8 @@ mod command;
 mod edge;
 #[cfg(test)]
 mod interleavings;
+#[cfg(test)]
+mod lives;
 mod pieces;
 mod printing;
 mod reading;

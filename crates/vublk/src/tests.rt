@@ -184,12 +184,15 @@ pub fn check_row(
 fn worked_rows(rt: HostRuntime) -> Result<(), Fail> {
     let whole = (None, None);
     let bad_word = "vub 1 split 1 4 8 0 back\nboot\njoin\nfetchh 0\nkill\n";
-    let kill = "vub 1 split 1 4 8 0 back\nkill\n";
+    let power = "vub 1 split 1 4 8 0 back\npower\n";
+    let kill = "vub 1 split 1 4 8 9 back\nkill\n";
+    let idle_kill = "record 1 split 1 4 8 9 back\n> kill\n- idle\n";
     for (text, status, out) in [
         (WRITE_AND_READ, 0, RECORDS),
         (HEADER, 0, "record 1 split 1 4 8 0 back\n"),
         (bad_word, 6, "bad line 4\n"),
-        (kill, 6, "bad line 2\n"),
+        (power, 6, "bad line 2\n"),
+        (kill, 0, idle_kill),
         ("", 6, "bad line 1\n"),
     ] {
         check_row(&rt, rt.alloc(), "replay", text, whole, (status, out))?;
@@ -235,11 +238,11 @@ fn pieces(rt: HostRuntime) -> Result<(), Fail> {
 #[test]
 fn histories(rt: HostRuntime) -> Result<(), Fail> {
     let whole = (None, None);
-    let kill = "vub 1 split 1 4 8 0 back\nkill\n";
+    let power = "vub 1 split 1 4 8 0 back\npower\n";
     for (text, status, out) in [
         (WRITE_AND_READ, 0, HISTORY),
         (HEADER, 0, ""),
-        (kill, 6, "bad line 2\n"),
+        (power, 6, "bad line 2\n"),
     ] {
         check_row(&rt, rt.alloc(), "entries", text, whole, (status, out))?;
     }
