@@ -21,10 +21,6 @@ pub none_taken : (started : Bool) (taken : List Bool) → started ≡ false → 
 none_taken true taken resting is = absurd (cc resting)
 none_taken false taken resting is = grind (arith, nat_tests, is)
 
-pub none_before : (started : Bool) (taken : List Bool) → started ≡ true → takes_none_before started taken ≡ true
-none_before true taken is = refl
-none_before false taken is = absurd (cc is)
-
 none_at_first : (n : ℕ) → taken_count (replicate n false) ≡ 0
 none_at_first zero = refl
 none_at_first (suc n) = none_at_first n

@@ -215,8 +215,8 @@ is_starting says.BellFault = true
 is_starting (says.Damaged fault) = true
 is_starting x = false
 
--- the queue after the next step of its start, where its recovery answers so, is then this one, and finds these open, and
--- used.idx is this
+-- the queue after the next step of its start, where its recovery answers so and is then this one, used.idx is this, and these
+-- requests are open
 abbrev pub start_after : Recovered → RecoveryState → ℕ → List Pending → QueueState → QueueState
 start_after answer recovery used list s = start_state answer used list (record s { recovery = recovery })
 
