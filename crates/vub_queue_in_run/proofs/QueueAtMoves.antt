@@ -34,7 +34,7 @@ use Rattle.vub_facts.specs.Held.{Splits, busy}
 use Rattle.vub_base.specs.declared.pending.Pending.{Pending}
 use Rattle.vub_inflight.specs.Entries.{heads_of}
 use Rattle.vub_queue.proofs.ResumeLemmas.{length_with}
-use Rattle.vub_facts.proofs.HeadLemmas.{without_map, number_of, among_get}
+use Rattle.vub_facts.proofs.HeadLemmas.{without_map, without_none, number_of, among_get}
 use Rattle.vub_run.specs.Moments.{open_heads}
 use Rattle.vub_device.specs.Places.{are_distinct}
 use Rattle.vub_split.specs.Split.{used_side}
@@ -122,6 +122,30 @@ count_is q h setup past heads phase batch completed made state run w x =
     filter_same (λ k. not (is_among (batch ++ completed) k)) (λ k. not (is_among (completed ++ batch) k)) (open_numbers past q) (λ k. ap not (joined k)) in
     sym (length-map state.unfinished head_in) ∙ ap (λ (hs : List ℕ). length hs) left ∙ length-map (without (batch ++ completed) (open_numbers past q)) f ∙ ap (λ (ks : List ℕ). length ks) same
 
+-- where nothing is completed and no batch is hidden, the heads of its tasks are those of the open requests, in order
+pub heads_open : (q : ℕ) (h : Header1) (setup : QueueSetup) (past : List Entry) (heads : List ℕ) (phase : Phase) (batch completed : List ℕ) (made : ℕ → ℕ) (state : QueueState) → started past q ≡ true → batch ≡ [] → completed ≡ []
+    → QueueAt q h setup past heads phase batch completed made state → map head_in state.unfinished ≡ open_heads q past heads
+heads_open q h setup past heads phase batch completed made state run no_batch none x =
+    (x.keeps run (words_with (used_after h q past)) refl).splits.left
+    ∙ ap (λ (b : List (ℕ × ℕ)). without (heads_in (b ++ state.completed)) (open_heads q past heads)) (x.batch ∙ ap (map (spot_of q h past heads)) no_batch)
+    ∙ ap (λ (c : List (ℕ × ℕ)). without (heads_in c) (open_heads q past heads)) (x.completed ∙ ap (map (spot_of q h past heads)) none)
+    ∙ without_none (open_heads q past heads)
+
+-- those of its tasks are places of the ring
+pub heads_low : (q : ℕ) (h : Header1) (setup : QueueSetup) (past : List Entry) (heads : List ℕ) (phase : Phase) (batch completed : List ℕ) (made : ℕ → ℕ) (state : QueueState) (i head : ℕ) → QueueAt q h setup past heads phase batch completed made state
+    → slice_get (map head_in state.unfinished) i ≡ Some head → head < setup.ring.size
+heads_low q h setup past heads phase batch completed made state i head x found = elim (cases_Bool (started past q)) [
+  | inl run ↦
+      let held = x.keeps run (words_with (used_after h q past)) refl in
+      let busy_are : List ℕ = heads_in (hidden_in state ++ state.completed) in
+      let among : is_among (without busy_are (open_heads q past heads)) head ≡ true = ap (λ (hs : List ℕ). is_among hs head) (sym held.splits.left) ∙ among_get (map head_in state.unfinished) i head found in
+      held.below head (among_filter (λ d. not (is_among busy_are d)) (open_heads q past heads) head among).0
+  | inr stopped ↦ absurd (
+      let low : i < length (map head_in state.unfinished) = slice_get_within (map head_in state.unfinished) i head found in
+      let none : length (map head_in state.unfinished) ≡ 0 = ap (λ (ts : List Task). length (map head_in ts)) (x.nothing stopped).unfinished in
+      omega (arith, low, none))
+]
+
 -- the avail position is the base advanced by what was accepted
 pub avail_is : (q : ℕ) (h : Header1) (setup : QueueSetup) (past : List Entry) (heads : List ℕ) (phase : Phase) (batch completed : List ℕ) (made : ℕ → ℕ) (state : QueueState) → started past q ≡ true → Known q h.size h.capacity past heads
     → QueueAt q h setup past heads phase batch completed made state → state.next_avail ≡ (h.base + accepted past q) % 65536
@@ -161,6 +185,7 @@ first_step : (refused : Option ℕ) (request : Asked) (place : ℕ) → slice_ge
 first_step None request place e = first_disk request place e
 first_step (Some status) request place e = let fails : Some Status ≡ Some (Put place) = e in cc
 
+-- so where no step was made, none is due
 starts_otherwise : (h : Header1) (request : Asked) (place made : ℕ) → made ≡ 0 → slice_get (task_steps h request) made ≡ Some (Put place) → ⊥
 starts_otherwise h request place made none next = first_step (refusal h.capacity h.mode request) request place (subst (λ (n : ℕ). slice_get (task_steps h request) n ≡ Some (Put place)) none next)
 
@@ -203,7 +228,7 @@ at_starting q h setup past heads phase batch completed made state r rung done re
   sectors = x.sectors;
 })
 
--- at its end the open requests are left, in order
+-- where nothing is completed, all open requests are left, in order
 left_all : (q : ℕ) (past : List Entry) → left_of q past [] [] ≡ open_numbers past q
 left_all q past = all (open_numbers past q)
   where
@@ -215,7 +240,7 @@ fresh_heads : (heads : List ℕ) → map head_in (map fresh_task heads) ≡ head
 fresh_heads [] = refl
 fresh_heads (head ∷ heads) = ap (λ (rest : List ℕ). head ∷ rest) (fresh_heads heads)
 
--- a head is taken then if it is one of these, or was taken before
+-- once these heads are taken, a head is if it is one of them, or was before
 taken_with : (heads : List ℕ) (taken : List Bool) (d : ℕ) → d < length taken → is_taken (with_heads heads taken) d ≡ (is_among heads d || is_taken taken d)
 taken_with [] taken d low = refl
 taken_with (head ∷ heads) taken d low =
@@ -230,21 +255,26 @@ taken_with (head ∷ heads) taken d low =
           grind (arith, nat_tests)
     ]
 
+-- what its start has found: the open requests, whose heads are distinct places of the ring
+pub record Finds (n : ℕ) (heads : List ℕ) (list : List Pending) : Type 0 where
+  pub reads : heads_of list ≡ heads
+  pub distinct : are_distinct heads ≡ true
+  pub below : (head : ℕ) → is_among heads head ≡ true → head < n
+
 -- so it keeps the open heads, where it kept nothing
-keeps_resumed : (n : ℕ) (list : List Pending) (heads : List ℕ) (used : ℕ) (state : QueueState) → heads_of list ≡ heads → are_distinct heads ≡ true → ((d : ℕ) → is_among heads d ≡ true → d < n) → length state.taken ≡ n → hidden_in state ≡ [] → state.completed ≡ [] → HoldsNothing n state
-    → KeepsHeads n heads used (resumed used list state)
-keeps_resumed n list heads used state reads distinct below places empty none nothing w at =
-    let many : length list ≡ length heads = sym (length-map list (λ (e : Pending). e.head)) ∙ ap (λ (hs : List ℕ). length hs) reads in
+keeps_resumed : (n : ℕ) (list : List Pending) (heads : List ℕ) (used : ℕ) (state : QueueState) → Finds n heads list → length state.taken ≡ n → hidden_in state ≡ [] → state.completed ≡ [] → HoldsNothing n state → KeepsHeads n heads used (resumed used list state)
+keeps_resumed n list heads used state found places empty none nothing w at =
+    let many : length list ≡ length heads = sym (length-map list (λ (e : Pending). e.head)) ∙ ap (λ (hs : List ℕ). length hs) found.reads in
     let free : busy (held_in (resumed used list state)) ≡ [] = ap (λ (b : List (ℕ × ℕ)). heads_in (b ++ state.completed)) empty ∙ ap heads_in none in
-    let all : map head_in (map fresh_task (heads_of list)) ≡ heads = fresh_heads (heads_of list) ∙ reads in
+    let all : map head_in (map fresh_task (heads_of list)) ≡ heads = fresh_heads (heads_of list) ∙ found.reads in
     record {
-      distinct = distinct;
-      below = below;
+      distinct = found.distinct;
+      below = found.below;
       avail = omega (arith, at, many);
       taken = λ d low.
           let one : is_taken (with_heads (heads_of list) state.taken) d ≡ (is_among (heads_of list) d || is_taken state.taken d) = taken_with (heads_of list) state.taken d (omega (arith, low, places)) in
           let out : is_taken state.taken d ≡ false = nothing.taken d low in
-          let same : is_among (heads_of list) d ≡ is_among heads d = ap (λ (hs : List ℕ). is_among hs d) reads in
+          let same : is_among (heads_of list) d ≡ is_among heads d = ap (λ (hs : List ℕ). is_among hs d) found.reads in
           grind (arith, nat_tests);
       splits = subst (λ (bs : List ℕ). Splits heads bs (map head_in (map fresh_task (heads_of list)))) (sym free) (record {
         once = refl;
@@ -252,24 +282,15 @@ keeps_resumed n list heads used state reads distinct below places empty none not
         left = all ∙ sym (without_none heads);
       });
     }
-  where
-    without_none : (heads : List ℕ) → without [] heads ≡ heads
-    without_none [] = refl
-    without_none (head ∷ heads) = ap (λ (rest : List ℕ). head ∷ rest) (without_none heads)
 
 -- the task of an open request begins anew
-fresh_at : (q : ℕ) (h : Header1) (setup : QueueSetup) (past : List Entry) (heads : List ℕ) (k made : ℕ) (task : Task) → made ≡ 0 → fresh_task (slice_index heads k) ≡ task → TaskAt q h setup past heads k made task
-fresh_at q h setup past heads k made task none is = subst (λ (t : Task). TaskAt q h setup past heads k made t) is (record {
+begins_anew : (q : ℕ) (h : Header1) (setup : QueueSetup) (past : List Entry) (heads : List ℕ) (k made : ℕ) (task : Task) → made ≡ 0 → fresh_task (slice_index heads k) ≡ task → TaskAt q h setup past heads k made task
+begins_anew q h setup past heads k made task none is = subst (λ (t : Task). TaskAt q h setup past heads k made t) is (record {
   head = refl;
   stands = λ request asks_it. record { begins = λ e. refl; goes_on = λ some. absurd (omega (arith, none, some)) };
 })
 
--- what its start has found: the open requests, whose heads are distinct places of the ring
-pub record Finds (n : ℕ) (heads : List ℕ) (list : List Pending) : Type 0 where
-  pub reads : heads_of list ≡ heads
-  pub distinct : are_distinct heads ≡ true
-  pub below : (d : ℕ) → is_among heads d ≡ true → d < n
-
+-- at its end it goes on with the open requests
 pub at_started : (q : ℕ) (h : Header1) (setup : QueueSetup) (past : List Entry) (heads : List ℕ) (phase : Phase) (batch completed : List ℕ) (made : ℕ → ℕ) (state : QueueState) (r : RecoveryState) (list : List Pending) (used : ℕ) → started past q ≡ false → kept_phase phase ≡ phases.Rest → batch ≡ [] → completed ≡ [] → ((k : ℕ) → made k ≡ 0)
     → Finds setup.ring.size (open_heads q past heads) list → used ≡ used_after h q past
     → QueueAt q h setup past heads phase batch completed made state → QueueAt q h setup (entries.Start q (open_numbers past q) ∷ past) heads phases.Rest [] completed made (resumed used list (record state { recovery = r }))
@@ -281,9 +302,9 @@ at_started q h setup past heads phase batch completed made state r list used sto
   batch = no_batch;
   completed = x.completed;
   keeps = λ run. subst (λ (u : ℕ). KeepsHeads setup.ring.size (open_heads q past heads) u (resumed used list (record state { recovery = r }))) used_is
-      (keeps_resumed setup.ring.size list (open_heads q past heads) used (record state { recovery = r }) found.reads found.distinct found.below x.places no_batch no_completed (record { unfinished = (x.nothing stopped).unfinished; taken = (x.nothing stopped).taken }));
+      (keeps_resumed setup.ring.size list (open_heads q past heads) used (record state { recovery = r }) found x.places no_batch no_completed (record { unfinished = (x.nothing stopped).unfinished; taken = (x.nothing stopped).taken }));
   nothing = λ still. absurd (let fails : true ≡ false = sym (started_own past q (open_numbers past q)) ∙ still in cc);
-  tasks = λ i k task there is. fresh_at q h setup (entries.Start q (open_numbers past q) ∷ past) heads k (made k) task (unmade k) (task_is i k task there is);
+  tasks = λ i k task there is. begins_anew q h setup (entries.Start q (open_numbers past q) ∷ past) heads k (made k) task (unmade k) (task_is i k task there is);
   buffers = x.buffers;
   places = length_with (heads_of list) state.taken ∙ x.places;
   sectors = λ k place request held asks_it next. absurd (starts_otherwise h request place (made k) (unmade k) next);
