@@ -68,7 +68,7 @@ head_low q h setup m done l u f = omega (arith, (in_fetching q h setup m done l 
 
 head_free : (q : ℕ) (h : Header1) (setup : QueueSetup) (m : Moment) (done : ℕ) (l : Lane) (u : QueueState) → Fetching q h setup m done l u → is_taken u.taken (slice_index (m.scene.heads q) (accepted m.scene.past q)) ≡ false
 head_free q h setup m done l u f =
-    (f.at.keeps (words_with (used_after h q m.scene.past)) refl).taken (slice_index (m.scene.heads q) (accepted m.scene.past q)) (head_low q h setup m done l u f)
+    (f.at.keeps f.run (words_with (used_after h q m.scene.past)) refl).taken (slice_index (m.scene.heads q) (accepted m.scene.past q)) (head_low q h setup m done l u f)
     ∙ ap (is_among (open_heads q m.scene.past (m.scene.heads q))) (sym (fact_head q h setup m done l u f)) ∙ (in_fetching q h setup m done l u f).free
 
 -- what a step that is due does of the queue
@@ -148,7 +148,7 @@ begins q h setup m state plain good main z ready rest none =
         fetching = idle;
         batch = z.phase.batch ∙ ap (map (spot_of q h past (m.scene.heads q))) none;
       };
-      seen = ap (λ (o : Option ℕ). kept_or o (head_word state.ring m.scene.memory state.next_avail)) idle ∙ head_is q h setup m state main z good.holds more;
+      seen = ap (λ (o : Option ℕ). kept_or o (head_word state.ring m.scene.memory state.next_avail)) idle ∙ head_is q h setup m state run main z good.holds more;
     }
 
 -- one whose counter is stored ends it
@@ -220,7 +220,9 @@ fetch_stands q h setup m x state state' plain good main z ready fine made = go x
         cc)
     go (says.Stored tag) f halts does = on (says.Stored tag) does halts
     go (says.Accepted head) f halts does = on (says.Accepted head) does halts
-    go (says.Broken fault) f halts does = absurd (keeps_rules q h setup m state fault plain good main z (does.breaks m.scene.memory refl))
+    go (says.Broken fault) f halts does = absurd (
+        let run : started m.scene.past q ≡ true = grind (arith, nat_tests) in
+        keeps_rules q h setup m state fault run plain good main z (does.breaks m.scene.memory refl))
     go says.SharedFault f halts does = absurd (let fails : true ≡ false = f in cc)
     go (says.Looked head sector) f halts does = absurd does
     go (says.Acted head sector) f halts does = absurd does

@@ -1,12 +1,12 @@
 -- What the moves of a run leave of where the queue stands.
-use Rattle.std.proofs.Common.{◌≡◌, ◌≤◌, ◌<◌, ◌⊎◌, ℕ, zero, suc, ◌+◌, ◌*◌, ◌/◌, ◌%◌, Bool, true, false, not, List, [], ◌∷◌, ◌++◌, length, take, drop, map, get_or, refl, ap, sym, ◌∙◌, subst, inl, inr, arith}
-use Rattle.std.specs.Prelude.{Option, Some, None, slice_get, slice_index, filter, ◌||◌}
+use Rattle.std.proofs.Common.{◌≡◌, ◌<◌, ◌⊎◌, ℕ, zero, suc, ◌+◌, ◌*◌, ◌/◌, ◌%◌, Bool, true, false, not, List, [], ◌∷◌, ◌++◌, length, take, drop, map, get_or, refl, ap, sym, ◌∙◌, subst, inl, inr, arith}
+use Rattle.std.specs.Prelude.{Option, Some, None, option_map, slice_get, slice_index, filter, set, ◌||◌}
 use Rattle.std.proofs.lemmas.Bool.Decides.{nat_tests}
-use Rattle.std.proofs.lemmas.Bool.{cases_Bool, or_left, or_right}
-use Rattle.std.proofs.lemmas.List.{length-append, length-map, length-set, length-replicate, take-map, map-append, append-nil}
+use Rattle.std.proofs.lemmas.Bool.{cases_Bool, cases_eq, or_left, or_right}
+use Rattle.std.proofs.lemmas.List.{length-append, length-map, length-set, length-replicate, get_or-replicate, get_or-set_same, get_or-set_other, take-map, map-append, append-nil}
 use Rattle.std.proofs.lemmas.Simd.{map-map}
 use Rattle.std.proofs.lemmas.List.Elements.{filter-append}
-use Rattle.std.proofs.lemmas.Option.{slice_get_within}
+use Rattle.std.proofs.lemmas.Option.{slice_get_within, slice_get-map}
 use Rattle.vub_base.specs.declared.header.Header1.{Header1}
 use Rattle.vub_steps.specs.declared.steps.Phase.{Phase}
 use Rattle.vub_steps.specs.declared.steps.Phase.TheVariants as phases
@@ -22,15 +22,19 @@ use Rattle.vub_device.proofs.Numbers.{is_among_append}
 use Rattle.vub_steps.specs.Tasks.{Look, Put, Act, Sync, Status, look_steps, act_steps, disk_steps, unless_refused, task_steps}
 use Rattle.vub_task.specs.TaskState.{fresh_task, IsTaskAt, head_in}
 use Rattle.vub_run.specs.Turns.{len_of}
-use Rattle.vub_queue.specs.QueueParts.{is_taken}
+use Rattle.vub_queue.specs.QueueParts.{is_taken, with_heads}
 use Rattle.vub_queue.specs.QueueState as states
-use Rattle.vub_queue.specs.QueueState.{QueueState}
-use Rattle.vub_queue.specs.QueueFacts.{KeepsHeads, kept_phase, hidden_in, hidden_part}
-use Rattle.vub_queue_in_run.specs.QueueAt.{spot_of, left_of, TaskAt, QueueAt, used_after}
+use Rattle.vub_queue.specs.QueueState.{QueueState, resumed}
+use Rattle.vub_queue.specs.QueueFacts.{KeepsHeads, kept_phase, hidden_in, hidden_part, held_in}
+use Rattle.vub_queue_in_run.specs.QueueAt.{spot_of, left_of, TaskAt, QueueAt, used_after, HoldsNothing}
 use Rattle.vub_rec_split.specs.Starts.{RecoveryState}
-use Rattle.vub_queue.proofs.QueueHeld.{words_with, fetched, shown, keeps_new, keeps_accepted, keeps_begun, keeps_alike, keeps_shown, all_hidden}
+use Rattle.vub_queue.proofs.QueueHeld.{words_with, fetched, shown, keeps_accepted, keeps_begun, keeps_alike, keeps_shown, all_hidden}
 use Rattle.vub_facts.specs.Facts.{heads_in, without}
-use Rattle.vub_facts.proofs.HeadLemmas.{without_map, number_of, among_get}
+use Rattle.vub_facts.specs.Held.{Splits, busy}
+use Rattle.vub_base.specs.declared.pending.Pending.{Pending}
+use Rattle.vub_inflight.specs.Entries.{heads_of}
+use Rattle.vub_queue.proofs.ResumeLemmas.{length_with}
+use Rattle.vub_facts.proofs.HeadLemmas.{without_map, without_none, number_of, among_get}
 use Rattle.vub_run.specs.Moments.{open_heads}
 use Rattle.vub_device.specs.Places.{are_distinct}
 use Rattle.vub_split.specs.Split.{used_side}
@@ -93,16 +97,16 @@ left_is q past completed batch k held =
 heads_of_spots : (q : ℕ) (h : Header1) (past : List Entry) (heads ks : List ℕ) → heads_in (map (spot_of q h past heads) ks) ≡ map (slice_index heads) ks
 heads_of_spots q h past heads ks = map-map (λ (x : ℕ × ℕ). x.0) (spot_of q h past heads) ks
 
-pub heads_distinct : (q : ℕ) (h : Header1) (setup : QueueSetup) (past : List Entry) (heads : List ℕ) (phase : Phase) (batch completed : List ℕ) (made : ℕ → ℕ) (state : QueueState) → QueueAt q h setup past heads phase batch completed made state
+pub heads_distinct : (q : ℕ) (h : Header1) (setup : QueueSetup) (past : List Entry) (heads : List ℕ) (phase : Phase) (batch completed : List ℕ) (made : ℕ → ℕ) (state : QueueState) → started past q ≡ true → QueueAt q h setup past heads phase batch completed made state
     → are_distinct (open_heads q past heads) ≡ true
-heads_distinct q h setup past heads phase batch completed made state x = (x.keeps (words_with (used_after h q past)) refl).distinct
+heads_distinct q h setup past heads phase batch completed made state run x = (x.keeps run (words_with (used_after h q past)) refl).distinct
 
 -- a task for each request that is left
-pub count_is : (q : ℕ) (h : Header1) (setup : QueueSetup) (past : List Entry) (heads : List ℕ) (phase : Phase) (batch completed : List ℕ) (made : ℕ → ℕ) (state : QueueState) → Worked q past phase batch completed made
+pub count_is : (q : ℕ) (h : Header1) (setup : QueueSetup) (past : List Entry) (heads : List ℕ) (phase : Phase) (batch completed : List ℕ) (made : ℕ → ℕ) (state : QueueState) → started past q ≡ true → Worked q past phase batch completed made
     → QueueAt q h setup past heads phase batch completed made state → length state.unfinished ≡ length (left_of q past completed batch)
-count_is q h setup past heads phase batch completed made state w x =
+count_is q h setup past heads phase batch completed made state run w x =
     let f : ℕ → ℕ = slice_index heads in
-    let kept = x.keeps (words_with (used_after h q past)) refl in
+    let kept = x.keeps run (words_with (used_after h q past)) refl in
     let joined : (k : ℕ) → is_among (batch ++ completed) k ≡ is_among (completed ++ batch) k = λ k.
     let one : is_among (batch ++ completed) k ≡ (is_among batch k || is_among completed k) = is_among_append batch completed k in
     let other : is_among (completed ++ batch) k ≡ (is_among completed k || is_among batch k) = is_among_append completed batch k in
@@ -118,87 +122,47 @@ count_is q h setup past heads phase batch completed made state w x =
     filter_same (λ k. not (is_among (batch ++ completed) k)) (λ k. not (is_among (completed ++ batch) k)) (open_numbers past q) (λ k. ap not (joined k)) in
     sym (length-map state.unfinished head_in) ∙ ap (λ (hs : List ℕ). length hs) left ∙ length-map (without (batch ++ completed) (open_numbers past q)) f ∙ ap (λ (ks : List ℕ). length ks) same
 
+-- where nothing is completed and no batch is hidden, the heads of its tasks are those of the open requests, in order
+pub heads_open : (q : ℕ) (h : Header1) (setup : QueueSetup) (past : List Entry) (heads : List ℕ) (phase : Phase) (batch completed : List ℕ) (made : ℕ → ℕ) (state : QueueState) → started past q ≡ true → batch ≡ [] → completed ≡ []
+    → QueueAt q h setup past heads phase batch completed made state → map head_in state.unfinished ≡ open_heads q past heads
+heads_open q h setup past heads phase batch completed made state run no_batch none x =
+    (x.keeps run (words_with (used_after h q past)) refl).splits.left
+    ∙ ap (λ (b : List (ℕ × ℕ)). without (heads_in (b ++ state.completed)) (open_heads q past heads)) (x.batch ∙ ap (map (spot_of q h past heads)) no_batch)
+    ∙ ap (λ (c : List (ℕ × ℕ)). without (heads_in c) (open_heads q past heads)) (x.completed ∙ ap (map (spot_of q h past heads)) none)
+    ∙ without_none (open_heads q past heads)
+
+-- those of its tasks are places of the ring
+pub heads_low : (q : ℕ) (h : Header1) (setup : QueueSetup) (past : List Entry) (heads : List ℕ) (phase : Phase) (batch completed : List ℕ) (made : ℕ → ℕ) (state : QueueState) (i head : ℕ) → QueueAt q h setup past heads phase batch completed made state
+    → slice_get (map head_in state.unfinished) i ≡ Some head → head < setup.ring.size
+heads_low q h setup past heads phase batch completed made state i head x found = elim (cases_Bool (started past q)) [
+  | inl run ↦
+      let held = x.keeps run (words_with (used_after h q past)) refl in
+      let busy_are : List ℕ = heads_in (hidden_in state ++ state.completed) in
+      let among : is_among (without busy_are (open_heads q past heads)) head ≡ true = ap (λ (hs : List ℕ). is_among hs head) (sym held.splits.left) ∙ among_get (map head_in state.unfinished) i head found in
+      held.below head (among_filter (λ d. not (is_among busy_are d)) (open_heads q past heads) head among).0
+  | inr stopped ↦ absurd (
+      let low : i < length (map head_in state.unfinished) = slice_get_within (map head_in state.unfinished) i head found in
+      let none : length (map head_in state.unfinished) ≡ 0 = ap (λ (ts : List Task). length (map head_in ts)) (x.nothing stopped).unfinished in
+      omega (arith, low, none))
+]
+
 -- the avail position is the base advanced by what was accepted
-pub avail_is : (q : ℕ) (h : Header1) (setup : QueueSetup) (past : List Entry) (heads : List ℕ) (phase : Phase) (batch completed : List ℕ) (made : ℕ → ℕ) (state : QueueState) → Known q h.size h.capacity past heads
+pub avail_is : (q : ℕ) (h : Header1) (setup : QueueSetup) (past : List Entry) (heads : List ℕ) (phase : Phase) (batch completed : List ℕ) (made : ℕ → ℕ) (state : QueueState) → started past q ≡ true → Known q h.size h.capacity past heads
     → QueueAt q h setup past heads phase batch completed made state → state.next_avail ≡ (h.base + accepted past q) % 65536
-avail_is q h setup past heads phase batch completed made state known x =
+avail_is q h setup past heads phase batch completed made state run known x =
     let all : length (open_numbers past q) + length (published past q) ≡ accepted past q = missing_exact (published past q) (accepted past q) known.distinct known.below in
-    omega (arith, (x.keeps (words_with (used_after h q past)) refl).avail, all, length-map (open_numbers past q) (slice_index heads))
+    omega (arith, (x.keeps run (words_with (used_after h q past)) refl).avail, all, length-map (open_numbers past q) (slice_index heads))
 
 -- a head that is taken is that of an open request
-pub taken_open : (q : ℕ) (h : Header1) (setup : QueueSetup) (past : List Entry) (heads : List ℕ) (phase : Phase) (batch completed : List ℕ) (made : ℕ → ℕ) (state : QueueState) (d : ℕ) → d < setup.ring.size → is_taken state.taken d ≡ true
+pub taken_open : (q : ℕ) (h : Header1) (setup : QueueSetup) (past : List Entry) (heads : List ℕ) (phase : Phase) (batch completed : List ℕ) (made : ℕ → ℕ) (state : QueueState) (d : ℕ) → started past q ≡ true → d < setup.ring.size → is_taken state.taken d ≡ true
     → QueueAt q h setup past heads phase batch completed made state → (k : ℕ) × IsOpen past q k × (slice_index heads k ≡ d)
-taken_open q h setup past heads phase batch completed made state d low held x =
-    let among : is_among (open_heads q past heads) d ≡ true = sym ((x.keeps (words_with (used_after h q past)) refl).taken d low) ∙ held in
+taken_open q h setup past heads phase batch completed made state d run low held x =
+    let among : is_among (open_heads q past heads) d ≡ true = sym ((x.keeps run (words_with (used_after h q past)) refl).taken d low) ∙ held in
     let there = number_of (slice_index heads) (open_numbers past q) d among in
     let opened = missing-among (published past q) (accepted past q) there.0 there.1 in
     (there.0, record { taken = opened.0; unpublished = opened.1 }, there.2)
 
--- ---- a queue that isn't started
-
-none_left : (q : ℕ) (past : List Entry) (completed batch : List ℕ) → accepted past q ≡ 0 → left_of q past completed batch ≡ []
-none_left q past completed batch none = ap (λ (n : ℕ). filter (λ k. not (is_among (completed ++ batch) k)) (missing_below (published past q) n)) none
-
-none_among : (q : ℕ) (past : List Entry) (completed batch : List ℕ) (k : ℕ) → accepted past q ≡ 0 → is_among (left_of q past completed batch) k ≡ true → ⊥
-none_among q past completed batch k none held =
-    let nothing : is_among [] k ≡ true = subst (λ (ks : List ℕ). is_among ks k ≡ true) (none_left q past completed batch none) held in
-    let fails : false ≡ true = nothing in
-    cc
-
--- a new queue stands where no request was accepted
-pub at_new : (q : ℕ) (h : Header1) (setup : QueueSetup) (past : List Entry) (heads : List ℕ) (made : ℕ → ℕ) (state : QueueState) → h.base < 65536 → length (published past q) ≤ accepted past q → accepted past q ≡ 0 → started past q ≡ false
-    → setup.base ≡ h.base → states.IsNew setup state → QueueAt q h setup past heads phases.Rest [] [] made state
-at_new q h setup past heads made state small fewer none stopped base new = subst (λ (t : QueueState). QueueAt q h setup past heads phases.Rest [] [] made t) (sym new.is) (record {
-  ring = refl;
-  runs = refl;
-  started = sym stopped;
-  phase = refl;
-  batch = refl;
-  completed = refl;
-  keeps = subst (λ (hs : List ℕ). KeepsHeads setup.ring.size hs (used_after h q past) (states.new_state setup new.sectors)) (sym (ap (λ (n : ℕ). map (slice_index heads) (missing_below (published past q) n)) none)) (keeps_new setup new.sectors (used_after h q past) (omega (arith, base, small, none, fewer)) (omega arith));
-  tasks = λ i k task there is. absurd (none_among q past [] [] k none (among_get (left_of q past [] []) i k there));
-  buffers = new.buffers;
-  places = length-replicate setup.ring.size false;
-  sectors = λ k place request held asks_it next. absurd (none_among q past [] [] k none held);
-})
-
--- ---- a start
-
--- in its start
-pub at_starting : (q : ℕ) (h : Header1) (setup : QueueSetup) (past : List Entry) (heads : List ℕ) (phase : Phase) (batch completed : List ℕ) (made : ℕ → ℕ) (state : QueueState) (r : RecoveryState) (rung : Bool) (done : ℕ) → kept_phase phase ≡ phases.Rest → batch ≡ []
-    → QueueAt q h setup past heads phase batch completed made state → QueueAt q h setup past heads (phases.Start done) [] completed made (record state { recovery = r; rung = rung })
-at_starting q h setup past heads phase batch completed made state r rung done rests none x = subst (λ (ks : List ℕ). QueueAt q h setup past heads (phases.Start done) ks completed made (record state { recovery = r; rung = rung })) none (record {
-  ring = x.ring;
-  runs = x.runs;
-  started = x.started;
-  phase = x.phase ∙ rests;
-  batch = x.batch;
-  completed = x.completed;
-  keeps = x.keeps;
-  tasks = x.tasks;
-  buffers = x.buffers;
-  places = x.places;
-  sectors = x.sectors;
-})
-
--- and at its end
-pub at_started : (q : ℕ) (h : Header1) (setup : QueueSetup) (past : List Entry) (heads : List ℕ) (phase : Phase) (batch completed : List ℕ) (made : ℕ → ℕ) (state : QueueState) (r : RecoveryState) (counter : ℕ) → kept_phase phase ≡ phases.Rest → batch ≡ [] → accepted past q ≡ 0
-    → QueueAt q h setup past heads phase batch completed made state → QueueAt q h setup (entries.Start q (open_numbers past q) ∷ past) heads phases.Rest [] completed made (record state { recovery = r; started = true; counter = counter })
-at_started q h setup past heads phase batch completed made state r counter rests empty none x = subst (λ (ks : List ℕ). QueueAt q h setup (entries.Start q (open_numbers past q) ∷ past) heads phases.Rest ks completed made (record state { recovery = r; started = true; counter = counter })) empty (record {
-  ring = x.ring;
-  runs = x.runs;
-  started = sym (started_own past q (open_numbers past q));
-  phase = x.phase ∙ rests;
-  batch = x.batch;
-  completed = x.completed;
-  keeps = x.keeps;
-  tasks = λ i k task there is. record { head = (x.tasks i k task there is).head; stands = λ request asks_it. (x.tasks i k task there is).stands request asks_it };
-  buffers = x.buffers;
-  places = x.places;
-  sectors = λ k place request held asks_it next. absurd (none_among q past completed batch k none held);
-})
-
--- ---- a fetch
+-- ---- the first step of a request
 
 -- no request begins with a store of what was read
 first_look : (n : ℕ) (place : ℕ) → slice_get (look_steps 0 n ++ Status ∷ []) 0 ≡ Some (Put place) → ⊥
@@ -220,6 +184,148 @@ first_disk (asks.Zero parts) place e = let fails : Some Status ≡ Some (Put pla
 first_step : (refused : Option ℕ) (request : Asked) (place : ℕ) → slice_get (unless_refused refused (disk_steps request) ++ Status ∷ []) 0 ≡ Some (Put place) → ⊥
 first_step None request place e = first_disk request place e
 first_step (Some status) request place e = let fails : Some Status ≡ Some (Put place) = e in cc
+
+-- so where no step was made, none is due
+starts_otherwise : (h : Header1) (request : Asked) (place made : ℕ) → made ≡ 0 → slice_get (task_steps h request) made ≡ Some (Put place) → ⊥
+starts_otherwise h request place made none next = first_step (refusal h.capacity h.mode request) request place (subst (λ (n : ℕ). slice_get (task_steps h request) n ≡ Some (Put place)) none next)
+
+-- ---- a queue that isn't started
+
+-- a new queue stands wherever it isn't started, and no step is made
+pub at_new : (q : ℕ) (h : Header1) (setup : QueueSetup) (past : List Entry) (heads : List ℕ) (made : ℕ → ℕ) (state : QueueState) → started past q ≡ false → ((k : ℕ) → made k ≡ 0) → states.IsNew setup state → QueueAt q h setup past heads phases.Rest [] [] made state
+at_new q h setup past heads made state stopped none new = subst (λ (t : QueueState). QueueAt q h setup past heads phases.Rest [] [] made t) (sym new.is) (record {
+  ring = refl;
+  runs = refl;
+  started = sym stopped;
+  phase = refl;
+  batch = refl;
+  completed = refl;
+  keeps = λ run. absurd (let fails : true ≡ false = sym run ∙ stopped in cc);
+  nothing = λ still. record { unfinished = refl; taken = λ head low. get_or-replicate setup.ring.size head false true low };
+  tasks = λ i k task there is. absurd (let low : i < 0 = slice_get_within {A = Task} [] i task is in omega (arith, low));
+  buffers = new.buffers;
+  places = length-replicate setup.ring.size false;
+  sectors = λ k place request held asks_it next. absurd (starts_otherwise h request place (made k) (none k) next);
+})
+
+-- ---- a start
+
+-- in its start
+pub at_starting : (q : ℕ) (h : Header1) (setup : QueueSetup) (past : List Entry) (heads : List ℕ) (phase : Phase) (batch completed : List ℕ) (made : ℕ → ℕ) (state : QueueState) (r : RecoveryState) (rung : Bool) (done : ℕ) → kept_phase phase ≡ phases.Rest → batch ≡ []
+    → QueueAt q h setup past heads phase batch completed made state → QueueAt q h setup past heads (phases.Start done) [] completed made (record state { recovery = r; rung = rung })
+at_starting q h setup past heads phase batch completed made state r rung done rests none x = subst (λ (ks : List ℕ). QueueAt q h setup past heads (phases.Start done) ks completed made (record state { recovery = r; rung = rung })) none (record {
+  ring = x.ring;
+  runs = x.runs;
+  started = x.started;
+  phase = x.phase ∙ rests;
+  batch = x.batch;
+  completed = x.completed;
+  keeps = x.keeps;
+  nothing = λ stopped. record { unfinished = (x.nothing stopped).unfinished; taken = (x.nothing stopped).taken };
+  tasks = x.tasks;
+  buffers = x.buffers;
+  places = x.places;
+  sectors = x.sectors;
+})
+
+-- where nothing is completed, all open requests are left, in order
+left_all : (q : ℕ) (past : List Entry) → left_of q past [] [] ≡ open_numbers past q
+left_all q past = all (open_numbers past q)
+  where
+    all : (ks : List ℕ) → filter (λ k. not (is_among ([] ++ []) k)) ks ≡ ks
+    all [] = refl
+    all (k ∷ ks) = ap (λ (rest : List ℕ). k ∷ rest) (all ks)
+
+fresh_heads : (heads : List ℕ) → map head_in (map fresh_task heads) ≡ heads
+fresh_heads [] = refl
+fresh_heads (head ∷ heads) = ap (λ (rest : List ℕ). head ∷ rest) (fresh_heads heads)
+
+-- once these heads are taken, a head is if it is one of them, or was before
+taken_with : (heads : List ℕ) (taken : List Bool) (d : ℕ) → d < length taken → is_taken (with_heads heads taken) d ≡ (is_among heads d || is_taken taken d)
+taken_with [] taken d low = refl
+taken_with (head ∷ heads) taken d low =
+    let rest : is_taken (with_heads heads (set taken head true)) d ≡ (is_among heads d || is_taken (set taken head true) d) = taken_with heads (set taken head true) d (omega (arith, low, length-set taken head true)) in
+    elim (cases_eq head d) [
+      | inl same ↦
+          let there : get_or (set taken head true) head true ≡ true = get_or-set_same taken head true true (omega (arith, low, same)) in
+          let here : get_or (set taken head true) d true ≡ true = ap (λ (i : ℕ). get_or (set taken head true) i true) (sym same) ∙ there in
+          grind (arith, nat_tests)
+      | inr apart ↦
+          let other : get_or (set taken head true) d true ≡ get_or taken d true = get_or-set_other taken head d true true (λ e. apart (sym e)) in
+          grind (arith, nat_tests)
+    ]
+
+-- what its start has found: the open requests, whose heads are distinct places of the ring
+pub record Finds (n : ℕ) (heads : List ℕ) (list : List Pending) : Type 0 where
+  pub reads : heads_of list ≡ heads
+  pub distinct : are_distinct heads ≡ true
+  pub below : (head : ℕ) → is_among heads head ≡ true → head < n
+
+-- so it keeps the open heads, where it kept nothing
+keeps_resumed : (n : ℕ) (list : List Pending) (heads : List ℕ) (used : ℕ) (state : QueueState) → Finds n heads list → length state.taken ≡ n → hidden_in state ≡ [] → state.completed ≡ [] → HoldsNothing n state → KeepsHeads n heads used (resumed used list state)
+keeps_resumed n list heads used state found places empty none nothing w at =
+    let many : length list ≡ length heads = sym (length-map list (λ (e : Pending). e.head)) ∙ ap (λ (hs : List ℕ). length hs) found.reads in
+    let free : busy (held_in (resumed used list state)) ≡ [] = ap (λ (b : List (ℕ × ℕ)). heads_in (b ++ state.completed)) empty ∙ ap heads_in none in
+    let all : map head_in (map fresh_task (heads_of list)) ≡ heads = fresh_heads (heads_of list) ∙ found.reads in
+    record {
+      distinct = found.distinct;
+      below = found.below;
+      avail = omega (arith, at, many);
+      taken = λ d low.
+          let one : is_taken (with_heads (heads_of list) state.taken) d ≡ (is_among (heads_of list) d || is_taken state.taken d) = taken_with (heads_of list) state.taken d (omega (arith, low, places)) in
+          let out : is_taken state.taken d ≡ false = nothing.taken d low in
+          let same : is_among (heads_of list) d ≡ is_among heads d = ap (λ (hs : List ℕ). is_among hs d) found.reads in
+          grind (arith, nat_tests);
+      splits = subst (λ (bs : List ℕ). Splits heads bs (map head_in (map fresh_task (heads_of list)))) (sym free) (record {
+        once = refl;
+        opens = λ d held. absurd (let fails : false ≡ true = held in cc);
+        left = all ∙ sym (without_none heads);
+      });
+    }
+
+-- the task of an open request begins anew
+begins_anew : (q : ℕ) (h : Header1) (setup : QueueSetup) (past : List Entry) (heads : List ℕ) (k made : ℕ) (task : Task) → made ≡ 0 → fresh_task (slice_index heads k) ≡ task → TaskAt q h setup past heads k made task
+begins_anew q h setup past heads k made task none is = subst (λ (t : Task). TaskAt q h setup past heads k made t) is (record {
+  head = refl;
+  stands = λ request asks_it. record { begins = λ e. refl; goes_on = λ some. absurd (omega (arith, none, some)) };
+})
+
+-- at its end it goes on with the open requests
+pub at_started : (q : ℕ) (h : Header1) (setup : QueueSetup) (past : List Entry) (heads : List ℕ) (phase : Phase) (batch completed : List ℕ) (made : ℕ → ℕ) (state : QueueState) (r : RecoveryState) (list : List Pending) (used : ℕ) → started past q ≡ false → kept_phase phase ≡ phases.Rest → batch ≡ [] → completed ≡ [] → ((k : ℕ) → made k ≡ 0)
+    → Finds setup.ring.size (open_heads q past heads) list → used ≡ used_after h q past
+    → QueueAt q h setup past heads phase batch completed made state → QueueAt q h setup (entries.Start q (open_numbers past q) ∷ past) heads phases.Rest [] completed made (resumed used list (record state { recovery = r }))
+at_started q h setup past heads phase batch completed made state r list used stopped rests empty none unmade found used_is x = record {
+  ring = x.ring;
+  runs = x.runs;
+  started = sym (started_own past q (open_numbers past q));
+  phase = x.phase ∙ rests;
+  batch = no_batch;
+  completed = x.completed;
+  keeps = λ run. subst (λ (u : ℕ). KeepsHeads setup.ring.size (open_heads q past heads) u (resumed used list (record state { recovery = r }))) used_is
+      (keeps_resumed setup.ring.size list (open_heads q past heads) used (record state { recovery = r }) found x.places no_batch no_completed (record { unfinished = (x.nothing stopped).unfinished; taken = (x.nothing stopped).taken }));
+  nothing = λ still. absurd (let fails : true ≡ false = sym (started_own past q (open_numbers past q)) ∙ still in cc);
+  tasks = λ i k task there is. begins_anew q h setup (entries.Start q (open_numbers past q) ∷ past) heads k (made k) task (unmade k) (task_is i k task there is);
+  buffers = x.buffers;
+  places = length_with (heads_of list) state.taken ∙ x.places;
+  sectors = λ k place request held asks_it next. absurd (starts_otherwise h request place (made k) (unmade k) next);
+}
+  where
+    no_batch : hidden_in state ≡ []
+    no_batch = x.batch ∙ ap (λ (ks : List ℕ). map (spot_of q h past heads) ks) empty
+
+    no_completed : state.completed ≡ []
+    no_completed = x.completed ∙ ap (λ (ks : List ℕ). map (spot_of q h past heads) ks) none
+
+    task_is : (i k : ℕ) (task : Task) → slice_get (left_of q past completed []) i ≡ Some k → slice_get (map fresh_task (heads_of list)) i ≡ Some task → fresh_task (slice_index heads k) ≡ task
+    task_is i k task there is =
+        let at_k : slice_get (open_numbers past q) i ≡ Some k = ap (λ (ks : List ℕ). slice_get ks i) (sym (left_all q past)) ∙ ap (λ (cs : List ℕ). slice_get (left_of q past cs []) i) (sym none) ∙ there in
+        let at_head : slice_get (open_heads q past heads) i ≡ Some (slice_index heads k) = slice_get-map (slice_index heads) (open_numbers past q) i ∙ ap (option_map (slice_index heads)) at_k in
+        let at_task : slice_get (map fresh_task (heads_of list)) i ≡ Some (fresh_task (slice_index heads k)) =
+        ap (λ (hs : List ℕ). slice_get (map fresh_task hs) i) found.reads ∙ slice_get-map fresh_task (open_heads q past heads) i ∙ ap (option_map fresh_task) at_head in
+        let both : Some (fresh_task (slice_index heads k)) ≡ Some task = sym at_task ∙ is in
+        cc
+
+-- ---- a fetch
 
 -- the new request isn't published, and is left
 pub new_unpublished : (q n cap : ℕ) (past : List Entry) (heads : List ℕ) → Known q n cap past heads → is_among (published past q) (accepted past q) ≡ false
@@ -245,16 +351,16 @@ left_more q past completed batch k unpublished out =
     let kept : filter test (a ∷ []) ≡ a ∷ [] = grind (arith, nat_tests) in
     ap (λ (n : ℕ). filter test (missing_below ps n)) (accepted_own past q a) ∙ ap (λ (n : ℕ). filter test (missing_below ps n)) next ∙ ap (filter test) longer ∙ filter-append test (missing_below ps a) (a ∷ []) ∙ ap (λ (ks : List ℕ). filter test (missing_below ps a) ++ ks) kept
 
-pub at_fetch : (q : ℕ) (h : Header1) (setup : QueueSetup) (past : List Entry) (heads : List ℕ) (phase : Phase) (completed : List ℕ) (made : ℕ → ℕ) (state : QueueState) (head : ℕ) → Known q h.size h.capacity past heads → Worked q past phase [] completed made
+pub at_fetch : (q : ℕ) (h : Header1) (setup : QueueSetup) (past : List Entry) (heads : List ℕ) (phase : Phase) (completed : List ℕ) (made : ℕ → ℕ) (state : QueueState) (head : ℕ) → started past q ≡ true → Known q h.size h.capacity past heads → Worked q past phase [] completed made
     → head ≡ slice_index heads (accepted past q) → head < setup.ring.size → is_taken state.taken head ≡ false → hidden_in state ≡ [] → QueueAt q h setup past heads phase [] completed made state
     → QueueAt q h setup (entries.Accept q (accepted past q) ∷ past) heads phases.Rest [] completed made (fetched head state)
-at_fetch q h setup past heads phase completed made state head known w is small free empty x =
+at_fetch q h setup past heads phase completed made state head run known w is small free empty x =
     let a : ℕ = accepted past q in
     let past' : List Entry = entries.Accept q a ∷ past in
     let none : made a ≡ 0 = w.untouched a (omega arith) in
     let unpublished : is_among (published past q) a ≡ false = new_unpublished q h.size h.capacity past heads known in
     let more : left_of q past' completed [] ≡ left_of q past completed [] ++ a ∷ [] = left_more q past completed [] a unpublished (new_out q past phase [] completed made w) in
-    let count : length state.unfinished ≡ length (left_of q past completed []) = count_is q h setup past heads phase [] completed made state w x in
+    let count : length state.unfinished ≡ length (left_of q past completed []) = count_is q h setup past heads phase [] completed made state run w x in
     let joins : open_heads q past' heads ≡ open_heads q past heads ++ head ∷ [] = heads_accept q past heads a unpublished ∙ ap (λ (y : ℕ). open_heads q past heads ++ y ∷ []) (sym is) in
     record {
       ring = x.ring;
@@ -263,7 +369,8 @@ at_fetch q h setup past heads phase completed made state head known w is small f
       phase = refl;
       batch = refl;
       completed = x.completed;
-      keeps = subst (λ (hs : List ℕ). KeepsHeads setup.ring.size hs (used_after h q past) (fetched head state)) (sym joins) (keeps_accepted (used_side setup.ring) (open_heads q past heads) (used_after h q past) state head small x.places free empty x.keeps);
+      keeps = λ runs. subst (λ (hs : List ℕ). KeepsHeads setup.ring.size hs (used_after h q past) (fetched head state)) (sym joins) (keeps_accepted (used_side setup.ring) (open_heads q past heads) (used_after h q past) state head small x.places free empty (x.keeps runs));
+      nothing = λ stopped. absurd (let fails : true ≡ false = sym run ∙ stopped in cc);
       tasks = λ i k task there is_task.
           let there_too : slice_get (left_of q past completed [] ++ a ∷ []) i ≡ Some k = subst (λ (ks : List ℕ). slice_get ks i ≡ Some k) more there in
           elim (pushed_place (left_of q past completed []) a k i there_too) [
@@ -288,12 +395,9 @@ at_fetch q h setup past heads phase completed made state head known w is small f
             let whole : is_among (left_of q past completed [] ++ a ∷ []) k ≡ true = subst (λ (ks : List ℕ). is_among ks k ≡ true) more held in
             let same : a ≡ k = grind (arith, nat_tests) in
             let begun : made k ≡ 0 = ap made (sym same) ∙ none in
-            absurd (first_step (refused h request) request place (subst (λ (n : ℕ). slice_get (task_steps h request) n ≡ Some (Put place)) begun next))
+            absurd (starts_otherwise h request place (made k) begun next)
       ];
     }
-  where
-    refused : Header1 → Asked → Option ℕ
-    refused g request = refusal g.capacity g.mode request
 
 -- ---- a batch is taken
 
@@ -308,7 +412,8 @@ at_begin q h setup past heads completed made state most x =
       phase = refl;
       batch = all_hidden (take most state.completed) ∙ ap (take most) x.completed ∙ take-map (spot_of q h past heads) most completed;
       completed = ap (drop most) x.completed ∙ drop_map (spot_of q h past heads) most completed;
-      keeps = keeps_begun setup.ring.size (open_heads q past heads) (used_after h q past) most state x.batch x.keeps;
+      keeps = λ run. keeps_begun setup.ring.size (open_heads q past heads) (used_after h q past) most state x.batch (x.keeps run);
+      nothing = λ stopped. record { unfinished = (x.nothing stopped).unfinished; taken = (x.nothing stopped).taken };
       tasks = λ i k task there is. x.tasks i k task (subst (λ (ks : List ℕ). slice_get ks i ≡ Some k) same there) is;
       buffers = x.buffers;
       places = x.places;
@@ -327,7 +432,8 @@ at_goes q h setup past heads phase batch completed made state p p' c f b is same
   phase = is;
   batch = same ∙ x.batch;
   completed = x.completed;
-  keeps = keeps_alike setup.ring.size (open_heads q past heads) (used_after h q past) state p' c f b same x.keeps;
+  keeps = λ run. keeps_alike setup.ring.size (open_heads q past heads) (used_after h q past) state p' c f b same (x.keeps run);
+  nothing = λ stopped. record { unfinished = (x.nothing stopped).unfinished; taken = (x.nothing stopped).taken };
   tasks = x.tasks;
   buffers = x.buffers;
   places = x.places;
@@ -372,9 +478,9 @@ left_shown q past completed batch list is =
     ∙ ap (λ (ks : List ℕ). filter (λ k. not (is_among (completed ++ []) k)) (missing_below (published past q ++ ks) (accepted past q))) is
     ∙ show_filter (published past q) completed batch (accepted past q)
 
-pub at_show : (q : ℕ) (h : Header1) (setup : QueueSetup) (past : List Entry) (heads : List ℕ) (phase : Phase) (batch completed : List ℕ) (made : ℕ → ℕ) (state : QueueState) (list : List Answered) (done : ℕ) → numbers list ≡ batch → ((k : ℕ) → is_among batch k ≡ true → IsOpen past q k)
+pub at_show : (q : ℕ) (h : Header1) (setup : QueueSetup) (past : List Entry) (heads : List ℕ) (phase : Phase) (batch completed : List ℕ) (made : ℕ → ℕ) (state : QueueState) (list : List Answered) (done : ℕ) → started past q ≡ true → numbers list ≡ batch → ((k : ℕ) → is_among batch k ≡ true → IsOpen past q k)
     → hidden_in state ≡ state.batch → 4 * length state.batch < done → QueueAt q h setup past heads phase batch completed made state → QueueAt q h setup (entries.Publish q list ∷ past) heads (phases.Publish done) [] completed made (shown done state)
-at_show q h setup past heads phase batch completed made state list done is opens all past_all x =
+at_show q h setup past heads phase batch completed made state list done run is opens all past_all x =
     let past' : List Entry = entries.Publish q list ∷ past in
     let spots : state.batch ≡ map (spot_of q h past heads) batch = sym all ∙ x.batch in
     let many : length state.batch ≡ length batch = ap (λ (ks : List (ℕ × ℕ)). length ks) spots ∙ length-map batch (spot_of q h past heads) in
@@ -382,7 +488,7 @@ at_show q h setup past heads phase batch completed made state list done is opens
     let shows : length (published past' q) ≡ length (published past q) + length batch = ap (λ (ks : List ℕ). length ks) (published_own past q list) ∙ length-append (published past q) (numbers list) ∙ ap (λ (ks : List ℕ). length (published past q) + length ks) is in
     let batch_heads : map (slice_index heads) batch ≡ heads_in state.batch = sym (ap heads_in spots ∙ heads_of_spots q h past heads batch) in
     let leave : open_heads q past' heads ≡ without (heads_in state.batch) (open_heads q past heads) =
-    heads_publish q past heads list batch is (heads_distinct q h setup past heads phase batch completed made state x) (λ k held. let o : IsOpen past q k = opens k held in among-missing (published past q) (accepted past q) k o.taken o.unpublished)
+    heads_publish q past heads list batch is (heads_distinct q h setup past heads phase batch completed made state run x) (λ k held. let o : IsOpen past q k = opens k held in among-missing (published past q) (accepted past q) k o.taken o.unpublished)
     ∙ ap (λ (hs : List ℕ). without hs (open_heads q past heads)) batch_heads in
     let none : hidden_in (shown done state) ≡ [] = grind (arith, nat_tests) in
     record {
@@ -392,8 +498,9 @@ at_show q h setup past heads phase batch completed made state list done is opens
       phase = refl;
       batch = none;
       completed = x.completed;
-      keeps = subst (λ (hs : List ℕ). KeepsHeads setup.ring.size hs (used_after h q past') (shown done state)) (sym leave)
-          (keeps_shown (used_side setup.ring) (open_heads q past heads) (used_after h q past) (used_after h q past') done state (omega arith) x.places all (omega (arith, shows, many)) past_all x.keeps);
+      keeps = λ runs. subst (λ (hs : List ℕ). KeepsHeads setup.ring.size hs (used_after h q past') (shown done state)) (sym leave)
+          (keeps_shown (used_side setup.ring) (open_heads q past heads) (used_after h q past) (used_after h q past') done state (omega arith) x.places all (omega (arith, shows, many)) past_all (x.keeps runs));
+      nothing = λ stopped. absurd (let fails : true ≡ false = sym run ∙ stopped in cc);
       tasks = λ i k task there is_task.
           let t = x.tasks i k task (subst (λ (ks : List ℕ). slice_get ks i ≡ Some k) same there) is_task in
           record { head = t.head; stands = t.stands };
@@ -429,7 +536,8 @@ at_offer q h setup past heads phase batch completed made state request x known w
       phase = z.phase;
       batch = z.batch ∙ map_alike (spot_of q h past heads) (spot_of q h past' heads') batch (λ k held. sym (offered_spot q h past heads request x k known (low_of k (joined k ∙ or_right (is_among completed k) (is_among batch k) held))));
       completed = z.completed ∙ map_alike (spot_of q h past heads) (spot_of q h past' heads') completed (λ k held. sym (offered_spot q h past heads request x k known (low_of k (joined k ∙ or_left (is_among completed k) (is_among batch k) held))));
-      keeps = subst (λ (hs : List ℕ). KeepsHeads setup.ring.size hs (used_after h q past) state) (sym same_open) z.keeps;
+      keeps = λ run. subst (λ (hs : List ℕ). KeepsHeads setup.ring.size hs (used_after h q past) state) (sym same_open) (z.keeps run);
+      nothing = z.nothing;
       tasks = λ i k task there is.
           let low : k < accepted past q = (left_is q past completed batch k (among_get (left_of q past completed batch) i k there)).is_open.taken in
           let t = z.tasks i k task there is in
@@ -456,6 +564,7 @@ at_collect q h setup past heads phase batch completed made state k x = record {
   batch = x.batch;
   completed = x.completed;
   keeps = x.keeps;
+  nothing = x.nothing;
   tasks = λ i j task there is. record { head = (x.tasks i j task there is).head; stands = (x.tasks i j task there is).stands };
   buffers = x.buffers;
   places = x.places;

@@ -9,7 +9,7 @@ use Rattle.vub_shared.specs.Bytes.{Bytes, word}
 use Rattle.vub_shared.specs.Stores.{Store, after_store}
 use Rattle.vub_device.specs.declared.entry.Entry.{Entry}
 use Rattle.vub_device.specs.declared.entry.Entry.TheVariants as entries
-use Rattle.vub_device.specs.Past.{accepted, published, missing_below, open_numbers, started}
+use Rattle.vub_device.specs.Past.{accepted, published, open_numbers, started}
 use Rattle.vub_report.specs.declared.items.Item.TheVariants as items
 use Rattle.vub_inflight.specs.Links.{link_at}
 use Rattle.vub_infl_split.specs.declared.region.SplitRegion.{SplitRegion}
@@ -19,8 +19,8 @@ use Rattle.vub_infl_split.specs.Region.{RegionWords, words_of}
 use Rattle.vub_infl_split.specs.Stores.{store_of, tag_of, words_after}
 use Rattle.vub_infl_split.proofs.WordLemmas.{words_stored}
 use Rattle.vub_infl_split.proofs.ReadingLemmas.{sound_unchecked}
-use Rattle.vub_infl_split.specs.Readings.{open_entries, unchecked_entries}
-use Rattle.vub_inflight.specs.Entries.{next_counter}
+use Rattle.vub_infl_split.specs.Readings.{one_each, is_open, open_entries, unchecked_entries}
+use Rattle.vub_inflight.specs.Entries.{next_counter, heads_of}
 use Rattle.vub_region_facts.specs.Starts.{Left, InStart}
 use Rattle.vub_region_facts.specs.Phases.{NotStarted}
 use Rattle.vub_region_facts.proofs.StartLemmas.{start_begins}
@@ -46,7 +46,7 @@ use Rattle.vub_queue.specs.declared.queue.Stepped.{Stepped}
 use Rattle.vub_queue.specs.declared.queue.Stepped.TheVariants as says
 use Rattle.vub_queue.specs.declared.queue.QueueSetup.{QueueSetup}
 use Rattle.vub_queue.specs.QueueState as states
-use Rattle.vub_queue.specs.QueueState.{QueueState, StartsIf, StoresStep, TrailsStep, StoresStart, TrailsStart, TrailsRow, StoresBy, TrailsBy, Turns, is_fault, start_said, start_after, start_due, rings_next}
+use Rattle.vub_queue.specs.QueueState.{QueueState, StartsIf, StoresStep, TrailsStep, StoresStart, TrailsStart, TrailsRow, StoresBy, TrailsBy, Turns, is_fault, resumed, start_said, start_after, start_due, rings_next}
 use Rattle.vub_run.specs.Memory.{Scene, after_items}
 use Rattle.vub_run.specs.Moments.{Lane, Moment, region_of, used_in, region_in, open_heads, standing}
 use Rattle.vub_run.specs.Run.{one_turn}
@@ -56,12 +56,17 @@ use Rattle.vub_run_laws.proofs.RunHolds.{starting}
 use Rattle.vub_run_laws.proofs.RunPhases.{rest_is, start_is}
 use Rattle.vub_run_laws.proofs.RunTurns as between
 use Rattle.vub_run_laws.proofs.RunTurns.{IsPlain, Good, PhaseCases, phase_cases}
-use Rattle.vub_run_laws.proofs.RunQueue.{phase_at, queue_start}
+use Rattle.vub_run_laws.proofs.RunQueue.{phase_at, queue_start, head_below, shown_index}
 use Rattle.vub_run_laws.proofs.RunOwn.{started_own}
 use Rattle.vub_queue.specs.QueueFacts.{StartingAt, StartsAt, kept_phase, kept_head, hidden_part}
-use Rattle.vub_queue_in_run.specs.QueueAt.{QueueAt, PhaseAt, LiesAs, QueueStands, spot_of}
+use Rattle.vub_queue_in_run.specs.QueueAt.{QueueAt, PhaseAt, LiesAs, QueueStands, spot_of, used_after}
 use Rattle.vub_queue_in_run.proofs.StartTurns.{stores_turn, bell_turn, last_turn, store_in_place, stores_next, rings_next as run_rings, ends_next}
-use Rattle.vub_queue_in_run.proofs.QueueAtMoves.{at_started, at_starting}
+use Rattle.vub_queue_in_run.proofs.QueueAtMoves.{Finds, at_started, at_starting}
+use Rattle.vub_facts.proofs.HeadLemmas.{number_of}
+use Rattle.vub_device.specs.Places.{are_distinct}
+use Rattle.vub_inflight.proofs.EntryLemmas.{distinct_by_counter}
+use Rattle.vub_run_laws.proofs.RunFrames.{open_out}
+use Rattle.vub_run_laws.proofs.RunNumbers.{missing-among}
 use Rattle.vub_queue_in_run.proofs.QueueAtTurns.{does_of, stands_next}
 use Rattle.vub_queue_in_run.proofs.TurnSays.{TurnSays, Notes, Rings, Starts, region_fits}
 
@@ -232,15 +237,12 @@ pub record StartStands (q : ℕ) (h : Header1) (setup : QueueSetup) (m : Moment)
 -- what the turn says, by what its recovery answers
 record Answers (m : Moment) (x : Stepped) (state u : QueueState) : Type 0 where
   pub said : x ≡ start_said (rings_next state) (answer_in state.recovery m.scene.memory)
-  pub leaves : u ≡ start_after (answer_in state.recovery m.scene.memory) (state_after state.recovery m.scene.memory) (unchecked_in state.recovery m.scene.memory) state
+  pub leaves : u ≡ start_after (answer_in state.recovery m.scene.memory) (state_after state.recovery m.scene.memory) (used_idx_word state.ring m.scene.memory) (unchecked_in state.recovery m.scene.memory) state
 
 start_answers : (q : ℕ) (h : Header1) (setup : QueueSetup) (m : Moment) (x : Stepped) (state u : QueueState) → QueueStands q h setup m state → started m.scene.past q ≡ false → states.Starts (Some m.scene.memory) x state u → Answers m x state u
 start_answers q h setup m x state u z stopped does =
     let not_yet : StartsIf false (Some m.scene.memory) x state u = subst (λ (b : Bool). StartsIf b (Some m.scene.memory) x state u) (z.at.started ∙ stopped) does in
     let here = not_yet m.scene.memory refl in record { said = here.0; leaves = here.1 }
-
-none_open : (q : ℕ) (past : List Entry) → accepted past q ≡ 0 → open_numbers past q ≡ []
-none_open q past none = ap (missing_below (published past q)) none
 
 rest_kept : (l : Lane) (done : ℕ) (plan : Plan) (m : Moment) (h : Header1) (q : ℕ) → under_way h q m.scene turns.Start l ≡ starting done (record l { plan = plan }) → kept_phase l.phase ≡ phases.Rest
 rest_kept l done plan m h q is = go l.phase (ap (λ (x : Lane). x.phase) is)
@@ -366,7 +368,7 @@ start_stores q h setup m x state u state' plan done plain good main z stopped un
     said = answers.said ∙ ap (start_said (rings_next state)) answer
 
     after : state' ≡ record state { recovery = state_after r mem }
-    after = halts ∙ ap (λ (z : Stepped). states.halted z u) said ∙ answers.leaves ∙ ap (λ (a : Recovered). start_after a (state_after r mem) (unchecked_in r mem) state) answer
+    after = halts ∙ ap (λ (z : Stepped). states.halted z u) said ∙ answers.leaves ∙ ap (λ (a : Recovered). start_after a (state_after r mem) (used_idx_word state.ring mem) (unchecked_in r mem) state) answer
 
     turn : turned h q turns.Start m ≡ stores_turn q h l' done y
     turn = ap (phase_goes_on h q m.scene) under.lane ∙ stores_next q h m.scene l' done y more (sym (over_store q h m r l' done over) ∙ has.next)
@@ -430,7 +432,7 @@ start_rings q h setup m x state u state' plan done good main z stopped under ans
     let rings : rings_next state ≡ true = grind (arith, nat_tests) in
     let said : x ≡ says.Belled = answers.said ∙ ap (start_said (rings_next state)) left.answer ∙ ap (λ (b : Bool). start_said b recovered.Done) rings in
     let after : state' ≡ record state { recovery = state_after r mem; rung = true } =
-    halts ∙ ap (λ (y : Stepped). states.halted y u) said ∙ answers.leaves ∙ ap (λ (a : Recovered). start_after a (state_after r mem) (unchecked_in r mem) state) left.answer ∙ ap (λ (b : Bool). states.ended b (unchecked_in r mem) (record state { recovery = state_after r mem })) rings in
+    halts ∙ ap (λ (y : Stepped). states.halted y u) said ∙ answers.leaves ∙ ap (λ (a : Recovered). start_after a (state_after r mem) (used_idx_word state.ring mem) (unchecked_in r mem) state) left.answer ∙ ap (λ (b : Bool). states.ended b (used_idx_word state.ring mem) (unchecked_in r mem) (record state { recovery = state_after r mem })) rings in
     let turn : turned h q turns.Start m ≡ bell_turn q l' done = ap (phase_goes_on h q m.scene) under.lane ∙ run_rings q h m.scene l' done bell all in
     let kept : kept_phase l.phase ≡ phases.Rest = rest_kept l done plan m h q under.lane in
     let keeps : KeepsNone state = keeps_none q h setup m state z kept (good.holds.carries.quiet stopped) in
@@ -455,6 +457,27 @@ ends_reading q h setup m state plan done main z under all =
     ∙ ap (λ (g : SplitRegion). unchecked_entries g.size (used_in h q m.scene) (words_of g m.scene.memory)) over.region
     ∙ sound_unchecked h.size (used_in h q m.scene) (open_heads q m.scene.past (m.scene.heads q)) (region_in h q m.scene) (under.facts.settled all).sound
 
+-- so they are the open requests, in order
+start_finds : (q : ℕ) (h : Header1) (setup : QueueSetup) (m : Moment) (state : QueueState) (plan : Plan) (done : ℕ) → Good q h m → LiesAs q setup h.size → QueueStands q h setup m state → IsStarting q h m state plan done → length (plan_steps h.size plan) ≤ done
+    → Finds setup.ring.size (open_heads q m.scene.past (m.scene.heads q)) (unchecked_in state.recovery m.scene.memory)
+start_finds q h setup m state plan done good main z under all =
+    let w : RegionWords = region_in h q m.scene in
+    let heads : List ℕ = open_heads q m.scene.past (m.scene.heads q) in
+    let reads : heads_of (open_entries h.size (used_in h q m.scene) w) ≡ heads = (under.facts.settled all).sound.reads in record {
+      reads = ap heads_of (ends_reading q h setup m state plan done main z under all) ∙ reads;
+      distinct = subst (λ (hs : List ℕ). are_distinct hs ≡ true) reads (distinct_by_counter w.counter one_each (is_open (used_in h q m.scene) w) h.size);
+      below = λ d held.
+          let there = number_of (slice_index (m.scene.heads q)) (open_numbers m.scene.past q) d held in
+          let opened = missing-among (published m.scene.past q) (accepted m.scene.past q) there.0 there.1 in
+          let out = open_out q h.size h.capacity m.scene.past (m.scene.heads q) there.0 good.holds.known (record { taken = opened.0; unpublished = opened.1 }) in
+          omega (arith, main.size, there.2, head_below q h m.scene (m.lanes q).driver (m.lanes q).bell (m.lanes q).plan (m.lanes q).counter (m.lanes q).batch (m.lanes q).phase there.0 good.holds.queue out);
+    }
+
+used_now : (q : ℕ) (h : Header1) (setup : QueueSetup) (m : Moment) (state : QueueState) → Good q h m → LiesAs q setup h.size → QueueStands q h setup m state → used_idx_word state.ring m.scene.memory ≡ used_after h q m.scene.past
+used_now q h setup m state good main z =
+    ap (λ (r : SplitRing). used_idx_word r m.scene.memory) z.at.ring ∙ ap (λ (s : ℕ). word 2 m.scene.memory s (setup.ring.used.1 + 2)) main.used_space ∙ ap (λ (p : ℕ). word 2 m.scene.memory 0 (p + 2)) main.used
+    ∙ shown_index q h m.scene (m.lanes q).driver (m.lanes q).bell (m.lanes q).plan (m.lanes q).counter (m.lanes q).batch (m.lanes q).phase good.holds.queue
+
 -- the start
 start_ends : (q : ℕ) (h : Header1) (setup : QueueSetup) (m : Moment) (x : Stepped) (state u state' : QueueState) (plan : Plan) (done : ℕ) → Good q h m → LiesAs q setup h.size → QueueStands q h setup m state → started m.scene.past q ≡ false → IsStarting q h m state plan done
     → Answers m x state u → state' ≡ states.halted x u → done ≡ length (plan_steps h.size plan) + bells (m.lanes q).bell → rings_next state ≡ false → StartStands q h setup m x (start_row state m.scene.memory) state'
@@ -466,12 +489,14 @@ start_ends q h setup m x state u state' plan done good main z stopped under answ
     let past : List Entry = m.scene.past in
     let left : NoneLeft m state = none_left q h setup m state plan done main z under (omega (arith, all)) in
     let said : x ≡ says.Started = answers.said ∙ ap (start_said (rings_next state)) left.answer ∙ ap (λ (b : Bool). start_said b recovered.Done) silent in
-    let after : state' ≡ record state { recovery = state_after r mem; started = true; counter = next_counter (unchecked_in r mem) } =
-    halts ∙ ap (λ (y : Stepped). states.halted y u) said ∙ answers.leaves ∙ ap (λ (a : Recovered). start_after a (state_after r mem) (unchecked_in r mem) state) left.answer ∙ ap (λ (b : Bool). states.ended b (unchecked_in r mem) (record state { recovery = state_after r mem })) silent in
+    let after : state' ≡ resumed (used_idx_word state.ring mem) (unchecked_in r mem) (record state { recovery = state_after r mem }) =
+    halts ∙ ap (λ (y : Stepped). states.halted y u) said ∙ answers.leaves ∙ ap (λ (a : Recovered). start_after a (state_after r mem) (used_idx_word state.ring mem) (unchecked_in r mem) state) left.answer ∙ ap (λ (b : Bool). states.ended b (used_idx_word state.ring mem) (unchecked_in r mem) (record state { recovery = state_after r mem })) silent in
     let turn : turned h q turns.Start m ≡ last_turn q h m.scene l' = ap (phase_goes_on h q m.scene) under.lane ∙ ends_next q h m.scene l' done all in
     let kept : kept_phase l.phase ≡ phases.Rest = rest_kept l done plan m h q under.lane in
     let keeps : KeepsNone state = keeps_none q h setup m state z kept (good.holds.carries.quiet stopped) in
-    let idle : accepted past q ≡ 0 = good.holds.carries.idle stopped in
+    let quiet = good.holds.worked.quiet stopped in
+    let found : Finds setup.ring.size (open_heads q past (m.scene.heads q)) (unchecked_in r mem) = start_finds q h setup m state plan done good main z under (omega (arith, all)) in
+    let used_is : used_idx_word state.ring mem ≡ used_after h q past = used_now q h setup m state good main z in
     let past' : List Entry = entries.Start q (open_numbers past q) ∷ past in
     let run : started past' q ≡ true = started_own past q (open_numbers past q) in
     let same : SameQueue r (state_after r mem) = state_queue r mem in
@@ -479,11 +504,11 @@ start_ends q h setup m x state u state' plan done good main z stopped under answ
       says = λ head. Starts (record {
         is_row = no_row m state (z.at.started ∙ stopped) left;
         said = said;
-        made = ap (λ (t : Turned). t.items) turn ∙ ap (λ (ks : List ℕ). items.Made (entries.Start q ks) ∷ []) (none_open q past idle);
+        made = ap (λ (t : Turned). t.items) turn;
       });
       stands = stands_next q h setup m turns.Start (last_turn q h m.scene l') state' turn
           (subst (λ (t : QueueState). QueueAt q h setup past' (m.scene.heads q) phases.Rest [] l.completed l.made t) (sym after)
-          (at_started q h setup past (m.scene.heads q) l.phase (hidden_part l.phase l.batch) l.completed l.made state (state_after r mem) (next_counter (unchecked_in r mem)) kept (rests_hidden l.phase l.batch kept) idle z.at))
+          (at_started q h setup past (m.scene.heads q) l.phase (hidden_part l.phase l.batch) l.completed l.made state (state_after r mem) (unchecked_in r mem) (used_idx_word state.ring mem) stopped kept (rests_hidden l.phase l.batch kept) quiet.1.0 quiet.1.1 found used_is z.at))
           (subst (λ (t : QueueState). PhaseAt q h setup past' (m.scene.heads q) l.bell plan (next_counter_in h q m.scene) [] phases.Rest (region_in h q m.scene) t) (sym after) (record {
             index = z.phase.index;
             bell = z.phase.bell;
@@ -491,7 +516,7 @@ start_ends q h setup m x state u state' plan done good main z stopped under answ
             region = same.region ∙ z.phase.region;
             base = same.base ∙ z.phase.base;
             begun = λ still. absurd (let fails : true ≡ false = sym run ∙ still in cc);
-            counter = ap next_counter (ends_reading q h setup m state plan done main z under (omega (arith, all)));
+            counter = λ runs. ap next_counter (ends_reading q h setup m state plan done main z under (omega (arith, all)));
             fetching = keeps.fetching;
             batch = keeps.batch;
           }));

@@ -157,7 +157,7 @@ seen_is q h setup s l step u w =
     let region : u.recovery.region ≡ region_of q h.size = w.phase.region ∙ w.main.region in
     let used : used_idx_word u.ring s.memory ≡ used_in h q s = ap (λ (r : SplitRing). used_idx_word r s.memory) w.at.ring ∙ ap (λ (n : ℕ). word 2 s.memory n (setup.ring.used.1 + 2)) w.main.used_space ∙ ap (λ (p : ℕ). word 2 s.memory 0 (p + 2)) w.main.used in
     let last : (words_of u.recovery.region s.memory).last_batch_head ≡ (region_in h q s).last_batch_head = ap (λ (g : SplitRegion). (words_of g s.memory).last_batch_head) region in
-    sight_same (used_idx_word u.ring s.memory) (used_in h q s) (words_of u.recovery.region s.memory).last_batch_head (region_in h q s).last_batch_head (seen_by u s.memory).link (seen_by u s.memory).head u.counter l.counter u.batch (map (element_of h q s) l.batch) used last w.phase.counter w.phase.batch
+    sight_same (used_idx_word u.ring s.memory) (used_in h q s) (words_of u.recovery.region s.memory).last_batch_head (region_in h q s).last_batch_head (seen_by u s.memory).link (seen_by u s.memory).head u.counter l.counter u.batch (map (element_of h q s) l.batch) used last (w.phase.counter w.run) w.phase.batch
 
 abbrev table_row : ℕ → Header1 → Scene → Lane → Step → Option Row
 table_row q h s l step = row_of (the_ring q h.size) (region_of q h.size) (sight_of h q s l) step
@@ -317,7 +317,7 @@ on_stands q h setup m turn l step u u' y p counter kept b batch w is past heads 
       region = w.phase.region;
       base = w.phase.base;
       begun = λ stopped. absurd (let fails : true ≡ false = sym w.run ∙ stopped in cc);
-      counter = refl;
+      counter = λ run. refl;
       fetching = keeps;
       batch = spots;
     } in
@@ -387,7 +387,7 @@ publish_goes q h setup m turn l step u u' x row done y t still at last side item
     let hidden_too : hidden_part next l.batch ≡ hidden_part l.phase l.batch = same_part l.batch side refl ∙ ap (λ (p : Phase). hidden_part p l.batch) (sym at) in
     on_stands q h setup m turn l step u u' y next l.counter u.fetching u.batch l.batch w
     (turn_with q h m turn l step (y ∷ []) next t.is items after ∙ ap (λ (l' : Lane). record { items = y ∷ []; lane = with_phase next l' }) (still.lane (next_counter_in h q m.scene) l))
-    past heads (after_is q h setup m.scene l step u u' (seen_by u m.scene.memory).head next w t.leaves after ∙ ap (states.with_phase next) (still.queue (seen_by u m.scene.memory).head u) ∙ ap (λ (c : ℕ). record u { phase = next; counter = c }) w.phase.counter)
+    past heads (after_is q h setup m.scene l step u u' (seen_by u m.scene.memory).head next w t.leaves after ∙ ap (states.with_phase next) (still.queue (seen_by u m.scene.memory).head u) ∙ ap (λ (c : ℕ). record u { phase = next; counter = c }) (w.phase.counter w.run))
     refl hidden hidden_too (w.phase.fetching ∙ ap (λ (p : Phase). kept_head p (slice_index (m.scene.heads q) (accepted m.scene.past q))) at) w.phase.batch
   where
     same_part : {A : Type 0} (batch : List A) → (done < 4 * length l.batch) ⊎ (4 * length l.batch < done) → length batch ≡ length l.batch → hidden_part (phases.Publish (done + 1)) batch ≡ hidden_part (phases.Publish done) batch
@@ -407,7 +407,7 @@ publish_ends q h setup m turn l step u u' x row done y t still at last behind it
     let none_too : [] ≡ hidden_part l.phase l.batch = sym (ap (λ (p : Phase). hidden_part p l.batch) at ∙ shows l.batch done behind) in
     on_stands q h setup m turn l step u u' y phases.Rest l.counter u.fetching [] [] w
     (turn_with q h m turn l step (y ∷ []) phases.Rest t.is items after ∙ ap (λ (l' : Lane). record { items = y ∷ []; lane = with_phase phases.Rest l' }) (still.lane (next_counter_in h q m.scene) l))
-    past heads (after_is q h setup m.scene l step u u' (seen_by u m.scene.memory).head phases.Rest w t.leaves after ∙ ap (states.with_phase phases.Rest) (still.queue (seen_by u m.scene.memory).head u) ∙ ap (λ (c : ℕ). record u { phase = phases.Rest; counter = c; batch = [] }) w.phase.counter)
+    past heads (after_is q h setup m.scene l step u u' (seen_by u m.scene.memory).head phases.Rest w t.leaves after ∙ ap (states.with_phase phases.Rest) (still.queue (seen_by u m.scene.memory).head u) ∙ ap (λ (c : ℕ). record u { phase = phases.Rest; counter = c; batch = [] }) (w.phase.counter w.run))
     refl none none_too (w.phase.fetching ∙ ap (λ (p : Phase). kept_head p (slice_index (m.scene.heads q) (accepted m.scene.past q))) at) refl
 
 -- ---- a fetch
@@ -430,7 +430,7 @@ count_stands q h setup m turn l u u' x row t at =
     let head : ℕ = (seen_by u m.scene.memory).head in record {
       says = plain_says q h setup m turn l steps.Count u x row (slice_index (m.scene.heads q) (accepted m.scene.past q)) (made_of q h m turn l steps.Count t.is) count_plain has t.said t.is_row;
       stands = on_stands q h setup m turn l steps.Count u u' (row_item has.y) next (l.counter + 1) (Some head) u.batch l.batch w (turn_with q h m turn l steps.Count (row_item has.y ∷ []) next t.is items after) refl refl
-          (after_is q h setup m.scene l steps.Count u u' head next w t.leaves after ∙ ap (λ (c : ℕ). record u { phase = next; counter = c + 1; fetching = Some head }) w.phase.counter)
+          (after_is q h setup m.scene l steps.Count u u' head next w t.leaves after ∙ ap (λ (c : ℕ). record u { phase = next; counter = c + 1; fetching = Some head }) (w.phase.counter w.run))
           refl (sym (ap (λ (p : Phase). hidden_part p u.batch) here)) (sym (ap (λ (p : Phase). hidden_part p l.batch) at)) (ap (λ (d : ℕ). Some d) (w.seen fetching)) w.phase.batch;
     }
 
@@ -450,7 +450,7 @@ accept_stands q h setup m turn l u u' x row t at =
     let at_u : QueueAt q h setup past heads l.phase [] l.completed l.made u = subst (λ (ks : List ℕ). QueueAt q h setup past heads l.phase ks l.completed l.made u) lane_empty w.at in
     let is : u' ≡ fetched head u = after_is q h setup m.scene l steps.Accept u u' (seen_by u m.scene.memory).head phases.Rest w t.leaves after ∙ ap (λ (d : ℕ). fetched d u) (w.seen fetching) in
     let now : QueueAt q h setup (entries.Accept q (accepted past q) ∷ past) heads phases.Rest [] l.completed l.made (fetched head u) =
-    at_fetch q h setup past heads l.phase l.completed l.made u head w.known (w.worked at) refl (w.below fetching) (w.free fetching) empty at_u in record {
+    at_fetch q h setup past heads l.phase l.completed l.made u head w.run w.known (w.worked at) refl (w.below fetching) (w.free fetching) empty at_u in record {
       says = accept_says q h setup m turn l u x row (made_of q h m turn l steps.Accept t.is) w fetching t.said t.is_row;
       stands = stands_next q h setup m turn (record { items = made; lane = record l { phase = phases.Rest; batch = [] } }) u' (turn_with q h m turn l steps.Accept made phases.Rest t.is (made_of q h m turn l steps.Accept t.is) after)
           (subst (λ (v : QueueState). QueueAt q h setup (entries.Accept q (accepted past q) ∷ past) heads phases.Rest [] l.completed l.made v) (sym is) now)
@@ -489,7 +489,7 @@ index_stands q h setup m turn l u u' x row t at =
     let opens : (k : ℕ) → is_among l.batch k ≡ true → IsOpen past q k = λ k held. w.opens k (ap (λ (ks : List ℕ). is_among ks k) lane_all ∙ held) in
     let is : u' ≡ shown done u = after_is q h setup m.scene l steps.Index u u' (seen_by u m.scene.memory).head (phases.Publish done) w t.leaves after in
     let now : QueueAt q h setup past' heads (phases.Publish done) [] l.completed l.made (shown done u) =
-    at_show q h setup past heads l.phase l.batch l.completed l.made u list done (numbers_answers q (after_stored h y m.scene) l.batch) opens all (omega (arith, long)) at_u in record {
+    at_show q h setup past heads l.phase l.batch l.completed l.made u list done w.run (numbers_answers q (after_stored h y m.scene) l.batch) opens all (omega (arith, long)) at_u in record {
       says = index_says q h setup m turn l u x row (slice_index heads (accepted past q)) (made_of q h m turn l steps.Index t.is) w t.said t.is_row;
       stands = stands_next q h setup m turn (record { items = made; lane = record l { phase = phases.Publish done } }) u' (turn_with q h m turn l steps.Index made (phases.Publish done) t.is (made_of q h m turn l steps.Index t.is) after)
           (subst (λ (v : QueueState). QueueAt q h setup past' heads (phases.Publish done) (hidden_part (phases.Publish done) l.batch) l.completed l.made v) (sym is) (subst (λ (ks : List ℕ). QueueAt q h setup past' heads (phases.Publish done) ks l.completed l.made (shown done u)) (sym none) now))

@@ -1,6 +1,6 @@
 -- Which turns of the queue are due at a moment of a run.
-use Rattle.std.proofs.Common.{◌≡◌, ◌<◌, ℕ, ◌+◌, ◌*◌, ◌%◌, Bool, true, false, List, [], ◌∷◌, length, refl, ap, sym, ◌∙◌, subst, inl, inr, arith, filter, not, ◌++◌}
-use Rattle.std.specs.Prelude.{Option, Some, slice_index, nat_lt, ⊤}
+use Rattle.std.proofs.Common.{◌≡◌, ◌<◌, ℕ, ◌+◌, ◌*◌, ◌%◌, Bool, true, false, List, [], ◌∷◌, length, refl, ap, sym, ◌∙◌, subst, inl, inr, arith, filter, not, ◌++◌, cond}
+use Rattle.std.specs.Prelude.{Option, Some, slice_index, nat_lt, if◌then◌else◌, ⊤}
 use Rattle.std.proofs.lemmas.Bool.Decides.{nat_tests}
 use Rattle.std.proofs.lemmas.List.{length-map}
 use Rattle.vub_base.specs.declared.header.Header1.{Header1}
@@ -15,9 +15,9 @@ use Rattle.vub_steps.specs.declared.readiness.Turn.TheVariants as turns
 use Rattle.vub_ring.specs.Ring.{ahead, avail_idx}
 use Rattle.vub_steps.specs.declared.readiness.Choice.{Choice}
 use Rattle.vub_steps.specs.declared.readiness.Choice.TheVariants.{Only, Any, Drain}
-use Rattle.vub_steps.specs.Readiness.{is_ready, chosen, last_counter}
+use Rattle.vub_steps.specs.Readiness.{is_ready, is_publication, any_turn, draining_turn, chosen, last_counter}
 use Rattle.vub_device.specs.declared.entry.Entry.{Entry}
-use Rattle.vub_device.specs.Past.{accepted, published, collected, is_among, open_numbers, IsOpen}
+use Rattle.vub_device.specs.Past.{accepted, published, collected, is_among, open_numbers, IsOpen, started}
 use Rattle.vub_queue.specs.declared.queue.Stepped.{Stepped}
 use Rattle.vub_queue.specs.declared.queue.Stepped.TheVariants as says
 use Rattle.vub_split.specs.declared.split.SplitRing.{SplitRing}
@@ -91,8 +91,8 @@ avail_word : (q : ℕ) (setup : QueueSetup) (n : ℕ) (m : Bytes) → LiesAs q s
 avail_word q setup n m main = ap (λ (s : ℕ). word 2 m s (setup.ring.avail.1 + 2)) main.avail_space ∙ ap (λ (p : ℕ). word 2 m 0 (p + 2)) main.avail
 
 -- the queue's avail position is the base, advanced by what was accepted
-stands_avail : (q : ℕ) (h : Header1) (setup : QueueSetup) (m : Moment) (state : QueueState) → Holds q h m.scene (m.lanes q) → QueueStands q h setup m state → state.next_avail ≡ (h.base + accepted m.scene.past q) % 65536
-stands_avail q h setup m state holds z = avail_is q h setup m.scene.past (m.scene.heads q) (m.lanes q).phase (hidden_part (m.lanes q).phase (m.lanes q).batch) (m.lanes q).completed (m.lanes q).made state holds.known z.at
+stands_avail : (q : ℕ) (h : Header1) (setup : QueueSetup) (m : Moment) (state : QueueState) → started m.scene.past q ≡ true → Holds q h m.scene (m.lanes q) → QueueStands q h setup m state → state.next_avail ≡ (h.base + accepted m.scene.past q) % 65536
+stands_avail q h setup m state run holds z = avail_is q h setup m.scene.past (m.scene.heads q) (m.lanes q).phase (hidden_part (m.lanes q).phase (m.lanes q).batch) (m.lanes q).completed (m.lanes q).made state run holds.known z.at
 
 -- and so is the moment's
 position_is : (q : ℕ) (h : Header1) (m : Moment) → Holds q h m.scene (m.lanes q) → avail_position h q m.scene % 65536 ≡ (h.base + accepted m.scene.past q) % 65536
@@ -102,12 +102,12 @@ position_is q h m holds =
     omega (arith, all, used)
 
 -- its own count of what waits is the moment's
-pub waiting_is : (q : ℕ) (h : Header1) (setup : QueueSetup) (m : Moment) (state : QueueState) → LiesAs q setup h.size → Holds q h m.scene (m.lanes q) → QueueStands q h setup m state
+pub waiting_is : (q : ℕ) (h : Header1) (setup : QueueSetup) (m : Moment) (state : QueueState) → started m.scene.past q ≡ true → LiesAs q setup h.size → Holds q h m.scene (m.lanes q) → QueueStands q h setup m state
     → states.waiting state m.scene.memory ≡ ahead (avail_idx (the_ring q h.size) m.scene.memory) (avail_position h q m.scene)
-waiting_is q h setup m state main holds z =
+waiting_is q h setup m state run main holds z =
     let word_is : avail_idx_word state.ring m.scene.memory ≡ avail_idx (the_ring q h.size) m.scene.memory = ap (λ (x : SplitRing). avail_idx_word x m.scene.memory) z.at.ring ∙ avail_word q setup h.size m.scene.memory main in
     let from : state.next_avail % 65536 ≡ avail_position h q m.scene % 65536 =
-    let mine : state.next_avail ≡ (h.base + accepted m.scene.past q) % 65536 = stands_avail q h setup m state holds z in
+    let mine : state.next_avail ≡ (h.base + accepted m.scene.past q) % 65536 = stands_avail q h setup m state run holds z in
     let there = position_is q h m holds in omega (arith, mine, there) in
     omega (arith, word_is, from)
 
@@ -115,15 +115,15 @@ waiting_is q h setup m state main holds z =
 abbrev kept_standing : Header1 → ℕ → Moment → Standing
 kept_standing h q m = record (standing h q m) { phase = kept_phase (standing h q m).phase }
 
-pub standings : (q : ℕ) (h : Header1) (setup : QueueSetup) (m : Moment) (state : QueueState) → LiesAs q setup h.size → Holds q h m.scene (m.lanes q) → QueueStands q h setup m state
+pub standings : (q : ℕ) (h : Header1) (setup : QueueSetup) (m : Moment) (state : QueueState) → started m.scene.past q ≡ true → LiesAs q setup h.size → Holds q h m.scene (m.lanes q) → QueueStands q h setup m state
     → standing_at state (states.waiting state m.scene.memory) ≡ kept_standing h q m
-standings q h setup m state main holds z =
+standings q h setup m state run main holds z =
     let l : Lane = m.lanes q in
     let many : length state.completed ≡ length l.completed = ap (λ (ks : List (ℕ × ℕ)). length ks) z.at.completed ∙ length-map l.completed (spot_of q h m.scene.past (m.scene.heads q)) in
     let st : Standing = standing h q m in
     standing_same state.started st.started state.phase (kept_phase st.phase) (states.waiting state m.scene.memory) st.waiting (nat_lt state.counter last_counter) st.counts (length state.unfinished) st.unfinished (length state.completed) st.completed
-    z.at.started z.at.phase (waiting_is q h setup m state main holds z) (ap (λ (n : ℕ). nat_lt n last_counter) z.phase.counter)
-    (count_is q h setup m.scene.past (m.scene.heads q) l.phase (hidden_part l.phase l.batch) l.completed l.made state (worked_at q h m holds) z.at ∙ ap (λ (ks : List ℕ). length ks) (left_part q h m holds)) many
+    z.at.started z.at.phase (waiting_is q h setup m state run main holds z) (ap (λ (n : ℕ). nat_lt n last_counter) (z.phase.counter run))
+    (count_is q h setup m.scene.past (m.scene.heads q) l.phase (hidden_part l.phase l.batch) l.completed l.made state run (worked_at q h m holds) z.at ∙ ap (λ (ks : List ℕ). length ks) (left_part q h m holds)) many
 
 -- which changes nothing of what is ready
 pub ready_kept : (s : Standing) (t : Turn) → is_ready (record s { phase = kept_phase s.phase }) t ≡ is_ready s t
@@ -138,9 +138,23 @@ ready_kept s t = go s.phase t
     go (phases.Fetch done) t = refl
     go (phases.Publish done) t = refl
 
+-- of a queue that isn't started a start alone is ready
+abbrev is_start : Turn → Bool
+is_start turns.Start = true
+is_start t = false
+
+ready_stopped : (s : Standing) (t : Turn) → s.started ≡ false → is_ready s t ≡ is_start t
+ready_stopped s turns.Start stopped = ap not stopped
+ready_stopped s turns.Fetch stopped = grind (arith, nat_tests)
+ready_stopped s (turns.Work place) stopped = grind (arith, nat_tests)
+ready_stopped s (turns.Publish most) stopped = grind (arith, nat_tests)
+
 -- so the queue and the moment agree on it
 pub ready_same : (q : ℕ) (h : Header1) (setup : QueueSetup) (m : Moment) (state : QueueState) (t : Turn) → LiesAs q setup h.size → Holds q h m.scene (m.lanes q) → QueueStands q h setup m state → is_ready (standing_at state (states.waiting state m.scene.memory)) t ≡ is_ready (standing h q m) t
-ready_same q h setup m state t main holds z = ap (λ (s : Standing). is_ready s t) (standings q h setup m state main holds z) ∙ ready_kept (standing h q m) t
+ready_same q h setup m state t main holds z = elim (cases_Bool (started m.scene.past q)) [
+  | inl run ↦ ap (λ (s : Standing). is_ready s t) (standings q h setup m state run main holds z) ∙ ready_kept (standing h q m) t
+  | inr stopped ↦ ready_stopped (standing_at state (states.waiting state m.scene.memory)) t (z.at.started ∙ stopped) ∙ sym (ready_stopped (standing h q m) t stopped)
+]
 
 -- and nothing of which turn comes next
 chosen_kept : (size : ℕ) (choice : Choice) (s : Standing) → chosen size choice (record s { phase = kept_phase s.phase }) ≡ chosen size choice s
@@ -154,9 +168,31 @@ chosen_kept size choice s = go s.phase choice
     go (phases.Fetch done) c = refl
     go (phases.Publish done) c = refl
 
+-- of a queue that isn't started a start comes next, but none of the turns of a drain that has accepted enough
+abbrev chosen_before : ℕ → Choice → Turn
+chosen_before size (Only turn) = turn
+chosen_before size Any = turns.Start
+chosen_before size (Drain accepted) = if nat_lt accepted size then turns.Start else turns.Publish size
+
+draining_stopped : (size : ℕ) (s : Standing) → s.started ≡ false → draining_turn size s ≡ turns.Publish size
+draining_stopped size s stopped = elim (cases_Bool (is_publication s.phase)) [
+  | inl under_way ↦ grind (arith, nat_tests)
+  | inr other ↦ grind (arith, nat_tests)
+]
+
+chosen_stopped : (size : ℕ) (choice : Choice) (s : Standing) → s.started ≡ false → chosen size choice s ≡ chosen_before size choice
+chosen_stopped size (Only turn) s stopped = refl
+chosen_stopped size Any s stopped = grind (arith, nat_tests)
+chosen_stopped size (Drain accepted) s stopped =
+    let any : any_turn size s ≡ turns.Start = grind (arith, nat_tests) in
+    ap (λ (t : Turn). cond (nat_lt accepted size) t (draining_turn size s)) any ∙ ap (λ (t : Turn). cond (nat_lt accepted size) turns.Start t) (draining_stopped size s stopped)
+
 pub chosen_same : (q : ℕ) (h : Header1) (setup : QueueSetup) (m : Moment) (state : QueueState) (size : ℕ) (choice : Choice) → LiesAs q setup h.size → Holds q h m.scene (m.lanes q) → QueueStands q h setup m state
     → chosen size choice (standing_at state (states.waiting state m.scene.memory)) ≡ chosen size choice (standing h q m)
-chosen_same q h setup m state size choice main holds z = ap (chosen size choice) (standings q h setup m state main holds z) ∙ chosen_kept size choice (standing h q m)
+chosen_same q h setup m state size choice main holds z = elim (cases_Bool (started m.scene.past q)) [
+  | inl run ↦ ap (chosen size choice) (standings q h setup m state run main holds z) ∙ chosen_kept size choice (standing h q m)
+  | inr stopped ↦ chosen_stopped size choice (standing_at state (states.waiting state m.scene.memory)) (z.at.started ∙ stopped) ∙ sym (chosen_stopped size choice (standing h q m) stopped)
+]
 
 -- ---- what a turn that didn't fail does
 
@@ -184,13 +220,13 @@ stands_next q h setup m turn t state is z y =
 -- ---- a fetch
 
 -- the head that waits is that of the next request
-pub head_is : (q : ℕ) (h : Header1) (setup : QueueSetup) (m : Moment) (state : QueueState) → LiesAs q setup h.size → QueueStands q h setup m state → Holds q h m.scene (m.lanes q) → accepted m.scene.past q < length (m.scene.heads q)
+pub head_is : (q : ℕ) (h : Header1) (setup : QueueSetup) (m : Moment) (state : QueueState) → started m.scene.past q ≡ true → LiesAs q setup h.size → QueueStands q h setup m state → Holds q h m.scene (m.lanes q) → accepted m.scene.past q < length (m.scene.heads q)
     → head_word state.ring m.scene.memory state.next_avail ≡ slice_index (m.scene.heads q) (accepted m.scene.past q)
-head_is q h setup m state main z holds more =
+head_is q h setup m state run main z holds more =
     let mem : Bytes = m.scene.memory in
     let a : ℕ = accepted m.scene.past q in
     let index : ℕ = (h.base + a) % 65536 in
-    let place : state.next_avail % setup.ring.size ≡ index % h.size = ap (λ (i : ℕ). i % setup.ring.size) (stands_avail q h setup m state holds z) ∙ ap (λ (n : ℕ). index % n) main.size in
+    let place : state.next_avail % setup.ring.size ≡ index % h.size = ap (λ (i : ℕ). i % setup.ring.size) (stands_avail q h setup m state run holds z) ∙ ap (λ (n : ℕ). index % n) main.size in
     ap (λ (x : SplitRing). head_word x mem state.next_avail) z.at.ring
     ∙ ap (λ (s : ℕ). word 2 mem s (setup.ring.avail.1 + (4 + 2 * (state.next_avail % setup.ring.size)))) main.avail_space
     ∙ ap (λ (p : ℕ). word 2 mem 0 (p + (4 + 2 * (state.next_avail % setup.ring.size)))) main.avail
@@ -205,8 +241,8 @@ next_out q h s l holds more = record {
 }
 
 -- so the avail ring breaks no rule
-pub keeps_rules : (q : ℕ) (h : Header1) (setup : QueueSetup) (m : Moment) (state : QueueState) (fault : RingFault) → IsPlain h → Good q h m → LiesAs q setup h.size → QueueStands q h setup m state → Breaks state m.scene.memory fault → ⊥
-keeps_rules q h setup m state fault plain good main z breaks = go fault breaks.1
+pub keeps_rules : (q : ℕ) (h : Header1) (setup : QueueSetup) (m : Moment) (state : QueueState) (fault : RingFault) → started m.scene.past q ≡ true → IsPlain h → Good q h m → LiesAs q setup h.size → QueueStands q h setup m state → Breaks state m.scene.memory fault → ⊥
+keeps_rules q h setup m state fault run plain good main z breaks = go fault breaks.1
   where
     a : ℕ
     a = accepted m.scene.past q
@@ -218,7 +254,7 @@ keeps_rules q h setup m state fault plain good main z breaks = go fault breaks.1
     holds = good.holds
 
     far : states.waiting state m.scene.memory + a ≡ length heads
-    far = omega (arith, waiting_is q h setup m state main holds z, queue_ahead q h m.scene (m.lanes q) plain.good holds)
+    far = omega (arith, waiting_is q h setup m state run main holds z, queue_ahead q h m.scene (m.lanes q) plain.good holds)
 
     more : a < length heads
     more = omega (arith, far, breaks.0)
@@ -231,12 +267,12 @@ keeps_rules q h setup m state fault plain good main z breaks = go fault breaks.1
 
     go : (f : RingFault) → BreaksBy state m.scene.memory f → ⊥
     go (faults.Jump ahead) b = omega (arith, b.0, b.1, far, sized, holds.known.room, holds.known.shown, holds.known.fewer)
-    go (faults.BadHead head) b = omega (arith, b.1, b.2, sized, head_is q h setup m state main z holds more, head_below q h m.scene (m.lanes q).driver (m.lanes q).bell (m.lanes q).plan (m.lanes q).counter (m.lanes q).batch (m.lanes q).phase a holds.queue out)
+    go (faults.BadHead head) b = omega (arith, b.1, b.2, sized, head_is q h setup m state run main z holds more, head_below q h m.scene (m.lanes q).driver (m.lanes q).bell (m.lanes q).plan (m.lanes q).counter (m.lanes q).batch (m.lanes q).phase a holds.queue out)
     go (faults.Twice head) b =
         let small : head < setup.ring.size = omega (arith, b.2, ap (λ (x : SplitRing). x.size) z.at.ring) in
-        let t = taken_open q h setup m.scene.past heads (m.lanes q).phase (hidden_part (m.lanes q).phase (m.lanes q).batch) (m.lanes q).completed (m.lanes q).made state head small b.3 z.at in
+        let t = taken_open q h setup m.scene.past heads (m.lanes q).phase (hidden_part (m.lanes q).phase (m.lanes q).batch) (m.lanes q).completed (m.lanes q).made state head run small b.3 z.at in
         let other : IsOut q m.scene.past heads t.0 = open_out q h.size h.capacity m.scene.past heads t.0 holds.known t.1 in
-        let same : t.0 ≡ a = heads_apart q h m.scene (m.lanes q).driver (m.lanes q).bell (m.lanes q).plan (m.lanes q).counter (m.lanes q).batch (m.lanes q).phase t.0 a holds.queue other out (t.2 ∙ b.1 ∙ head_is q h setup m state main z holds more) in
+        let same : t.0 ≡ a = heads_apart q h m.scene (m.lanes q).driver (m.lanes q).bell (m.lanes q).plan (m.lanes q).counter (m.lanes q).batch (m.lanes q).phase t.0 a holds.queue other out (t.2 ∙ b.1 ∙ head_is q h setup m state run main z holds more) in
         omega (arith, same, t.1.taken)
     go (faults.NoRoom slot) b = b
     go (faults.Chain fault) b = b

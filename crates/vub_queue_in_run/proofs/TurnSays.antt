@@ -7,7 +7,7 @@ use Rattle.vub_base.specs.declared.store.Tag.{Tag}
 use Rattle.vub_base.specs.declared.store.Tag.TheVariants.{SF2, SP5}
 use Rattle.vub_base.specs.declared.store.Area.TheVariants.{M}
 use Rattle.vub_device.specs.declared.entry.Entry.TheVariants as entries
-use Rattle.vub_device.specs.Past.{accepted}
+use Rattle.vub_device.specs.Past.{accepted, open_numbers}
 use Rattle.vub_report.specs.declared.items.Item.{Item}
 use Rattle.vub_report.specs.declared.items.Item.TheVariants as items
 use Rattle.vub_ring.specs.Ring.{Ring}
@@ -81,4 +81,4 @@ pub data TurnSays (q : ℕ) (h : Header1) (m : Moment) (turn : Turn) (x : Steppe
   Accepts : (y : Row) → y.tag ≡ SF2 → StoresRow q h m turn x (says.Accepted head) row y (items.Made (entries.Accept q (accepted m.scene.past q)) ∷ []) → TurnSays q h m turn x row head batch
   Publishes : (y : Row) → ShowsRow q y → StoresRow q h m turn x says.Published row y (items.Made (entries.Publish q (map (answer_at q (after_stored h y m.scene)) batch)) ∷ []) → TurnSays q h m turn x row head batch
   Rings : StoresNone q h m turn x says.Belled row (items.Bell q) → TurnSays q h m turn x row head batch
-  Starts : StoresNone q h m turn x says.Started row (items.Made (entries.Start q [])) → TurnSays q h m turn x row head batch
+  Starts : StoresNone q h m turn x says.Started row (items.Made (entries.Start q (open_numbers m.scene.past q))) → TurnSays q h m turn x row head batch

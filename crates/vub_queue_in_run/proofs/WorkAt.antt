@@ -264,6 +264,6 @@ work_ready q h m setup sizes state place plain good chained main room a ready =
     let is : slice_get (unfinished q m) place ≡ Some (slice_index (unfinished q m) place) = slice_get-get_or (unfinished q m) place 0 inside in
     let hides : List ℕ = hidden_part (m.lanes q).phase (m.lanes q).batch in
     let many : length state.unfinished ≡ length (unfinished q m) =
-    count_is q h setup m.scene.past (m.scene.heads q) (m.lanes q).phase hides (m.lanes q).completed (m.lanes q).made state (worked_at q h m good.holds) a.at ∙ ap (λ (ks : List ℕ). length ks) (left_part q h m good.holds) in
+    count_is q h setup m.scene.past (m.scene.heads q) (m.lanes q).phase hides (m.lanes q).completed (m.lanes q).made state run (worked_at q h m good.holds) a.at ∙ ap (λ (ks : List ℕ). length ks) (left_part q h m good.holds) in
     let at : slice_get state.unfinished place ≡ Some (get_or state.unfinished place (fresh_task 0)) = slice_get-get_or state.unfinished place (fresh_task 0) (omega (arith, inside, many)) in
     due_at q h m setup sizes state place (slice_index (unfinished q m) place) (get_or state.unfinished place (fresh_task 0)) plain good chained main room a run is at

@@ -125,8 +125,9 @@ goes_on q h sizes m setup state place w past' next sector good a x head made put
   phase = a.at.phase;
   batch = a.at.batch ∙ spots_same q h past past' heads w.k hides x;
   completed = a.at.completed ∙ spots_same q h past past' heads w.k l.completed x;
-  keeps = subst (λ (hs : List ℕ). KeepsHeads setup.ring.size hs (used_after h q past') (worked place next sector state)) (sym same_heads)
-      (subst (λ (u : ℕ). KeepsHeads setup.ring.size (open_heads q past heads) u (worked place next sector state)) (sym same_used) (keeps_worked setup.ring.size (open_heads q past heads) (used_after h q past) state place next w.task sector w.due.at head a.at.keeps));
+  keeps = λ runs. subst (λ (hs : List ℕ). KeepsHeads setup.ring.size hs (used_after h q past') (worked place next sector state)) (sym same_heads)
+      (subst (λ (u : ℕ). KeepsHeads setup.ring.size (open_heads q past heads) u (worked place next sector state)) (sym same_used) (keeps_worked setup.ring.size (open_heads q past heads) (used_after h q past) state place next w.task sector w.due.at head (a.at.keeps run)));
+  nothing = λ stopped. absurd (let fails : true ≡ false = sym run ∙ sym x.runs ∙ stopped in cc);
   tasks = λ i j t at_left at_task.
       let at_i : slice_get left i ≡ Some j = ap (λ (xs : List ℕ). slice_get xs i) (sym same) ∙ at_left in
       elim (cases_eq i place) [
@@ -188,6 +189,9 @@ goes_on q h sizes m setup state place w past' next sector good a x head made put
     same : left_of q past' l.completed hides ≡ left
     same = left_same q past past' w.k l.completed hides x
 
+    run : started past q ≡ true
+    run = sym a.at.started ∙ w.due.started
+
     same_used : used_after h q past' ≡ used_after h q past
     same_used = ap (λ (ps : List ℕ). (h.base + length ps) % 65536) x.publishes
 
@@ -207,7 +211,8 @@ finished q h sizes m setup state place w sector good a = record {
   completed = ap (λ (xs : List (ℕ × ℕ)). xs ++ (head_in w.task, used_len (status_of h w.request) w.request) ∷ []) a.at.completed
       ∙ ap (λ (e : ℕ × ℕ). map (spot_of q h past heads) l.completed ++ e ∷ []) element
       ∙ sym (map-append (spot_of q h past heads) l.completed (w.k ∷ []));
-  keeps = keeps_done setup.ring.size (open_heads q past heads) (used_after h q past) state place (used_len (status_of h w.request) w.request) w.task sector w.due.at a.at.keeps;
+  keeps = λ runs. keeps_done setup.ring.size (open_heads q past heads) (used_after h q past) state place (used_len (status_of h w.request) w.request) w.task sector w.due.at (a.at.keeps runs);
+  nothing = λ stopped. absurd (let fails : true ≡ false = sym w.due.started ∙ a.at.started ∙ stopped in cc);
   tasks = λ i j t at_left at_task.
       let at_i : slice_get (remove left place) i ≡ Some j = ap (λ (xs : List ℕ). slice_get xs i) (sym less) ∙ at_left in
       elim (cases_lt i place) [
@@ -319,7 +324,7 @@ look_stands q h sizes m setup state state' place v w x plain good a disk made =
     let c : ℕ = (m.lanes q).made w.k in
     let goes : Advances place w.task (making w) made.sector (Look x.place) state state' = subst (λ (y : RequestStep). Advances place w.task (making w) made.sector y state state') x.next made.state in
     let asks_it : asked past q w.k ≡ Some (asks.Read x.sector x.count) = w.is ∙ ap (λ (y : Asked). Some y) x.is in
-    let to : IsReadTo x.count c (looks past q w.k) (bytes_read past q w.k) = read_to x.sector x.count c (looks past q w.k) (acts past q w.k) (bytes_read past q w.k) (synced past q w.k) (asked past q w.k) asks_it (good.holds.worked.progress w.k) in
+    let to : IsReadTo x.count c (looks past q w.k) (bytes_read past q w.k) = read_to x.sector x.count c (looks past q w.k) (acts past q w.k) (bytes_read past q w.k) (synced past q w.k) (asked past q w.k) asks_it (good.holds.worked.progress (sym a.at.started ∙ w.due.started) w.k) in
     let looked : looks past q w.k ≡ (c + 1) / 2 = to.under (omega (arith, x.at, x.within)) in
     let before : length (bytes_read past q w.k) ≡ 512 * x.place = omega (arith, to.long, looked, x.at) in
     let now : bytes_read past' q w.k ≡ bytes_read past q w.k ++ read = seen_more q past w.k s read in
@@ -465,7 +470,7 @@ phase_kept q h setup s s' bell plan next batch phase w w' state state' run still
   region = ap (λ (r : RecoveryState). r.region) same.recovery ∙ x.region;
   base = ap (λ (r : RecoveryState). r.base) same.recovery ∙ x.base;
   begun = λ stopped. absurd (let fails : true ≡ false = sym run ∙ sym still.runs ∙ stopped in cc);
-  counter = same.counter ∙ x.counter;
+  counter = λ runs. same.counter ∙ x.counter run;
   fetching = same.fetching ∙ x.fetching ∙ ap (λ (hs : List ℕ). kept_head phase (slice_index hs (accepted s.past q))) (sym still.heads)
       ∙ ap (λ (n : ℕ). kept_head phase (slice_index (s'.heads q) n)) (sym still.accepts);
   batch = same.batch ∙ x.batch ∙ ap (λ (hs : List ℕ). map (spot_of q h s.past hs) batch) (sym still.heads)

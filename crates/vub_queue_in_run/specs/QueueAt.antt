@@ -1,12 +1,9 @@
 -- The device's side of a queue stands at a moment of a run.
-use Rattle.std.specs.Prelude.{◌≡◌, ◌<◌, ℕ, suc, ◌+◌, ◌*◌, ◌%◌, Bool, true, false, not, nat_lt, if◌then◌else◌, List, Option, ◌++◌, length, map, filter, slice_get, slice_index, slice_range, get_or, [], Some, None}
+use Rattle.std.specs.Prelude.{◌≡◌, ◌<◌, ℕ, ◌+◌, ◌*◌, ◌%◌, Bool, true, false, not, List, ◌++◌, length, map, filter, slice_get, slice_index, slice_range, get_or, [], Some, None}
 use Rattle.vub_base.specs.declared.header.Header1.{Header1}
 use Rattle.vub_steps.specs.declared.steps.Phase.{Phase}
-use Rattle.vub_steps.specs.declared.steps.Phase.TheVariants as phases
 use Rattle.vub_steps.specs.declared.steps.Plan.{Plan}
-use Rattle.vub_steps.specs.Steps.{plan_steps}
 use Rattle.vub_infl_split.specs.Region.{RegionWords}
-use Rattle.vub_rec_split.specs.Places.{IsFresh, IsAt}
 use Rattle.vub_rec_split.specs.Starts.{StartLies}
 use Rattle.vub_driver.specs.Layout.{area_place, buffer_place}
 use Rattle.vub_device.specs.declared.entry.Asked.{Asked}
@@ -25,8 +22,6 @@ use Rattle.vub_queue.specs.declared.queue.Queue.{Queue}
 use Rattle.vub_queue.specs.declared.queue.QueueSetup.{QueueSetup}
 use Rattle.vub_queue.specs.Queue.{ring_in}
 use Rattle.vub_task.specs.declared.task.Task.{Task}
-use Rattle.vub_facts.specs.Facts.{Words}
-use Rattle.vub_facts.specs.Held.{State, Held}
 
 -- ---- what it keeps, by the numbers of a run
 
@@ -47,15 +42,22 @@ pub record TaskAt (q : ℕ) (h : Header1) (setup : QueueSetup) (past : List Entr
 abbrev pub used_after : Header1 → ℕ → List Entry → ℕ
 used_after h q past = (h.base + length (published past q)) % 65536
 
+-- a queue of n places holds no request: none is unfinished, and no head is taken
+pub record HoldsNothing (n : ℕ) (state : QueueState) : Type 0 where
+  pub unfinished : state.unfinished ≡ []
+  pub taken : (head : ℕ) → head < n → is_taken state.taken head ≡ false
+
 -- of a batch these are hidden
 pub record QueueAt (q : ℕ) (h : Header1) (setup : QueueSetup) (past : List Entry) (heads : List ℕ) (at_phase : Phase) (in_batch ready : List ℕ) (made : ℕ → ℕ) (state : QueueState) : Type 0 where
   pub ring : state.ring ≡ setup.ring
   pub runs : state.stopped ≡ None
-  pub started : state.started ≡ started past q
   pub phase : state.phase ≡ kept_phase at_phase
   pub batch : hidden_in state ≡ map (spot_of q h past heads) in_batch
   pub completed : state.completed ≡ map (spot_of q h past heads) ready
-  pub keeps : KeepsHeads setup.ring.size (open_heads q past heads) (used_after h q past) state
+  -- once it is started it keeps the open heads, and before that nothing
+  pub keeps : started past q ≡ true → KeepsHeads setup.ring.size (open_heads q past heads) (used_after h q past) state
+  pub nothing : started past q ≡ false → HoldsNothing setup.ring.size state
+  pub started : state.started ≡ started past q
   -- the tasks of the requests that are left, in order
   pub tasks : (i k : ℕ) (task : Task) → slice_get (left_of q past ready in_batch) i ≡ Some k → slice_get state.unfinished i ≡ Some task → TaskAt q h setup past heads k (made k) task
   -- between a look and its store, what was read stands at the head
@@ -66,7 +68,7 @@ pub record QueueAt (q : ℕ) (h : Header1) (setup : QueueSetup) (past : List Ent
 
 -- ---- its phase
 
--- of queue q, in this phase of its lane; the words of its region matter until it is started
+-- of queue q, in this phase of its lane; the words of its region matter until it is started, and its counter from then on
 pub record PhaseAt (q : ℕ) (h : Header1) (setup : QueueSetup) (past : List Entry) (heads : List ℕ) (has_bell : Bool) (plan : Plan) (next : ℕ) (in_batch : List ℕ) (phase : Phase) (w : RegionWords) (state : QueueState) : Type 0 where
   pub index : state.index ≡ q
   pub bell : state.bell ≡ has_bell
@@ -74,7 +76,7 @@ pub record PhaseAt (q : ℕ) (h : Header1) (setup : QueueSetup) (past : List Ent
   pub region : state.recovery.region ≡ setup.region
   pub base : state.recovery.base ≡ h.base
   pub begun : started past q ≡ false → StartsAt h.size plan phase w state
-  pub counter : state.counter ≡ next
+  pub counter : started past q ≡ true → state.counter ≡ next
   pub fetching : state.fetching ≡ kept_head phase (slice_index heads (accepted past q))
   pub batch : state.batch ≡ map (spot_of q h past heads) in_batch
 
