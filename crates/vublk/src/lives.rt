@@ -1,7 +1,7 @@
 //! Tests of `run`: three requests in two batches, with a kill after every step of the first life and
 //! another after every step of the start that follows, each with the history that the definitions give.
 
-use crate::tests::check_row;
+use crate::tests::check_row_in_pieces;
 use std::alloc::Global;
 use std::test::Fail;
 
@@ -168,11 +168,12 @@ fn kills_at_every_step(rt: HostRuntime) -> Result<(), Fail> {
             for again in 0..=cut.start {
                 let text = schedule_of(rt.alloc(), step, again)?;
                 let wanted = history_of(rt.alloc(), cut, step, again)?;
-                check_row(
+                check_row_in_pieces(
                     &rt,
                     rt.alloc(),
                     "entries",
                     &text,
+                    65_536,
                     (None, None),
                     (0, &wanted),
                 )?;

@@ -160,6 +160,27 @@ fn run_on(
     Ok((status, Vec::from_slice(alloc, out.bytes())?))
 }
 
+/// One worked row, with what the source has given in pieces of at most so many bytes.
+pub fn check_row_in_pieces(
+    rt: &impl Abort,
+    alloc: Global,
+    words: &str,
+    text: &str,
+    piece: usize,
+    faults: (Option<u64>, Option<u64>),
+    wanted: (u8, &str),
+) -> Result<(), Fail>
+    requires { 0 < piece }
+{
+    let words = words_of(alloc, words)?;
+    let source_fails = fails_of(alloc, faults.0)?;
+    let sink_fails = fails_of(alloc, faults.1)?;
+    let (status, out) = run_on(alloc, &words, text, piece, source_fails, sink_fails)?;
+    assert_eq!(rt; status, wanted.0);
+    assert_eq!(rt; out.as_slice(), wanted.1.as_bytes());
+    Ok(())
+}
+
 /// One worked row, with what the source has given whole and in single bytes.
 pub fn check_row(
     rt: &impl Abort,
@@ -169,15 +190,8 @@ pub fn check_row(
     faults: (Option<u64>, Option<u64>),
     wanted: (u8, &str),
 ) -> Result<(), Fail> {
-    let words = words_of(alloc, words)?;
-    for piece in [1, 65_536] {
-        let source_fails = fails_of(alloc, faults.0)?;
-        let sink_fails = fails_of(alloc, faults.1)?;
-        let (status, out) = run_on(alloc, &words, text, piece, source_fails, sink_fails)?;
-        assert_eq!(rt; status, wanted.0);
-        assert_eq!(rt; out.as_slice(), wanted.1.as_bytes());
-    }
-    Ok(())
+    check_row_in_pieces(rt, alloc, words, text, 1, faults, wanted)?;
+    check_row_in_pieces(rt, alloc, words, text, 65_536, faults, wanted)
 }
 
 #[test]
