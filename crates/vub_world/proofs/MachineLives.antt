@@ -1,11 +1,14 @@
--- Where the machine stands after a life begins, and after its queues are attached.
-use Rattle.std.proofs.Common.{◌≡◌, ◌≤◌, ℕ, true, false, List, [], map, refl, ap, sym, ◌∙◌, subst, arith}
+-- Where the machine stands after a life begins, after its queues are attached, and after it ends.
+use Rattle.std.proofs.Common.{◌≡◌, ◌≤◌, ℕ, true, false, List, [], ◌∷◌, map, refl, ap, sym, ◌∙◌, subst, arith}
 use Rattle.std.specs.Prelude.{Bool, not, ◌&&◌, Option, Some, None}
 use Rattle.vub_base.specs.declared.header.Header1.{Header1}
 use Rattle.vub_steps.specs.declared.steps.Phase.{Phase}
 use Rattle.vub_steps.specs.declared.steps.Phase.TheVariants as phases
 use Rattle.vub_device.specs.declared.entry.Entry.{Entry}
+use Rattle.vub_device.specs.declared.entry.Entry.TheVariants as entries
 use Rattle.vub_device.specs.Past.{accepted, started}
+use Rattle.vub_report.specs.declared.items.Item.TheVariants as items
+use Rattle.vub_run.specs.Memory.{after_items}
 use Rattle.vub_world.specs.Fronts.{Parts}
 use Rattle.vub_queue.specs.declared.queue.Queue.{Queue}
 use Rattle.vub_queue.specs.declared.queue.QueueSetup.{QueueSetup}
@@ -14,7 +17,7 @@ use Rattle.vub_run.specs.Moments.{Lane, Moment, fresh, attached, region_in}
 use Rattle.vub_queue.specs.QueueFacts.{hidden_part}
 use Rattle.vub_queue_in_run.specs.QueueAt.{QueueAt, PhaseAt, IsNewQueue, spot_of}
 use Rattle.vub_queue.specs.QueueState.{QueueState, state_of}
-use Rattle.vub_run.specs.Run.{played, if_ready, boot, join}
+use Rattle.vub_run.specs.Run.{played, if_ready, boot, join, ended, kill}
 use Rattle.vub_queue_in_run.proofs.QueueAtMoves.{at_new}
 use Rattle.vub_run_laws.proofs.RunGood.{IsLow}
 use Rattle.vub_run_laws.proofs.RunTurns.{IsPlain, Good}
@@ -93,3 +96,24 @@ joined_at q w m queue plain good base same index bell new lives made at =
       disk = at.disk;
       outstanding = at.outstanding;
     }
+
+-- ---- a life ends
+
+abbrev pub killed : Header1 → Moment → Moment
+killed h m = ended (record m { scene = after_items h (items.Made entries.Kill ∷ []) m.scene })
+
+pub kill_plays : (h : Header1) (m : Moment) → m.lives ≡ true → played (items.Made entries.Kill ∷ []) (killed h m) ≡ kill h m
+kill_plays h m lives = sym (ap (λ (b : Bool). if_ready b (played (items.Made entries.Kill ∷ []) (killed h m)) m) lives)
+
+pub kill_idle : (h : Header1) (m : Moment) → m.lives ≡ false → played (items.Idle ∷ []) m ≡ kill h m
+kill_idle h m asleep = sym (ap (λ (b : Bool). if_ready b (played (items.Made entries.Kill ∷ []) (killed h m)) m) asleep)
+
+-- memory, driver and disk are as they were
+pub killed_at : (q : ℕ) (h : Header1) (w : Parts) (m : Moment) → PartsAt q w m → PartsAt q (record w { life = None }) (killed h m)
+killed_at q h w m at = record {
+  front = record { memory = at.front.memory; driver = at.front.driver; asks = at.front.asks };
+  position = at.position;
+  life = refl;
+  disk = at.disk;
+  outstanding = record { offers_are = at.outstanding.offers_are; collects_are = at.outstanding.collects_are; places = at.outstanding.places; slots = at.outstanding.slots };
+}

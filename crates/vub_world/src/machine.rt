@@ -302,6 +302,24 @@ impl Machine {
         Ok(self.nothing())
     }
 
+    /// The life ends, whatever it is doing.
+    fn kill(&mut self) -> Result<Items, Memory>
+        requires sound { IsSound self.old }
+        requires stands { IsStanding self.old }
+        ensures header { self.new.header ≡ self.old.header }
+        ensures sound { IsSound self.new }
+        ensures kept { OnErr result (self.new ≡ self.old) }
+        ensures performs { IfOk result (λ is. Performs self.old self.new events.Kill is) }
+    {
+        if self.life.is_none() {
+            return self.idle();
+        }
+        let mut room = Room::of_items(self.alloc, 1)?;
+        room.note(Item::Made(Entry::Kill));
+        self.life = None;
+        Ok(room.into_items())
+    }
+
     /// The most turns of a queue that belong to no one request.
     fn turns_besides(&self) -> u64
         ensures { result ≡ turns_besides self.now.header.size }
@@ -437,6 +455,7 @@ impl Machine {
             Event::Publish(queue, most) => self.single(*queue, Turn::Publish(*most)),
             Event::Turn(queue, count) => self.up_to(*queue, *count),
             Event::Drain(queue) => self.drain(*queue),
+            Event::Kill => self.kill(),
         }
     }
 
