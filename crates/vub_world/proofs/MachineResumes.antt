@@ -27,8 +27,6 @@ use Rattle.vub_queue.specs.declared.queue.Queue.{Queue}
 use Rattle.vub_device.specs.declared.entry.Entry.{Entry}
 use Rattle.vub_device.specs.declared.entry.Entry.TheVariants as entries
 use Rattle.vub_device.specs.Past.{is_among, open_numbers, accepted, published, started}
-use Rattle.vub_facts.specs.Facts.{heads_in, without}
-use Rattle.vub_facts.proofs.HeadLemmas.{among_get}
 use Rattle.vub_queue.specs.declared.queue.QueueSetup.{QueueSetup}
 use Rattle.vub_queue.specs.declared.queue.Stepped.{Stepped}
 use Rattle.vub_queue.specs.declared.queue.Stepped.TheVariants as says
@@ -42,11 +40,12 @@ use Rattle.vub_run.specs.Turns.{turned, begun, counted, course_of, is_rest, next
 use Rattle.vub_run_laws.proofs.RunFrames.{open_out}
 use Rattle.vub_run_laws.proofs.RunGood.{IsOut}
 use Rattle.vub_run_laws.proofs.RunHeads.{missing_exact}
-use Rattle.vub_run_laws.proofs.RunNumbers.{among_filter, missing-among}
+use Rattle.vub_run_laws.proofs.RunNumbers.{missing-among}
 use Rattle.vub_run_laws.proofs.RunOwn.{at_own, started_own}
 use Rattle.vub_run_laws.proofs.RunTurns.{Good}
-use Rattle.vub_queue_in_run.specs.QueueAt.{QueueAt, QueueStands, hidden_part, hidden_in, spot_of, used_after, LiesAs}
-use Rattle.vub_queue_in_run.proofs.QueueHeld.{words_with}
+use Rattle.vub_queue.specs.QueueFacts.{hidden_part}
+use Rattle.vub_queue_in_run.proofs.QueueAtMoves.{heads_open, heads_low}
+use Rattle.vub_queue_in_run.specs.QueueAt.{QueueStands, LiesAs}
 use Rattle.vub_queue_in_run.proofs.TurnSays.{TurnSays, Notes, Accepts, Publishes as SaysPublishes, Rings, Starts}
 use Rattle.vub_world.specs.declared.outstanding.OutstandingRequests.{OutstandingRequests}
 use Rattle.vub_world.specs.declared.outstanding.OutstandingRequest.{OutstandingRequest}
@@ -101,19 +100,7 @@ start_idle h q m idle =
     let l : Lane = under_way h q m.scene turns.Start (m.lanes q) in
     phase_idle h q m.scene l (next_step (course_of h l) l.phase) (begun_idle h q m.scene (m.lanes q) (is_rest (m.lanes q).phase) idle)
 
--- ---- the heads that the queue works on
-
-without_none : (hs : List ℕ) → without [] hs ≡ hs
-without_none [] = refl
-without_none (d ∷ hs) = ap (λ (l : List ℕ). d ∷ l) (without_none hs)
-
-heads_open : (q : ℕ) (h : Header1) (setup : QueueSetup) (past : List Entry) (heads : List ℕ) (phase : Phase) (batch completed : List ℕ) (made : ℕ → ℕ) (state : QueueState) → QueueAt q h setup past heads phase batch completed made state → hidden_in state ≡ [] → state.completed ≡ []
-    → heads_of state ≡ open_heads q past heads
-heads_open q h setup past heads phase batch completed made state x none done =
-    (x.keeps (words_with (used_after h q past)) refl).splits.left
-    ∙ ap (λ (bs : List (ℕ × ℕ)). without (heads_in (bs ++ state.completed)) (open_heads q past heads)) none
-    ∙ ap (λ (cs : List (ℕ × ℕ)). without (heads_in cs) (open_heads q past heads)) done
-    ∙ without_none (open_heads q past heads)
+-- ---- the numbers of the requests that it works on
 
 -- no batch has a hidden part
 hidden_none : (phase : Phase) (batch : List ℕ) → batch ≡ [] → hidden_part phase batch ≡ []
@@ -153,13 +140,12 @@ start_resumes q h setup m outstanding x row head batch state good numbered compl
     let n : Moment = (one_turn h q turns.Start m).next in
     let own : n.lanes q ≡ (turned h q turns.Start m).lane = at_own m.lanes q (turned h q turns.Start m).lane in
     let idle : IsIdle (n.lanes q) = subst IsIdle (sym own) (start_idle h q m (record { completed = completed; batch = none })) in
-    let spots : List ℕ → List (ℕ × ℕ) = map (spot_of q h n.scene.past (n.scene.heads q)) in
-    let hidden : hidden_in state ≡ [] = stands.at.batch ∙ ap spots (hidden_none (n.lanes q).phase (n.lanes q).batch idle.batch) in
-    let done : state.completed ≡ [] = stands.at.completed ∙ ap spots idle.completed in
+    let made = starts_items q h m turns.Start x row head batch says_so is in
+    let run : started n.scene.past q ≡ true = ap (λ (list : List Item). started (after_items h list m.scene).past q) made ∙ started_own m.scene.past q (open_numbers m.scene.past q) in
     let heads : heads_of state ≡ open_heads q n.scene.past (n.scene.heads q) =
-    heads_open q h setup n.scene.past (n.scene.heads q) (n.lanes q).phase (hidden_part (n.lanes q).phase (n.lanes q).batch) (n.lanes q).completed (n.lanes q).made state stands.at hidden done in
+    heads_open q h setup n.scene.past (n.scene.heads q) (n.lanes q).phase (hidden_part (n.lanes q).phase (n.lanes q).batch) (n.lanes q).completed (n.lanes q).made state run (hidden_none (n.lanes q).phase (n.lanes q).batch idle.batch) idle.completed stands.at in
     let same : open_heads q n.scene.past (n.scene.heads q) ≡ open_heads q m.scene.past (m.scene.heads q) =
-    ap (λ (is : List Item). open_heads q (after_items h is m.scene).past ((after_items h is m.scene).heads q)) (starts_items q h m turns.Start x row head batch says_so is) in
+    ap (λ (list : List Item). open_heads q (after_items h list m.scene).past ((after_items h list m.scene).heads q)) made in
     ap (map (number_at outstanding)) (heads ∙ same) ∙ open_back q h m outstanding good numbered
 
 -- ---- a publication starts no queue
@@ -204,13 +190,6 @@ filter_short test (x ∷ xs) = go (test x)
     go true = omega (arith, filter_short test xs)
     go false = omega (arith, filter_short test xs)
 
--- the heads of the requests that a queue works on have places
-pub heads_low : (q : ℕ) (h : Header1) (setup : QueueSetup) (m : Moment) (state : QueueState) → QueueStands q h setup m state → (i head : ℕ) → slice_get (heads_of state) i ≡ Some head → head < setup.ring.size
-heads_low q h setup m state stands i head found =
-    let held = stands.at.keeps (words_with (used_after h q m.scene.past)) refl in
-    let among : is_among (without (heads_in (hidden_in state ++ state.completed)) (open_heads q m.scene.past (m.scene.heads q))) head ≡ true = ap (λ (hs : List ℕ). is_among hs head) (sym held.splits.left) ∙ among_get (heads_of state) i head found in
-    held.below head (among_filter (λ d. not (is_among (heads_in (hidden_in state ++ state.completed)) d)) (open_heads q m.scene.past (m.scene.heads q)) head among).0
-
 -- the open requests are outstanding
 pub open_few : (q : ℕ) (h : Header1) (m : Moment) (outstanding : OutstandingRequests) → Good q h m → OutstandingAt q h.size m.scene.past (m.scene.heads q) outstanding → length (open_numbers m.scene.past q) ≤ offered_in outstanding - collected_in outstanding
 open_few q h m outstanding good numbered =
@@ -245,7 +224,8 @@ start_fits q t w queue memory disk m x r r' good main at made room same = start_
     let few = open_few q w.front.header m w.front.outstanding good at.outstanding in
     let has = room starts.0 in (
       λ i head found.
-          let low : head < w.front.setup.ring.size = heads_low q w.front.header w.front.setup (one_turn w.front.header q t m).next (state_of queue) made.at.life.1.2 i head found in
+          let n : Moment = (one_turn w.front.header q t m).next in
+          let low : head < w.front.setup.ring.size = heads_low q w.front.header w.front.setup n.scene.past (n.scene.heads q) (n.lanes q).phase (hidden_part (n.lanes q).phase (n.lanes q).batch) (n.lanes q).completed (n.lanes q).made (state_of queue) i head made.at.life.1.2.at found in
           omega (arith, low, main.size, at.outstanding.places),
       omega (arith, long, few, has, same),
     ))

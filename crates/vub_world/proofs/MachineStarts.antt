@@ -1,6 +1,6 @@
 -- Where the machine stands after a life begins, after its queues are attached, and after it ends.
 use Rattle.std.proofs.Common.{◌≡◌, ◌<◌, ℕ, true, false, List, [], ◌∷◌, length, refl, ap, sym, ◌∙◌, subst, arith}
-use Rattle.std.specs.Prelude.{Vec, Bool, not, ◌&&◌, Option, Some, None, is_some, slice_get}
+use Rattle.std.specs.Prelude.{Vec, Bool, not, ◌&&◌, Option, Some, None, is_none, is_some, slice_get}
 use Rattle.std.proofs.lemmas.Option.{slice_get_within}
 use Rattle.vub_base.specs.declared.header.Header1.{Header1}
 use Rattle.vub_memdisk.specs.MemDisks.{capacity_of}
@@ -104,10 +104,18 @@ joined_on w l qs es rs m sound new joining has stands at = record {
       let made = new.each q f there.0 is there.1 in
       let none = joining_at q (parts_of q f w) m (at.queues q f is) (life_joining w.life q joining) in
       subst (λ (o : Option (Option Queue)). PartsAt q (record (parts_of q f w) { life = o }) (joined m)) (sym life)
-      (joined_at q (parts_of q f w) m there.0 (plain_header h s.header) (stands_good q h es rs m (the_low w q f sound is) s) s.header.begins (sound.parts q f is).front.base ((sound.parts q f is).front.setup.index ∙ (sound.parts q f is).index) (sound.parts q f is).front.bell none.1 none.0 made (at.queues q f is));
+      (joined_at q (parts_of q f w) m there.0 (stands_good q h es rs m (the_low w q f sound is) s) (sound.parts q f is).front.base ((sound.parts q f is).front.setup.index ∙ (sound.parts q f is).index) (sound.parts q f is).front.bell none.1 none.0 made (at.queues q f is));
 }
 
 -- ---- a life ends
+
+pub some_life : (l : Option Life) → is_none l ≡ false → is_some l ≡ true
+some_life None some = absurd (cc some)
+some_life (Some l) some = refl
+
+pub no_life : (l : Option Life) → is_none l ≡ true → is_some l ≡ false
+no_life None none = refl
+no_life (Some l) none = absurd (cc none)
 
 pub killed_sound : (w : Machine) → IsSound w → IsSound (with_life_of w None)
 killed_sound w sound = record {
