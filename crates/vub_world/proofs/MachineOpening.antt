@@ -56,13 +56,13 @@ new_sound h q memory f is new low size inflight unfailed = record {
 
 pub opens : (w : Machine) → IsHeader w.header → bytes_in w.memory ≡ opening_memory w.header → AreNewFronts w.header w.header.queues w.fronts.items → w.life ≡ None → ((s : ℕ) → s < w.header.capacity → values_of w.disk s ≡ replicate 512 0) → MachineAt w (opening w.header)
 unfolding zeros
-opens w is opening fronts life disk = record {
+opens w is bytes fronts life disk = record {
   many = fronts.many;
   queues = λ q f found.
       let new = fronts.each q f found in
       record {
         front = record {
-          memory = opening;
+          memory = bytes;
           driver = new.driver;
           asks = new.asked;
         };

@@ -1,6 +1,6 @@
 -- What a queue works on once it is started: its open requests, in order.
 use Rattle.std.proofs.Common.{◌≡◌, ◌≤◌, ◌<◌, ℕ, ◌+◌, ◌-◌, Bool, true, false, List, [], ◌∷◌, ◌++◌, length, map, refl, ap, sym, ◌∙◌, subst, arith}
-use Rattle.std.specs.Prelude.{Option, Some, None, if◌then◌else◌, not, filter, slice_get, slice_index}
+use Rattle.std.specs.Prelude.{Option, Some, None, if◌then◌else◌, slice_get, slice_index}
 use Rattle.std.proofs.lemmas.Bool.Decides.{nat_tests}
 use Rattle.std.proofs.lemmas.List.{length-map}
 use Rattle.vub_base.specs.declared.header.Header1.{Header1}
@@ -177,18 +177,10 @@ publish_never false m x s u t idle is = let fails : says.Idle ≡ says.Started =
 publish_never true m x s u t moves is = go (step_in u) (moves m refl)
   where
     go : (o : Option Step) → MovesBy o m x u t → ⊥
-    go None no = no
+    go None none = none
     go (Some step) does = step_never (seen_by u m).head (row_at u m (Some step)) step (sym does.0 ∙ is)
 
 -- ---- the numbers of a start have room
-
-filter_short : (test : ℕ → Bool) (xs : List ℕ) → length (filter test xs) ≤ length xs
-filter_short test [] = omega arith
-filter_short test (x ∷ xs) = go (test x)
-  where
-    go : (b : Bool) → length (if b then x ∷ filter test xs else filter test xs) ≤ length (x ∷ xs)
-    go true = omega (arith, filter_short test xs)
-    go false = omega (arith, filter_short test xs)
 
 -- the open requests are outstanding
 pub open_few : (q : ℕ) (h : Header1) (m : Moment) (outstanding : OutstandingRequests) → Good q h m → OutstandingAt q h.size m.scene.past (m.scene.heads q) outstanding → length (open_numbers m.scene.past q) ≤ offered_in outstanding - collected_in outstanding

@@ -1,6 +1,6 @@
 -- Where the machine stands after a life begins, after its queues are attached, and after it ends.
 use Rattle.std.proofs.Common.{◌≡◌, ◌<◌, ℕ, true, false, List, [], ◌∷◌, length, refl, ap, sym, ◌∙◌, subst, arith}
-use Rattle.std.specs.Prelude.{Vec, Bool, not, ◌&&◌, Option, Some, None, is_none, is_some, slice_get}
+use Rattle.std.specs.Prelude.{Vec, Bool, not, ◌&&◌, Option, Some, None, is_some, slice_get}
 use Rattle.std.proofs.lemmas.Option.{slice_get_within}
 use Rattle.vub_base.specs.declared.header.Header1.{Header1}
 use Rattle.vub_memdisk.specs.MemDisks.{capacity_of}
@@ -108,14 +108,6 @@ joined_on w l qs es rs m sound new joining has stands at = record {
 }
 
 -- ---- a life ends
-
-pub some_life : (l : Option Life) → is_none l ≡ false → is_some l ≡ true
-some_life None some = absurd (cc some)
-some_life (Some l) some = refl
-
-pub no_life : (l : Option Life) → is_none l ≡ true → is_some l ≡ false
-no_life None none = refl
-no_life (Some l) none = absurd (cc none)
 
 pub killed_sound : (w : Machine) → IsSound w → IsSound (with_life_of w None)
 killed_sound w sound = record {

@@ -374,7 +374,7 @@ start_made q h setup m outstanding cap sizes d now x a ready does =
       stands = s.stands;
       values = some_is now.values d.values does.values_are;
       told = row_now d now x (start_row d.queue) m.scene.memory a.at.memory_is (start_stores_row (Some d.memory) (Some now.memory) x d.queue does.stores_are) (start_trails_row (Some d.memory) (Some d.stores) (Some now.stores) x d.queue does.trails);
-      starts = λ is. (stopped, start_resumes q h setup m outstanding x (start_row d.queue m.scene.memory) 0 [] now.queue a.good a.numbered quiet.1.0 quiet.0 (s.says 0) s.stands is);
+      starts = λ is. (stopped, start_resumes q h setup m outstanding x (start_row d.queue m.scene.memory) 0 [] now.queue a.good a.numbered quiet.1.0 (a.good.holds.carries.quiet new) (s.says 0) s.stands is);
     }) (λ e. start_never (rings_next d.queue) (answer_in d.queue.recovery m.scene.memory) (sym (starts m.scene.memory refl).0 ∙ e)) (s.says (slice_index (m.scene.heads q) (accepted m.scene.past q)))
 
 pub fetch_made : (q : ℕ) (h : Header1) (setup : QueueSetup) (m : Moment) (outstanding : OutstandingRequests) (cap : ℕ) (sizes : ℕ → ℕ) (d now : Device) (x : Stepped) → TurnAt q h setup m outstanding d → is_ready (standing h q m) turns.Fetch ≡ true → DeviceDoes turns.Fetch cap sizes d now x
