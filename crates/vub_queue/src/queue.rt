@@ -218,7 +218,7 @@ impl Queue {
     ghost use Rattle.vub_shared.specs.Frames.{OnlyLoads, KeepsSpaces};
     ghost use Rattle.vub_task.specs.declared.task.Task.{Task};
     ghost use Rattle.vub_task.specs.TaskState as TaskState;
-    ghost use Rattle.vub_task.specs.TaskState.{Making, IfMade, IfFaulted, GainsOne, memory_outcome};
+    ghost use Rattle.vub_task.specs.TaskState.{head_in, Making, IfMade, IfFaulted, GainsOne, memory_outcome};
     ghost use Rattle.vub_steps.specs.Readiness.{is_ready, chosen};
     ghost use Rattle.vub_steps.specs.declared.readiness.Turn.{Turn};
     ghost use Rattle.vub_steps.specs.declared.readiness.Turn.TheVariants.{Fetch, Work};
@@ -304,6 +304,16 @@ impl Queue {
     {
         match self.batch().get(place) {
             Some(completed) => Some(completed.head),
+            None => None,
+        }
+    }
+
+    /// The heads of the requests that are open and not completed, in order.
+    pub fn open_head(&self, place: usize) -> Option<u16>
+        ensures { result ≡ slice_get (map head_in (state_of self.now).unfinished) place }
+    {
+        match self.unfinished.get(place) {
+            Some(task) => Some(task.head()),
             None => None,
         }
     }

@@ -2,14 +2,15 @@
 use Rattle.std.specs.Prelude.{◌≡◌, ◌≤◌, ◌+◌, ◌*◌, ℕ, zero, suc, min, List}
 use Rattle.vub_report.specs.declared.items.Item.{Item}
 
--- the items so far, how many more fit, how many lists of bytes and of answers are left, and for how many answers each
--- of the latter has room
+-- the items so far, how many more fit, how many lists of bytes and of answers are left, for how many answers each of the
+-- latter has room, and for how many numbers the list of a start has
 pub record RoomState : Type 0 where
   pub items : List Item
   pub item_room : ℕ
   pub lists : ℕ
   pub answer_lists : ℕ
   pub answers : ℕ
+  pub numbers : ℕ
 
 -- there is room for the items of one turn, which shows at most so many answers
 pub record HasTurnRoom (shown : ℕ) (r : RoomState) : Type 0 where
@@ -24,6 +25,7 @@ pub record Spends (items lists : ℕ) (r now : RoomState) : Type 0 where
   pub lists_left : now.lists + lists ≡ r.lists
   pub answer_lists : now.answer_lists ≡ r.answer_lists
   pub answers : now.answers ≡ r.answers
+  pub numbers : now.numbers ≡ r.numbers
 
 -- at most so many lists, and nothing is noted
 pub record SpendsLists (lists : ℕ) (r now : RoomState) : Type 0 where
@@ -32,6 +34,7 @@ pub record SpendsLists (lists : ℕ) (r now : RoomState) : Type 0 where
   pub lists_left : r.lists ≤ now.lists + lists
   pub answer_lists : now.answer_lists ≡ r.answer_lists
   pub answers : now.answers ≡ r.answers
+  pub numbers : now.numbers ≡ r.numbers
 
 -- the lists of so many answers, and one list of answers
 pub record SpendsAnswers (count : ℕ) (r now : RoomState) : Type 0 where
@@ -40,6 +43,7 @@ pub record SpendsAnswers (count : ℕ) (r now : RoomState) : Type 0 where
   pub lists_left : r.lists ≤ now.lists + count
   pub answer_lists : now.answer_lists + 1 ≡ r.answer_lists
   pub answers : now.answers ≡ r.answers
+  pub numbers : now.numbers ≡ r.numbers
 
 -- the same where some answers are shown, and else nothing
 abbrev pub SpendsUpTo : ℕ → RoomState → RoomState → Type 0

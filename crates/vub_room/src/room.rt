@@ -4,6 +4,7 @@ ghost use Rattle.std.specs.Prelude.{◌≡◌, ◌<◌, ◌≤◌, ◌+◌, ◌-
 use crate::spare::{MOST_LISTS, Spare};
 use std::alloc::Global;
 use std::marker::Model;
+use std::mem;
 use vub_base::standard::SECTOR_SIZE;
 use vub_base::{Bytes, Memory};
 use vub_device::Answered;
@@ -12,8 +13,8 @@ use vub_report::{Item, Items};
 /// The most turns that a request takes from its offer to the end of its publication.
 const TURNS_OF_REQUEST: u64 = 27;
 
-/// Items so far, with room for so many more, for so many lists of bytes of eight sectors, and for so
-/// many lists of answers.
+/// Items so far, with room for so many more, for so many lists of bytes of eight sectors, for so many
+/// lists of answers, and for a list of numbers.
 #[derive(Drop)]
 pub struct Room {
     alloc: Global,
@@ -25,6 +26,9 @@ pub struct Room {
     // Each empty, with room for so many answers.
     answer_lists: Vec<Vec<Answered>>,
     answers: usize,
+    // Empty, with room for so many numbers.
+    numbers: Vec<u64>,
+    number_room: usize,
 }
 
 impl Model for Room {
@@ -33,9 +37,9 @@ impl Model for Room {
 
     ghost Value = { RoomState };
 
-    ghost view = { λ r. record { items = r.items.items; item_room = r.item_room; lists = r.list_room; answer_lists = length r.answer_lists.items; answers = r.answers } };
+    ghost view = { λ r. record { items = r.items.items; item_room = r.item_room; lists = r.list_room; answer_lists = length r.answer_lists.items; answers = r.answers; numbers = r.number_room } };
 
-    ghost invariant = { λ r. (vec_len r.items + r.item_room ≤ vec_capacity r.items) × (r.list_room ≤ length r.lists.items) × (length r.lists.items ≤ 1863) × All (λ l. (l.items ≡ []) × (4096 ≤ vec_capacity l)) r.lists.items × All (λ l. (l.items ≡ []) × (r.answers ≤ vec_capacity l)) r.answer_lists.items };
+    ghost invariant = { λ r. (vec_len r.items + r.item_room ≤ vec_capacity r.items) × (r.list_room ≤ length r.lists.items) × (length r.lists.items ≤ 1863) × All (λ l. (l.items ≡ []) × (4096 ≤ vec_capacity l)) r.lists.items × All (λ l. (l.items ≡ []) × (r.answers ≤ vec_capacity l)) r.answer_lists.items × (r.numbers.items ≡ []) × (r.number_room ≤ vec_capacity r.numbers) };
 }
 
 /// So many lists of answers, each with room for so many.
@@ -67,8 +71,8 @@ fn add_answer_list(
 impl Room {
     ghost use Rattle.vub_room.specs.Rooms.{HasRoom};
 
-    /// Room for so many items, lists of bytes, at most `MOST_LISTS` of them, and lists of so many
-    /// answers. It takes what is spare.
+    /// Room for so many items, lists of bytes, at most `MOST_LISTS` of them, lists of so many answers,
+    /// and a list of so many numbers. It takes what is spare.
     pub fn new(
         alloc: Global,
         spare: &mut Spare,
@@ -76,9 +80,10 @@ impl Room {
         lists: usize,
         answer_lists: usize,
         answers: usize,
+        numbers: usize,
     ) -> Result<Room, Memory>
         requires { lists ≤ MOST_LISTS }
-        ensures { IfOk result (λ r. r ≡ record { items = []; item_room = items; lists = lists; answer_lists = answer_lists; answers = answers }) }
+        ensures { IfOk result (λ r. r ≡ record { items = []; item_room = items; lists = lists; answer_lists = answer_lists; answers = answers; numbers = numbers }) }
     {
         Ok(Room {
             alloc,
@@ -88,12 +93,14 @@ impl Room {
             list_room: lists,
             answer_lists: self::answer_lists(alloc, answer_lists, answers)?,
             answers,
+            numbers: Vec::with_capacity(alloc, numbers).map_err(|_| Memory)?,
+            number_room: numbers,
         })
     }
 
     /// Room for so many items that have no bytes.
     pub fn of_items(alloc: Global, items: usize) -> Result<Room, Memory>
-        ensures { IfOk result (λ r. r ≡ record { items = []; item_room = items; lists = 0; answer_lists = 0; answers = 0 }) }
+        ensures { IfOk result (λ r. r ≡ record { items = []; item_room = items; lists = 0; answer_lists = 0; answers = 0; numbers = 0 }) }
     {
         Ok(Room {
             alloc,
@@ -103,12 +110,15 @@ impl Room {
             list_room: 0,
             answer_lists: Vec::new(alloc),
             answers: 0,
+            numbers: Vec::new(alloc),
+            number_room: 0,
         })
     }
 
     /// Room for the items of so many turns, or of all that can follow one another where so many
     /// requests are offered and not collected: at most 27 for each of these, and so many besides. A turn
-    /// has two items at most and one list of bytes; each answer takes a list more.
+    /// has two items at most and one list of bytes; each answer takes a list more. One of them can start
+    /// the queue, and lists the open ones of these.
     pub fn for_turns(
         alloc: Global,
         spare: &mut Spare,
@@ -120,6 +130,7 @@ impl Room {
         requires few_besides { besides ≤ 71 }
         ensures empty { IfOk result (λ r. r.items ≡ []) }
         ensures room { IfOk result (HasRoom (min turns (27 * undone + besides)) undone) }
+        ensures numbers { IfOk result (λ r. undone ≤ r.numbers) }
     {
         let turns = turns.min(TURNS_OF_REQUEST * undone + besides) as usize;
         let undone = undone as usize;
@@ -130,6 +141,7 @@ impl Room {
             2 * turns,
             turns + undone,
             answer_lists,
+            undone,
             undone,
         )
     }
@@ -189,6 +201,16 @@ impl Room {
             Some(list) => list,
             None => unreachable!(),
         }
+    }
+
+    /// The list of numbers, which is empty. There is room for no further one.
+    pub fn numbers(&mut self) -> Vec<u64>
+        ensures empty { result.items ≡ [] }
+        ensures room { self.old.numbers ≤ vec_capacity result }
+        ensures spent { self.new ≡ record self.old { numbers = 0 } }
+    {
+        self.number_room = 0;
+        mem::replace(&mut self.numbers, Vec::new(self.alloc))
     }
 
     /// Notes an item. Takes no memory.

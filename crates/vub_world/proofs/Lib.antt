@@ -15,6 +15,7 @@ pub mod MachineLoops
 pub mod MachineNotes
 pub mod MachineOpening
 pub mod MachineParts
+pub mod MachineResumes
 pub mod MachineRooms
 pub mod MachineStarts
 pub mod MachineTurnEvents

@@ -73,6 +73,7 @@ serves_all w (events.Fetch q) es rs m k r sound fits at stands next plays = tt
 serves_all w (events.Work q place) es rs m k r sound fits at stands next plays = tt
 serves_all w (events.Publish q most) es rs m k r sound fits at stands next plays = tt
 serves_all w (events.Turn q n) es rs m k r sound fits at stands next plays = tt
+serves_all w events.Kill es rs m k r sound fits at stands next plays = tt
 
 pub stands_on : (w now : Machine) (e : Event) (r : Record) (spare : ⊤) → IsSound w → IsEvent w.header e → now.header ≡ w.header → r.event ≡ e → Performs w now e r.items → StandsOn w (with_record r spare now) e r
 stands_on w now e r spare sound fits same is goes es rs stood =

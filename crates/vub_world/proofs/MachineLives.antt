@@ -1,11 +1,14 @@
--- Where the machine stands after a life begins, and after its queues are attached.
-use Rattle.std.proofs.Common.{◌≡◌, ◌≤◌, ℕ, true, false, List, [], map, refl, ap, sym, ◌∙◌, subst, arith}
+-- Where the machine stands after a life begins, after its queues are attached, and after it ends.
+use Rattle.std.proofs.Common.{◌≡◌, ◌≤◌, ℕ, true, false, List, [], ◌∷◌, map, refl, ap, sym, ◌∙◌, subst, arith}
 use Rattle.std.specs.Prelude.{Bool, not, ◌&&◌, Option, Some, None}
 use Rattle.vub_base.specs.declared.header.Header1.{Header1}
 use Rattle.vub_steps.specs.declared.steps.Phase.{Phase}
 use Rattle.vub_steps.specs.declared.steps.Phase.TheVariants as phases
 use Rattle.vub_device.specs.declared.entry.Entry.{Entry}
+use Rattle.vub_device.specs.declared.entry.Entry.TheVariants as entries
 use Rattle.vub_device.specs.Past.{accepted, started}
+use Rattle.vub_report.specs.declared.items.Item.TheVariants as items
+use Rattle.vub_run.specs.Memory.{after_items}
 use Rattle.vub_world.specs.Fronts.{Parts}
 use Rattle.vub_queue.specs.declared.queue.Queue.{Queue}
 use Rattle.vub_queue.specs.declared.queue.QueueSetup.{QueueSetup}
@@ -14,7 +17,7 @@ use Rattle.vub_run.specs.Moments.{Lane, Moment, fresh, attached, region_in}
 use Rattle.vub_queue.specs.QueueFacts.{hidden_part}
 use Rattle.vub_queue_in_run.specs.QueueAt.{QueueAt, PhaseAt, IsNewQueue, spot_of}
 use Rattle.vub_queue.specs.QueueState.{QueueState, state_of}
-use Rattle.vub_run.specs.Run.{played, if_ready, boot, join}
+use Rattle.vub_run.specs.Run.{played, if_ready, boot, join, ended, kill}
 use Rattle.vub_queue_in_run.proofs.QueueAtMoves.{at_new}
 use Rattle.vub_run_laws.proofs.RunGood.{IsLow}
 use Rattle.vub_run_laws.proofs.RunTurns.{IsPlain, Good}
@@ -58,22 +61,19 @@ join_plays m lives new = sym (
 pub joining_at : (q : ℕ) (w : Parts) (m : Moment) → PartsAt q w m → w.life ≡ Some None → (m.lives ≡ true) × AttachedAt q w.front.header w.front.setup m None
 joining_at q w m at new = subst (λ (l : Option (Option Queue)). LifeAt q w.front.header w.front.setup m l) new at.life
 
-pub joined_at : (q : ℕ) (w : Parts) (m : Moment) (queue : Queue) → IsPlain w.front.header → Good q w.front.header m → w.front.header.base ≡ 0 → w.front.setup.base ≡ w.front.header.base → w.front.setup.index ≡ q → w.front.setup.bell ≡ true → AttachedAt q w.front.header w.front.setup m None → m.lives ≡ true → IsNewQueue w.front.setup queue → PartsAt q w m
+pub joined_at : (q : ℕ) (w : Parts) (m : Moment) (queue : Queue) → Good q w.front.header m → w.front.setup.base ≡ w.front.header.base → w.front.setup.index ≡ q → w.front.setup.bell ≡ true → AttachedAt q w.front.header w.front.setup m None → m.lives ≡ true → IsNewQueue w.front.setup queue → PartsAt q w m
     → PartsAt q (with_life (Some queue) w) (joined m)
-joined_at q w m queue plain good base same index bell new lives made at =
+joined_at q w m queue good same index bell new lives made at =
     let l : Lane = m.lanes q in
     let h : Header1 = w.front.header in
     let setup : QueueSetup = w.front.setup in
     let past : List Entry = m.scene.past in
     let heads : List ℕ = m.scene.heads q in
     let quiet = good.holds.worked.quiet new.2 in
-    let none : accepted past q ≡ 0 = good.idle new.2 in
-    let begins : QueueAt q h setup past heads phases.Rest [] [] l.made (state_of queue) =
-    at_new q h setup past heads l.made (state_of queue) (omega (arith, base)) good.holds.known.fewer none new.2 same made.state in
+    let begins : QueueAt q h setup past heads phases.Rest [] [] l.made (state_of queue) = at_new q h setup past heads l.made (state_of queue) new.2 quiet.1.1 made.state in
     let at_rest : QueueAt q h setup past heads l.phase (hidden_part l.phase l.batch) l.completed l.made (state_of queue) =
     subst (λ (p : Phase). QueueAt q h setup past heads p (hidden_part p l.batch) l.completed l.made (state_of queue)) (sym new.3)
     (subst (λ (cs : List ℕ). QueueAt q h setup past heads phases.Rest [] cs l.made (state_of queue)) (sym quiet.1.0) begins) in
-    let low : l.counter ≤ accepted past q = subst (λ (p : Phase). IsLow (accepted past q) l.counter p) new.3 good.holds.carries.low in
     let phase : PhaseAt q h setup past heads true l.plan l.counter l.batch l.phase (region_in h q m.scene) (state_of queue) =
     subst (λ (p : Phase). PhaseAt q h setup past heads true l.plan l.counter l.batch p (region_in h q m.scene) (state_of queue)) (sym new.3)
     (subst (λ (s : QueueState). PhaseAt q h setup past heads true l.plan l.counter l.batch phases.Rest (region_in h q m.scene) s) (sym made.state.is) (record {
@@ -83,7 +83,7 @@ joined_at q w m queue plain good base same index bell new lives made at =
       region = refl;
       base = same;
       begun = λ stopped. (record { no_plan = refl; none_done = refl; none_cleared = refl }, refl);
-      counter = omega (arith, low, none);
+      counter = λ run. absurd (let fails : true ≡ false = sym run ∙ new.2 in cc);
       fetching = refl;
       batch = ap (λ (ks : List ℕ). map (spot_of q h past heads) ks) (sym (good.holds.carries.quiet new.2));
     })) in record {
@@ -93,3 +93,24 @@ joined_at q w m queue plain good base same index bell new lives made at =
       disk = at.disk;
       outstanding = at.outstanding;
     }
+
+-- ---- a life ends
+
+abbrev pub killed : Header1 → Moment → Moment
+killed h m = ended (record m { scene = after_items h (items.Made entries.Kill ∷ []) m.scene })
+
+pub kill_plays : (h : Header1) (m : Moment) → m.lives ≡ true → played (items.Made entries.Kill ∷ []) (killed h m) ≡ kill h m
+kill_plays h m lives = sym (ap (λ (b : Bool). if_ready b (played (items.Made entries.Kill ∷ []) (killed h m)) m) lives)
+
+pub kill_idle : (h : Header1) (m : Moment) → m.lives ≡ false → played (items.Idle ∷ []) m ≡ kill h m
+kill_idle h m asleep = sym (ap (λ (b : Bool). if_ready b (played (items.Made entries.Kill ∷ []) (killed h m)) m) asleep)
+
+-- memory, driver and disk are as they were
+pub killed_at : (q : ℕ) (h : Header1) (w : Parts) (m : Moment) → PartsAt q w m → PartsAt q (record w { life = None }) (killed h m)
+killed_at q h w m at = record {
+  front = record { memory = at.front.memory; driver = at.front.driver; asks = at.front.asks };
+  position = at.position;
+  life = refl;
+  disk = at.disk;
+  outstanding = record { offers_are = at.outstanding.offers_are; collects_are = at.outstanding.collects_are; places = at.outstanding.places; slots = at.outstanding.slots };
+}

@@ -99,6 +99,24 @@ answers_more q outstanding m batch i x at =
     let more : take (i + 1) batch ≡ take i batch ++ x ∷ [] = take_more batch i x within ∙ ap (λ (y : ℕ × ℕ). take i batch ++ y ∷ []) is in
     ap (map f) more ∙ map-append f (take i batch) (x ∷ [])
 
+-- ---- the numbers of a start
+
+pub numbers_more : (f : ℕ → ℕ) (heads : List ℕ) (i head : ℕ) → slice_get heads i ≡ Some head → map f (take (i + 1) heads) ≡ map f (take i heads) ++ f head ∷ []
+numbers_more f heads i head at =
+    let within : i < length heads = slice_get_within heads i head at in
+    let is : get_or heads i head ≡ head = get_or_from_slice_get heads i head head at in
+    let more : take (i + 1) heads ≡ take i heads ++ head ∷ [] = take_more heads i head within ∙ ap (λ (d : ℕ). take i heads ++ d ∷ []) is in
+    ap (map f) more ∙ map-append f (take i heads) (head ∷ [])
+
+-- behind the last head they are all
+pub take_past : (heads : List ℕ) (i : ℕ) → slice_get heads i ≡ None → take i heads ≡ heads
+take_past [] zero none = refl
+take_past [] (suc i) none = refl
+take_past (d ∷ heads) zero none = absurd (cc none)
+take_past (d ∷ heads) (suc i) none = ap (λ (l : List ℕ). d ∷ l) (take_past heads i none)
+
+-- ---- what is spent
+
 -- one answer more
 pub spends_more : (count : ℕ) (r s t : RoomState) → SpendsAnswers count r s → SpendsLists 1 s t → SpendsAnswers (count + 1) r t
 spends_more count r s t so one = record {
@@ -107,6 +125,7 @@ spends_more count r s t so one = record {
   lists_left = omega (arith, so.lists_left, one.lists_left);
   answer_lists = ap (λ (k : ℕ). k + 1) one.answer_lists ∙ so.answer_lists;
   answers = one.answers ∙ so.answers;
+  numbers = one.numbers ∙ so.numbers;
 }
 
 -- what the next step shows

@@ -31,30 +31,6 @@ use Rattle.vub_world.specs.MachineAt.{MachineAt, LifeAt}
 use Rattle.vub_run.specs.Memory.{opening_memory, opened, with_indexes}
 use Rattle.vub_run.specs.Moments.{opening, region_of}
 
--- ---- the memory of a world in which nothing has happened
-
--- two zero bytes
-zero_byte : (d : ℕ) → slice_index (little_bytes 2 0) d ≡ 0
-zero_byte zero = refl
-zero_byte (suc zero) = refl
-zero_byte (suc (suc d)) = refl
-
-either : (b : Bool) (x y : ℕ) → x ≡ 0 → y ≡ 0 → (if b then x else y) ≡ 0
-either true x y ex ey = ex
-either false x y ex ey = ey
-
--- storing them changes nothing in zero bytes
-put_zero : (m : Bytes) (space place : ℕ) → ((s p : ℕ) → m s p ≡ 0) → (s p : ℕ) → put m space place (little_bytes 2 0) s p ≡ 0
-unfolding put
-put_zero m space place none s p = either (((s == space) && (nat_le place p)) && nat_lt p (place + length (little_bytes 2 0))) (slice_index (little_bytes 2 0) (p - place)) (m s p) (zero_byte (p - place)) (none s p)
-
-indexes_zero : (r : Ring) (base : ℕ) (m : Bytes) → base ≡ 0 → ((s p : ℕ) → m s p ≡ 0) → (s p : ℕ) → with_indexes r base m s p ≡ 0
-indexes_zero r base m begins none s p =
-    ap (λ (b : ℕ). with_indexes r b m s p) begins ∙ put_zero (put m r.space (r.avail + 2) (little_bytes 2 0)) r.space (r.used + 2) (put_zero m r.space (r.avail + 2) none) s p
-
-pub opening_zero : (h : Header1) → IsHeader h → (s p : ℕ) → opening_memory h s p ≡ 0
-opening_zero h is s p = ap (λ (k : ℕ). opened h k s p) is.one ∙ indexes_zero (ring_of 0 h.size) h.base (λ (t k : ℕ). 0) is.begins (λ (t k : ℕ). refl) s p
-
 -- ---- the world itself
 
 -- the part of each queue lies in a space that has room for all of them
@@ -78,15 +54,15 @@ new_sound h q memory f is new low size inflight unfailed = record {
   unfailed = unfailed;
 }
 
-pub opens : (w : Machine) → IsHeader w.header → ((s p : ℕ) → bytes_in w.memory s p ≡ 0) → AreNewFronts w.header w.header.queues w.fronts.items → w.life ≡ None → ((s : ℕ) → s < w.header.capacity → values_of w.disk s ≡ replicate 512 0) → MachineAt w (opening w.header)
+pub opens : (w : Machine) → IsHeader w.header → bytes_in w.memory ≡ opening_memory w.header → AreNewFronts w.header w.header.queues w.fronts.items → w.life ≡ None → ((s : ℕ) → s < w.header.capacity → values_of w.disk s ≡ replicate 512 0) → MachineAt w (opening w.header)
 unfolding zeros
-opens w is none fronts life disk = record {
+opens w is bytes fronts life disk = record {
   many = fronts.many;
   queues = λ q f found.
       let new = fronts.each q f found in
       record {
         front = record {
-          memory = fun_ext (λ s. fun_ext (λ p. none s p ∙ sym (opening_zero w.header is s p)));
+          memory = bytes;
           driver = new.driver;
           asks = new.asked;
         };

@@ -1,4 +1,4 @@
--- Where the machine stands after a life begins, and after its queues are attached.
+-- Where the machine stands after a life begins, after its queues are attached, and after it ends.
 use Rattle.std.proofs.Common.{◌≡◌, ◌<◌, ℕ, true, false, List, [], ◌∷◌, length, refl, ap, sym, ◌∙◌, subst, arith}
 use Rattle.std.specs.Prelude.{Vec, Bool, not, ◌&&◌, Option, Some, None, is_some, slice_get}
 use Rattle.std.proofs.lemmas.Option.{slice_get_within}
@@ -22,7 +22,7 @@ use Rattle.vub_world.specs.Machine.{IsSound, AreAttached, AreInLife}
 use Rattle.vub_world.specs.MachineAt.{LifeAt, MachineAt, PartsAt, is_attached}
 use Rattle.vub_world.specs.MachineDevice.{is_joining}
 use Rattle.vub_world.proofs.MachineLemmas.{sound_lies}
-use Rattle.vub_world.proofs.MachineLives.{booted, booted_at, asleep_at, joined, joined_at, joining_at}
+use Rattle.vub_world.proofs.MachineLives.{booted, booted_at, asleep_at, joined, joined_at, joining_at, killed, killed_at}
 use Rattle.vub_queue.specs.declared.queue.QueueSetup.{QueueSetup}
 use Rattle.vub_world.proofs.MachineTurnsAt.{has_no_queue, none_attached}
 use Rattle.vub_world.proofs.MachineParts.{found_there, the_low, first_front, life_none, life_joining, with_life_of}
@@ -104,8 +104,25 @@ joined_on w l qs es rs m sound new joining has stands at = record {
       let made = new.each q f there.0 is there.1 in
       let none = joining_at q (parts_of q f w) m (at.queues q f is) (life_joining w.life q joining) in
       subst (λ (o : Option (Option Queue)). PartsAt q (record (parts_of q f w) { life = o }) (joined m)) (sym life)
-      (joined_at q (parts_of q f w) m there.0 (plain_header h s.header) (stands_good q h es rs m (the_low w q f sound is) s) s.header.begins (sound.parts q f is).front.base ((sound.parts q f is).front.setup.index ∙ (sound.parts q f is).index) (sound.parts q f is).front.bell none.1 none.0 made (at.queues q f is));
+      (joined_at q (parts_of q f w) m there.0 (stands_good q h es rs m (the_low w q f sound is) s) (sound.parts q f is).front.base ((sound.parts q f is).front.setup.index ∙ (sound.parts q f is).index) (sound.parts q f is).front.bell none.1 none.0 made (at.queues q f is));
 }
+
+-- ---- a life ends
+
+pub killed_sound : (w : Machine) → IsSound w → IsSound (with_life_of w None)
+killed_sound w sound = record {
+  header = sound.header;
+  many = sound.many;
+  attached = tt;
+  disk = sound.disk;
+  headers = sound.headers;
+  parts = λ q f is.
+      let old = sound.parts q f is in
+      record { index = old.index; front = old.front; queue = tt; disk = old.disk; lies = tt };
+}
+
+pub killed_on : (w : Machine) (m : Moment) → MachineAt w m → MachineAt (with_life_of w None) (killed w.header m)
+killed_on w m at = record { many = at.many; queues = λ q f is. killed_at q w.header (parts_of q f w) m (at.queues q f is) }
 
 -- ---- where they aren't ready
 

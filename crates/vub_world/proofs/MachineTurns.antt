@@ -33,7 +33,7 @@ use Rattle.vub_device.specs.declared.entry.Asked.{Asked}
 use Rattle.vub_device.specs.declared.entry.Asked.TheVariants as asks
 use Rattle.vub_device.specs.declared.entry.Entry.{Entry}
 use Rattle.vub_device.specs.declared.entry.Entry.TheVariants as entries
-use Rattle.vub_device.specs.Past.{asked, accepted, published, collected, is_among}
+use Rattle.vub_device.specs.Past.{asked, accepted, published, collected, is_among, open_numbers, started}
 use Rattle.vub_device.proofs.Numbers.{is_among_append}
 use Rattle.vub_world.specs.declared.outstanding.OutstandingRequests.{OutstandingRequests}
 use Rattle.vub_world.specs.declared.outstanding.OutstandingRequest.{OutstandingRequest}
@@ -45,7 +45,7 @@ use Rattle.vub_queue.specs.declared.queue.QueueSetup.{QueueSetup}
 use Rattle.vub_task.specs.declared.task.Task.{Task}
 use Rattle.vub_world.specs.OutstandingRequests.{slot_in}
 use Rattle.vub_world.specs.MachineAt.{OutstandingAt, reads_of}
-use Rattle.vub_world.specs.MachineDevice.{Device, DeviceAt, TurnMade, IsMade, StoreFits, SectorFits, HeadFits, answer_for, answers_for, noted, stored_items, shown_of, is_index, accepts, number_at}
+use Rattle.vub_world.specs.MachineDevice.{Device, DeviceAt, TurnMade, IsMade, StoreFits, SectorFits, HeadFits, answer_for, answers_for, noted, stored_items, shown_of, is_index, accepts, number_at, numbers_of}
 use Rattle.vub_world.specs.MachineFront.{area_of, IsSmall, OneSmall}
 use Rattle.vub_run.specs.Memory.{Scene, space_of, after_items}
 use Rattle.vub_run.specs.Moments.{Lane, Moment, region_of, standing}
@@ -73,6 +73,7 @@ use Rattle.vub_queue_in_run.proofs.QueueAtPublications.{publish_stands}
 use Rattle.vub_queue_in_run.proofs.QueueAtSteps.{hides}
 use Rattle.vub_queue_in_run.proofs.TurnSays.{RowFits, row_item, after_stored, ShowsRow, StoresRow, StoresNone, TurnSays, Notes, Accepts, Publishes, Rings, Starts}
 use Rattle.vub_queue_in_run.proofs.WorkAtItems.{IsNoWork, turn_disk}
+use Rattle.vub_world.proofs.MachineResumes.{start_resumes, publish_never}
 
 -- ---- what a turn is given, and what it does
 
@@ -248,6 +249,7 @@ record PhaseTurn (q : ℕ) (h : Header1) (setup : QueueSetup) (m : Moment) (outs
   pub stands : QueueStands q h setup (one_turn h q t m).next now.queue
   pub values : now.values ≡ d.values
   pub told : RowTold d now x row
+  pub starts : x ≡ says.Started → (d.queue.started ≡ false) × (numbers_of outstanding now.queue ≡ open_numbers m.scene.past q)
 
 -- nothing is accepted
 none_taken : (a b : ℕ) → b ≡ a → 0 + a ≡ b
@@ -255,7 +257,7 @@ none_taken a b same = omega (arith, same)
 
 -- where the queue says this, with these items
 made_as : (q : ℕ) (h : Header1) (setup : QueueSetup) (m : Moment) (outstanding : OutstandingRequests) (t : Turn) (d now : Device) (x what : Stepped) (row : Option Row) (list : List Item) → PhaseTurn q h setup m outstanding t d now x row → x ≡ what → (turned h q t m).items ≡ list → is_idle what ≡ false → IsMade what
-    → list ≡ noted q outstanding now.values now.stores (shown_of q outstanding d.memory d.queue) what → StoreFits what now.stores → SectorFits h.capacity what → HeadFits h.size what → now.memory ≡ (after_items h list m.scene).memory → accepts what + accepted m.scene.past q ≡ accepted (after_items h list m.scene).past q
+    → list ≡ noted q outstanding now.values now.stores (shown_of q outstanding d.memory d.queue) (numbers_of outstanding now.queue) what → StoreFits what now.stores → SectorFits h.capacity what → HeadFits h.size what → now.memory ≡ (after_items h list m.scene).memory → accepts what + accepted m.scene.past q ≡ accepted (after_items h list m.scene).past q
     → TurnMade q h setup m t outstanding d now x
 made_as q h setup m outstanding t d now x what row list p said made goes fine notes store sector head memory takes = record {
   goes = ap is_idle said ∙ goes;
@@ -265,10 +267,11 @@ made_as q h setup m outstanding t d now x what row list p said made goes fine no
     memory_is = memory ∙ sym (ap (λ (is : List Item). (after_items h is m.scene).memory) made);
     disk = disk_same h.capacity (one_turn h q t m).next.scene.past d.values now.values p.values (turn_disk q h m t d.values p.none p.given.at.disk);
   };
-  items_are = made ∙ notes ∙ sym (ap (noted q outstanding now.values now.stores (shown_of q outstanding d.memory d.queue)) said);
+  items_are = made ∙ notes ∙ sym (ap (noted q outstanding now.values now.stores (shown_of q outstanding d.memory d.queue) (numbers_of outstanding now.queue)) said);
   store = subst (λ (z : Stepped). StoreFits z now.stores) (sym said) store;
   sector = subst (λ (z : Stepped). SectorFits h.capacity z) (sym said) sector;
   head = subst (λ (z : Stepped). HeadFits h.size z) (sym said) head;
+  starts = p.starts;
   taken = ap (λ (z : Stepped). accepts z + accepted m.scene.past q) said ∙ takes ∙ sym (ap (λ (is : List Item). accepted (after_items h is m.scene).past q) made);
 }
 
@@ -281,7 +284,7 @@ notes_made q h setup m outstanding t d now x row y p s =
 
 -- nothing but the bell, or the end of a start
 none_made : (q : ℕ) (h : Header1) (setup : QueueSetup) (m : Moment) (outstanding : OutstandingRequests) (t : Turn) (d now : Device) (x what : Stepped) (row : Option Row) (item : Item) → PhaseTurn q h setup m outstanding t d now x row → StoresNone q h m t x what row item → is_idle what ≡ false → IsMade what
-    → item ∷ [] ≡ noted q outstanding now.values now.stores (shown_of q outstanding d.memory d.queue) what → StoreFits what now.stores → SectorFits h.capacity what → HeadFits h.size what → (after_items h (item ∷ []) m.scene).memory ≡ m.scene.memory
+    → item ∷ [] ≡ noted q outstanding now.values now.stores (shown_of q outstanding d.memory d.queue) (numbers_of outstanding now.queue) what → StoreFits what now.stores → SectorFits h.capacity what → HeadFits h.size what → (after_items h (item ∷ []) m.scene).memory ≡ m.scene.memory
     → accepts what + accepted m.scene.past q ≡ accepted (after_items h (item ∷ []) m.scene).past q → TurnMade q h setup m t outstanding d now x
 none_made q h setup m outstanding t d now x what row item p s goes fine notes store sector head memory takes =
     let kept : states.StoresRow (Some d.memory) (Some now.memory) x None = subst (λ (z : Option Row). states.StoresRow (Some d.memory) (Some now.memory) x z) s.is_row p.told.stores in
@@ -338,7 +341,7 @@ phase_made q h setup m outstanding t d now x row batch p shows (Notes y s) = not
 phase_made q h setup m outstanding t d now x row batch p shows (Accepts y tag s) = accepts_made q h setup m outstanding t d now x row y p tag s
 phase_made q h setup m outstanding t d now x row batch p shows (Publishes y w s) = shows_made q h setup m outstanding t d now x row y batch p w s (shows s.said)
 phase_made q h setup m outstanding t d now x row batch p shows (Rings s) = none_made q h setup m outstanding t d now x says.Belled row (items.Bell q) p s refl tt refl tt tt tt refl (none_taken (accepted m.scene.past q) (accepted m.scene.past q) refl)
-phase_made q h setup m outstanding t d now x row batch p shows (Starts s) = none_made q h setup m outstanding t d now x says.Started row (items.Made (entries.Start q [])) p s refl tt refl tt tt tt refl (none_taken (accepted m.scene.past q) (accepted m.scene.past q) refl)
+phase_made q h setup m outstanding t d now x row batch p shows (Starts s) = none_made q h setup m outstanding t d now x says.Started row (items.Made (entries.Start q (open_numbers m.scene.past q))) p s refl tt (ap (λ (ks : List ℕ). items.Made (entries.Start q ks) ∷ []) (sym (p.starts s.said).1)) tt tt tt refl (none_taken (accepted m.scene.past q) (accepted m.scene.past q) refl)
 
 -- what the device was told, at the moment
 told_now : (q : ℕ) (h : Header1) (setup : QueueSetup) (m : Moment) (outstanding : OutstandingRequests) (cap : ℕ) (sizes : ℕ → ℕ) (t : Turn) (d now : Device) (x : Stepped) → TurnAt q h setup m outstanding d → DeviceDoes t cap sizes d now x → Turns t (Some m.scene.memory) x d.queue now.queue
@@ -360,7 +363,9 @@ pub start_made : (q : ℕ) (h : Header1) (setup : QueueSetup) (m : Moment) (outs
 start_made q h setup m outstanding cap sizes d now x a ready does =
     let told : Turns turns.Start (Some m.scene.memory) x d.queue now.queue = told_now q h setup m outstanding cap sizes turns.Start d now x a does in
     let s = start_stands q h setup m x d.queue now.queue a.plain a.good a.main a.at.stands ready does.fine told in
-    let stopped : d.queue.started ≡ false = a.at.stands.at.started ∙ grind (arith, nat_tests) in
+    let new : started m.scene.past q ≡ false = grind (arith, nat_tests) in
+    let stopped : d.queue.started ≡ false = a.at.stands.at.started ∙ new in
+    let quiet = a.good.holds.worked.quiet new in
     let starts : StartsIf false (Some m.scene.memory) x d.queue told.0 = subst (λ (b : Bool). StartsIf b (Some m.scene.memory) x d.queue told.0) stopped (does_of turns.Start (Some m.scene.memory) x d.queue now.queue told does.fine) in
     phase_made q h setup m outstanding turns.Start d now x (start_row d.queue m.scene.memory) [] (record {
       given = a;
@@ -369,6 +374,7 @@ start_made q h setup m outstanding cap sizes d now x a ready does =
       stands = s.stands;
       values = some_is now.values d.values does.values_are;
       told = row_now d now x (start_row d.queue) m.scene.memory a.at.memory_is (start_stores_row (Some d.memory) (Some now.memory) x d.queue does.stores_are) (start_trails_row (Some d.memory) (Some d.stores) (Some now.stores) x d.queue does.trails);
+      starts = λ is. (stopped, start_resumes q h setup m outstanding x (start_row d.queue m.scene.memory) 0 [] now.queue a.good a.numbered quiet.1.0 (a.good.holds.carries.quiet new) (s.says 0) s.stands is);
     }) (λ e. start_never (rings_next d.queue) (answer_in d.queue.recovery m.scene.memory) (sym (starts m.scene.memory refl).0 ∙ e)) (s.says (slice_index (m.scene.heads q) (accepted m.scene.past q)))
 
 pub fetch_made : (q : ℕ) (h : Header1) (setup : QueueSetup) (m : Moment) (outstanding : OutstandingRequests) (cap : ℕ) (sizes : ℕ → ℕ) (d now : Device) (x : Stepped) → TurnAt q h setup m outstanding d → is_ready (standing h q m) turns.Fetch ≡ true → DeviceDoes turns.Fetch cap sizes d now x
@@ -384,13 +390,15 @@ fetch_made q h setup m outstanding cap sizes d now x a ready does =
       stands = s.stands;
       values = some_is now.values d.values does.values_are;
       told = row_now d now x (fetch_row x d.queue) m.scene.memory a.at.memory_is does.stores_are does.trails;
+      starts = λ is. absurd (subst (λ (z : Stepped). Fetches (Some m.scene.memory) z d.queue told.0) is fetches);
     }) (λ e. absurd (subst (λ (z : Stepped). Fetches (Some m.scene.memory) z d.queue told.0) e fetches)) s.says
 
 pub publish_made : (q : ℕ) (h : Header1) (setup : QueueSetup) (m : Moment) (outstanding : OutstandingRequests) (cap : ℕ) (sizes : ℕ → ℕ) (most : ℕ) (d now : Device) (x : Stepped) → TurnAt q h setup m outstanding d → is_ready (standing h q m) (turns.Publish most) ≡ true
     → DeviceDoes (turns.Publish most) cap sizes d now x → TurnMade q h setup m (turns.Publish most) outstanding d now x
 publish_made q h setup m outstanding cap sizes most d now x a ready does =
     let t : Turn = turns.Publish most in
-    let s = publish_stands q h setup m most x d.queue now.queue a.plain a.good a.main a.at.stands ready does.fine (told_now q h setup m outstanding cap sizes t d now x a does) in
+    let told : Turns t (Some m.scene.memory) x d.queue now.queue = told_now q h setup m outstanding cap sizes t d now x a does in
+    let s = publish_stands q h setup m most x d.queue now.queue a.plain a.good a.main a.at.stands ready does.fine told in
     phase_made q h setup m outstanding t d now x (publish_row most d.queue m.scene.memory) (under_way h q m.scene t (m.lanes q)).batch (record {
       given = a;
       none = tt;
@@ -398,6 +406,7 @@ publish_made q h setup m outstanding cap sizes most d now x a ready does =
       stands = s.step.stands;
       values = some_is now.values d.values does.values_are;
       told = row_now d now x (publish_row most d.queue) m.scene.memory a.at.memory_is does.stores_are does.trails;
+      starts = λ is. absurd (publish_never (publishes most d.queue) m.scene.memory x d.queue (states.under_way most d.queue) told.0 (does_of t (Some m.scene.memory) x d.queue now.queue told does.fine) is);
     }) (λ e. let shown = s.shows e in record { next = shown.next; place = shown.place; batch_is = shown.batch }) s.step.says
 
 -- ---- a turn that isn't due

@@ -33,7 +33,7 @@ use Rattle.vub_report.specs.declared.items.Item.{Item}
 use Rattle.vub_report.specs.declared.items.Item.TheVariants as items
 use Rattle.vub_world.specs.OutstandingRequests.{slot_in}
 use Rattle.vub_world.specs.MachineAt.{AskAt, AttachedAt, LifeAt, OutstandingAt, PartsAt, reads_of}
-use Rattle.vub_world.specs.MachineDevice.{Device, device, DeviceAt, TurnMade, DeviceTurns, noted, number_at, stored_items, shown_of, answers_shown}
+use Rattle.vub_world.specs.MachineDevice.{Device, device, DeviceAt, TurnMade, DeviceTurns, noted, number_at, stored_items, shown_of, numbers_of, answers_shown, started_in}
 use Rattle.vub_world.specs.MachineSteps.{TurnGoes}
 use Rattle.vub_run.specs.Memory.{Scene, after_items}
 use Rattle.vub_run.specs.Moments.{Lane, Moment, standing}
@@ -76,22 +76,22 @@ shows_keeps q h tag [] answers s = record { heads_are = refl; collects = refl; a
 shows_keeps q h tag (st ∷ []) answers s = record { heads_are = refl; collects = refl; asked_are = λ k. refl; more = numbers answers; shown = published_own s.past q answers }
 shows_keeps q h tag (st ∷ next ∷ stores) answers s = record { heads_are = refl; collects = refl; asked_are = λ k. refl; more = numbers answers; shown = published_own s.past q answers }
 
-noted_keeps : (q : ℕ) (h : Header1) (outstanding : OutstandingRequests) (v : Values) (stores : List Store) (answers : List Answered) (x : Stepped) (s : Scene) → Keeps q s (after_items h (noted q outstanding v stores answers x) s)
-noted_keeps q h outstanding v stores answers (says.Stored tag) s = same_keeps q s _ (stores_same q h tag stores s)
-noted_keeps q h outstanding v stores answers (says.Completed head) s = same_keeps q s _ (stores_same q h T5 stores s)
-noted_keeps q h outstanding v stores answers says.Published s = shows_keeps q h SP5 stores answers s
-noted_keeps q h outstanding v stores answers says.Started s = same_keeps q s _ (refl, refl, λ k. refl, refl)
-noted_keeps q h outstanding v stores answers (says.Accepted head) s = same_keeps q s _ (accepts_same q h SF2 stores (number_at outstanding head) s)
-noted_keeps q h outstanding v stores answers (says.Looked head sector) s = same_keeps q s _ (refl, refl, λ k. refl, refl)
-noted_keeps q h outstanding v stores answers (says.Acted head sector) s = same_keeps q s _ (refl, refl, λ k. refl, refl)
-noted_keeps q h outstanding v stores answers (says.Synced head) s = same_keeps q s _ (refl, refl, λ k. refl, refl)
-noted_keeps q h outstanding v stores answers (says.Faulted head) s = same_keeps q s _ (refl, refl, λ k. refl, refl)
-noted_keeps q h outstanding v stores answers says.Idle s = same_keeps q s _ (refl, refl, λ k. refl, refl)
-noted_keeps q h outstanding v stores answers says.Belled s = same_keeps q s _ (refl, refl, λ k. refl, refl)
-noted_keeps q h outstanding v stores answers says.SharedFault s = same_keeps q s _ (refl, refl, λ k. refl, refl)
-noted_keeps q h outstanding v stores answers says.BellFault s = same_keeps q s _ (refl, refl, λ k. refl, refl)
-noted_keeps q h outstanding v stores answers (says.Damaged fault) s = same_keeps q s _ (refl, refl, λ k. refl, refl)
-noted_keeps q h outstanding v stores answers (says.Broken fault) s = same_keeps q s _ (refl, refl, λ k. refl, refl)
+noted_keeps : (q : ℕ) (h : Header1) (outstanding : OutstandingRequests) (v : Values) (stores : List Store) (answers : List Answered) (opens : List ℕ) (x : Stepped) (s : Scene) → Keeps q s (after_items h (noted q outstanding v stores answers opens x) s)
+noted_keeps q h outstanding v stores answers opens (says.Stored tag) s = same_keeps q s _ (stores_same q h tag stores s)
+noted_keeps q h outstanding v stores answers opens (says.Completed head) s = same_keeps q s _ (stores_same q h T5 stores s)
+noted_keeps q h outstanding v stores answers opens says.Published s = shows_keeps q h SP5 stores answers s
+noted_keeps q h outstanding v stores answers opens says.Started s = same_keeps q s _ (refl, refl, λ k. refl, refl)
+noted_keeps q h outstanding v stores answers opens (says.Accepted head) s = same_keeps q s _ (accepts_same q h SF2 stores (number_at outstanding head) s)
+noted_keeps q h outstanding v stores answers opens (says.Looked head sector) s = same_keeps q s _ (refl, refl, λ k. refl, refl)
+noted_keeps q h outstanding v stores answers opens (says.Acted head sector) s = same_keeps q s _ (refl, refl, λ k. refl, refl)
+noted_keeps q h outstanding v stores answers opens (says.Synced head) s = same_keeps q s _ (refl, refl, λ k. refl, refl)
+noted_keeps q h outstanding v stores answers opens (says.Faulted head) s = same_keeps q s _ (refl, refl, λ k. refl, refl)
+noted_keeps q h outstanding v stores answers opens says.Idle s = same_keeps q s _ (refl, refl, λ k. refl, refl)
+noted_keeps q h outstanding v stores answers opens says.Belled s = same_keeps q s _ (refl, refl, λ k. refl, refl)
+noted_keeps q h outstanding v stores answers opens says.SharedFault s = same_keeps q s _ (refl, refl, λ k. refl, refl)
+noted_keeps q h outstanding v stores answers opens says.BellFault s = same_keeps q s _ (refl, refl, λ k. refl, refl)
+noted_keeps q h outstanding v stores answers opens (says.Damaged fault) s = same_keeps q s _ (refl, refl, λ k. refl, refl)
+noted_keeps q h outstanding v stores answers opens (says.Broken fault) s = same_keeps q s _ (refl, refl, λ k. refl, refl)
 
 take_more : (xs ys : List ℕ) (n : ℕ) → n ≤ length xs → take n (xs ++ ys) ≡ take n xs
 take_more [] ys n few = let none : n ≡ 0 = omega (arith, few) in ap (λ (j : ℕ). take j ys) none ∙ sym (ap (λ (j : ℕ). take {A = ℕ} j []) none)
@@ -136,7 +136,7 @@ made_at : (q : ℕ) (w : Parts) (m : Moment) (queue queue' : Queue) (t : Turn) (
     → PartsAt q (with_device w memory queue' disk) (after_turn q w t m)
 made_at q w m queue queue' t memory disk d x has made =
     let life = life_at q w m queue has in
-    let keeps : Keeps q m.scene (after_turn q w t m).scene = subst (λ (is : List Item). Keeps q m.scene (after_items w.front.header is m.scene)) (sym made.items_are) (noted_keeps q w.front.header w.front.outstanding (values_of disk) (stores_in memory) (shown_of q w.front.outstanding d.memory d.queue) x m.scene) in
+    let keeps : Keeps q m.scene (after_turn q w t m).scene = subst (λ (is : List Item). Keeps q m.scene (after_items w.front.header is m.scene)) (sym made.items_are) (noted_keeps q w.front.header w.front.outstanding (values_of disk) (stores_in memory) (shown_of q w.front.outstanding d.memory d.queue) (numbers_of w.front.outstanding (state_of queue')) x m.scene) in
     let own : (after_turn q w t m).lanes q ≡ (turned w.front.header q t m).lane = at_own m.lanes q (turned w.front.header q t m).lane in
     let driver : ((after_turn q w t m).lanes q).driver ≡ (m.lanes q).driver = ap (λ (l : Lane). l.driver) own ∙ turn_driver q w.front.header t m in
     record {
@@ -179,11 +179,12 @@ turn_goes q w m queue queue' t kept memory disk x has same turns =
             goes = made.goes;
             made = made.made;
             at = made_at q w m queue queue' t memory disk d x has made;
-            items_are = made.items_are ∙ ap (λ (as_shown : List Answered). noted q w.front.outstanding (values_of disk) (stores_in memory) as_shown x) shown;
+            items_are = made.items_are ∙ ap (λ (as_shown : List Answered). noted q w.front.outstanding (values_of disk) (stores_in memory) as_shown (numbers_of w.front.outstanding (state_of queue')) x) shown;
             store = made.store;
             sector = made.sector;
             head = made.head;
             taken = made.taken;
+            starts = λ is. (ap started_in has.life_is ∙ (made.starts is).0, (made.starts is).1);
           },
       λ late.
           let unready : is_ready (standing w.front.header q m) t ≡ false = ap (λ (b : Bool). b && is_ready (standing w.front.header q m) t) (sym life.1.1) ∙ late in

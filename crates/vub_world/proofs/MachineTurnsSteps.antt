@@ -12,7 +12,7 @@ use Rattle.vub_queue.specs.declared.queue.Stepped.{Stepped}
 use Rattle.vub_queue.specs.declared.queue.Stepped.TheVariants as says
 use Rattle.vub_report.specs.declared.items.Item.{Item}
 use Rattle.vub_world.specs.MachineAt.{PartsAt}
-use Rattle.vub_world.specs.MachineDevice.{noted, answers_shown, accepts}
+use Rattle.vub_world.specs.MachineDevice.{noted, answers_shown, numbers_in, accepts}
 use Rattle.vub_world.specs.MachineSteps.{TurnGoes, MachineTurns, StepGoes}
 use Rattle.vub_room.specs.Rooms.{HasTurnRoom, SpendsUpTo, SpendsTurn, SpendsStep, RoomState}
 use Rattle.vub_run.specs.Moments.{Moment}
@@ -37,6 +37,11 @@ spends_none (suc shown) r now spent = record {
   answer_lists = omega (arith, spent.answer_lists);
   answers = spent.answers;
 }
+
+-- and the list of numbers is as it was
+pub same_numbers : (shown : ℕ) (r now : RoomState) → SpendsUpTo shown r now → now.numbers ≡ r.numbers
+same_numbers zero r now spent = ap (λ (x : RoomState). x.numbers) spent
+same_numbers (suc shown) r now spent = spent.numbers
 
 -- behind the answers that a turn shows there is room for its items
 pub items_left : (shown : ℕ) (r now : RoomState) → HasTurnRoom shown r → SpendsUpTo shown r now → 2 ≤ now.item_room
@@ -79,12 +84,12 @@ step_goes q t w now m x other goes = elim (cases_Bool (is_due w.front.header q t
 
 -- the items that are noted of it
 pub step_made : (q : ℕ) (t : Turn) (w now : Parts) (m : Moment) (x : Stepped) (before noted_items : List Item) (answers : List Answered) → is_idle x ≡ false → TurnGoes q t w now m x → answers ≡ answers_shown q w.front.outstanding (bytes_in w.memory) w.life
-    → noted_items ≡ before ++ noted q now.front.outstanding (values_of now.disk) (stores_in now.memory) answers x → StepGoes q true t w now m before noted_items 0 (accepts x)
+    → noted_items ≡ before ++ noted q now.front.outstanding (values_of now.disk) (stores_in now.memory) answers (numbers_in now.front.outstanding now.life) x → StepGoes q true t w now m before noted_items 0 (accepts x)
 step_made q t w now m x before noted_items answers other goes shown notes =
     let made = step_goes q t w now m x other goes in (
       made.0,
       made.1.at,
-      notes ∙ ap (λ (l : List Answered). before ++ noted q now.front.outstanding (values_of now.disk) (stores_in now.memory) l x) shown ∙ ap (λ (l : List Item). before ++ l) (sym made.1.items_are),
+      notes ∙ ap (λ (l : List Answered). before ++ noted q now.front.outstanding (values_of now.disk) (stores_in now.memory) l (numbers_in now.front.outstanding now.life) x) shown ∙ ap (λ (l : List Item). before ++ l) (sym made.1.items_are),
       omega (arith, made.1.taken),
     )
 

@@ -26,7 +26,7 @@ use Rattle.vub_steps.specs.declared.readiness.Choice.{Choice}
 use Rattle.vub_steps.specs.declared.readiness.Choice.TheVariants as choices
 use Rattle.vub_queue.specs.declared.queue.QueueSetup.{QueueSetup}
 use Rattle.vub_task.specs.declared.task.Task.{Task}
-use Rattle.vub_world.specs.MachineDevice.{Device, DeviceAt, TurnMade, DeviceTurns, IsMade, StoreFits, SectorFits, HeadFits, noted, stored_items, shown_of, accepts, number_at}
+use Rattle.vub_world.specs.MachineDevice.{Device, DeviceAt, TurnMade, DeviceTurns, IsMade, StoreFits, SectorFits, HeadFits, noted, stored_items, shown_of, accepts, number_at, numbers_of}
 use Rattle.vub_world.specs.MachineFront.{OneSmall}
 use Rattle.vub_run.specs.Memory.{after_items}
 use Rattle.vub_run.specs.Moments.{Moment, standing}
@@ -90,17 +90,18 @@ says_well h head made request step (inr (inr (inr (inr x)))) =
 pub record NotesWork (q : ℕ) (h : Header1) (m : Moment) (t : Turn) (outstanding : OutstandingRequests) (d now : Device) (x : Stepped) : Type 0 where
   pub goes : is_idle x ≡ false
   pub made : IsMade x
-  pub items_are : (one_turn h q t m).items ≡ noted q outstanding now.values now.stores (shown_of q outstanding d.memory d.queue) x
+  pub items_are : (one_turn h q t m).items ≡ noted q outstanding now.values now.stores (shown_of q outstanding d.memory d.queue) (numbers_of outstanding now.queue) x
   pub store : StoreFits x now.stores
   pub head : HeadFits h.size x
   pub none : accepts x ≡ 0
   pub same : accepted (one_turn h q t m).next.scene.past q ≡ accepted m.scene.past q
+  pub never : x ≡ says.Started → ⊥
 
 -- of one store
 stores_noted : (q : ℕ) (h : Header1) (m : Moment) (t : Turn) (outstanding : OutstandingRequests) (d now : Device) (tag : Tag) (x : Stepped) (task : Task) (n : Making) → d.stores ≡ [] → Some now.stores ≡ option_map (with_maybe (due_store d.queue task n)) (Some d.stores)
-    → ShowsStore tag d.queue task n (turned h q t m).items → is_idle x ≡ false → IsMade x → HeadFits h.size x → accepts x ≡ 0 → noted q outstanding now.values now.stores (shown_of q outstanding d.memory d.queue) x ≡ stored_items tag now.stores → StoreFits x now.stores ≡ OneSmall now.stores
+    → ShowsStore tag d.queue task n (turned h q t m).items → is_idle x ≡ false → IsMade x → HeadFits h.size x → accepts x ≡ 0 → noted q outstanding now.values now.stores (shown_of q outstanding d.memory d.queue) (numbers_of outstanding now.queue) x ≡ stored_items tag now.stores → StoreFits x now.stores ≡ OneSmall now.stores → (x ≡ says.Started → ⊥)
     → NotesWork q h m t outstanding d now x
-stores_noted q h m t outstanding d now tag x task n fresh trails shows goes made head none notes fits =
+stores_noted q h m t outstanding d now tag x task n fresh trails shows goes made head none notes fits never =
     let st : Store = one_store 0 shows.place shows.bytes in
     let kept : now.stores ≡ st ∷ [] = some_is now.stores (with_maybe (due_store d.queue task n) d.stores) trails ∙ ap (λ (o : Option Store). with_maybe o d.stores) shows.due ∙ ap (λ (l : List Store). with_maybe (Some st) l) fresh in
     let small : OneSmall now.stores = subst (λ (l : List Store). OneSmall l) (sym kept) (record { space = refl; few = omega (arith, shows.few) }) in
@@ -112,6 +113,7 @@ stores_noted q h m t outstanding d now tag x task n fresh trails shows goes made
       head = head;
       none = none;
       same = ap (λ (is : List Item). accepted (after_items h is m.scene).past q) shows.items;
+      never = never;
     }
 
 -- what is known of the step that is made
@@ -135,6 +137,7 @@ work_noted q h m t outstanding d now k task n (says.Looked head sector) g shows 
       head = omega (arith, shows.0, g.below);
       none = refl;
       same = ap (λ (is : List Item). accepted (after_items h is m.scene).past q) shows.1;
+      never = λ is. cc is;
     }
 work_noted q h m t outstanding d now k task n (says.Acted head sector) g shows =
     let number : number_at outstanding head ≡ k = ap (number_at outstanding) shows.0 ∙ g.number in
@@ -148,10 +151,11 @@ work_noted q h m t outstanding d now k task n (says.Acted head sector) g shows =
       head = omega (arith, shows.0, g.below);
       none = refl;
       same = ap (λ (is : List Item). accepted (after_items h is m.scene).past q) shows.1;
+      never = λ is. cc is;
     }
 work_noted q h m t outstanding d now k task n (says.Stored tag) g shows =
-    stores_noted q h m t outstanding d now T2 (says.Stored tag) task n g.fresh g.trails shows.1 refl tt tt refl (ap (λ (y : Tag). stored_items y now.stores) shows.0) refl
-work_noted q h m t outstanding d now k task n (says.Completed head) g shows = stores_noted q h m t outstanding d now T5 (says.Completed head) task n g.fresh g.trails shows.1 refl tt tt refl refl refl
+    stores_noted q h m t outstanding d now T2 (says.Stored tag) task n g.fresh g.trails shows.1 refl tt tt refl (ap (λ (y : Tag). stored_items y now.stores) shows.0) refl (λ is. cc is)
+work_noted q h m t outstanding d now k task n (says.Completed head) g shows = stores_noted q h m t outstanding d now T5 (says.Completed head) task n g.fresh g.trails shows.1 refl tt tt refl refl refl (λ is. cc is)
 work_noted q h m t outstanding d now k task n says.Idle g shows = absurd shows
 work_noted q h m t outstanding d now k task n (says.Accepted head) g shows = absurd shows
 work_noted q h m t outstanding d now k task n (says.Synced head) g shows =
@@ -164,6 +168,7 @@ work_noted q h m t outstanding d now k task n (says.Synced head) g shows =
       head = omega (arith, shows.0, g.below);
       none = refl;
       same = ap (λ (is : List Item). accepted (after_items h is m.scene).past q) shows.1;
+      never = λ is. cc is;
     }
 work_noted q h m t outstanding d now k task n (says.Faulted head) g shows = absurd shows
 work_noted q h m t outstanding d now k task n says.Published g shows = absurd shows
@@ -207,6 +212,7 @@ work_made q h setup m outstanding sizes place d now x a room ready does =
       sector = well_too.sector;
       head = notes.head;
       taken = omega (arith, notes.none, notes.same);
+      starts = λ is. absurd (notes.never is);
     }
 
 -- ---- work that isn't ready

@@ -18,7 +18,7 @@ use Rattle.vub_device.specs.declared.entry.Answered.{Answered}
 use Rattle.vub_device.specs.declared.entry.Entry.TheVariants as entries
 use Rattle.vub_memdisk.specs.MemDisks.{values_of}
 use Rattle.vub_memdisk.specs.declared.mem_disk.MemDisk.{MemDisk}
-use Rattle.vub_device.specs.Past.{accepted}
+use Rattle.vub_device.specs.Past.{accepted, open_numbers}
 use Rattle.vub_report.specs.declared.items.Item.{Item}
 use Rattle.vub_report.specs.declared.items.Item.TheVariants as items
 use Rattle.vub_world.specs.declared.outstanding.OutstandingRequests.{OutstandingRequests}
@@ -35,6 +35,7 @@ use Rattle.vub_steps.specs.Readiness.{chosen}
 use Rattle.vub_queue.specs.QueueState.{steps_in, QueueState, state_of, is_idle}
 use Rattle.vub_queue_in_run.specs.QueueAt.{QueueStands, DiskAt}
 use Rattle.vub_run.specs.Run.{one_turn}
+use Rattle.vub_task.specs.TaskState.{head_in}
 use Rattle.vub_world.specs.MachineFront.{store_item, OneSmall}
 
 -- ---- the device's turns
@@ -54,23 +55,31 @@ answers_for q outstanding m batch = map (λ (x : ℕ × ℕ). answer_for q (slot
 abbrev pub number_at : OutstandingRequests → ℕ → ℕ
 number_at outstanding head = (slot_in outstanding head).number
 
+-- the heads of the requests that a queue works on, in order
+abbrev pub heads_of : QueueState → List ℕ
+heads_of state = map head_in state.unfinished
+
+-- and their numbers
+abbrev pub numbers_of : OutstandingRequests → QueueState → List ℕ
+numbers_of outstanding state = map (number_at outstanding) (heads_of state)
+
 abbrev pub stored_items : Tag → List Store → List Item
 stored_items tag (st ∷ []) = store_item tag st ∷ []
 stored_items tag sts = []
 
--- the items of a turn, where the outstanding requests, the values of the disk, the stores of the turn and the answers of the batch that
--- it shows are these; none of one that wasn't made
-abbrev pub noted : ℕ → OutstandingRequests → Values → List Store → List Answered → Stepped → List Item
-noted q outstanding v stores answers (says.Stored tag) = stored_items tag stores
-noted q outstanding v stores answers (says.Completed head) = stored_items T5 stores
-noted q outstanding v stores answers says.Published = stored_items SP5 stores ++ items.Made (entries.Publish q answers) ∷ []
-noted q outstanding v stores answers says.Belled = items.Bell q ∷ []
-noted q outstanding v stores answers says.Started = items.Made (entries.Start q []) ∷ []
-noted q outstanding v stores answers (says.Accepted head) = stored_items SF2 stores ++ items.Made (entries.Accept q (number_at outstanding head)) ∷ []
-noted q outstanding v stores answers (says.Looked head sector) = items.Made (entries.Look q (number_at outstanding head) sector (v sector)) ∷ []
-noted q outstanding v stores answers (says.Acted head sector) = items.Made (entries.Act q (number_at outstanding head) sector (v sector)) ∷ []
-noted q outstanding v stores answers (says.Synced head) = items.Made (entries.Sync q (number_at outstanding head)) ∷ []
-noted q outstanding v stores answers x = []
+-- the items of a turn, where the outstanding requests, the values of the disk, the stores of the turn, the answers of the batch that
+-- it shows and the numbers of the requests that the queue works on after it are these; none of one that wasn't made
+abbrev pub noted : ℕ → OutstandingRequests → Values → List Store → List Answered → List ℕ → Stepped → List Item
+noted q outstanding v stores answers opens (says.Stored tag) = stored_items tag stores
+noted q outstanding v stores answers opens (says.Completed head) = stored_items T5 stores
+noted q outstanding v stores answers opens says.Published = stored_items SP5 stores ++ items.Made (entries.Publish q answers) ∷ []
+noted q outstanding v stores answers opens says.Belled = items.Bell q ∷ []
+noted q outstanding v stores answers opens says.Started = items.Made (entries.Start q opens) ∷ []
+noted q outstanding v stores answers opens (says.Accepted head) = stored_items SF2 stores ++ items.Made (entries.Accept q (number_at outstanding head)) ∷ []
+noted q outstanding v stores answers opens (says.Looked head sector) = items.Made (entries.Look q (number_at outstanding head) sector (v sector)) ∷ []
+noted q outstanding v stores answers opens (says.Acted head sector) = items.Made (entries.Act q (number_at outstanding head) sector (v sector)) ∷ []
+noted q outstanding v stores answers opens (says.Synced head) = items.Made (entries.Sync q (number_at outstanding head)) ∷ []
+noted q outstanding v stores answers opens x = []
 
 -- ---- the device
 
@@ -137,6 +146,17 @@ HeadFits size x = ⊤
 abbrev pub turn_here : ℕ → Header1 → Choice → Moment → Turn
 turn_here q h choice m = chosen h.size choice (standing h q m)
 
+-- where a turn started the queue, each head of a request that it works on has a place in the table of outstanding
+-- requests, and a list with room for so many numbers has room for theirs
+abbrev pub StartFits : ℕ → QueueState → ℕ → Stepped → Type 0
+StartFits size state room says.Started = ((i head : ℕ) → slice_get (heads_of state) i ≡ Some head → head < size) × (length (heads_of state) ≤ room)
+StartFits size state room x = ⊤
+
+-- a start spends the list of numbers, and no other turn does
+abbrev pub KeepsNumbers : ℕ → ℕ → Stepped → Type 0
+KeepsNumbers room now says.Started = ⊤
+KeepsNumbers room now x = now ≡ room
+
 -- whether a turn accepted a request
 abbrev pub accepts : Stepped → ℕ
 accepts (says.Accepted head) = 1
@@ -147,11 +167,12 @@ pub record TurnMade (q : ℕ) (h : Header1) (setup : QueueSetup) (m : Moment) (t
   pub goes : is_idle x ≡ false
   pub made : IsMade x
   pub at : DeviceAt q h setup (one_turn h q t m).next now
-  pub items_are : (one_turn h q t m).items ≡ noted q outstanding now.values now.stores (shown_of q outstanding d.memory d.queue) x
+  pub items_are : (one_turn h q t m).items ≡ noted q outstanding now.values now.stores (shown_of q outstanding d.memory d.queue) (numbers_of outstanding now.queue) x
   pub store : StoreFits x now.stores
   pub sector : SectorFits h.capacity x
   pub head : HeadFits h.size x
   pub taken : accepts x + accepted m.scene.past q ≡ accepted (one_turn h q t m).next.scene.past q
+  pub starts : x ≡ says.Started → (d.queue.started ≡ false) × (numbers_of outstanding now.queue ≡ open_numbers m.scene.past q)
 
 -- the turn is made where it is due, and else nothing is
 abbrev pub DeviceTurns : ℕ → Header1 → QueueSetup → Moment → Turn → OutstandingRequests → Device → Device → Stepped → Type 0
@@ -196,6 +217,24 @@ queue_shown q outstanding m (Some queue) = shown_of q outstanding m (state_of qu
 abbrev pub answers_shown : ℕ → OutstandingRequests → Bytes → Option (Option Queue) → List Answered
 answers_shown q outstanding m None = []
 answers_shown q outstanding m (Some queue) = queue_shown q outstanding m queue
+
+abbrev pub queue_numbers : OutstandingRequests → Option Queue → List ℕ
+queue_numbers outstanding None = []
+queue_numbers outstanding (Some queue) = numbers_of outstanding (state_of queue)
+
+-- the numbers of the requests that its queue works on
+abbrev pub numbers_in : OutstandingRequests → Option (Option Queue) → List ℕ
+numbers_in outstanding None = []
+numbers_in outstanding (Some queue) = queue_numbers outstanding queue
+
+abbrev pub queue_started : Option Queue → Bool
+queue_started None = false
+queue_started (Some queue) = (state_of queue).started
+
+-- whether its queue is started
+abbrev pub started_in : Option (Option Queue) → Bool
+started_in None = false
+started_in (Some queue) = queue_started queue
 
 abbrev pub queue_shows : Option Queue → ℕ
 queue_shows None = 0

@@ -1,16 +1,19 @@
 -- What the turns of the device leave in the machine, and which items they note.
-use Rattle.std.specs.Prelude.{◌≡◌, ◌≤◌, ◌⊎◌, ℕ, ◌+◌, Bool, true, false, List, [], ◌∷◌, ◌++◌}
+use Rattle.std.specs.Prelude.{◌≡◌, ◌≤◌, ◌⊎◌, ℕ, ◌+◌, ◌-◌, Bool, true, false, List, [], ◌∷◌, ◌++◌}
 use Rattle.vub_base.specs.declared.header.Header1.{Header1}
 use Rattle.vub_shared.specs.Watched.{bytes_in, stores_in}
 use Rattle.vub_steps.specs.declared.readiness.Turn.{Turn}
 use Rattle.vub_memdisk.specs.MemDisks.{values_of}
-use Rattle.vub_device.specs.Past.{accepted}
+use Rattle.vub_device.specs.Past.{accepted, open_numbers}
 use Rattle.vub_schedule.specs.declared.types.Event.{Event}
 use Rattle.vub_world.specs.declared.device.Sequence.{Sequence}
 use Rattle.vub_report.specs.declared.items.Item.{Item}
 use Rattle.vub_report.specs.declared.items.Item.TheVariants as items
 use Rattle.vub_report.specs.declared.items.Record.{Record}
+use Rattle.vub_room.specs.Rooms.{RoomState}
 use Rattle.vub_world.specs.declared.machine.Machine.{Machine}
+use Rattle.vub_world.specs.declared.outstanding.OutstandingRequests.{OutstandingRequests}
+use Rattle.vub_world.specs.OutstandingRequests.{offered_in, collected_in}
 use Rattle.vub_world.specs.Fronts.{Parts}
 use Rattle.vub_queue.specs.declared.queue.Stepped.{Stepped}
 use Rattle.vub_queue.specs.declared.queue.Stepped.TheVariants as says
@@ -19,18 +22,19 @@ use Rattle.vub_run.specs.Moments.{Moment}
 use Rattle.vub_queue.specs.QueueState.{is_idle}
 use Rattle.vub_run.specs.Run.{Stands, played, single, turns, one_turn, is_due}
 use Rattle.vub_world.specs.MachineAt.{MachineAt, PartsAt}
-use Rattle.vub_world.specs.MachineDevice.{noted, IsMade, StoreFits, SectorFits, HeadFits, accepts, answers_shown}
+use Rattle.vub_world.specs.MachineDevice.{noted, IsMade, StoreFits, SectorFits, HeadFits, accepts, answers_shown, numbers_in, started_in}
 
 -- a turn that was due
 pub record MachineTurns (q : ℕ) (t : Turn) (w now : Parts) (m : Moment) (x : Stepped) : Type 0 where
   pub goes : is_idle x ≡ false
   pub made : IsMade x
   pub at : PartsAt q now (one_turn w.front.header q t m).next
-  pub items_are : (one_turn w.front.header q t m).items ≡ noted q now.front.outstanding (values_of now.disk) (stores_in now.memory) (answers_shown q w.front.outstanding (bytes_in w.memory) w.life) x
+  pub items_are : (one_turn w.front.header q t m).items ≡ noted q now.front.outstanding (values_of now.disk) (stores_in now.memory) (answers_shown q w.front.outstanding (bytes_in w.memory) w.life) (numbers_in now.front.outstanding now.life) x
   pub store : StoreFits x (stores_in now.memory)
   pub sector : SectorFits w.front.header.capacity x
   pub head : HeadFits w.front.header.size x
   pub taken : accepts x + accepted m.scene.past q ≡ accepted (one_turn w.front.header q t m).next.scene.past q
+  pub starts : x ≡ says.Started → (started_in w.life ≡ false) × (numbers_in now.front.outstanding now.life ≡ open_numbers m.scene.past q)
 
 -- a turn of the machine
 abbrev pub TurnGoes : ℕ → Turn → Parts → Parts → Moment → Stepped → Type 0
@@ -64,6 +68,10 @@ pub record TurnsMade (q : ℕ) (h : Header1) (choose : Moment → Turn) (most : 
 abbrev pub TurnsGo : ℕ → Header1 → Bool → Sequence → ℕ → (Moment → Type 0) → Moment → List Item → List Item → Type 0
 TurnsGo q h false sequence most There m before after = (is_due h q (choices_from q h sequence m m) m ≡ false) × There m × (after ≡ before)
 TurnsGo q h true sequence most There m before after = (is_due h q (choices_from q h sequence m m) m ≡ true) × TurnsMade q h (choices_from q h sequence m) most There m before after
+
+-- until a queue is started there is room for the numbers of all its outstanding requests
+abbrev pub HasStartRoom : Bool → OutstandingRequests → RoomState → Type 0
+HasStartRoom started outstanding r = started ≡ false → offered_in outstanding - collected_in outstanding ≤ r.numbers
 
 -- ---- events
 

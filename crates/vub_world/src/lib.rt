@@ -5,6 +5,7 @@
 mod bell;
 mod device;
 mod front;
+mod indexes;
 mod machine;
 mod notes;
 mod outstanding;

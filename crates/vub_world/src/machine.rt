@@ -3,6 +3,7 @@ ghost use Rattle.std.specs.Prelude.{◌≡◌, ◌<◌, ◌≤◌, ◌+◌, ◌-
 ghost use Rattle.vub_base.specs.declared.header.Header1.{Header1};
 ghost use Rattle.vub_driver.specs.Layout.{guest_space, inflight_space, area_place};
 ghost use Rattle.vub_shared.specs.Watched.{bytes_in, sizes_in, count_in, faults_in, IsUnfailed};
+ghost use Rattle.vub_run.specs.Memory.{opening_memory};
 ghost use Rattle.vub_schedule.specs.Spelling.{IsHeader, IsEvent};
 ghost use Rattle.vub_world.specs.declared.front.Front.{Front};
 ghost use Rattle.vub_world.specs.Fronts.{AreNewFronts};
@@ -10,6 +11,7 @@ ghost use Rattle.vub_world.specs.Regions as regions;
 
 use crate::device::Sequence;
 use crate::front::Front;
+use crate::indexes::set_indexes;
 use crate::regions::inflight_size;
 use std::alloc::Global;
 use std::mem;
@@ -69,19 +71,20 @@ fn add_space(memory: &mut WatchedShared, name: &str, size: u64) -> Result<Space,
     }
 }
 
-/// A memory of zero bytes: guest memory, with an area for each queue, and the in-flight region, with
-/// a part for each.
+/// The memory of a world in which nothing has happened: guest memory, with an area for each queue,
+/// and the in-flight region, with a part for each.
 fn shared_memory(alloc: Global, header: &Header1) -> Result<(WatchedShared, Space, Space), Memory>
     ensures space { IfOk result (λ m. m.1.number ≡ guest_space) }
     ensures inflight { IfOk result (λ m. m.2.number ≡ inflight_space) }
     ensures size { IfOk result (λ m. sizes_in m.0 guest_space ≡ area_place header.now.queues) }
     ensures inflight_size { IfOk result (λ m. sizes_in m.0 inflight_space ≡ regions.inflight_size header.now) }
-    ensures zero { IfOk result (λ m. (s p : ℕ) → bytes_in m.0 s p ≡ 0) }
+    ensures bytes { IfOk result (λ m. bytes_in m.0 ≡ opening_memory header.now) }
     ensures unfailed { IfOk result (λ m. IsUnfailed m.0) }
 {
     let mut memory = WatchedShared::new(alloc)?;
     let space = add_space(&mut memory, "mem", area_of(header.queues))?;
     let inflight = add_space(&mut memory, "inflight", inflight_size(header))?;
+    set_indexes(&mut memory, space, header);
     Ok((memory, space, inflight))
 }
 
@@ -202,7 +205,7 @@ impl Machine {
         }
         let most = stores.min(MOST_STORES);
         let noted = usize::from(most) + 1;
-        let mut room = Room::new(self.alloc, &mut self.spare, noted, noted, 0, 0)?;
+        let mut room = Room::new(self.alloc, &mut self.spare, noted, noted, 0, 0, 0)?;
         self.fronts[place].stores(most, &mut self.memory, &mut room);
         Ok(room.finish(&mut self.spare))
     }
@@ -300,6 +303,24 @@ impl Machine {
             queues: Some(queues),
         });
         Ok(self.nothing())
+    }
+
+    /// The life ends, whatever it is doing.
+    fn kill(&mut self) -> Result<Items, Memory>
+        requires sound { IsSound self.old }
+        requires stands { IsStanding self.old }
+        ensures header { self.new.header ≡ self.old.header }
+        ensures sound { IsSound self.new }
+        ensures kept { OnErr result (self.new ≡ self.old) }
+        ensures performs { IfOk result (λ is. Performs self.old self.new events.Kill is) }
+    {
+        if self.life.is_none() {
+            return self.idle();
+        }
+        let mut room = Room::of_items(self.alloc, 1)?;
+        room.note(Item::Made(Entry::Kill));
+        self.life = None;
+        Ok(room.into_items())
     }
 
     /// The most turns of a queue that belong to no one request.
@@ -437,6 +458,7 @@ impl Machine {
             Event::Publish(queue, most) => self.single(*queue, Turn::Publish(*most)),
             Event::Turn(queue, count) => self.up_to(*queue, *count),
             Event::Drain(queue) => self.drain(*queue),
+            Event::Kill => self.kill(),
         }
     }
 

@@ -1,5 +1,5 @@
 //! The turns of the device on one queue of a world, with what is noted of them.
-ghost use Rattle.std.specs.Prelude.{◌≡◌, ◌<◌, ◌≤◌, ◌+◌, ◌-◌, ◌*◌, ◌++◌, ℕ, min, not, List, length, true, false};
+ghost use Rattle.std.specs.Prelude.{◌≡◌, ◌<◌, ◌≤◌, ◌+◌, ◌-◌, ◌*◌, ◌++◌, ℕ, Some, min, not, List, length, slice_get, true, false};
 ghost use Rattle.vub_memdisk.specs.MemDisks.{values_of, capacity_of};
 ghost use Rattle.vub_queue.specs.QueueState.{state_of, is_idle};
 ghost use Rattle.vub_report.specs.declared.items.Record.{Record};
@@ -10,8 +10,8 @@ ghost use Rattle.vub_schedule.specs.declared.types.Event.{Event};
 ghost use Rattle.vub_shared.specs.Watched.{bytes_in, stores_in, sizes_in};
 ghost use Rattle.vub_world.specs.Fronts.{FrontSound, PartsSound, parts};
 ghost use Rattle.vub_world.specs.MachineAt.{PartsAt, PartsStand, IsReached};
-ghost use Rattle.vub_world.specs.MachineDevice.{BatchFits, ShownFits, ShowsSome, IsMade, StoreFits, SectorFits, HeadFits, answer_for, answers_for, shown_of, shows_in, number_at, noted, accepts, turn_here};
-ghost use Rattle.vub_world.specs.MachineSteps.{TurnGoes, StepGoes, TurnsGo, turns_besides};
+ghost use Rattle.vub_world.specs.MachineDevice.{BatchFits, ShownFits, ShowsSome, IsMade, StoreFits, SectorFits, HeadFits, answer_for, answers_for, shown_of, shows_in, number_at, heads_of, numbers_of, noted, accepts, turn_here, StartFits, KeepsNumbers};
+ghost use Rattle.vub_world.specs.MachineSteps.{TurnGoes, StepGoes, TurnsGo, HasStartRoom, turns_besides};
 ghost use Rattle.vub_world.specs.OutstandingRequests.{offered_in, collected_in, size_in, slot_in};
 ghost use Rattle.vub_world.specs.Sequences.{next_turn};
 
@@ -117,11 +117,27 @@ impl Front {
         self.outstanding.at(head).number
     }
 
-    /// Notes the items of a turn that was made. The answers are those of a batch that it showed.
+    /// The numbers of the requests that the queue works on, in order.
+    fn numbers(&self, queue: &Queue, room: &mut Room) -> NumberList
+        requires places { (i head : ℕ) → slice_get (heads_of (state_of queue.now)) i ≡ Some head → head < size_in self.now.outstanding }
+        requires room { length (heads_of (state_of queue.now)) ≤ room.old.numbers }
+        ensures numbers { result ≡ numbers_of self.now.outstanding (state_of queue.now) }
+        ensures room { room.new ≡ record room.old { numbers = 0 } }
+    {
+        let mut numbers = room.numbers();
+        while let Some(head) = queue.open_head(numbers.len()) {
+            numbers.push_reserved(self.number(head));
+        }
+        NumberList::new(numbers)
+    }
+
+    /// Notes the items of a turn of the queue that was made. The answers are those of a batch that it
+    /// showed.
     fn note_turn(
         &self,
         stepped: Stepped,
         answers: Vec<Answered>,
+        queue: &Queue,
         memory: &WatchedShared,
         disk: &MemDisk,
         room: &mut Room,
@@ -132,30 +148,32 @@ impl Front {
         requires head { HeadFits (size_in self.now.outstanding) stepped }
         requires items { 2 ≤ room.old.item_room }
         requires lists { 1 ≤ room.old.lists }
-        ensures items { room.new.items ≡ room.old.items ++ noted self.now.index self.now.outstanding (values_of disk.now) (stores_in memory.now) answers.items stepped }
+        requires starts { StartFits (size_in self.now.outstanding) (state_of queue.now) room.old.numbers stepped }
+        ensures items { room.new.items ≡ room.old.items ++ noted self.now.index self.now.outstanding (values_of disk.now) (stores_in memory.now) answers.items (numbers_of self.now.outstanding (state_of queue.now)) stepped }
         ensures spent { SpendsTurn room.old room.new }
+        ensures numbers { KeepsNumbers room.old.numbers room.new.numbers stepped }
     {
-        let queue = self.index;
+        let index = self.index;
         let entry = match stepped {
             Stepped::Stored(tag) => return note_store(memory, tag, room),
             Stepped::Completed(_) => return note_store(memory, Tag::T5, room),
             Stepped::Published => {
                 note_store(memory, Tag::SP5, room);
-                Entry::Publish(queue, AnswerList::new(answers))
+                Entry::Publish(index, AnswerList::new(answers))
             }
-            Stepped::Belled => return room.note(Item::Bell(queue)),
-            Stepped::Started => Entry::Start(queue, NumberList::new(Vec::new(self.alloc))),
+            Stepped::Belled => return room.note(Item::Bell(index)),
+            Stepped::Started => Entry::Start(index, self.numbers(queue, room)),
             Stepped::Accepted(head) => {
                 note_store(memory, Tag::SF2, room);
-                Entry::Accept(queue, self.number(head))
+                Entry::Accept(index, self.number(head))
             }
             Stepped::Looked(head, sector) => {
-                Entry::Look(queue, self.number(head), sector, *disk.sector(sector))
+                Entry::Look(index, self.number(head), sector, *disk.sector(sector))
             }
             Stepped::Acted(head, sector) => {
-                Entry::Act(queue, self.number(head), sector, *disk.sector(sector))
+                Entry::Act(index, self.number(head), sector, *disk.sector(sector))
             }
-            Stepped::Synced(head) => Entry::Sync(queue, self.number(head)),
+            Stepped::Synced(head) => Entry::Sync(index, self.number(head)),
             Stepped::Idle
             | Stepped::Faulted(_)
             | Stepped::SharedFault
@@ -178,10 +196,12 @@ impl Front {
         requires sound { PartsSound self.now.index (parts memory.old self.now queue.old disk.old) }
         requires stands { (m : Moment) × IsReached self.now.index self.now.header m × PartsAt self.now.index (parts memory.old self.now queue.old disk.old) m }
         requires room { HasTurnRoom (shows_in (state_of queue.old)) room.old }
+        requires numbers { HasStartRoom (state_of queue.old).started self.now.outstanding room.old }
         ensures sound { PartsSound self.now.index (parts memory.new self.now queue.new disk.new) }
         ensures sizes { (s : ℕ) → sizes_in memory.new s ≡ sizes_in memory.old s }
         ensures goes { (m : Moment) → IsReached self.now.index self.now.header m → PartsAt self.now.index (parts memory.old self.now queue.old disk.old) m → StepGoes self.now.index (not (is_idle result)) (turn_here self.now.index self.now.header choice m) (parts memory.old self.now queue.old disk.old) (parts memory.new self.now queue.new disk.new) m room.old.items room.new.items 0 (accepts result) }
         ensures spent { SpendsStep (shows_in (state_of queue.old)) room.old room.new }
+        ensures numbers { HasStartRoom (state_of queue.new).started self.now.outstanding room.new }
         ensures idle { is_idle result ≡ true → room.new.item_room ≡ room.old.item_room }
     {
         let answers = self.answers(queue, memory, room);
@@ -189,7 +209,7 @@ impl Front {
         if stepped.is_idle() {
             return stepped;
         }
-        self.note_turn(stepped, answers, memory, disk, room);
+        self.note_turn(stepped, answers, queue, memory, disk, room);
         stepped
     }
 
@@ -206,10 +226,12 @@ impl Front {
         requires sound { PartsSound self.now.index (parts memory.old self.now queue.old disk.old) }
         requires stands { (m : Moment) × IsReached self.now.index self.now.header m × PartsAt self.now.index (parts memory.old self.now queue.old disk.old) m }
         requires room { HasTurnRoom (shows_in (state_of queue.old)) room.old }
+        requires numbers { HasStartRoom (state_of queue.old).started self.now.outstanding room.old }
         ensures sound { PartsSound self.now.index (parts memory.new self.now queue.new disk.new) }
         ensures sizes { (s : ℕ) → sizes_in memory.new s ≡ sizes_in memory.old s }
         ensures goes { (m : Moment) → IsReached self.now.index self.now.header m → PartsAt self.now.index (parts memory.old self.now queue.old disk.old) m → accepted.old < 65535 → StepGoes self.now.index result (next_turn self.now.index self.now.header sequence accepted.old m) (parts memory.old self.now queue.old disk.old) (parts memory.new self.now queue.new disk.new) m room.old.items room.new.items accepted.old accepted.new }
         ensures spent { SpendsStep (shows_in (state_of queue.old)) room.old room.new }
+        ensures numbers { HasStartRoom (state_of queue.new).started self.now.outstanding room.new }
         ensures idle { result ≡ false → room.new.item_room ≡ room.old.item_room }
     {
         let stepped = self.play(queue, sequence.next(*accepted), memory, disk, room);
@@ -232,6 +254,7 @@ impl Front {
         requires sound { PartsSound self.now.index (parts memory.old self.now queue.old disk.old) }
         requires some { 1 ≤ count }
         requires room { HasRoom (min count (27 * (offered_in self.now.outstanding - collected_in self.now.outstanding) + turns_besides self.now.header.size)) (offered_in self.now.outstanding - collected_in self.now.outstanding) room.old }
+        requires numbers { HasStartRoom (state_of queue.old).started self.now.outstanding room.old }
         requires stands { PartsStand self.now.index (parts memory.old self.now queue.old disk.old) }
         ensures sound { PartsSound self.now.index (parts memory.new self.now queue.new disk.new) }
         ensures sizes { (s : ℕ) → sizes_in memory.new s ≡ sizes_in memory.old s }

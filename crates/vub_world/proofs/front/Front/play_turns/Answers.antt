@@ -18,6 +18,7 @@ loop-done-init c = record {
       let q : ℕ = c.args.self.now.index in
       let w : Parts = parts c.args.memory.now c.args.self.now c.args.queue.now c.args.disk.now in
       turns_begin q w.front.header c.args.sequence m w c.args.room.now.items (room_of c.args.count w) (w.front.outstanding.offered - w.front.outstanding.collected) c.args.room.now at (undone_few q w.front.header m w (stands_good q w.front.header es rs m c.requires.sound.front.exists stands) at) c.requires.room;
+  numbers = c.requires.numbers;
   idle = λ none. refl;
 }
 
@@ -77,6 +78,7 @@ loop-done-preserved c = record {
       subst (λ (k : ℕ). TurnsAt q w.front.header c.args.sequence m (room_of c.args.count w) k now c.args.room.now.items c.play_next.new.room.items c.play_next.new.accepted c.play_next.new.room) next
       (turns_go_on q w.front.header c.args.sequence es rs m (room_of c.args.count w) c.loop-done.done here now c.args.room.now.items c.loop-done.room.items c.play_next.new.room.items c.loop-done.accepted c.play_next.new.accepted c.loop-done.room c.play_next.new.room c.requires.sound.front.exists stands refl left d
       (c.if-not-play_next.ensures.goes n there d.at few) c.play_next.ensures.spent);
+  numbers = c.play_next.ensures.numbers;
   idle = λ none. absurd (omega (arith, none));
 }
 

@@ -101,6 +101,9 @@ play_turns-made-requires-clause-room c =
     subst (λ (n : ℕ). HasRoom (min c.args.count (27 * n + turns_besides f.header.size)) n c.in_ok-room.room) c.count-undone.ensures
     (subst (λ (n : ℕ). HasRoom (min c.args.count (27 * c.count-undone.result + n)) c.count-undone.result c.in_ok-room.room) besides c.in_ok-room.ensures.room)
 
+pub play_turns-made-requires-clause-numbers : goal.play_turns-made-requires-clause-numbers
+play_turns-made-requires-clause-numbers c stopped = subst (λ (n : ℕ). n ≤ c.in_ok-room.room.numbers) c.count-undone.ensures c.in_ok-room.ensures.numbers
+
 pub returns-clause-sound : goal.returns-clause-sound
 returns-clause-sound c =
     let w : Machine = c.args.self.now in

@@ -106,6 +106,9 @@ play-stepped-requires-clause-room c =
     let some : 1 ≤ besides = subst (λ (n : ℕ). 1 ≤ n) (sym c.turns_besides-besides.ensures) (besides_some w.header.size) in
     single_room f.index (parts w.memory f u w.disk) besides c.in_ok-room.room some b.stands (subst (λ (n : ℕ). HasRoom (min 1 (27 * n + besides)) n c.in_ok-room.room) c.count-undone.ensures c.in_ok-room.ensures.room)
 
+pub play-stepped-requires-clause-numbers : goal.play-stepped-requires-clause-numbers
+play-stepped-requires-clause-numbers c stopped = subst (λ (n : ℕ). n ≤ c.in_ok-room.room.numbers) c.count-undone.ensures c.in_ok-room.ensures.numbers
+
 pub returns-clause-sound : goal.returns-clause-sound
 returns-clause-sound c =
     let w : Machine = c.args.self.now in
