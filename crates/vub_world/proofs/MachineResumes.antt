@@ -267,7 +267,7 @@ start_room_next q t w before queue memory disk m x r r' r'' has at made room sam
     let old : QueueStands q h w.front.setup m (state_of before) = (subst (λ (l : Option (Option Queue)). LifeAt q h w.front.setup m l) has at.life).1.2 in
     let still : started (one_turn h q t m).next.scene.past q ≡ false = sym made.at.life.1.2.at.started ∙ stopped in
     let stay = numbers_stay q h w.front.outstanding (values_of disk) (stores_in memory) (answers_shown q w.front.outstanding (bytes_in w.memory) w.life) (numbers_of w.front.outstanding (state_of queue)) r'.numbers r''.numbers x m.scene
-        (ap (λ (is : List Item). started (after_items h is m.scene).past q) (sym made.items_are) ∙ still) kept in
+    (ap (λ (is : List Item). started (after_items h is m.scene).past q) (sym made.items_are) ∙ still) kept in
     let few = room (old.at.started ∙ stay.0) in
     omega (arith, few, same, stay.1)
 

@@ -34,7 +34,8 @@ impl World {
     ghost use Rattle.vub_world.specs.MachineAt.{StandsFor};
     ghost use Rattle.vub_world.specs.World.{header_in, disk_in, offers_in, LendsRecord};
 
-    /// A world in which nothing has happened: the driver's memory and the disk are zero.
+    /// A world in which nothing has happened: memory and disk are zero, but for avail.idx and used.idx of
+    /// each queue, which stand at the base.
     pub fn new(alloc: Global, header: &Header1) -> Result<World, Memory>
         requires { IsHeader header.now }
         ensures header { IfOk result (λ w. header_in w ≡ header.now) }

@@ -15,10 +15,10 @@ loop-head-preserved c =
     let items : c.push_reserved.new.self.items ≡ c.loop-head.numbers.items ++ c.number.result ∷ [] = c.push_reserved.ensures.items in
     let more : length c.push_reserved.new.self.items ≡ i + 1 = ap (λ (l : List ℕ). length l) items ∙ length_push c.loop-head.numbers.items c.number.result in (
       items
-      ∙ ap (λ (l : List ℕ). l ++ c.number.result ∷ []) c.loop-head.invariant.0
-      ∙ ap (λ (n : ℕ). map f (take i heads) ++ n ∷ []) c.number.ensures
-      ∙ sym (numbers_more f heads i c.in-Some.head found)
-      ∙ ap (λ (k : ℕ). map f (take k heads)) (sym more),
+          ∙ ap (λ (l : List ℕ). l ++ c.number.result ∷ []) c.loop-head.invariant.0
+          ∙ ap (λ (n : ℕ). map f (take i heads) ++ n ∷ []) c.number.ensures
+          ∙ sym (numbers_more f heads i c.in-Some.head found)
+          ∙ ap (λ (k : ℕ). map f (take k heads)) (sym more),
       omega (arith, c.loop-head.invariant.1, c.push_reserved.ensures.capacity),
     )
 
