@@ -1,3 +1,4 @@
+pub mod BeginFacts
 pub mod CounterLemmas
 pub mod FactsLemmas
 pub mod QueueHeld

@@ -23,7 +23,7 @@ use Rattle.vub_queue.specs.declared.queue.Completed.{Completed}
 use Rattle.vub_queue.specs.declared.queue.Queue.{Queue}
 use Rattle.vub_queue.specs.declared.queue.Stepped.{Stepped}
 use Rattle.vub_queue.specs.declared.queue.Stepped.TheVariants as says
-use Rattle.vub_queue.specs.QueueParts.{element, is_taken, taken_count, without_heads, heads_below, phase_fits, head_fits, shown_of}
+use Rattle.vub_queue.specs.QueueParts.{element, is_taken, taken_count, without_heads, elements_fit, phase_fits, head_fits, shown_of}
 use Rattle.vub_queue.specs.QueueState.{QueueState, state_of, publishes, Unless, worked, done_at, Works, StepsAt, StepsOut, WorksOut, IfStepped, Advances, concluded, said, sector_at, IsDue, Rests, halted}
 use Rattle.vub_task.specs.TaskState.{Making, IfMade, HasMade, LooksAt, answer_in, answer_to, memory_after, values_after, store_in, with_maybe, head_in}
 use Rattle.vub_steps.specs.Tasks as Tasks
@@ -33,29 +33,32 @@ use Rattle.vub_device.specs.declared.entry.Asked.{Asked}
 use Rattle.vub_steps.specs.Tasks.{status_of, used_len}
 use Rattle.vub_disk.specs.Values.{Values}
 
--- heads that lie in the table
-pub below_first : (size : ℕ) (x : Completed) (xs : List Completed) → heads_below size (x ∷ xs) ≡ true → x.head < size
+-- heads that lie in the table, and lengths that are 32-bit numbers
+pub below_first : (size : ℕ) (x : Completed) (xs : List Completed) → elements_fit size (x ∷ xs) ≡ true → x.head < size
 below_first size x xs h = grind (arith, nat_tests)
 
-pub below_rest : (size : ℕ) (x : Completed) (xs : List Completed) → heads_below size (x ∷ xs) ≡ true → heads_below size xs ≡ true
+len_first : (size : ℕ) (x : Completed) (xs : List Completed) → elements_fit size (x ∷ xs) ≡ true → x.len < 4294967296
+len_first size x xs h = grind (arith, nat_tests)
+
+pub below_rest : (size : ℕ) (x : Completed) (xs : List Completed) → elements_fit size (x ∷ xs) ≡ true → elements_fit size xs ≡ true
 below_rest size x xs h = grind (arith, nat_tests)
 
-pub below_more : (size : ℕ) (xs : List Completed) (x : Completed) → heads_below size xs ≡ true → x.head < size → heads_below size (xs ++ x ∷ []) ≡ true
-below_more size [] x h fits = grind (arith, nat_tests)
-below_more size (y ∷ ys) x h fits = grind (arith, nat_tests, below_more size ys x)
+pub below_more : (size : ℕ) (xs : List Completed) (x : Completed) → elements_fit size xs ≡ true → x.head < size → x.len < 4294967296 → elements_fit size (xs ++ x ∷ []) ≡ true
+below_more size [] x h fits long = grind (arith, nat_tests)
+below_more size (y ∷ ys) x h fits long = grind (arith, nat_tests, below_more size ys x)
 
-pub below_drop : (size n : ℕ) (xs : List Completed) → heads_below size xs ≡ true → heads_below size (drop n xs) ≡ true
+pub below_drop : (size n : ℕ) (xs : List Completed) → elements_fit size xs ≡ true → elements_fit size (drop n xs) ≡ true
 below_drop size zero xs h = h
 below_drop size (suc n) [] h = refl
 below_drop size (suc n) (x ∷ xs) h = below_drop size n xs (below_rest size x xs h)
 
-pub below_take : (size n : ℕ) (xs : List Completed) → heads_below size xs ≡ true → heads_below size (take n xs) ≡ true
+pub below_take : (size n : ℕ) (xs : List Completed) → elements_fit size xs ≡ true → elements_fit size (take n xs) ≡ true
 below_take size zero xs h = refl
 below_take size (suc n) [] h = refl
 below_take size (suc n) (x ∷ xs) h = grind (arith, nat_tests, below_take size n xs)
 
 -- that of an element
-pub below_at : (size : ℕ) (xs : List Completed) (i : ℕ) (x : Completed) → heads_below size xs ≡ true → slice_get (map element xs) i ≡ Some (element x) → x.head < size
+pub below_at : (size : ℕ) (xs : List Completed) (i : ℕ) (x : Completed) → elements_fit size xs ≡ true → slice_get (map element xs) i ≡ Some (element x) → x.head < size
 below_at size [] zero x h at = absurd (cc at)
 below_at size [] (suc i) x h at = absurd (cc at)
 below_at size (y ∷ ys) zero x h at =

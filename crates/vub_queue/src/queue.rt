@@ -1,7 +1,7 @@
 //! The device's side of one split queue: each turn makes one step (VIRTIO 1.2, 2.7.7 and 2.7.8).
 ghost use Rattle.std.specs.Prelude.{◌≡◌, ◌<◌, ◌≤◌, ◌+◌, ◌++◌, ℕ, true, false, Some, length, map, take, drop, set, slice_get, vec_len, vec_capacity, IfOk};
 ghost use Rattle.vub_split.specs.Split.{RingLies};
-ghost use Rattle.vub_queue.specs.QueueParts.{element, is_taken, taken_count, takes_none_before, with_heads, without_heads, heads_below, phase_fits, head_fits, shown_of};
+ghost use Rattle.vub_queue.specs.QueueParts.{element, is_taken, taken_count, takes_none_before, with_heads, without_heads, elements_fit, phase_fits, head_fits, shown_of};
 ghost use Rattle.vub_inflight.specs.Entries.{AreEntries, heads_of, next_counter};
 ghost use Rattle.vub_task.specs.TaskState.{fresh_task};
 ghost use Rattle.vub_steps.specs.Readiness.{is_publication, last_counter};
@@ -124,7 +124,7 @@ pub struct Queue {
     ghost space: { ring.size ≤ vec_capacity completed },
     ghost all: { vec_len unfinished + vec_len completed ≤ ring.size },
     ghost counted: { vec_len unfinished + vec_len completed ≤ taken_count taken.items + shown_of phase batch },
-    ghost in_table: { heads_below ring.size completed.items ≡ true },
+    ghost in_table: { elements_fit ring.size completed.items ≡ true },
     ghost batched: { batch ≤ vec_len completed },
     ghost fits: { phase_fits phase batch bell started ≡ true },
     ghost unstarted: { takes_none_before started taken.items ≡ true },
@@ -156,7 +156,7 @@ fn is_publication(phase: Phase) -> bool
 
 /// The heads of these are free.
 fn release(taken: &mut [bool], batch: &[Completed])
-    requires { heads_below (length taken.old) batch.now ≡ true }
+    requires { elements_fit (length taken.old) batch.now ≡ true }
     ensures { taken.new ≡ without_heads (map element batch.now) taken.old }
 {
     for completed in batch {
