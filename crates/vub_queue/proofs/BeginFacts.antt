@@ -28,7 +28,7 @@ use Rattle.vub_queue.specs.QueueFacts.{hidden_part, hidden_in, held_in, kept_hea
 use Rattle.vub_queue.proofs.QueueHeld.{keeps_alike, keeps_begun}
 use Rattle.vub_queue.proofs.FactsLemmas.{head_seen}
 use Rattle.vub_queue.proofs.StepFacts.{InRun}
-use Rattle.vub_queue.proofs.TurnFacts.{facts_run, move_keeps}
+use Rattle.vub_queue.proofs.TurnFacts.{facts_run, row_heads, move_keeps}
 
 -- ---- a turn that goes on from the begin of its phase
 
@@ -83,8 +83,8 @@ fetch_first heads base plan s m x rest ready finds =
     let l = x.laid in
     let next : ℕ = head_next heads (words_in s m) in
     let here : head_word s.ring m s.next_avail ≡ next = head_seen heads base s m l x.runs.keeps.held in
-    let low : next < s.ring.size = subst (λ (d : ℕ). d < s.ring.size) here finds.2.1 in
-    let free : is_among heads next ≡ false = sym ((x.runs.keeps.held (words_in s m) refl).taken next low) ∙ subst (λ (d : ℕ). is_taken s.taken d ≡ false) here finds.2.2 in
+    let low : next < s.ring.size = subst (λ (d : ℕ). d < s.ring.size) here finds.2 in
+    let free : is_among heads next ≡ false = sym ((x.runs.keeps.held (words_in s m) refl).taken next low) ∙ subst (λ (d : ℕ). is_taken s.taken d ≡ false) here finds.3 in
     let counts : s.counter < 18446744073709551615 = grind (arith, nat_tests, ap is_fetch rest) in
     let some : 0 < ahead (words_in s m).ring.avail (used_idx_word s.ring m + length heads) = omega (arith, finds.0.some, waits_as heads base plan s m x) in record {
       laid = record { lies = l.lies; one_space = l.one_space; same_ring = l.same_ring; base_is = l.base_is; places = l.places };
@@ -160,7 +160,8 @@ first_says : (heads : List ℕ) (most : ℕ) (s t : QueueState) (m : Bytes) (x :
 first_says heads most s t m x some moves =
     let first : step_in (begun most s) ≡ Some (steps.Id 0) = in_element (length (take most s.completed)) s.bell 0 (omega (arith, some)) in
     let y : MovesBy (Some (steps.Id 0)) m x (begun most s) t = subst (λ (o : Option Step). MovesBy o m x (begun most s) t) first moves in
-    ap (λ (z : Stepped). heads_said z (begun most s) heads) y.0 ∙ sym (ap (λ (z : Stepped). heads_said z s heads) y.0)
+    let row : Option Row = row_at (begun most s) m (Some (steps.Id 0)) in
+    ap (λ (z : Stepped). heads_said z (begun most s) heads) y.0 ∙ row_heads row (begun most s) heads ∙ sym (row_heads row s heads) ∙ sym (ap (λ (z : Stepped). heads_said z s heads) y.0)
 
 pub publication_begun : (heads : List ℕ) (base : ℕ) (plan : Plan) (most : ℕ) (s : QueueState) (m : Bytes) → BatchesFit s → InRun heads base plan s m → publishes most s ≡ true → HasBegun heads base plan s (under_way most s) m
 publication_begun heads base plan most s m fit x ready = go s.phase refl

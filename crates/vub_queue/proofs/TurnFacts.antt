@@ -71,7 +71,7 @@ stored_now x (Some y) m now ok stores = same_bytes now (after_store y.store m) (
 -- ---- a step of a fetch or of a publication
 
 -- one that only stores leaves the open heads
-row_heads : (row : Option Row) (s : QueueState) (heads : List ℕ) → heads_said (row_said row) s heads ≡ heads
+pub row_heads : (row : Option Row) (s : QueueState) (heads : List ℕ) → heads_said (row_said row) s heads ≡ heads
 row_heads None s heads = refl
 row_heads (Some y) s heads = refl
 
