@@ -11,3 +11,4 @@ pub mod StartLemmas
 pub mod ResumeLemmas
 pub mod TaskLemmas
 pub mod TurnFacts
+pub mod WorkFacts

@@ -24,7 +24,7 @@ use Rattle.vub_queue.specs.declared.queue.Queue.{Queue}
 use Rattle.vub_queue.specs.declared.queue.Stepped.{Stepped}
 use Rattle.vub_queue.specs.declared.queue.Stepped.TheVariants as says
 use Rattle.vub_queue.specs.QueueParts.{element, is_taken, taken_count, without_heads, elements_fit, phase_fits, head_fits, shown_of}
-use Rattle.vub_queue.specs.QueueState.{QueueState, state_of, publishes, Unless, worked, done_at, Works, StepsAt, StepsOut, WorksOut, IfStepped, Advances, concluded, said, sector_at, IsDue, Rests, halted}
+use Rattle.vub_queue.specs.QueueState.{QueueState, state_of, publishes, Unless, worked, done_at, HasHead, Works, StepsAt, StepsOut, WorksOut, IfStepped, Advances, concluded, said, sector_at, IsDue, Rests, halted}
 use Rattle.vub_task.specs.TaskState.{Making, IfMade, HasMade, LooksAt, answer_in, answer_to, memory_after, values_after, store_in, with_maybe, head_in}
 use Rattle.vub_steps.specs.Tasks as Tasks
 use Rattle.vub_task.proofs.ArmLemmas.{next_still}
@@ -423,16 +423,27 @@ ends_at place head len task sector s u same is status =
     ∙ ap (λ (ts : List Task). record (done_at place (head_in task) len sector s) { unfinished = ts; completed = s.completed ++ (head, len) ∷ [] }) (remove_set s.unfinished place task)
     ∙ ap (λ (k : ℕ). record (done_at place k len sector s) { completed = s.completed ++ (head, len) ∷ [] }) same
 
--- the step of a request and its end, where nothing is said of the step
-pub works_if : (place head : ℕ) (step : made.TaskStep) (s u t : QueueState) → StepsAt place (Some (head, step)) s u → t ≡ concluded place head step u → Works place (said head step) s t
-works_if place head (answers.Stored tag) s u t h is = inr (h.0, h.1, is ∙ h.3)
-works_if place head (answers.Looked sector) s u t h is = inr (h.0, h.1, is ∙ h.3)
-works_if place head (answers.Acted sector) s u t h is = inr (h.0, h.1, is ∙ h.3)
-works_if place head answers.Synced s u t h is = inr (h.0, h.1, is ∙ h.3)
-works_if place head answers.Faulted s u t h is = inr (h.0, h.1, is ∙ h.3)
-works_if place head (answers.Broken fault) s u t h is = inr (h.0, h.1, is ∙ h.3)
-works_if place head answers.Failed s u t h is = inr (h.0, h.1, is ∙ h.3)
-works_if place head (answers.Done status len) s u t h is = (len, h.1, is ∙ ends_at place head len h.0 h.1 s u h.2 h.3 status)
+pub task_there : (xs : List Task) (place : ℕ) → place < length xs → (task : Task) × (slice_get xs place ≡ Some task)
+task_there [] place below = absurd (omega (arith, below))
+task_there (x ∷ xs) zero below = (x, refl)
+task_there (x ∷ xs) (suc place) below = task_there xs place (omega (arith, below))
+
+-- the step of a request and its end, where nothing is said of the step but that it is that of this head
+pub works_if : (place head : ℕ) (step : made.TaskStep) (s u t : QueueState) → HasHead place head s → StepsAt place (Some (head, step)) s u → t ≡ concluded place head step u → Works place (said head step) s t
+works_if place head step s u t has steps is = go step steps is
+  where
+    kept : (next : Task) → head_in next ≡ head → HasHead place (head_in next) s
+    kept next same = subst (λ (k : ℕ). HasHead place k s) (sym same) has
+
+    go : (step : made.TaskStep) → StepsAt place (Some (head, step)) s u → t ≡ concluded place head step u → Works place (said head step) s t
+    go (answers.Stored tag) h is = inr (h.0, h.1, kept h.0 h.2, is ∙ h.3)
+    go (answers.Looked sector) h is = inr (h.0, h.1, kept h.0 h.2, is ∙ h.3)
+    go (answers.Acted sector) h is = inr (h.0, h.1, kept h.0 h.2, is ∙ h.3)
+    go answers.Synced h is = inr (h.0, h.1, kept h.0 h.2, is ∙ h.3)
+    go answers.Faulted h is = inr (h.0, h.1, kept h.0 h.2, is ∙ h.3)
+    go (answers.Broken fault) h is = inr (h.0, h.1, kept h.0 h.2, is ∙ h.3)
+    go answers.Failed h is = inr (h.0, h.1, kept h.0 h.2, is ∙ h.3)
+    go (answers.Done status len) h is = (len, h.1, has, is ∙ ends_at place head len h.0 h.1 s u h.2 h.3 status)
 
 -- a fact about what a task made is one about what the turn made
 pub stepped_if : (P : made.TaskStep → Type 0) (Q : Type 0) (head : ℕ) (step : made.TaskStep) → (P step → Q) → IfMade (Some step) P → IfStepped (said head step) Q
