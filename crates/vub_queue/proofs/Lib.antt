@@ -7,6 +7,7 @@ pub mod LyingLemmas
 pub mod MoveLemmas
 pub mod StableLemmas
 pub mod StepFacts
+pub mod StartFacts
 pub mod StartLemmas
 pub mod ResumeLemmas
 pub mod TaskLemmas

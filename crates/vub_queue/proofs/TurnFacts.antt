@@ -44,7 +44,7 @@ facts_run heads base s m on x =
 
 -- ---- memory after a turn that didn't fail
 
-fine : (x : Stepped) → is_fault x ≡ false → outcome x ≡ Ok tt
+pub fine : (x : Stepped) → is_fault x ≡ false → outcome x ≡ Ok tt
 fine says.Idle e = refl
 fine (says.Stored tag) e = refl
 fine (says.Accepted head) e = refl
@@ -61,7 +61,7 @@ fine says.BellFault e = refl
 fine (says.Broken fault) e = refl
 fine (says.Damaged fault) e = refl
 
-same_bytes : (a b : Bytes) → ◌≡◌ {A = Option Bytes} (Some a) (Some b) → a ≡ b
+pub same_bytes : (a b : Bytes) → ◌≡◌ {A = Option Bytes} (Some a) (Some b) → a ≡ b
 same_bytes a b e = cc
 
 pub stored_now : (x : Stepped) (row : Option Row) (m now : Bytes) → is_fault x ≡ false → StoresRow (Some m) (Some now) x row → now ≡ after_row row m

@@ -1,0 +1,232 @@
+-- A turn of a start carries the facts of a queue on.
+use Rattle.std.proofs.Common.{◌≡◌, ◌≤◌, ◌<◌, ◌⊎◌, ℕ, zero, suc, ◌+◌, ◌*◌, ◌%◌, Bool, true, false, List, [], ◌∷◌, ◌++◌, length, set, get_or, refl, ap, sym, ◌∙◌, subst, inl, inr, arith, cond, map}
+use Rattle.std.specs.Prelude.{Option, Some, None, slice_get, nat_lt, not, ◌&&◌, ◌||◌, ◌==◌, ⊤, Result, Ok, Err}
+use Rattle.std.specs.Option.{option_or}
+use Rattle.std.proofs.lemmas.Bool.{cases_Bool, cases_lt, cases_eq}
+use Rattle.std.proofs.lemmas.Bool.Decides.{nat_tests}
+use Rattle.std.proofs.lemmas.List.{length-map, length-set, get_or-set_same, get_or-set_other}
+use Rattle.vub_base.specs.declared.pending.Pending.{Pending}
+use Rattle.vub_shared.specs.Bytes.{Bytes, Apart}
+use Rattle.vub_shared.specs.Stores.{Store, Stores, after_store}
+use Rattle.vub_device.specs.Past.{is_among}
+use Rattle.vub_device.specs.Places.{are_distinct}
+use Rattle.vub_ring.specs.Ring.{Ring}
+use Rattle.vub_split.specs.Split.{used_idx_word}
+use Rattle.vub_split.specs.Words.{used_bytes}
+use Rattle.vub_split.specs.declared.split.SplitRing.{SplitRing}
+use Rattle.vub_inflight.specs.Entries.{heads_of, next_counter}
+use Rattle.vub_inflight.specs.Links.{link_at}
+use Rattle.vub_inflight.proofs.EntryLemmas.{among_by_counter, distinct_by_counter}
+use Rattle.vub_infl_split.specs.declared.region.SplitRegion.{SplitRegion}
+use Rattle.vub_infl_split.specs.declared.region.SplitStore.{SplitStore}
+use Rattle.vub_infl_split.specs.Region.{RegionWords, words_of, region_size}
+use Rattle.vub_infl_split.specs.Stores.{store_of, tag_of}
+use Rattle.vub_infl_split.specs.Sound.{Sound}
+use Rattle.vub_infl_split.specs.Readings.{open_entries, unchecked_entries}
+use Rattle.vub_infl_split.proofs.ReadingLemmas.{sound_unchecked}
+use Rattle.vub_region_facts.specs.Starts.{Left, InStart}
+use Rattle.vub_steps.specs.declared.steps.Phase.{Phase}
+use Rattle.vub_steps.specs.declared.steps.Phase.TheVariants as phases
+use Rattle.vub_steps.specs.declared.steps.Plan.{Plan}
+use Rattle.vub_steps.specs.declared.steps.Plan.TheVariants as plans
+use Rattle.vub_steps.specs.declared.steps.Step.{Step}
+use Rattle.vub_steps.specs.declared.steps.Step.TheVariants as steps
+use Rattle.vub_steps.specs.Plans.{plan_of}
+use Rattle.vub_steps.specs.Rows.{Sight, region_step, region_step_at, running_step, region_store}
+use Rattle.vub_steps.specs.Steps.{plan_steps, start_steps, bell_steps, next_of, next_step, after_step}
+use Rattle.vub_rec_split.specs.declared.plan.Recovered.{Recovered}
+use Rattle.vub_rec_split.specs.declared.plan.Recovered.TheVariants as recovered
+use Rattle.vub_rec_split.specs.Starts.{RecoveryState, answer_in, due_in, state_after, plan_in, plan_or, unchecked_in, SameQueue}
+use Rattle.vub_rec_split.specs.Stands.{IsApart, StandsAt}
+use Rattle.vub_rec_split.specs.Places.{IsFresh, IsAt}
+use Rattle.vub_rec_split.proofs.PlaceLemmas.{planned, PlannedAlike, planned_alike, fresh_at, fresh_stands, at_stands, at_store, HasStore, at_stores, at_end, EndsStores, at_planned, state_queue}
+use Rattle.vub_rec_split.proofs.PlaceLemmas as places
+use Rattle.vub_task.specs.declared.task.Task.{Task}
+use Rattle.vub_task.specs.TaskState.{head_in, fresh_task}
+use Rattle.vub_facts.specs.Facts.{Side, Words, words_at, Lies, Facts, IsInPhase, IsDue, course_in, head_next, heads_after, counted, side_after, with_phase, next_counter_in, sight, with_stored, words_after}
+use Rattle.vub_facts.specs.Held.{Held}
+use Rattle.vub_facts.proofs.HeadLemmas.{without_none}
+use Rattle.vub_facts.proofs.Places.{bells, start_long, start_goes_on, start_ends}
+use Rattle.vub_facts.proofs.FactStarts.{runs_on, start_begins}
+use Rattle.vub_facts.proofs.FactSteps.{step_keeps}
+use Rattle.vub_facts.proofs.FactWords.{region_words}
+use Rattle.vub_queue.specs.declared.queue.Stepped.{Stepped}
+use Rattle.vub_queue.specs.declared.queue.Stepped.TheVariants as says
+use Rattle.vub_queue.specs.QueueParts.{is_taken, with_heads}
+use Rattle.vub_queue.specs.QueueState as states
+use Rattle.vub_queue.specs.QueueState.{QueueState, rings_next, start_said, start_after, start_due, resumed, ended, Starts, StartsIf, StoresStart, StoresStep, is_fault, outcome}
+use Rattle.vub_queue.specs.QueueFacts.{hidden_part, KeepsHeads, StartingAt, StartsAt, ring_of, words_in, side_of, IsLaid, Keeps, KeepsNothing, IsBeginning, FactsAt, heads_said}
+use Rattle.vub_queue.proofs.TurnFacts.{fine, same_bytes}
+
+-- ---- a queue in a start
+
+-- so many steps of its start were made, with this plan
+pub record InBegin (heads : List ℕ) (base : ℕ) (plan : Plan) (done : ℕ) (s : QueueState) (m : Bytes) : Type 0 where
+  pub laid : IsLaid base s
+  pub off : s.started ≡ false
+  pub nothing : KeepsNothing s
+  pub at : IsAt plan done (words_of s.recovery.region m) (planned s.recovery m)
+  pub stands : StandsAt heads (planned s.recovery m) m
+  pub alike : PlannedAlike s.recovery m
+  pub rung : s.rung ≡ nat_lt (length (plan_steps s.ring.size plan)) done
+  pub facts : Facts s.ring.size heads base (side_of plan (phases.Start done) s) (words_in s m)
+
+-- its recovery goes over the same ring and region
+abbrev Over : (ℕ → ℕ → ℕ → Type 0) → RecoveryState → Bytes → Type 0
+Over P r m = P r.region.size (used_idx_word r.ring m) r.base
+
+over : (P : ℕ → ℕ → ℕ → Type 0) (base : ℕ) (s : QueueState) (m : Bytes) → IsLaid base s → P s.ring.size (used_idx_word s.ring m) base → Over P s.recovery m
+over P base s m l p =
+    let r : RecoveryState = s.recovery in
+    subst (λ (n : ℕ). P n (used_idx_word r.ring m) r.base) (sym l.lies.same_size)
+    (subst (λ (g : SplitRing). P s.ring.size (used_idx_word g m) r.base) (sym l.same_ring) (subst (P s.ring.size (used_idx_word s.ring m)) (sym l.base_is) p))
+
+is_apart : (base : ℕ) (s : QueueState) → IsLaid base s → IsApart s.recovery
+is_apart base s l = subst (λ (r : SplitRing). IsApart (record s.recovery { ring = r })) (sym l.same_ring) (go l.lies.off_used)
+  where
+    go : Apart s.recovery.region.space.number s.recovery.region.place (region_size s.recovery.region.size) (ring_of s).space (ring_of s).used (used_bytes (ring_of s)) → IsApart (record s.recovery { ring = s.ring })
+    go (inl other) = inl other
+    go (inr (inl before)) = inr (inl (omega (arith, before)))
+    go (inr (inr behind)) = inr (inr (omega (arith, behind)))
+
+start_facts : (heads : List ℕ) (base : ℕ) (plan : Plan) (done : ℕ) (s : QueueState) (m : Bytes) → IsLaid base s → s.started ≡ false → Facts s.ring.size heads base (side_of plan (phases.Start done) s) (words_in s m)
+    → InStart s.recovery.region.size (used_idx_word s.recovery.ring m) heads s.recovery.base plan done (words_of s.recovery.region m)
+start_facts heads base plan done s m l off f = over (λ (n used b : ℕ). InStart n used heads b plan done (words_of s.recovery.region m)) base s m l (f.not_started off)
+
+no_plan : (r : RecoveryState) (m : Bytes) → r.plan ≡ None → plan_in r m ≡ plan_of (used_idx_word r.ring m) (words_of r.region m)
+no_plan r m none = ap (λ (o : Option Plan). plan_or o (plan_of (used_idx_word r.ring m) (words_of r.region m))) none
+
+first_rung : (n : ℕ) (rung : Bool) → rung ≡ false → rung ≡ nat_lt n 0
+first_rung n rung none = let low : nat_lt n 0 ≡ false = grind (arith, nat_tests) in none ∙ sym low
+
+-- it begins
+begins_now : (heads : List ℕ) (base : ℕ) (plan : Plan) (s : QueueState) (m : Bytes) → IsLaid base s → s.started ≡ false → KeepsNothing s → IsFresh s.recovery → s.rung ≡ false → Facts s.ring.size heads base (side_of plan phases.Rest s) (words_in s m)
+    → InBegin heads base (plan_of (used_idx_word s.ring m) (words_of s.recovery.region m)) 0 s m
+begins_now heads base plan s m l off nothing fresh silent f =
+    let r : RecoveryState = s.recovery in
+    let begun : Plan = plan_of (used_idx_word s.ring m) (words_of r.region m) in
+    let found : plan_in r m ≡ begun = no_plan r m fresh.no_plan ∙ ap (λ (g : SplitRing). plan_of (used_idx_word g m) (words_of r.region m)) l.same_ring in
+    let at : IsAt begun 0 (words_of r.region m) (planned r m) = subst (λ (p : Plan). IsAt p 0 (words_of r.region m) (planned r m)) found (fresh_at r m fresh) in
+    let left : Left r.region.size (used_idx_word r.ring m) heads r.base (words_of r.region m) = over (λ (n used b : ℕ). Left n used heads b (words_of r.region m)) base s m l (f.not_started off) in
+    let facts : Facts s.ring.size heads base (side_of begun (phases.Start 0) s) (words_in s m) = start_begins s.ring.size heads base (side_of plan phases.Rest s) (words_in s m) off nothing.no_batch f in record {
+      laid = l;
+      off = off;
+      nothing = nothing;
+      at = at;
+      stands = at_stands heads (planned r m) m begun 0 (is_apart base s l) at (start_facts heads base begun 0 s m l off facts);
+      alike = planned_alike heads r m (fresh_stands heads r m (is_apart base s l) fresh left);
+      rung = first_rung (length (plan_steps s.ring.size begun)) s.rung silent;
+      facts = facts;
+    }
+
+-- it goes on
+begins_later : (heads : List ℕ) (base : ℕ) (plan : Plan) (done : ℕ) (s : QueueState) (m : Bytes) → IsLaid base s → s.started ≡ false → KeepsNothing s → StartingAt s.ring.size plan done (words_of s.recovery.region m) s
+    → Facts s.ring.size heads base (side_of plan (phases.Start done) s) (words_in s m) → InBegin heads base plan done s m
+begins_later heads base plan done s m l off nothing start f =
+    let r : RecoveryState = s.recovery in
+    let same : planned r m ≡ r = at_planned r m plan done start.recovery in
+    let stood : StandsAt heads r m = at_stands heads r m plan done (is_apart base s l) start.recovery (start_facts heads base plan done s m l off f) in record {
+      laid = l;
+      off = off;
+      nothing = nothing;
+      at = subst (λ (x : RecoveryState). IsAt plan done (words_of r.region m) x) (sym same) start.recovery;
+      stands = subst (λ (x : RecoveryState). StandsAt heads x m) (sym same) stood;
+      alike = planned_alike heads r m stood;
+      rung = start.rung;
+      facts = f;
+    }
+
+in_begin : (heads : List ℕ) (base : ℕ) (s : QueueState) (m : Bytes) → s.started ≡ false → FactsAt heads base s m → (plan : Plan) × (done : ℕ) × InBegin heads base plan done s m
+in_begin heads base s m off x = go x.phase (x.begins off) x.facts
+  where
+    go : (p : Phase) → IsBeginning x.plan p (words_of s.recovery.region m) s → Facts s.ring.size heads base (side_of x.plan p s) (words_in s m) → (plan : Plan) × (done : ℕ) × InBegin heads base plan done s m
+    go phases.Rest b f = (plan_of (used_idx_word s.ring m) (words_of s.recovery.region m), 0, begins_now heads base x.plan s m x.laid off b.nothing b.starts.0 b.starts.1 f)
+    go (phases.Start done) b f = (x.plan, done, begins_later heads base x.plan done s m x.laid off b.nothing b.starts f)
+    go (phases.Fetch done) b f = runs_on b.in_phase off
+    go (phases.Publish done) b f = runs_on b.in_phase off
+
+-- ---- it goes on in its start
+
+-- with this recovery, and with its bell rung or not
+starts_on : (heads : List ℕ) (base : ℕ) (plan : Plan) (done : ℕ) (s : QueueState) (r : RecoveryState) (rung : Bool) (now : Bytes) → IsLaid base s → s.started ≡ false → KeepsNothing s → SameQueue s.recovery r → IsAt plan done (words_of s.recovery.region now) r
+    → rung ≡ nat_lt (length (plan_steps s.ring.size plan)) done → Facts s.ring.size heads base (side_of plan (phases.Start done) s) (words_in s now) → FactsAt heads base (record s { recovery = r; rung = rung }) now
+starts_on heads base plan done s r rung now l off nothing same at is f = record {
+  plan = plan;
+  phase = phases.Start done;
+  laid = record { lies = subst (Lies (ring_of s)) (sym same.region) l.lies; one_space = l.one_space; same_ring = same.ring ∙ l.same_ring; base_is = same.base ∙ l.base_is; places = l.places };
+  keeps = λ on. runs_on on off;
+  begins = λ no. record {
+    in_phase = off;
+    starts = record { recovery = subst (λ (g : SplitRegion). IsAt plan done (words_of g now) r) (sym same.region) at; rung = is };
+    nothing = record { rests = nothing.rests; no_head = nothing.no_head; no_batch = nothing.no_batch; none_completed = nothing.none_completed; none_unfinished = nothing.none_unfinished; none_taken = nothing.none_taken };
+  };
+  facts = subst (λ (g : SplitRegion). Facts s.ring.size heads base (side_of plan (phases.Start done) s) (words_at (ring_of s) g now)) (sym same.region) f;
+}
+
+-- ---- a store
+
+-- a step of a start that stores this leaves all but the words of the region
+record IsStartStore (step : Step) : Type 0 where
+  pub heads : (next : ℕ) (batch : List (ℕ × ℕ)) (hs : List ℕ) → heads_after step next batch hs ≡ hs
+  pub side : (next : ℕ) (x : Side) → counted next step x ≡ x
+  pub words : (r : Ring) (z : Sight) (w : Words) → words_after r z step w ≡ with_stored r.size (region_store z step) w
+
+start_store : (used link : ℕ) (x : SplitStore) (step : Step) → region_step used link step ≡ Some x → IsStartStore step
+start_store used link x steps.Features is = record { heads = λ a b c. refl; side = λ a b. refl; words = λ a b c. refl }
+start_store used link x (steps.Free i) is = record { heads = λ a b c. refl; side = λ a b. refl; words = λ a b c. refl }
+start_store used link x steps.Open is = record { heads = λ a b c. refl; side = λ a b. refl; words = λ a b c. refl }
+start_store used link x (steps.Settle i) is = record { heads = λ a b c. refl; side = λ a b. refl; words = λ a b c. refl }
+start_store used link x steps.SettleEnd is = record { heads = λ a b c. refl; side = λ a b. refl; words = λ a b c. refl }
+start_store used link x steps.Bell is = absurd (cc)
+start_store used link x steps.Start is = absurd (cc)
+start_store used link x steps.Count is = absurd (cc)
+start_store used link x steps.Accept is = absurd (cc)
+start_store used link x (steps.Id e) is = absurd (cc)
+start_store used link x (steps.Len e) is = absurd (cc)
+start_store used link x (steps.Link e) is = absurd (cc)
+start_store used link x (steps.Head e) is = absurd (cc)
+start_store used link x steps.Index is = absurd (cc)
+start_store used link x (steps.Clear e) is = absurd (cc)
+start_store used link x steps.Note is = absurd (cc)
+
+get_in_first : (xs ys : List Step) (i : ℕ) (step : Step) → slice_get xs i ≡ Some step → slice_get (xs ++ ys) i ≡ Some step
+get_in_first [] ys i step is = nowhere i is
+  where
+    nowhere : (i : ℕ) → slice_get {X = Step} [] i ≡ Some step → slice_get ys i ≡ Some step
+    nowhere zero e = absurd (cc)
+    nowhere (suc i) e = absurd (cc)
+get_in_first (x ∷ xs) ys zero step is = is
+get_in_first (x ∷ xs) ys (suc i) step is = get_in_first xs ys i step is
+
+-- the step that stores this comes next
+record HasStep (n : ℕ) (plan : Plan) (done used link : ℕ) (x : SplitStore) : Type 0 where
+  pub step : Step
+  pub there : slice_get (plan_steps n plan) done ≡ Some step
+  pub stores : region_step used link step ≡ Some x
+
+has_step : (n : ℕ) (plan : Plan) (done used link : ℕ) (x : SplitStore) → region_step_at used link (slice_get (plan_steps n plan) done) ≡ Some x → HasStep n plan done used link x
+has_step n plan done used link x is = go (slice_get (plan_steps n plan) done) refl is
+  where
+    go : (o : Option Step) → slice_get (plan_steps n plan) done ≡ o → region_step_at used link o ≡ Some x → HasStep n plan done used link x
+    go None there e = absurd (cc)
+    go (Some step) there e = record { step = step; there = there; stores = e }
+
+stores_facts : (heads : List ℕ) (base : ℕ) (plan : Plan) (done : ℕ) (s : QueueState) (m : Bytes) (x : SplitStore) → InBegin heads base plan done s m → done < length (plan_steps s.ring.size plan) → HasStep s.ring.size plan done (used_idx_word s.ring m) (link_at (words_in s m).region.next done (words_in s m).region.last_batch_head) x
+    → Facts s.ring.size heads base (side_of plan (phases.Start (done + 1)) s) (with_stored s.ring.size (Some x) (words_in s m))
+stores_facts heads base plan done s m x b more h =
+    let n : ℕ = s.ring.size in
+    let w : Words = words_in s m in
+    let side : Side = side_of plan (phases.Start done) s in
+    let z : Sight = sight heads side w in
+    let next : ℕ = next_counter_in n w in
+    let p : Phase = phases.Start (done + 1) in
+    let kind : IsStartStore h.step = start_store (used_idx_word s.ring m) (link_at w.region.next done w.region.last_batch_head) x h.step h.stores in
+    let due : IsDue n h.step side = record { in_phase = b.off; next = get_in_first (plan_steps n plan) (bell_steps s.bell ++ (steps.Start ∷ [])) done h.step h.there } in
+    let stored : region_store z h.step ≡ Some x = ap (λ (o : Option SplitStore). option_or o (running_step z h.step)) h.stores in
+    let words : words_after (ring_of s) z h.step w ≡ with_stored n (Some x) w = kind.words (ring_of s) z w ∙ ap (λ (o : Option SplitStore). with_stored n o w) stored in
+    let after : after_step (course_in n side) (phases.Start done) ≡ p = start_goes_on n side done refl (omega (arith, more)) in
+    let kept : Facts n (heads_after h.step (head_next heads w) s.batch heads) base (side_after n next h.step side) (words_after (ring_of s) z h.step w) = step_keeps (ring_of s) s.recovery.region heads base h.step side w b.laid.lies due b.facts in
+    subst (λ (v : Words). Facts n heads base (with_phase p side) v) words
+    (subst (λ (y : Side). Facts n heads base (with_phase p y) (words_after (ring_of s) z h.step w)) (kind.side next side)
+    (subst (λ (q : Phase). Facts n heads base (with_phase q (counted next h.step side)) (words_after (ring_of s) z h.step w)) after
+    (subst (λ (hs : List ℕ). Facts n hs base (side_after n next h.step side) (words_after (ring_of s) z h.step w)) (kind.heads (head_next heads w) s.batch heads) kept)))
