@@ -20,7 +20,8 @@ use Rattle.vub_inflight.proofs.EntryLemmas.{among_by_counter, distinct_by_counte
 use Rattle.vub_infl_split.specs.declared.region.SplitRegion.{SplitRegion}
 use Rattle.vub_infl_split.specs.declared.region.SplitStore.{SplitStore}
 use Rattle.vub_infl_split.specs.Region.{RegionWords, words_of, region_size}
-use Rattle.vub_infl_split.specs.Stores.{store_of, tag_of}
+use Rattle.vub_infl_split.specs.Stores.{store_of, tag_of, NamesEntry, ValueFits}
+use Rattle.vub_infl_split.specs.Stores.{words_after as words_after_region}
 use Rattle.vub_infl_split.specs.Sound.{Sound}
 use Rattle.vub_infl_split.specs.Readings.{open_entries, unchecked_entries}
 use Rattle.vub_infl_split.proofs.ReadingLemmas.{sound_unchecked}
@@ -230,3 +231,76 @@ stores_facts heads base plan done s m x b more h =
     (subst (λ (y : Side). Facts n heads base (with_phase p y) (words_after (ring_of s) z h.step w)) (kind.side next side)
     (subst (λ (q : Phase). Facts n heads base (with_phase q (counted next h.step side)) (words_after (ring_of s) z h.step w)) after
     (subst (λ (hs : List ℕ). Facts n hs base (side_after n next h.step side) (words_after (ring_of s) z h.step w)) (kind.heads (head_next heads w) s.batch heads) kept)))
+
+-- the queue stores what is due, and stands in its next place
+stores_keep : (heads : List ℕ) (base : ℕ) (plan : Plan) (done : ℕ) (s : QueueState) (m now : Bytes) (x : SplitStore) → InBegin heads base plan done s m → done < length (plan_steps s.ring.size plan) → HasStore (planned s.recovery m) m plan done → due_in s.recovery m ≡ Some x
+    → now ≡ after_store (store_of s.recovery.region x) m → FactsAt heads base (record s { recovery = state_after s.recovery m }) now
+stores_keep heads base plan done s m now x b more has due is =
+    let n : ℕ = s.ring.size in
+    let r : RecoveryState = s.recovery in
+    let g : SplitRegion = r.region in
+    let w : Words = words_in s m in
+    let one : Some has.store ≡ Some x = sym has.due ∙ sym b.alike.due ∙ due in
+    let same : has.store ≡ x = cc in
+    let link : ℕ = link_at w.region.next done w.region.last_batch_head in
+    let at_ring : region_step_at (used_idx_word s.ring m) link (slice_get (plan_steps n plan) done) ≡ Some x =
+    ap (λ (k : ℕ). region_step_at (used_idx_word s.ring m) link (slice_get (plan_steps k plan) done)) (sym b.laid.lies.same_size)
+    ∙ ap (λ (q : SplitRing). region_step_at (used_idx_word q m) link (slice_get (plan_steps g.size plan) done)) (sym b.laid.same_ring)
+    ∙ has.next ∙ ap (λ (y : SplitStore). Some y) same in
+    let within : NamesEntry n x = subst (λ (y : SplitStore). NamesEntry n y) same (subst (λ (k : ℕ). NamesEntry k has.store) b.laid.lies.same_size has.within) in
+    let fits : ValueFits x = subst ValueFits same has.fits in
+    let words : words_in s now ≡ with_stored n (Some x) w = ap (words_in s) is ∙ region_words (ring_of s) g x m b.laid.lies within fits in
+    let facts : Facts n heads base (side_of plan (phases.Start (done + 1)) s) (words_in s now) =
+    subst (λ (v : Words). Facts n heads base (side_of plan (phases.Start (done + 1)) s) v) (sym words) (stores_facts heads base plan done s m x b more (has_step n plan done (used_idx_word s.ring m) link x at_ring)) in
+    let place : done < length (plan_steps g.size plan) = subst (λ (k : ℕ). done < length (plan_steps k plan)) (sym b.laid.lies.same_size) more in
+    let stored : places.Stores plan done (planned r m) m x =
+    at_stores heads (planned r m) m plan done x b.stands b.at (start_facts heads base plan done s m b.laid b.off b.facts) place (sym b.alike.due ∙ due) in
+    let region : words_of g now ≡ words_after_region g.size x (words_of g m) = ap (λ (v : Words). v.region) words ∙ ap (λ (k : ℕ). words_after_region k x (words_of g m)) (sym b.laid.lies.same_size) in
+    let at : IsAt plan (done + 1) (words_of g now) (state_after r m) =
+    subst (λ (v : RegionWords). IsAt plan (done + 1) v (state_after r m)) (sym region) (subst (λ (y : RecoveryState). IsAt plan (done + 1) (words_after_region g.size x (words_of g m)) y) (sym b.alike.state) stored.goes) in
+    let rung : s.rung ≡ nat_lt (length (plan_steps n plan)) (done + 1) =
+    (let before : nat_lt (length (plan_steps n plan)) done ≡ false = grind (arith, nat_tests) in let later : nat_lt (length (plan_steps n plan)) (done + 1) ≡ false = grind (arith, nat_tests) in b.rung ∙ before ∙ sym later) in
+    starts_on heads base plan (done + 1) s (state_after r m) s.rung now b.laid b.off b.nothing (state_queue r m) at rung facts
+
+-- ---- no store is left
+
+record NoneLeft (s : QueueState) (m : Bytes) : Type 0 where
+  pub due : due_in s.recovery m ≡ None
+  pub answer : answer_in s.recovery m ≡ recovered.Done
+  pub ends : (state_after s.recovery m).plan ≡ Some plans.Settled
+
+none_left : (heads : List ℕ) (base : ℕ) (plan : Plan) (done : ℕ) (s : QueueState) (m : Bytes) → InBegin heads base plan done s m → length (plan_steps s.ring.size plan) ≤ done → NoneLeft s m
+none_left heads base plan done s m b all =
+    let r : RecoveryState = s.recovery in
+    let settled : (planned r m).plan ≡ Some plans.Settled = b.at.settled (subst (λ (n : ℕ). length (plan_steps n plan) ≤ done) (sym b.laid.lies.same_size) all) in
+    let ends : EndsStores (planned r m) m = at_end (planned r m) m settled in record {
+      due = b.alike.due ∙ ends.due;
+      answer = b.alike.answer ∙ ends.answers;
+      ends = ap (λ (y : RecoveryState). y.plan) (b.alike.state ∙ ends.stays) ∙ settled;
+    }
+
+-- a recovery with no store left is in any place behind them
+settled_at : (n : ℕ) (plan : Plan) (place : ℕ) (w : RegionWords) (r : RecoveryState) → r.region.size ≡ n → r.plan ≡ Some plans.Settled → length (plan_steps n plan) ≤ place → IsAt plan place w r
+settled_at n plan place w r size settled all = record { stores = λ more. absurd (let less : place < length (plan_steps n plan) = subst (λ (k : ℕ). place < length (plan_steps k plan)) size more in omega (arith, less, all)); settled = λ behind. settled }
+
+-- and so are the facts
+settled_facts : (heads : List ℕ) (base : ℕ) (plan : Plan) (done place : ℕ) (s : QueueState) (m : Bytes) → InBegin heads base plan done s m → length (plan_steps s.ring.size plan) ≤ done → length (plan_steps s.ring.size plan) ≤ place
+    → Facts s.ring.size heads base (side_of plan (phases.Start place) s) (words_in s m)
+settled_facts heads base plan done place s m b all behind = record {
+  used_fits = b.facts.used_fits;
+  not_started = λ off. record { stores = λ more. absurd (omega (arith, more, behind)); settled = λ ends. (b.facts.not_started off).settled all };
+  in_life = λ on. runs_on on b.off;
+  batch = b.facts.batch;
+}
+
+-- the bell
+bell_keeps : (heads : List ℕ) (base : ℕ) (plan : Plan) (done : ℕ) (s : QueueState) (m : Bytes) → InBegin heads base plan done s m → length (plan_steps s.ring.size plan) ≤ done → FactsAt heads base (record s { recovery = state_after s.recovery m; rung = true }) m
+bell_keeps heads base plan done s m b all =
+    let n : ℕ = s.ring.size in
+    let r : RecoveryState = s.recovery in
+    let place : ℕ = length (plan_steps n plan) + 1 in
+    let left : NoneLeft s m = none_left heads base plan done s m b all in
+    let same : SameQueue r (state_after r m) = state_queue r m in
+    let size : (state_after r m).region.size ≡ n = ap (λ (g : SplitRegion). g.size) same.region ∙ b.laid.lies.same_size in
+    let rung : true ≡ nat_lt (length (plan_steps n plan)) place = (let now : nat_lt (length (plan_steps n plan)) place ≡ true = grind (arith, nat_tests) in sym now) in
+    starts_on heads base plan place s (state_after r m) true m b.laid b.off b.nothing same (settled_at n plan place (words_of r.region m) (state_after r m) size left.ends (omega arith)) rung (settled_facts heads base plan done place s m b all (omega arith))
