@@ -12,4 +12,5 @@ pub mod StartLemmas
 pub mod ResumeLemmas
 pub mod TaskLemmas
 pub mod TurnFacts
+pub mod TurnKeeps
 pub mod WorkFacts

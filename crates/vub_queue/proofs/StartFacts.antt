@@ -23,7 +23,7 @@ use Rattle.vub_infl_split.specs.Region.{RegionWords, words_of, region_size}
 use Rattle.vub_infl_split.specs.Stores.{store_of, tag_of, NamesEntry, ValueFits}
 use Rattle.vub_infl_split.specs.Stores.{words_after as words_after_region}
 use Rattle.vub_infl_split.specs.Sound.{Sound}
-use Rattle.vub_infl_split.specs.Readings.{open_entries, unchecked_entries}
+use Rattle.vub_infl_split.specs.Readings.{one_each, is_open, open_entries, unchecked_entries}
 use Rattle.vub_infl_split.proofs.ReadingLemmas.{sound_unchecked}
 use Rattle.vub_region_facts.specs.Starts.{Left, InStart}
 use Rattle.vub_steps.specs.declared.steps.Phase.{Phase}
@@ -44,8 +44,8 @@ use Rattle.vub_rec_split.proofs.PlaceLemmas.{planned, PlannedAlike, planned_alik
 use Rattle.vub_rec_split.proofs.PlaceLemmas as places
 use Rattle.vub_task.specs.declared.task.Task.{Task}
 use Rattle.vub_task.specs.TaskState.{head_in, fresh_task}
-use Rattle.vub_facts.specs.Facts.{Side, Words, words_at, Lies, Facts, IsInPhase, IsDue, course_in, head_next, heads_after, counted, side_after, with_phase, next_counter_in, sight, with_stored, words_after}
-use Rattle.vub_facts.specs.Held.{Held}
+use Rattle.vub_facts.specs.Facts.{Side, Words, words_at, heads_in, Lies, Facts, IsInPhase, IsDue, course_in, head_next, heads_after, counted, side_after, with_phase, next_counter_in, sight, with_stored, words_after}
+use Rattle.vub_facts.specs.Held.{Held, Splits}
 use Rattle.vub_facts.proofs.HeadLemmas.{without_none}
 use Rattle.vub_facts.proofs.Places.{bells, start_long, start_goes_on, start_ends}
 use Rattle.vub_facts.proofs.FactStarts.{runs_on, start_begins}
@@ -57,6 +57,7 @@ use Rattle.vub_queue.specs.QueueParts.{is_taken, with_heads}
 use Rattle.vub_queue.specs.QueueState as states
 use Rattle.vub_queue.specs.QueueState.{QueueState, rings_next, start_said, start_after, start_due, resumed, ended, Starts, StartsIf, StoresStart, StoresStep, is_fault, outcome}
 use Rattle.vub_queue.specs.QueueFacts.{hidden_part, KeepsHeads, StartingAt, StartsAt, ring_of, words_in, side_of, IsLaid, Keeps, KeepsNothing, IsBeginning, FactsAt, heads_said}
+use Rattle.vub_queue.proofs.ResumeLemmas.{length_with}
 use Rattle.vub_queue.proofs.TurnFacts.{fine, same_bytes}
 
 -- ---- a queue in a start
@@ -304,3 +305,182 @@ bell_keeps heads base plan done s m b all =
     let size : (state_after r m).region.size ≡ n = ap (λ (g : SplitRegion). g.size) same.region ∙ b.laid.lies.same_size in
     let rung : true ≡ nat_lt (length (plan_steps n plan)) place = (let now : nat_lt (length (plan_steps n plan)) place ≡ true = grind (arith, nat_tests) in sym now) in
     starts_on heads base plan place s (state_after r m) true m b.laid b.off b.nothing same (settled_at n plan place (words_of r.region m) (state_after r m) size left.ends (omega arith)) rung (settled_facts heads base plan done place s m b all (omega arith))
+
+-- ---- the queue goes on
+
+taken_with : (hs : List ℕ) (taken : List Bool) (d : ℕ) → d < length taken → is_taken (with_heads hs taken) d ≡ (is_among hs d || is_taken taken d)
+taken_with [] taken d low = refl
+taken_with (h ∷ hs) taken d low =
+    let rest : is_taken (with_heads hs (set taken h true)) d ≡ (is_among hs d || is_taken (set taken h true) d) = taken_with hs (set taken h true) d (omega (arith, low, length-set taken h true)) in
+    elim (cases_eq h d) [
+      | inl same ↦
+          let there : get_or (set taken h true) h true ≡ true = get_or-set_same taken h true true (omega (arith, low, same)) in
+          let here : get_or (set taken h true) d true ≡ true = ap (λ (i : ℕ). get_or (set taken h true) i true) (sym same) ∙ there in
+          grind (arith, nat_tests)
+      | inr apart ↦
+          let other : get_or (set taken h true) d true ≡ get_or taken d true = get_or-set_other taken h d true true (λ e. apart (sym e)) in
+          grind (arith, nat_tests)
+    ]
+
+heads_fresh : (hs : List ℕ) → map head_in (map fresh_task hs) ≡ hs
+heads_fresh [] = refl
+heads_fresh (h ∷ hs) = ap (λ (xs : List ℕ). h ∷ xs) (heads_fresh hs)
+
+-- what it keeps agrees with the heads of what is open
+held_resumed : (n : ℕ) (heads : List ℕ) (used : ℕ) (list : List Pending) (s : QueueState) → KeepsNothing s → n ≡ s.ring.size → length s.taken ≡ n → heads_of list ≡ heads → are_distinct heads ≡ true → ((h : ℕ) → is_among heads h ≡ true → h < n) → KeepsHeads n heads used (resumed used list s)
+held_resumed n heads used list s nothing size places reads distinct below w at =
+    let busy_none : heads_in (hidden_part s.phase s.batch ++ s.completed) ≡ [] =
+    ap (λ (p : Phase). heads_in (hidden_part p s.batch ++ s.completed)) nothing.rests ∙ ap heads_in nothing.none_completed in
+    let many : length list ≡ length heads = sym (length-map list (λ (e : Pending). e.head)) ∙ ap length reads in record {
+      distinct = distinct;
+      below = below;
+      avail = omega (arith, at, many);
+      taken = λ d low.
+          let free : is_taken s.taken d ≡ false = nothing.none_taken d (omega (arith, low, size)) in
+          let among : is_taken (with_heads (heads_of list) s.taken) d ≡ (is_among (heads_of list) d || is_taken s.taken d) = taken_with (heads_of list) s.taken d (omega (arith, low, places)) in
+          let same : is_among (heads_of list) d ≡ is_among heads d = ap (λ (hs : List ℕ). is_among hs d) reads in
+          grind (arith, nat_tests);
+      splits = subst (λ (hs : List ℕ). Splits heads hs (map head_in (map fresh_task (heads_of list)))) (sym busy_none) (record {
+        once = refl;
+        opens = λ h held. absurd (let fails : false ≡ true = held in cc);
+        left = heads_fresh (heads_of list) ∙ reads ∙ sym (without_none heads);
+      });
+    }
+
+get_behind : (xs ys : List Step) (i : ℕ) → slice_get (xs ++ ys) (length xs + i) ≡ slice_get ys i
+get_behind [] ys i = let none : 0 + i ≡ i = omega arith in ap (slice_get ys) none
+get_behind (x ∷ xs) ys i = let more : length (x ∷ xs) + i ≡ suc (length xs + i) = omega arith in ap (slice_get ((x ∷ xs) ++ ys)) more ∙ get_behind xs ys i
+
+last_is : (bell : Bool) → slice_get (bell_steps bell ++ (steps.Start ∷ [])) (bells bell) ≡ Some steps.Start
+last_is true = refl
+last_is false = refl
+
+-- the facts after its last step
+started_facts : (heads : List ℕ) (base : ℕ) (plan : Plan) (done : ℕ) (s : QueueState) (m : Bytes) → InBegin heads base plan done s m → length (plan_steps s.ring.size plan) ≤ done
+    → Facts s.ring.size heads base (record (side_of plan phases.Rest s) { started = true; counter = next_counter_in s.ring.size (words_in s m); batch = [] }) (words_in s m)
+started_facts heads base plan done s m b all =
+    let n : ℕ = s.ring.size in
+    let w : Words = words_in s m in
+    let place : ℕ = length (plan_steps n plan) + bells s.bell in
+    let side : Side = side_of plan (phases.Start place) s in
+    let next : ℕ = next_counter_in n w in
+    let due : IsDue n steps.Start side = record { in_phase = b.off; next = get_behind (plan_steps n plan) (bell_steps s.bell ++ (steps.Start ∷ [])) (bells s.bell) ∙ last_is s.bell } in
+    let kept : Facts n heads base (side_after n next steps.Start side) w = step_keeps (ring_of s) s.recovery.region heads base steps.Start side w b.laid.lies due (settled_facts heads base plan done place s m b all (omega arith)) in
+    subst (λ (q : Phase). Facts n heads base (with_phase q (counted next steps.Start side)) w) (start_ends n side refl) kept
+
+-- what its recovery read are the open entries
+reads_open : (heads : List ℕ) (base : ℕ) (plan : Plan) (done : ℕ) (s : QueueState) (m : Bytes) → InBegin heads base plan done s m → Sound s.ring.size (used_idx_word s.ring m) heads (words_of s.recovery.region m)
+    → unchecked_in s.recovery m ≡ open_entries s.ring.size (used_idx_word s.ring m) (words_of s.recovery.region m)
+reads_open heads base plan done s m b sound =
+    let r : RecoveryState = s.recovery in
+    ap (λ (q : SplitRing). unchecked_entries r.region.size (used_idx_word q m) (words_of r.region m)) b.laid.same_ring
+    ∙ ap (λ (k : ℕ). unchecked_entries k (used_idx_word s.ring m) (words_of r.region m)) b.laid.lies.same_size
+    ∙ sound_unchecked s.ring.size (used_idx_word s.ring m) heads (words_of r.region m) sound
+
+-- the heads of what is open are distinct ones of n
+open_distinct : (n used : ℕ) (heads : List ℕ) (w : RegionWords) → Sound n used heads w → are_distinct heads ≡ true
+open_distinct n used heads w sound = ap are_distinct (sym sound.reads) ∙ distinct_by_counter w.counter one_each (is_open used w) n
+
+open_below : (n used : ℕ) (heads : List ℕ) (w : RegionWords) (h : ℕ) → Sound n used heads w → is_among heads h ≡ true → h < n
+open_below n used heads w h sound held =
+    let among : is_among (heads_of (open_entries n used w)) h ≡ (nat_lt h n && is_open used w h) = among_by_counter w.counter one_each (is_open used w) n h in
+    let here : is_among (heads_of (open_entries n used w)) h ≡ true = ap (λ (hs : List ℕ). is_among hs h) sound.reads ∙ held in
+    grind (arith, nat_tests)
+
+started_keeps : (heads : List ℕ) (base : ℕ) (plan : Plan) (done : ℕ) (s : QueueState) (m : Bytes) → InBegin heads base plan done s m → length (plan_steps s.ring.size plan) ≤ done
+    → FactsAt heads base (resumed (used_idx_word s.ring m) (unchecked_in s.recovery m) (record s { recovery = state_after s.recovery m })) m
+started_keeps heads base plan done s m b all =
+    let n : ℕ = s.ring.size in
+    let used : ℕ = used_idx_word s.ring m in
+    let r : RecoveryState = s.recovery in
+    let l = b.laid in
+    let nothing = b.nothing in
+    let list : List Pending = unchecked_in r m in
+    let sound : Sound n used heads (words_of r.region m) = ((b.facts.not_started b.off).settled all).sound in
+    let is_read : list ≡ open_entries n used (words_of r.region m) = reads_open heads base plan done s m b sound in
+    let reads : heads_of list ≡ heads = ap heads_of is_read ∙ sound.reads in
+    let same : SameQueue r (state_after r m) = state_queue r m in
+    let facts : Facts n heads base (record (side_of plan phases.Rest s) { started = true; counter = next_counter list; batch = s.batch }) (words_in s m) =
+    subst (λ (bs : List (ℕ × ℕ)). Facts n heads base (record (side_of plan phases.Rest s) { started = true; counter = next_counter list; batch = bs }) (words_in s m)) (sym nothing.no_batch)
+    (subst (λ (c : ℕ). Facts n heads base (record (side_of plan phases.Rest s) { started = true; counter = c; batch = [] }) (words_in s m)) (sym (ap next_counter is_read)) (started_facts heads base plan done s m b all)) in record {
+      plan = plan;
+      phase = phases.Rest;
+      laid = record { lies = subst (Lies (ring_of s)) (sym same.region) l.lies; one_space = l.one_space; same_ring = same.ring ∙ l.same_ring; base_is = same.base ∙ l.base_is; places = length_with (heads_of list) s.taken ∙ l.places };
+      keeps = λ on. record {
+        in_phase = tt;
+        kept = nothing.rests;
+        fetching = nothing.no_head;
+        held = held_resumed n heads used list (record s { recovery = state_after r m }) (record { rests = nothing.rests; no_head = nothing.no_head; no_batch = nothing.no_batch; none_completed = nothing.none_completed; none_unfinished = nothing.none_unfinished; none_taken = nothing.none_taken })
+            refl l.places reads (open_distinct n used heads (words_of r.region m) sound) (λ h held. open_below n used heads (words_of r.region m) h sound held);
+      };
+      begins = λ off. runs_on refl off;
+      facts = subst (λ (g : SplitRegion). Facts n heads base (record (side_of plan phases.Rest s) { started = true; counter = next_counter list; batch = s.batch }) (words_at (ring_of s) g m)) (sym same.region) facts;
+    }
+
+-- ---- a turn of it
+
+-- nothing is stored where none is due
+same_after : (m now : Bytes) (x : Stepped) (g : SplitRegion) (due : Option SplitStore) → due ≡ None → StoresStep (Some m) (Some now) x g due → now ≡ m
+same_after m now x g None none stores = same_bytes now m stores
+same_after m now x g (Some y) none stores = absurd (cc)
+
+-- and else what is due, unless shared memory failed
+after_due : (m now : Bytes) (x : Stepped) (g : SplitRegion) (due : Option SplitStore) (y : SplitStore) → is_fault x ≡ false → due ≡ Some y → StoresStep (Some m) (Some now) x g due → now ≡ after_store (store_of g y) m
+after_due m now x g None y ok is stores = absurd (cc)
+after_due m now x g (Some z) y ok is stores =
+    let same : z ≡ y = cc in
+    same_bytes now (after_store (store_of g z) m) (subst (λ (o : Result (Unit {0}) (Unit {0})). Stores (Some m) (Some now) o (store_of g z)) (fine x ok) stores) ∙ ap (λ (v : SplitStore). after_store (store_of g v) m) same
+
+begin_turn : (heads : List ℕ) (base : ℕ) (plan : Plan) (done : ℕ) (x : Stepped) (s t : QueueState) (m now : Bytes) → is_fault x ≡ false → StartsIf false (Some m) x s t → StoresStep (Some m) (Some now) x s.recovery.region (due_in s.recovery m) → InBegin heads base plan done s m
+    → FactsAt (heads_said x s heads) base t now
+begin_turn heads base plan done x s t m now ok does stores b = elim (cases_lt done (length (plan_steps n plan))) [
+  | inl more ↦
+      let place : done < length (plan_steps r.region.size plan) = subst (λ (k : ℕ). done < length (plan_steps k plan)) (sym b.laid.lies.same_size) more in
+      let begun = start_facts heads base plan done s m b.laid b.off b.facts in
+      let small : used_idx_word r.ring m < 65536 = subst (λ (q : SplitRing). used_idx_word q m < 65536) (sym b.laid.same_ring) b.facts.used_fits in
+      let has : HasStore (planned r m) m plan done = at_store heads (planned r m) m plan done small b.at begun place in
+      let due : due_in r m ≡ Some has.store = b.alike.due ∙ has.due in
+      let stored : places.Stores plan done (planned r m) m has.store = at_stores heads (planned r m) m plan done has.store b.stands b.at begun place has.due in
+      let answer : answer_in r m ≡ recovered.Stored (tag_of has.store) = b.alike.answer ∙ stored.answers in
+      let is : now ≡ after_store (store_of r.region has.store) m = after_due m now x r.region (due_in r m) has.store ok due stores in
+      left answer refl (stores_keep heads base plan done s m now has.store b more has due is)
+  | inr behind ↦
+      let all : length (plan_steps n plan) ≤ done = omega (arith, behind) in
+      let none : NoneLeft s m = none_left heads base plan done s m b all in
+      let same : now ≡ m = same_after m now x r.region (due_in r m) none.due stores in
+      elim (cases_Bool (rings_next s)) [
+        | inl rings ↦ after_end true rings none.answer refl (subst (λ (v : Bytes). FactsAt heads base (record s { recovery = state_after r m; rung = true }) v) (sym same) (bell_keeps heads base plan done s m b all))
+        | inr silent ↦ after_end false silent none.answer refl (subst (λ (v : Bytes). FactsAt heads base (resumed (used_idx_word s.ring m) (unchecked_in r m) (record s { recovery = state_after r m })) v) (sym same) (started_keeps heads base plan done s m b all))
+      ]
+]
+  where
+    n : ℕ
+    n = s.ring.size
+
+    r : RecoveryState
+    r = s.recovery
+
+    here : (x ≡ start_said (rings_next s) (answer_in s.recovery m)) × (t ≡ start_after (answer_in s.recovery m) (state_after s.recovery m) (used_idx_word s.ring m) (unchecked_in s.recovery m) s)
+    here = does m refl
+
+    left : {answer : Recovered} → answer_in s.recovery m ≡ answer → heads_said (start_said (rings_next s) answer) s heads ≡ heads → FactsAt heads base (start_after answer (state_after s.recovery m) (used_idx_word s.ring m) (unchecked_in s.recovery m) s) now → FactsAt (heads_said x s heads) base t now
+    left is same f =
+        subst (λ (hs : List ℕ). FactsAt hs base t now) (sym (ap (λ (y : Stepped). heads_said y s heads) (here.0 ∙ ap (start_said (rings_next s)) is) ∙ same))
+        (subst (λ (u : QueueState). FactsAt heads base u now) (sym (here.1 ∙ ap (λ (a : Recovered). start_after a (state_after s.recovery m) (used_idx_word s.ring m) (unchecked_in s.recovery m) s) is)) f)
+
+    after_end : (b : Bool) → rings_next s ≡ b → answer_in s.recovery m ≡ recovered.Done → heads_said (start_said b recovered.Done) s heads ≡ heads → FactsAt heads base (ended b (used_idx_word s.ring m) (unchecked_in s.recovery m) (record s { recovery = state_after s.recovery m })) now → FactsAt (heads_said x s heads) base t now
+    after_end b is answer same f = left answer (ap (λ (c : Bool). heads_said (start_said c recovered.Done) s heads) is ∙ same)
+        (subst (λ (c : Bool). FactsAt heads base (ended c (used_idx_word s.ring m) (unchecked_in s.recovery m) (record s { recovery = state_after s.recovery m })) now) (sym is) f)
+
+pub start_keeps : (heads : List ℕ) (base : ℕ) (x : Stepped) (s t : QueueState) (m now : Bytes) → is_fault x ≡ false → Starts (Some m) x s t → StoresStart (Some m) (Some now) x s → FactsAt heads base s m → FactsAt (heads_said x s heads) base t now
+start_keeps heads base x s t m now ok does stores f = elim (cases_Bool s.started) [
+  | inl on ↦
+      let is : StartsIf true (Some m) x s t = subst (λ (b : Bool). StartsIf b (Some m) x s t) on does in
+      let none : start_due s m ≡ None = ap (λ (b : Bool). cond b None (due_in s.recovery m)) on in
+      let same : now ≡ m = same_after m now x s.recovery.region (start_due s m) none (stores m refl) in
+      subst (λ (v : Bytes). FactsAt (heads_said x s heads) base t v) (sym same) (subst (λ (u : QueueState). FactsAt (heads_said x s heads) base u m) (sym is.1) (subst (λ (y : Stepped). FactsAt (heads_said y s heads) base s m) (sym is.0) f))
+  | inr off ↦
+      let due : start_due s m ≡ due_in s.recovery m = ap (λ (b : Bool). cond b None (due_in s.recovery m)) off in
+      let b = in_begin heads base s m off f in
+      begin_turn heads base b.0 b.1 x s t m now ok (subst (λ (c : Bool). StartsIf c (Some m) x s t) off does) (subst (StoresStep (Some m) (Some now) x s.recovery.region) due (stores m refl)) b.2
+]
