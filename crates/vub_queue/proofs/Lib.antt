@@ -1,6 +1,7 @@
 pub mod BeginFacts
 pub mod CounterLemmas
 pub mod FactsLemmas
+pub mod FitLemmas
 pub mod QueueHeld
 pub mod QueueLemmas
 pub mod LyingLemmas

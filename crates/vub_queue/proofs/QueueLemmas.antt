@@ -37,7 +37,7 @@ use Rattle.vub_disk.specs.Values.{Values}
 pub below_first : (size : ℕ) (x : Completed) (xs : List Completed) → elements_fit size (x ∷ xs) ≡ true → x.head < size
 below_first size x xs h = grind (arith, nat_tests)
 
-len_first : (size : ℕ) (x : Completed) (xs : List Completed) → elements_fit size (x ∷ xs) ≡ true → x.len < 4294967296
+pub len_first : (size : ℕ) (x : Completed) (xs : List Completed) → elements_fit size (x ∷ xs) ≡ true → x.len < 4294967296
 len_first size x xs h = grind (arith, nat_tests)
 
 pub below_rest : (size : ℕ) (x : Completed) (xs : List Completed) → elements_fit size (x ∷ xs) ≡ true → elements_fit size xs ≡ true

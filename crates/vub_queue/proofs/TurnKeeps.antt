@@ -81,3 +81,10 @@ turned_keeps turn before after x s t u fit halts does stores heads base m now to
         subst (λ (v : QueueState). FactsAt (heads_said x s heads) base v now) (sym halts) (halts_keep (heads_said x s heads) base x u now
         (does_keep heads base turn x s u m now fit is (subst (λ (o : Option Bytes). DoesOf turn o x s u) told does)
         (subst (λ (o : Option Bytes). DoesStore turn (Some m) o x s) told_now (subst (λ (o : Option Bytes). DoesStore turn o after x s) told stores)) beside f))
+
+-- ---- one of a queue that is stopped
+
+pub stopped_keeps : (turn : Turn) (told : Option Bytes) (x : Stepped) (s t : QueueState) → x ≡ says.Idle → t ≡ s → KeepsFacts turn told told x s t
+stopped_keeps turn told x s t idle same heads base m now before after beside f =
+    subst (λ (y : Stepped). Unless (is_fault y) (FactsAt (heads_said y s heads) base t now)) (sym idle)
+    (subst (λ (u : QueueState). FactsAt heads base u now) (sym same) (subst (FactsAt heads base s) (same_bytes m now (sym before ∙ after)) f))
