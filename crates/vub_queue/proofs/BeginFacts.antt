@@ -1,6 +1,6 @@
 -- A turn of a fetch or of a publication carries the facts of a queue on.
-use Rattle.std.proofs.Common.{◌≡◌, ◌≤◌, ◌<◌, ◌⊎◌, ℕ, zero, suc, ◌+◌, ◌*◌, ◌%◌, Bool, true, false, List, [], ◌∷◌, ◌++◌, length, refl, ap, sym, ◌∙◌, subst, inl, inr, arith, cond}
-use Rattle.std.specs.Prelude.{Option, Some, None, not, take, drop, Result, Ok, Err, nat_lt, ◌&&◌, ◌||◌, get_or, map}
+use Rattle.std.proofs.Common.{◌≡◌, ◌<◌, ℕ, zero, suc, ◌+◌, ◌%◌, Bool, true, false, List, [], ◌∷◌, length, refl, ap, sym, ◌∙◌, subst, arith, cond}
+use Rattle.std.specs.Prelude.{Option, Some, None, take, Ok}
 use Rattle.std.proofs.lemmas.Bool.Decides.{nat_tests}
 use Rattle.vub_shared.specs.Bytes.{Bytes}
 use Rattle.vub_device.specs.Past.{is_among}
@@ -12,23 +12,22 @@ use Rattle.vub_steps.specs.declared.steps.Phase.TheVariants as phases
 use Rattle.vub_steps.specs.declared.steps.Plan.{Plan}
 use Rattle.vub_steps.specs.declared.steps.Step.{Step}
 use Rattle.vub_steps.specs.declared.steps.Step.TheVariants as steps
-use Rattle.vub_steps.specs.Steps.{running_steps, next_of}
 use Rattle.vub_steps.proofs.StepLemmas.{in_element}
 use Rattle.vub_steps.specs.Readiness.{is_fetch, is_publication}
 use Rattle.vub_steps.specs.Rows.{Row}
-use Rattle.vub_facts.specs.Facts.{Side, Words, heads_in, without, Facts, InBatch, ElementsFit, IsInPhase, head_next}
+use Rattle.vub_facts.specs.Facts.{heads_in, without, InBatch, ElementsFit, IsInPhase, head_next}
 use Rattle.vub_facts.proofs.FactStarts.{runs_on}
 use Rattle.vub_facts.proofs.FactSteps.{batch_in, fetch_begins, publication_begins}
 use Rattle.vub_facts.proofs.HeldSteps.{batch_begins}
 use Rattle.vub_queue.specs.declared.queue.Stepped.{Stepped}
 use Rattle.vub_queue.specs.declared.queue.Stepped.TheVariants as says
 use Rattle.vub_queue.specs.QueueParts.{is_taken}
-use Rattle.vub_queue.specs.QueueState.{QueueState, waiting, row_at, step_in, row_said, MovesBy, StoresRow, is_fault, begun, under_way, publishes, fetch_under_way, fetches, Finds}
+use Rattle.vub_queue.specs.QueueState.{QueueState, waiting, row_at, step_in, MovesBy, StoresRow, is_fault, begun, under_way, publishes, fetch_under_way, fetches, Finds}
 use Rattle.vub_queue.specs.QueueFacts.{hidden_part, hidden_in, held_in, kept_head, ring_of, words_in, side_of, FactsAt, heads_said}
 use Rattle.vub_queue.proofs.QueueHeld.{keeps_alike, keeps_begun}
 use Rattle.vub_queue.proofs.FactsLemmas.{head_seen}
 use Rattle.vub_queue.proofs.StepFacts.{InRun}
-use Rattle.vub_queue.proofs.TurnFacts.{facts_run, row_heads, move_keeps}
+use Rattle.vub_queue.proofs.TurnFacts.{row_heads, move_keeps}
 
 -- ---- a turn that goes on from the begin of its phase
 

@@ -1,13 +1,13 @@
 -- A turn of a start carries the facts of a queue on.
-use Rattle.std.proofs.Common.{◌≡◌, ◌≤◌, ◌<◌, ◌⊎◌, ℕ, zero, suc, ◌+◌, ◌*◌, ◌%◌, Bool, true, false, List, [], ◌∷◌, ◌++◌, length, set, get_or, refl, ap, sym, ◌∙◌, subst, inl, inr, arith, cond, map}
-use Rattle.std.specs.Prelude.{Option, Some, None, slice_get, nat_lt, not, ◌&&◌, ◌||◌, ◌==◌, ⊤, Result, Ok, Err}
+use Rattle.std.proofs.Common.{◌≡◌, ◌≤◌, ◌<◌, ℕ, zero, suc, ◌+◌, Bool, true, false, List, [], ◌∷◌, ◌++◌, length, set, get_or, refl, ap, sym, ◌∙◌, subst, inl, inr, arith, cond, map}
+use Rattle.std.specs.Prelude.{Option, Some, None, slice_get, nat_lt, ◌&&◌, ◌||◌, Result}
 use Rattle.std.specs.Option.{option_or}
 use Rattle.std.proofs.lemmas.Bool.{cases_Bool, cases_lt, cases_eq}
 use Rattle.std.proofs.lemmas.Bool.Decides.{nat_tests}
 use Rattle.std.proofs.lemmas.List.{length-map, length-set, get_or-set_same, get_or-set_other}
 use Rattle.vub_base.specs.declared.pending.Pending.{Pending}
 use Rattle.vub_shared.specs.Bytes.{Bytes, Apart}
-use Rattle.vub_shared.specs.Stores.{Store, Stores, after_store}
+use Rattle.vub_shared.specs.Stores.{Stores, after_store}
 use Rattle.vub_device.specs.Past.{is_among}
 use Rattle.vub_device.specs.Places.{are_distinct}
 use Rattle.vub_ring.specs.Ring.{Ring}
@@ -34,7 +34,7 @@ use Rattle.vub_steps.specs.declared.steps.Step.{Step}
 use Rattle.vub_steps.specs.declared.steps.Step.TheVariants as steps
 use Rattle.vub_steps.specs.Plans.{plan_of}
 use Rattle.vub_steps.specs.Rows.{Sight, region_step, region_step_at, running_step, region_store}
-use Rattle.vub_steps.specs.Steps.{plan_steps, start_steps, bell_steps, next_of, next_step, after_step}
+use Rattle.vub_steps.specs.Steps.{plan_steps, bell_steps, after_step}
 use Rattle.vub_rec_split.specs.declared.plan.Recovered.{Recovered}
 use Rattle.vub_rec_split.specs.declared.plan.Recovered.TheVariants as recovered
 use Rattle.vub_rec_split.specs.Starts.{RecoveryState, answer_in, due_in, state_after, plan_in, plan_or, unchecked_in, SameQueue}
@@ -42,21 +42,18 @@ use Rattle.vub_rec_split.specs.Stands.{IsApart, StandsAt}
 use Rattle.vub_rec_split.specs.Places.{IsFresh, IsAt}
 use Rattle.vub_rec_split.proofs.PlaceLemmas.{planned, PlannedAlike, planned_alike, fresh_at, fresh_stands, at_stands, at_store, HasStore, at_stores, at_end, EndsStores, at_planned, state_queue}
 use Rattle.vub_rec_split.proofs.PlaceLemmas as places
-use Rattle.vub_task.specs.declared.task.Task.{Task}
 use Rattle.vub_task.specs.TaskState.{head_in, fresh_task}
-use Rattle.vub_facts.specs.Facts.{Side, Words, words_at, heads_in, Lies, Facts, IsInPhase, IsDue, course_in, head_next, heads_after, counted, side_after, with_phase, next_counter_in, sight, with_stored, words_after}
-use Rattle.vub_facts.specs.Held.{Held, Splits}
+use Rattle.vub_facts.specs.Facts.{Side, Words, words_at, heads_in, Lies, Facts, IsDue, course_in, head_next, heads_after, counted, side_after, with_phase, next_counter_in, sight, with_stored, words_after}
+use Rattle.vub_facts.specs.Held.{Splits}
 use Rattle.vub_facts.proofs.HeadLemmas.{without_none}
-use Rattle.vub_facts.proofs.Places.{bells, start_long, start_goes_on, start_ends}
+use Rattle.vub_facts.proofs.Places.{bells, start_goes_on, start_ends}
 use Rattle.vub_facts.proofs.FactStarts.{runs_on, start_begins}
 use Rattle.vub_facts.proofs.FactSteps.{step_keeps}
 use Rattle.vub_facts.proofs.FactWords.{region_words}
 use Rattle.vub_queue.specs.declared.queue.Stepped.{Stepped}
-use Rattle.vub_queue.specs.declared.queue.Stepped.TheVariants as says
 use Rattle.vub_queue.specs.QueueParts.{is_taken, with_heads}
-use Rattle.vub_queue.specs.QueueState as states
-use Rattle.vub_queue.specs.QueueState.{QueueState, rings_next, start_said, start_after, start_due, resumed, ended, Starts, StartsIf, StoresStart, StoresStep, is_fault, outcome}
-use Rattle.vub_queue.specs.QueueFacts.{hidden_part, KeepsHeads, StartingAt, StartsAt, ring_of, words_in, side_of, IsLaid, Keeps, KeepsNothing, IsBeginning, FactsAt, heads_said}
+use Rattle.vub_queue.specs.QueueState.{QueueState, rings_next, start_said, start_after, start_due, resumed, ended, Starts, StartsIf, StoresStart, StoresStep, is_fault}
+use Rattle.vub_queue.specs.QueueFacts.{hidden_part, KeepsHeads, StartingAt, ring_of, words_in, side_of, IsLaid, KeepsNothing, IsBeginning, FactsAt, heads_said}
 use Rattle.vub_queue.proofs.ResumeLemmas.{length_with}
 use Rattle.vub_queue.proofs.TurnFacts.{fine, same_bytes}
 

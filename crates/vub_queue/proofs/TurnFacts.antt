@@ -1,27 +1,21 @@
 -- A turn of a queue carries its facts on.
-use Rattle.std.proofs.Common.{◌≡◌, ◌≤◌, ◌<◌, ◌⊎◌, ℕ, zero, suc, ◌+◌, ◌*◌, ◌%◌, Bool, true, false, List, [], ◌∷◌, ◌++◌, length, refl, ap, sym, ◌∙◌, subst, inl, inr, arith, cond}
-use Rattle.std.specs.Prelude.{Option, Some, None, not, take, drop, Result, Ok, Err, nat_lt, ◌&&◌, ◌||◌, option_map}
-use Rattle.std.proofs.lemmas.Bool.Decides.{nat_tests}
+use Rattle.std.proofs.Common.{◌≡◌, ℕ, Bool, true, false, List, [], ◌∷◌, ◌++◌, refl, ap, sym, ◌∙◌, subst}
+use Rattle.std.specs.Prelude.{Option, Some, None, Result, Ok}
 use Rattle.vub_shared.specs.Bytes.{Bytes}
-use Rattle.vub_shared.specs.Stores.{Store, Stores, after_store}
-use Rattle.vub_device.specs.Past.{is_among}
-use Rattle.vub_ring.specs.Ring.{ahead}
-use Rattle.vub_split.specs.Split.{used_idx_word, head_word}
+use Rattle.vub_shared.specs.Stores.{Stores, after_store}
+use Rattle.vub_split.specs.Split.{used_idx_word}
 use Rattle.vub_steps.specs.declared.steps.Phase.{Phase}
 use Rattle.vub_steps.specs.declared.steps.Phase.TheVariants as phases
 use Rattle.vub_steps.specs.declared.steps.Plan.{Plan}
 use Rattle.vub_steps.specs.declared.steps.Step.{Step}
 use Rattle.vub_steps.specs.declared.steps.Step.TheVariants as steps
-use Rattle.vub_steps.specs.Readiness.{is_fetch, is_publication, last_counter}
 use Rattle.vub_steps.specs.Rows.{Row}
-use Rattle.vub_facts.specs.Facts.{Side, Words, heads_in, without, Facts, ElementsFit, IsInPhase, head_next, heads_after, after_row}
+use Rattle.vub_facts.specs.Facts.{Facts, ElementsFit, IsInPhase, head_next, heads_after, after_row}
 use Rattle.vub_facts.proofs.FactStarts.{runs_on}
 use Rattle.vub_queue.specs.declared.queue.Stepped.{Stepped}
 use Rattle.vub_queue.specs.declared.queue.Stepped.TheVariants as says
-use Rattle.vub_queue.specs.QueueState as states
 use Rattle.vub_queue.specs.QueueState.{QueueState, seen_by, row_at, step_in, moved, MovesBy, StoresRow, outcome, is_fault, step_said, row_said}
-use Rattle.vub_queue.specs.QueueFacts.{kept_phase, words_in, side_of, IsLaid, Keeps, FactsAt, heads_said}
-use Rattle.vub_queue.proofs.FactsLemmas.{Runs}
+use Rattle.vub_queue.specs.QueueFacts.{kept_phase, words_in, side_of, Keeps, FactsAt, heads_said}
 use Rattle.vub_queue.proofs.StepFacts.{InRun, IsMade, run_facts, step_due, words_seen, seen_head, made_keeps}
 
 -- ---- a queue that is started

@@ -1,17 +1,15 @@
 -- Any turn of a queue carries its facts on.
-use Rattle.std.proofs.Common.{◌≡◌, ℕ, Bool, true, false, List, [], refl, ap, sym, ◌∙◌, subst, cond, inl, inr, arith}
-use Rattle.std.specs.Prelude.{Option, Some, None, ◌&&◌, ◌||◌, not, nat_lt}
+use Rattle.std.proofs.Common.{◌≡◌, ℕ, Bool, true, false, List, refl, sym, subst, inl, inr, arith}
+use Rattle.std.specs.Prelude.{Option, Some, None}
 use Rattle.std.proofs.lemmas.Bool.Decides.{nat_tests}
 use Rattle.std.proofs.lemmas.Bool.{cases_Bool}
-use Rattle.vub_base.specs.Told.{WhereTold}
 use Rattle.vub_shared.specs.Bytes.{Bytes}
 use Rattle.vub_steps.specs.declared.readiness.Turn.{Turn}
 use Rattle.vub_steps.specs.declared.readiness.Turn.TheVariants as turns
-use Rattle.vub_steps.specs.Rows.{Row}
 use Rattle.vub_queue.specs.declared.queue.Stepped.{Stepped}
 use Rattle.vub_queue.specs.declared.queue.Stepped.TheVariants as says
-use Rattle.vub_queue.specs.QueueState.{QueueState, row_at, step_in, next_row, StoresRow, Moves, Fetched, Fetches, fetch_row, fetch_under_way, fetches, Publishes, publishes, publish_row, row_if, under_way, is_fault, Unless, Starts, StoresStart, Works, DoesOf, Does, DoesStore, halted}
-use Rattle.vub_queue.specs.QueueFacts.{IsBeside, BesideWork, FactsAt, heads_said, KeepsFacts}
+use Rattle.vub_queue.specs.QueueState.{QueueState, next_row, StoresRow, Moves, Fetched, Fetches, fetch_row, fetch_under_way, fetches, Publishes, publishes, publish_row, row_if, under_way, is_fault, Unless, DoesOf, Does, DoesStore, halted}
+use Rattle.vub_queue.specs.QueueFacts.{BesideWork, FactsAt, heads_said, KeepsFacts}
 use Rattle.vub_queue.proofs.TurnFacts.{facts_run, same_bytes}
 use Rattle.vub_queue.proofs.BeginFacts.{BatchesFit, begun_keeps, fetch_begun, publication_begun}
 use Rattle.vub_queue.proofs.StartFacts.{start_keeps}
@@ -81,10 +79,3 @@ turned_keeps turn before after x s t u fit halts does stores heads base m now to
         subst (λ (v : QueueState). FactsAt (heads_said x s heads) base v now) (sym halts) (halts_keep (heads_said x s heads) base x u now
         (does_keep heads base turn x s u m now fit is (subst (λ (o : Option Bytes). DoesOf turn o x s u) told does)
         (subst (λ (o : Option Bytes). DoesStore turn (Some m) o x s) told_now (subst (λ (o : Option Bytes). DoesStore turn o after x s) told stores)) beside f))
-
--- ---- one of a queue that is stopped
-
-pub stopped_keeps : (turn : Turn) (told : Option Bytes) (x : Stepped) (s t : QueueState) → x ≡ says.Idle → t ≡ s → KeepsFacts turn told told x s t
-stopped_keeps turn told x s t idle same heads base m now before after beside f =
-    subst (λ (y : Stepped). Unless (is_fault y) (FactsAt (heads_said y s heads) base t now)) (sym idle)
-    (subst (λ (u : QueueState). FactsAt heads base u now) (sym same) (subst (FactsAt heads base s) (same_bytes m now (sym before ∙ after)) f))

@@ -1,7 +1,6 @@
 -- A turn that works on a request carries the facts of a queue on.
-use Rattle.std.proofs.Common.{◌≡◌, ◌⊎◌, ℕ, zero, suc, Bool, true, false, List, [], ◌∷◌, ◌++◌, length, refl, ap, sym, ◌∙◌, subst, inl, inr, arith}
-use Rattle.std.specs.Prelude.{Option, Some, None, slice_get}
-use Rattle.std.proofs.lemmas.Bool.{cases_Bool}
+use Rattle.std.proofs.Common.{◌≡◌, ◌⊎◌, ℕ, zero, suc, false, List, [], ap, sym, ◌∙◌, subst, inl, inr}
+use Rattle.std.specs.Prelude.{Option, Some, slice_get}
 use Rattle.vub_shared.specs.Bytes.{Bytes}
 use Rattle.vub_split.specs.Split.{used_idx_word}
 use Rattle.vub_infl_split.specs.Region.{RegionWords}
@@ -11,12 +10,11 @@ use Rattle.vub_steps.specs.declared.steps.Plan.{Plan}
 use Rattle.vub_task.specs.declared.task.Task.{Task}
 use Rattle.vub_task.specs.TaskState.{head_in}
 use Rattle.vub_facts.specs.Facts.{Words, Facts, head_next}
-use Rattle.vub_facts.proofs.FactStarts.{runs_on}
 use Rattle.vub_facts.proofs.FactWords.{words_off}
 use Rattle.vub_queue.specs.declared.queue.Stop.{Stop}
 use Rattle.vub_queue.specs.declared.queue.Stepped.{Stepped}
 use Rattle.vub_queue.specs.declared.queue.Stepped.TheVariants as says
-use Rattle.vub_queue.specs.QueueState.{QueueState, worked, done_at, HasHead, Works, is_fault, halted}
+use Rattle.vub_queue.specs.QueueState.{QueueState, worked, done_at, HasHead, Works, halted}
 use Rattle.vub_queue.specs.QueueFacts.{words_in, ring_of, side_of, KeepsHeads, StartsAt, Keeps, IsBeginning, FactsAt, heads_said, IsBeside}
 use Rattle.vub_queue.proofs.QueueHeld.{keeps_worked, keeps_done}
 
