@@ -1,12 +1,17 @@
+pub mod BeginFacts
 pub mod CounterLemmas
 pub mod FactsLemmas
+pub mod FitLemmas
 pub mod QueueHeld
 pub mod QueueLemmas
 pub mod LyingLemmas
 pub mod MoveLemmas
 pub mod StableLemmas
 pub mod StepFacts
+pub mod StartFacts
 pub mod StartLemmas
 pub mod ResumeLemmas
 pub mod TaskLemmas
 pub mod TurnFacts
+pub mod TurnKeeps
+pub mod WorkFacts

@@ -23,8 +23,8 @@ use Rattle.vub_queue.specs.declared.queue.Completed.{Completed}
 use Rattle.vub_queue.specs.declared.queue.Queue.{Queue}
 use Rattle.vub_queue.specs.declared.queue.Stepped.{Stepped}
 use Rattle.vub_queue.specs.declared.queue.Stepped.TheVariants as says
-use Rattle.vub_queue.specs.QueueParts.{element, is_taken, taken_count, without_heads, heads_below, phase_fits, head_fits, shown_of}
-use Rattle.vub_queue.specs.QueueState.{QueueState, state_of, publishes, Unless, worked, done_at, Works, StepsAt, StepsOut, WorksOut, IfStepped, Advances, concluded, said, sector_at, IsDue, Rests, halted}
+use Rattle.vub_queue.specs.QueueParts.{element, is_taken, taken_count, without_heads, elements_fit, phase_fits, head_fits, shown_of}
+use Rattle.vub_queue.specs.QueueState.{QueueState, state_of, publishes, Unless, worked, done_at, HasHead, Works, StepsAt, StepsOut, WorksOut, IfStepped, Advances, concluded, said, sector_at, IsDue, Rests, halted}
 use Rattle.vub_task.specs.TaskState.{Making, IfMade, HasMade, LooksAt, answer_in, answer_to, memory_after, values_after, store_in, with_maybe, head_in}
 use Rattle.vub_steps.specs.Tasks as Tasks
 use Rattle.vub_task.proofs.ArmLemmas.{next_still}
@@ -33,29 +33,32 @@ use Rattle.vub_device.specs.declared.entry.Asked.{Asked}
 use Rattle.vub_steps.specs.Tasks.{status_of, used_len}
 use Rattle.vub_disk.specs.Values.{Values}
 
--- heads that lie in the table
-pub below_first : (size : ℕ) (x : Completed) (xs : List Completed) → heads_below size (x ∷ xs) ≡ true → x.head < size
+-- heads that lie in the table, and lengths that are 32-bit numbers
+pub below_first : (size : ℕ) (x : Completed) (xs : List Completed) → elements_fit size (x ∷ xs) ≡ true → x.head < size
 below_first size x xs h = grind (arith, nat_tests)
 
-pub below_rest : (size : ℕ) (x : Completed) (xs : List Completed) → heads_below size (x ∷ xs) ≡ true → heads_below size xs ≡ true
+pub len_first : (size : ℕ) (x : Completed) (xs : List Completed) → elements_fit size (x ∷ xs) ≡ true → x.len < 4294967296
+len_first size x xs h = grind (arith, nat_tests)
+
+pub below_rest : (size : ℕ) (x : Completed) (xs : List Completed) → elements_fit size (x ∷ xs) ≡ true → elements_fit size xs ≡ true
 below_rest size x xs h = grind (arith, nat_tests)
 
-pub below_more : (size : ℕ) (xs : List Completed) (x : Completed) → heads_below size xs ≡ true → x.head < size → heads_below size (xs ++ x ∷ []) ≡ true
-below_more size [] x h fits = grind (arith, nat_tests)
-below_more size (y ∷ ys) x h fits = grind (arith, nat_tests, below_more size ys x)
+pub below_more : (size : ℕ) (xs : List Completed) (x : Completed) → elements_fit size xs ≡ true → x.head < size → x.len < 4294967296 → elements_fit size (xs ++ x ∷ []) ≡ true
+below_more size [] x h fits long = grind (arith, nat_tests)
+below_more size (y ∷ ys) x h fits long = grind (arith, nat_tests, below_more size ys x)
 
-pub below_drop : (size n : ℕ) (xs : List Completed) → heads_below size xs ≡ true → heads_below size (drop n xs) ≡ true
+pub below_drop : (size n : ℕ) (xs : List Completed) → elements_fit size xs ≡ true → elements_fit size (drop n xs) ≡ true
 below_drop size zero xs h = h
 below_drop size (suc n) [] h = refl
 below_drop size (suc n) (x ∷ xs) h = below_drop size n xs (below_rest size x xs h)
 
-pub below_take : (size n : ℕ) (xs : List Completed) → heads_below size xs ≡ true → heads_below size (take n xs) ≡ true
+pub below_take : (size n : ℕ) (xs : List Completed) → elements_fit size xs ≡ true → elements_fit size (take n xs) ≡ true
 below_take size zero xs h = refl
 below_take size (suc n) [] h = refl
 below_take size (suc n) (x ∷ xs) h = grind (arith, nat_tests, below_take size n xs)
 
 -- that of an element
-pub below_at : (size : ℕ) (xs : List Completed) (i : ℕ) (x : Completed) → heads_below size xs ≡ true → slice_get (map element xs) i ≡ Some (element x) → x.head < size
+pub below_at : (size : ℕ) (xs : List Completed) (i : ℕ) (x : Completed) → elements_fit size xs ≡ true → slice_get (map element xs) i ≡ Some (element x) → x.head < size
 below_at size [] zero x h at = absurd (cc at)
 below_at size [] (suc i) x h at = absurd (cc at)
 below_at size (y ∷ ys) zero x h at =
@@ -420,16 +423,27 @@ ends_at place head len task sector s u same is status =
     ∙ ap (λ (ts : List Task). record (done_at place (head_in task) len sector s) { unfinished = ts; completed = s.completed ++ (head, len) ∷ [] }) (remove_set s.unfinished place task)
     ∙ ap (λ (k : ℕ). record (done_at place k len sector s) { completed = s.completed ++ (head, len) ∷ [] }) same
 
--- the step of a request and its end, where nothing is said of the step
-pub works_if : (place head : ℕ) (step : made.TaskStep) (s u t : QueueState) → StepsAt place (Some (head, step)) s u → t ≡ concluded place head step u → Works place (said head step) s t
-works_if place head (answers.Stored tag) s u t h is = inr (h.0, h.1, is ∙ h.3)
-works_if place head (answers.Looked sector) s u t h is = inr (h.0, h.1, is ∙ h.3)
-works_if place head (answers.Acted sector) s u t h is = inr (h.0, h.1, is ∙ h.3)
-works_if place head answers.Synced s u t h is = inr (h.0, h.1, is ∙ h.3)
-works_if place head answers.Faulted s u t h is = inr (h.0, h.1, is ∙ h.3)
-works_if place head (answers.Broken fault) s u t h is = inr (h.0, h.1, is ∙ h.3)
-works_if place head answers.Failed s u t h is = inr (h.0, h.1, is ∙ h.3)
-works_if place head (answers.Done status len) s u t h is = (len, h.1, is ∙ ends_at place head len h.0 h.1 s u h.2 h.3 status)
+pub task_there : (xs : List Task) (place : ℕ) → place < length xs → (task : Task) × (slice_get xs place ≡ Some task)
+task_there [] place below = absurd (omega (arith, below))
+task_there (x ∷ xs) zero below = (x, refl)
+task_there (x ∷ xs) (suc place) below = task_there xs place (omega (arith, below))
+
+-- the step of a request and its end, where nothing is said of the step but that it is that of this head
+pub works_if : (place head : ℕ) (step : made.TaskStep) (s u t : QueueState) → HasHead place head s → StepsAt place (Some (head, step)) s u → t ≡ concluded place head step u → Works place (said head step) s t
+works_if place head step s u t has steps is = go step steps is
+  where
+    kept : (next : Task) → head_in next ≡ head → HasHead place (head_in next) s
+    kept next same = subst (λ (k : ℕ). HasHead place k s) (sym same) has
+
+    go : (step : made.TaskStep) → StepsAt place (Some (head, step)) s u → t ≡ concluded place head step u → Works place (said head step) s t
+    go (answers.Stored tag) h is = inr (h.0, h.1, kept h.0 h.2, is ∙ h.3)
+    go (answers.Looked sector) h is = inr (h.0, h.1, kept h.0 h.2, is ∙ h.3)
+    go (answers.Acted sector) h is = inr (h.0, h.1, kept h.0 h.2, is ∙ h.3)
+    go answers.Synced h is = inr (h.0, h.1, kept h.0 h.2, is ∙ h.3)
+    go answers.Faulted h is = inr (h.0, h.1, kept h.0 h.2, is ∙ h.3)
+    go (answers.Broken fault) h is = inr (h.0, h.1, kept h.0 h.2, is ∙ h.3)
+    go answers.Failed h is = inr (h.0, h.1, kept h.0 h.2, is ∙ h.3)
+    go (answers.Done status len) h is = (len, h.1, has, is ∙ ends_at place head len h.0 h.1 s u h.2 h.3 status)
 
 -- a fact about what a task made is one about what the turn made
 pub stepped_if : (P : made.TaskStep → Type 0) (Q : Type 0) (head : ℕ) (step : made.TaskStep) → (P step → Q) → IfMade (Some step) P → IfStepped (said head step) Q

@@ -110,19 +110,19 @@ silent_fetching (says.Damaged fault) is = refl
 pub silent_worked : (place : ℕ) (x : Stepped) (s t : QueueState) → Works place x s t → has_rung x ≡ false
 silent_worked place says.Idle s t h = refl
 silent_worked place (says.Stored tag) s t h = refl
-silent_worked place (says.Accepted head) s t h = refl
+silent_worked place (says.Accepted head) s t h = absurd h
 silent_worked place (says.Looked head sector) s t h = refl
 silent_worked place (says.Acted head sector) s t h = refl
 silent_worked place (says.Synced head) s t h = refl
 silent_worked place (says.Faulted head) s t h = refl
 silent_worked place (says.Completed head) s t h = refl
-silent_worked place says.Published s t h = refl
+silent_worked place says.Published s t h = absurd h
 silent_worked place says.Belled s t h = absurd h
-silent_worked place says.Started s t h = refl
+silent_worked place says.Started s t h = absurd h
 silent_worked place says.SharedFault s t h = refl
 silent_worked place says.BellFault s t h = absurd h
 silent_worked place (says.Broken fault) s t h = refl
-silent_worked place (says.Damaged fault) s t h = refl
+silent_worked place (says.Damaged fault) s t h = absurd h
 
 pub rung_absurd : (x : Stepped) (P : Type 0) → has_rung x ≡ false → has_rung x ≡ true → P
 rung_absurd x P silent rung = absurd (cc (sym silent ∙ rung))

@@ -1,10 +1,9 @@
 -- A step of a fetch or of a publication carries the facts of a queue on.
-use Rattle.std.proofs.Common.{◌≡◌, ◌≤◌, ◌<◌, ◌⊎◌, ℕ, zero, suc, ◌+◌, ◌*◌, ◌%◌, Bool, true, false, List, [], ◌∷◌, ◌++◌, length, refl, ap, sym, ◌∙◌, subst, inl, inr, arith}
+use Rattle.std.proofs.Common.{◌≡◌, ◌<◌, ℕ, zero, suc, ◌+◌, ◌*◌, ◌%◌, Bool, true, false, List, [], ◌∷◌, ◌++◌, length, refl, ap, sym, ◌∙◌, subst, inl, inr, arith}
 use Rattle.std.specs.Prelude.{Option, Some, None, not, if◌then◌else◌}
 use Rattle.std.proofs.lemmas.List.{length-set}
 use Rattle.std.proofs.lemmas.Bool.{cases_Bool}
 use Rattle.vub_shared.specs.Bytes.{Bytes}
-use Rattle.vub_device.specs.Past.{is_among}
 use Rattle.vub_split.specs.Split.{used_idx_word, head_word}
 use Rattle.vub_infl_split.specs.declared.region.SplitStore.TheVariants as stores
 use Rattle.vub_steps.specs.declared.steps.Phase.{Phase}
@@ -12,11 +11,11 @@ use Rattle.vub_steps.specs.declared.steps.Phase.TheVariants as phases
 use Rattle.vub_steps.specs.declared.steps.Plan.{Plan}
 use Rattle.vub_steps.specs.declared.steps.Step.{Step}
 use Rattle.vub_steps.specs.declared.steps.Step.TheVariants as steps
-use Rattle.vub_steps.specs.Steps.{done_of, at_step, next_of, after_of, running_steps, steps_of, next_step, after_step}
+use Rattle.vub_steps.specs.Steps.{done_of, at_step, next_of, after_of, running_steps, next_step, after_step}
 use Rattle.vub_steps.specs.Rows.{Row, Sight, row_of, region_row, region_store}
-use Rattle.vub_facts.specs.Facts.{Side, Words, heads_in, without, Facts, InFetching, InBatch, IsBuilt, ElementsFit, IsInPhase, IsDue, course_in, head_next, heads_after, side_after, counted, with_phase, next_counter_in, sight, with_stored, words_after, after_row}
+use Rattle.vub_facts.specs.Facts.{Side, Words, heads_in, without, Facts, InFetching, ElementsFit, IsInPhase, IsDue, course_in, head_next, heads_after, side_after, counted, with_phase, next_counter_in, sight, with_stored, words_after, after_row}
 use Rattle.vub_facts.specs.Held.{Held}
-use Rattle.vub_facts.proofs.Places.{Place, place_of, after_place, is_last, IsStarting}
+use Rattle.vub_facts.proofs.Places.{Place, place_of, after_place, is_last}
 use Rattle.vub_facts.proofs.FactStarts.{runs_on}
 use Rattle.vub_facts.proofs.FactSteps.{step_keeps, batch_in}
 use Rattle.vub_facts.proofs.FactWords.{row_words}
@@ -24,7 +23,7 @@ use Rattle.vub_facts.proofs.HeldSteps.{same_used}
 use Rattle.vub_queue.specs.QueueParts.{is_taken}
 use Rattle.vub_queue.specs.QueueState as states
 use Rattle.vub_queue.specs.QueueState.{QueueState, seen_by, row_at, steps_in, step_in, changed, moved, kept_or}
-use Rattle.vub_queue.specs.QueueFacts.{hidden_part, held_in, kept_head, ring_of, words_in, side_of, IsLaid, Keeps, FactsAt}
+use Rattle.vub_queue.specs.QueueFacts.{held_in, kept_head, ring_of, words_in, side_of, IsLaid, FactsAt}
 use Rattle.vub_queue.proofs.QueueHeld.{fetched}
 use Rattle.vub_queue.proofs.QueueLemmas.{length_without}
 use Rattle.vub_queue.proofs.FactsLemmas.{head_seen, IsAside, Runs, still_on, still_ends, index_shows, count_keeps, accept_keeps}

@@ -1,27 +1,21 @@
 -- A turn of a queue carries its facts on.
-use Rattle.std.proofs.Common.{◌≡◌, ◌≤◌, ◌<◌, ◌⊎◌, ℕ, zero, suc, ◌+◌, ◌*◌, ◌%◌, Bool, true, false, List, [], ◌∷◌, ◌++◌, length, refl, ap, sym, ◌∙◌, subst, inl, inr, arith, cond}
-use Rattle.std.specs.Prelude.{Option, Some, None, not, take, drop, Result, Ok, Err, nat_lt, ◌&&◌, ◌||◌, option_map}
-use Rattle.std.proofs.lemmas.Bool.Decides.{nat_tests}
+use Rattle.std.proofs.Common.{◌≡◌, ℕ, Bool, true, false, List, [], ◌∷◌, ◌++◌, refl, ap, sym, ◌∙◌, subst}
+use Rattle.std.specs.Prelude.{Option, Some, None, Result, Ok}
 use Rattle.vub_shared.specs.Bytes.{Bytes}
-use Rattle.vub_shared.specs.Stores.{Store, Stores, after_store}
-use Rattle.vub_device.specs.Past.{is_among}
-use Rattle.vub_ring.specs.Ring.{ahead}
-use Rattle.vub_split.specs.Split.{used_idx_word, head_word}
+use Rattle.vub_shared.specs.Stores.{Stores, after_store}
+use Rattle.vub_split.specs.Split.{used_idx_word}
 use Rattle.vub_steps.specs.declared.steps.Phase.{Phase}
 use Rattle.vub_steps.specs.declared.steps.Phase.TheVariants as phases
 use Rattle.vub_steps.specs.declared.steps.Plan.{Plan}
 use Rattle.vub_steps.specs.declared.steps.Step.{Step}
 use Rattle.vub_steps.specs.declared.steps.Step.TheVariants as steps
-use Rattle.vub_steps.specs.Readiness.{is_fetch, is_publication, last_counter}
 use Rattle.vub_steps.specs.Rows.{Row}
-use Rattle.vub_facts.specs.Facts.{Side, Words, heads_in, without, Facts, ElementsFit, IsInPhase, head_next, heads_after, after_row}
+use Rattle.vub_facts.specs.Facts.{Facts, ElementsFit, IsInPhase, head_next, heads_after, after_row}
 use Rattle.vub_facts.proofs.FactStarts.{runs_on}
 use Rattle.vub_queue.specs.declared.queue.Stepped.{Stepped}
 use Rattle.vub_queue.specs.declared.queue.Stepped.TheVariants as says
-use Rattle.vub_queue.specs.QueueState as states
 use Rattle.vub_queue.specs.QueueState.{QueueState, seen_by, row_at, step_in, moved, MovesBy, StoresRow, outcome, is_fault, step_said, row_said}
-use Rattle.vub_queue.specs.QueueFacts.{kept_phase, words_in, side_of, IsLaid, Keeps, FactsAt, heads_said}
-use Rattle.vub_queue.proofs.FactsLemmas.{Runs}
+use Rattle.vub_queue.specs.QueueFacts.{kept_phase, words_in, side_of, Keeps, FactsAt, heads_said}
 use Rattle.vub_queue.proofs.StepFacts.{InRun, IsMade, run_facts, step_due, words_seen, seen_head, made_keeps}
 
 -- ---- a queue that is started
@@ -44,7 +38,7 @@ facts_run heads base s m on x =
 
 -- ---- memory after a turn that didn't fail
 
-fine : (x : Stepped) → is_fault x ≡ false → outcome x ≡ Ok tt
+pub fine : (x : Stepped) → is_fault x ≡ false → outcome x ≡ Ok tt
 fine says.Idle e = refl
 fine (says.Stored tag) e = refl
 fine (says.Accepted head) e = refl
@@ -61,7 +55,7 @@ fine says.BellFault e = refl
 fine (says.Broken fault) e = refl
 fine (says.Damaged fault) e = refl
 
-same_bytes : (a b : Bytes) → ◌≡◌ {A = Option Bytes} (Some a) (Some b) → a ≡ b
+pub same_bytes : (a b : Bytes) → ◌≡◌ {A = Option Bytes} (Some a) (Some b) → a ≡ b
 same_bytes a b e = cc
 
 pub stored_now : (x : Stepped) (row : Option Row) (m now : Bytes) → is_fault x ≡ false → StoresRow (Some m) (Some now) x row → now ≡ after_row row m
@@ -71,7 +65,7 @@ stored_now x (Some y) m now ok stores = same_bytes now (after_store y.store m) (
 -- ---- a step of a fetch or of a publication
 
 -- one that only stores leaves the open heads
-row_heads : (row : Option Row) (s : QueueState) (heads : List ℕ) → heads_said (row_said row) s heads ≡ heads
+pub row_heads : (row : Option Row) (s : QueueState) (heads : List ℕ) → heads_said (row_said row) s heads ≡ heads
 row_heads None s heads = refl
 row_heads (Some y) s heads = refl
 

@@ -19,10 +19,10 @@ taken_count [] = 0
 taken_count (true ∷ taken) = taken_count taken + 1
 taken_count (false ∷ taken) = taken_count taken
 
--- whether the heads of these lie in a table of so many
-abbrev pub heads_below : ℕ → List Completed → Bool
-heads_below size [] = true
-heads_below size (x ∷ xs) = nat_lt x.head size && heads_below size xs
+-- whether the heads of these lie in a table of so many, and their lengths are 32-bit numbers
+abbrev pub elements_fit : ℕ → List Completed → Bool
+elements_fit size [] = true
+elements_fit size (x ∷ xs) = nat_lt x.head size && (nat_lt x.len 4294967296 && elements_fit size xs)
 
 -- the heads of these elements are free
 abbrev pub without_heads : List (ℕ × ℕ) → List Bool → List Bool

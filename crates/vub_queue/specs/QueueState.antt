@@ -509,13 +509,21 @@ worked place task sector s = record s { unfinished = set s.unfinished place task
 abbrev pub done_at : ℕ → ℕ → ℕ → List ℕ → QueueState → QueueState
 done_at place head len sector s = record s { unfinished = remove s.unfinished place; completed = s.completed ++ (head, len) ∷ []; sectors = set s.sectors head sector }
 
--- a step of the request in this place changes nothing here but its task and its sector, and the one that stores its
--- status moves it to the completed ones
+-- the request in this place has this head
+abbrev pub HasHead : ℕ → ℕ → QueueState → Type 0
+HasHead place head s = (task : Task) × (slice_get s.unfinished place ≡ Some task) × (head_in task ≡ head)
+
+-- a step of the request in this place changes nothing here but its task, which keeps its head, and its sector, and the one
+-- that stores its status moves it to the completed ones
 abbrev pub Works : ℕ → Stepped → QueueState → QueueState → Type 0
+Works place (says.Accepted head) s t = ⊥
+Works place says.Published s t = ⊥
 Works place says.Belled s t = ⊥
+Works place says.Started s t = ⊥
 Works place says.BellFault s t = ⊥
-Works place (says.Completed head) s t = (len : ℕ) × (sector : List ℕ) × (t ≡ done_at place head len sector s)
-Works place x s t = (t ≡ s) ⊎ ((task : Task) × (sector : List ℕ) × (t ≡ worked place task sector s))
+Works place (says.Damaged fault) s t = ⊥
+Works place (says.Completed head) s t = (len : ℕ) × (sector : List ℕ) × HasHead place head s × (t ≡ done_at place head len sector s)
+Works place x s t = (t ≡ s) ⊎ ((task : Task) × (sector : List ℕ) × HasHead place (head_in task) s × (t ≡ worked place task sector s))
 
 -- what a step of the request in this place leaves before its end is noted: its task and its sector are new, and
 -- nothing changes where none is made

@@ -1,7 +1,7 @@
 //! The device's side of one split queue: each turn makes one step (VIRTIO 1.2, 2.7.7 and 2.7.8).
 ghost use Rattle.std.specs.Prelude.{◌≡◌, ◌<◌, ◌≤◌, ◌+◌, ◌++◌, ℕ, true, false, Some, length, map, take, drop, set, slice_get, vec_len, vec_capacity, IfOk};
 ghost use Rattle.vub_split.specs.Split.{RingLies};
-ghost use Rattle.vub_queue.specs.QueueParts.{element, is_taken, taken_count, takes_none_before, with_heads, without_heads, heads_below, phase_fits, head_fits, shown_of};
+ghost use Rattle.vub_queue.specs.QueueParts.{element, is_taken, taken_count, takes_none_before, with_heads, without_heads, elements_fit, phase_fits, head_fits, shown_of};
 ghost use Rattle.vub_inflight.specs.Entries.{AreEntries, heads_of, next_counter};
 ghost use Rattle.vub_task.specs.TaskState.{fresh_task};
 ghost use Rattle.vub_steps.specs.Readiness.{is_publication, last_counter};
@@ -124,7 +124,7 @@ pub struct Queue {
     ghost space: { ring.size ≤ vec_capacity completed },
     ghost all: { vec_len unfinished + vec_len completed ≤ ring.size },
     ghost counted: { vec_len unfinished + vec_len completed ≤ taken_count taken.items + shown_of phase batch },
-    ghost in_table: { heads_below ring.size completed.items ≡ true },
+    ghost in_table: { elements_fit ring.size completed.items ≡ true },
     ghost batched: { batch ≤ vec_len completed },
     ghost fits: { phase_fits phase batch bell started ≡ true },
     ghost unstarted: { takes_none_before started taken.items ≡ true },
@@ -156,7 +156,7 @@ fn is_publication(phase: Phase) -> bool
 
 /// The heads of these are free.
 fn release(taken: &mut [bool], batch: &[Completed])
-    requires { heads_below (length taken.old) batch.now ≡ true }
+    requires { elements_fit (length taken.old) batch.now ≡ true }
     ensures { taken.new ≡ without_heads (map element batch.now) taken.old }
 {
     for completed in batch {
@@ -238,6 +238,7 @@ impl Queue {
     ghost use Rattle.vub_steps.specs.declared.steps.Phase.TheVariants.{Rest};
     ghost use Rattle.vub_steps.specs.declared.steps.Step.TheVariants.{Count, Accept, Id, Len, Link, Head, Index, Clear, Note};
     ghost use Rattle.vub_queue.specs.Queue.{ring_in};
+    ghost use Rattle.vub_queue.specs.QueueFacts.{KeepsFacts};
     ghost use Rattle.vub_queue.specs.QueueState.{QueueState, QueueLies, KeepsLying, Owes, OwesAt, state_of, IsNew, new_recovery, resumed, rings_next, Ends, is_starting, is_fetching, is_publishing, StoresStart, TrailsStart, RingsAt, has_rung, may_ring, bell_outcome, said, concluded, StepsAt, IsDue, IsDueAt, IfStepped, StepsOut, WorksOut, StepsTask, WorksTask, Rests, disk_outcome, standing_at, is_ready_at, waiting, IsFree, Finds, Fetches, fetch_row, fetch_under_way, begun, under_way, steps_in, step_in, next_row, moved, with_phase, Moves, outcome, found_outcome, MakesRow, publishes, publish_row, Publishes, is_idle, is_fault, Unless, Works, Does, DoesStore, DoesTrail, DoesDisk, StableAfter, halted, Turns};
 
     /// A queue that isn't started. All memory that it needs is reserved here.
@@ -1180,6 +1181,7 @@ impl Queue {
         ensures stopped { is_some (state_of self.old).stopped ≡ true → (result ≡ Idle) × (state_of self.new ≡ state_of self.old) × (M.told mem.new ≡ M.told mem.old) × (M.trail mem.new ≡ M.trail mem.old) × (D.values disk.new ≡ D.values disk.old) × (B.told bell.new ≡ B.told bell.old) }
         ensures does { is_some (state_of self.old).stopped ≡ false → WhereTold (M.told mem.old) (λ m. Turns (chosen (ring_in self.old).size choice (standing_at (state_of self.old) (waiting (state_of self.old) m))) (M.told mem.old) result (state_of self.old) (state_of self.new)) }
         ensures stores { is_some (state_of self.old).stopped ≡ false → WhereTold (M.told mem.old) (λ m. DoesStore (chosen (ring_in self.old).size choice (standing_at (state_of self.old) (waiting (state_of self.old) m))) (M.told mem.old) (M.told mem.new) result (state_of self.old)) }
+        ensures keeps { WhereTold (M.told mem.old) (λ m. KeepsFacts (chosen (ring_in self.old).size choice (standing_at (state_of self.old) (waiting (state_of self.old) m))) (M.told mem.old) (M.told mem.new) result (state_of self.old) (state_of self.new)) }
         ensures trails { is_some (state_of self.old).stopped ≡ false → WhereTold (M.told mem.old) (λ m. DoesTrail (chosen (ring_in self.old).size choice (standing_at (state_of self.old) (waiting (state_of self.old) m))) (M.told mem.old) (M.trail mem.old) (M.trail mem.new) result (state_of self.old)) }
         ensures values { is_some (state_of self.old).stopped ≡ false → WhereTold (M.told mem.old) (λ m. DoesDisk (chosen (ring_in self.old).size choice (standing_at (state_of self.old) (waiting (state_of self.old) m))) (D.values disk.old) (D.values disk.new)) }
         ensures made { (place : ℕ) (task : Task) (n : Making) → is_some (state_of self.old).stopped ≡ false → WhereTold (M.told mem.old) (λ m. chosen (ring_in self.old).size choice (standing_at (state_of self.old) (waiting (state_of self.old) m)) ≡ Work place → IsDue (D.capacity disk.old) (M.sizes mem.old) (state_of self.old) m place task n → IfStepped result (WorksOut place task n m (M.told mem.new) (M.trail mem.old) (M.trail mem.new) (D.values disk.old) (D.values disk.new) result (state_of self.old) (state_of self.new))) }

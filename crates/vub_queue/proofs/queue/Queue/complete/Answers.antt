@@ -2,7 +2,7 @@ use Rattle.std.proofs.Common.{◌≡◌, ◌≤◌, ℕ, List, [], ◌∷◌, �
 use Rattle.std.specs.Prelude.{remove}
 use Rattle.vub_queue.specs.declared.queue.Completed.{Completed}
 use Rattle.vub_task.specs.declared.task.Task.{Task}
-use Rattle.vub_queue.specs.QueueParts.{element, heads_below}
+use Rattle.vub_queue.specs.QueueParts.{element, elements_fit}
 use Rattle.vub_queue.specs.QueueState.{QueueState, state_of}
 use Rattle.vub_queue.proofs.QueueLemmas.{completed_more, batch_still, below_more}
 use Rattle.vub_queue.proofs.queue.Queue.complete.Goals as goal
@@ -30,4 +30,4 @@ returns-clause-state c =
 pub invariant_of-self-clause-in_table : goal.invariant_of-self-clause-in_table
 invariant_of-self-clause-in_table c =
     let q = c.args.self.now in
-    ap (heads_below q.ring.size) c.push_reserved.ensures.items ∙ below_more q.ring.size q.completed.items (record { head = c.args.head; len = c.args.len }) q.in_table c.requires.fits
+    ap (elements_fit q.ring.size) c.push_reserved.ensures.items ∙ below_more q.ring.size q.completed.items (record { head = c.args.head; len = c.args.len }) q.in_table c.requires.fits (omega (arith, c.ranges.len.fits))

@@ -1,6 +1,6 @@
 use Rattle.std.proofs.Common.{◌≡◌, ◌-◌, length, refl, ap, ◌∙◌, arith, length-drop}
 use Rattle.vub_steps.specs.declared.steps.Phase.TheVariants.{Rest}
-use Rattle.vub_queue.specs.QueueParts.{heads_below, shown_of}
+use Rattle.vub_queue.specs.QueueParts.{elements_fit, shown_of}
 use Rattle.vub_queue.proofs.QueueLemmas.{below_drop, shown_all, no_head, publishes_no_fetch}
 use Rattle.vub_queue.proofs.queue.Queue.end_batch.Goals as goal
 
@@ -20,7 +20,7 @@ invariant_of-self-clause-counted c =
 pub invariant_of-self-clause-in_table : goal.invariant_of-self-clause-in_table
 invariant_of-self-clause-in_table c =
     let q = c.args.self.now in
-    ap (heads_below q.ring.size) c.drop_front.ensures.items ∙ below_drop q.ring.size c.from.result q.completed.items q.in_table
+    ap (elements_fit q.ring.size) c.drop_front.ensures.items ∙ below_drop q.ring.size c.from.result q.completed.items q.in_table
 
 pub invariant_of-self-clause-kept : goal.invariant_of-self-clause-kept
 invariant_of-self-clause-kept c =

@@ -4,7 +4,7 @@ use Rattle.vub_steps.specs.declared.steps.Phase.{Phase}
 use Rattle.vub_steps.specs.declared.steps.Step.TheVariants.{Index}
 use Rattle.vub_steps.specs.Steps.{running_steps, after_of}
 use Rattle.vub_steps.specs.Readiness.{is_fetch}
-use Rattle.vub_queue.specs.QueueParts.{element, without_heads, taken_count, heads_below, phase_fits, shown_of}
+use Rattle.vub_queue.specs.QueueParts.{element, without_heads, taken_count, elements_fit, phase_fits, shown_of}
 use Rattle.vub_queue.specs.declared.queue.Completed.{Completed}
 use Rattle.vub_queue.specs.declared.queue.Queue.{Queue}
 use Rattle.vub_queue.specs.QueueState.{state_of, step_in}
@@ -23,8 +23,8 @@ release-requires c =
     let q = c.args.self.now in
     let n = c.from-count.result in
     let size : length c.deref_mut.result.now ≡ q.ring.size = ap length c.deref_mut.ensures.value ∙ q.heads in
-    ap (λ (k : ℕ). heads_below k (take n c.deref.result.now)) size
-    ∙ ap (λ (xs : List Completed). heads_below q.ring.size (take n xs)) c.deref.ensures.value
+    ap (λ (k : ℕ). elements_fit k (take n c.deref.result.now)) size
+    ∙ ap (λ (xs : List Completed). elements_fit q.ring.size (take n xs)) c.deref.ensures.value
     ∙ below_take q.ring.size n q.completed.items q.in_table
 
 pub invariant_of-self-clause-heads : goal.invariant_of-self-clause-heads

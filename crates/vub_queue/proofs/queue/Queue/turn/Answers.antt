@@ -1,5 +1,7 @@
 use Rattle.vub_queue.specs.QueueState.{QueueState, state_of, WorksOut, WorksTask, is_fault}
 use Rattle.vub_queue.proofs.TaskLemmas.{task_halted}
+use Rattle.vub_queue.proofs.FitLemmas.{batches_fit}
+use Rattle.vub_queue.proofs.TurnKeeps.{turned_keeps}
 use Rattle.vub_queue.proofs.QueueLemmas.{runs_on, rests_on, stepped_map}
 use Rattle.vub_queue.proofs.LyingLemmas.{lies_with, lies_halted, owes_halted}
 use Rattle.vub_queue.proofs.queue.Queue.turn.Goals as goal
@@ -30,3 +32,8 @@ pub returns-clause-task : goal.returns-clause-task
 returns-clause-task g c place task runs m told turn started at =
     let out : QueueState → Type 0 = λ t. WorksTask (g.M.Shared.sizes c.args.mem.now) (g.D.Disk.capacity c.args.disk.now) place task (g.M.Shared.told c.args.mem.now) (g.M.Shared.told c.step_of-stepped.new.mem) (g.M.Shared.trail c.args.mem.now) (g.M.Shared.trail c.step_of-stepped.new.mem) (g.D.Disk.values c.args.disk.now) (g.D.Disk.values c.step_of-stepped.new.disk) c.step_of-stepped.result (state_of c.args.self.now) t in
     task_halted (is_fault c.step_of-stepped.result) c.step_of-stepped.result (state_of c.step_of-stepped.new.self) (state_of c.halt.new.self) out c.halt.ensures.state (c.step_of-stepped.ensures.task place task m told turn started at)
+
+pub returns-clause-keeps : goal.returns-clause-keeps
+returns-clause-keeps g c m told =
+    turned_keeps _ (g.M.Shared.told c.args.mem.now) (g.M.Shared.told c.step_of-stepped.new.mem) c.step_of-stepped.result (state_of c.args.self.now) (state_of c.halt.new.self) (state_of c.step_of-stepped.new.self)
+    (batches_fit c.args.self.now) c.halt.ensures.state (c.step_of-stepped.ensures.does m told) (c.step_of-stepped.ensures.stores m told)

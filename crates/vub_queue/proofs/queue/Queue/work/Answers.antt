@@ -1,10 +1,10 @@
-use Rattle.std.proofs.Common.{ℕ, ◌≡◌, refl, sym, ◌∙◌, ap, subst}
+use Rattle.std.proofs.Common.{ℕ, ◌≡◌, refl, sym, ◌∙◌, ap, subst, arith}
 use Rattle.std.specs.Prelude.{Some, slice_get}
 use Rattle.vub_queue.specs.declared.queue.Stepped.{Stepped}
 use Rattle.vub_task.specs.declared.task.TaskStep as made
 use Rattle.vub_task.specs.TaskState.{IfMade}
-use Rattle.vub_queue.specs.QueueState.{QueueState, state_of, said, concluded, Works, StepsAt, IsDue, IfStepped, StepsOut, WorksOut, WorksTask, Owes, StableAfter}
-use Rattle.vub_queue.proofs.QueueLemmas.{works_if, works_out, stepped_if}
+use Rattle.vub_queue.specs.QueueState.{QueueState, state_of, said, concluded, HasHead, Works, StepsAt, IsDue, IfStepped, StepsOut, WorksOut, WorksTask, Owes, StableAfter}
+use Rattle.vub_queue.proofs.QueueLemmas.{task_there, works_if, works_out, stepped_if}
 use Rattle.vub_queue.proofs.LyingLemmas.{owes_concluded}
 use Rattle.vub_queue.proofs.StableLemmas.{stable_said}
 use Rattle.vub_queue.proofs.queue.Queue.work.Goals as goal
@@ -16,7 +16,10 @@ returns-clause-works g c =
     let t : QueueState = state_of c.conclude.new.self in
     let steps : StepsAt c.args.place (Some (c.step_at-head.result.0, c.step_at-head.result.1)) s u = subst (λ (k : ℕ). StepsAt k (Some (c.step_at-head.result.0, c.step_at-head.result.1)) s u) c.from-place.ensures c.step_at-head.ensures.steps in
     let ends : t ≡ concluded c.args.place c.step_at-head.result.0 c.step_at-head.result.1 u = c.conclude.ensures.state ∙ ap (λ (k : ℕ). concluded k c.step_at-head.result.0 c.step_at-head.result.1 u) c.from-place.ensures in
-    subst (λ (x : Stepped). Works c.args.place x s t) (sym c.conclude.ensures.says) (works_if c.args.place c.step_at-head.result.0 c.step_at-head.result.1 s u t steps ends)
+    let place : ℕ = c.from-place.result in
+    let found = task_there s.unfinished place (omega (arith, c.if-place-len.false, c.len.ensures)) in
+    let has : HasHead place c.step_at-head.result.0 s = (found.0, found.1, sym (c.step_at-head.ensures.task found.0 found.1).heads.0) in
+    subst (λ (x : Stepped). Works c.args.place x s t) (sym c.conclude.ensures.says) (works_if c.args.place c.step_at-head.result.0 c.step_at-head.result.1 s u t (subst (λ (k : ℕ). HasHead k c.step_at-head.result.0 s) c.from-place.ensures has) steps ends)
 
 pub returns-clause-made : goal.returns-clause-made
 returns-clause-made g c task n m told due =
