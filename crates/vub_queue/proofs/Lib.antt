@@ -6,6 +6,7 @@ pub mod QueueHeld
 pub mod QueueLemmas
 pub mod LyingLemmas
 pub mod MoveLemmas
+pub mod NewFacts
 pub mod StableLemmas
 pub mod StepFacts
 pub mod StartFacts
