@@ -1,18 +1,17 @@
 -- No call fails in a turn: before it memory keeps no store and hasn't failed, and its bell wasn't rung; it makes one store at
 -- most, and rings once at most.
 use Rattle.std.proofs.Common.{◌≡◌, ◌≤◌, ◌<◌, ℕ, false, true, List, [], ◌∷◌, ◌++◌, length, refl, ap, subst, inl, inr, arith}
-use Rattle.std.specs.Prelude.{Bool, Option, Some, None, Result, Ok, Err}
+use Rattle.std.specs.Prelude.{Bool, Some}
 use Rattle.std.proofs.lemmas.List.{length_push}
 use Rattle.vub_base.specs.Bells.{BellState, rung_once}
 use Rattle.vub_base.specs.Causes.{HasCause}
 use Rattle.vub_shared.specs.Bytes.{Bytes}
-use Rattle.vub_shared.specs.Stores.{Store, Trails, after_in_trail}
+use Rattle.vub_shared.specs.Stores.{Store, after_in_trail}
 use Rattle.vub_steps.specs.declared.readiness.Turn.{Turn}
 use Rattle.vub_steps.specs.declared.readiness.Turn.TheVariants as turns
-use Rattle.vub_steps.specs.Rows.{Row}
 use Rattle.vub_queue.specs.declared.queue.Stepped.{Stepped}
 use Rattle.vub_queue.specs.declared.queue.Stepped.TheVariants as says
-use Rattle.vub_queue.specs.QueueState.{QueueState, publish_row, TrailsRow, DoesTrail, RingsAt, outcome, disk_outcome, bell_outcome, is_fault}
+use Rattle.vub_queue.specs.QueueState.{QueueState, DoesTrail, RingsAt, outcome, disk_outcome, bell_outcome, is_fault}
 use Rattle.vub_task.specs.TaskState.{GainsOne}
 use Rattle.vub_world.specs.Bells.{bell_in, rung_in, faults_in}
 use Rattle.vub_world.specs.declared.bell.WatchedBell.{WatchedBell}

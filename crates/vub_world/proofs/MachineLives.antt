@@ -1,12 +1,12 @@
 -- Where the machine stands after a life begins, after its queues are attached, and after it ends.
-use Rattle.std.proofs.Common.{◌≡◌, ◌≤◌, ℕ, true, false, List, [], ◌∷◌, map, refl, ap, sym, ◌∙◌, subst, arith}
+use Rattle.std.proofs.Common.{◌≡◌, ℕ, true, false, List, [], ◌∷◌, map, refl, ap, sym, ◌∙◌, subst}
 use Rattle.std.specs.Prelude.{Bool, not, ◌&&◌, Option, Some, None}
 use Rattle.vub_base.specs.declared.header.Header1.{Header1}
 use Rattle.vub_steps.specs.declared.steps.Phase.{Phase}
 use Rattle.vub_steps.specs.declared.steps.Phase.TheVariants as phases
 use Rattle.vub_device.specs.declared.entry.Entry.{Entry}
 use Rattle.vub_device.specs.declared.entry.Entry.TheVariants as entries
-use Rattle.vub_device.specs.Past.{accepted, started}
+use Rattle.vub_device.specs.Past.{started}
 use Rattle.vub_report.specs.declared.items.Item.TheVariants as items
 use Rattle.vub_run.specs.Memory.{after_items}
 use Rattle.vub_world.specs.Fronts.{Parts}
@@ -19,8 +19,7 @@ use Rattle.vub_queue_in_run.specs.QueueAt.{QueueAt, PhaseAt, IsNewQueue, spot_of
 use Rattle.vub_queue.specs.QueueState.{QueueState, state_of}
 use Rattle.vub_run.specs.Run.{played, if_ready, boot, join, ended, kill}
 use Rattle.vub_queue_in_run.proofs.QueueAtMoves.{at_new}
-use Rattle.vub_run_laws.proofs.RunGood.{IsLow}
-use Rattle.vub_run_laws.proofs.RunTurns.{IsPlain, Good}
+use Rattle.vub_run_laws.proofs.RunTurns.{Good}
 
 -- the parts with that queue of a life
 abbrev pub with_life : Option Queue → Parts → Parts

@@ -1,17 +1,13 @@
 -- The machine at the opening.
-use Rattle.std.proofs.Common.{◌≡◌, ◌<◌, ◌≤◌, ℕ, ◌+◌, ◌-◌, ◌*◌, ◌%◌, length, Bool, true, false, sym, ap, ◌∙◌, subst, inl, inr, arith, refl, List, [], ◌∷◌, ◌++◌, ◌⊎◌}
-use Rattle.std.specs.Prelude.{zero, suc, if◌then◌else◌, ◌==◌, ◌&&◌, nat_lt, nat_le, slice_index, slice_get, replicate, Option, Some, None}
-use Rattle.byteorder.specs.Endian.{little_bytes}
-use mathlib.Core.Path.{fun_ext}
+use Rattle.std.proofs.Common.{◌≡◌, ◌<◌, ◌≤◌, ℕ, ◌+◌, ◌*◌, ◌%◌, length, sym, ap, ◌∙◌, subst, inl, inr, arith, refl, List, [], ◌∷◌, ◌++◌, ◌⊎◌}
+use Rattle.std.specs.Prelude.{zero, suc, slice_get, replicate, Option, Some, None}
 use Rattle.vub_base.specs.declared.header.Header1.{Header1}
-use Rattle.vub_shared.specs.Bytes.{Bytes, put}
 use Rattle.vub_shared.specs.Watched.{bytes_in, sizes_in, IsUnfailed}
 use Rattle.vub_device.specs.Requests.{zeros}
 use Rattle.vub_driver.specs.Layout.{ring_of}
 use Rattle.vub_infl_split.specs.Region.{RegionLies, region_size}
 use Rattle.vub_infl_split.specs.declared.region.SplitRegion.{SplitRegion}
 use Rattle.vub_memdisk.specs.MemDisks.{values_of, capacity_of}
-use Rattle.vub_ring.specs.Ring.{Ring}
 use Rattle.vub_schedule.specs.Spelling.{IsHeader}
 use Rattle.vub_queue_in_run.specs.QueueAt.{LiesAs, IsNewQueue}
 use Rattle.vub_shared.specs.declared.watched_shared.WatchedShared.{WatchedShared}
@@ -28,7 +24,7 @@ use Rattle.vub_world.specs.Machine.{IsSound, AreInLife}
 use Rattle.vub_world.specs.OutstandingRequests.{offered_in}
 use Rattle.vub_world.specs.Regions.{inflight_size}
 use Rattle.vub_world.specs.MachineAt.{MachineAt, LifeAt}
-use Rattle.vub_run.specs.Memory.{opening_memory, opened, with_indexes}
+use Rattle.vub_run.specs.Memory.{opening_memory}
 use Rattle.vub_run.specs.Moments.{opening, region_of}
 
 -- ---- the world itself

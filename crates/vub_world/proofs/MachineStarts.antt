@@ -9,7 +9,6 @@ use Rattle.vub_report.specs.declared.items.Item.TheVariants as items
 use Rattle.vub_report.specs.declared.items.Record.{Record}
 use Rattle.vub_run.specs.Moments.{Moment}
 use Rattle.vub_run.specs.Run.{Stands, played, if_ready, boot, join}
-use Rattle.vub_run_laws.proofs.Runs.{plain_header}
 use Rattle.vub_run_laws.proofs.RunsTo.{stands_good}
 use Rattle.vub_schedule.specs.declared.types.Event.{Event}
 use Rattle.vub_shared.specs.Watched.{sizes_in}

@@ -1,8 +1,8 @@
 -- A turn of the device at a moment of a run: start, fetch and publication.
 use Rattle.std.proofs.Common.{◌≡◌, ◌≤◌, ◌<◌, ◌⊎◌, ℕ, ◌+◌, ◌*◌, Bool, true, false, List, [], ◌∷◌, ◌++◌, length, map, cond, refl, ap, sym, ◌∙◌, subst, inl, inr, arith}
-use Rattle.std.specs.Prelude.{Option, Some, None, Result, Ok, unwrap_or, slice_index, option_map, slice_get, ◌==◌, ◌||◌, ⊤}
+use Rattle.std.specs.Prelude.{Option, Some, None, Result, Ok, unwrap_or, slice_index, ◌==◌, ◌||◌, ⊤}
 use Rattle.std.proofs.lemmas.Bool.Decides.{nat_tests}
-use Rattle.vub_run_laws.proofs.RunQueue.{phase_at, queue_ahead, head_below}
+use Rattle.vub_run_laws.proofs.RunQueue.{head_below}
 use Rattle.vub_base.specs.declared.header.Header1.{Header1}
 use Rattle.vub_base.specs.declared.store.Tag.{Tag}
 use Rattle.vub_base.specs.declared.store.Tag.TheVariants.{SF2, SP5}
@@ -12,21 +12,14 @@ use Rattle.vub_shared.specs.Bytes.{Bytes, put, bytes_from}
 use Rattle.vub_shared.specs.Stores.{Store, Stores, Trails, after_store, after_in_trail}
 use Rattle.vub_shared.proofs.BytesLemmas.{put_other, bytes_from-put_other}
 use Rattle.vub_disk.specs.Values.{Values}
-use Rattle.vub_steps.specs.declared.steps.Phase.{Phase}
 use Rattle.vub_steps.specs.declared.steps.Phase.TheVariants as phases
-use Rattle.vub_steps.specs.declared.readiness.Standing.{Standing}
 use Rattle.vub_steps.specs.declared.readiness.Turn.{Turn}
 use Rattle.vub_steps.specs.declared.readiness.Turn.TheVariants as turns
 use Rattle.vub_steps.specs.declared.steps.Step.{Step}
 use Rattle.vub_steps.specs.declared.steps.Step.TheVariants as steps
 use Rattle.vub_steps.specs.Readiness.{is_ready}
-use Rattle.vub_steps.specs.declared.steps.Plan.{Plan}
 use Rattle.vub_steps.specs.Rows.{Row}
-use Rattle.vub_steps.specs.Steps.{next_of}
-use Rattle.vub_infl_split.specs.declared.region.SplitRegion.{SplitRegion}
 use Rattle.vub_infl_split.specs.declared.region.SplitStore.{SplitStore}
-use Rattle.vub_infl_split.specs.declared.region.SplitStore.TheVariants as region_stores
-use Rattle.vub_infl_split.specs.Stores.{store_of, tag_of}
 use Rattle.vub_driver.specs.Layout.{area_place, buffer_place, status_place, sectors_place}
 use Rattle.vub_device.specs.declared.entry.Answered.{Answered}
 use Rattle.vub_device.specs.declared.entry.Asked.{Asked}
@@ -48,7 +41,7 @@ use Rattle.vub_world.specs.MachineAt.{OutstandingAt, reads_of}
 use Rattle.vub_world.specs.MachineDevice.{Device, DeviceAt, TurnMade, IsMade, StoreFits, SectorFits, HeadFits, answer_for, answers_for, noted, stored_items, shown_of, is_index, accepts, number_at, numbers_of}
 use Rattle.vub_world.specs.MachineFront.{area_of, IsSmall, OneSmall}
 use Rattle.vub_run.specs.Memory.{Scene, space_of, after_items}
-use Rattle.vub_run.specs.Moments.{Lane, Moment, region_of, standing}
+use Rattle.vub_run.specs.Moments.{Lane, Moment, standing}
 use Rattle.vub_queue_in_run.specs.QueueAt.{spot_of, QueueStands, LiesAs, DiskAt}
 use Rattle.vub_rec_split.specs.declared.plan.Recovered.{Recovered}
 use Rattle.vub_rec_split.specs.declared.plan.Recovered.TheVariants as recovered
@@ -59,7 +52,7 @@ use Rattle.vub_run.specs.Run.{one_turn}
 use Rattle.vub_task.specs.TaskState.{Making}
 use Rattle.vub_run.specs.Turns.{turned, under_way, answer_len, answer_at}
 use Rattle.vub_run_laws.proofs.RunNumbers.{not_among-take}
-use Rattle.vub_run_laws.proofs.RunFrames.{open_out, length_little}
+use Rattle.vub_run_laws.proofs.RunFrames.{open_out}
 use Rattle.vub_run_laws.proofs.RunGood.{IsWide, IsOut, hidden}
 use Rattle.vub_run_laws.proofs.RunHolds.{Holds}
 use Rattle.vub_run_laws.proofs.RunOwn.{accepted_own}

@@ -1,4 +1,4 @@
-use Rattle.std.proofs.Common.{◌≡◌, ◌≤◌, ◌+◌, ◌++◌, ◌∷◌, [], ℕ, List, length, take, sym, ap, ◌∙◌, arith}
+use Rattle.std.proofs.Common.{◌≡◌, ◌+◌, ◌++◌, ◌∷◌, [], ℕ, List, length, take, sym, ap, ◌∙◌, arith}
 use Rattle.std.specs.Prelude.{map, slice_get, Some, None}
 use Rattle.std.proofs.lemmas.List.{length_push}
 use Rattle.vub_queue.specs.QueueState.{state_of}
