@@ -1,0 +1,123 @@
+//! A life of the device: the queues that it has attached, and their steps.
+ghost use Rattle.std.specs.Prelude.{◌≡◌, ◌<◌, ◌≤◌, ◌++◌, ◌∷◌, [], ℕ, IfSome, length, replicate, None, IfOk, OnOk, OnErr, option_map};
+ghost use Rattle.vub_queue.specs.QueueState.{state_of, QueueLies};
+ghost use Rattle.vub_backend.specs.Backends.{queues_of, attached_in, is_attached, Attaches, EachLies, StepsIn, Steps};
+ghost use Rattle.vub_backend.specs.Turned.{outside};
+
+use std::alloc::Global;
+use vub_base::{Bell, Memory};
+use vub_disk::Disk;
+use vub_queue::{Choice, Queue, QueueSetup, Stepped};
+use vub_shared::Shared;
+
+/// The most queues of a device.
+pub const MOST_QUEUES: u16 = 16;
+
+/// A life of the device. It ends with `kill`, and leaves what it stored.
+#[derive(Drop)]
+pub struct Backend {
+    // By their numbers; none where a queue isn't attached.
+    queues: Vec<Option<Queue>>,
+}
+
+fn add_none(queues: &mut Vec<Option<Queue>>) -> Result<(), Memory>
+    ensures { OnOk result (queues.new.items ≡ queues.old.items ++ None ∷ []) }
+{
+    queues.push(None).map_err(|_| Memory)
+}
+
+/// That no queue of so many is attached.
+fn no_queues(alloc: Global, count: u16) -> Result<Vec<Option<Queue>>, Memory>
+    ensures { IfOk result (λ queues. queues.items ≡ replicate count None) }
+{
+    let mut queues = Vec::with_capacity(alloc, usize::from(count)).map_err(|_| Memory)?;
+    for _place in 0..count {
+        add_none(&mut queues)?;
+    }
+    Ok(queues)
+}
+
+/// A step of a queue, if there is one.
+fn step_of<M: Shared, D: Disk, B: Bell>(
+    queue: &mut Option<Queue>,
+    choice: Choice,
+    mem: &mut M,
+    disk: &mut D,
+    bell: &mut B,
+) -> Stepped
+    requires { IfSome queue.old (λ q. QueueLies (M.sizes mem.old) (D.capacity disk.old) (state_of q)) }
+    ensures { StepsIn (option_map state_of queue.old) choice (outside (M.told mem.old) (M.trail mem.old) (M.names mem.old) (M.handed mem.old) (M.sizes mem.old) (M.faults mem.old) (D.values disk.old) (D.stable disk.old) (D.capacity disk.old) (D.faults disk.old) (B.told bell.old) (B.faults bell.old)) (outside (M.told mem.new) (M.trail mem.new) (M.names mem.new) (M.handed mem.new) (M.sizes mem.new) (M.faults mem.new) (D.values disk.new) (D.stable disk.new) (D.capacity disk.new) (D.faults disk.new) (B.told bell.new) (B.faults bell.new)) result (option_map state_of queue.new) }
+{
+    match queue {
+        Some(queue) => queue.turn(choice, mem, disk, bell),
+        None => Stepped::Idle,
+    }
+}
+
+impl Backend {
+    ghost use Rattle.vub_queue.specs.QueueState.{new_recovery};
+    ghost use Rattle.vub_rec_split.specs.Starts.{StartLies};
+
+    /// A life that has attached no queue of so many.
+    pub fn new(alloc: Global, queues: u16) -> Result<Backend, Memory>
+        requires { queues ≤ MOST_QUEUES }
+        ensures { IfOk result (λ b. queues_of b ≡ replicate queues None) }
+    {
+        Ok(Backend {
+            queues: no_queues(alloc, queues)?,
+        })
+    }
+
+    /// Whether the queue is attached.
+    pub fn attached(&self, queue: u16) -> bool
+        ensures { result ≡ is_attached (queues_of self.now) queue }
+    {
+        self.queue(queue).is_some()
+    }
+
+    /// The queue, if it is attached.
+    pub fn queue(&self, queue: u16) -> Option<&Queue>
+        ensures { option_map (λ q. state_of q.now) result ≡ attached_in (queues_of self.now) queue }
+    {
+        match self.queues.get(usize::from(queue)) {
+            Some(Some(queue)) => Some(queue),
+            _ => None,
+        }
+    }
+
+    /// Attaches the queue of a set-up, which isn't started yet. All memory that it needs is reserved here.
+    pub fn attach(&mut self, alloc: Global, setup: &QueueSetup) -> Result<(), Memory>
+        requires index { setup.now.index < length (queues_of self.old) }
+        requires size { setup.now.ring.size ≤ 1024 }
+        ensures attached { OnOk result (Attaches setup.now (queues_of self.old) (queues_of self.new)) }
+        ensures kept { OnErr result (queues_of self.new ≡ queues_of self.old) }
+        ensures lies { OnOk result ((sizes : ℕ → ℕ) (capacity : ℕ) → StartLies sizes (new_recovery setup.now) → EachLies sizes capacity (queues_of self.old) → EachLies sizes capacity (queues_of self.new)) }
+    {
+        let queue = Queue::new(alloc, setup)?;
+        self.queues[usize::from(setup.index)] = Some(queue);
+        Ok(())
+    }
+
+    /// A step of the queue: the turn that is chosen. It is `Idle` where that isn't ready, or the queue isn't
+    /// attached or has stopped. Takes no memory.
+    pub fn step<M: Shared, D: Disk, B: Bell>(
+        &mut self,
+        queue: u16,
+        choice: Choice,
+        mem: &mut M,
+        disk: &mut D,
+        bell: &mut B,
+    ) -> Stepped
+        requires { EachLies (M.sizes mem.old) (D.capacity disk.old) (queues_of self.old) }
+        ensures steps { Steps queue choice (outside (M.told mem.old) (M.trail mem.old) (M.names mem.old) (M.handed mem.old) (M.sizes mem.old) (M.faults mem.old) (D.values disk.old) (D.stable disk.old) (D.capacity disk.old) (D.faults disk.old) (B.told bell.old) (B.faults bell.old)) (outside (M.told mem.new) (M.trail mem.new) (M.names mem.new) (M.handed mem.new) (M.sizes mem.new) (M.faults mem.new) (D.values disk.new) (D.stable disk.new) (D.capacity disk.new) (D.faults disk.new) (B.told bell.new) (B.faults bell.new)) result (queues_of self.old) (queues_of self.new) }
+        ensures lies { EachLies (M.sizes mem.new) (D.capacity disk.new) (queues_of self.new) }
+    {
+        match self.queues.get_mut(usize::from(queue)) {
+            Some(queue) => step_of(queue, choice, mem, disk, bell),
+            None => Stepped::Idle,
+        }
+    }
+
+    /// Ends the life. Memory, region and disk stay.
+    pub fn kill(self) {}
+}
