@@ -1,1 +1,2 @@
-mod BackendLemmas
+pub mod BackendLemmas
+pub mod StepLemmas

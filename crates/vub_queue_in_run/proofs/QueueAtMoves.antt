@@ -101,10 +101,10 @@ pub heads_distinct : (q : ℕ) (h : Header1) (setup : QueueSetup) (past : List E
     → are_distinct (open_heads q past heads) ≡ true
 heads_distinct q h setup past heads phase batch completed made state run x = (x.keeps run (words_with (used_after h q past)) refl).distinct
 
--- a task for each request that is left
-pub count_is : (q : ℕ) (h : Header1) (setup : QueueSetup) (past : List Entry) (heads : List ℕ) (phase : Phase) (batch completed : List ℕ) (made : ℕ → ℕ) (state : QueueState) → started past q ≡ true → Worked q past phase batch completed made
-    → QueueAt q h setup past heads phase batch completed made state → length state.unfinished ≡ length (left_of q past completed batch)
-count_is q h setup past heads phase batch completed made state run w x =
+-- its tasks are those of the requests that are left, in order
+pub left_heads : (q : ℕ) (h : Header1) (setup : QueueSetup) (past : List Entry) (heads : List ℕ) (phase : Phase) (batch completed : List ℕ) (made : ℕ → ℕ) (state : QueueState) → started past q ≡ true → Worked q past phase batch completed made
+    → QueueAt q h setup past heads phase batch completed made state → map head_in state.unfinished ≡ map (slice_index heads) (left_of q past completed batch)
+left_heads q h setup past heads phase batch completed made state run w x =
     let f : ℕ → ℕ = slice_index heads in
     let kept = x.keeps run (words_with (used_after h q past)) refl in
     let joined : (k : ℕ) → is_among (batch ++ completed) k ≡ is_among (completed ++ batch) k = λ k.
@@ -116,11 +116,15 @@ count_is q h setup past heads phase batch completed made state run w x =
     let spots : hidden_in state ++ state.completed ≡ map (spot_of q h past heads) (batch ++ completed) =
     ap (λ (xs : List (ℕ × ℕ)). xs ++ state.completed) x.batch ∙ ap (λ (xs : List (ℕ × ℕ)). map (spot_of q h past heads) batch ++ xs) x.completed ∙ sym (map-append (spot_of q h past heads) batch completed) in
     let busy_is : heads_in (hidden_in state ++ state.completed) ≡ map f (batch ++ completed) = ap heads_in spots ∙ heads_of_spots q h past heads (batch ++ completed) in
-    let left : map head_in state.unfinished ≡ map f (without (batch ++ completed) (open_numbers past q)) =
-    kept.splits.left ∙ ap (λ (hs : List ℕ). without hs (open_heads q past heads)) busy_is ∙ without_map f (batch ++ completed) (open_numbers past q) kept.distinct opens in
     let same : without (batch ++ completed) (open_numbers past q) ≡ left_of q past completed batch =
     filter_same (λ k. not (is_among (batch ++ completed) k)) (λ k. not (is_among (completed ++ batch) k)) (open_numbers past q) (λ k. ap not (joined k)) in
-    sym (length-map state.unfinished head_in) ∙ ap (λ (hs : List ℕ). length hs) left ∙ length-map (without (batch ++ completed) (open_numbers past q)) f ∙ ap (λ (ks : List ℕ). length ks) same
+    kept.splits.left ∙ ap (λ (hs : List ℕ). without hs (open_heads q past heads)) busy_is ∙ without_map f (batch ++ completed) (open_numbers past q) kept.distinct opens ∙ ap (λ (ks : List ℕ). map f ks) same
+
+-- and as many
+pub count_is : (q : ℕ) (h : Header1) (setup : QueueSetup) (past : List Entry) (heads : List ℕ) (phase : Phase) (batch completed : List ℕ) (made : ℕ → ℕ) (state : QueueState) → started past q ≡ true → Worked q past phase batch completed made
+    → QueueAt q h setup past heads phase batch completed made state → length state.unfinished ≡ length (left_of q past completed batch)
+count_is q h setup past heads phase batch completed made state run w x =
+    sym (length-map state.unfinished head_in) ∙ ap (λ (hs : List ℕ). length hs) (left_heads q h setup past heads phase batch completed made state run w x) ∙ length-map (left_of q past completed batch) (slice_index heads)
 
 -- where nothing is completed and no batch is hidden, the heads of its tasks are those of the open requests, in order
 pub heads_open : (q : ℕ) (h : Header1) (setup : QueueSetup) (past : List Entry) (heads : List ℕ) (phase : Phase) (batch completed : List ℕ) (made : ℕ → ℕ) (state : QueueState) → started past q ≡ true → batch ≡ [] → completed ≡ []

@@ -16,11 +16,9 @@ use Rattle.vub_run.specs.Moments.{Moment, region_of, region_in, open_heads}
 use Rattle.vub_run.specs.Turns.{len_of}
 use Rattle.vub_queue.specs.QueueParts.{is_taken}
 use Rattle.vub_queue.specs.QueueFacts.{hidden_part, hidden_in, KeepsHeads, kept_phase, StartsAt, kept_head}
-use Rattle.vub_queue.specs.QueueState.{QueueState, QueueLies, IsNew, state_of, new_recovery}
+use Rattle.vub_queue.specs.QueueState.{QueueState, new_recovery}
 use Rattle.vub_task.specs.TaskState.{IsTaskAt, head_in}
-use Rattle.vub_queue.specs.declared.queue.Queue.{Queue}
 use Rattle.vub_queue.specs.declared.queue.QueueSetup.{QueueSetup}
-use Rattle.vub_queue.specs.Queue.{ring_in}
 use Rattle.vub_task.specs.declared.task.Task.{Task}
 
 -- ---- what it keeps, by the numbers of a run
@@ -104,16 +102,6 @@ pub record LiesAs (q : ℕ) (setup : QueueSetup) (n : ℕ) : Type 0 where
 -- its rings and its part of the in-flight region lie in shared memory, whose spaces have these sizes
 abbrev pub SetupLies : (ℕ → ℕ) → QueueSetup → Type 0
 SetupLies sizes setup = StartLies sizes (new_recovery setup)
-
--- a queue is on the rings of the set-up
-abbrev pub IsOn : QueueSetup → Queue → Type 0
-IsOn setup queue = ring_in queue ≡ setup.ring
-
--- it isn't started
-pub record IsNewQueue (setup : QueueSetup) (queue : Queue) : Type 0 where
-  pub ring : IsOn setup queue
-  pub state : IsNew setup (state_of queue)
-  pub lies : (sizes : ℕ → ℕ) (capacity : ℕ) → SetupLies sizes setup → QueueLies sizes capacity (state_of queue)
 
 -- ---- the disk
 

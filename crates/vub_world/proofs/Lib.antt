@@ -1,4 +1,5 @@
 pub mod Bells
+pub mod MachineBackend
 pub mod MachineBatches
 pub mod MachineDrivers
 pub mod MachineEvents
@@ -14,6 +15,7 @@ pub mod MachineLives
 pub mod MachineLoops
 pub mod MachineNotes
 pub mod MachineOpening
+pub mod MachineOutside
 pub mod MachineParts
 pub mod MachineResumes
 pub mod MachineRooms

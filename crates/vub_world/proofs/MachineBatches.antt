@@ -1,6 +1,6 @@
 -- What the room and the answers of a step of a drain need to know of the batch under way.
 use Rattle.std.proofs.Common.{◌≡◌, ◌≤◌, ◌<◌, ℕ, zero, suc, true, List, ◌++◌, length, refl, ap, sym, ◌∙◌, arith}
-use Rattle.std.specs.Prelude.{Bool, Option, Some, None, map, slice_get, slice_index, option_map}
+use Rattle.std.specs.Prelude.{Bool, Option, Some, None, IfSome, map, slice_get, slice_index, option_map}
 use Rattle.std.proofs.lemmas.List.{length-map}
 use Rattle.std.proofs.lemmas.Option.{slice_get-map}
 use Rattle.vub_base.specs.declared.header.Header1.{Header1}
@@ -15,7 +15,7 @@ use Rattle.vub_world.specs.declared.outstanding.OutstandingRequests.{Outstanding
 use Rattle.vub_world.specs.declared.outstanding.OutstandingRequest.{OutstandingRequest}
 use Rattle.vub_queue.specs.declared.queue.QueueSetup.{QueueSetup}
 use Rattle.vub_world.specs.OutstandingRequests.{size_in, slot_in}
-use Rattle.vub_world.specs.MachineAt.{OutstandingAt, reads_of}
+use Rattle.vub_world.specs.MachineAt.{AttachedAt, OutstandingAt, reads_of}
 use Rattle.vub_world.specs.MachineDevice.{ShownFits, ShowsSome, is_showing, is_index}
 use Rattle.vub_run.specs.Moments.{Moment}
 use Rattle.vub_queue.specs.QueueFacts.{kept_phase}
@@ -46,7 +46,7 @@ lane_shows_next q h setup m state at shows = ap (λ (p : Phase). is_index (next_
 batch_long : (q : ℕ) (h : Header1) (setup : QueueSetup) (m : Moment) (state : QueueState) → QueueStands q h setup m state → length state.batch ≡ length (m.lanes q).batch
 batch_long q h setup m state at = ap (λ (xs : List (ℕ × ℕ)). length xs) at.phase.batch ∙ length-map (m.lanes q).batch (spot_of q h m.scene.past (m.scene.heads q))
 
-pub queue_shows_some : (q : ℕ) (h : Header1) (setup : QueueSetup) (m : Moment) (state : QueueState) → Good q h m → QueueStands q h setup m state → ShowsSome state
+queue_shows_some : (q : ℕ) (h : Header1) (setup : QueueSetup) (m : Moment) (state : QueueState) → Good q h m → QueueStands q h setup m state → ShowsSome state
 queue_shows_some q h setup m state good at shows =
     let lane = m.lanes q in
     let some : 0 < length lane.batch = phase_shows h.size lane.bell lane.plan lane.batch (length state.batch) state.bell lane.phase (phase_at q h m.scene (m.lanes q) good.holds) (lane_shows_next q h setup m state at shows) in
@@ -63,7 +63,7 @@ few_reads cap (Some (asks.Discard parts)) is = absurd is
 few_reads cap (Some (asks.Zero parts)) is = absurd is
 few_reads cap None is = absurd is
 
-pub queue_shown_fits : (q : ℕ) (h : Header1) (setup : QueueSetup) (m : Moment) (state : QueueState) (outstanding : OutstandingRequests) → h.size ≤ 64 → Good q h m → QueueStands q h setup m state → OutstandingAt q h.size m.scene.past (m.scene.heads q) outstanding → ShownFits outstanding state
+queue_shown_fits : (q : ℕ) (h : Header1) (setup : QueueSetup) (m : Moment) (state : QueueState) (outstanding : OutstandingRequests) → h.size ≤ 64 → Good q h m → QueueStands q h setup m state → OutstandingAt q h.size m.scene.past (m.scene.heads q) outstanding → ShownFits outstanding state
 queue_shown_fits q h setup m state outstanding small good at numbered shows i x found =
     let lane = m.lanes q in
     let past = m.scene.past in
@@ -93,3 +93,13 @@ queue_shown_fits q h setup m state outstanding small good at numbered shows i x 
         let slot : (slot_in outstanding x.0).reads ≡ reads_of (asked past q k) = ap (λ (d : ℕ). (slot_in outstanding d).reads) head ∙ ap (λ (o : OutstandingRequest). o.reads) (numbered.slots k out.below out.kept) in
         let few : reads_of (asked past q k) ≤ 8 = few_reads h.capacity (asked past q k) (holds.known.wide k out.below) in
         (omega (arith, below, head, small), omega (arith, below, head, numbered.places), omega (arith, slot, few))
+
+-- ---- of a queue that may be attached
+
+pub shows_some : (q : ℕ) (h : Header1) (setup : QueueSetup) (m : Moment) (o : Option QueueState) → Good q h m → AttachedAt q h setup m o → IfSome o ShowsSome
+shows_some q h setup m None good at = tt
+shows_some q h setup m (Some s) good at = queue_shows_some q h setup m s good at.2
+
+pub shown_fits : (q : ℕ) (h : Header1) (setup : QueueSetup) (m : Moment) (o : Option QueueState) (outstanding : OutstandingRequests) → h.size ≤ 64 → Good q h m → AttachedAt q h setup m o → OutstandingAt q h.size m.scene.past (m.scene.heads q) outstanding → IfSome o (ShownFits outstanding)
+shown_fits q h setup m None outstanding small good at numbered = tt
+shown_fits q h setup m (Some s) outstanding small good at numbered = queue_shown_fits q h setup m s outstanding small good at.2 numbered

@@ -1,29 +1,30 @@
 -- An event leads from where the machine stood to where it stands.
 use Rattle.std.proofs.Common.{◌≡◌, ◌≤◌, ◌<◌, ℕ, zero, suc, ◌+◌, true, List, [], ◌∷◌, ◌++◌, length, refl, sym, ◌∙◌, subst, arith}
 use Rattle.std.proofs.lemmas.List.{length_push}
-use Rattle.std.specs.Prelude.{Vec, Result, Ok, Err, IfOk, Option, Some, None, is_some, slice_get, ⊤}
+use Rattle.std.specs.Prelude.{Result, Ok, Err, IfOk, Option, Some, None, is_some, slice_get, ⊤}
 use Rattle.vub_base.specs.declared.header.Header1.{Header1}
 use Rattle.vub_schedule.specs.declared.types.Event.{Event}
 use Rattle.vub_schedule.specs.declared.types.Event.TheVariants as events
 use Rattle.vub_schedule.specs.Spelling.{IsHeader, IsEvent}
 use Rattle.vub_world.specs.declared.front.Front.{Front}
-use Rattle.vub_world.specs.declared.machine.Life.{Life}
+use Rattle.vub_backend.specs.declared.backend.Backend.{Backend}
 use Rattle.vub_world.specs.declared.machine.Machine.{Machine}
-use Rattle.vub_queue.specs.declared.queue.Queue.{Queue}
 use Rattle.vub_report.specs.declared.items.Item.{Item}
 use Rattle.vub_report.specs.declared.items.Record.{Record}
 use Rattle.vub_queue.specs.declared.queue.QueueSetup.{QueueSetup}
 use Rattle.vub_world.specs.Fronts.{offers_in}
-use Rattle.vub_world.specs.Lives.{life_of, queue_of}
-use Rattle.vub_world.specs.Machine.{IsSound, AreAttached, AreInLife}
-use Rattle.vub_world.specs.MachineAt.{MachineAt, LifeAt, StandsFor, IsStanding, Performs, StandsOn, ServesAll, is_attached}
+use Rattle.vub_world.specs.Lives.{life_of, queue_in}
+use Rattle.vub_world.specs.Machine.{IsSound}
+use Rattle.vub_world.specs.MachineAt.{MachineAt, AttachedAt, LifeAt, StandsFor, IsStanding, Performs, StandsOn, ServesAll, is_attached}
 use Rattle.vub_run.specs.Moments.{Moment, opening}
 use Rattle.vub_run.specs.Run.{Stands, Plays}
 use Rattle.vub_run_laws.proofs.RunEntries.{event_offers, run_offers}
 use Rattle.vub_run_laws.proofs.RunServes.{drain_serves, stands_legal}
 use Rattle.vub_run_laws.proofs.RunsLegal.{opening_held}
 use Rattle.vub_run_laws.proofs.RunsTo.{stands_more, stands_held, run_length}
+use Rattle.vub_world.proofs.MachineBackend.{backend_stands}
 use Rattle.vub_world.proofs.MachineParts.{found_there, offered_only}
+use Rattle.vub_queue.specs.QueueState.{QueueState}
 
 pub ok_then : {T E : Type 0} (P Q : T → Type 0) (r : Result T E) → ((x : T) → P x → Q x) → IfOk r P → IfOk r Q
 ok_then P Q (Ok x) f p = f x p
@@ -36,29 +37,20 @@ with_record r spare w = record w { last = r; spare = spare }
 pub event_front : (w : Machine) (q : ℕ) → IsSound w → q ≡ 0 → (f : Front) × (slice_get w.fronts.items q ≡ Some f)
 event_front w q sound is = found_there w.fronts.items q (omega (arith, is, sound.many, sound.header.one))
 
-none_past : (qs : List Queue) (q : ℕ) → slice_get qs q ≡ None → q < length qs → ⊥
-none_past [] q none less = omega (arith, less)
-none_past (x ∷ qs) zero none less = cc none
-none_past (x ∷ qs) (suc q) none less = none_past qs q none (omega (arith, less))
-
-attached_with : {Z : Type 0} (h : Header1) (q count : ℕ) (setup : QueueSetup) (m : Moment) (o : Option (Vec Queue Z)) → AreAttached count o → q < count → is_some o ≡ true → LifeAt q h setup m (Some (queue_of q o)) → (m.lanes q).attached ≡ true
-attached_with h q count setup m None many low is at = absurd (cc is)
-attached_with h q count setup m (Some qs) many low is at = go (slice_get qs.items q) refl at
-  where
-    go : (o : Option Queue) → slice_get qs.items q ≡ o → LifeAt q h setup m (Some o) → (m.lanes q).attached ≡ true
-    go None e at = absurd (none_past qs.items q e (omega (arith, many, low)))
-    go (Some queue) e at = at.1.1
-
--- a machine with attached queues
-attached_at : (w : Machine) (q : ℕ) (m : Moment) → IsSound w → q ≡ 0 → MachineAt w m → is_attached w.life ≡ true → (m.lanes q).attached ≡ true
-attached_at w q m sound is_zero at is = go w.life sound.attached is (at.queues q front.0 front.1).life
+-- a machine in which the queue is attached
+attached_at : (w : Machine) (q : ℕ) (m : Moment) → IsSound w → q ≡ 0 → MachineAt w m → is_attached q w.life ≡ true → (m.lanes q).attached ≡ true
+attached_at w q m sound is_zero at is = go w.life is (at.queues q front.0 front.1).life
   where
     front : (f : Front) × (slice_get w.fronts.items q ≡ Some f)
     front = event_front w q sound is_zero
 
-    go : (l : Option Life) → AreInLife w.header.queues l → is_attached l ≡ true → LifeAt q front.0.header front.0.setup m (life_of q l) → (m.lanes q).attached ≡ true
-    go None many is here = absurd (cc is)
-    go (Some l) many is here = attached_with front.0.header q w.header.queues front.0.setup m l.queues many (omega (arith, is_zero, sound.header.one)) is here
+    there : (o : Option QueueState) → is_some o ≡ true → AttachedAt q front.0.header front.0.setup m o → (m.lanes q).attached ≡ true
+    there None is at = absurd (cc is)
+    there (Some s) is at = at.1
+
+    go : (l : Option Backend) → is_attached q l ≡ true → LifeAt q front.0.header front.0.setup m (life_of q l) → (m.lanes q).attached ≡ true
+    go None is here = absurd (cc is)
+    go (Some b) is here = there (queue_in q b) is here.1
 
 serves_all : (w : Machine) (e : Event) (es : List Event) (rs : List Record) (m k : Moment) (r : Record) → IsSound w → IsEvent w.header e → MachineAt w m → Stands w.header es rs m → Stands w.header (es ++ e ∷ []) (rs ++ r ∷ []) k → Plays w.header m e r.items k → ServesAll w e (rs ++ r ∷ [])
 serves_all w (events.Drain q) es rs m k r sound fits at stands next plays = λ is counts.
@@ -75,15 +67,18 @@ serves_all w (events.Publish q most) es rs m k r sound fits at stands next plays
 serves_all w (events.Turn q n) es rs m k r sound fits at stands next plays = tt
 serves_all w events.Kill es rs m k r sound fits at stands next plays = tt
 
-pub stands_on : (w now : Machine) (e : Event) (r : Record) (spare : ⊤) → IsSound w → IsEvent w.header e → now.header ≡ w.header → r.event ≡ e → Performs w now e r.items → StandsOn w (with_record r spare now) e r
-stands_on w now e r spare sound fits same is goes es rs stood =
+pub stands_on : (w now : Machine) (e : Event) (r : Record) (spare : ⊤) → IsSound w → IsSound now → IsEvent w.header e → now.header ≡ w.header → r.event ≡ e → Performs w now e r.items → StandsOn w (with_record r spare now) e r
+stands_on w now e r spare sound after fits same is goes es rs stood =
     let m : Moment = stood.0 in
     let went = goes es rs m stood.1 stood.2 in
     let stands : Stands w.header (es ++ e ∷ []) (rs ++ r ∷ []) went.0 = stands_more w.header es rs m went.0 e r stood.1 fits is went.1 in
+    let there : Stands now.header (es ++ e ∷ []) (rs ++ r ∷ []) went.0 = subst (λ (h : Header1). Stands h (es ++ e ∷ []) (rs ++ r ∷ []) went.0) (sym same) stands in
+    let backend = backend_stands now (es ++ e ∷ []) (rs ++ r ∷ []) went.0 after there went.2 in
     record {
-      stands = (went.0, subst (λ (h : Header1). Stands h (es ++ e ∷ []) (rs ++ r ∷ []) went.0) (sym same) stands, record { many = went.2.many; queues = went.2.queues });
+      stands = (went.0, there, record { many = went.2.many; queues = went.2.queues });
       runs = stands_legal w.header (es ++ e ∷ []) (rs ++ r ∷ []) went.0 stands;
       serves = serves_all w e es rs m went.0 r sound fits stood.2 stood.1 stands went.1;
+      backend = (went.0, there, record { lives = backend.lives; attached = backend.attached; names = backend.names });
     }
 
 -- all offers of a machine are in the heads of its queue

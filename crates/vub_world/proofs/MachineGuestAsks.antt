@@ -9,23 +9,23 @@ use Rattle.vub_driver.specs.Layout.{ring_of}
 use Rattle.vub_driver.specs.Drivers.{Driver, can_take, after_ask}
 use Rattle.vub_guest.specs.declared.guest.Guest.{Guest}
 use Rattle.vub_world.specs.Fronts.{Parts, desk}
-use Rattle.vub_queue.specs.declared.queue.Queue.{Queue}
 use Rattle.vub_queue.specs.declared.queue.QueueSetup.{QueueSetup}
 use Rattle.vub_guest.specs.GuestState.{ring_in, driver_in, last_used_in}
 use Rattle.vub_world.specs.MachineAt.{LifeAt, PartsAt}
 use Rattle.vub_run.specs.Moments.{Moment}
 use Rattle.vub_run.specs.Run.{played, if_ready, with_lane, with_driver, ask}
 use Rattle.vub_world.proofs.MachineLanes.{all_lanes, life_with, front_with}
+use Rattle.vub_queue.specs.QueueState.{QueueState}
 
 -- the moment with another driver
 abbrev pub driven_moment : ℕ → Driver → Moment → Moment
 driven_moment q v m = with_lane q (with_driver v (m.lanes q)) m
 
 -- the device's side stays
-pub life_driven : (q : ℕ) (h : Header1) (setup : QueueSetup) (m : Moment) (v : Driver) (life : Option (Option Queue)) → LifeAt q h setup m life → LifeAt q h setup (driven_moment q v m) life
+pub life_driven : (q : ℕ) (h : Header1) (setup : QueueSetup) (m : Moment) (v : Driver) (life : Option (Option QueueState)) → LifeAt q h setup m life → LifeAt q h setup (driven_moment q v m) life
 life_driven q h setup m v life at = life_with q h setup m (with_driver v (m.lanes q)) life (same life at)
   where
-    same : (life : Option (Option Queue)) → LifeAt q h setup m life → LifeAt q h setup (all_lanes (with_driver v (m.lanes q)) m) life
+    same : (life : Option (Option QueueState)) → LifeAt q h setup m life → LifeAt q h setup (all_lanes (with_driver v (m.lanes q)) m) life
     same None at = at
     same (Some None) at = at
     same (Some (Some queue)) at = (at.0, (at.1.0, at.1.1, record { at = at.1.2.at; phase = at.1.2.phase }))

@@ -28,7 +28,6 @@ use Rattle.vub_run.specs.Memory.{after_items}
 use Rattle.vub_run_laws.proofs.RunOwn.{collected_own}
 use Rattle.vub_world.proofs.MachineLanes.{all_lanes, life_with, front_with}
 use Rattle.vub_world.proofs.MachineGuestOffers.{with_desk}
-use Rattle.vub_queue.specs.declared.queue.Queue.{Queue}
 use Rattle.vub_queue.specs.declared.queue.QueueSetup.{QueueSetup}
 use Rattle.vub_report.specs.declared.items.Item.TheVariants as items
 use Rattle.vub_report.specs.declared.items.Record.{Record}
@@ -36,7 +35,7 @@ use Rattle.vub_guest.specs.GuestState.{ring_in, driver_in, last_used_in, Shows}
 use Rattle.vub_world.specs.OutstandingRequests.{offered_in, collected_in, slot_in}
 use Rattle.vub_world.specs.MachineAt.{AskAt, LifeAt, PartsAt, PartsStand}
 use Rattle.vub_run.specs.Moments.{Lane, Moment, region_in}
-use Rattle.vub_queue.specs.QueueState.{QueueState, state_of}
+use Rattle.vub_queue.specs.QueueState.{QueueState}
 use Rattle.vub_queue.specs.QueueFacts.{hidden_part}
 use Rattle.vub_queue_in_run.specs.QueueAt.{PhaseAt}
 use Rattle.vub_infl_split.specs.Region.{RegionWords}
@@ -111,16 +110,16 @@ phase_collected q h setup past heads l w state k z = record {
   batch = z.batch;
 }
 
-taken_life : (q : ℕ) (h : Header1) (setup : QueueSetup) (m : Moment) (x : ℕ × ℕ) (xs : List (ℕ × ℕ)) (life : Option (Option Queue)) → LifeAt q h setup m life → LifeAt q h setup (take_first h q (x ∷ xs) m).next life
+taken_life : (q : ℕ) (h : Header1) (setup : QueueSetup) (m : Moment) (x : ℕ × ℕ) (xs : List (ℕ × ℕ)) (life : Option (Option QueueState)) → LifeAt q h setup m life → LifeAt q h setup (take_first h q (x ∷ xs) m).next life
 taken_life q h setup m x xs life at = life_with q h setup (taken_moment h q m) (taken_lane q x.0 m) life (taken life at)
   where
-    taken : (life : Option (Option Queue)) → LifeAt q h setup m life → LifeAt q h setup (all_lanes (taken_lane q x.0 m) (taken_moment h q m)) life
+    taken : (life : Option (Option QueueState)) → LifeAt q h setup m life → LifeAt q h setup (all_lanes (taken_lane q x.0 m) (taken_moment h q m)) life
     taken None at = at
     taken (Some None) at = at
     taken (Some (Some queue)) at =
         let l : Lane = m.lanes q in
-        let stands = at_collect q h setup m.scene.past (m.scene.heads q) l.phase (hidden_part l.phase l.batch) l.completed l.made (state_of queue) (next_collected q m) at.1.2.at in
-        let phase = phase_collected q h setup m.scene.past (m.scene.heads q) l (region_in h q m.scene) (state_of queue) (next_collected q m) at.1.2.phase in
+        let stands = at_collect q h setup m.scene.past (m.scene.heads q) l.phase (hidden_part l.phase l.batch) l.completed l.made queue (next_collected q m) at.1.2.at in
+        let phase = phase_collected q h setup m.scene.past (m.scene.heads q) l (region_in h q m.scene) queue (next_collected q m) at.1.2.phase in
         (at.0, (at.1.0, at.1.1, record { at = stands; phase = phase }))
 
 head_plays : (q : ℕ) (h : Header1) (m : Moment) (x : ℕ × ℕ) (xs : List (ℕ × ℕ)) (number : ℕ) → number ≡ next_collected q m → sees q h m.scene ≡ x ∷ xs

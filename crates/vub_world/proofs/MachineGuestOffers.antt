@@ -24,7 +24,6 @@ use Rattle.vub_world.specs.declared.outstanding.OutstandingRequests.{Outstanding
 use Rattle.vub_world.specs.declared.outstanding.OutstandingRequest.{OutstandingRequest}
 use Rattle.vub_world.specs.declared.front.Front.{Front}
 use Rattle.vub_world.specs.Fronts.{Parts, desk, desk_of}
-use Rattle.vub_queue.specs.declared.queue.Queue.{Queue}
 use Rattle.vub_queue.specs.declared.queue.QueueSetup.{QueueSetup}
 use Rattle.vub_report.specs.declared.items.Item.{Item}
 use Rattle.vub_report.specs.declared.items.Item.TheVariants as items
@@ -35,7 +34,7 @@ use Rattle.vub_world.specs.MachineAt.{FrontAt, LifeAt, OutstandingAt, PartsAt, r
 use Rattle.vub_world.specs.MachineFront.{GuestGoes}
 use Rattle.vub_run.specs.Memory.{Scene, after_item, after_items}
 use Rattle.vub_run.specs.Moments.{Lane, Moment, region_of, region_in}
-use Rattle.vub_queue.specs.QueueState.{state_of, QueueState}
+use Rattle.vub_queue.specs.QueueState.{QueueState}
 use Rattle.vub_run.specs.Run.{Stands, played, if_ready, with_lane, with_driver, guest_items, guest_stores, guest}
 use Rattle.vub_device.specs.Requests.{request_of}
 use Rattle.vub_run_laws.proofs.RunGood.{Known, IsOut, IsSize, BetweenTurns}
@@ -191,40 +190,40 @@ phase_offered q h setup m state r x size good z =
       batch = z.batch ∙ map_alike (spot_of q h past heads) (spot_of q h (entries.Offer q r ∷ past) (heads ++ x ∷ [])) l.batch (λ k held. sym (offered_spot q h past heads r x k good.holds.known (low k held)));
     }
 
-offered_life : (q : ℕ) (h : Header1) (setup : QueueSetup) (count : ℕ) (m : Moment) (x : Waiting) (r : Asked) (b : Bytes) (life : Option (Option Queue)) → words_of (region_of q h.size) b ≡ region_in h q m.scene → (offered_scene q h r b m.scene).heads q ≡ m.scene.heads q ++ x.head ∷ [] → IsSize h.size → Good q h m → LifeAt q h setup m life → LifeAt q h setup (moment_with q count x m (offered_scene q h r b m.scene)) life
+offered_life : (q : ℕ) (h : Header1) (setup : QueueSetup) (count : ℕ) (m : Moment) (x : Waiting) (r : Asked) (b : Bytes) (life : Option (Option QueueState)) → words_of (region_of q h.size) b ≡ region_in h q m.scene → (offered_scene q h r b m.scene).heads q ≡ m.scene.heads q ++ x.head ∷ [] → IsSize h.size → Good q h m → LifeAt q h setup m life → LifeAt q h setup (moment_with q count x m (offered_scene q h r b m.scene)) life
 offered_life q h setup count m x r b life same heads size good at = life_with q h setup (record m { scene = offered_scene q h r b m.scene }) (stored_lane q count x m) life (offered life at)
   where
-    offered : (life : Option (Option Queue)) → LifeAt q h setup m life → LifeAt q h setup (all_lanes (stored_lane q count x m) (record m { scene = offered_scene q h r b m.scene })) life
+    offered : (life : Option (Option QueueState)) → LifeAt q h setup m life → LifeAt q h setup (all_lanes (stored_lane q count x m) (record m { scene = offered_scene q h r b m.scene })) life
     offered None at = at
     offered (Some None) at = at
     offered (Some (Some queue)) at =
         let l : Lane = m.lanes q in
         let past' : List Entry = entries.Offer q r ∷ m.scene.past in
-        let stands = at_offer q h setup m.scene.past (m.scene.heads q) l.phase (hidden_part l.phase l.batch) l.completed l.made (state_of queue) r x.head good.holds.known (worked_at q h m good.holds) at.1.2.at in
-        let phase = phase_offered q h setup m (state_of queue) r x.head size good at.1.2.phase in
+        let stands = at_offer q h setup m.scene.past (m.scene.heads q) l.phase (hidden_part l.phase l.batch) l.completed l.made queue r x.head good.holds.known (worked_at q h m good.holds) at.1.2.at in
+        let phase = phase_offered q h setup m queue r x.head size good at.1.2.phase in
         let words : region_in h q (offered_scene q h r b m.scene) ≡ region_in h q m.scene = same in (
           at.0,
           (
             at.1.0,
             at.1.1,
             record {
-              at = subst (λ (hs : List ℕ). QueueAt q h setup past' hs l.phase (hidden_part l.phase l.batch) l.completed l.made (state_of queue)) (sym heads) stands;
-              phase = subst (λ (hs : List ℕ). PhaseAt q h setup past' hs l.bell l.plan l.counter l.batch l.phase (region_in h q (offered_scene q h r b m.scene)) (state_of queue)) (sym heads)
-                  (subst (λ (w : RegionWords). PhaseAt q h setup past' (m.scene.heads q ++ x.head ∷ []) l.bell l.plan l.counter l.batch l.phase w (state_of queue)) (sym words) phase);
+              at = subst (λ (hs : List ℕ). QueueAt q h setup past' hs l.phase (hidden_part l.phase l.batch) l.completed l.made queue) (sym heads) stands;
+              phase = subst (λ (hs : List ℕ). PhaseAt q h setup past' hs l.bell l.plan l.counter l.batch l.phase (region_in h q (offered_scene q h r b m.scene)) queue) (sym heads)
+                  (subst (λ (w : RegionWords). PhaseAt q h setup past' (m.scene.heads q ++ x.head ∷ []) l.bell l.plan l.counter l.batch l.phase w queue) (sym words) phase);
             },
           ),
         )
 
 -- stores that offer nothing are nothing to the device
-stored_life : (q : ℕ) (h : Header1) (setup : QueueSetup) (count : ℕ) (m : Moment) (x : Waiting) (b : Bytes) (life : Option (Option Queue)) → words_of (region_of q h.size) b ≡ region_in h q m.scene → LifeAt q h setup m life → LifeAt q h setup (moment_with q count x m (record m.scene { memory = b })) life
+stored_life : (q : ℕ) (h : Header1) (setup : QueueSetup) (count : ℕ) (m : Moment) (x : Waiting) (b : Bytes) (life : Option (Option QueueState)) → words_of (region_of q h.size) b ≡ region_in h q m.scene → LifeAt q h setup m life → LifeAt q h setup (moment_with q count x m (record m.scene { memory = b })) life
 stored_life q h setup count m x b life same at = life_with q h setup (record m { scene = record m.scene { memory = b } }) (stored_lane q count x m) life (stored life at)
   where
-    stored : (life : Option (Option Queue)) → LifeAt q h setup m life → LifeAt q h setup (all_lanes (stored_lane q count x m) (record m { scene = record m.scene { memory = b } })) life
+    stored : (life : Option (Option QueueState)) → LifeAt q h setup m life → LifeAt q h setup (all_lanes (stored_lane q count x m) (record m { scene = record m.scene { memory = b } })) life
     stored None at = at
     stored (Some None) at = at
     stored (Some (Some queue)) at =
         let l : Lane = m.lanes q in
-        let phase = subst (λ (w : RegionWords). PhaseAt q h setup m.scene.past (m.scene.heads q) l.bell l.plan l.counter l.batch l.phase w (state_of queue)) (sym same) at.1.2.phase in
+        let phase = subst (λ (w : RegionWords). PhaseAt q h setup m.scene.past (m.scene.heads q) l.bell l.plan l.counter l.batch l.phase w queue) (sym same) at.1.2.phase in
         (at.0, (at.1.0, at.1.1, record { at = at.1.2.at; phase = phase }))
 
 -- the parts with another memory and front

@@ -3,8 +3,7 @@ use Rattle.std.proofs.Common.{◌≡◌, ℕ, ap, sym, ◌∙◌, subst}
 use Rattle.std.specs.Prelude.{Option, Some, None}
 use Rattle.vub_base.specs.declared.header.Header1.{Header1}
 use Rattle.vub_driver.specs.Drivers.{Waiting, after_stores}
-use Rattle.vub_queue.specs.declared.queue.Queue.{Queue}
-use Rattle.vub_queue.specs.QueueState.{state_of}
+use Rattle.vub_queue.specs.QueueState.{QueueState}
 use Rattle.vub_queue.specs.QueueFacts.{hidden_part}
 use Rattle.vub_queue_in_run.specs.QueueAt.{QueueAt, PhaseAt}
 use Rattle.vub_run.specs.Moments.{Lane, Moment, region_in}
@@ -18,7 +17,7 @@ use Rattle.vub_world.specs.MachineAt.{AskAt, FrontAt, LifeAt}
 abbrev pub all_lanes : Lane → Moment → Moment
 all_lanes l m = record m { lanes = λ p. l }
 
-pub life_with : (q : ℕ) (h : Header1) (setup : QueueSetup) (m : Moment) (l : Lane) (life : Option (Option Queue)) → LifeAt q h setup (all_lanes l m) life → LifeAt q h setup (with_lane q l m) life
+pub life_with : (q : ℕ) (h : Header1) (setup : QueueSetup) (m : Moment) (l : Lane) (life : Option (Option QueueState)) → LifeAt q h setup (all_lanes l m) life → LifeAt q h setup (with_lane q l m) life
 life_with q h setup m l None at = at
 life_with q h setup m l (Some None) at = (at.0, (at.1.0, ap (λ (k : Lane). k.attached) (at_own m.lanes q l) ∙ at.1.1, at.1.2, ap (λ (k : Lane). k.phase) (at_own m.lanes q l) ∙ at.1.3))
 life_with q h setup m l (Some (Some queue)) at = (
@@ -27,8 +26,8 @@ life_with q h setup m l (Some (Some queue)) at = (
     at.1.0,
     ap (λ (k : Lane). k.attached) (at_own m.lanes q l) ∙ at.1.1,
     record {
-      at = subst (λ (k : Lane). QueueAt q h setup m.scene.past (m.scene.heads q) k.phase (hidden_part k.phase k.batch) k.completed k.made (state_of queue)) (sym (at_own m.lanes q l)) at.1.2.at;
-      phase = subst (λ (k : Lane). PhaseAt q h setup m.scene.past (m.scene.heads q) k.bell k.plan k.counter k.batch k.phase (region_in h q m.scene) (state_of queue)) (sym (at_own m.lanes q l)) at.1.2.phase;
+      at = subst (λ (k : Lane). QueueAt q h setup m.scene.past (m.scene.heads q) k.phase (hidden_part k.phase k.batch) k.completed k.made queue) (sym (at_own m.lanes q l)) at.1.2.at;
+      phase = subst (λ (k : Lane). PhaseAt q h setup m.scene.past (m.scene.heads q) k.bell k.plan k.counter k.batch k.phase (region_in h q m.scene) queue) (sym (at_own m.lanes q l)) at.1.2.phase;
     },
   ),
 )

@@ -7,7 +7,6 @@ use Rattle.vub_guest.specs.declared.guest.Guest.{Guest}
 use Rattle.vub_guest.specs.GuestState.{ring_in}
 use Rattle.vub_infl_split.specs.Region.{RegionLies, region_size}
 use Rattle.vub_infl_split.specs.declared.region.SplitRegion.{SplitRegion}
-use Rattle.vub_queue.specs.declared.queue.Queue.{Queue}
 use Rattle.vub_queue_in_run.specs.QueueAt.{SetupLies}
 use Rattle.vub_queue_in_run.proofs.Setups.{setup_lies}
 use Rattle.vub_run_laws.proofs.Sizes.{size_laps}
@@ -15,7 +14,8 @@ use Rattle.vub_shared.specs.Watched.{IsUnfailed, sizes_in}
 use Rattle.vub_shared.specs.declared.watched_shared.WatchedShared.{WatchedShared}
 use Rattle.vub_world.specs.declared.front.Front.{Front}
 use Rattle.vub_world.specs.Fronts.{FrontSound}
-use Rattle.vub_world.specs.Lives.{LiesInLife}
+use Rattle.vub_world.specs.Lives.{IsBackendInLife}
+use Rattle.vub_backend.specs.declared.backend.Backend.{Backend}
 
 -- ---- parts that lie in memory
 
@@ -65,10 +65,10 @@ sound_lies memory f sound =
     let laps = size_laps f.header.size sound.header.sized in
     setup_lies f.index (sizes_in memory) f.setup f.header.size sound.room sound.region laps.0 laps.1 laps.2 sound.setup
 
--- ---- the queue of a life
+-- ---- the backend of a life
 
--- it lies where no size changes
-pub life_lies : (old new : ℕ → ℕ) (capacity : ℕ) (l : Option (Option Queue)) → ((s : ℕ) → new s ≡ old s) → LiesInLife old capacity l → LiesInLife new capacity l
-life_lies old new capacity l same h =
+-- its queues lie where no size changes
+pub backend_lies : (count : ℕ) (old new : ℕ → ℕ) (capacity : ℕ) (l : Option Backend) → ((s : ℕ) → new s ≡ old s) → IsBackendInLife count old capacity l → IsBackendInLife count new capacity l
+backend_lies count old new capacity l same h =
     let equal : old ≡ new = fun_ext (λ s. sym (same s)) in
-    subst (λ (f : ℕ → ℕ). LiesInLife f capacity l) equal h
+    subst (λ (f : ℕ → ℕ). IsBackendInLife count f capacity l) equal h

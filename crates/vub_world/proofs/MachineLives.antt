@@ -10,19 +10,18 @@ use Rattle.vub_device.specs.Past.{started}
 use Rattle.vub_report.specs.declared.items.Item.TheVariants as items
 use Rattle.vub_run.specs.Memory.{after_items}
 use Rattle.vub_world.specs.Fronts.{Parts}
-use Rattle.vub_queue.specs.declared.queue.Queue.{Queue}
 use Rattle.vub_queue.specs.declared.queue.QueueSetup.{QueueSetup}
 use Rattle.vub_world.specs.MachineAt.{PartsAt, LifeAt, AttachedAt}
 use Rattle.vub_run.specs.Moments.{Lane, Moment, fresh, attached, region_in}
 use Rattle.vub_queue.specs.QueueFacts.{hidden_part}
-use Rattle.vub_queue_in_run.specs.QueueAt.{QueueAt, PhaseAt, IsNewQueue, spot_of}
-use Rattle.vub_queue.specs.QueueState.{QueueState, state_of}
+use Rattle.vub_queue_in_run.specs.QueueAt.{QueueAt, PhaseAt, spot_of}
+use Rattle.vub_queue.specs.QueueState.{QueueState, IsNew}
 use Rattle.vub_run.specs.Run.{played, if_ready, boot, join, ended, kill}
 use Rattle.vub_queue_in_run.proofs.QueueAtMoves.{at_new}
 use Rattle.vub_run_laws.proofs.RunTurns.{Good}
 
 -- the parts with that queue of a life
-abbrev pub with_life : Option Queue → Parts → Parts
+abbrev pub with_life : Option QueueState → Parts → Parts
 with_life queue w = record w { life = Some queue }
 
 -- ---- a life begins
@@ -44,7 +43,7 @@ booted_at q w m quiet at = record {
 
 -- where there is no life
 pub asleep_at : (q : ℕ) (w : Parts) (m : Moment) → PartsAt q w m → w.life ≡ None → m.lives ≡ false
-asleep_at q w m at none = subst (λ (l : Option (Option Queue)). LifeAt q w.front.header w.front.setup m l) none at.life
+asleep_at q w m at none = subst (λ (l : Option (Option QueueState)). LifeAt q w.front.header w.front.setup m l) none at.life
 
 -- ---- the queues are attached
 
@@ -58,9 +57,9 @@ join_plays m lives new = sym (
 
 -- where there is a life that has no queue
 pub joining_at : (q : ℕ) (w : Parts) (m : Moment) → PartsAt q w m → w.life ≡ Some None → (m.lives ≡ true) × AttachedAt q w.front.header w.front.setup m None
-joining_at q w m at new = subst (λ (l : Option (Option Queue)). LifeAt q w.front.header w.front.setup m l) new at.life
+joining_at q w m at new = subst (λ (l : Option (Option QueueState)). LifeAt q w.front.header w.front.setup m l) new at.life
 
-pub joined_at : (q : ℕ) (w : Parts) (m : Moment) (queue : Queue) → Good q w.front.header m → w.front.setup.base ≡ w.front.header.base → w.front.setup.index ≡ q → w.front.setup.bell ≡ true → AttachedAt q w.front.header w.front.setup m None → m.lives ≡ true → IsNewQueue w.front.setup queue → PartsAt q w m
+pub joined_at : (q : ℕ) (w : Parts) (m : Moment) (queue : QueueState) → Good q w.front.header m → w.front.setup.base ≡ w.front.header.base → w.front.setup.index ≡ q → w.front.setup.bell ≡ true → AttachedAt q w.front.header w.front.setup m None → m.lives ≡ true → IsNew w.front.setup queue → PartsAt q w m
     → PartsAt q (with_life (Some queue) w) (joined m)
 joined_at q w m queue good same index bell new lives made at =
     let l : Lane = m.lanes q in
@@ -69,13 +68,13 @@ joined_at q w m queue good same index bell new lives made at =
     let past : List Entry = m.scene.past in
     let heads : List ℕ = m.scene.heads q in
     let quiet = good.holds.worked.quiet new.2 in
-    let begins : QueueAt q h setup past heads phases.Rest [] [] l.made (state_of queue) = at_new q h setup past heads l.made (state_of queue) new.2 quiet.1.1 made.state in
-    let at_rest : QueueAt q h setup past heads l.phase (hidden_part l.phase l.batch) l.completed l.made (state_of queue) =
-    subst (λ (p : Phase). QueueAt q h setup past heads p (hidden_part p l.batch) l.completed l.made (state_of queue)) (sym new.3)
-    (subst (λ (cs : List ℕ). QueueAt q h setup past heads phases.Rest [] cs l.made (state_of queue)) (sym quiet.1.0) begins) in
-    let phase : PhaseAt q h setup past heads true l.plan l.counter l.batch l.phase (region_in h q m.scene) (state_of queue) =
-    subst (λ (p : Phase). PhaseAt q h setup past heads true l.plan l.counter l.batch p (region_in h q m.scene) (state_of queue)) (sym new.3)
-    (subst (λ (s : QueueState). PhaseAt q h setup past heads true l.plan l.counter l.batch phases.Rest (region_in h q m.scene) s) (sym made.state.is) (record {
+    let begins : QueueAt q h setup past heads phases.Rest [] [] l.made queue = at_new q h setup past heads l.made queue new.2 quiet.1.1 made in
+    let at_rest : QueueAt q h setup past heads l.phase (hidden_part l.phase l.batch) l.completed l.made queue =
+    subst (λ (p : Phase). QueueAt q h setup past heads p (hidden_part p l.batch) l.completed l.made queue) (sym new.3)
+    (subst (λ (cs : List ℕ). QueueAt q h setup past heads phases.Rest [] cs l.made queue) (sym quiet.1.0) begins) in
+    let phase : PhaseAt q h setup past heads true l.plan l.counter l.batch l.phase (region_in h q m.scene) queue =
+    subst (λ (p : Phase). PhaseAt q h setup past heads true l.plan l.counter l.batch p (region_in h q m.scene) queue) (sym new.3)
+    (subst (λ (s : QueueState). PhaseAt q h setup past heads true l.plan l.counter l.batch phases.Rest (region_in h q m.scene) s) (sym made.is) (record {
       index = index;
       bell = bell;
       ring = refl;

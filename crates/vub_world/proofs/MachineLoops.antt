@@ -10,7 +10,6 @@ use Rattle.vub_steps.specs.Readiness.{drain_turn}
 use Rattle.vub_device.specs.Past.{accepted, collected}
 use Rattle.vub_schedule.specs.declared.types.Event.{Event}
 use Rattle.vub_world.specs.Fronts.{Parts}
-use Rattle.vub_queue.specs.declared.queue.Queue.{Queue}
 use Rattle.vub_report.specs.declared.items.Item.{Item}
 use Rattle.vub_report.specs.declared.items.Record.{Record}
 use Rattle.vub_queue.specs.declared.queue.QueueSetup.{QueueSetup}
@@ -23,7 +22,7 @@ use Rattle.vub_world.specs.Sequences.{next_turn, choices_from}
 use Rattle.vub_world.specs.MachineSteps.{StepGoes, TurnsGo, turns_besides}
 use Rattle.vub_run.specs.Moments.{Moment, standing}
 use Rattle.vub_queue_in_run.specs.QueueAt.{QueueStands, spot_of}
-use Rattle.vub_queue.specs.QueueState.{state_of}
+use Rattle.vub_queue.specs.QueueState.{QueueState}
 use Rattle.vub_run.specs.Run.{Stands, Played, turns, one_turn, is_due, then_played}
 use Rattle.vub_world.proofs.MachineRooms.{shown_by, lane_shows, chosen_shows, undone, shown_undone}
 use Rattle.vub_run_laws.proofs.RunChainsTurns.{turn_gentle}
@@ -34,27 +33,27 @@ use Rattle.vub_run_laws.proofs.RunsTo.{stands_good, stands_turns}
 
 -- ---- what a life shows, and what its lane shows
 
-batch_same : (q : ℕ) (h : Header1) (setup : QueueSetup) (m : Moment) (queue : Queue) → QueueStands q h setup m (state_of queue) → length (state_of queue).batch ≡ length (m.lanes q).batch
+batch_same : (q : ℕ) (h : Header1) (setup : QueueSetup) (m : Moment) (queue : QueueState) → QueueStands q h setup m queue → length queue.batch ≡ length (m.lanes q).batch
 batch_same q h setup m queue s = ap (λ (xs : List (ℕ × ℕ)). length xs) s.phase.batch ∙ length-map (m.lanes q).batch (spot_of q h m.scene.past (m.scene.heads q))
 
-queue_shows_is : (q : ℕ) (h : Header1) (setup : QueueSetup) (m : Moment) (queue : Queue) → QueueStands q h setup m (state_of queue) → queue_shows (Some queue) ≡ lane_shows (m.lanes q)
+queue_shows_is : (q : ℕ) (h : Header1) (setup : QueueSetup) (m : Moment) (queue : QueueState) → QueueStands q h setup m queue → queue_shows (Some queue) ≡ lane_shows (m.lanes q)
 queue_shows_is q h setup m queue s =
-    ap (λ (n : ℕ). shown_by n (state_of queue).bell (state_of queue).phase) (batch_same q h setup m queue s) ∙ ap (λ (b : Bool). shown_by (length (m.lanes q).batch) b (state_of queue).phase) s.phase.bell ∙ ap (shown_by (length (m.lanes q).batch) (m.lanes q).bell) s.at.phase
+    ap (λ (n : ℕ). shown_by n queue.bell queue.phase) (batch_same q h setup m queue s) ∙ ap (λ (b : Bool). shown_by (length (m.lanes q).batch) b queue.phase) s.phase.bell ∙ ap (shown_by (length (m.lanes q).batch) (m.lanes q).bell) s.at.phase
 
-pub shown_is : (q : ℕ) (h : Header1) (setup : QueueSetup) (m : Moment) (life : Option (Option Queue)) → Good q h m → LifeAt q h setup m life → (m.lanes q).attached ≡ true → shown_in life ≡ lane_shows (m.lanes q)
+pub shown_is : (q : ℕ) (h : Header1) (setup : QueueSetup) (m : Moment) (life : Option (Option QueueState)) → Good q h m → LifeAt q h setup m life → (m.lanes q).attached ≡ true → shown_in life ≡ lane_shows (m.lanes q)
 shown_is q h setup m None good at attached = absurd (let asleep : (m.lanes q).attached ≡ false = (good.asleep at).0 in let both : true ≡ false = sym attached ∙ asleep in cc)
 shown_is q h setup m (Some l) good at attached = go l at.1
   where
-    go : (queue : Option Queue) → AttachedAt q h setup m queue → queue_shows queue ≡ lane_shows (m.lanes q)
+    go : (queue : Option QueueState) → AttachedAt q h setup m queue → queue_shows queue ≡ lane_shows (m.lanes q)
     go None at = absurd (let both : true ≡ false = sym attached ∙ at.1 in cc)
     go (Some queue) at = queue_shows_is q h setup m queue at.2
 
 -- what the next step shows is not published yet
-pub shown_few : (q : ℕ) (h : Header1) (setup : QueueSetup) (m : Moment) (life : Option (Option Queue)) → Good q h m → LifeAt q h setup m life → shown_in life ≤ undone q m
+pub shown_few : (q : ℕ) (h : Header1) (setup : QueueSetup) (m : Moment) (life : Option (Option QueueState)) → Good q h m → LifeAt q h setup m life → shown_in life ≤ undone q m
 shown_few q h setup m None good at = omega arith
 shown_few q h setup m (Some l) good at = go l at.1
   where
-    go : (queue : Option Queue) → AttachedAt q h setup m queue → queue_shows queue ≤ undone q m
+    go : (queue : Option QueueState) → AttachedAt q h setup m queue → queue_shows queue ≤ undone q m
     go None at = omega arith
     go (Some queue) at = omega (arith, queue_shows_is q h setup m queue at.2, shown_undone q h m good)
 

@@ -20,7 +20,7 @@ use Rattle.vub_shared.specs.Watched.{handed_in, sizes_in, count_in}
 use Rattle.vub_shared.specs.declared.watched_shared.WatchedShared.{WatchedShared}
 use Rattle.vub_report.specs.declared.items.Item.{Item}
 use Rattle.vub_report.specs.declared.items.Item.TheVariants as items
-use Rattle.vub_world.specs.MachineDevice.{stored_items, answer_for, answers_for, is_index, is_showing}
+use Rattle.vub_world.specs.MachineDevice.{stored_items, answer_for, answers_for, is_index, is_showing, number_at, queue_heads, queue_numbers}
 use Rattle.vub_world.specs.MachineFront.{area_of, IsSmall, OneSmall, store_item}
 
 -- ---- memory
@@ -139,3 +139,8 @@ spends_up state r now next some spends =
     up : (count : ℕ) → 1 ≤ count → SpendsAnswers count r now → SpendsUpTo count r now
     up zero one so = absurd (let e : ⊥ = omega (arith, one) in e)
     up (suc count) one so = so
+
+-- the numbers of the requests that a queue works on are those of their heads
+pub queue_numbers_are : (outstanding : OutstandingRequests) (o : Option QueueState) → queue_numbers outstanding o ≡ map (number_at outstanding) (queue_heads o)
+queue_numbers_are outstanding None = refl
+queue_numbers_are outstanding (Some s) = refl

@@ -1,5 +1,5 @@
 -- The machine at the opening.
-use Rattle.std.proofs.Common.{◌≡◌, ◌<◌, ◌≤◌, ℕ, ◌+◌, ◌*◌, ◌%◌, length, sym, ap, ◌∙◌, subst, inl, inr, arith, refl, List, [], ◌∷◌, ◌++◌, ◌⊎◌}
+use Rattle.std.proofs.Common.{◌≡◌, ◌<◌, ◌≤◌, ℕ, ◌+◌, ◌*◌, ◌%◌, length, set, sym, ap, ◌∙◌, subst, inl, inr, arith, refl, List, [], ◌∷◌, ◌++◌, ◌⊎◌}
 use Rattle.std.specs.Prelude.{zero, suc, slice_get, replicate, Option, Some, None}
 use Rattle.vub_base.specs.declared.header.Header1.{Header1}
 use Rattle.vub_shared.specs.Watched.{bytes_in, sizes_in, IsUnfailed}
@@ -9,23 +9,25 @@ use Rattle.vub_infl_split.specs.Region.{RegionLies, region_size}
 use Rattle.vub_infl_split.specs.declared.region.SplitRegion.{SplitRegion}
 use Rattle.vub_memdisk.specs.MemDisks.{values_of, capacity_of}
 use Rattle.vub_schedule.specs.Spelling.{IsHeader}
-use Rattle.vub_queue_in_run.specs.QueueAt.{LiesAs, IsNewQueue}
+use Rattle.vub_queue_in_run.specs.QueueAt.{LiesAs}
+use Rattle.vub_queue_in_run.proofs.WorkAtLists.{slice_get-set_same, slice_get-set_other}
 use Rattle.vub_shared.specs.declared.watched_shared.WatchedShared.{WatchedShared}
 use Rattle.vub_world.specs.declared.front.Front.{Front}
 use Rattle.vub_world.specs.declared.machine.Machine.{Machine}
 use Rattle.vub_world.specs.Fronts.{FrontSound, IsNewFront, AreNewFronts, AreNewQueues, offered_by}
-use Rattle.vub_world.specs.Lives.{IsOnInLife, LiesInLife, life_of}
-use Rattle.vub_world.specs.declared.machine.Life.{Life}
+use Rattle.vub_world.specs.Lives.{IsOnInLife, IsBackendInLife, life_of}
+use Rattle.vub_backend.specs.declared.backend.Backend.{Backend}
 use Rattle.std.proofs.Math.Nat.{mul-le-mul_right}
 use Rattle.std.proofs.lemmas.List.{length_push}
 use Rattle.std.proofs.lemmas.Option.{slice_get_within}
-use Rattle.vub_queue.specs.declared.queue.Queue.{Queue}
-use Rattle.vub_world.specs.Machine.{IsSound, AreInLife}
+use Rattle.vub_world.specs.Machine.{IsSound}
+use Rattle.vub_backend.specs.Backends.{attached_in, found}
 use Rattle.vub_world.specs.OutstandingRequests.{offered_in}
 use Rattle.vub_world.specs.Regions.{inflight_size}
 use Rattle.vub_world.specs.MachineAt.{MachineAt, LifeAt}
 use Rattle.vub_run.specs.Memory.{opening_memory}
 use Rattle.vub_run.specs.Moments.{opening, region_of}
+use Rattle.vub_queue.specs.QueueState.{QueueState, IsNew}
 
 -- ---- the world itself
 
@@ -63,7 +65,7 @@ opens w is bytes fronts life disk = record {
           asks = new.asked;
         };
         position = new.position ∙ (let e : w.header.base ≡ (f.header.base + 0) % 65536 = omega (arith, is.begins, ap (λ (k : Header1). k.base) new.header) in e);
-        life = subst (λ (l : Option Life). LifeAt q f.header f.setup (opening w.header) (life_of q l)) (sym life) refl;
+        life = subst (λ (l : Option Backend). LifeAt q f.header f.setup (opening w.header) (life_of q l)) (sym life) refl;
         disk = subst (λ (k : Header1). (s : ℕ) → s < k.capacity → values_of w.disk s ≡ replicate 512 0) (sym new.header) disk;
         outstanding = record {
           offers_are = new.offered;
@@ -98,20 +100,29 @@ one_front_more h count fronts f now new made is = subst (λ (xs : List Front). A
   ];
 })
 
-pub no_queues : (fronts : List Front) (queues : List Queue) → length queues ≡ 0 → AreNewQueues 0 fronts queues
-no_queues fronts queues none = record { many = none; each = λ q f queue is there. absurd (omega (arith, none, slice_get_within queues q queue there)) }
-
-pub one_queue_more : (count : ℕ) (fronts : List Front) (queues : List Queue) (f : Front) (queue : Queue) (now : List Queue) → AreNewQueues count fronts queues → slice_get fronts count ≡ Some f → IsNewQueue f.setup queue → now ≡ queues ++ queue ∷ [] → AreNewQueues (count + 1) fronts now
-one_queue_more count fronts queues f queue now new here made is = subst (λ (xs : List Queue). AreNewQueues (count + 1) fronts xs) (sym is) (record {
-  many = omega (arith, new.many, length_push queues queue);
-  each = λ q x y front there. elim (last_of queues queue y q there) [
-    | inl before ↦ new.each q x y front before
-    | inr last ↦
-        let same : Some f ≡ Some x = sym here ∙ ap (λ (k : ℕ). slice_get fronts k) (sym (last.0 ∙ new.many)) ∙ front in
-        let it : f ≡ x = cc same in
-        subst (λ (z : Front). IsNewQueue z.setup y) it (subst (λ (z : Queue). IsNewQueue f.setup z) last.1 made)
-  ];
-})
+pub one_queue_more : (count : ℕ) (fronts : List Front) (queues : List (Option QueueState)) (f : Front) (index : ℕ) (now : List (Option QueueState)) → AreNewQueues count fronts queues → slice_get fronts count ≡ Some f → index ≡ count → count < length queues
+    → ((u : QueueState) × IsNew f.setup u × (now ≡ set queues index (Some u))) → AreNewQueues (count + 1) fronts now
+one_queue_more count fronts queues f index now new here same within made q x low front = elim (less_or count q low) [
+  | inl before ↦
+      let there = new q x before front in
+      (there.0, ap (λ (qs : List (Option QueueState)). attached_in qs q) made.2 ∙ ap found (slice_get-set_other queues index q (Some made.0) (λ is. omega (arith, is, same, before))) ∙ there.1, there.2)
+  | inr last ↦
+      let both : Some f ≡ Some x = sym here ∙ ap (λ (k : ℕ). slice_get fronts k) (sym last) ∙ front in
+      let it : f ≡ x = cc both in (
+        made.0,
+        ap (λ (qs : List (Option QueueState)). attached_in qs q) made.2 ∙ ap (λ (i : ℕ). attached_in (set queues i (Some made.0)) q) same ∙ ap (λ (i : ℕ). attached_in (set queues count (Some made.0)) i) last ∙ ap found (slice_get-set_same queues count (Some made.0) within),
+        subst (λ (z : Front). IsNew z.setup made.0) it made.1,
+      )
+]
+  where
+    less_or : (count q : ℕ) → q < count + 1 → (q < count) ⊎ (q ≡ count)
+    less_or zero zero low = inr refl
+    less_or zero (suc q) low = absurd (omega (arith, low))
+    less_or (suc count) zero low = inl (omega arith)
+    less_or (suc count) (suc q) low = elim (less_or count q (omega (arith, low))) [
+      | inl before ↦ inl (omega (arith, before))
+      | inr last ↦ inr (ap (λ (k : ℕ). suc k) last)
+    ]
 
 -- ---- the world is sound
 
@@ -119,7 +130,7 @@ pub opening_sound : (w : Machine) → IsHeader w.header → sizes_in w.memory 0 
 opening_sound w is size inflight unfailed fronts life disk = record {
   header = is;
   many = fronts.many;
-  attached = subst (λ (l : Option Life). AreInLife w.header.queues l) (sym life) tt;
+  backend = subst (λ (l : Option Backend). IsBackendInLife w.header.queues (sizes_in w.memory) (capacity_of w.disk) l) (sym life) tt;
   disk = disk;
   headers = λ q f there. (fronts.each q f there).header;
   parts = λ q f there.
@@ -128,9 +139,8 @@ opening_sound w is size inflight unfailed fronts life disk = record {
       record {
         index = new.index;
         front = new_sound w.header q w.memory f is new low size inflight unfailed;
-        queue = subst (λ (l : Option Life). IsOnInLife f.setup (life_of q l)) (sym life) tt;
+        queue = subst (λ (l : Option Backend). IsOnInLife f.setup (life_of q l)) (sym life) tt;
         disk = disk ∙ ap (λ (h : Header1). h.capacity) (sym new.header);
-        lies = subst (λ (l : Option Life). LiesInLife (sizes_in w.memory) (capacity_of w.disk) (life_of q l)) (sym life) tt;
       };
 }
 

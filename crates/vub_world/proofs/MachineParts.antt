@@ -11,7 +11,6 @@ use Rattle.vub_driver.specs.Layout.{ring_of}
 use Rattle.vub_guest.specs.GuestState.{ring_in}
 use Rattle.vub_memdisk.specs.MemDisks.{capacity_of}
 use Rattle.vub_memdisk.specs.declared.mem_disk.MemDisk.{MemDisk}
-use Rattle.vub_queue.specs.declared.queue.Queue.{Queue}
 use Rattle.vub_queue_in_run.proofs.WorkAtLists.{slice_get-set_same}
 use Rattle.vub_run.specs.Moments.{Moment}
 use Rattle.vub_run.specs.Run.{Stands}
@@ -19,16 +18,17 @@ use Rattle.vub_shared.specs.Watched.{sizes_in}
 use Rattle.vub_shared.specs.declared.watched_shared.WatchedShared.{WatchedShared}
 use Rattle.vub_queue.specs.declared.queue.QueueSetup.{QueueSetup}
 use Rattle.vub_world.specs.declared.front.Front.{Front}
-use Rattle.vub_world.specs.declared.machine.Life.{Life}
+use Rattle.vub_backend.specs.declared.backend.Backend.{Backend}
 use Rattle.vub_world.specs.declared.machine.Machine.{Machine}
-use Rattle.vub_world.specs.Fronts.{Parts, FrontSound, PartsSound, parts, parts_of, offered_by}
-use Rattle.vub_world.specs.Lives.{IsOnInLife, life_of, queue_of}
-use Rattle.vub_world.specs.Machine.{IsSound, AreAttached}
+use Rattle.vub_world.specs.Fronts.{Parts, FrontSound, PartsSound, parts, parts_in, parts_of, offered_by}
+use Rattle.vub_world.specs.Lives.{IsOnInLife, IsBackend, IsBackendInLife, life_of, queue_in}
+use Rattle.vub_world.specs.Machine.{IsSound}
 use Rattle.vub_world.specs.MachineAt.{MachineAt, PartsAt, IsStanding, PartsStand}
 use Rattle.vub_world.specs.MachineDevice.{is_joining}
 use Rattle.vub_world.specs.OutstandingRequests.{offered_in}
 use Rattle.vub_world.proofs.MachineGuestOffers.{with_desk}
-use Rattle.vub_world.proofs.MachineLemmas.{life_lies}
+use Rattle.vub_world.proofs.MachineLemmas.{backend_lies}
+use Rattle.vub_queue.specs.QueueState.{QueueState}
 
 -- ---- the front of a queue
 
@@ -97,19 +97,20 @@ offered_only (x ∷ y ∷ fs) f one is = absurd (omega (arith, one))
 
 -- ---- the life of a queue
 
--- the queues that are attached
-pub life_has : (l : Option Life) (k : Life) (qs : List Queue) (q : ℕ) (queue : Queue) → l ≡ Some k → queue_of q k.queues ≡ slice_get qs q → slice_get qs q ≡ Some queue → life_of q l ≡ Some (Some queue)
-life_has l k qs q queue is queues there = ap (life_of q) is ∙ ap (λ (o : Option Queue). Some o) (queues ∙ there)
+-- where there is a backend
+pub life_is : (l : Option Backend) (b : Backend) (q : ℕ) → l ≡ Some b → life_of q l ≡ Some (queue_in q b)
+life_is l b q is = ap (life_of q) is
 
-none_joining : {Z : Type 0} (o : Option (Vec Queue Z)) (q : ℕ) → not (is_some o) ≡ true → queue_of q o ≡ None
-none_joining None q is = refl
-none_joining (Some qs) q is = absurd (cc is)
+none_first : (o : Option QueueState) → not (is_some o) ≡ true → o ≡ None
+none_first None is = refl
+none_first (Some s) is = absurd (cc is)
 
-pub life_joining : (l : Option Life) (q : ℕ) → is_joining l ≡ true → life_of q l ≡ Some None
-life_joining None q is = absurd (cc is)
-life_joining (Some l) q is = ap (λ (o : Option Queue). Some o) (none_joining l.queues q is)
+-- where its queues aren't attached yet
+pub life_joining : (l : Option Backend) → is_joining l ≡ true → life_of 0 l ≡ Some None
+life_joining None is = absurd (cc is)
+life_joining (Some b) is = ap (λ (o : Option QueueState). Some o) (none_first (queue_in 0 b) is)
 
-pub life_none : (l : Option Life) (q : ℕ) → is_some l ≡ false → life_of q l ≡ None
+pub life_none : (l : Option Backend) (q : ℕ) → is_some l ≡ false → life_of q l ≡ None
 life_none None q is = refl
 life_none (Some l) q is = absurd (cc is)
 
@@ -128,7 +129,7 @@ pub front_sound : (w : Machine) (memory : WatchedShared) (q : ℕ) (f g : Front)
 front_sound w memory q f g sound is keeps front sizes = record {
   header = sound.header;
   many = length-set w.fronts.items q g ∙ sound.many;
-  attached = sound.attached;
+  backend = backend_lies w.header.queues (sizes_in w.memory) (sizes_in memory) (capacity_of w.disk) w.life sizes sound.backend;
   disk = sound.disk;
   headers = each_front w q f g (λ p x. x.header ≡ w.header) sound is (keeps.header ∙ sound.headers q f is);
   parts = each_front w q f g (λ p x. PartsSound p (parts_of p x now)) sound is (record {
@@ -136,7 +137,6 @@ front_sound w memory q f g sound is keeps front sizes = record {
     front = front;
     queue = subst (λ (s : QueueSetup). IsOnInLife s (life_of q w.life)) (sym keeps.setup) old.queue;
     disk = old.disk ∙ ap (λ (h : Header1). h.capacity) (sym keeps.header);
-    lies = life_lies (sizes_in w.memory) (sizes_in memory) (capacity_of w.disk) (life_of q w.life) sizes old.lies;
   });
 }
   where
@@ -171,63 +171,65 @@ front_kept w q f g is same =
 
 -- ---- the machine after turns of a queue
 
-abbrev pub with_turned : Machine → WatchedShared → Life → MemDisk → Machine
-with_turned w memory k disk = record w { memory = memory; life = Some k; disk = disk }
+abbrev pub with_turned : Machine → WatchedShared → Backend → MemDisk → Machine
+with_turned w memory b disk = record w { memory = memory; life = Some b; disk = disk }
 
--- a life with this queue
-pub record HasTurned (w : Machine) (q : ℕ) (k : Life) (queue : Queue) : Type 0 where
-  pub many : AreAttached w.header.queues k.queues
-  pub there : queue_of q k.queues ≡ Some queue
+turned_parts : (w : Machine) (memory : WatchedShared) (q : ℕ) (b : Backend) (disk : MemDisk) (f : Front) → f.index ≡ q → parts_in memory f b disk ≡ parts_of q f (with_turned w memory b disk)
+turned_parts w memory q b disk f index = ap (λ (i : ℕ). parts memory f (queue_in i b) disk) index
 
-pub turned_parts : (w : Machine) (memory : WatchedShared) (q : ℕ) (k : Life) (queue : Queue) (disk : MemDisk) (f : Front) → HasTurned w q k queue → parts memory f queue disk ≡ parts_of q f (with_turned w memory k disk)
-turned_parts w memory q k queue disk f has = ap (λ (o : Option Queue). record { memory = memory; front = f; life = Some o; disk = disk }) (sym has.there)
-
-pub turned_sound : (w : Machine) (memory : WatchedShared) (q : ℕ) (k : Life) (queue : Queue) (disk : MemDisk) (f : Front) → IsSound w → slice_get w.fronts.items q ≡ Some f → HasTurned w q k queue → PartsSound q (parts memory f queue disk) → IsSound (with_turned w memory k disk)
-turned_sound w memory q k queue disk f sound is has parts_sound = record {
+pub turned_sound : (w : Machine) (memory : WatchedShared) (q : ℕ) (b : Backend) (disk : MemDisk) (f : Front) → IsSound w → slice_get w.fronts.items q ≡ Some f → f.index ≡ q → IsBackend f.header.queues (sizes_in memory) (capacity_of disk) b → PartsSound f.index (parts_in memory f b disk) → IsSound (with_turned w memory b disk)
+turned_sound w memory q b disk f sound is index backend parts_sound = record {
   header = sound.header;
   many = sound.many;
-  attached = has.many;
+  backend = subst (λ (h : Header1). IsBackend h.queues (sizes_in memory) (capacity_of disk) b) (sound.headers q f is) backend;
   disk = parts_sound.disk ∙ ap (λ (h : Header1). h.capacity) (sound.headers q f is);
   headers = sound.headers;
-  parts = each_same w q f (λ p x. PartsSound p (parts_of p x (with_turned w memory k disk))) sound is (subst (λ (p : Parts). PartsSound q p) (turned_parts w memory q k queue disk f has) parts_sound);
+  parts = each_same w q f (λ p x. PartsSound p (parts_of p x (with_turned w memory b disk))) sound is
+      (subst (λ (p : Parts). PartsSound q p) (turned_parts w memory q b disk f index) (subst (λ (i : ℕ). PartsSound i (parts_in memory f b disk)) index parts_sound));
 }
 
-pub turned_at : (w : Machine) (memory : WatchedShared) (q : ℕ) (k : Life) (queue : Queue) (disk : MemDisk) (f : Front) → IsSound w → slice_get w.fronts.items q ≡ Some f → HasTurned w q k queue → (next : Moment) → PartsAt q (parts memory f queue disk) next → MachineAt (with_turned w memory k disk) next
-turned_at w memory q k queue disk f sound is has next at = record { many = sound.many; queues = each_same w q f (λ p x. PartsAt p (parts_of p x (with_turned w memory k disk)) next) sound is (subst (λ (p : Parts). PartsAt q p next) (turned_parts w memory q k queue disk f has) at) }
+pub turned_at : (w : Machine) (memory : WatchedShared) (q : ℕ) (b : Backend) (disk : MemDisk) (f : Front) → IsSound w → slice_get w.fronts.items q ≡ Some f → f.index ≡ q → (next : Moment) → PartsAt f.index (parts_in memory f b disk) next → MachineAt (with_turned w memory b disk) next
+turned_at w memory q b disk f sound is index next at = record {
+  many = sound.many;
+  queues = each_same w q f (λ p x. PartsAt p (parts_of p x (with_turned w memory b disk)) next) sound is
+      (subst (λ (p : Parts). PartsAt q p next) (turned_parts w memory q b disk f index) (subst (λ (i : ℕ). PartsAt i (parts_in memory f b disk) next) index at));
+}
 
 -- ---- the machine with another life
 
-abbrev pub with_life_of : Machine → Option Life → Machine
+abbrev pub with_life_of : Machine → Option Backend → Machine
 with_life_of w l = record w { life = l }
 
 -- a header has a queue
 pub first_front : (w : Machine) → IsSound w → (f : Front) × (slice_get w.fronts.items 0 ≡ Some f)
 first_front w sound = found_there w.fronts.items 0 (omega (arith, sound.many, sound.header.one))
 
--- ---- turns of an attached queue
+-- ---- turns of a queue
 
 -- what its turns need to know before the first
-pub record TurnsBegin (w : Machine) (q : ℕ) (f : Front) (queue : Queue) : Type 0 where
+pub record TurnsBegin (w : Machine) (q : ℕ) (f : Front) (b : Backend) : Type 0 where
   pub index : f.index ≡ q
   pub header : f.header ≡ w.header
-  pub sound : PartsSound f.index (parts w.memory f queue w.disk)
-  pub stands : PartsStand f.index (parts w.memory f queue w.disk)
-  pub at : (m : Moment) → MachineAt w m → PartsAt f.index (parts w.memory f queue w.disk) m
+  pub backend : IsBackend f.header.queues (sizes_in w.memory) (capacity_of w.disk) b
+  pub sound : PartsSound f.index (parts_in w.memory f b w.disk)
+  pub stands : PartsStand f.index (parts_in w.memory f b w.disk)
+  pub at : (m : Moment) → MachineAt w m → PartsAt f.index (parts_in w.memory f b w.disk) m
 
-pub turns_begin_at : (w : Machine) (q : ℕ) (f : Front) (k : Life) (qs : List Queue) (queue : Queue) → IsSound w → IsStanding w → slice_get w.fronts.items q ≡ Some f → w.life ≡ Some k → queue_of q k.queues ≡ slice_get qs q → slice_get qs q ≡ Some queue → TurnsBegin w q f queue
-turns_begin_at w q f k qs queue sound stood is life queues there = record {
+pub turns_begin_at : (w : Machine) (q : ℕ) (f : Front) (b : Backend) → IsSound w → IsStanding w → slice_get w.fronts.items q ≡ Some f → w.life ≡ Some b → TurnsBegin w q f b
+turns_begin_at w q f b sound stood is life = record {
   index = index;
   header = sound.headers q f is;
+  backend = subst (λ (h : Header1). IsBackend h.queues (sizes_in w.memory) (capacity_of w.disk) b) (sym (sound.headers q f is)) (subst (λ (l : Option Backend). IsBackendInLife w.header.queues (sizes_in w.memory) (capacity_of w.disk) l) life sound.backend);
   sound = subst (λ (i : ℕ). PartsSound i p) (sym index) (subst (λ (x : Parts). PartsSound q x) same (sound.parts q f is));
   stands = subst (λ (i : ℕ). PartsStand i p) (sym index) (subst (λ (x : Parts). PartsStand q x) same (parts_stand w q f sound is stood));
   at = λ m at. subst (λ (i : ℕ). PartsAt i p m) (sym index) (subst (λ (x : Parts). PartsAt q x m) same (at.queues q f is));
 }
   where
     p : Parts
-    p = parts w.memory f queue w.disk
+    p = parts_in w.memory f b w.disk
 
     index : f.index ≡ q
     index = (sound.parts q f is).index
 
     same : parts_of q f w ≡ p
-    same = ap (λ (o : Option (Option Queue)). record { memory = w.memory; front = f; life = o; disk = w.disk }) (life_has w.life k qs q queue life queues there)
+    same = ap (λ (o : Option (Option QueueState)). record { memory = w.memory; front = f; life = o; disk = w.disk }) (life_is w.life b q life) ∙ ap (λ (i : ℕ). parts w.memory f (queue_in i b) w.disk) (sym index)

@@ -23,14 +23,13 @@ use Rattle.vub_base.specs.declared.store.Tag.{Tag}
 use Rattle.vub_base.specs.declared.store.Tag.TheVariants.{SF2, SP5, T5}
 use Rattle.vub_device.specs.declared.entry.Answered.{Answered}
 use Rattle.vub_room.specs.Rooms.{RoomState}
-use Rattle.vub_queue.specs.declared.queue.Queue.{Queue}
 use Rattle.vub_device.specs.declared.entry.Entry.{Entry}
 use Rattle.vub_device.specs.declared.entry.Entry.TheVariants as entries
 use Rattle.vub_device.specs.Past.{is_among, open_numbers, accepted, published, started}
 use Rattle.vub_queue.specs.declared.queue.QueueSetup.{QueueSetup}
 use Rattle.vub_queue.specs.declared.queue.Stepped.{Stepped}
 use Rattle.vub_queue.specs.declared.queue.Stepped.TheVariants as says
-use Rattle.vub_queue.specs.QueueState.{QueueState, state_of, Publishes, MovesBy, step_in, step_said, row_said, row_at, seen_by}
+use Rattle.vub_queue.specs.QueueState.{QueueState, Publishes, MovesBy, step_in, step_said, row_said, row_at, seen_by}
 use Rattle.vub_report.specs.declared.items.Item.{Item}
 use Rattle.vub_report.specs.declared.items.Item.TheVariants as items
 use Rattle.vub_run.specs.Memory.{Scene, after_items}
@@ -51,9 +50,10 @@ use Rattle.vub_world.specs.declared.outstanding.OutstandingRequests.{Outstanding
 use Rattle.vub_world.specs.declared.outstanding.OutstandingRequest.{OutstandingRequest}
 use Rattle.vub_world.specs.Fronts.{Parts, parts}
 use Rattle.vub_world.specs.OutstandingRequests.{offered_in, collected_in, size_in}
-use Rattle.vub_world.specs.MachineAt.{OutstandingAt, PartsAt, LifeAt}
-use Rattle.vub_world.specs.MachineDevice.{heads_of, numbers_of, number_at, noted, stored_items, answers_shown, started_in, StartFits, KeepsNumbers}
+use Rattle.vub_world.specs.MachineAt.{AttachedAt, OutstandingAt, PartsAt, LifeAt}
+use Rattle.vub_world.specs.MachineDevice.{heads_of, numbers_of, queue_heads, queue_numbers, queue_started, number_at, noted, stored_items, answers_shown, started_in, StartFits, KeepsNumbers}
 use Rattle.vub_world.specs.MachineSteps.{MachineTurns, HasStartRoom}
+use Rattle.vub_world.proofs.MachineNotes.{queue_numbers_are}
 
 -- ---- a start leaves nothing completed and no batch
 
@@ -190,7 +190,7 @@ open_few q h m outstanding good numbered =
     let all : length (open_numbers past q) + length (published past q) ≡ accepted past q = missing_exact (published past q) (accepted past q) known.distinct known.below in
     omega (arith, all, known.shown, known.offered, numbered.offers_are, numbered.collects_are)
 
-start_fits_in : (size room : ℕ) (state : QueueState) (x : Stepped) → (x ≡ says.Started → ((i head : ℕ) → slice_get (heads_of state) i ≡ Some head → head < size) × (length (heads_of state) ≤ room)) → StartFits size state room x
+start_fits_in : (size room : ℕ) (state : Option QueueState) (x : Stepped) → (x ≡ says.Started → ((i head : ℕ) → slice_get (queue_heads state) i ≡ Some head → head < size) × (length (queue_heads state) ≤ room)) → StartFits size state room x
 start_fits_in size room state says.Started fits = fits refl
 start_fits_in size room state says.Idle fits = tt
 start_fits_in size room state (says.Stored tag) fits = tt
@@ -207,17 +207,21 @@ start_fits_in size room state says.BellFault fits = tt
 start_fits_in size room state (says.Damaged fault) fits = tt
 start_fits_in size room state (says.Broken fault) fits = tt
 
+-- the heads of an attached queue have places
+places_low : (q : ℕ) (h : Header1) (setup : QueueSetup) (m : Moment) (o : Option QueueState) (i head : ℕ) → AttachedAt q h setup m o → slice_get (queue_heads o) i ≡ Some head → head < setup.ring.size
+places_low q h setup m None i head at found = absurd (cc found)
+places_low q h setup m (Some s) i head at found = heads_low q h setup m.scene.past (m.scene.heads q) (m.lanes q).phase (hidden_part (m.lanes q).phase (m.lanes q).batch) (m.lanes q).completed (m.lanes q).made s i head at.2.at found
+
 -- the list of numbers has room for those of a start
-pub start_fits : (q : ℕ) (t : Turn) (w : Parts) (queue : Queue) (memory : WatchedShared) (disk : MemDisk) (m : Moment) (x : Stepped) (r r' : RoomState) → Good q w.front.header m → LiesAs q w.front.setup w.front.header.size → PartsAt q w m → MachineTurns q t w (parts memory w.front queue disk) m x
-    → HasStartRoom (started_in w.life) w.front.outstanding r → r'.numbers ≡ r.numbers → StartFits (size_in w.front.outstanding) (state_of queue) r'.numbers x
-start_fits q t w queue memory disk m x r r' good main at made room same = start_fits_in (size_in w.front.outstanding) r'.numbers (state_of queue) x (λ is.
+pub start_fits : (q : ℕ) (t : Turn) (w : Parts) (queue : Option QueueState) (memory : WatchedShared) (disk : MemDisk) (m : Moment) (x : Stepped) (r r' : RoomState) → Good q w.front.header m → LiesAs q w.front.setup w.front.header.size → PartsAt q w m → MachineTurns q t w (parts memory w.front queue disk) m x
+    → HasStartRoom (started_in w.life) w.front.outstanding r → r'.numbers ≡ r.numbers → StartFits (size_in w.front.outstanding) queue r'.numbers x
+start_fits q t w queue memory disk m x r r' good main at made room same = start_fits_in (size_in w.front.outstanding) r'.numbers queue x (λ is.
     let starts = made.starts is in
-    let long : length (heads_of (state_of queue)) ≡ length (open_numbers m.scene.past q) = sym (length-map (heads_of (state_of queue)) (number_at w.front.outstanding)) ∙ ap (λ (ks : List ℕ). length ks) starts.1 in
+    let long : length (queue_heads queue) ≡ length (open_numbers m.scene.past q) = sym (length-map (queue_heads queue) (number_at w.front.outstanding)) ∙ ap (λ (ks : List ℕ). length ks) (sym (queue_numbers_are w.front.outstanding queue) ∙ starts.1) in
     let few = open_few q w.front.header m w.front.outstanding good at.outstanding in
     let has = room starts.0 in (
       λ i head found.
-          let n : Moment = (one_turn w.front.header q t m).next in
-          let low : head < w.front.setup.ring.size = heads_low q w.front.header w.front.setup n.scene.past (n.scene.heads q) (n.lanes q).phase (hidden_part (n.lanes q).phase (n.lanes q).batch) (n.lanes q).completed (n.lanes q).made (state_of queue) i head made.at.life.1.2.at found in
+          let low : head < w.front.setup.ring.size = places_low q w.front.header w.front.setup (one_turn w.front.header q t m).next queue i head made.at.life.1 found in
           omega (arith, low, main.size, at.outstanding.places),
       omega (arith, long, few, has, same),
     ))
@@ -259,20 +263,25 @@ numbers_stay q h outstanding v stores answers opens room now says.BellFault s st
 numbers_stay q h outstanding v stores answers opens room now (says.Damaged fault) s stopped kept = (stopped, kept)
 numbers_stay q h outstanding v stores answers opens room now (says.Broken fault) s stopped kept = (stopped, kept)
 
+-- a queue is started where the past says so, if it is attached
+started_as : (q : ℕ) (h : Header1) (setup : QueueSetup) (m : Moment) (o : Option QueueState) → AttachedAt q h setup m o → queue_started o ≡ started m.scene.past q
+started_as q h setup m None at = sym at.2
+started_as q h setup m (Some s) at = at.2.at.started
+
 -- after a turn that was made
-pub start_room_next : (q : ℕ) (t : Turn) (w : Parts) (before queue : Queue) (memory : WatchedShared) (disk : MemDisk) (m : Moment) (x : Stepped) (r r' r'' : RoomState) → w.life ≡ Some (Some before) → PartsAt q w m → MachineTurns q t w (parts memory w.front queue disk) m x
-    → HasStartRoom (state_of before).started w.front.outstanding r → r'.numbers ≡ r.numbers → KeepsNumbers r'.numbers r''.numbers x → HasStartRoom (state_of queue).started w.front.outstanding r''
+pub start_room_next : (q : ℕ) (t : Turn) (w : Parts) (before queue : Option QueueState) (memory : WatchedShared) (disk : MemDisk) (m : Moment) (x : Stepped) (r r' r'' : RoomState) → w.life ≡ Some before → PartsAt q w m → MachineTurns q t w (parts memory w.front queue disk) m x
+    → HasStartRoom (queue_started before) w.front.outstanding r → r'.numbers ≡ r.numbers → KeepsNumbers r'.numbers r''.numbers x → HasStartRoom (queue_started queue) w.front.outstanding r''
 start_room_next q t w before queue memory disk m x r r' r'' has at made room same kept stopped =
     let h : Header1 = w.front.header in
-    let old : QueueStands q h w.front.setup m (state_of before) = (subst (λ (l : Option (Option Queue)). LifeAt q h w.front.setup m l) has at.life).1.2 in
-    let still : started (one_turn h q t m).next.scene.past q ≡ false = sym made.at.life.1.2.at.started ∙ stopped in
-    let stay = numbers_stay q h w.front.outstanding (values_of disk) (stores_in memory) (answers_shown q w.front.outstanding (bytes_in w.memory) w.life) (numbers_of w.front.outstanding (state_of queue)) r'.numbers r''.numbers x m.scene
+    let old : queue_started before ≡ started m.scene.past q = started_as q h w.front.setup m before (subst (λ (l : Option (Option QueueState)). LifeAt q h w.front.setup m l) has at.life).1 in
+    let still : started (one_turn h q t m).next.scene.past q ≡ false = sym (started_as q h w.front.setup (one_turn h q t m).next queue made.at.life.1) ∙ stopped in
+    let stay = numbers_stay q h w.front.outstanding (values_of disk) (stores_in memory) (answers_shown q w.front.outstanding (bytes_in w.memory) w.life) (queue_numbers w.front.outstanding queue) r'.numbers r''.numbers x m.scene
     (ap (λ (is : List Item). started (after_items h is m.scene).past q) (sym made.items_are) ∙ still) kept in
-    let few = room (old.at.started ∙ stay.0) in
+    let few = room (old ∙ stay.0) in
     omega (arith, few, same, stay.1)
 
 -- after one that wasn't
-pub start_room_still : (q : ℕ) (h : Header1) (setup : QueueSetup) (m : Moment) (before queue : QueueState) (outstanding : OutstandingRequests) (r r' : RoomState) → QueueStands q h setup m before → QueueStands q h setup m queue → HasStartRoom before.started outstanding r → r'.numbers ≡ r.numbers → HasStartRoom queue.started outstanding r'
+pub start_room_still : (q : ℕ) (h : Header1) (setup : QueueSetup) (m : Moment) (before queue : Option QueueState) (outstanding : OutstandingRequests) (r r' : RoomState) → AttachedAt q h setup m before → AttachedAt q h setup m queue → HasStartRoom (queue_started before) outstanding r → r'.numbers ≡ r.numbers → HasStartRoom (queue_started queue) outstanding r'
 start_room_still q h setup m before queue outstanding r r' old new room same stopped =
-    let few = room (old.at.started ∙ sym new.at.started ∙ stopped) in
+    let few = room (started_as q h setup m before old ∙ sym (started_as q h setup m queue new) ∙ stopped) in
     omega (arith, few, same)

@@ -1,6 +1,6 @@
 -- Where the machine stands after a turn of its device.
-use Rattle.std.proofs.Common.{◌≡◌, ◌≤◌, ◌<◌, ℕ, zero, suc, ◌+◌, ◌%◌, Bool, true, false, List, [], ◌∷◌, ◌++◌, length, refl, ap, sym, ◌∙◌, subst, arith}
-use Rattle.std.specs.Prelude.{◌&&◌, Option, Some, None, take, slice_index, ⊤}
+use Rattle.std.proofs.Common.{◌≡◌, ◌≤◌, ◌<◌, ℕ, zero, suc, ◌+◌, ◌%◌, Bool, true, false, List, [], ◌∷◌, ◌++◌, length, refl, ap, sym, ◌∙◌, subst, inl, inr, arith}
+use Rattle.std.specs.Prelude.{◌&&◌, ◌⊎◌, Option, Some, None, take, slice_index, ⊤}
 use Rattle.std.proofs.lemmas.Bool.Decides.{nat_tests}
 use Rattle.std.proofs.lemmas.List.{append-nil}
 use Rattle.vub_base.specs.declared.header.Header1.{Header1}
@@ -14,7 +14,7 @@ use Rattle.vub_shared.specs.MemSpaces.{bytes_of, sizes_of}
 use Rattle.vub_shared.specs.declared.mem_shared.MemShared.{MemShared}
 use Rattle.vub_shared.specs.declared.watched_shared.WatchedShared.{WatchedShared}
 use Rattle.vub_disk.specs.Values.{Values}
-use Rattle.vub_memdisk.specs.MemDisks.{values_of, capacity_of}
+use Rattle.vub_memdisk.specs.MemDisks.{values_of}
 use Rattle.vub_memdisk.specs.declared.mem_disk.MemDisk.{MemDisk}
 use Rattle.vub_steps.specs.declared.readiness.Turn.{Turn}
 use Rattle.vub_steps.specs.Readiness.{is_ready}
@@ -26,7 +26,6 @@ use Rattle.vub_device.specs.declared.entry.Entry.TheVariants as entries
 use Rattle.vub_device.specs.Past.{asked, published, collected, numbers, is_among}
 use Rattle.vub_world.specs.declared.outstanding.OutstandingRequests.{OutstandingRequests}
 use Rattle.vub_world.specs.Fronts.{Parts, FrontSound}
-use Rattle.vub_queue.specs.declared.queue.Queue.{Queue}
 use Rattle.vub_queue.specs.declared.queue.Stepped.{Stepped}
 use Rattle.vub_queue.specs.declared.queue.Stepped.TheVariants as says
 use Rattle.vub_report.specs.declared.items.Item.{Item}
@@ -37,7 +36,11 @@ use Rattle.vub_world.specs.MachineDevice.{Device, device, DeviceAt, TurnMade, De
 use Rattle.vub_world.specs.MachineSteps.{TurnGoes}
 use Rattle.vub_run.specs.Memory.{Scene, after_items}
 use Rattle.vub_run.specs.Moments.{Lane, Moment, standing}
-use Rattle.vub_queue.specs.QueueState.{state_of, QueueLies}
+use Rattle.vub_queue.specs.declared.queue.QueueSetup.{QueueSetup}
+use Rattle.vub_queue.specs.QueueState.{QueueState}
+use Rattle.vub_queue_in_run.specs.QueueAt.{DiskAt}
+use Rattle.vub_backend.specs.Backends.{EachLies}
+use Rattle.vub_world.specs.Lives.{IsAttachedOn}
 use Rattle.vub_run.specs.Run.{one_turn, is_due}
 use Rattle.vub_run.specs.Turns.{turned}
 use Rattle.vub_run_laws.proofs.RunOwn.{at_own, published_own}
@@ -113,30 +116,30 @@ kept_slots q size s s' outstanding k few at = record {
 
 -- ---- the machine with other parts of its device
 
-abbrev pub with_queue : Queue → Option (Option Queue)
+abbrev pub with_queue : QueueState → Option (Option QueueState)
 with_queue queue = Some (Some queue)
 
-abbrev pub with_device : Parts → WatchedShared → Queue → MemDisk → Parts
+abbrev pub with_device : Parts → WatchedShared → QueueState → MemDisk → Parts
 with_device w memory queue disk = record w { memory = memory; life = with_queue queue; disk = disk }
 
 -- the machine stood at a moment with this queue
-pub record HasQueue (q : ℕ) (w : Parts) (m : Moment) (queue : Queue) : Type 0 where
+pub record HasQueue (q : ℕ) (w : Parts) (m : Moment) (queue : QueueState) : Type 0 where
   pub good : Good q w.front.header m
   pub at : PartsAt q w m
   pub life_is : w.life ≡ with_queue queue
 
-pub life_at : (q : ℕ) (w : Parts) (m : Moment) (queue : Queue) → HasQueue q w m queue → LifeAt q w.front.header w.front.setup m (with_queue queue)
-life_at q w m queue has = subst (λ (l : Option (Option Queue)). LifeAt q w.front.header w.front.setup m l) has.life_is has.at.life
+pub life_at : (q : ℕ) (w : Parts) (m : Moment) (queue : QueueState) → HasQueue q w m queue → LifeAt q w.front.header w.front.setup m (with_queue queue)
+life_at q w m queue has = subst (λ (l : Option (Option QueueState)). LifeAt q w.front.header w.front.setup m l) has.life_is has.at.life
 
 abbrev after_turn : ℕ → Parts → Turn → Moment → Moment
 after_turn q w t m = (one_turn w.front.header q t m).next
 
 -- after a turn that was made
-made_at : (q : ℕ) (w : Parts) (m : Moment) (queue queue' : Queue) (t : Turn) (memory : WatchedShared) (disk : MemDisk) (d : Device) (x : Stepped) → HasQueue q w m queue → TurnMade q w.front.header w.front.setup m t w.front.outstanding d (device queue' memory disk) x
+made_at : (q : ℕ) (w : Parts) (m : Moment) (queue queue' : QueueState) (t : Turn) (memory : WatchedShared) (disk : MemDisk) (d : Device) (x : Stepped) → HasQueue q w m queue → TurnMade q w.front.header w.front.setup m t w.front.outstanding d (device queue' memory disk) x
     → PartsAt q (with_device w memory queue' disk) (after_turn q w t m)
 made_at q w m queue queue' t memory disk d x has made =
     let life = life_at q w m queue has in
-    let keeps : Keeps q m.scene (after_turn q w t m).scene = subst (λ (is : List Item). Keeps q m.scene (after_items w.front.header is m.scene)) (sym made.items_are) (noted_keeps q w.front.header w.front.outstanding (values_of disk) (stores_in memory) (shown_of q w.front.outstanding d.memory d.queue) (numbers_of w.front.outstanding (state_of queue')) x m.scene) in
+    let keeps : Keeps q m.scene (after_turn q w t m).scene = subst (λ (is : List Item). Keeps q m.scene (after_items w.front.header is m.scene)) (sym made.items_are) (noted_keeps q w.front.header w.front.outstanding (values_of disk) (stores_in memory) (shown_of q w.front.outstanding d.memory d.queue) (numbers_of w.front.outstanding queue') x m.scene) in
     let own : (after_turn q w t m).lanes q ≡ (turned w.front.header q t m).lane = at_own m.lanes q (turned w.front.header q t m).lane in
     let driver : ((after_turn q w t m).lanes q).driver ≡ (m.lanes q).driver = ap (λ (l : Lane). l.driver) own ∙ turn_driver q w.front.header t m in
     record {
@@ -152,7 +155,7 @@ made_at q w m queue queue' t memory disk d x has made =
     }
 
 -- after a turn in which nothing was made
-idle_at : (q : ℕ) (w : Parts) (m : Moment) (queue queue' : Queue) (memory : WatchedShared) (disk : MemDisk) → HasQueue q w m queue → DeviceAt q w.front.header w.front.setup m (device queue' memory disk) → PartsAt q (with_device w memory queue' disk) m
+idle_at : (q : ℕ) (w : Parts) (m : Moment) (queue queue' : QueueState) (memory : WatchedShared) (disk : MemDisk) → HasQueue q w m queue → DeviceAt q w.front.header w.front.setup m (device queue' memory disk) → PartsAt q (with_device w memory queue' disk) m
 idle_at q w m queue queue' memory disk has at =
     let life = life_at q w m queue has in
     record {
@@ -163,23 +166,26 @@ idle_at q w m queue queue' memory disk has at =
       outstanding = has.at.outstanding;
     }
 
+-- the device stands where its queue does
+pub device_at : (q : ℕ) (w : Parts) (m : Moment) (queue : QueueState) (kept : WatchedShared) → HasQueue q w m queue → bytes_in kept ≡ bytes_in w.memory → DeviceAt q w.front.header w.front.setup m (device queue kept w.disk)
+device_at q w m queue kept has same = record { stands = (life_at q w m queue has).1.2; memory_is = same ∙ has.at.front.memory; disk = has.at.disk }
+
 -- a turn of the device is one of the machine
-pub turn_goes : (q : ℕ) (w : Parts) (m : Moment) (queue queue' : Queue) (t : Turn) (kept memory : WatchedShared) (disk : MemDisk) (x : Stepped) → HasQueue q w m queue → bytes_in kept ≡ bytes_in w.memory
-    → (DeviceAt q w.front.header w.front.setup m (device queue kept w.disk) → DeviceTurns q w.front.header w.front.setup m t w.front.outstanding (device queue kept w.disk) (device queue' memory disk) x) → TurnGoes q t w (with_device w memory queue' disk) m x
-turn_goes q w m queue queue' t kept memory disk x has same turns =
+pub turn_goes : (q : ℕ) (w : Parts) (m : Moment) (queue queue' : QueueState) (t : Turn) (kept memory : WatchedShared) (disk : MemDisk) (x : Stepped) → HasQueue q w m queue → bytes_in kept ≡ bytes_in w.memory
+    → DeviceTurns q w.front.header w.front.setup m t w.front.outstanding (device queue kept w.disk) (device queue' memory disk) x → TurnGoes q t w (with_device w memory queue' disk) m x
+turn_goes q w m queue queue' t kept memory disk x has same does =
     let life = life_at q w m queue has in
-    let d : Device = device queue kept w.disk in
-    let does = turns (record { stands = life.1.2; memory_is = same ∙ has.at.front.memory; disk = has.at.disk }) in (
+    let d : Device = device queue kept w.disk in (
       λ due.
           let ready : is_ready (standing w.front.header q m) t ≡ true = grind (arith, nat_tests) in
           let made : TurnMade q w.front.header w.front.setup m t w.front.outstanding d (device queue' memory disk) x = does.0 ready in
-          let shown : shown_of q w.front.outstanding (bytes_in kept) (state_of queue) ≡ answers_shown q w.front.outstanding (bytes_in w.memory) w.life =
-          ap (λ (b : Bytes). shown_of q w.front.outstanding b (state_of queue)) same ∙ sym (ap (answers_shown q w.front.outstanding (bytes_in w.memory)) has.life_is) in
+          let shown : shown_of q w.front.outstanding (bytes_in kept) queue ≡ answers_shown q w.front.outstanding (bytes_in w.memory) w.life =
+          ap (λ (b : Bytes). shown_of q w.front.outstanding b queue) same ∙ sym (ap (answers_shown q w.front.outstanding (bytes_in w.memory)) has.life_is) in
           record {
             goes = made.goes;
             made = made.made;
             at = made_at q w m queue queue' t memory disk d x has made;
-            items_are = made.items_are ∙ ap (λ (as_shown : List Answered). noted q w.front.outstanding (values_of disk) (stores_in memory) as_shown (numbers_of w.front.outstanding (state_of queue')) x) shown;
+            items_are = made.items_are ∙ ap (λ (as_shown : List Answered). noted q w.front.outstanding (values_of disk) (stores_in memory) as_shown (numbers_of w.front.outstanding queue') x) shown;
             store = made.store;
             sector = made.sector;
             head = made.head;
@@ -196,25 +202,55 @@ turn_goes q w m queue queue' t kept memory disk x has same turns =
 pub undue : (q : ℕ) (h : Header1) (t : Turn) (m : Moment) → (m.lanes q).attached ≡ false → is_due h q t m ≡ false
 undue q h t m none = ap (λ (b : Bool). b && is_ready (standing h q m) t) none
 
-abbrev pub has_no_queue : Option (Option Queue) → Type 0
+abbrev pub has_no_queue : Option (Option QueueState) → Type 0
 has_no_queue None = ⊤
 has_no_queue (Some l) = l ≡ None
 
 pub none_attached : (q : ℕ) (w : Parts) (m : Moment) → Good q w.front.header m → PartsAt q w m → has_no_queue w.life → (m.lanes q).attached ≡ false
 none_attached q w m good at none = go w.life at.life none
   where
-    with_queue_or : (queue : Option Queue) → AttachedAt q w.front.header w.front.setup m queue → queue ≡ None → (m.lanes q).attached ≡ false
+    with_queue_or : (queue : Option QueueState) → AttachedAt q w.front.header w.front.setup m queue → queue ≡ None → (m.lanes q).attached ≡ false
     with_queue_or None at none = at.1
     with_queue_or (Some queue) at none = absurd (let fails : Some queue ≡ None = none in cc)
 
-    go : (l : Option (Option Queue)) → LifeAt q w.front.header w.front.setup m l → has_no_queue l → (m.lanes q).attached ≡ false
+    go : (l : Option (Option QueueState)) → LifeAt q w.front.header w.front.setup m l → has_no_queue l → (m.lanes q).attached ≡ false
     go None at none = (good.asleep at).0
     go (Some l) at none = with_queue_or l at.1 none
 
+-- so the machine stands where it did
+pub turn_rests : (q : ℕ) (w : Parts) (m : Moment) (t : Turn) (memory : WatchedShared) (disk : MemDisk) (x : Stepped) → PartsAt q w m → w.life ≡ Some None → x ≡ says.Idle → bytes_in memory ≡ bytes_in w.memory → values_of disk ≡ values_of w.disk → TurnGoes q t w (record w { memory = memory; life = Some None; disk = disk }) m x
+turn_rests q w m t memory disk x at none idle bytes values =
+    let life : LifeAt q w.front.header w.front.setup m (Some None) = subst (λ (l : Option (Option QueueState)). LifeAt q w.front.header w.front.setup m l) none at.life in
+    let never : is_due w.front.header q t m ≡ false = undue q w.front.header t m life.1.1 in (
+      λ due. absurd (let fails : true ≡ false = sym due ∙ never in cc),
+      λ late. (
+        idle,
+        record {
+          front = record { memory = bytes ∙ at.front.memory; driver = at.front.driver; asks = at.front.asks };
+          position = at.position;
+          life = life;
+          disk = subst (λ (v : Values). DiskAt w.front.header.capacity m.scene.past v) (sym values) at.disk;
+          outstanding = at.outstanding;
+        },
+      ),
+    )
+
+-- a queue is attached or isn't
+pub attached_or : (o : Option QueueState) → ((s : QueueState) × (o ≡ Some s)) ⊎ (o ≡ None)
+attached_or None = inr refl
+attached_or (Some s) = inl (s, refl)
+
+-- it stays on its rings
+pub still_on : (setup : QueueSetup) (old new : Option QueueState) → (old ≡ None → new ≡ None) → ((s t : QueueState) → old ≡ Some s → new ≡ Some t → t.ring ≡ s.ring) → IsAttachedOn setup old → IsAttachedOn setup new
+still_on setup old None rests rings on = tt
+still_on setup None (Some t) rests rings on = absurd (let fails : Some t ≡ None = rests refl in cc)
+still_on setup (Some s) (Some t) rests rings on = rings s t refl refl ∙ on
+
 -- ---- the parts of a sound machine
 
-pub queue_lies_still : (w : Parts) (queue : Queue) (kept : WatchedShared) → QueueLies (watched.sizes_in w.memory) (capacity_of w.disk) (state_of queue) → memory_in kept ≡ memory_in w.memory → QueueLies (watched.sizes_in kept) (capacity_of w.disk) (state_of queue)
-queue_lies_still w queue kept lies same = subst (λ (x : MemShared). QueueLies (sizes_of x) (capacity_of w.disk) (state_of queue)) (sym same) lies
+-- the queues lie where memory is as it was
+pub lie_still : (w kept : WatchedShared) (capacity : ℕ) (queues : List (Option QueueState)) → EachLies (watched.sizes_in w) capacity queues → memory_in kept ≡ memory_in w → EachLies (watched.sizes_in kept) capacity queues
+lie_still w kept capacity queues lies same = subst (λ (x : MemShared). EachLies (sizes_of x) capacity queues) (sym same) lies
 
 pub kept_room : (w : Parts) (kept : WatchedShared) → FrontSound w.memory w.front → memory_in kept ≡ memory_in w.memory → area_place w.front.index + 1048576 ≤ watched.sizes_in kept 0
 kept_room w kept sound same = subst (λ (x : MemShared). area_place w.front.index + 1048576 ≤ sizes_of x 0) (sym same) sound.room

@@ -8,15 +8,17 @@ use Rattle.vub_guest.specs.GuestState.{ring_in as guest_ring}
 use Rattle.vub_infl_split.specs.Region.{RegionLies}
 use Rattle.vub_memdisk.specs.MemDisks.{capacity_of}
 use Rattle.vub_memdisk.specs.declared.mem_disk.MemDisk.{MemDisk}
-use Rattle.vub_queue.specs.declared.queue.Queue.{Queue}
-use Rattle.vub_queue_in_run.specs.QueueAt.{LiesAs, IsNewQueue}
+use Rattle.vub_queue_in_run.specs.QueueAt.{LiesAs}
 use Rattle.vub_schedule.specs.Spelling.{IsHeader}
 use Rattle.vub_shared.specs.Watched.{IsUnfailed, sizes_in}
 use Rattle.vub_shared.specs.declared.watched_shared.WatchedShared.{WatchedShared}
 use Rattle.vub_world.specs.declared.front.Front.{Front}
 use Rattle.vub_world.specs.declared.machine.Machine.{Machine}
-use Rattle.vub_world.specs.Lives.{IsOnInLife, LiesInLife, life_of}
+use Rattle.vub_world.specs.Lives.{IsOnInLife, life_of, queue_in}
 use Rattle.vub_world.specs.OutstandingRequests.{offered_in, collected_in, size_in}
+use Rattle.vub_queue.specs.QueueState.{QueueState, IsNew}
+use Rattle.vub_backend.specs.declared.backend.Backend.{Backend}
+use Rattle.vub_backend.specs.Backends.{attached_in}
 
 -- ---- what a queue has, and what it shares with the others
 
@@ -32,12 +34,20 @@ desk memory front = record { memory = memory; front = front }
 pub record Parts : Type 0 where
   pub memory : WatchedShared
   pub front : Front
-  pub life : Option (Option Queue)
+  pub life : Option (Option QueueState)
   pub disk : MemDisk
 
--- the parts of a queue that is attached
-abbrev pub parts : WatchedShared → Front → Queue → MemDisk → Parts
-parts memory front queue disk = record { memory = memory; front = front; life = Some (Some queue); disk = disk }
+-- the parts of a queue in a life
+abbrev pub parts : WatchedShared → Front → Option QueueState → MemDisk → Parts
+parts memory front queue disk = record { memory = memory; front = front; life = Some queue; disk = disk }
+
+-- the queue of a front in a backend, where it is attached
+abbrev pub queue_of : Front → Backend → Option QueueState
+queue_of front b = queue_in front.index b
+
+-- its parts there
+abbrev pub parts_in : WatchedShared → Front → Backend → MemDisk → Parts
+parts_in memory front b disk = parts memory front (queue_of front b) disk
 
 -- what its driver works on
 abbrev pub desk_of : Parts → Desk
@@ -73,14 +83,12 @@ pub record FrontSound (memory : WatchedShared) (front : Front) : Type 0 where
   pub region : RegionLies (sizes_in memory) front.setup.region
   pub unfailed : IsUnfailed memory
 
--- the front is the one of queue q, an attached queue is on its rings and lies where it should, and the disk has the
--- header's capacity
+-- the front is the one of queue q, an attached queue is on its rings, and the disk has the header's capacity
 pub record PartsSound (q : ℕ) (p : Parts) : Type 0 where
   pub index : p.front.index ≡ q
   pub front : FrontSound p.memory p.front
   pub queue : IsOnInLife p.front.setup p.life
   pub disk : capacity_of p.disk ≡ p.front.header.capacity
-  pub lies : LiesInLife (sizes_in p.memory) (capacity_of p.disk) p.life
 
 -- ---- new parts
 
@@ -105,7 +113,6 @@ pub record AreNewFronts (h : Header1) (count : ℕ) (fronts : List Front) : Type
   pub many : length fronts ≡ count
   pub each : (q : ℕ) (front : Front) → slice_get fronts q ≡ Some front → IsNewFront h q front
 
--- these are new queues of the first so many fronts
-pub record AreNewQueues (count : ℕ) (fronts : List Front) (queues : List Queue) : Type 0 where
-  pub many : length queues ≡ count
-  pub each : (q : ℕ) (front : Front) (queue : Queue) → slice_get fronts q ≡ Some front → slice_get queues q ≡ Some queue → IsNewQueue front.setup queue
+-- the first so many queues are attached by the set-ups of their fronts, and none is started
+abbrev pub AreNewQueues : ℕ → List Front → List (Option QueueState) → Type 0
+AreNewQueues count fronts queues = (q : ℕ) (front : Front) → q < count → slice_get fronts q ≡ Some front → (s : QueueState) × (attached_in queues q ≡ Some s) × IsNew front.setup s

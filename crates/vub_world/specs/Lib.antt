@@ -10,3 +10,4 @@ pub mod OutstandingRequests
 pub mod Regions
 pub mod Sequences
 pub mod World
+pub mod WorldBackend

@@ -1,35 +1,34 @@
 -- A life of the device, and what one queue has of it.
-use Rattle.std.specs.Prelude.{ℕ, Vec, slice_get, Option, Some, None, ⊤}
-use Rattle.vub_queue.specs.declared.queue.Queue.{Queue}
+use Rattle.std.specs.Prelude.{◌≡◌, ℕ, length, Option, Some, None, ⊤}
+use Rattle.vub_backend.specs.declared.backend.Backend.{Backend}
+use Rattle.vub_backend.specs.Backends.{queues_of, attached_in, EachLies}
 use Rattle.vub_queue.specs.declared.queue.QueueSetup.{QueueSetup}
-use Rattle.vub_world.specs.declared.machine.Life.{Life}
-use Rattle.vub_queue.specs.QueueState.{QueueLies, state_of}
-use Rattle.vub_queue_in_run.specs.QueueAt.{IsOn}
+use Rattle.vub_queue.specs.QueueState.{QueueState}
 
--- queue q, where the queues are attached
-abbrev pub queue_of : {Z : Type 0} → ℕ → Option (Vec Queue Z) → Option Queue
-queue_of q None = None
-queue_of q (Some queues) = slice_get queues.items q
+-- queue q of a backend, where it is attached
+abbrev pub queue_in : ℕ → Backend → Option QueueState
+queue_in q b = attached_in (queues_of b) q
 
 -- the same, where there is a life
-abbrev pub life_of : ℕ → Option Life → Option (Option Queue)
+abbrev pub life_of : ℕ → Option Backend → Option (Option QueueState)
 life_of q None = None
-life_of q (Some l) = Some (queue_of q l.queues)
+life_of q (Some b) = Some (queue_in q b)
 
 -- the queue of a life is on the rings of a set-up, where it is attached
-abbrev pub IsAttachedOn : QueueSetup → Option Queue → Type 0
+abbrev pub IsAttachedOn : QueueSetup → Option QueueState → Type 0
 IsAttachedOn setup None = ⊤
-IsAttachedOn setup (Some queue) = IsOn setup queue
+IsAttachedOn setup (Some queue) = queue.ring ≡ setup.ring
 
-abbrev pub IsOnInLife : QueueSetup → Option (Option Queue) → Type 0
+abbrev pub IsOnInLife : QueueSetup → Option (Option QueueState) → Type 0
 IsOnInLife setup None = ⊤
 IsOnInLife setup (Some queue) = IsAttachedOn setup queue
 
--- the queue of a life lies in memory and on the disk, where it is attached
-abbrev pub LiesAttached : (ℕ → ℕ) → ℕ → Option Queue → Type 0
-LiesAttached sizes capacity None = ⊤
-LiesAttached sizes capacity (Some queue) = QueueLies sizes capacity (state_of queue)
+-- a backend has so many queues, and each that is attached lies in memory and on the disk
+pub record IsBackend (count : ℕ) (sizes : ℕ → ℕ) (capacity : ℕ) (b : Backend) : Type 0 where
+  pub many : length (queues_of b) ≡ count
+  pub lies : EachLies sizes capacity (queues_of b)
 
-abbrev pub LiesInLife : (ℕ → ℕ) → ℕ → Option (Option Queue) → Type 0
-LiesInLife sizes capacity None = ⊤
-LiesInLife sizes capacity (Some queue) = LiesAttached sizes capacity queue
+-- so does the backend of a life
+abbrev pub IsBackendInLife : ℕ → (ℕ → ℕ) → ℕ → Option Backend → Type 0
+IsBackendInLife count sizes capacity None = ⊤
+IsBackendInLife count sizes capacity (Some b) = IsBackend count sizes capacity b

@@ -1,5 +1,5 @@
 -- The parts of a world, between two steps.
-use Rattle.std.specs.Prelude.{◌≡◌, ◌≤◌, ℕ, ◌+◌, Vec, length, slice_get, Option, Some, None, Result, MatchResult, ⊤}
+use Rattle.std.specs.Prelude.{◌≡◌, ◌≤◌, ℕ, ◌+◌, length, slice_get, Some, Result, MatchResult, ⊤}
 use Rattle.std.specs.Borrow.{follows_so, MutBor, Bor, Fml}
 use mathlib.Core.Option.{none}
 use Rattle.vub_base.specs.declared.faults.Memory.{Memory}
@@ -9,26 +9,17 @@ use Rattle.vub_world.specs.contracts.machine.Machine.{the_row}
 use Rattle.vub_world.specs.MachineAt.{IsStanding, StandsOn}
 use Rattle.vub_schedule.specs.Spelling.{IsHeader}
 use Rattle.vub_memdisk.specs.MemDisks.{capacity_of}
-use Rattle.vub_queue.specs.declared.queue.Queue.{Queue}
 use Rattle.vub_world.specs.declared.front.Front.{Front}
-use Rattle.vub_world.specs.declared.machine.Life.{Life}
+use Rattle.vub_shared.specs.Watched.{sizes_in}
+use Rattle.vub_world.specs.Lives.{IsBackendInLife}
 use Rattle.vub_world.specs.Fronts.{PartsSound, parts_of, offers_in}
 use Rattle.vub_world.specs.declared.machine.Machine.{Machine}
-
--- the queues of a life are as many as that, where they are attached
-abbrev pub AreAttached : {Z : Type 0} → ℕ → Option (Vec Queue Z) → Type 0
-AreAttached count None = ⊤
-AreAttached count (Some queues) = length queues.items ≡ count
-
-abbrev pub AreInLife : ℕ → Option Life → Type 0
-AreInLife count None = ⊤
-AreInLife count (Some l) = AreAttached count l.queues
 
 -- each of the header's queues has its parts
 pub record IsSound (w : Machine) : Type 0 where
   pub header : IsHeader w.header
   pub many : length w.fronts.items ≡ w.header.queues
-  pub attached : AreInLife w.header.queues w.life
+  pub backend : IsBackendInLife w.header.queues (sizes_in w.memory) (capacity_of w.disk) w.life
   pub disk : capacity_of w.disk ≡ w.header.capacity
   pub headers : (q : ℕ) (front : Front) → slice_get w.fronts.items q ≡ Some front → front.header ≡ w.header
   pub parts : (q : ℕ) (front : Front) → slice_get w.fronts.items q ≡ Some front → PartsSound q (parts_of q front w)

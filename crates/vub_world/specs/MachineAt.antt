@@ -18,14 +18,15 @@ use Rattle.vub_report.specs.declared.items.Item.{Item}
 use Rattle.vub_report.specs.declared.items.Record.{Record}
 use Rattle.vub_queue.specs.declared.queue.QueueSetup.{QueueSetup}
 use Rattle.vub_world.specs.declared.outstanding.OutstandingRequests.{OutstandingRequests}
-use Rattle.vub_queue.specs.declared.queue.Queue.{Queue}
-use Rattle.vub_world.specs.declared.machine.Life.{Life}
+use Rattle.vub_backend.specs.declared.backend.Backend.{Backend}
 use Rattle.vub_world.specs.declared.machine.Machine.{Machine}
 use Rattle.vub_world.specs.declared.front.Front.{Front}
 use Rattle.vub_world.specs.Fronts.{Desk, Parts, desk_of, parts_of}
+use Rattle.vub_world.specs.Lives.{queue_in}
+use Rattle.vub_world.specs.WorldBackend.{BackendStands}
 use Rattle.vub_world.specs.OutstandingRequests.{offered_in, collected_in, size_in, slot_in}
 use Rattle.vub_guest.specs.GuestState.{driver_in, last_used_in}
-use Rattle.vub_queue.specs.QueueState.{state_of}
+use Rattle.vub_queue.specs.QueueState.{QueueState}
 use Rattle.vub_queue_in_run.specs.QueueAt.{QueueStands, DiskAt}
 use Rattle.vub_run.specs.Moments.{Moment}
 use Rattle.vub_run.specs.Run.{Stands, Plays, turns}
@@ -43,11 +44,11 @@ pub record FrontAt (q : ℕ) (d : Desk) (m : Moment) : Type 0 where
   pub asks : AskAt (m.lanes q).driver.waiting d.front.asked
 
 -- a queue that isn't attached wasn't started, and none of its phases is under way
-abbrev pub AttachedAt : ℕ → Header1 → QueueSetup → Moment → Option Queue → Type 0
+abbrev pub AttachedAt : ℕ → Header1 → QueueSetup → Moment → Option QueueState → Type 0
 AttachedAt q h setup m None = (m.joined ≡ false) × ((m.lanes q).attached ≡ false) × (started m.scene.past q ≡ false) × ((m.lanes q).phase ≡ Rest)
-AttachedAt q h setup m (Some queue) = (m.joined ≡ true) × ((m.lanes q).attached ≡ true) × QueueStands q h setup m (state_of queue)
+AttachedAt q h setup m (Some queue) = (m.joined ≡ true) × ((m.lanes q).attached ≡ true) × QueueStands q h setup m queue
 
-abbrev pub LifeAt : ℕ → Header1 → QueueSetup → Moment → Option (Option Queue) → Type 0
+abbrev pub LifeAt : ℕ → Header1 → QueueSetup → Moment → Option (Option QueueState) → Type 0
 LifeAt q h setup m None = m.lives ≡ false
 LifeAt q h setup m (Some queue) = (m.lives ≡ true) × AttachedAt q h setup m queue
 
@@ -91,21 +92,26 @@ PartsStandFor q p es rs = (m : Moment) × Stands p.front.header es rs m × Parts
 abbrev pub PartsStand : ℕ → Parts → Type 0
 PartsStand q p = (es : List Event) × (rs : List Record) × PartsStandFor q p es rs
 
--- whether there is a life with its queues attached
-abbrev pub is_attached : Option Life → Bool
-is_attached None = false
-is_attached (Some l) = is_some l.queues
+-- whether there is a life in which queue q is attached
+abbrev pub is_attached : ℕ → Option Backend → Bool
+is_attached q None = false
+is_attached q (Some b) = is_some (queue_in q b)
 
 -- A drain of an attached queue serves all. A counter is left for each request, since there are fewer records than counters.
 abbrev pub ServesAll : Machine → Event → List Record → Type 0
-ServesAll w (events.Drain q) rs = is_attached w.life ≡ true → length rs < last_counter → IsServed q rs
+ServesAll w (events.Drain q) rs = is_attached q w.life ≡ true → length rs < last_counter → IsServed q rs
 ServesAll w e rs = ⊤
+
+-- the backend stands where these events and records lead
+abbrev pub BackendFollows : Machine → List Event → List Record → Type 0
+BackendFollows w es rs = (m : Moment) × Stands w.header es rs m × BackendStands w m
 
 -- what an event with its record leads to, after these events and records
 pub record GoesOn (w now : Machine) (e : Event) (es : List Event) (rs : List Record) : Type 0 where
   pub stands : StandsFor now es rs
   pub runs : IsLegalRun w.header es rs
   pub serves : ServesAll w e rs
+  pub backend : BackendFollows now es rs
 
 -- for all events and records that a world stood for, it stands for these and one event more with its record
 abbrev pub StandsOn : Machine → Machine → Event → Record → Type 0

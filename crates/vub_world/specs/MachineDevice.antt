@@ -23,8 +23,7 @@ use Rattle.vub_report.specs.declared.items.Item.{Item}
 use Rattle.vub_report.specs.declared.items.Item.TheVariants as items
 use Rattle.vub_world.specs.declared.outstanding.OutstandingRequests.{OutstandingRequests}
 use Rattle.vub_world.specs.declared.outstanding.OutstandingRequest.{OutstandingRequest}
-use Rattle.vub_world.specs.declared.machine.Life.{Life}
-use Rattle.vub_queue.specs.declared.queue.Queue.{Queue}
+use Rattle.vub_backend.specs.declared.backend.Backend.{Backend}
 use Rattle.vub_queue.specs.declared.queue.QueueSetup.{QueueSetup}
 use Rattle.vub_queue.specs.declared.queue.Stepped.{Stepped}
 use Rattle.vub_queue.specs.declared.queue.Stepped.TheVariants as says
@@ -32,11 +31,12 @@ use Rattle.vub_world.specs.OutstandingRequests.{size_in, slot_in}
 use Rattle.vub_run.specs.Moments.{Moment, standing}
 use Rattle.vub_steps.specs.declared.readiness.Choice.{Choice}
 use Rattle.vub_steps.specs.Readiness.{chosen}
-use Rattle.vub_queue.specs.QueueState.{steps_in, QueueState, state_of, is_idle}
+use Rattle.vub_queue.specs.QueueState.{steps_in, QueueState, is_idle}
 use Rattle.vub_queue_in_run.specs.QueueAt.{QueueStands, DiskAt}
 use Rattle.vub_run.specs.Run.{one_turn}
 use Rattle.vub_task.specs.TaskState.{head_in}
 use Rattle.vub_world.specs.MachineFront.{store_item, OneSmall}
+use Rattle.vub_world.specs.Lives.{queue_in}
 
 -- ---- the device's turns
 
@@ -90,8 +90,8 @@ pub record Device : Type 0 where
   pub values : Values
   pub stores : List Store
 
-abbrev pub device : Queue → WatchedShared → MemDisk → Device
-device queue w d = record { queue = state_of queue; memory = bytes_in w; values = values_of d; stores = stores_in w }
+abbrev pub device : QueueState → WatchedShared → MemDisk → Device
+device queue w d = record { queue = queue; memory = bytes_in w; values = values_of d; stores = stores_in w }
 
 pub record DeviceAt (q : ℕ) (h : Header1) (setup : QueueSetup) (m : Moment) (d : Device) : Type 0 where
   pub stands : QueueStands q h setup m d.queue
@@ -146,11 +146,16 @@ HeadFits size x = ⊤
 abbrev pub turn_here : ℕ → Header1 → Choice → Moment → Turn
 turn_here q h choice m = chosen h.size choice (standing h q m)
 
+-- the heads of the requests that a queue works on, where it is attached
+abbrev pub queue_heads : Option QueueState → List ℕ
+queue_heads None = []
+queue_heads (Some queue) = heads_of queue
+
 -- where a turn started the queue, each head of a request that it works on has a place in the table of outstanding
 -- requests, and a list with room for so many numbers has room for theirs
-abbrev pub StartFits : ℕ → QueueState → ℕ → Stepped → Type 0
-StartFits size state room says.Started = ((i head : ℕ) → slice_get (heads_of state) i ≡ Some head → head < size) × (length (heads_of state) ≤ room)
-StartFits size state room x = ⊤
+abbrev pub StartFits : ℕ → Option QueueState → ℕ → Stepped → Type 0
+StartFits size queue room says.Started = ((i head : ℕ) → slice_get (queue_heads queue) i ≡ Some head → head < size) × (length (queue_heads queue) ≤ room)
+StartFits size queue room x = ⊤
 
 -- a start spends the list of numbers, and no other turn does
 abbrev pub KeepsNumbers : ℕ → ℕ → Stepped → Type 0
@@ -200,52 +205,52 @@ ShownFits outstanding state = is_showing state ≡ true → BatchFits outstandin
 
 -- ---- a life
 
-abbrev pub queue_batch : Option Queue → List (ℕ × ℕ)
+abbrev pub queue_batch : Option QueueState → List (ℕ × ℕ)
 queue_batch None = []
-queue_batch (Some queue) = (state_of queue).batch
+queue_batch (Some queue) = queue.batch
 
 -- the batch of its queue
-abbrev pub batch_in : Option (Option Queue) → List (ℕ × ℕ)
+abbrev pub batch_in : Option (Option QueueState) → List (ℕ × ℕ)
 batch_in None = []
 batch_in (Some queue) = queue_batch queue
 
-abbrev pub queue_shown : ℕ → OutstandingRequests → Bytes → Option Queue → List Answered
+abbrev pub queue_shown : ℕ → OutstandingRequests → Bytes → Option QueueState → List Answered
 queue_shown q outstanding m None = []
-queue_shown q outstanding m (Some queue) = shown_of q outstanding m (state_of queue)
+queue_shown q outstanding m (Some queue) = shown_of q outstanding m queue
 
 -- the answers to the batch that the next step of its queue shows
-abbrev pub answers_shown : ℕ → OutstandingRequests → Bytes → Option (Option Queue) → List Answered
+abbrev pub answers_shown : ℕ → OutstandingRequests → Bytes → Option (Option QueueState) → List Answered
 answers_shown q outstanding m None = []
 answers_shown q outstanding m (Some queue) = queue_shown q outstanding m queue
 
-abbrev pub queue_numbers : OutstandingRequests → Option Queue → List ℕ
+abbrev pub queue_numbers : OutstandingRequests → Option QueueState → List ℕ
 queue_numbers outstanding None = []
-queue_numbers outstanding (Some queue) = numbers_of outstanding (state_of queue)
+queue_numbers outstanding (Some queue) = numbers_of outstanding queue
 
 -- the numbers of the requests that its queue works on
-abbrev pub numbers_in : OutstandingRequests → Option (Option Queue) → List ℕ
+abbrev pub numbers_in : OutstandingRequests → Option (Option QueueState) → List ℕ
 numbers_in outstanding None = []
 numbers_in outstanding (Some queue) = queue_numbers outstanding queue
 
-abbrev pub queue_started : Option Queue → Bool
+abbrev pub queue_started : Option QueueState → Bool
 queue_started None = false
-queue_started (Some queue) = (state_of queue).started
+queue_started (Some queue) = queue.started
 
 -- whether its queue is started
-abbrev pub started_in : Option (Option Queue) → Bool
+abbrev pub started_in : Option (Option QueueState) → Bool
 started_in None = false
 started_in (Some queue) = queue_started queue
 
-abbrev pub queue_shows : Option Queue → ℕ
+abbrev pub queue_shows : Option QueueState → ℕ
 queue_shows None = 0
-queue_shows (Some queue) = shows_in (state_of queue)
+queue_shows (Some queue) = shows_in queue
 
 -- how many they are
-abbrev pub shown_in : Option (Option Queue) → ℕ
+abbrev pub shown_in : Option (Option QueueState) → ℕ
 shown_in None = 0
 shown_in (Some queue) = queue_shows queue
 
--- whether there is a life whose queues aren't attached yet
-abbrev pub is_joining : Option Life → Bool
+-- whether there is a life whose queues aren't attached yet; all are attached at once
+abbrev pub is_joining : Option Backend → Bool
 is_joining None = false
-is_joining (Some l) = not (is_some l.queues)
+is_joining (Some b) = not (is_some (queue_in 0 b))

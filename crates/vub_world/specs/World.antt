@@ -1,9 +1,10 @@
 -- A world, between two events.
-use Rattle.std.specs.Prelude.{◌≡◌, ◌≤◌, ◌+◌, Result, MatchResult, ⊤}
+use Rattle.std.specs.Prelude.{◌≡◌, ◌≤◌, ◌+◌, Option, Result, MatchResult, ⊤}
 use Rattle.std.specs.Borrow.{follows_so, MutBor, Bor, Fml}
 use mathlib.Core.Option.{none}
 use Rattle.vub_base.specs.declared.header.Header1.{Header1}
 use Rattle.vub_base.specs.declared.faults.Memory.{Memory}
+use Rattle.vub_backend.specs.declared.backend.Backend.{Backend}
 use Rattle.vub_memdisk.specs.declared.mem_disk.MemDisk.{MemDisk}
 use Rattle.vub_schedule.specs.declared.types.Event.{Event}
 use Rattle.vub_world.specs.declared.machine.Machine.{Machine}
@@ -19,6 +20,10 @@ header_in w = w.header
 
 abbrev pub disk_in : Machine → MemDisk
 disk_in w = w.disk
+
+-- the backend of the life of the device, if there is one
+abbrev pub backend_in : Machine → Option Backend
+backend_in w = w.life
 
 -- An event lends its record. The world goes on under its header, and stands for the events that it stood for and this
 -- one, with their records; for want of memory all is as it was. It offers one request at most.

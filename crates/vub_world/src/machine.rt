@@ -1,5 +1,5 @@
 //! The parts of a world, and what each event does with them.
-ghost use Rattle.std.specs.Prelude.{◌≡◌, ◌<◌, ◌≤◌, ◌+◌, ◌-◌, ◌*◌, ◌^◌, ◌++◌, ◌∷◌, [], ◌≢◌, ℕ, List, IfOk, OnOk, OnErr, length, true, false, Some, None};
+ghost use Rattle.std.specs.Prelude.{◌≡◌, ◌<◌, ◌≤◌, ◌+◌, ◌-◌, ◌*◌, ◌^◌, ◌++◌, ◌∷◌, [], ◌≢◌, ℕ, List, IfOk, OnOk, OnErr, length, true, false, Some, None, option_map};
 ghost use Rattle.vub_base.specs.declared.header.Header1.{Header1};
 ghost use Rattle.vub_driver.specs.Layout.{guest_space, inflight_space, area_place};
 ghost use Rattle.vub_shared.specs.Watched.{bytes_in, sizes_in, count_in, faults_in, IsUnfailed};
@@ -15,13 +15,14 @@ use crate::indexes::set_indexes;
 use crate::regions::inflight_size;
 use std::alloc::Global;
 use std::mem;
+use vub_backend::Backend;
 use vub_base::standard::SECTOR_SIZE;
 use vub_base::{Ask, Header1, Memory, Shape, Space};
 use vub_device::Entry;
 use vub_disk::Disk;
 use vub_guest::layout::area_of;
 use vub_memdisk::MemDisk;
-use vub_queue::{Choice, Queue, Turn};
+use vub_queue::{Choice, Turn};
 use vub_report::{Item, Items, Record};
 use vub_room::{Room, Spare};
 use vub_schedule::Event;
@@ -33,12 +34,6 @@ const MOST_STORES: u16 = 8;
 /// The most turns of a queue that belong to no one request, beside one for each place.
 const BESIDES: u64 = 7;
 
-/// A life of the device; its queues are there once they are attached.
-#[derive(Drop)]
-struct Life {
-    queues: Option<Vec<Queue>>,
-}
-
 /// The parts of a world.
 #[derive(Drop)]
 pub struct Machine {
@@ -47,7 +42,8 @@ pub struct Machine {
     memory: WatchedShared,
     // By the number of the queue.
     fronts: Vec<Front>,
-    life: Option<Life>,
+    // The backend of the life; its queues are attached all at once.
+    life: Option<Backend>,
     disk: MemDisk,
     last: Record,
     spare: Spare,
@@ -94,12 +90,6 @@ fn add_front(fronts: &mut Vec<Front>, front: Front) -> Result<(), Memory>
     fronts.push(front).map_err(|_| Memory)
 }
 
-fn add_queue(queues: &mut Vec<Queue>, queue: Queue) -> Result<(), Memory>
-    ensures { OnOk result (queues.new.items ≡ queues.old.items ++ queue ∷ []) }
-{
-    queues.push(queue).map_err(|_| Memory)
-}
-
 /// The fronts of the header's queues, in the order of their numbers.
 fn new_fronts(
     alloc: Global,
@@ -122,7 +112,9 @@ fn new_fronts(
 
 impl Machine {
     ghost use Rattle.std.specs.Borrow.{sem};
-    ghost use Rattle.vub_memdisk.specs.MemDisks.{values_of};
+    ghost use Rattle.vub_memdisk.specs.MemDisks.{values_of, capacity_of};
+    ghost use Rattle.vub_backend.specs.Backends.{queues_of};
+    ghost use Rattle.vub_world.specs.Lives.{IsBackend};
     ghost use Rattle.vub_schedule.specs.declared.types.Event.TheVariants as events;
     ghost use Rattle.vub_report.specs.declared.items.Item.TheVariants as items;
     ghost use Rattle.vub_world.specs.Fronts.{AreNewQueues};
@@ -171,6 +163,13 @@ impl Machine {
         ensures { result.now ≡ values_of self.now.disk sector }
     {
         self.disk.sector(sector)
+    }
+
+    /// The backend of the life, if there is one.
+    pub fn backend(&self) -> Option<&Backend>
+        ensures { option_map (λ b. b.now) result ≡ self.now.life }
+    {
+        self.life.as_ref()
     }
 
     /// That an event wasn't ready.
@@ -255,7 +254,7 @@ impl Machine {
         if self.life.is_some() {
             return self.idle();
         }
-        self.life = Some(Life { queues: None });
+        self.life = Some(Backend::new(self.alloc, self.header.queues)?);
         Ok(self.nothing())
     }
 
@@ -263,28 +262,34 @@ impl Machine {
     fn is_joining(&self) -> bool
         ensures { result ≡ is_joining self.now.life }
     {
-        matches!(&self.life, Some(Life { queues: None }))
+        match &self.life {
+            Some(backend) => !backend.attached(0),
+            None => false,
+        }
     }
 
-    /// Whether there is a life with its queues attached.
-    fn is_attached(&self) -> bool
-        ensures { result ≡ is_attached self.now.life }
+    /// Whether there is a life in which the queue is attached.
+    fn is_attached(&self, queue: u16) -> bool
+        ensures { result ≡ is_attached queue self.now.life }
     {
-        matches!(&self.life, Some(Life { queues: Some(_) }))
+        match &self.life {
+            Some(backend) => backend.attached(queue),
+            None => false,
+        }
     }
 
-    /// A queue of the device for each front, in their order.
-    fn new_queues(&self) -> Result<Vec<Queue>, Memory>
+    /// A backend to which the queue of each front is attached.
+    fn new_backend(&self) -> Result<Backend, Memory>
         requires { IsSound self.now }
-        ensures { IfOk result (λ queues. AreNewQueues self.now.header.queues self.now.fronts.items queues.items) }
+        ensures backend { IfOk result (IsBackend self.now.header.queues (sizes_in self.now.memory) (capacity_of self.now.disk)) }
+        ensures new { IfOk result (λ b. AreNewQueues self.now.header.queues self.now.fronts.items (queues_of b)) }
     {
-        let mut queues = Vec::with_capacity(self.alloc, self.fronts.len()).map_err(|_| Memory)?;
+        let mut backend = Backend::new(self.alloc, self.header.queues)?;
         for index in 0..self.header.queues {
             let front = &self.fronts[usize::from(index)];
-            let queue = Queue::new(self.alloc, &front.setup)?;
-            add_queue(&mut queues, queue)?;
+            backend.attach(self.alloc, &front.setup)?;
         }
-        Ok(queues)
+        Ok(backend)
     }
 
     fn join(&mut self) -> Result<Items, Memory>
@@ -298,10 +303,7 @@ impl Machine {
         if !self.is_joining() {
             return self.idle();
         }
-        let queues = self.new_queues()?;
-        self.life = Some(Life {
-            queues: Some(queues),
-        });
+        self.life = Some(self.new_backend()?);
         Ok(self.nothing())
     }
 
@@ -340,7 +342,7 @@ impl Machine {
         ensures kept { OnErr result (self.new ≡ self.old) }
         ensures plays { IfOk result (λ is. PlaysSingle queue self.old self.new turn is) }
     {
-        if !self.is_attached() {
+        if !self.is_attached(queue) {
             return self.idle();
         }
         let place = usize::from(queue);
@@ -348,16 +350,11 @@ impl Machine {
         let front = &self.fronts[place];
         let undone = front.outstanding.count();
         let mut room = Room::for_turns(self.alloc, &mut self.spare, 1, undone, besides)?;
-        let Some(
-            Life {
-                queues: Some(queues),
-            },
-        ) = &mut self.life
-        else {
+        let Some(backend) = &mut self.life else {
             unreachable!();
         };
         let stepped = front.play(
-            &mut queues[place],
+            backend,
             Choice::Only(turn),
             &mut self.memory,
             &mut self.disk,
@@ -380,7 +377,7 @@ impl Machine {
         ensures kept { OnErr result (self.new ≡ self.old) }
         ensures plays { IfOk result (λ is. PlaysTurns queue self.old self.new sequence count is) }
     {
-        if !self.is_attached() {
+        if !self.is_attached(queue) {
             return self.idle();
         }
         let place = usize::from(queue);
@@ -388,16 +385,11 @@ impl Machine {
         let front = &self.fronts[place];
         let undone = front.outstanding.count();
         let mut room = Room::for_turns(self.alloc, &mut self.spare, count, undone, besides)?;
-        let Some(
-            Life {
-                queues: Some(queues),
-            },
-        ) = &mut self.life
-        else {
+        let Some(backend) = &mut self.life else {
             unreachable!();
         };
         let made = front.play_turns(
-            &mut queues[place],
+            backend,
             sequence,
             count,
             &mut self.memory,

@@ -32,9 +32,25 @@ fn opens_with_zeros(rt: HostRuntime) -> Result<(), Fail> {
 fn boots(rt: HostRuntime) -> Result<(), Fail> {
     let header = HEADER;
     let mut world = World::new(rt.alloc(), &header).ok().ok_or("world")?;
+    assert!(rt; world.backend().is_none());
     let made = world.event(&Event::Boot).ok().ok_or("boot")?;
     let text = record_text(rt.alloc(), made).ok().ok_or("text")?;
     assert_eq!(rt; text.as_slice(), b"> boot\n".as_slice());
+    let backend = world.backend().ok_or("life")?;
+    assert!(rt; !backend.attached(0));
+    Ok(())
+}
+
+#[test]
+fn attaches_its_queues_until_it_is_killed(rt: HostRuntime) -> Result<(), Fail> {
+    let header = HEADER;
+    let mut world = World::new(rt.alloc(), &header).ok().ok_or("world")?;
+    world.event(&Event::Boot).ok().ok_or("boot")?;
+    world.event(&Event::Join).ok().ok_or("join")?;
+    let backend = world.backend().ok_or("life")?;
+    assert!(rt; backend.attached(0) && backend.queue(0).is_some());
+    world.event(&Event::Kill).ok().ok_or("kill")?;
+    assert!(rt; world.backend().is_none());
     Ok(())
 }
 

@@ -1,5 +1,5 @@
 //! The turns of the device on one queue of a world, with what is noted of them.
-ghost use Rattle.std.specs.Prelude.{◌≡◌, ◌<◌, ◌≤◌, ◌+◌, ◌-◌, ◌*◌, ◌++◌, ℕ, Some, min, not, List, length, slice_get, true, false};
+ghost use Rattle.std.specs.Prelude.{◌≡◌, ◌<◌, ◌≤◌, ◌+◌, ◌-◌, ◌*◌, ◌++◌, ℕ, Some, IfSome, min, not, List, length, slice_get, true, false};
 ghost use Rattle.vub_memdisk.specs.MemDisks.{values_of, capacity_of};
 ghost use Rattle.vub_queue.specs.QueueState.{state_of, is_idle};
 ghost use Rattle.vub_report.specs.declared.items.Record.{Record};
@@ -8,9 +8,10 @@ ghost use Rattle.vub_run.specs.Moments.{Moment};
 ghost use Rattle.vub_run.specs.Run.{Stands};
 ghost use Rattle.vub_schedule.specs.declared.types.Event.{Event};
 ghost use Rattle.vub_shared.specs.Watched.{bytes_in, stores_in, sizes_in};
-ghost use Rattle.vub_world.specs.Fronts.{FrontSound, PartsSound, parts};
+ghost use Rattle.vub_world.specs.Fronts.{FrontSound, PartsSound, parts_in, queue_of};
+ghost use Rattle.vub_world.specs.Lives.{IsBackend};
 ghost use Rattle.vub_world.specs.MachineAt.{PartsAt, PartsStand, IsReached};
-ghost use Rattle.vub_world.specs.MachineDevice.{BatchFits, ShownFits, ShowsSome, IsMade, StoreFits, SectorFits, HeadFits, answer_for, answers_for, shown_of, shows_in, number_at, heads_of, numbers_of, noted, accepts, turn_here, StartFits, KeepsNumbers};
+ghost use Rattle.vub_world.specs.MachineDevice.{BatchFits, ShownFits, ShowsSome, IsMade, StoreFits, SectorFits, HeadFits, answer_for, answers_for, queue_shown, queue_shows, queue_started, queue_heads, queue_numbers, number_at, noted, accepts, turn_here, StartFits, KeepsNumbers};
 ghost use Rattle.vub_world.specs.MachineSteps.{TurnGoes, StepGoes, TurnsGo, HasStartRoom, turns_besides};
 ghost use Rattle.vub_world.specs.OutstandingRequests.{offered_in, collected_in, size_in, slot_in};
 ghost use Rattle.vub_world.specs.Sequences.{next_turn};
@@ -18,6 +19,7 @@ ghost use Rattle.vub_world.specs.Sequences.{next_turn};
 use crate::device::{Sequence, turn_queue};
 use crate::front::Front;
 use crate::notes::note_store;
+use vub_backend::Backend;
 use vub_base::Tag;
 use vub_base::standard::{SECTOR_SIZE, VIRTIO_BLK_S_OK};
 use vub_device::{AnswerList, Answered, Entry, NumberList};
@@ -75,15 +77,18 @@ impl Front {
         answers
     }
 
-    /// The answers of the batch that the next step shows; none if it shows none.
-    fn answers(&self, queue: &Queue, memory: &WatchedShared, room: &mut Room) -> Vec<Answered>
+    /// The answers of the batch that the next step of the queue shows; none if it shows none.
+    fn answers(&self, backend: &Backend, memory: &WatchedShared, room: &mut Room) -> Vec<Answered>
         requires sound { FrontSound memory.now self.now }
-        requires fits { ShownFits self.now.outstanding (state_of queue.now) }
-        requires some { ShowsSome (state_of queue.now) }
-        requires room { HasTurnRoom (shows_in (state_of queue.now)) room.old }
-        ensures answers { result.items ≡ shown_of self.now.index self.now.outstanding (bytes_in memory.now) (state_of queue.now) }
-        ensures room { SpendsUpTo (shows_in (state_of queue.now)) room.old room.new }
+        requires fits { IfSome (queue_of self.now backend.now) (ShownFits self.now.outstanding) }
+        requires some { IfSome (queue_of self.now backend.now) ShowsSome }
+        requires room { HasTurnRoom (queue_shows (queue_of self.now backend.now)) room.old }
+        ensures answers { result.items ≡ queue_shown self.now.index self.now.outstanding (bytes_in memory.now) (queue_of self.now backend.now) }
+        ensures room { SpendsUpTo (queue_shows (queue_of self.now backend.now)) room.old room.new }
     {
+        let Some(queue) = backend.queue(self.index) else {
+            return Vec::new(self.alloc);
+        };
         if queue.shows_next() {
             self.batch_answers(queue, memory, room)
         } else {
@@ -91,22 +96,24 @@ impl Front {
         }
     }
 
-    /// A turn of the device on the queue.
+    /// A turn of the device on the queue; idle where it isn't attached.
     fn turn(
         &self,
-        queue: &mut Queue,
+        backend: &mut Backend,
         choice: Choice,
         memory: &mut WatchedShared,
         disk: &mut MemDisk,
     ) -> Stepped
-        requires sound { PartsSound self.now.index (parts memory.old self.now queue.old disk.old) }
-        requires stands { (m : Moment) × IsReached self.now.index self.now.header m × PartsAt self.now.index (parts memory.old self.now queue.old disk.old) m }
-        ensures sound { PartsSound self.now.index (parts memory.new self.now queue.new disk.new) }
+        requires backend { IsBackend self.now.header.queues (sizes_in memory.old) (capacity_of disk.old) backend.old }
+        requires sound { PartsSound self.now.index (parts_in memory.old self.now backend.old disk.old) }
+        requires stands { (m : Moment) × IsReached self.now.index self.now.header m × PartsAt self.now.index (parts_in memory.old self.now backend.old disk.old) m }
+        ensures backend { IsBackend self.now.header.queues (sizes_in memory.new) (capacity_of disk.new) backend.new }
+        ensures sound { PartsSound self.now.index (parts_in memory.new self.now backend.new disk.new) }
         ensures sizes { (s : ℕ) → sizes_in memory.new s ≡ sizes_in memory.old s }
-        ensures turns { (m : Moment) → IsReached self.now.index self.now.header m → PartsAt self.now.index (parts memory.old self.now queue.old disk.old) m → TurnGoes self.now.index (turn_here self.now.index self.now.header choice m) (parts memory.old self.now queue.old disk.old) (parts memory.new self.now queue.new disk.new) m result }
+        ensures turns { (m : Moment) → IsReached self.now.index self.now.header m → PartsAt self.now.index (parts_in memory.old self.now backend.old disk.old) m → TurnGoes self.now.index (turn_here self.now.index self.now.header choice m) (parts_in memory.old self.now backend.old disk.old) (parts_in memory.new self.now backend.new disk.new) m result }
     {
         memory.restart();
-        turn_queue(queue, choice, memory, disk)
+        turn_queue(backend, self.index, choice, memory, disk)
     }
 
     /// The number of the request under a head.
@@ -118,13 +125,16 @@ impl Front {
     }
 
     /// The numbers of the requests that the queue works on, in order.
-    fn numbers(&self, queue: &Queue, room: &mut Room) -> NumberList
-        requires places { (i head : ℕ) → slice_get (heads_of (state_of queue.now)) i ≡ Some head → head < size_in self.now.outstanding }
-        requires room { length (heads_of (state_of queue.now)) ≤ room.old.numbers }
-        ensures numbers { result ≡ numbers_of self.now.outstanding (state_of queue.now) }
+    fn numbers(&self, backend: &Backend, room: &mut Room) -> NumberList
+        requires places { (i head : ℕ) → slice_get (queue_heads (queue_of self.now backend.now)) i ≡ Some head → head < size_in self.now.outstanding }
+        requires room { length (queue_heads (queue_of self.now backend.now)) ≤ room.old.numbers }
+        ensures numbers { result ≡ queue_numbers self.now.outstanding (queue_of self.now backend.now) }
         ensures room { room.new ≡ record room.old { numbers = 0 } }
     {
         let mut numbers = room.numbers();
+        let Some(queue) = backend.queue(self.index) else {
+            return NumberList::new(numbers);
+        };
         while let Some(head) = queue.open_head(numbers.len()) {
             numbers.push_reserved(self.number(head));
         }
@@ -137,7 +147,7 @@ impl Front {
         &self,
         stepped: Stepped,
         answers: Vec<Answered>,
-        queue: &Queue,
+        backend: &Backend,
         memory: &WatchedShared,
         disk: &MemDisk,
         room: &mut Room,
@@ -148,8 +158,8 @@ impl Front {
         requires head { HeadFits (size_in self.now.outstanding) stepped }
         requires items { 2 ≤ room.old.item_room }
         requires lists { 1 ≤ room.old.lists }
-        requires starts { StartFits (size_in self.now.outstanding) (state_of queue.now) room.old.numbers stepped }
-        ensures items { room.new.items ≡ room.old.items ++ noted self.now.index self.now.outstanding (values_of disk.now) (stores_in memory.now) answers.items (numbers_of self.now.outstanding (state_of queue.now)) stepped }
+        requires starts { StartFits (size_in self.now.outstanding) (queue_of self.now backend.now) room.old.numbers stepped }
+        ensures items { room.new.items ≡ room.old.items ++ noted self.now.index self.now.outstanding (values_of disk.now) (stores_in memory.now) answers.items (queue_numbers self.now.outstanding (queue_of self.now backend.now)) stepped }
         ensures spent { SpendsTurn room.old room.new }
         ensures numbers { KeepsNumbers room.old.numbers room.new.numbers stepped }
     {
@@ -162,7 +172,7 @@ impl Front {
                 Entry::Publish(index, AnswerList::new(answers))
             }
             Stepped::Belled => return room.note(Item::Bell(index)),
-            Stepped::Started => Entry::Start(index, self.numbers(queue, room)),
+            Stepped::Started => Entry::Start(index, self.numbers(backend, room)),
             Stepped::Accepted(head) => {
                 note_store(memory, Tag::SF2, room);
                 Entry::Accept(index, self.number(head))
@@ -187,54 +197,58 @@ impl Front {
     /// A turn with its items.
     pub fn play(
         &self,
-        queue: &mut Queue,
+        backend: &mut Backend,
         choice: Choice,
         memory: &mut WatchedShared,
         disk: &mut MemDisk,
         room: &mut Room,
     ) -> Stepped
-        requires sound { PartsSound self.now.index (parts memory.old self.now queue.old disk.old) }
-        requires stands { (m : Moment) × IsReached self.now.index self.now.header m × PartsAt self.now.index (parts memory.old self.now queue.old disk.old) m }
-        requires room { HasTurnRoom (shows_in (state_of queue.old)) room.old }
-        requires numbers { HasStartRoom (state_of queue.old).started self.now.outstanding room.old }
-        ensures sound { PartsSound self.now.index (parts memory.new self.now queue.new disk.new) }
+        requires backend { IsBackend self.now.header.queues (sizes_in memory.old) (capacity_of disk.old) backend.old }
+        requires sound { PartsSound self.now.index (parts_in memory.old self.now backend.old disk.old) }
+        requires stands { (m : Moment) × IsReached self.now.index self.now.header m × PartsAt self.now.index (parts_in memory.old self.now backend.old disk.old) m }
+        requires room { HasTurnRoom (queue_shows (queue_of self.now backend.old)) room.old }
+        requires numbers { HasStartRoom (queue_started (queue_of self.now backend.old)) self.now.outstanding room.old }
+        ensures backend { IsBackend self.now.header.queues (sizes_in memory.new) (capacity_of disk.new) backend.new }
+        ensures sound { PartsSound self.now.index (parts_in memory.new self.now backend.new disk.new) }
         ensures sizes { (s : ℕ) → sizes_in memory.new s ≡ sizes_in memory.old s }
-        ensures goes { (m : Moment) → IsReached self.now.index self.now.header m → PartsAt self.now.index (parts memory.old self.now queue.old disk.old) m → StepGoes self.now.index (not (is_idle result)) (turn_here self.now.index self.now.header choice m) (parts memory.old self.now queue.old disk.old) (parts memory.new self.now queue.new disk.new) m room.old.items room.new.items 0 (accepts result) }
-        ensures spent { SpendsStep (shows_in (state_of queue.old)) room.old room.new }
-        ensures numbers { HasStartRoom (state_of queue.new).started self.now.outstanding room.new }
+        ensures goes { (m : Moment) → IsReached self.now.index self.now.header m → PartsAt self.now.index (parts_in memory.old self.now backend.old disk.old) m → StepGoes self.now.index (not (is_idle result)) (turn_here self.now.index self.now.header choice m) (parts_in memory.old self.now backend.old disk.old) (parts_in memory.new self.now backend.new disk.new) m room.old.items room.new.items 0 (accepts result) }
+        ensures spent { SpendsStep (queue_shows (queue_of self.now backend.old)) room.old room.new }
+        ensures numbers { HasStartRoom (queue_started (queue_of self.now backend.new)) self.now.outstanding room.new }
         ensures idle { is_idle result ≡ true → room.new.item_room ≡ room.old.item_room }
     {
-        let answers = self.answers(queue, memory, room);
-        let stepped = self.turn(queue, choice, memory, disk);
+        let answers = self.answers(backend, memory, room);
+        let stepped = self.turn(backend, choice, memory, disk);
         if stepped.is_idle() {
             return stepped;
         }
-        self.note_turn(stepped, answers, queue, memory, disk, room);
+        self.note_turn(stepped, answers, backend, memory, disk, room);
         stepped
     }
 
     /// The turn that comes next with its items; false where none was made.
     fn play_next(
         &self,
-        queue: &mut Queue,
+        backend: &mut Backend,
         sequence: Sequence,
         accepted: &mut u16,
         memory: &mut WatchedShared,
         disk: &mut MemDisk,
         room: &mut Room,
     ) -> bool
-        requires sound { PartsSound self.now.index (parts memory.old self.now queue.old disk.old) }
-        requires stands { (m : Moment) × IsReached self.now.index self.now.header m × PartsAt self.now.index (parts memory.old self.now queue.old disk.old) m }
-        requires room { HasTurnRoom (shows_in (state_of queue.old)) room.old }
-        requires numbers { HasStartRoom (state_of queue.old).started self.now.outstanding room.old }
-        ensures sound { PartsSound self.now.index (parts memory.new self.now queue.new disk.new) }
+        requires backend { IsBackend self.now.header.queues (sizes_in memory.old) (capacity_of disk.old) backend.old }
+        requires sound { PartsSound self.now.index (parts_in memory.old self.now backend.old disk.old) }
+        requires stands { (m : Moment) × IsReached self.now.index self.now.header m × PartsAt self.now.index (parts_in memory.old self.now backend.old disk.old) m }
+        requires room { HasTurnRoom (queue_shows (queue_of self.now backend.old)) room.old }
+        requires numbers { HasStartRoom (queue_started (queue_of self.now backend.old)) self.now.outstanding room.old }
+        ensures backend { IsBackend self.now.header.queues (sizes_in memory.new) (capacity_of disk.new) backend.new }
+        ensures sound { PartsSound self.now.index (parts_in memory.new self.now backend.new disk.new) }
         ensures sizes { (s : ℕ) → sizes_in memory.new s ≡ sizes_in memory.old s }
-        ensures goes { (m : Moment) → IsReached self.now.index self.now.header m → PartsAt self.now.index (parts memory.old self.now queue.old disk.old) m → accepted.old < 65535 → StepGoes self.now.index result (next_turn self.now.index self.now.header sequence accepted.old m) (parts memory.old self.now queue.old disk.old) (parts memory.new self.now queue.new disk.new) m room.old.items room.new.items accepted.old accepted.new }
-        ensures spent { SpendsStep (shows_in (state_of queue.old)) room.old room.new }
-        ensures numbers { HasStartRoom (state_of queue.new).started self.now.outstanding room.new }
+        ensures goes { (m : Moment) → IsReached self.now.index self.now.header m → PartsAt self.now.index (parts_in memory.old self.now backend.old disk.old) m → accepted.old < 65535 → StepGoes self.now.index result (next_turn self.now.index self.now.header sequence accepted.old m) (parts_in memory.old self.now backend.old disk.old) (parts_in memory.new self.now backend.new disk.new) m room.old.items room.new.items accepted.old accepted.new }
+        ensures spent { SpendsStep (queue_shows (queue_of self.now backend.old)) room.old room.new }
+        ensures numbers { HasStartRoom (queue_started (queue_of self.now backend.new)) self.now.outstanding room.new }
         ensures idle { result ≡ false → room.new.item_room ≡ room.old.item_room }
     {
-        let stepped = self.play(queue, sequence.next(*accepted), memory, disk, room);
+        let stepped = self.play(backend, sequence.next(*accepted), memory, disk, room);
         if matches!(stepped, Stepped::Accepted(_)) {
             *accepted = accepted.saturating_add(1);
         }
@@ -244,26 +258,28 @@ impl Front {
     /// At most so many turns, as long as one is ready; false where none was made.
     pub fn play_turns(
         &self,
-        queue: &mut Queue,
+        backend: &mut Backend,
         sequence: Sequence,
         count: u64,
         memory: &mut WatchedShared,
         disk: &mut MemDisk,
         room: &mut Room,
     ) -> bool
-        requires sound { PartsSound self.now.index (parts memory.old self.now queue.old disk.old) }
+        requires backend { IsBackend self.now.header.queues (sizes_in memory.old) (capacity_of disk.old) backend.old }
+        requires sound { PartsSound self.now.index (parts_in memory.old self.now backend.old disk.old) }
         requires some { 1 ≤ count }
         requires room { HasRoom (min count (27 * (offered_in self.now.outstanding - collected_in self.now.outstanding) + turns_besides self.now.header.size)) (offered_in self.now.outstanding - collected_in self.now.outstanding) room.old }
-        requires numbers { HasStartRoom (state_of queue.old).started self.now.outstanding room.old }
-        requires stands { PartsStand self.now.index (parts memory.old self.now queue.old disk.old) }
-        ensures sound { PartsSound self.now.index (parts memory.new self.now queue.new disk.new) }
+        requires numbers { HasStartRoom (queue_started (queue_of self.now backend.old)) self.now.outstanding room.old }
+        requires stands { PartsStand self.now.index (parts_in memory.old self.now backend.old disk.old) }
+        ensures backend { IsBackend self.now.header.queues (sizes_in memory.new) (capacity_of disk.new) backend.new }
+        ensures sound { PartsSound self.now.index (parts_in memory.new self.now backend.new disk.new) }
         ensures sizes { (s : ℕ) → sizes_in memory.new s ≡ sizes_in memory.old s }
-        ensures turns { (es : List Event) (rs : List Record) (m : Moment) → Stands self.now.header es rs m → PartsAt self.now.index (parts memory.old self.now queue.old disk.old) m → TurnsGo self.now.index self.now.header result sequence count (PartsAt self.now.index (parts memory.new self.now queue.new disk.new)) m room.old.items room.new.items }
+        ensures turns { (es : List Event) (rs : List Record) (m : Moment) → Stands self.now.header es rs m → PartsAt self.now.index (parts_in memory.old self.now backend.old disk.old) m → TurnsGo self.now.index self.now.header result sequence count (PartsAt self.now.index (parts_in memory.new self.now backend.new disk.new)) m room.old.items room.new.items }
         ensures idle { result ≡ false → room.new.item_room ≡ room.old.item_room }
     {
         let mut accepted: u16 = 0;
         for done in 0..count {
-            if !self.play_next(queue, sequence, &mut accepted, memory, disk, room) {
+            if !self.play_next(backend, sequence, &mut accepted, memory, disk, room) {
                 return done > 0;
             }
         }

@@ -1,9 +1,10 @@
-ghost use Rattle.std.specs.Prelude.{◌≡◌, ◌<◌, ◌-◌, ◌^◌, [], IfOk};
+ghost use Rattle.std.specs.Prelude.{◌≡◌, ◌<◌, ◌-◌, ◌^◌, [], IfOk, option_map};
 ghost use Rattle.vub_schedule.specs.Spelling.{IsHeader, IsEvent};
 
 use crate::machine::Machine;
 use std::alloc::Global;
 use std::marker::Model;
+use vub_backend::Backend;
 use vub_base::standard::SECTOR_SIZE;
 use vub_base::{Header1, Memory};
 use vub_report::Record;
@@ -32,7 +33,7 @@ impl World {
     ghost use Rattle.std.specs.Borrow.{sem};
     ghost use Rattle.vub_memdisk.specs.MemDisks.{values_of};
     ghost use Rattle.vub_world.specs.MachineAt.{StandsFor};
-    ghost use Rattle.vub_world.specs.World.{header_in, disk_in, offers_in, LendsRecord};
+    ghost use Rattle.vub_world.specs.World.{header_in, disk_in, backend_in, offers_in, LendsRecord};
 
     /// A world in which nothing has happened: memory and disk are zero, but for avail.idx and used.idx of
     /// each queue, which stand at the base.
@@ -55,6 +56,13 @@ impl World {
         ensures* after { sem 𝓛 (LendsRecord self.entry event.now result) }
     {
         self.machine.event(event)
+    }
+
+    /// The backend of the life of the device, if there is one.
+    pub fn backend(&self) -> Option<&Backend>
+        ensures { option_map (λ b. b.now) result ≡ backend_in self.now }
+    {
+        self.machine.backend()
     }
 
     /// The value of a sector now.

@@ -1,19 +1,22 @@
-use Rattle.std.proofs.Common.{◌≡◌, ℕ, Bool, true, length, refl, ap, subst}
-use Rattle.std.specs.Prelude.{if◌then◌else◌}
-use Rattle.vub_room.specs.Rooms.{HasTurnRoom}
-use Rattle.vub_queue.specs.QueueState.{state_of}
-use Rattle.vub_world.specs.MachineDevice.{is_index, is_showing}
+use Rattle.std.proofs.Common.{◌≡◌, ◌∙◌, ℕ, Bool, true, length, refl, ap, sym, subst}
+use Rattle.std.specs.Prelude.{if◌then◌else◌, Option, Some, None, IfSome, option_map}
+use Rattle.vub_room.specs.Rooms.{HasTurnRoom, SpendsUpTo}
+use Rattle.vub_shared.specs.Watched.{bytes_in}
+use Rattle.vub_queue.specs.QueueState.{QueueState, state_of}
+use Rattle.vub_world.specs.Fronts.{queue_of}
+use Rattle.vub_world.specs.MachineDevice.{is_index, is_showing, queue_shows, queue_shown, ShownFits, ShowsSome}
 use Rattle.vub_world.proofs.MachineNotes.{spends_up}
 use Rattle.vub_world.proofs.front.Front.answers.Goals as goal
 
 pub batch_answers-requires-clause-fits : goal.batch_answers-requires-clause-fits
-batch_answers-requires-clause-fits c = c.requires.fits (ap is_index (c.if-shows_next.ensures.0 refl))
+batch_answers-requires-clause-fits c =
+    let lent : queue_of c.args.self.now c.args.backend.now ≡ Some (state_of c.in-Some.queue.now) = sym c.queue.ensures ∙ ap (λ r. option_map (λ q. state_of q.now) r) c.in-Some.is in
+    let fits : ShownFits c.args.self.now.outstanding (state_of c.in-Some.queue.now) = subst (λ (o : Option QueueState). IfSome o (ShownFits c.args.self.now.outstanding)) lent c.requires.fits in
+    fits (ap is_index (c.if-shows_next.ensures.0 refl))
 
 pub batch_answers-requires-clause-room : goal.batch_answers-requires-clause-room
 batch_answers-requires-clause-room c =
-    let state = state_of c.args.queue.now in
+    let state : QueueState = state_of c.in-Some.queue.now in
+    let lent : queue_of c.args.self.now c.args.backend.now ≡ Some state = sym c.queue.ensures ∙ ap (λ r. option_map (λ q. state_of q.now) r) c.in-Some.is in
     let shows : is_showing state ≡ true = ap is_index (c.if-shows_next.ensures.0 refl) in
-    subst (λ (k : ℕ). HasTurnRoom k c.args.room.now) (ap (λ (b : Bool). if b then length state.batch else 0) shows) c.requires.room
-
-pub returns-then-shows_next-clause-room : goal.returns-then-shows_next-clause-room
-returns-then-shows_next-clause-room c = spends_up (state_of c.args.queue.now) c.args.room.now c.batch_answers.new.room (c.if-shows_next.ensures.0 refl) c.requires.some c.batch_answers.ensures.room
+    subst (λ (k : ℕ). HasTurnRoom k c.args.room.now) (ap queue_shows lent ∙ ap (λ (b : Bool). if b then length state.batch else 0) shows) c.requires.room

@@ -1,7 +1,7 @@
 use Rattle.std.proofs.Common.{◌≡◌, sym, ◌∙◌, true, false, not, Bool, ◌+◌, ℕ, ap, subst}
 use Rattle.vub_steps.specs.declared.readiness.Choice.{Choice}
 use Rattle.vub_steps.specs.declared.readiness.Turn.{Turn}
-use Rattle.vub_world.specs.Fronts.{Parts, parts}
+use Rattle.vub_world.specs.Fronts.{Parts, parts_in}
 use Rattle.vub_queue.specs.declared.queue.Stepped.{Stepped}
 use Rattle.vub_world.specs.Sequences.{next_turn}
 use Rattle.vub_world.specs.MachineDevice.{accepts, turn_here}
@@ -13,8 +13,8 @@ use Rattle.vub_world.proofs.front.Front.play_next.Goals.{then-matches, else-matc
 pub returns-clause-goes : goal.returns-clause-goes
 returns-clause-goes c m reached at small =
     let q : ℕ = c.args.self.now.index in
-    let w : Parts = parts c.args.memory.now c.args.self.now c.args.queue.now c.args.disk.now in
-    let now : Parts = parts c.play-stepped.new.memory c.args.self.now c.play-stepped.new.queue c.play-stepped.new.disk in
+    let w : Parts = parts_in c.args.memory.now c.args.self.now c.args.backend.now c.args.disk.now in
+    let now : Parts = parts_in c.play-stepped.new.memory c.args.self.now c.play-stepped.new.backend c.play-stepped.new.disk in
     let x : Stepped = c.play-stepped.result in
     let taken : ℕ = c.args.accepted.now in
     let t : Turn = turn_here q w.front.header c.next.result m in

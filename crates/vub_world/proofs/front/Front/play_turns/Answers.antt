@@ -2,7 +2,7 @@ use Rattle.std.proofs.Common.{◌≡◌, ◌∙◌, arith, refl, suc, ◌+◌, �
 use Rattle.std.specs.Prelude.{nat_lt}
 use Rattle.std.proofs.lemmas.Bool.Decides.{nat_tests}
 use Rattle.vub_base.specs.declared.header.Header1.{Header1}
-use Rattle.vub_world.specs.Fronts.{Parts, parts}
+use Rattle.vub_world.specs.Fronts.{Parts, parts_in}
 use Rattle.vub_run.specs.Moments.{Moment}
 use Rattle.vub_world.specs.MachineSteps.{turns_besides}
 use Rattle.vub_world.proofs.MachineLoops.{TurnsAt, EndsAt, room_of, undone_few, turns_begin, turns_taken, room_left, turn_room, turns_go_on, turns_stop, turns_all, reached, so_far}
@@ -12,11 +12,12 @@ use Rattle.vub_world.proofs.front.Front.play_turns.Goals as goal
 
 pub loop-done-init : goal.loop-done-init
 loop-done-init c = record {
+  backend = c.requires.backend;
   sound = c.requires.sound;
   sizes = λ s. refl;
   goes = λ es rs m stands at.
       let q : ℕ = c.args.self.now.index in
-      let w : Parts = parts c.args.memory.now c.args.self.now c.args.queue.now c.args.disk.now in
+      let w : Parts = parts_in c.args.memory.now c.args.self.now c.args.backend.now c.args.disk.now in
       turns_begin q w.front.header c.args.sequence m w c.args.room.now.items (room_of c.args.count w) (w.front.outstanding.offered - w.front.outstanding.collected) c.args.room.now at (undone_few q w.front.header m w (stands_good q w.front.header es rs m c.requires.sound.front.exists stands) at) c.requires.room;
   numbers = c.requires.numbers;
   idle = λ none. refl;
@@ -35,8 +36,8 @@ pub play_next-requires-clause-room : goal.play_next-requires-clause-room
 play_next-requires-clause-room c =
     let s = c.requires.stands in
     let q : ℕ = c.args.self.now.index in
-    let w : Parts = parts c.args.memory.now c.args.self.now c.args.queue.now c.args.disk.now in
-    let here : Parts = parts c.loop-done.memory c.args.self.now c.loop-done.queue c.loop-done.disk in
+    let w : Parts = parts_in c.args.memory.now c.args.self.now c.args.backend.now c.args.disk.now in
+    let here : Parts = parts_in c.loop-done.memory c.args.self.now c.loop-done.backend c.loop-done.disk in
     let d = c.loop-done.invariant.goes s.0 s.1 s.2.0 s.2.1 s.2.2 in
     let few = undone_few q w.front.header s.2.0 w (stands_good q w.front.header s.0 s.1 s.2.0 c.requires.sound.front.exists s.2.1) s.2.2 in
     let bound = effort_bound q w.front.header s.2.0 (stands_good q w.front.header s.0 s.1 s.2.0 c.requires.sound.front.exists s.2.1) in
@@ -46,9 +47,9 @@ play_next-requires-clause-room c =
 pub returns-then-not-play_next-clause-turns : goal.returns-then-not-play_next-clause-turns
 returns-then-not-play_next-clause-turns c es rs m stands at =
     let q : ℕ = c.args.self.now.index in
-    let w : Parts = parts c.args.memory.now c.args.self.now c.args.queue.now c.args.disk.now in
-    let here : Parts = parts c.loop-done.memory c.args.self.now c.loop-done.queue c.loop-done.disk in
-    let now : Parts = parts c.play_next.new.memory c.args.self.now c.play_next.new.queue c.play_next.new.disk in
+    let w : Parts = parts_in c.args.memory.now c.args.self.now c.args.backend.now c.args.disk.now in
+    let here : Parts = parts_in c.loop-done.memory c.args.self.now c.loop-done.backend c.loop-done.disk in
+    let now : Parts = parts_in c.play_next.new.memory c.args.self.now c.play_next.new.backend c.play_next.new.disk in
     let d = c.loop-done.invariant.goes es rs m stands at in
     let n : Moment = (so_far q w.front.header c.args.sequence m c.loop-done.done).next in
     let there = reached q w.front.header c.args.sequence es rs m c.loop-done.done c.requires.sound.front.exists stands in
@@ -60,13 +61,14 @@ returns-then-not-play_next-clause-turns c es rs m stands at =
 
 pub loop-done-preserved : goal.loop-done-preserved
 loop-done-preserved c = record {
+  backend = c.play_next.ensures.backend;
   sound = c.play_next.ensures.sound;
   sizes = λ s. c.play_next.ensures.sizes s ∙ c.loop-done.invariant.sizes s;
   goes = λ es rs m stands at.
       let q : ℕ = c.args.self.now.index in
-      let w : Parts = parts c.args.memory.now c.args.self.now c.args.queue.now c.args.disk.now in
-      let here : Parts = parts c.loop-done.memory c.args.self.now c.loop-done.queue c.loop-done.disk in
-      let now : Parts = parts c.play_next.new.memory c.args.self.now c.play_next.new.queue c.play_next.new.disk in
+      let w : Parts = parts_in c.args.memory.now c.args.self.now c.args.backend.now c.args.disk.now in
+      let here : Parts = parts_in c.loop-done.memory c.args.self.now c.loop-done.backend c.loop-done.disk in
+      let now : Parts = parts_in c.play_next.new.memory c.args.self.now c.play_next.new.backend c.play_next.new.disk in
       let d = c.loop-done.invariant.goes es rs m stands at in
       let n : Moment = (so_far q w.front.header c.args.sequence m c.loop-done.done).next in
       let there = reached q w.front.header c.args.sequence es rs m c.loop-done.done c.requires.sound.front.exists stands in
@@ -85,8 +87,8 @@ loop-done-preserved c = record {
 pub returns-clause-turns : goal.returns-clause-turns
 returns-clause-turns c es rs m stands at =
     let q : ℕ = c.args.self.now.index in
-    let w : Parts = parts c.args.memory.now c.args.self.now c.args.queue.now c.args.disk.now in
-    let here : Parts = parts c.loop-done.memory c.args.self.now c.loop-done.queue c.loop-done.disk in
+    let w : Parts = parts_in c.args.memory.now c.args.self.now c.args.backend.now c.args.disk.now in
+    let here : Parts = parts_in c.loop-done.memory c.args.self.now c.loop-done.backend c.loop-done.disk in
     let d = c.loop-done.invariant.goes es rs m stands at in
     let all : c.loop-done.done ≡ c.args.count = omega (arith, c.loop-done-test.false, c.loop-done.auto.done-end) in
     let ends : EndsAt q w.front.header c.args.sequence es rs m (room_of c.args.count w) c.loop-done.done here c.args.room.now.items c.loop-done.room.items c.loop-done.accepted c.loop-done.room =

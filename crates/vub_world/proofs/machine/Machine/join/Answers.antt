@@ -1,4 +1,4 @@
-use Rattle.std.proofs.Common.{List, refl, ap, sym, ◌∙◌}
+use Rattle.std.proofs.Common.{List, ap, sym, ◌∙◌}
 use Rattle.vub_report.specs.declared.items.Item.{Item}
 use Rattle.vub_run.specs.Run.{played}
 use Rattle.vub_schedule.specs.declared.types.Event.TheVariants as events
@@ -10,7 +10,7 @@ use Rattle.vub_world.proofs.MachineStarts.{joining_on, joined_on, joined_sound, 
 use Rattle.vub_world.proofs.machine.Machine.join.Goals as goal
 
 pub returns-clause-sound : goal.returns-clause-sound
-returns-clause-sound c = joined_sound c.args.self.now _ c.in_ok-queues.queues.items c.requires.sound c.in_ok-queues.ensures refl (λ q. refl)
+returns-clause-sound c = joined_sound c.args.self.now _ c.requires.sound c.in_ok-new_backend.ensures.backend c.in_ok-new_backend.ensures.new
 
 pub returns-clause-performs : goal.returns-clause-performs
 returns-clause-performs c es rs m stands at =
@@ -18,7 +18,7 @@ returns-clause-performs c es rs m stands at =
     let new = joining_on w m c.requires.sound (sym c.is_joining.ensures ∙ c.if-not-is_joining.false) at in (
       joined m,
       ap (λ (is : List Item). played is (joined m)) c.nothing.ensures ∙ join_plays m new.0 new.1,
-      joined_on w _ c.in_ok-queues.queues.items es rs m c.requires.sound c.in_ok-queues.ensures (sym c.is_joining.ensures ∙ c.if-not-is_joining.false) (λ q. refl) stands at,
+      joined_on w _ es rs m c.requires.sound c.in_ok-new_backend.ensures.new (sym c.is_joining.ensures ∙ c.if-not-is_joining.false) stands at,
     )
 
 pub returns-then-not-is_joining-clause-performs : goal.returns-then-not-is_joining-clause-performs

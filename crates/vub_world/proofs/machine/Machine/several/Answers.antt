@@ -1,24 +1,18 @@
 use Rattle.std.proofs.Common.{◌≡◌, ◌<◌, ◌≤◌, [], ℕ, List, Bool, length, set, ap, sym, ◌∙◌, subst, arith}
 use Rattle.std.specs.Prelude.{Some, slice_get, get_or, min, ◌+◌, ◌*◌}
-use Rattle.std.specs.Vec.{with_item}
-use Rattle.std.proofs.lemmas.List.{length-set}
 use Rattle.vub_base.specs.declared.header.Header1.{Header1}
-use Rattle.vub_queue.specs.declared.queue.Queue.{Queue}
-use Rattle.vub_queue_in_run.proofs.WorkAtLists.{slice_get-set_same}
 use Rattle.vub_report.specs.declared.items.Item.{Item}
 use Rattle.vub_room.specs.Rooms.{RoomState, HasRoom}
 use Rattle.vub_run.specs.Run.{Stands}
 use Rattle.vub_world.specs.declared.front.Front.{Front}
-use Rattle.vub_world.specs.declared.machine.Life.{Life}
 use Rattle.vub_world.specs.declared.machine.Machine.{Machine}
-use Rattle.vub_world.specs.Fronts.{Parts, PartsSound, parts, parts_of}
-use Rattle.vub_world.specs.Lives.{queue_of}
-use Rattle.vub_world.specs.Machine.{IsSound, AreAttached, AreInLife}
+use Rattle.vub_world.specs.Fronts.{Parts, parts_in, parts_of}
+use Rattle.vub_world.specs.Machine.{IsSound}
 use Rattle.vub_world.specs.MachineAt.{MachineAt, PartsAt}
 use Rattle.vub_world.specs.MachineSteps.{TurnsGo, TurnsEvent, PlaysTurns, turns_besides}
 use Rattle.vub_world.proofs.MachineEvents.{ok_then}
 use Rattle.vub_world.proofs.MachineGuestCollects.{collects_within}
-use Rattle.vub_world.proofs.MachineParts.{TurnsBegin, HasTurned, found, parts_stand, turns_begin_at, turned_sound, turned_at, with_turned}
+use Rattle.vub_world.proofs.MachineParts.{TurnsBegin, found, parts_stand, turns_begin_at, turned_sound, turned_at, with_turned}
 use Rattle.vub_run_laws.proofs.Runs.{plain_header}
 use Rattle.vub_world.proofs.MachineLoops.{besides_small}
 use Rattle.vub_world.proofs.MachineStarts.{unattached_on}
@@ -54,6 +48,16 @@ returns-then-not-is_attached-clause-plays c =
     (λ is noted es rs m s at. several_none c.args.queue w.header (MachineAt w) c.args.sequence c.args.count m is (unattached_on w c.args.queue es rs m c.requires.sound c.requires.exists (sym c.is_attached.ensures ∙ c.if-not-is_attached.true) s at) at noted)
     c.idle.ensures
 
+pub play_turns-made-requires-clause-backend : goal.play_turns-made-requires-clause-backend
+play_turns-made-requires-clause-backend c =
+    let w : Machine = c.args.self.now in
+    let q : ℕ = c.args.queue in
+    let f : Front = c.index-front.result.now in
+    let sound : IsSound w = c.requires.sound in
+    let is : slice_get w.fronts.items q ≡ Some f = found w.fronts.items q f (omega (arith, c.requires.exists, sound.many)) (c.index-front.ensures ∙ ap (λ (k : ℕ). get_or w.fronts.items k f) c.from-place.ensures) in
+    let b : TurnsBegin w q f c.in-Some.backend = turns_begin_at w q f c.in-Some.backend sound c.requires.stands is c.in-Some.is in
+    b.backend
+
 pub play_turns-made-requires-clause-sound : goal.play_turns-made-requires-clause-sound
 play_turns-made-requires-clause-sound c =
     let w : Machine = c.args.self.now in
@@ -61,12 +65,7 @@ play_turns-made-requires-clause-sound c =
     let f : Front = c.index-front.result.now in
     let sound : IsSound w = c.requires.sound in
     let is : slice_get w.fronts.items q ≡ Some f = found w.fronts.items q f (omega (arith, c.requires.exists, sound.many)) (c.index-front.ensures ∙ ap (λ (k : ℕ). get_or w.fronts.items k f) c.from-place.ensures) in
-    let u : Queue = c.index_mut.result.now in
-    let k : Life = c.in-Some-Some.field-0 in
-    let joined : k.queues ≡ Some c.in-Some-Some.queues = search in
-    let many : length c.in-Some-Some.queues.items ≡ w.header.queues = subst (λ o. AreAttached w.header.queues o) joined (subst (λ o. AreInLife w.header.queues o) c.in-Some-Some.is sound.attached) in
-    let there : slice_get c.in-Some-Some.queues.items q ≡ Some u = found c.in-Some-Some.queues.items q u (omega (arith, c.requires.exists, many)) (c.index_mut.ensures.value ∙ ap (λ (j : ℕ). get_or c.in-Some-Some.queues.items j u) c.from-place.ensures) in
-    let b : TurnsBegin w q f u = turns_begin_at w q f k c.in-Some-Some.queues.items u sound c.requires.stands is c.in-Some-Some.is (ap (queue_of q) joined) there in
+    let b : TurnsBegin w q f c.in-Some.backend = turns_begin_at w q f c.in-Some.backend sound c.requires.stands is c.in-Some.is in
     b.sound
 
 pub play_turns-made-requires-clause-stands : goal.play_turns-made-requires-clause-stands
@@ -76,12 +75,7 @@ play_turns-made-requires-clause-stands c =
     let f : Front = c.index-front.result.now in
     let sound : IsSound w = c.requires.sound in
     let is : slice_get w.fronts.items q ≡ Some f = found w.fronts.items q f (omega (arith, c.requires.exists, sound.many)) (c.index-front.ensures ∙ ap (λ (k : ℕ). get_or w.fronts.items k f) c.from-place.ensures) in
-    let u : Queue = c.index_mut.result.now in
-    let k : Life = c.in-Some-Some.field-0 in
-    let joined : k.queues ≡ Some c.in-Some-Some.queues = search in
-    let many : length c.in-Some-Some.queues.items ≡ w.header.queues = subst (λ o. AreAttached w.header.queues o) joined (subst (λ o. AreInLife w.header.queues o) c.in-Some-Some.is sound.attached) in
-    let there : slice_get c.in-Some-Some.queues.items q ≡ Some u = found c.in-Some-Some.queues.items q u (omega (arith, c.requires.exists, many)) (c.index_mut.ensures.value ∙ ap (λ (j : ℕ). get_or c.in-Some-Some.queues.items j u) c.from-place.ensures) in
-    let b : TurnsBegin w q f u = turns_begin_at w q f k c.in-Some-Some.queues.items u sound c.requires.stands is c.in-Some-Some.is (ap (queue_of q) joined) there in
+    let b : TurnsBegin w q f c.in-Some.backend = turns_begin_at w q f c.in-Some.backend sound c.requires.stands is c.in-Some.is in
     b.stands
 
 pub play_turns-made-requires-clause-room : goal.play_turns-made-requires-clause-room
@@ -91,12 +85,7 @@ play_turns-made-requires-clause-room c =
     let f : Front = c.index-front.result.now in
     let sound : IsSound w = c.requires.sound in
     let is : slice_get w.fronts.items q ≡ Some f = found w.fronts.items q f (omega (arith, c.requires.exists, sound.many)) (c.index-front.ensures ∙ ap (λ (k : ℕ). get_or w.fronts.items k f) c.from-place.ensures) in
-    let u : Queue = c.index_mut.result.now in
-    let k : Life = c.in-Some-Some.field-0 in
-    let joined : k.queues ≡ Some c.in-Some-Some.queues = search in
-    let many : length c.in-Some-Some.queues.items ≡ w.header.queues = subst (λ o. AreAttached w.header.queues o) joined (subst (λ o. AreInLife w.header.queues o) c.in-Some-Some.is sound.attached) in
-    let there : slice_get c.in-Some-Some.queues.items q ≡ Some u = found c.in-Some-Some.queues.items q u (omega (arith, c.requires.exists, many)) (c.index_mut.ensures.value ∙ ap (λ (j : ℕ). get_or c.in-Some-Some.queues.items j u) c.from-place.ensures) in
-    let b : TurnsBegin w q f u = turns_begin_at w q f k c.in-Some-Some.queues.items u sound c.requires.stands is c.in-Some-Some.is (ap (queue_of q) joined) there in
+    let b : TurnsBegin w q f c.in-Some.backend = turns_begin_at w q f c.in-Some.backend sound c.requires.stands is c.in-Some.is in
     let besides : c.turns_besides-besides.result ≡ turns_besides f.header.size = c.turns_besides-besides.ensures ∙ ap (λ (h : Header1). turns_besides h.size) (sym b.header) in
     subst (λ (n : ℕ). HasRoom (min c.args.count (27 * n + turns_besides f.header.size)) n c.in_ok-room.room) c.count-undone.ensures
     (subst (λ (n : ℕ). HasRoom (min c.args.count (27 * c.count-undone.result + n)) c.count-undone.result c.in_ok-room.room) besides c.in_ok-room.ensures.room)
@@ -111,19 +100,8 @@ returns-clause-sound c =
     let f : Front = c.index-front.result.now in
     let sound : IsSound w = c.requires.sound in
     let is : slice_get w.fronts.items q ≡ Some f = found w.fronts.items q f (omega (arith, c.requires.exists, sound.many)) (c.index-front.ensures ∙ ap (λ (k : ℕ). get_or w.fronts.items k f) c.from-place.ensures) in
-    let u : Queue = c.index_mut.result.now in
-    let k : Life = c.in-Some-Some.field-0 in
-    let joined : k.queues ≡ Some c.in-Some-Some.queues = search in
-    let many : length c.in-Some-Some.queues.items ≡ w.header.queues = subst (λ o. AreAttached w.header.queues o) joined (subst (λ o. AreInLife w.header.queues o) c.in-Some-Some.is sound.attached) in
-    let there : slice_get c.in-Some-Some.queues.items q ≡ Some u = found c.in-Some-Some.queues.items q u (omega (arith, c.requires.exists, many)) (c.index_mut.ensures.value ∙ ap (λ (j : ℕ). get_or c.in-Some-Some.queues.items j u) c.from-place.ensures) in
-    let b : TurnsBegin w q f u = turns_begin_at w q f k c.in-Some-Some.queues.items u sound c.requires.stands is c.in-Some-Some.is (ap (queue_of q) joined) there in
-    let u' : Queue = c.play_turns-made.new.queue in
-    let within : q < length c.in-Some-Some.queues.items = omega (arith, c.requires.exists, many) in
-    let has : HasTurned w q (record { queues = Some (with_item c.in-Some-Some.queues c.from-place.result u') }) u' = record {
-      many = length-set c.in-Some-Some.queues.items c.from-place.result u' ∙ many;
-      there = ap (λ (j : ℕ). slice_get (set c.in-Some-Some.queues.items j u') q) c.from-place.ensures ∙ slice_get-set_same c.in-Some-Some.queues.items q u' within;
-    } in
-    turned_sound w c.play_turns-made.new.memory q (record { queues = Some (with_item c.in-Some-Some.queues c.from-place.result u') }) u' c.play_turns-made.new.disk f sound is has (subst (λ (j : ℕ). PartsSound j (parts c.play_turns-made.new.memory f u' c.play_turns-made.new.disk)) b.index c.play_turns-made.ensures.sound)
+    let b : TurnsBegin w q f c.in-Some.backend = turns_begin_at w q f c.in-Some.backend sound c.requires.stands is c.in-Some.is in
+    turned_sound w c.play_turns-made.new.memory q c.play_turns-made.new.backend c.play_turns-made.new.disk f sound is b.index c.play_turns-made.ensures.backend c.play_turns-made.ensures.sound
 
 pub returns-clause-plays : goal.returns-clause-plays
 returns-clause-plays c es rs m stands at =
@@ -132,20 +110,9 @@ returns-clause-plays c es rs m stands at =
     let f : Front = c.index-front.result.now in
     let sound : IsSound w = c.requires.sound in
     let is : slice_get w.fronts.items q ≡ Some f = found w.fronts.items q f (omega (arith, c.requires.exists, sound.many)) (c.index-front.ensures ∙ ap (λ (k : ℕ). get_or w.fronts.items k f) c.from-place.ensures) in
-    let u : Queue = c.index_mut.result.now in
-    let k : Life = c.in-Some-Some.field-0 in
-    let joined : k.queues ≡ Some c.in-Some-Some.queues = search in
-    let many : length c.in-Some-Some.queues.items ≡ w.header.queues = subst (λ o. AreAttached w.header.queues o) joined (subst (λ o. AreInLife w.header.queues o) c.in-Some-Some.is sound.attached) in
-    let there : slice_get c.in-Some-Some.queues.items q ≡ Some u = found c.in-Some-Some.queues.items q u (omega (arith, c.requires.exists, many)) (c.index_mut.ensures.value ∙ ap (λ (j : ℕ). get_or c.in-Some-Some.queues.items j u) c.from-place.ensures) in
-    let b : TurnsBegin w q f u = turns_begin_at w q f k c.in-Some-Some.queues.items u sound c.requires.stands is c.in-Some-Some.is (ap (queue_of q) joined) there in
-    let u' : Queue = c.play_turns-made.new.queue in
-    let within : q < length c.in-Some-Some.queues.items = omega (arith, c.requires.exists, many) in
-    let has : HasTurned w q (record { queues = Some (with_item c.in-Some-Some.queues c.from-place.result u') }) u' = record {
-      many = length-set c.in-Some-Some.queues.items c.from-place.result u' ∙ many;
-      there = ap (λ (j : ℕ). slice_get (set c.in-Some-Some.queues.items j u') q) c.from-place.ensures ∙ slice_get-set_same c.in-Some-Some.queues.items q u' within;
-    } in
+    let b : TurnsBegin w q f c.in-Some.backend = turns_begin_at w q f c.in-Some.backend sound c.requires.stands is c.in-Some.is in
     let i : ℕ = f.index in
-    let n : Parts = parts c.play_turns-made.new.memory f u' c.play_turns-made.new.disk in
+    let n : Parts = parts_in c.play_turns-made.new.memory f c.play_turns-made.new.backend c.play_turns-made.new.disk in
     let after : List Item = c.play_turns-made.new.room.items in
     let s : Stands f.header es rs m = subst (λ (h : Header1). Stands h es rs m) (sym b.header) stands in
     let goes : TurnsGo i f.header c.play_turns-made.result c.args.sequence c.args.count (PartsAt i n) m [] after =
@@ -158,6 +125,6 @@ returns-clause-plays c es rs m stands at =
           several_made i f.header (PartsAt i n) c.args.sequence c.args.count m after c.finish.result (subst (λ (some : Bool). TurnsGo i f.header some c.args.sequence c.args.count (PartsAt i n) m [] after) e.if-not-made.false goes)
           (c.finish.ensures ∙ ap (λ (r : RoomState). r.items) e.room-is)
     ] in
-    turns_event_as q w.header c.args.sequence c.args.count (PartsAt i n) (MachineAt (with_turned w c.play_turns-made.new.memory (record { queues = Some (with_item c.in-Some-Some.queues c.from-place.result u') }) c.play_turns-made.new.disk)) m c.finish.result
-    (λ next there_at. turned_at w c.play_turns-made.new.memory q (record { queues = Some (with_item c.in-Some-Some.queues c.from-place.result u') }) u' c.play_turns-made.new.disk f sound is has next (subst (λ (j : ℕ). PartsAt j n next) b.index there_at))
+    turns_event_as q w.header c.args.sequence c.args.count (PartsAt i n) (MachineAt (with_turned w c.play_turns-made.new.memory c.play_turns-made.new.backend c.play_turns-made.new.disk)) m c.finish.result
+    (λ next there_at. turned_at w c.play_turns-made.new.memory q c.play_turns-made.new.backend c.play_turns-made.new.disk f sound is b.index next there_at)
     (turns_event_of i q f.header w.header c.args.sequence c.args.count (PartsAt i n) m c.finish.result b.index b.header made)

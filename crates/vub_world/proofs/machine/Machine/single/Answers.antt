@@ -1,29 +1,23 @@
 use Rattle.std.proofs.Common.{◌≡◌, ◌<◌, ◌≤◌, ◌+◌, ◌*◌, [], ℕ, List, Bool, not, min, length, set, ap, sym, ◌∙◌, subst, arith}
 use Rattle.std.specs.Prelude.{Some, slice_get, get_or}
-use Rattle.std.specs.Vec.{with_item}
-use Rattle.std.proofs.lemmas.List.{length-set}
 use Rattle.vub_base.specs.declared.header.Header1.{Header1}
 use Rattle.vub_queue.specs.QueueState.{is_idle}
-use Rattle.vub_queue.specs.declared.queue.Queue.{Queue}
 use Rattle.vub_queue.specs.declared.queue.Stepped.{Stepped}
-use Rattle.vub_queue_in_run.proofs.WorkAtLists.{slice_get-set_same}
 use Rattle.vub_report.specs.declared.items.Item.{Item}
 use Rattle.vub_room.specs.Rooms.{RoomState, HasRoom}
 use Rattle.vub_run.specs.Moments.{Moment}
 use Rattle.vub_run.specs.Run.{Stands, played, single}
 use Rattle.vub_steps.specs.declared.readiness.Turn.{Turn}
 use Rattle.vub_world.specs.declared.front.Front.{Front}
-use Rattle.vub_world.specs.declared.machine.Life.{Life}
 use Rattle.vub_world.specs.declared.machine.Machine.{Machine}
-use Rattle.vub_world.specs.Fronts.{Parts, PartsSound, parts, parts_of}
-use Rattle.vub_world.specs.Lives.{queue_of}
-use Rattle.vub_world.specs.Machine.{IsSound, AreAttached, AreInLife}
+use Rattle.vub_world.specs.Fronts.{Parts, parts_in, parts_of}
+use Rattle.vub_world.specs.Machine.{IsSound}
 use Rattle.vub_world.specs.MachineAt.{MachineAt, PartsAt}
 use Rattle.vub_world.specs.MachineDevice.{accepts}
 use Rattle.vub_world.specs.MachineSteps.{StepGoes, PlaysSingle}
 use Rattle.vub_world.proofs.MachineEvents.{ok_then}
 use Rattle.vub_world.proofs.MachineGuestCollects.{collects_within}
-use Rattle.vub_world.proofs.MachineParts.{TurnsBegin, HasTurned, found, parts_stand, turns_begin_at, turned_sound, turned_at, with_turned}
+use Rattle.vub_world.proofs.MachineParts.{TurnsBegin, found, parts_stand, turns_begin_at, turned_sound, turned_at, with_turned}
 use Rattle.vub_run_laws.proofs.Runs.{plain_header}
 use Rattle.vub_world.proofs.MachineLoops.{besides_small, besides_some}
 use Rattle.vub_world.proofs.MachineStarts.{unattached_on}
@@ -59,6 +53,16 @@ returns-then-not-is_attached-clause-plays c =
     (λ is noted es rs m s at. single_none c.args.queue w.header (MachineAt w) c.args.turn m is (unattached_on w c.args.queue es rs m c.requires.sound c.requires.exists (sym c.is_attached.ensures ∙ c.if-not-is_attached.true) s at) at noted)
     c.idle.ensures
 
+pub play-stepped-requires-clause-backend : goal.play-stepped-requires-clause-backend
+play-stepped-requires-clause-backend c =
+    let w : Machine = c.args.self.now in
+    let q : ℕ = c.args.queue in
+    let f : Front = c.index-front.result.now in
+    let sound : IsSound w = c.requires.sound in
+    let is : slice_get w.fronts.items q ≡ Some f = found w.fronts.items q f (omega (arith, c.requires.exists, sound.many)) (c.index-front.ensures ∙ ap (λ (k : ℕ). get_or w.fronts.items k f) c.from-place.ensures) in
+    let b : TurnsBegin w q f c.in-Some.backend = turns_begin_at w q f c.in-Some.backend sound c.requires.stands is c.in-Some.is in
+    b.backend
+
 pub play-stepped-requires-clause-sound : goal.play-stepped-requires-clause-sound
 play-stepped-requires-clause-sound c =
     let w : Machine = c.args.self.now in
@@ -66,12 +70,7 @@ play-stepped-requires-clause-sound c =
     let f : Front = c.index-front.result.now in
     let sound : IsSound w = c.requires.sound in
     let is : slice_get w.fronts.items q ≡ Some f = found w.fronts.items q f (omega (arith, c.requires.exists, sound.many)) (c.index-front.ensures ∙ ap (λ (k : ℕ). get_or w.fronts.items k f) c.from-place.ensures) in
-    let u : Queue = c.index_mut.result.now in
-    let k : Life = c.in-Some-Some.field-0 in
-    let joined : k.queues ≡ Some c.in-Some-Some.queues = search in
-    let many : length c.in-Some-Some.queues.items ≡ w.header.queues = subst (λ o. AreAttached w.header.queues o) joined (subst (λ o. AreInLife w.header.queues o) c.in-Some-Some.is sound.attached) in
-    let there : slice_get c.in-Some-Some.queues.items q ≡ Some u = found c.in-Some-Some.queues.items q u (omega (arith, c.requires.exists, many)) (c.index_mut.ensures.value ∙ ap (λ (j : ℕ). get_or c.in-Some-Some.queues.items j u) c.from-place.ensures) in
-    let b : TurnsBegin w q f u = turns_begin_at w q f k c.in-Some-Some.queues.items u sound c.requires.stands is c.in-Some-Some.is (ap (queue_of q) joined) there in
+    let b : TurnsBegin w q f c.in-Some.backend = turns_begin_at w q f c.in-Some.backend sound c.requires.stands is c.in-Some.is in
     b.sound
 
 pub play-stepped-requires-clause-stands : goal.play-stepped-requires-clause-stands
@@ -81,13 +80,8 @@ play-stepped-requires-clause-stands c =
     let f : Front = c.index-front.result.now in
     let sound : IsSound w = c.requires.sound in
     let is : slice_get w.fronts.items q ≡ Some f = found w.fronts.items q f (omega (arith, c.requires.exists, sound.many)) (c.index-front.ensures ∙ ap (λ (k : ℕ). get_or w.fronts.items k f) c.from-place.ensures) in
-    let u : Queue = c.index_mut.result.now in
-    let k : Life = c.in-Some-Some.field-0 in
-    let joined : k.queues ≡ Some c.in-Some-Some.queues = search in
-    let many : length c.in-Some-Some.queues.items ≡ w.header.queues = subst (λ o. AreAttached w.header.queues o) joined (subst (λ o. AreInLife w.header.queues o) c.in-Some-Some.is sound.attached) in
-    let there : slice_get c.in-Some-Some.queues.items q ≡ Some u = found c.in-Some-Some.queues.items q u (omega (arith, c.requires.exists, many)) (c.index_mut.ensures.value ∙ ap (λ (j : ℕ). get_or c.in-Some-Some.queues.items j u) c.from-place.ensures) in
-    let b : TurnsBegin w q f u = turns_begin_at w q f k c.in-Some-Some.queues.items u sound c.requires.stands is c.in-Some-Some.is (ap (queue_of q) joined) there in
-    standing_reached f.index (parts w.memory f u w.disk) b.stands
+    let b : TurnsBegin w q f c.in-Some.backend = turns_begin_at w q f c.in-Some.backend sound c.requires.stands is c.in-Some.is in
+    standing_reached f.index (parts_in w.memory f c.in-Some.backend w.disk) b.stands
 
 pub play-stepped-requires-clause-room : goal.play-stepped-requires-clause-room
 play-stepped-requires-clause-room c =
@@ -96,15 +90,10 @@ play-stepped-requires-clause-room c =
     let f : Front = c.index-front.result.now in
     let sound : IsSound w = c.requires.sound in
     let is : slice_get w.fronts.items q ≡ Some f = found w.fronts.items q f (omega (arith, c.requires.exists, sound.many)) (c.index-front.ensures ∙ ap (λ (k : ℕ). get_or w.fronts.items k f) c.from-place.ensures) in
-    let u : Queue = c.index_mut.result.now in
-    let k : Life = c.in-Some-Some.field-0 in
-    let joined : k.queues ≡ Some c.in-Some-Some.queues = search in
-    let many : length c.in-Some-Some.queues.items ≡ w.header.queues = subst (λ o. AreAttached w.header.queues o) joined (subst (λ o. AreInLife w.header.queues o) c.in-Some-Some.is sound.attached) in
-    let there : slice_get c.in-Some-Some.queues.items q ≡ Some u = found c.in-Some-Some.queues.items q u (omega (arith, c.requires.exists, many)) (c.index_mut.ensures.value ∙ ap (λ (j : ℕ). get_or c.in-Some-Some.queues.items j u) c.from-place.ensures) in
-    let b : TurnsBegin w q f u = turns_begin_at w q f k c.in-Some-Some.queues.items u sound c.requires.stands is c.in-Some-Some.is (ap (queue_of q) joined) there in
+    let b : TurnsBegin w q f c.in-Some.backend = turns_begin_at w q f c.in-Some.backend sound c.requires.stands is c.in-Some.is in
     let besides : ℕ = c.turns_besides-besides.result in
     let some : 1 ≤ besides = subst (λ (n : ℕ). 1 ≤ n) (sym c.turns_besides-besides.ensures) (besides_some w.header.size) in
-    single_room f.index (parts w.memory f u w.disk) besides c.in_ok-room.room some b.stands (subst (λ (n : ℕ). HasRoom (min 1 (27 * n + besides)) n c.in_ok-room.room) c.count-undone.ensures c.in_ok-room.ensures.room)
+    single_room f.index (parts_in w.memory f c.in-Some.backend w.disk) besides c.in_ok-room.room some b.stands (subst (λ (n : ℕ). HasRoom (min 1 (27 * n + besides)) n c.in_ok-room.room) c.count-undone.ensures c.in_ok-room.ensures.room)
 
 pub play-stepped-requires-clause-numbers : goal.play-stepped-requires-clause-numbers
 play-stepped-requires-clause-numbers c stopped = subst (λ (n : ℕ). n ≤ c.in_ok-room.room.numbers) c.count-undone.ensures c.in_ok-room.ensures.numbers
@@ -116,19 +105,8 @@ returns-clause-sound c =
     let f : Front = c.index-front.result.now in
     let sound : IsSound w = c.requires.sound in
     let is : slice_get w.fronts.items q ≡ Some f = found w.fronts.items q f (omega (arith, c.requires.exists, sound.many)) (c.index-front.ensures ∙ ap (λ (k : ℕ). get_or w.fronts.items k f) c.from-place.ensures) in
-    let u : Queue = c.index_mut.result.now in
-    let k : Life = c.in-Some-Some.field-0 in
-    let joined : k.queues ≡ Some c.in-Some-Some.queues = search in
-    let many : length c.in-Some-Some.queues.items ≡ w.header.queues = subst (λ o. AreAttached w.header.queues o) joined (subst (λ o. AreInLife w.header.queues o) c.in-Some-Some.is sound.attached) in
-    let there : slice_get c.in-Some-Some.queues.items q ≡ Some u = found c.in-Some-Some.queues.items q u (omega (arith, c.requires.exists, many)) (c.index_mut.ensures.value ∙ ap (λ (j : ℕ). get_or c.in-Some-Some.queues.items j u) c.from-place.ensures) in
-    let b : TurnsBegin w q f u = turns_begin_at w q f k c.in-Some-Some.queues.items u sound c.requires.stands is c.in-Some-Some.is (ap (queue_of q) joined) there in
-    let u' : Queue = c.play-stepped.new.queue in
-    let within : q < length c.in-Some-Some.queues.items = omega (arith, c.requires.exists, many) in
-    let has : HasTurned w q (record { queues = Some (with_item c.in-Some-Some.queues c.from-place.result u') }) u' = record {
-      many = length-set c.in-Some-Some.queues.items c.from-place.result u' ∙ many;
-      there = ap (λ (j : ℕ). slice_get (set c.in-Some-Some.queues.items j u') q) c.from-place.ensures ∙ slice_get-set_same c.in-Some-Some.queues.items q u' within;
-    } in
-    turned_sound w c.play-stepped.new.memory q (record { queues = Some (with_item c.in-Some-Some.queues c.from-place.result u') }) u' c.play-stepped.new.disk f sound is has (subst (λ (j : ℕ). PartsSound j (parts c.play-stepped.new.memory f u' c.play-stepped.new.disk)) b.index c.play-stepped.ensures.sound)
+    let b : TurnsBegin w q f c.in-Some.backend = turns_begin_at w q f c.in-Some.backend sound c.requires.stands is c.in-Some.is in
+    turned_sound w c.play-stepped.new.memory q c.play-stepped.new.backend c.play-stepped.new.disk f sound is b.index c.play-stepped.ensures.backend c.play-stepped.ensures.sound
 
 pub returns-clause-plays : goal.returns-clause-plays
 returns-clause-plays c es rs m stands at =
@@ -137,21 +115,10 @@ returns-clause-plays c es rs m stands at =
     let f : Front = c.index-front.result.now in
     let sound : IsSound w = c.requires.sound in
     let is : slice_get w.fronts.items q ≡ Some f = found w.fronts.items q f (omega (arith, c.requires.exists, sound.many)) (c.index-front.ensures ∙ ap (λ (k : ℕ). get_or w.fronts.items k f) c.from-place.ensures) in
-    let u : Queue = c.index_mut.result.now in
-    let k : Life = c.in-Some-Some.field-0 in
-    let joined : k.queues ≡ Some c.in-Some-Some.queues = search in
-    let many : length c.in-Some-Some.queues.items ≡ w.header.queues = subst (λ o. AreAttached w.header.queues o) joined (subst (λ o. AreInLife w.header.queues o) c.in-Some-Some.is sound.attached) in
-    let there : slice_get c.in-Some-Some.queues.items q ≡ Some u = found c.in-Some-Some.queues.items q u (omega (arith, c.requires.exists, many)) (c.index_mut.ensures.value ∙ ap (λ (j : ℕ). get_or c.in-Some-Some.queues.items j u) c.from-place.ensures) in
-    let b : TurnsBegin w q f u = turns_begin_at w q f k c.in-Some-Some.queues.items u sound c.requires.stands is c.in-Some-Some.is (ap (queue_of q) joined) there in
-    let u' : Queue = c.play-stepped.new.queue in
-    let within : q < length c.in-Some-Some.queues.items = omega (arith, c.requires.exists, many) in
-    let has : HasTurned w q (record { queues = Some (with_item c.in-Some-Some.queues c.from-place.result u') }) u' = record {
-      many = length-set c.in-Some-Some.queues.items c.from-place.result u' ∙ many;
-      there = ap (λ (j : ℕ). slice_get (set c.in-Some-Some.queues.items j u') q) c.from-place.ensures ∙ slice_get-set_same c.in-Some-Some.queues.items q u' within;
-    } in
+    let b : TurnsBegin w q f c.in-Some.backend = turns_begin_at w q f c.in-Some.backend sound c.requires.stands is c.in-Some.is in
     let i : ℕ = f.index in
-    let p : Parts = parts w.memory f u w.disk in
-    let n : Parts = parts c.play-stepped.new.memory f u' c.play-stepped.new.disk in
+    let p : Parts = parts_in w.memory f c.in-Some.backend w.disk in
+    let n : Parts = parts_in c.play-stepped.new.memory f c.play-stepped.new.backend c.play-stepped.new.disk in
     let x : Stepped = c.play-stepped.result in
     let t : Turn = c.args.turn in
     let after : List Item = c.play-stepped.new.room.items in
@@ -166,5 +133,5 @@ returns-clause-plays c es rs m stands at =
           single_made i t p n m after c.finish.result (accepts x) (subst (λ (idle : Bool). StepGoes i (not idle) t p n m [] after 0 (accepts x)) (sym c.is_idle.ensures ∙ e.if-is_idle.false) goes)
           (c.finish.ensures ∙ ap (λ (r : RoomState). r.items) e.room-is)
     ] in
-    single_as i q f.header w.header t (PartsAt i n) (MachineAt (with_turned w c.play-stepped.new.memory (record { queues = Some (with_item c.in-Some-Some.queues c.from-place.result u') }) c.play-stepped.new.disk)) m c.finish.result b.index b.header
-    (λ next there_at. turned_at w c.play-stepped.new.memory q (record { queues = Some (with_item c.in-Some-Some.queues c.from-place.result u') }) u' c.play-stepped.new.disk f sound is has next (subst (λ (j : ℕ). PartsAt j n next) b.index there_at)) made
+    single_as i q f.header w.header t (PartsAt i n) (MachineAt (with_turned w c.play-stepped.new.memory c.play-stepped.new.backend c.play-stepped.new.disk)) m c.finish.result b.index b.header
+    (λ next there_at. turned_at w c.play-stepped.new.memory q c.play-stepped.new.backend c.play-stepped.new.disk f sound is b.index next there_at) made
