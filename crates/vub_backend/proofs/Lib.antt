@@ -1,1 +1,2 @@
 mod BackendLemmas
+mod DrainLemmas
