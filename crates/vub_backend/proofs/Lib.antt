@@ -1,2 +1,3 @@
 pub mod BackendLemmas
+mod DrainLemmas
 pub mod StepLemmas

@@ -1,11 +1,12 @@
 -- The queues of a life of the device.
-use Rattle.std.specs.Prelude.{◌≡◌, ℕ, Bool, List, map, set, slice_get, Option, Some, None, option_map, is_some}
+use Rattle.std.specs.Prelude.{◌≡◌, ◌≢◌, ◌+◌, ◌-◌, ◌^◌, ◌⊎◌, ℕ, zero, suc, min, Bool, false, List, map, set, slice_get, Option, Some, None, option_map, is_some}
 use Rattle.vub_steps.specs.declared.readiness.Choice.{Choice}
+use Rattle.vub_steps.specs.declared.readiness.Choice.TheVariants.{Drain}
 use Rattle.vub_queue.specs.declared.queue.Queue.{Queue}
 use Rattle.vub_queue.specs.declared.queue.Stepped.{Stepped}
-use Rattle.vub_queue.specs.declared.queue.Stepped.TheVariants.{Idle}
+use Rattle.vub_queue.specs.declared.queue.Stepped.TheVariants.{Idle, Accepted}
 use Rattle.vub_queue.specs.declared.queue.QueueSetup.{QueueSetup}
-use Rattle.vub_queue.specs.QueueState.{QueueState, state_of, IsNew, QueueLies}
+use Rattle.vub_queue.specs.QueueState.{QueueState, state_of, IsNew, QueueLies, is_idle}
 use Rattle.vub_backend.specs.declared.backend.Backend.{Backend}
 use Rattle.vub_backend.specs.Turned.{Outside, Turned}
 
@@ -48,3 +49,29 @@ is_attached queues q = is_some (attached_in queues q)
 -- a queue that is set up so is attached in its place, and isn't started
 abbrev pub Attaches : QueueSetup → List (Option QueueState) → List (Option QueueState) → Type 0
 Attaches setup queues now = (s : QueueState) × IsNew setup s × (now ≡ set queues setup.index (Some s))
+
+-- the state of every other queue is as it was
+abbrev pub KeepsOthers : ℕ → List (Option QueueState) → List (Option QueueState) → Type 0
+KeepsOthers q queues now = (p : ℕ) → p ≢ q → attached_in now p ≡ attached_in queues p
+
+-- ---- drains
+
+-- how many requests a drain has accepted after one more step: a u16, which stays at its largest number
+abbrev pub accepted_after : Stepped → ℕ → ℕ
+accepted_after (Accepted head) accepted = min (accepted + 1) 65535
+accepted_after x accepted = accepted
+
+-- so many steps of a drain, none of them idle, lead to this, and it has accepted so many requests
+abbrev pub Drained : ℕ → ℕ → Outside → Outside → List (Option QueueState) → List (Option QueueState) → ℕ → Type 0
+Drained q zero before after queues now accepted = (now ≡ queues) × (after ≡ before) × (accepted ≡ 0)
+Drained q (suc n) before after queues now accepted = (mid : Outside) × (between : List (Option QueueState)) × (a : ℕ) × (x : Stepped)
+    × Drained q n before mid queues between a × Steps q (Drain a) mid after x between now × (is_idle x ≡ false) × (accepted ≡ accepted_after x a)
+
+-- a drain stops here where its next step is idle, or after 2^64 - 1 steps
+abbrev pub DrainEnds : ℕ → Outside → Outside → ℕ → ℕ → List (Option QueueState) → List (Option QueueState) → Type 0
+DrainEnds q before after count accepted queues now = Steps q (Drain accepted) before after Idle queues now ⊎ ((count ≡ 2 ^ 64 - 1) × (now ≡ queues) × (after ≡ before))
+
+-- a drain of queue q: so many steps that aren't idle, and then its end
+abbrev pub Drains : ℕ → Outside → Outside → ℕ → List (Option QueueState) → List (Option QueueState) → Type 0
+Drains q before after count queues now = (mid : Outside) × (between : List (Option QueueState)) × (accepted : ℕ)
+    × Drained q count before mid queues between accepted × DrainEnds q mid after count accepted between now

@@ -1,7 +1,7 @@
 //! A life of the device: the queues that it has attached, and their steps.
 ghost use Rattle.std.specs.Prelude.{◌≡◌, ◌<◌, ◌≤◌, ◌++◌, ◌∷◌, [], ℕ, IfSome, length, replicate, None, IfOk, OnOk, OnErr, option_map};
 ghost use Rattle.vub_queue.specs.QueueState.{state_of, QueueLies};
-ghost use Rattle.vub_backend.specs.Backends.{queues_of, attached_in, is_attached, Attaches, EachLies, StepsIn, Steps};
+ghost use Rattle.vub_backend.specs.Backends.{queues_of, attached_in, is_attached, Attaches, EachLies, StepsIn, Steps, KeepsOthers, accepted_after, Drains};
 ghost use Rattle.vub_backend.specs.Turned.{outside};
 
 use std::alloc::Global;
@@ -51,6 +51,16 @@ fn step_of<M: Shared, D: Disk, B: Bell>(
     match queue {
         Some(queue) => queue.turn(choice, mem, disk, bell),
         None => Stepped::Idle,
+    }
+}
+
+/// How many requests a drain has accepted after this step.
+fn accepted_after(stepped: Stepped, accepted: u16) -> u16
+    ensures { result ≡ accepted_after stepped accepted }
+{
+    match stepped {
+        Stepped::Accepted(_) => accepted.saturating_add(1),
+        _ => accepted,
     }
 }
 
@@ -111,11 +121,38 @@ impl Backend {
         requires { EachLies (M.sizes mem.old) (D.capacity disk.old) (queues_of self.old) }
         ensures steps { Steps queue choice (outside (M.told mem.old) (M.trail mem.old) (M.names mem.old) (M.handed mem.old) (M.sizes mem.old) (M.faults mem.old) (D.values disk.old) (D.stable disk.old) (D.capacity disk.old) (D.faults disk.old) (B.told bell.old) (B.faults bell.old)) (outside (M.told mem.new) (M.trail mem.new) (M.names mem.new) (M.handed mem.new) (M.sizes mem.new) (M.faults mem.new) (D.values disk.new) (D.stable disk.new) (D.capacity disk.new) (D.faults disk.new) (B.told bell.new) (B.faults bell.new)) result (queues_of self.old) (queues_of self.new) }
         ensures lies { EachLies (M.sizes mem.new) (D.capacity disk.new) (queues_of self.new) }
+        ensures others { KeepsOthers queue (queues_of self.old) (queues_of self.new) }
     {
         match self.queues.get_mut(usize::from(queue)) {
             Some(queue) => step_of(queue, choice, mem, disk, bell),
             None => Stepped::Idle,
         }
+    }
+
+    /// Repeats steps of the queue until one is `Idle`, and counts those before it, up to 2^64 - 1. Once it has
+    /// accepted as many requests as the queue has places it fetches no more. It is 0 where the queue isn't
+    /// attached or has stopped. Takes no memory.
+    pub fn drain<M: Shared, D: Disk, B: Bell>(
+        &mut self,
+        queue: u16,
+        mem: &mut M,
+        disk: &mut D,
+        bell: &mut B,
+    ) -> u64
+        requires { EachLies (M.sizes mem.old) (D.capacity disk.old) (queues_of self.old) }
+        ensures drains { Drains queue (outside (M.told mem.old) (M.trail mem.old) (M.names mem.old) (M.handed mem.old) (M.sizes mem.old) (M.faults mem.old) (D.values disk.old) (D.stable disk.old) (D.capacity disk.old) (D.faults disk.old) (B.told bell.old) (B.faults bell.old)) (outside (M.told mem.new) (M.trail mem.new) (M.names mem.new) (M.handed mem.new) (M.sizes mem.new) (M.faults mem.new) (D.values disk.new) (D.stable disk.new) (D.capacity disk.new) (D.faults disk.new) (B.told bell.new) (B.faults bell.new)) result (queues_of self.old) (queues_of self.new) }
+        ensures lies { EachLies (M.sizes mem.new) (D.capacity disk.new) (queues_of self.new) }
+        ensures others { KeepsOthers queue (queues_of self.old) (queues_of self.new) }
+    {
+        let mut accepted: u16 = 0;
+        for done in 0..u64::MAX {
+            let stepped = self.step(queue, Choice::Drain(accepted), mem, disk, bell);
+            if stepped.is_idle() {
+                return done;
+            }
+            accepted = accepted_after(stepped, accepted);
+        }
+        u64::MAX
     }
 
     /// Ends the life. Memory, region and disk stay.

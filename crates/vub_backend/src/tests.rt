@@ -62,6 +62,9 @@ fn a_step_is_one_of_its_queue(rt: HostRuntime) -> Result<(), Fail> {
     assert_eq!(rt; none, Stepped::Idle);
     let first = backend.step(1, Choice::Any, &mut memory, &mut NoDisk, &mut bell);
     assert_eq!(rt; first, Stepped::Stored(Tag::SI1));
+    assert_eq!(rt; backend.drain(0, &mut memory, &mut NoDisk, &mut bell), 0);
+    // The start goes on: an SI2 for each of the 4 descriptors, SI3, its bell and its end. No request waits.
+    assert_eq!(rt; backend.drain(1, &mut memory, &mut NoDisk, &mut bell), 7);
     backend.kill();
     Ok(())
 }

@@ -1,10 +1,11 @@
 use Rattle.std.proofs.Common.{ℕ, sym, subst}
 use Rattle.std.specs.Prelude.{Option, List, set, option_map}
 use Rattle.vub_queue.specs.declared.queue.Queue.{Queue}
-use Rattle.vub_queue.specs.QueueState.{state_of}
+use Rattle.vub_queue.specs.QueueState.{QueueState, state_of}
 use Rattle.vub_backend.specs.Turned.{Outside, outside}
-use Rattle.vub_backend.specs.Backends.{states_of, Steps, EachLies}
+use Rattle.vub_backend.specs.Backends.{states_of, Steps, EachLies, KeepsOthers}
 use Rattle.vub_backend.proofs.BackendLemmas.{found_in, lies_there, steps_there, each_lies, states_set, none_past, steps_nowhere}
+use Rattle.vub_backend.proofs.DrainLemmas.{others_stay}
 use Rattle.vub_backend.proofs.backend.Backend.step.Goals as goal
 
 pub step_of-requires : goal.step_of-requires
@@ -35,3 +36,10 @@ returns-in-None-clause-steps g c =
     let before : Outside = outside (g.M.Shared.told c.args.mem.now) (g.M.Shared.trail c.args.mem.now) (g.M.Shared.names c.args.mem.now) (g.M.Shared.handed c.args.mem.now) (g.M.Shared.sizes c.args.mem.now) (g.M.Shared.faults c.args.mem.now) (g.D.Disk.values c.args.disk.now) (g.D.Disk.stable c.args.disk.now) (g.D.Disk.capacity c.args.disk.now) (g.D.Disk.faults c.args.disk.now) (g.B.Bell.told c.args.bell.now) (g.B.Bell.faults c.args.bell.now) in
     let queues : List (Option Queue) = c.args.self.now.queues.items in
     steps_nowhere c.args.choice before (states_of queues) c.args.queue (none_past queues c.from.result c.args.queue c.from.ensures c.in-None.ensures.item.3)
+
+pub returns-in-Some-clause-others : goal.returns-in-Some-clause-others
+returns-in-Some-clause-others g c =
+    let queues : List (Option Queue) = c.args.self.now.queues.items in
+    subst (λ (now : List (Option QueueState)). KeepsOthers c.args.queue (states_of queues) now) (sym (states_set queues c.from.result c.step_of.new.queue))
+    (subst (λ (i : ℕ). KeepsOthers i (states_of queues) (set (states_of queues) c.from.result (option_map state_of c.step_of.new.queue))) c.from.ensures
+    (others_stay (states_of queues) c.from.result (option_map state_of c.step_of.new.queue)))
