@@ -1,5 +1,5 @@
 -- The backend of a machine stands where the machine does.
-use Rattle.std.proofs.Common.{◌≡◌, ◌<◌, ℕ, Bool, zero, suc, true, false, List, [], ◌∷◌, length, map, refl, ap, sym, ◌∙◌, subst, arith}
+use Rattle.std.proofs.Common.{◌≡◌, ◌<◌, ℕ, Bool, zero, suc, false, List, [], ◌∷◌, length, map, ap, sym, ◌∙◌, subst, arith}
 use Rattle.std.specs.Prelude.{Option, Some, None, is_some, slice_get}
 use Rattle.std.proofs.lemmas.Simd.{map-map}
 use Rattle.vub_base.specs.declared.header.Header1.{Header1}
@@ -9,7 +9,6 @@ use Rattle.vub_steps.specs.declared.steps.Phase.TheVariants as phases
 use Rattle.vub_steps.specs.declared.steps.Plan.{Plan}
 use Rattle.vub_backend.specs.declared.backend.Backend.{Backend}
 use Rattle.vub_backend.specs.Backends.{queues_of, attached_in}
-use Rattle.vub_backend.specs.Backends.{is_attached as attached_there}
 use Rattle.vub_queue.specs.declared.queue.QueueSetup.{QueueSetup}
 use Rattle.vub_queue.specs.QueueState.{QueueState}
 use Rattle.vub_queue.specs.QueueFacts.{hidden_part}
@@ -28,10 +27,10 @@ use Rattle.vub_shared.specs.Watched.{sizes_in}
 use Rattle.vub_memdisk.specs.MemDisks.{capacity_of}
 use Rattle.vub_world.specs.declared.front.Front.{Front}
 use Rattle.vub_world.specs.declared.machine.Machine.{Machine}
-use Rattle.vub_world.specs.Lives.{IsBackend, IsBackendInLife, queue_in, life_of}
+use Rattle.vub_world.specs.Lives.{IsBackendInLife, queue_in, life_of}
 use Rattle.vub_world.specs.Machine.{IsSound}
 use Rattle.vub_world.specs.MachineAt.{MachineAt, AttachedAt, LifeAt}
-use Rattle.vub_world.specs.WorldBackend.{NamesRequests, BackendStands, heads_at}
+use Rattle.vub_world.specs.WorldBackend.{NamesRequests, BackendStands}
 use Rattle.vub_world.proofs.MachineParts.{found_there, first_front, life_is, the_low}
 
 -- no batch is under way but in a publication

@@ -1,5 +1,5 @@
 -- An event leads from where the machine stood to where it stands.
-use Rattle.std.proofs.Common.{◌≡◌, ◌≤◌, ◌<◌, ℕ, zero, suc, ◌+◌, true, List, [], ◌∷◌, ◌++◌, length, refl, sym, ◌∙◌, subst, arith}
+use Rattle.std.proofs.Common.{◌≡◌, ◌≤◌, ℕ, ◌+◌, true, List, [], ◌∷◌, ◌++◌, length, sym, ◌∙◌, subst, arith}
 use Rattle.std.proofs.lemmas.List.{length_push}
 use Rattle.std.specs.Prelude.{Result, Ok, Err, IfOk, Option, Some, None, is_some, slice_get, ⊤}
 use Rattle.vub_base.specs.declared.header.Header1.{Header1}
@@ -11,7 +11,6 @@ use Rattle.vub_backend.specs.declared.backend.Backend.{Backend}
 use Rattle.vub_world.specs.declared.machine.Machine.{Machine}
 use Rattle.vub_report.specs.declared.items.Item.{Item}
 use Rattle.vub_report.specs.declared.items.Record.{Record}
-use Rattle.vub_queue.specs.declared.queue.QueueSetup.{QueueSetup}
 use Rattle.vub_world.specs.Fronts.{offers_in}
 use Rattle.vub_world.specs.Lives.{life_of, queue_in}
 use Rattle.vub_world.specs.Machine.{IsSound}

@@ -42,19 +42,6 @@ fn boots(rt: HostRuntime) -> Result<(), Fail> {
 }
 
 #[test]
-fn attaches_its_queues_until_it_is_killed(rt: HostRuntime) -> Result<(), Fail> {
-    let header = HEADER;
-    let mut world = World::new(rt.alloc(), &header).ok().ok_or("world")?;
-    world.event(&Event::Boot).ok().ok_or("boot")?;
-    world.event(&Event::Join).ok().ok_or("join")?;
-    let backend = world.backend().ok_or("life")?;
-    assert!(rt; backend.attached(0) && backend.queue(0).is_some());
-    world.event(&Event::Kill).ok().ok_or("kill")?;
-    assert!(rt; world.backend().is_none());
-    Ok(())
-}
-
-#[test]
 fn lists_two_rings(rt: HostRuntime) {
     let mut bell = WatchedBell::new();
     assert_eq!(rt; bell.attach(3, "call3").is_ok(), true);

@@ -1,5 +1,5 @@
 use Rattle.std.proofs.Common.{◌≡◌, ◌≤◌, false, ap, subst, sym, refl, ◌∙◌, ℕ, List, [], length, inl, inr, arith}
-use Rattle.std.specs.Prelude.{is_some, Option, Some, None}
+use Rattle.std.specs.Prelude.{is_some, Some, None}
 use Rattle.vub_steps.specs.Readiness.{is_ready, chosen}
 use Rattle.vub_steps.specs.declared.readiness.Turn.{Turn}
 use Rattle.vub_steps.specs.declared.readiness.Turn.TheVariants as turns
@@ -7,7 +7,7 @@ use Rattle.vub_shared.specs.Bytes.{Bytes}
 use Rattle.vub_shared.specs.Stores.{Store}
 use Rattle.vub_shared.specs.Watched.{bytes_in, sizes_in, stores_in, faults_in, IsUnfailed}
 use Rattle.vub_shared.proofs.WatchedLemmas.{still_unfailed}
-use Rattle.vub_memdisk.specs.MemDisks.{capacity_of, values_of}
+use Rattle.vub_memdisk.specs.MemDisks.{values_of}
 use Rattle.vub_queue.specs.declared.queue.Stepped.{Stepped}
 use Rattle.vub_backend.specs.Backends.{queues_of}
 use Rattle.vub_backend.specs.Turned.{Outside, Turned}

@@ -1,11 +1,9 @@
 use Rattle.std.proofs.Common.{◌≡◌, ◌∙◌, ℕ, Bool, true, length, refl, ap, sym, subst}
-use Rattle.std.specs.Prelude.{if◌then◌else◌, Option, Some, None, IfSome, option_map}
-use Rattle.vub_room.specs.Rooms.{HasTurnRoom, SpendsUpTo}
-use Rattle.vub_shared.specs.Watched.{bytes_in}
+use Rattle.std.specs.Prelude.{if◌then◌else◌, Option, Some, IfSome, option_map}
+use Rattle.vub_room.specs.Rooms.{HasTurnRoom}
 use Rattle.vub_queue.specs.QueueState.{QueueState, state_of}
 use Rattle.vub_world.specs.Fronts.{queue_of}
-use Rattle.vub_world.specs.MachineDevice.{is_index, is_showing, queue_shows, queue_shown, ShownFits, ShowsSome}
-use Rattle.vub_world.proofs.MachineNotes.{spends_up}
+use Rattle.vub_world.specs.MachineDevice.{is_index, is_showing, queue_shows, ShownFits}
 use Rattle.vub_world.proofs.front.Front.answers.Goals as goal
 
 pub batch_answers-requires-clause-fits : goal.batch_answers-requires-clause-fits

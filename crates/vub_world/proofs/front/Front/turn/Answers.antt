@@ -1,5 +1,5 @@
 use Rattle.std.proofs.Common.{◌≡◌, ℕ, refl, ap, sym, ◌∙◌, subst, inl, inr}
-use Rattle.std.specs.Prelude.{Option, Some, None}
+use Rattle.std.specs.Prelude.{Option, Some}
 use Rattle.vub_memdisk.specs.MemDisks.{capacity_of}
 use Rattle.vub_queue.specs.QueueState.{QueueState}
 use Rattle.vub_backend.specs.Backends.{queues_of}

@@ -1,4 +1,4 @@
-use Rattle.std.proofs.Common.{◌≡◌, ◌<◌, ℕ, List, length, ap, ◌∙◌, arith}
+use Rattle.std.proofs.Common.{◌≡◌, ℕ, List, length, ap, ◌∙◌, arith}
 use Rattle.std.specs.Prelude.{Option, Some, slice_get, get_or}
 use Rattle.std.proofs.lemmas.List.{length-set}
 use Rattle.vub_memdisk.specs.MemDisks.{capacity_of}

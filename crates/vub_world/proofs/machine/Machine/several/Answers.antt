@@ -1,4 +1,4 @@
-use Rattle.std.proofs.Common.{◌≡◌, ◌<◌, ◌≤◌, [], ℕ, List, Bool, length, set, ap, sym, ◌∙◌, subst, arith}
+use Rattle.std.proofs.Common.{◌≡◌, ◌≤◌, [], ℕ, List, Bool, ap, sym, ◌∙◌, subst, arith}
 use Rattle.std.specs.Prelude.{Some, slice_get, get_or, min, ◌+◌, ◌*◌}
 use Rattle.vub_base.specs.declared.header.Header1.{Header1}
 use Rattle.vub_report.specs.declared.items.Item.{Item}
