@@ -4,7 +4,7 @@ use Rattle.std.specs.Prelude.{replicate, set, slice_get, Option, Some, None, opt
 use Rattle.vub_queue.specs.declared.queue.Stepped.TheVariants.{Idle}
 use Rattle.vub_steps.specs.declared.readiness.Choice.{Choice}
 use Rattle.vub_queue.specs.declared.queue.Stepped.{Stepped}
-use Rattle.vub_backend.specs.Turned.{Outside}
+use Rattle.vub_queue.specs.Turned.{Outside}
 use Rattle.std.proofs.lemmas.List.{map-set, replicate-append-replicate}
 use Rattle.std.proofs.lemmas.Option.{slice_get-map, slice_get_past}
 use Rattle.vub_queue.specs.declared.queue.Queue.{Queue}

@@ -5,7 +5,7 @@ use Rattle.vub_steps.specs.declared.readiness.Choice.TheVariants.{Drain}
 use Rattle.vub_queue.specs.declared.queue.Stepped.{Stepped}
 use Rattle.vub_queue.specs.declared.queue.Stepped.TheVariants.{Idle}
 use Rattle.vub_queue.specs.QueueState.{QueueState, is_idle}
-use Rattle.vub_backend.specs.Turned.{Outside}
+use Rattle.vub_queue.specs.Turned.{Outside}
 use Rattle.vub_backend.specs.Backends.{Steps, found, KeepsOthers, Drained, Drains, accepted_after}
 
 -- where one element of a list is another, the others are there as before

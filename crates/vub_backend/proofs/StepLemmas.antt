@@ -6,7 +6,7 @@ use Rattle.vub_steps.specs.declared.readiness.Choice.{Choice}
 use Rattle.vub_queue.specs.declared.queue.Stepped.{Stepped}
 use Rattle.vub_queue.specs.declared.queue.Stepped.TheVariants.{Idle}
 use Rattle.vub_queue.specs.QueueState.{QueueState}
-use Rattle.vub_backend.specs.Turned.{Outside, Turned}
+use Rattle.vub_queue.specs.Turned.{Outside, Turned}
 use Rattle.vub_backend.specs.Backends.{Steps, StepsAt, StepsIn, found, attached_in}
 
 -- a list with another item in a place that it has

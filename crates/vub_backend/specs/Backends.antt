@@ -8,7 +8,7 @@ use Rattle.vub_queue.specs.declared.queue.Stepped.TheVariants.{Idle, Accepted}
 use Rattle.vub_queue.specs.declared.queue.QueueSetup.{QueueSetup}
 use Rattle.vub_queue.specs.QueueState.{QueueState, state_of, IsNew, QueueLies, is_idle}
 use Rattle.vub_backend.specs.declared.backend.Backend.{Backend}
-use Rattle.vub_backend.specs.Turned.{Outside, Turned}
+use Rattle.vub_queue.specs.Turned.{Outside, Turned}
 
 -- the states of these, of each that is attached
 abbrev pub states_of : List (Option Queue) → List (Option QueueState)

@@ -1,2 +1,1 @@
 pub mod Backends
-pub mod Turned

@@ -2,7 +2,7 @@
 ghost use Rattle.std.specs.Prelude.{◌≡◌, ◌<◌, ◌≤◌, ◌++◌, ◌∷◌, [], ℕ, IfSome, length, replicate, None, IfOk, OnOk, OnErr, option_map};
 ghost use Rattle.vub_queue.specs.QueueState.{state_of, QueueLies};
 ghost use Rattle.vub_backend.specs.Backends.{queues_of, attached_in, is_attached, Attaches, EachLies, StepsIn, Steps, KeepsOthers, accepted_after, Drains};
-ghost use Rattle.vub_backend.specs.Turned.{outside};
+ghost use Rattle.vub_queue.specs.Turned.{outside};
 
 use std::alloc::Global;
 use vub_base::{Bell, Memory};
@@ -16,6 +16,7 @@ pub const MOST_QUEUES: u16 = 16;
 /// A life of the device. It ends with `kill`, and leaves what it stored.
 #[derive(Drop)]
 pub struct Backend {
+    alloc: Global,
     // By their numbers; none where a queue isn't attached.
     queues: Vec<Option<Queue>>,
 }
@@ -46,7 +47,7 @@ fn step_of<M: Shared, D: Disk, B: Bell>(
     bell: &mut B,
 ) -> Stepped
     requires { IfSome queue.old (λ q. QueueLies (M.sizes mem.old) (D.capacity disk.old) (state_of q)) }
-    ensures { StepsIn (option_map state_of queue.old) choice (outside (M.told mem.old) (M.trail mem.old) (M.names mem.old) (M.handed mem.old) (M.sizes mem.old) (M.faults mem.old) (D.values disk.old) (D.stable disk.old) (D.capacity disk.old) (D.faults disk.old) (B.told bell.old) (B.faults bell.old)) (outside (M.told mem.new) (M.trail mem.new) (M.names mem.new) (M.handed mem.new) (M.sizes mem.new) (M.faults mem.new) (D.values disk.new) (D.stable disk.new) (D.capacity disk.new) (D.faults disk.new) (B.told bell.new) (B.faults bell.new)) result (option_map state_of queue.new) }
+    ensures { StepsIn (option_map state_of queue.old) choice (outside M.Shared D.Disk B.Bell mem.old disk.old bell.old) (outside M.Shared D.Disk B.Bell mem.new disk.new bell.new) result (option_map state_of queue.new) }
 {
     match queue {
         Some(queue) => queue.turn(choice, mem, disk, bell),
@@ -74,6 +75,7 @@ impl Backend {
         ensures { IfOk result (λ b. queues_of b ≡ replicate queues None) }
     {
         Ok(Backend {
+            alloc,
             queues: no_queues(alloc, queues)?,
         })
     }
@@ -96,14 +98,14 @@ impl Backend {
     }
 
     /// Attaches the queue of a set-up, which isn't started yet. All memory that it needs is reserved here.
-    pub fn attach(&mut self, alloc: Global, setup: &QueueSetup) -> Result<(), Memory>
+    pub fn attach(&mut self, setup: &QueueSetup) -> Result<(), Memory>
         requires index { setup.now.index < length (queues_of self.old) }
         requires size { setup.now.ring.size ≤ 1024 }
         ensures attached { OnOk result (Attaches setup.now (queues_of self.old) (queues_of self.new)) }
         ensures kept { OnErr result (queues_of self.new ≡ queues_of self.old) }
         ensures lies { OnOk result ((sizes : ℕ → ℕ) (capacity : ℕ) → StartLies sizes (new_recovery setup.now) → EachLies sizes capacity (queues_of self.old) → EachLies sizes capacity (queues_of self.new)) }
     {
-        let queue = Queue::new(alloc, setup)?;
+        let queue = Queue::new(self.alloc, setup)?;
         self.queues[usize::from(setup.index)] = Some(queue);
         Ok(())
     }
@@ -119,7 +121,7 @@ impl Backend {
         bell: &mut B,
     ) -> Stepped
         requires { EachLies (M.sizes mem.old) (D.capacity disk.old) (queues_of self.old) }
-        ensures steps { Steps queue choice (outside (M.told mem.old) (M.trail mem.old) (M.names mem.old) (M.handed mem.old) (M.sizes mem.old) (M.faults mem.old) (D.values disk.old) (D.stable disk.old) (D.capacity disk.old) (D.faults disk.old) (B.told bell.old) (B.faults bell.old)) (outside (M.told mem.new) (M.trail mem.new) (M.names mem.new) (M.handed mem.new) (M.sizes mem.new) (M.faults mem.new) (D.values disk.new) (D.stable disk.new) (D.capacity disk.new) (D.faults disk.new) (B.told bell.new) (B.faults bell.new)) result (queues_of self.old) (queues_of self.new) }
+        ensures steps { Steps queue choice (outside M.Shared D.Disk B.Bell mem.old disk.old bell.old) (outside M.Shared D.Disk B.Bell mem.new disk.new bell.new) result (queues_of self.old) (queues_of self.new) }
         ensures lies { EachLies (M.sizes mem.new) (D.capacity disk.new) (queues_of self.new) }
         ensures others { KeepsOthers queue (queues_of self.old) (queues_of self.new) }
     {
@@ -140,7 +142,7 @@ impl Backend {
         bell: &mut B,
     ) -> u64
         requires { EachLies (M.sizes mem.old) (D.capacity disk.old) (queues_of self.old) }
-        ensures drains { Drains queue (outside (M.told mem.old) (M.trail mem.old) (M.names mem.old) (M.handed mem.old) (M.sizes mem.old) (M.faults mem.old) (D.values disk.old) (D.stable disk.old) (D.capacity disk.old) (D.faults disk.old) (B.told bell.old) (B.faults bell.old)) (outside (M.told mem.new) (M.trail mem.new) (M.names mem.new) (M.handed mem.new) (M.sizes mem.new) (M.faults mem.new) (D.values disk.new) (D.stable disk.new) (D.capacity disk.new) (D.faults disk.new) (B.told bell.new) (B.faults bell.new)) result (queues_of self.old) (queues_of self.new) }
+        ensures drains { Drains queue (outside M.Shared D.Disk B.Bell mem.old disk.old bell.old) (outside M.Shared D.Disk B.Bell mem.new disk.new bell.new) result (queues_of self.old) (queues_of self.new) }
         ensures lies { EachLies (M.sizes mem.new) (D.capacity disk.new) (queues_of self.new) }
         ensures others { KeepsOthers queue (queues_of self.old) (queues_of self.new) }
     {

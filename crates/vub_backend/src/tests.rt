@@ -41,7 +41,7 @@ fn life<M: Shared>(alloc: Global, memory: &M, region: Space, ring: Space) -> Opt
     let Ok(mut backend) = Backend::new(alloc, 2) else {
         return None;
     };
-    let Ok(()) = backend.attach(alloc, &setup) else {
+    let Ok(()) = backend.attach(&setup) else {
         return None;
     };
     Some(backend)

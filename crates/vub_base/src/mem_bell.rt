@@ -1,4 +1,4 @@
-ghost use Rattle.std.specs.Prelude.{◌≡◌, ◌≤◌, [], length, Some, IfOk, OnErr, OnOk, IsErr, ◌↔◌, ◌⊎◌, Contains, true, false, IsTrue, if◌then◌else◌};
+ghost use Rattle.std.specs.Prelude.{◌≡◌, ◌≤◌, [], length, Some, IfOk, IsOk, OnErr, OnOk, IsErr, ◌↔◌, ◌⊎◌, Contains, true, false, IsTrue, if◌then◌else◌};
 ghost use Rattle.vub_base.specs.Causes.{HasCause};
 ghost use Rattle.vub_base.specs.Bells.{Attaches, Rings};
 
@@ -62,9 +62,12 @@ impl MemBell {
     pub fn restart(&mut self, room: usize) -> Result<(), Memory>
         ensures done { OnOk result (self.new ≡ record self.old { rung = []; room = room }) }
         ensures refused { OnErr result (self.new ≡ self.old) }
+        ensures enough { room ≤ self.old.room → IsOk result }
     {
-        let more = room.saturating_sub(self.rung.len());
-        self.rung.reserve(more).map_err(|_| Memory)?;
+        if room > self.room {
+            let more = room - self.rung.len();
+            self.rung.reserve(more).map_err(|_| Memory)?;
+        }
         self.rung.clear();
         self.room = room;
         Ok(())

@@ -17,7 +17,7 @@ use Rattle.vub_chain.proofs.LeavesLemmas.{linked_off, same_desc}
 use Rattle.vub_chain_laws.specs.Made.{ChainFits, FitsFields, after_all, table_of}
 use Rattle.vub_chain_laws.specs.Pieces.{LinkedAs, desc_of}
 
-length_little : (w x : ℕ) → length (little_bytes w x) ≡ w
+pub length_little : (w x : ℕ) → length (little_bytes w x) ≡ w
 length_little w x = length-bytes_low_first 0 w x
 
 from_after : (xs ys : List ℕ) (i w : ℕ) → length xs ≡ i → little_from i w (xs ++ ys) ≡ little_from 0 w ys
@@ -33,16 +33,16 @@ word_made m s p q xs rest bs w x is at fits small =
 four_long : (a b c d : List ℕ) → length a ≡ 8 → length b ≡ 4 → length c ≡ 2 → length d ≡ 2 → length (a ++ b ++ c ++ d) ≡ 16
 four_long a b c d la lb lc ld = simp length-append (omega arith)
 
-desc_long : (p : Piece) (flag next : ℕ) → length (descriptor_bytes p flag next) ≡ 16
+pub desc_long : (p : Piece) (flag next : ℕ) → length (descriptor_bytes p flag next) ≡ 16
 desc_long p flag next = four_long (little_bytes 8 p.place) (little_bytes 4 p.len) (little_bytes 2 (write_flag p.writable + flag)) (little_bytes 2 next) (length_little 8 p.place) (length_little 4 p.len) (length_little 2 (write_flag p.writable + flag)) (length_little 2 next)
 
-small_flag : (w : Bool) (flag : ℕ) → flag < 2 → write_flag w + flag < 256 ^ 2
+pub small_flag : (w : Bool) (flag : ℕ) → flag < 2 → write_flag w + flag < 256 ^ 2
 small_flag true flag small = omega arith
 small_flag false flag small = omega arith
 
 -- the store of a descriptor
 abbrev desc_store : Ring → ℕ → Piece → ℕ → ℕ → Store
-desc_store r d p flag next = one_store r.space (desc_place r d) (descriptor_bytes p flag next)
+desc_store r d p flag next = one_store r.desc_space (desc_place r d) (descriptor_bytes p flag next)
 
 -- what was stored stands there
 stands : (r : Ring) (m : Bytes) (d : ℕ) (p : Piece) (flag next : ℕ) → FitsFields p → flag < 2 → next < 65536 → linked_desc (after_store (desc_store r d p flag next) m) (table_of r) d ≡ desc_of p flag next
@@ -63,10 +63,10 @@ stands r m d p flag next fits small_next small =
     let after_b : bs ≡ (a ++ b) ++ (c ++ e) = sym (append_assoc a b (c ++ e)) in
     let after_c : bs ≡ ((a ++ b) ++ c) ++ (e ++ []) = after_b ∙ sym (append_assoc (a ++ b) c e) ∙ ap (λ (xs : List ℕ). ((a ++ b) ++ c) ++ xs) (sym (append-nil e)) in
     same_desc _ _ _ _ _ _ _ _
-    (word_made m r.space at at [] (b ++ c ++ e) bs 8 p.place refl (omega arith) (omega arith) fits.place)
-    (word_made m r.space at (at + 8) a (c ++ e) bs 4 p.len refl (omega arith) (omega arith) fits.len)
-    (word_made m r.space at (at + 12) (a ++ b) e bs 2 f after_b (omega arith) (omega arith) (small_flag p.writable flag small_next))
-    (word_made m r.space at (at + 14) ((a ++ b) ++ c) [] bs 2 next after_c (omega arith) (omega arith) small)
+    (word_made m r.desc_space at at [] (b ++ c ++ e) bs 8 p.place refl (omega arith) (omega arith) fits.place)
+    (word_made m r.desc_space at (at + 8) a (c ++ e) bs 4 p.len refl (omega arith) (omega arith) fits.len)
+    (word_made m r.desc_space at (at + 12) (a ++ b) e bs 2 f after_b (omega arith) (omega arith) (small_flag p.writable flag small_next))
+    (word_made m r.desc_space at (at + 14) ((a ++ b) ++ c) [] bs 2 next after_c (omega arith) (omega arith) small)
 
 -- the store of another descriptor leaves it
 other_off : (r : Ring) (d e : ℕ) (p : Piece) (flag next : ℕ) → e ≢ d → OffDesc (desc_store r e p flag next) (table_of r) d

@@ -14,7 +14,7 @@ after_all (st ∷ sts) m = after_all sts (after_store st m)
 
 -- the descriptor table of a ring
 abbrev pub table_of : Ring → Source
-table_of r = record { space = r.space; place = r.desc; count = r.size }
+table_of r = record { space = r.desc_space; place = r.desc; count = r.size }
 
 -- place and length of a piece fit their fields
 pub record FitsFields (p : Piece) : Type 0 where

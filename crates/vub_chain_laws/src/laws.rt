@@ -1,5 +1,7 @@
 //! The driver's chains give header and data to read, and data and status to write.
-ghost use Rattle.std.specs.Prelude.{◌≡◌, ◌≤◌, ℕ, List, [], ◌∷◌, length, true};
+ghost use Rattle.std.specs.Prelude.{◌≡◌, ◌<◌, ◌≤◌, ◌+◌, ◌*◌, ◌^◌, ℕ, List, [], ◌∷◌, length, Some, true};
+ghost use Rattle.vub_memtable.specs.Tables.{guest_place};
+ghost use Rattle.vub_chain_laws.specs.Tables.{FitsTable, StandAt, naming_bytes, table_bytes};
 ghost use Rattle.vub_base.specs.declared.request.Ask.{Ask};
 ghost use Rattle.vub_shared.specs.Bytes.{Bytes};
 ghost use Rattle.vub_ring.specs.Ring.{Ring};
@@ -39,4 +41,15 @@ pub fn indirect_chains_give_the_request()
 /// pieces as `direct_chains_give_the_request` wants them.
 pub fn the_drivers_stores_link_its_pieces()
     ensures { (r : Ring) (m : Bytes) (ds : List ℕ) (ps : List Piece) → r.size ≤ 65536 → ChainFits r.size ds ps → LinkedAs (after_all (chain_stores r ps ds) m) (table_of r) ds ps }
+{}
+
+/// A request in a table, by the bytes that stand in memory: of the table, an entry for each piece, and
+/// of the one descriptor that names it, which may lie in different spaces.
+pub fn a_standing_table_gives_the_request()
+    ensures { (x : Limits) (m : Bytes) (space place head buffer table : ℕ) (where_it_lies : ℕ × ℕ) (ask : Ask)
+        → x.indirect ≡ true → table < 2 ^ 64 → guest_place x.table table (16 * length (pieces buffer ask)) ≡ Some where_it_lies
+        → StandAt m space (place + 16 * head) (naming_bytes table (length (pieces buffer ask)))
+        → StandAt m where_it_lies.0 where_it_lies.1 (table_bytes 0 (pieces buffer ask))
+        → FitsTable (pieces buffer ask) → length (pieces buffer ask) ≤ x.size → AreMapped x.table (pieces buffer ask)
+        → Gives x (split_chain x m space place head) (pieces buffer ask) }
 {}

@@ -36,6 +36,15 @@ pub front_legal : (capacity : ℕ) (mode : CacheMode) (past front rest : List En
 front_legal capacity mode past [] rest legal = tt
 front_legal capacity mode past (e ∷ front) rest legal = (legal.0, front_legal capacity mode (e ∷ past) front rest legal.1)
 
+-- what follows the front of a legal history is legal after it
+pub rest_legal : (capacity : ℕ) (mode : CacheMode) (past front rest : List Entry) → LegalFrom capacity mode past (front ++ rest) → LegalFrom capacity mode (after past front) rest
+rest_legal capacity mode past [] rest legal = legal
+rest_legal capacity mode past (e ∷ front) rest legal = rest_legal capacity mode (e ∷ past) front rest legal.1
+
+pub after_append : (past front rest : List Entry) → after past (front ++ rest) ≡ after (after past front) rest
+after_append past [] rest = refl
+after_append past (e ∷ front) rest = after_append (e ∷ past) front rest
+
 -- ---- the checker's step
 
 split_at : (history : List Entry) (i : ℕ) (e : Entry) → i < length history → e ≡ get_or history i e → take i history ++ e ∷ drop (suc i) history ≡ history

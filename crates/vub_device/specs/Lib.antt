@@ -1,4 +1,5 @@
 pub mod Crash
+pub mod Durable
 pub mod Legal
 pub mod Past
 pub mod Places

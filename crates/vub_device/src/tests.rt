@@ -51,6 +51,8 @@ enum Story {
     ActsLate,
     /// A flushed write, one that isn't flushed, and a power stop.
     PowerStop,
+    /// A write of two sectors that isn't flushed, and a power stop that keeps the second alone.
+    PartlyKept,
     /// Each queue counts its own numbers, and a power stop begins them anew.
     Anew,
     /// The second of three sectors of a write fails.
@@ -155,6 +157,16 @@ static POWER_STOP: [Said; 16] = [
     Act(0, 2, 0, 0xbb),
     Publish(0, &[(2, 0, Nothing)]),
     Power(&[(0, 0xaa)]),
+];
+
+static PARTLY_KEPT: [Said; 7] = [
+    Write(0, 0, &[0xaa, 0xbb]),
+    Start(0, &[]),
+    Accept(0, 0),
+    Act(0, 0, 0, 0xaa),
+    Act(0, 0, 1, 0xbb),
+    Publish(0, &[(0, 0, Nothing)]),
+    Power(&[(1, 0xbb)]),
 ];
 
 static ANEW: [Said; 16] = [
@@ -278,6 +290,7 @@ fn told(story: Story) -> &'static [Said] {
         Story::Resubmitted => &RESUBMITTED,
         Story::ActsLate => &ACTS_LATE,
         Story::PowerStop => &POWER_STOP,
+        Story::PartlyKept => &PARTLY_KEPT,
         Story::Anew => &ANEW,
         Story::FailingWrite => &FAILING_WRITE,
         Story::FixedAnswers => &FIXED_ANSWERS,
@@ -427,7 +440,7 @@ fn spelled_all(alloc: Global, said: &[Said]) -> Result<Vec<Entry>, AllocError> {
 /// The sectors of the device.
 const CAPACITY: u64 = 8;
 
-static LEGAL: [(&str, Story, Change); 23] = [
+static LEGAL: [(&str, Story, Change); 24] = [
     ("the plain path", Story::Plain, Same),
     (
         "a kill after publication",
@@ -446,6 +459,11 @@ static LEGAL: [(&str, Story, Change); 23] = [
         "a power stop that keeps it",
         Story::PowerStop,
         Put(15, Power(&[(0, 0xbb)])),
+    ),
+    (
+        "a power stop that keeps a sector of two",
+        Story::PartlyKept,
+        Same,
     ),
     ("a power stop and numbers from 0", Story::Anew, Same),
     (
@@ -752,7 +770,7 @@ static ILLEGAL: [(&str, Story, Change); 72] = [
     ("collect: twice", Story::Plain, Double(5)),
 ];
 
-static NO_IMAGES: [(&str, Story, Change); 8] = [
+static NO_IMAGES: [(&str, Story, Change); 9] = [
     (
         "power: a value from before the last flush",
         Story::PowerStop,
@@ -772,6 +790,11 @@ static NO_IMAGES: [(&str, Story, Change); 8] = [
         "power: a value from before the sync of a write through",
         Story::WriteThrough,
         Put(6, Power(&[])),
+    ),
+    (
+        "power: the value of another sector",
+        Story::PartlyKept,
+        Put(6, Power(&[(0, 0xbb)])),
     ),
     (
         "power: past the capacity",

@@ -15,7 +15,7 @@ area_place q = 1048576 * q
 
 -- the ring of a queue with so many places
 abbrev pub ring_of : ℕ → ℕ → Ring
-ring_of q size = record { space = guest_space; desc = area_place q; avail = area_place q + 4096; used = area_place q + 8192; size = size }
+ring_of q size = record { desc_space = guest_space; desc = area_place q; avail_space = guest_space; avail = area_place q + 4096; used_space = guest_space; used = area_place q + 8192; size = size }
 
 -- the buffer of a head in the area that begins at `area`
 abbrev pub buffer_place : ℕ → ℕ → ℕ

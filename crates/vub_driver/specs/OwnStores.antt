@@ -28,21 +28,20 @@ pub record IsOwn (r : Ring) (v : Driver) (d : ℕ) : Type 0 where
 
 -- into a descriptor that the driver owns
 abbrev pub WritesOwnDescriptor : Ring → Driver → Store → Type 0
-WritesOwnDescriptor r v st = (d : ℕ) × IsOwn r v d × LiesIn (desc_place r d) 16 st
+WritesOwnDescriptor r v st = (st.space ≡ r.desc_space) × (d : ℕ) × IsOwn r v d × LiesIn (desc_place r d) 16 st
 
 -- into a buffer that the driver owns
 abbrev pub WritesOwnBuffer : Ring → Driver → Store → Type 0
-WritesOwnBuffer r v st = (d : ℕ) × IsOwn r v d × LiesIn (buffer_place r.desc d) buffer_bytes st
+WritesOwnBuffer r v st = (st.space ≡ r.desc_space) × (d : ℕ) × IsOwn r v d × LiesIn (buffer_place r.desc d) buffer_bytes st
 
 -- the avail entry at its index
 abbrev pub WritesOwnEntry : Ring → Driver → Store → Type 0
-WritesOwnEntry r v st = (st.place ≡ avail_entry_place r v.avail_idx) × (length st.bytes ≡ 2)
+WritesOwnEntry r v st = (st.space ≡ r.avail_space) × (st.place ≡ avail_entry_place r v.avail_idx) × (length st.bytes ≡ 2)
 
 -- its index forward by one
 abbrev pub MovesOwnIndex : Ring → Driver → Store → Type 0
-MovesOwnIndex r v st = (st.place ≡ avail_idx_place r) × (st.bytes ≡ little_bytes 2 ((v.avail_idx + 1) % 65536))
+MovesOwnIndex r v st = (st.space ≡ r.avail_space) × (st.place ≡ avail_idx_place r) × (st.bytes ≡ little_bytes 2 ((v.avail_idx + 1) % 65536))
 
 -- a store that keeps to the rule
-pub record IsOwnStore (r : Ring) (v : Driver) (st : Store) : Type 0 where
-  pub space : st.space ≡ r.space
-  pub owned : WritesOwnDescriptor r v st ⊎ (WritesOwnBuffer r v st ⊎ (WritesOwnEntry r v st ⊎ MovesOwnIndex r v st))
+abbrev pub IsOwnStore : Ring → Driver → Store → Type 0
+IsOwnStore r v st = WritesOwnDescriptor r v st ⊎ (WritesOwnBuffer r v st ⊎ (WritesOwnEntry r v st ⊎ MovesOwnIndex r v st))

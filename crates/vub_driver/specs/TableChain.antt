@@ -5,10 +5,10 @@ use Rattle.vub_ring.specs.Ring.{Ring, desc_place}
 
 -- the flags of a descriptor, and the index that it names as the next one
 abbrev pub desc_flags : Ring → Bytes → ℕ → ℕ
-desc_flags r m d = word 2 m r.space (desc_place r d + 12)
+desc_flags r m d = word 2 m r.desc_space (desc_place r d + 12)
 
 abbrev pub desc_next : Ring → Bytes → ℕ → ℕ
-desc_next r m d = word 2 m r.space (desc_place r d + 14)
+desc_next r m d = word 2 m r.desc_space (desc_place r d + 14)
 
 -- whether another one follows: bit 0 of the flags
 abbrev pub names_next : Ring → Bytes → ℕ → Bool

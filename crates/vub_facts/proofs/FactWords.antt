@@ -68,10 +68,10 @@ facts_beside r g heads base x m st lies off off_region sees f =
 -- ---- a store into the used ring
 
 -- it leaves the region
-ring_off_region : (r : Ring) (g : SplitRegion) (st : Store) → Lies r g → st.space ≡ r.space → r.used ≤ st.place → st.place + length st.bytes ≤ r.used + used_bytes r → OffRegion g st
+ring_off_region : (r : Ring) (g : SplitRegion) (st : Store) → Lies r g → st.space ≡ r.used_space → r.used ≤ st.place → st.place + length st.bytes ≤ r.used + used_bytes r → OffRegion g st
 ring_off_region r g st lies space low high = go lies.off_used
   where
-    go : Apart g.space.number g.place (region_size g.size) r.space r.used (used_bytes r) → OffRegion g st
+    go : Apart g.space.number g.place (region_size g.size) r.used_space r.used (used_bytes r) → OffRegion g st
     go (inl other) = inl (λ e. other (sym (e ∙ space)))
     go (inr (inl before)) = inr (inr (omega (arith, before, high)))
     go (inr (inr after)) = inr (inl (omega (arith, after, low)))
@@ -125,7 +125,7 @@ region_words r g x m lies within fits =
     let inside : LiesIn g (store_of g x) = row_lies_in g x named in
     let small : g.size < 65536 = omega (arith, lies.same_size, lies.size.few) in
     words_are _ _ _ _
-    (words_elsewhere r m (store_of g x) lies.size.some (apart_from_region g (store_of g x) r.space r.avail _ inside lies.off_avail) (apart_from_region g (store_of g x) r.space r.used _ inside lies.off_used))
+    (words_elsewhere r m (store_of g x) lies.size.some (apart_from_region g (store_of g x) r.avail_space r.avail _ inside lies.off_avail) (apart_from_region g (store_of g x) r.used_space r.used _ inside lies.off_used))
     (words_stored g x m small named fits ∙ ap (λ (n : ℕ). region_stores.words_after n x (region.words_of g m)) lies.same_size)
 
 -- the row of a store into the region

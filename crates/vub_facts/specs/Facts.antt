@@ -53,8 +53,8 @@ pub record Lies (r : Ring) (g : SplitRegion) : Type 0 where
   pub size : IsRingSize r.size
   pub same_size : g.size ≡ r.size
   pub fits : RingFits r
-  pub off_avail : Apart g.space.number g.place (region_size g.size) r.space r.avail (avail_bytes r)
-  pub off_used : Apart g.space.number g.place (region_size g.size) r.space r.used (used_bytes r)
+  pub off_avail : Apart g.space.number g.place (region_size g.size) r.avail_space r.avail (avail_bytes r)
+  pub off_used : Apart g.space.number g.place (region_size g.size) r.used_space r.used (used_bytes r)
 
 -- a store touches none of its words
 pub record Elsewhere (r : Ring) (g : SplitRegion) (st : Store) : Type 0 where

@@ -78,17 +78,17 @@ data_place-near buffer (Zero parts) = (omega arith, omega arith)
 
 -- each store of a request keeps to the driver's rule while its descriptors are the driver's own
 own_store : (r : Ring) (v : Driver) (ask : Ask) (l : Links) (stage : Stage) → (stage ≡ Data → length (written_bytes ask) ≤ 4096) → IsOwn r v l.head → IsOwn r v (second l) → IsOwn r v l.status → IsOwnStore r v (store_at r v.avail_idx ask l stage)
-own_store r v ask l Header small head next status = record { space = refl; owned = inr (inl (l.head, head, record { from = omega arith; upto = omega arith })) }
+own_store r v ask l Header small head next status = inr (inl (refl, l.head, head, record { from = omega arith; upto = omega arith }))
 own_store r v ask l Data small head next status =
     let few : length (written_bytes ask) ≤ 4096 = small refl in
     let near = data_place-near (buffer_of r l) ask in
-    record { space = refl; owned = inr (inl (l.head, head, record { from = near.0; upto = omega (arith, near.1, few) })) }
-own_store r v ask l Status small head next status = record { space = refl; owned = inr (inl (l.head, head, record { from = omega arith; upto = omega arith })) }
-own_store r v ask l HeaderDescriptor small head next status = record { space = refl; owned = inl (l.head, head, record { from = omega arith; upto = omega (arith, length-table_entry) }) }
-own_store r v ask l DataDescriptor small head next status = record { space = refl; owned = inl (second l, next, record { from = omega arith; upto = omega (arith, length-table_entry) }) }
-own_store r v ask l StatusDescriptor small head next status = record { space = refl; owned = inl (l.status, status, record { from = omega arith; upto = omega (arith, length-table_entry) }) }
-own_store r v ask l AvailEntry small head next status = record { space = refl; owned = inr (inr (inl (refl, refl))) }
-own_store r v ask l AvailIdx small head next status = record { space = refl; owned = inr (inr (inr (refl, refl))) }
+    inr (inl (refl, l.head, head, record { from = near.0; upto = omega (arith, near.1, few) }))
+own_store r v ask l Status small head next status = inr (inl (refl, l.head, head, record { from = omega arith; upto = omega arith }))
+own_store r v ask l HeaderDescriptor small head next status = inl (refl, l.head, head, record { from = omega arith; upto = omega (arith, length-table_entry) })
+own_store r v ask l DataDescriptor small head next status = inl (refl, second l, next, record { from = omega arith; upto = omega (arith, length-table_entry) })
+own_store r v ask l StatusDescriptor small head next status = inl (refl, l.status, status, record { from = omega arith; upto = omega (arith, length-table_entry) })
+own_store r v ask l AvailEntry small head next status = inr (inr (inl (refl, refl, refl)))
+own_store r v ask l AvailIdx small head next status = inr (inr (inr (refl, refl, refl)))
 
 -- what belongs to the head that waits is the driver's own
 own : (r : Ring) (v : Driver) (w : Waiting) (owners : List (Option ℕ)) (d : ℕ) → v.owner ≡ owner_at owners → v.waiting ≡ Some w → length owners ≡ r.size → Owns owners w.head d → IsOwn r v d

@@ -151,11 +151,11 @@ stores_from-whole r index ask l is =
     let header : Store = store_at r index ask l Header in
     let status : Store = store_at r index ask l Status in
     let place : ℕ = data_place (buffer_place r.desc l.head) ask in
-    let body : List Store = store_of_some r.space place (written_bytes ask) in
+    let body : List Store = store_of_some r.desc_space place (written_bytes ask) in
     let rest : List Store = chain_stores r (pieces (buffer_place r.desc l.head) ask) (descriptors l) ++ offer_stores r index l.head in
     let tail : from_header_descriptor r index ask l ≡ rest = from_header_descriptor-is r index ask l.head l.body l.status is in
     let first : stores_from r index ask l Header ≡ header ∷ (body ++ status ∷ from_header_descriptor r index ask l) =
-    ap (λ xs. header ∷ xs) (some_first r.space place (written_bytes ask) (status ∷ from_header_descriptor r index ask l)) in
+    ap (λ xs. header ∷ xs) (some_first r.desc_space place (written_bytes ask) (status ∷ from_header_descriptor r index ask l)) in
     first ∙ ap (λ xs. header ∷ (body ++ status ∷ xs)) tail ∙ ap (λ xs. header ∷ xs) (sym (append_assoc body (status ∷ []) rest))
 
 -- the driver with a request that its lowest free descriptors take

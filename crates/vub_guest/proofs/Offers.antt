@@ -57,15 +57,15 @@ in_table p = record { head = p.chain.head_fits; next = next_fits p.chain.body p.
 
 -- past the used ring, or before the avail ring
 abbrev Beside : Ring → Store → Type 0
-Beside r st = (st.space ≡ r.space) × ((r.used + used_bytes r ≤ st.place) ⊎ (st.place + length st.bytes ≤ r.avail))
+Beside r st = (r.used + used_bytes r ≤ st.place) ⊎ (st.place + length st.bytes ≤ r.avail)
 
 beside_avail : (r : Ring) (st : Store) → LiesAsGuest r → Beside r st → OffAvail r st
-beside_avail r st at (space, inl past) = inr (inl (omega (arith, past, at.few, at.avail, at.used)))
-beside_avail r st at (space, inr before) = inr (inr before)
+beside_avail r st at (inl past) = inr (inl (omega (arith, past, at.few, at.avail, at.used)))
+beside_avail r st at (inr before) = inr (inr before)
 
 beside_used : (r : Ring) (st : Store) → LiesAsGuest r → Beside r st → OffUsed r st
-beside_used r st at (space, inl past) = inr (inl past)
-beside_used r st at (space, inr before) = inr (inr (omega (arith, before, at.avail, at.used)))
+beside_used r st at (inl past) = inr (inl past)
+beside_used r st at (inr before) = inr (inr (omega (arith, before, at.avail, at.used)))
 
 -- each store is one of those, with two more after it, or the last but one, or the last
 abbrev Places : Ring → ℕ → ℕ → Store → ℕ → Type 0
@@ -97,12 +97,12 @@ long_header r index ask l =
 
 places : (r : Ring) (index : ℕ) (ask : Ask) (l : Links) (stage : Stage) → LiesAsGuest r → InTable l → Places r index l.head (store_at r index ask l stage) (length (stores_from r index ask l stage))
 unfolding stores_from
-places r index ask l Header at within = inl ((refl, inl (omega (arith, at.few, at.used))), long_header r index ask l)
-places r index ask l Data at within = inl ((refl, inl (omega (arith, at.few, at.used, (data_place-near (buffer_of r l) ask).0))), long_data r index ask l)
-places r index ask l Status at within = inl ((refl, inl (omega (arith, at.few, at.used))), long_status r index ask l)
-places r index ask l HeaderDescriptor at within = inl ((refl, inr (omega (arith, within.head, at.avail, length-table_entry))), long_descriptors r index ask l)
-places r index ask l DataDescriptor at within = inl ((refl, inr (omega (arith, within.next, at.avail, length-table_entry))), omega arith)
-places r index ask l StatusDescriptor at within = inl ((refl, inr (omega (arith, within.status, at.avail, length-table_entry))), omega arith)
+places r index ask l Header at within = inl (inl (omega (arith, at.few, at.used)), long_header r index ask l)
+places r index ask l Data at within = inl (inl (omega (arith, at.few, at.used, (data_place-near (buffer_of r l) ask).0)), long_data r index ask l)
+places r index ask l Status at within = inl (inl (omega (arith, at.few, at.used)), long_status r index ask l)
+places r index ask l HeaderDescriptor at within = inl (inr (omega (arith, within.head, at.avail, length-table_entry)), long_descriptors r index ask l)
+places r index ask l DataDescriptor at within = inl (inr (omega (arith, within.next, at.avail, length-table_entry)), omega arith)
+places r index ask l StatusDescriptor at within = inl (inr (omega (arith, within.status, at.avail, length-table_entry)), omega arith)
 places r index ask l AvailEntry at within = inr (inl (refl, refl))
 places r index ask l AvailIdx at within = inr (inr (refl, refl))
 

@@ -5,4 +5,4 @@ use Rattle.vub_guest.specs.GuestState.{ring_in}
 
 -- the area of its queue, of 1 MiB, lies in its space
 abbrev pub GuestLies : (ℕ → ℕ) → Guest → Type 0
-GuestLies sizes g = (ring_in g).desc + 1048576 ≤ sizes (ring_in g).space
+GuestLies sizes g = (ring_in g).desc + 1048576 ≤ sizes (ring_in g).desc_space

@@ -22,7 +22,7 @@ use Rattle.vub_guest.specs.declared.guest.Collected.TheVariants as collected
 
 -- the ring on which it plays
 abbrev pub ring_in : Guest → Ring
-ring_in g = record { space = g.memory.number; desc = g.area; avail = g.area + 4096; used = g.area + 8192; size = g.size }
+ring_in g = record { desc_space = g.memory.number; desc = g.area; avail_space = g.memory.number; avail = g.area + 4096; used_space = g.memory.number; used = g.area + 8192; size = g.size }
 
 -- the head of the request that a descriptor belongs to
 abbrev pub owner_at : List (Option ℕ) → ℕ → Option ℕ

@@ -21,14 +21,14 @@ buffer_of r l = buffer_place r.desc l.head
 
 -- the store of a stage; `index` is avail.idx before the offer
 abbrev pub store_at : Ring → ℕ → Ask → Links → Stage → Store
-store_at r index ask l Header = one_store r.space (buffer_of r l) (header_bytes ask)
-store_at r index ask l Data = one_store r.space (data_place (buffer_of r l) ask) (written_bytes ask)
-store_at r index ask l Status = one_store r.space (status_place (buffer_of r l)) (255 ∷ [])
-store_at r index ask l HeaderDescriptor = one_store r.space (desc_place r l.head) (table_entry (readable_piece (buffer_of r l) 16) (Some (second l)))
-store_at r index ask l DataDescriptor = one_store r.space (desc_place r (second l)) (table_entry (data_piece (buffer_of r l) ask) (Some l.status))
-store_at r index ask l StatusDescriptor = one_store r.space (desc_place r l.status) (table_entry (writable_piece (status_place (buffer_of r l)) 1) None)
-store_at r index ask l AvailEntry = one_store r.space (avail_entry_place r index) (little_bytes 2 l.head)
-store_at r index ask l AvailIdx = one_store r.space (avail_idx_place r) (little_bytes 2 ((index + 1) % 65536))
+store_at r index ask l Header = one_store r.desc_space (buffer_of r l) (header_bytes ask)
+store_at r index ask l Data = one_store r.desc_space (data_place (buffer_of r l) ask) (written_bytes ask)
+store_at r index ask l Status = one_store r.desc_space (status_place (buffer_of r l)) (255 ∷ [])
+store_at r index ask l HeaderDescriptor = one_store r.desc_space (desc_place r l.head) (table_entry (readable_piece (buffer_of r l) 16) (Some (second l)))
+store_at r index ask l DataDescriptor = one_store r.desc_space (desc_place r (second l)) (table_entry (data_piece (buffer_of r l) ask) (Some l.status))
+store_at r index ask l StatusDescriptor = one_store r.desc_space (desc_place r l.status) (table_entry (writable_piece (status_place (buffer_of r l)) 1) None)
+store_at r index ask l AvailEntry = one_store r.avail_space (avail_entry_place r index) (little_bytes 2 l.head)
+store_at r index ask l AvailIdx = one_store r.avail_space (avail_idx_place r) (little_bytes 2 ((index + 1) % 65536))
 
 -- the stage after a stage; none after the last
 abbrev pub stage_after : Ask → Links → Stage → Option Stage

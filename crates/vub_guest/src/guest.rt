@@ -183,7 +183,7 @@ impl Guest {
         requires exists { queue < header.now.queues }
         requires some { 1 ≤ header.now.size }
         requires few { header.now.size ≤ 64 }
-        ensures ring { IfOk result (λ g. ring_in g ≡ record (ring_of queue header.now.size) { space = memory.number }) }
+        ensures ring { IfOk result (λ g. ring_in g ≡ record (ring_of queue header.now.size) { desc_space = memory.number; avail_space = memory.number; used_space = memory.number }) }
         ensures driver { IfOk result (λ g. driver_in g ≡ new_driver header.now.base) }
         ensures position { IfOk result (λ g. last_used_in g ≡ header.now.base) }
     {

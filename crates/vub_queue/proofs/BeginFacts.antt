@@ -6,7 +6,7 @@ use Rattle.vub_shared.specs.Bytes.{Bytes}
 use Rattle.vub_device.specs.Past.{is_among}
 use Rattle.vub_ring.specs.Ring.{Ring, ahead, avail_idx}
 use Rattle.vub_split.specs.Split.{avail_idx_word, used_idx_word, head_word}
-use Rattle.vub_split.proofs.SplitLemmas.{avail_idx_is, sides_are}
+use Rattle.vub_split.proofs.SplitLemmas.{avail_idx_is}
 use Rattle.vub_steps.specs.declared.steps.Phase.{Phase}
 use Rattle.vub_steps.specs.declared.steps.Phase.TheVariants as phases
 use Rattle.vub_steps.specs.declared.steps.Plan.{Plan}
@@ -71,7 +71,7 @@ wraps avail used next is = omega (arith, is)
 -- as many wait as the facts say
 waits_as : (heads : List ℕ) (base : ℕ) (plan : Plan) (s : QueueState) (m : Bytes) → InRun heads base plan s m → waiting s m ≡ ahead (words_in s m).ring.avail (used_idx_word s.ring m + length heads)
 waits_as heads base plan s m x =
-    let same : avail_idx_word s.ring m ≡ avail_idx (ring_of s) m = avail_idx_is s.ring m ∙ ap (λ (r : Ring). avail_idx r m) (sym (sides_are s.ring x.laid.one_space)) in
+    let same : avail_idx_word s.ring m ≡ avail_idx (ring_of s) m = avail_idx_is s.ring m in
     wraps (avail_idx_word s.ring m) (used_idx_word s.ring m + length heads) s.next_avail (x.runs.keeps.held (words_in s m) refl).avail ∙ ap (λ (a : ℕ). ahead a (used_idx_word s.ring m + length heads)) same
 
 no_batch : (heads : List ℕ) (base : ℕ) (plan : Plan) (s : QueueState) (m : Bytes) → InRun heads base plan s m → s.phase ≡ phases.Rest → s.batch ≡ []
@@ -86,7 +86,7 @@ fetch_first heads base plan s m x rest ready finds =
     let free : is_among heads next ≡ false = sym ((x.runs.keeps.held (words_in s m) refl).taken next low) ∙ subst (λ (d : ℕ). is_taken s.taken d ≡ false) here finds.3 in
     let counts : s.counter < 18446744073709551615 = grind (arith, nat_tests, ap is_fetch rest) in
     let some : 0 < ahead (words_in s m).ring.avail (used_idx_word s.ring m + length heads) = omega (arith, finds.0.some, waits_as heads base plan s m x) in record {
-      laid = record { lies = l.lies; one_space = l.one_space; same_ring = l.same_ring; base_is = l.base_is; places = l.places };
+      laid = record { lies = l.lies; same_ring = l.same_ring; base_is = l.base_is; places = l.places };
       runs = record {
         on = x.runs.on;
         keeps = record {
@@ -140,7 +140,7 @@ publication_first heads base plan most s m x rest some =
     let next : ℕ = head_next heads (words_in s m) in
     let none : hidden_in s ≡ [] = ap (λ (p : Phase). hidden_part p s.batch) rest in
     let batch : InBatch s.ring.size heads s.bell (take most s.completed) 0 = batch_begins s.ring.size heads (words_in s m) s.bell most (held_in s) none some (x.runs.keeps.held (words_in s m) refl) in record {
-      laid = record { lies = l.lies; one_space = l.one_space; same_ring = l.same_ring; base_is = l.base_is; places = l.places };
+      laid = record { lies = l.lies; same_ring = l.same_ring; base_is = l.base_is; places = l.places };
       runs = record {
         on = x.runs.on;
         keeps = record {

@@ -6,7 +6,7 @@ use Rattle.std.proofs.lemmas.List.{length-set}
 use Rattle.vub_shared.specs.Bytes.{Bytes, word}
 use Rattle.vub_ring.specs.Ring.{Ring, head_at}
 use Rattle.vub_split.specs.Split.{used_idx_word, head_word}
-use Rattle.vub_split.proofs.SplitLemmas.{head_is, sides_are}
+use Rattle.vub_split.proofs.SplitLemmas.{head_is}
 use Rattle.vub_steps.specs.declared.steps.Phase.{Phase}
 use Rattle.vub_steps.specs.declared.steps.Phase.TheVariants as phases
 use Rattle.vub_facts.specs.Facts.{Side, Words, words_at, heads_in, Lies, Facts, InFetching, InBatch, IsBuilt, BatchFacts, ElementsFit, IsInPhase, IsDue, course_in, head_next, heads_after, side_after, counted, next_counter_in, sight, words_after, after_row}
@@ -20,14 +20,14 @@ use Rattle.vub_queue.proofs.QueueLemmas.{length_without}
 -- ---- the head that waits
 
 same_entry : (r : Ring) (m : Bytes) (i : ℕ) → head_at r m (i % 65536) ≡ head_at r m i
-same_entry r m i = ap (λ (e : ℕ). word 2 m r.space (r.avail + (4 + 2 * (e % r.size)))) (omega arith)
+same_entry r m i = ap (λ (e : ℕ). word 2 m r.avail_space (r.avail + (4 + 2 * (e % r.size)))) (omega arith)
 
 -- the head at the avail index is the one that is fetched next
 pub head_seen : (heads : List ℕ) (base : ℕ) (s : QueueState) (m : Bytes) → IsLaid base s → KeepsHeads s.ring.size heads (used_idx_word s.ring m) s → head_word s.ring m s.next_avail ≡ head_next heads (words_in s m)
 head_seen heads base s m laid held =
     let index : ℕ = used_idx_word s.ring m + length heads in
     let at : s.next_avail ≡ index % 65536 = (held (words_in s m) refl).avail in
-    ap (head_word s.ring m) at ∙ head_is s.ring m (index % 65536) laid.lies.size.laps ∙ ap (λ (r : Ring). head_at r m (index % 65536)) (sym (sides_are s.ring laid.one_space)) ∙ same_entry (ring_of s) m index
+    ap (head_word s.ring m) at ∙ head_is s.ring m (index % 65536) laid.lies.size.laps ∙ same_entry (ring_of s) m index
 
 -- ---- the part of a batch that isn't shown
 

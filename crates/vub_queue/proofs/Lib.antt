@@ -1,4 +1,5 @@
 pub mod BeginFacts
+pub mod BesideLemmas
 pub mod CounterLemmas
 pub mod FactsLemmas
 pub mod FitLemmas
@@ -15,4 +16,5 @@ pub mod ResumeLemmas
 pub mod TaskLemmas
 pub mod TurnFacts
 pub mod TurnKeeps
+pub mod TurnLemmas
 pub mod WorkFacts

@@ -83,7 +83,7 @@ over P base s m l p =
 is_apart : (base : ℕ) (s : QueueState) → IsLaid base s → IsApart s.recovery
 is_apart base s l = subst (λ (r : SplitRing). IsApart (record s.recovery { ring = r })) (sym l.same_ring) (go l.lies.off_used)
   where
-    go : Apart s.recovery.region.space.number s.recovery.region.place (region_size s.recovery.region.size) (ring_of s).space (ring_of s).used (used_bytes (ring_of s)) → IsApart (record s.recovery { ring = s.ring })
+    go : Apart s.recovery.region.space.number s.recovery.region.place (region_size s.recovery.region.size) (ring_of s).used_space (ring_of s).used (used_bytes (ring_of s)) → IsApart (record s.recovery { ring = s.ring })
     go (inl other) = inl other
     go (inr (inl before)) = inr (inl (omega (arith, before)))
     go (inr (inr behind)) = inr (inr (omega (arith, behind)))
@@ -152,7 +152,7 @@ starts_on : (heads : List ℕ) (base : ℕ) (plan : Plan) (done : ℕ) (s : Queu
 starts_on heads base plan done s r rung now l off nothing same at is f = record {
   plan = plan;
   phase = phases.Start done;
-  laid = record { lies = subst (Lies (ring_of s)) (sym same.region) l.lies; one_space = l.one_space; same_ring = same.ring ∙ l.same_ring; base_is = same.base ∙ l.base_is; places = l.places };
+  laid = record { lies = subst (Lies (ring_of s)) (sym same.region) l.lies; same_ring = same.ring ∙ l.same_ring; base_is = same.base ∙ l.base_is; places = l.places };
   keeps = λ on. runs_on on off;
   begins = λ no. record {
     in_phase = off;
@@ -402,7 +402,7 @@ started_keeps heads base plan done s m b all =
     (subst (λ (c : ℕ). Facts n heads base (record (side_of plan phases.Rest s) { started = true; counter = c; batch = [] }) (words_in s m)) (sym (ap next_counter is_read)) (started_facts heads base plan done s m b all)) in record {
       plan = plan;
       phase = phases.Rest;
-      laid = record { lies = subst (Lies (ring_of s)) (sym same.region) l.lies; one_space = l.one_space; same_ring = same.ring ∙ l.same_ring; base_is = same.base ∙ l.base_is; places = length_with (heads_of list) s.taken ∙ l.places };
+      laid = record { lies = subst (Lies (ring_of s)) (sym same.region) l.lies; same_ring = same.ring ∙ l.same_ring; base_is = same.base ∙ l.base_is; places = length_with (heads_of list) s.taken ∙ l.places };
       keeps = λ on. record {
         in_phase = tt;
         kept = nothing.rests;

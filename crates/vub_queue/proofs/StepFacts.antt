@@ -144,7 +144,7 @@ goes heads base plan s m now step done x at aside after still same used =
     let p : Phase = phases.Publish (done + 1) in
     let f : Facts s.ring.size (heads_on heads s m step) base (with_phase p (counted (next_in s m) step (runs_side plan s))) (words_in s now) = facts_on heads base plan s m now step p x after in
     let l = x.run.laid in record {
-      laid = record { lies = l.lies; one_space = l.one_space; same_ring = l.same_ring; base_is = l.base_is; places = l.places };
+      laid = record { lies = l.lies; same_ring = l.same_ring; base_is = l.base_is; places = l.places };
       runs = subst (λ (u : ℕ). Runs heads u (head_next heads (words_in s now)) (record s { phase = p })) (sym (used_now heads base plan s m now step x ∙ used))
           (still_on heads (used_idx_word s.ring m) (head_next heads (words_in s m)) (head_next heads (words_in s now)) done s at aside x.run.runs);
       facts = subst (λ (hs : List ℕ). Facts s.ring.size hs base (with_phase p (runs_side plan s)) (words_in s now)) same (subst (λ (y : Side). Facts s.ring.size (heads_on heads s m step) base (with_phase p y) (words_in s now)) still f);
@@ -157,7 +157,7 @@ ends : (heads : List ℕ) (base : ℕ) (plan : Plan) (s : QueueState) (m now : B
 ends heads base plan s m now step done x at behind after still same used =
     let f : Facts s.ring.size (heads_on heads s m step) base (with_phase phases.Rest (counted (next_in s m) step (runs_side plan s))) (words_in s now) = facts_on heads base plan s m now step phases.Rest x after in
     let l = x.run.laid in record {
-      laid = record { lies = l.lies; one_space = l.one_space; same_ring = l.same_ring; base_is = l.base_is; places = l.places };
+      laid = record { lies = l.lies; same_ring = l.same_ring; base_is = l.base_is; places = l.places };
       runs = subst (λ (u : ℕ). Runs heads u (head_next heads (words_in s now)) (record s { phase = phases.Rest; batch = [] })) (sym (used_now heads base plan s m now step x ∙ used))
           (still_ends heads (used_idx_word s.ring m) (head_next heads (words_in s m)) (head_next heads (words_in s now)) done s at behind x.run.runs);
       facts = subst (λ (hs : List ℕ). Facts s.ring.size hs base (with_phase phases.Rest (runs_side plan s)) (words_in s now)) same (subst (λ (y : Side). Facts s.ring.size (heads_on heads s m step) base (with_phase phases.Rest y) (words_in s now)) still f);
@@ -175,7 +175,7 @@ counts heads base plan s m now x at =
     let next : head_next heads (words_in s now) ≡ head_next heads (words_in s m) = ap (head_next heads) x.words in
     let l = x.run.laid in
     subst (λ (u : QueueState). InRun heads base plan u now) (sym (moved_on heads base plan s m now steps.Count head p x after)) (record {
-      laid = record { lies = l.lies; one_space = l.one_space; same_ring = l.same_ring; base_is = l.base_is; places = l.places };
+      laid = record { lies = l.lies; same_ring = l.same_ring; base_is = l.base_is; places = l.places };
       runs = subst (λ (u : ℕ). Runs heads u (head_next heads (words_in s now)) t) (sym used) (subst (λ (d : ℕ). Runs heads (used_idx_word s.ring m) d t) (sym next)
           (count_keeps heads (used_idx_word s.ring m) (head_next heads (words_in s m)) head s at (seen_head heads base plan s m x.run) x.run.runs));
       facts = f;
@@ -198,7 +198,7 @@ accepts heads base plan s m now x at =
     let l = x.run.laid in
     let t : QueueState = fetched head s in
     subst (λ (u : QueueState). InRun (heads ++ next ∷ []) base plan u now) (sym (moved_on heads base plan s m now steps.Accept head p x after)) (record {
-      laid = record { lies = l.lies; one_space = l.one_space; same_ring = l.same_ring; base_is = l.base_is; places = length-set s.taken head true ∙ l.places };
+      laid = record { lies = l.lies; same_ring = l.same_ring; base_is = l.base_is; places = length-set s.taken head true ∙ l.places };
       runs = subst (λ (u : ℕ). Runs (heads ++ next ∷ []) u (head_next (heads ++ next ∷ []) (words_in s now)) t) (sym used)
           (subst (λ (d : ℕ). Runs (heads ++ d ∷ []) (used_idx_word s.ring m) (head_next (heads ++ next ∷ []) (words_in s now)) t) seen
           (accept_keeps (ring_of s) heads (used_idx_word s.ring m) next (head_next (heads ++ next ∷ []) (words_in s now)) head s refl at low free x.run.runs));
@@ -216,7 +216,7 @@ shows_batch heads base plan s m now head x at after =
     let used : used_idx_word s.ring now ≡ (used_idx_word s.ring m + length s.batch) % 65536 = used_now heads base plan s m now steps.Index x in
     let l = x.run.laid in
     subst (λ (u : QueueState). InRun left base plan u now) (sym (moved_on heads base plan s m now steps.Index head p x after)) (record {
-      laid = record { lies = l.lies; one_space = l.one_space; same_ring = l.same_ring; base_is = l.base_is; places = length_without s.batch s.taken ∙ l.places };
+      laid = record { lies = l.lies; same_ring = l.same_ring; base_is = l.base_is; places = length_without s.batch s.taken ∙ l.places };
       runs = index_shows (ring_of s) heads (used_idx_word s.ring m) (used_idx_word s.ring now) (head_next heads (words_in s m)) (head_next left (words_in s now)) s refl x.run.facts.used_fits at used x.run.runs;
       facts = f;
     })

@@ -1,6 +1,6 @@
 -- Any turn of a queue carries its facts on.
 use Rattle.std.proofs.Common.{◌≡◌, ℕ, Bool, true, false, List, refl, sym, subst, inl, inr, arith}
-use Rattle.std.specs.Prelude.{Option, Some, None}
+use Rattle.std.specs.Prelude.{Option, Some, None, ⊤}
 use Rattle.std.proofs.lemmas.Bool.Decides.{nat_tests}
 use Rattle.std.proofs.lemmas.Bool.{cases_Bool}
 use Rattle.vub_shared.specs.Bytes.{Bytes}
@@ -9,7 +9,8 @@ use Rattle.vub_steps.specs.declared.readiness.Turn.TheVariants as turns
 use Rattle.vub_queue.specs.declared.queue.Stepped.{Stepped}
 use Rattle.vub_queue.specs.declared.queue.Stepped.TheVariants as says
 use Rattle.vub_queue.specs.QueueState.{QueueState, next_row, StoresRow, Moves, Fetched, Fetches, fetch_row, fetch_under_way, fetches, Publishes, publishes, publish_row, row_if, under_way, is_fault, Unless, DoesOf, Does, DoesStore, halted}
-use Rattle.vub_queue.specs.QueueFacts.{BesideWork, FactsAt, heads_said, KeepsFacts}
+use Rattle.vub_queue.specs.QueueFacts.{WorksApart, FactsAt, heads_said, KeepsFacts}
+use Rattle.vub_queue.proofs.BesideLemmas.{IsBeside}
 use Rattle.vub_queue.proofs.TurnFacts.{facts_run, same_bytes}
 use Rattle.vub_queue.proofs.BeginFacts.{BatchesFit, begun_keeps, fetch_begun, publication_begun}
 use Rattle.vub_queue.proofs.StartFacts.{start_keeps}
@@ -64,18 +65,24 @@ publish_keeps heads base most x s t m now fit ok h stores f = elim (cases_Bool (
 
 -- ---- any turn
 
-does_keep : (heads : List ℕ) (base : ℕ) (turn : Turn) (x : Stepped) (s t : QueueState) (m now : Bytes) → BatchesFit s → is_fault x ≡ false → DoesOf turn (Some m) x s t → DoesStore turn (Some m) (Some now) x s → BesideWork turn s m now → FactsAt heads base s m → FactsAt (heads_said x s heads) base t now
+-- what work on a request left of memory
+abbrev pub LeftBeside : Turn → QueueState → Bytes → Bytes → Type 0
+LeftBeside (turns.Work place) s m now = IsBeside s m now
+LeftBeside turn s m now = ⊤
+
+does_keep : (heads : List ℕ) (base : ℕ) (turn : Turn) (x : Stepped) (s t : QueueState) (m now : Bytes) → BatchesFit s → is_fault x ≡ false → DoesOf turn (Some m) x s t → DoesStore turn (Some m) (Some now) x s → LeftBeside turn s m now → FactsAt heads base s m → FactsAt (heads_said x s heads) base t now
 does_keep heads base turns.Start x s t m now fit ok does stores beside f = start_keeps heads base x s t m now ok does stores f
 does_keep heads base turns.Fetch x s t m now fit ok does stores beside f = fetch_keeps heads base x s t m now fit ok does (stores m refl) f
 does_keep heads base (turns.Work place) x s t m now fit ok does stores beside f = work_keeps heads base place x s t m now does beside f
 does_keep heads base (turns.Publish most) x s t m now fit ok does stores beside f = publish_keeps heads base most x s t m now fit ok does (stores m refl) f
 
-pub turned_keeps : (turn : Turn) (before after : Option Bytes) (x : Stepped) (s t u : QueueState) → BatchesFit s → t ≡ halted x u → Does turn before x s u → DoesStore turn before after x s → KeepsFacts turn before after x s t
-turned_keeps turn before after x s t u fit halts does stores heads base m now told told_now beside f = go (is_fault x) refl does
+pub turned_keeps : (sizes : ℕ → ℕ) (turn : Turn) (before after : Option Bytes) (x : Stepped) (s t u : QueueState) → BatchesFit s → t ≡ halted x u → Does turn before x s u → DoesStore turn before after x s
+    → ((m now : Bytes) → before ≡ Some m → after ≡ Some now → is_fault x ≡ false → WorksApart sizes turn s m → LeftBeside turn s m now) → KeepsFacts sizes turn before after x s t
+turned_keeps sizes turn before after x s t u fit halts does stores left heads base m now told told_now apart f = go (is_fault x) refl does
   where
     go : (b : Bool) → is_fault x ≡ b → Unless b (DoesOf turn before x s u) → Unless b (FactsAt (heads_said x s heads) base t now)
     go true is does = tt
     go false is does =
         subst (λ (v : QueueState). FactsAt (heads_said x s heads) base v now) (sym halts) (halts_keep (heads_said x s heads) base x u now
         (does_keep heads base turn x s u m now fit is (subst (λ (o : Option Bytes). DoesOf turn o x s u) told does)
-        (subst (λ (o : Option Bytes). DoesStore turn (Some m) o x s) told_now (subst (λ (o : Option Bytes). DoesStore turn o after x s) told stores)) beside f))
+        (subst (λ (o : Option Bytes). DoesStore turn (Some m) o x s) told_now (subst (λ (o : Option Bytes). DoesStore turn o after x s) told stores)) (left m now told told_now is apart) f))

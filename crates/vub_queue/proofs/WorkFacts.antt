@@ -15,7 +15,8 @@ use Rattle.vub_queue.specs.declared.queue.Stop.{Stop}
 use Rattle.vub_queue.specs.declared.queue.Stepped.{Stepped}
 use Rattle.vub_queue.specs.declared.queue.Stepped.TheVariants as says
 use Rattle.vub_queue.specs.QueueState.{QueueState, worked, done_at, HasHead, Works, halted}
-use Rattle.vub_queue.specs.QueueFacts.{words_in, ring_of, side_of, KeepsHeads, StartsAt, Keeps, IsBeginning, FactsAt, heads_said, IsBeside}
+use Rattle.vub_queue.specs.QueueFacts.{words_in, ring_of, side_of, KeepsHeads, StartsAt, Keeps, IsBeginning, FactsAt, heads_said}
+use Rattle.vub_queue.proofs.BesideLemmas.{IsBeside}
 use Rattle.vub_queue.proofs.QueueHeld.{keeps_worked, keeps_done}
 
 -- ---- a queue whose words stay
@@ -49,7 +50,7 @@ stops_keep heads base o s m x =
     let l = x.laid in record {
       plan = x.plan;
       phase = x.phase;
-      laid = record { lies = l.lies; one_space = l.one_space; same_ring = l.same_ring; base_is = l.base_is; places = l.places };
+      laid = record { lies = l.lies; same_ring = l.same_ring; base_is = l.base_is; places = l.places };
       keeps = λ on. let k = x.keeps on in record { in_phase = k.in_phase; kept = k.kept; fetching = k.fetching; held = k.held };
       begins = λ off. let b = x.begins off in record {
         in_phase = b.in_phase;
@@ -93,7 +94,7 @@ worked_keeps heads base place task sector s m has x =
     let l = x.laid in record {
       plan = x.plan;
       phase = x.phase;
-      laid = record { lies = l.lies; one_space = l.one_space; same_ring = l.same_ring; base_is = l.base_is; places = l.places };
+      laid = record { lies = l.lies; same_ring = l.same_ring; base_is = l.base_is; places = l.places };
       keeps = λ on. let k = x.keeps on in record { in_phase = k.in_phase; kept = k.kept; fetching = k.fetching; held = keeps_worked s.ring.size heads (used_idx_word s.ring m) s place task has.0 sector has.1 (sym has.2) k.held };
       begins = λ off. has_started heads base place (head_in task) s m has x off;
       facts = x.facts;
@@ -104,7 +105,7 @@ done_keeps heads base place head len sector s m has x =
     let l = x.laid in record {
       plan = x.plan;
       phase = x.phase;
-      laid = record { lies = l.lies; one_space = l.one_space; same_ring = l.same_ring; base_is = l.base_is; places = l.places };
+      laid = record { lies = l.lies; same_ring = l.same_ring; base_is = l.base_is; places = l.places };
       keeps = λ on. let k = x.keeps on in record {
         in_phase = k.in_phase;
         kept = k.kept;

@@ -1,4 +1,6 @@
+pub mod Moves
 pub mod Queue
 pub mod QueueFacts
 pub mod QueueParts
 pub mod QueueState
+pub mod Turned

@@ -1,11 +1,12 @@
 -- What the device's side of one queue keeps agrees with the words of its ring and of its in-flight region, wherever these
 -- lie: no history, no number of a request and no driver occurs in it.
-use Rattle.std.specs.Prelude.{◌≡◌, ◌⊎◌, ◌<◌, ◌*◌, ℕ, suc, true, false, nat_lt, if◌then◌else◌, List, [], ◌∷◌, ◌++◌, length, map, Option, Some, None, ⊤}
-use Rattle.vub_shared.specs.Bytes.{Bytes}
-use Rattle.vub_shared.specs.Stores.{Store, after_store}
+use Rattle.std.specs.Prelude.{◌≡◌, ◌<◌, ◌*◌, ℕ, suc, true, false, nat_lt, if◌then◌else◌, List, [], ◌∷◌, ◌++◌, length, map, Option, Some, None, slice_get, All, ⊤}
+use Rattle.vub_shared.specs.Bytes.{Bytes, Apart}
 use Rattle.vub_ring.specs.Ring.{Ring}
-use Rattle.vub_split.specs.Split.{IsInOneSpace, used_side, used_idx_word}
-use Rattle.vub_infl_split.specs.Region.{RegionWords, words_of}
+use Rattle.vub_split.specs.Split.{ring_of_split, used_idx_word}
+use Rattle.vub_split.specs.Words.{avail_bytes, used_bytes}
+use Rattle.vub_infl_split.specs.declared.region.SplitRegion.{SplitRegion}
+use Rattle.vub_infl_split.specs.Region.{RegionWords, words_of, region_size}
 use Rattle.vub_steps.specs.declared.steps.Phase.{Phase}
 use Rattle.vub_steps.specs.declared.steps.Phase.TheVariants as phases
 use Rattle.vub_steps.specs.declared.steps.Plan.{Plan}
@@ -13,9 +14,15 @@ use Rattle.vub_steps.specs.declared.readiness.Turn.{Turn}
 use Rattle.vub_steps.specs.declared.readiness.Turn.TheVariants as turns
 use Rattle.vub_steps.specs.Steps.{plan_steps}
 use Rattle.vub_rec_split.specs.Places.{IsFresh, IsAt}
-use Rattle.vub_facts.specs.Facts.{Side, Words, words_at, heads_in, without, Lies, Elsewhere, Facts, IsInPhase, head_next}
+use Rattle.vub_facts.specs.Facts.{Side, Words, words_at, heads_in, without, Lies, Facts, IsInPhase, head_next}
 use Rattle.vub_facts.specs.Held.{State, Held}
+use Rattle.vub_direct_chain.specs.declared.chain.Span.{Span}
+use Rattle.vub_direct_chain.specs.declared.chain.Parts.{Parts}
+use Rattle.vub_direct_chain.specs.ChainState.{HasParts}
+use Rattle.vub_task.specs.declared.task.Task.{Task}
+use Rattle.vub_task.specs.declared.task.Work.TheVariants as work
 use Rattle.vub_task.specs.TaskState.{head_in}
+use Rattle.vub_task.specs.Writes.{spans_written, parts_written}
 use Rattle.vub_queue.specs.declared.queue.Stepped.{Stepped}
 use Rattle.vub_queue.specs.declared.queue.Stepped.TheVariants as says
 use Rattle.vub_queue.specs.QueueParts.{is_taken}
@@ -70,7 +77,7 @@ kept_head phase head = None
 
 -- the ring and the words of a queue where memory is m
 abbrev pub ring_of : QueueState → Ring
-ring_of s = used_side s.ring
+ring_of s = ring_of_split s.ring
 
 abbrev pub words_in : QueueState → Bytes → Words
 words_in s m = words_at (ring_of s) s.recovery.region m
@@ -82,7 +89,6 @@ side_of plan phase s = record { started = s.started; bell = s.bell; phase = phas
 -- its ring and its region lie apart, one of them as long as the other, and its start began at the base
 pub record IsLaid (base : ℕ) (s : QueueState) : Type 0 where
   pub lies : Lies (ring_of s) s.recovery.region
-  pub one_space : IsInOneSpace s.ring
   pub same_ring : s.recovery.ring ≡ s.ring
   pub base_is : s.recovery.base ≡ base
   pub places : length s.taken ≡ s.ring.size
@@ -126,17 +132,27 @@ heads_said (says.Accepted head) s heads = heads ++ head ∷ []
 heads_said says.Published s heads = without (heads_in s.batch) heads
 heads_said x s heads = heads
 
--- memory is as it was, or after one store that touches no word of the queue
-pub record IsBeside (s : QueueState) (m after : Bytes) : Type 0 where
-  pub is : (after ≡ m) ⊎ ((st : Store) × Elsewhere (ring_of s) s.recovery.region st × (after ≡ after_store st m))
+-- a span shares no byte with avail ring, used ring and in-flight region
+pub record SpanApart (r : Ring) (g : SplitRegion) (x : Span) : Type 0 where
+  pub avail : Apart x.space.number x.place x.len r.avail_space r.avail (avail_bytes r)
+  pub used : Apart x.space.number x.place x.len r.used_space r.used (used_bytes r)
+  pub region : Apart x.space.number x.place x.len g.space.number g.place (region_size g.size)
 
--- of the store of a request's work nothing is known here but this
-abbrev pub BesideWork : Turn → QueueState → Bytes → Bytes → Type 0
-BesideWork (turns.Work place) s m after = IsBeside s m after
-BesideWork turn s m after = ⊤
+abbrev pub SpansApart : QueueState → List Span → Type 0
+SpansApart s spans = All (SpanApart (ring_of s) s.recovery.region) spans
+
+-- so are the spans that a task may store into: before its chain is read, those that the chain lets the device write
+pub record TaskApart (sizes : ℕ → ℕ) (m : Bytes) (s : QueueState) (task : Task) : Type 0 where
+  pub goes_on : SpansApart s (spans_written task.work)
+  pub begins : task.work ≡ work.Begin → (p : Parts) → HasParts sizes s.ring m (head_in task) p → SpansApart s (parts_written p)
+
+-- a turn of work asks that of the task in its place
+abbrev pub WorksApart : (ℕ → ℕ) → Turn → QueueState → Bytes → Type 0
+WorksApart sizes (turns.Work place) s m = (task : Task) → slice_get s.unfinished place ≡ Some task → TaskApart sizes m s task
+WorksApart sizes turn s m = ⊤
 
 -- where memory is told and the facts hold before a turn, they hold after it, unless shared memory or the bell failed
-abbrev pub KeepsFacts : Turn → Option Bytes → Option Bytes → Stepped → QueueState → QueueState → Type 0
-KeepsFacts turn before after x s t =
-    (heads : List ℕ) (base : ℕ) (m now : Bytes) → before ≡ Some m → after ≡ Some now → BesideWork turn s m now → FactsAt heads base s m
+abbrev pub KeepsFacts : (ℕ → ℕ) → Turn → Option Bytes → Option Bytes → Stepped → QueueState → QueueState → Type 0
+KeepsFacts sizes turn before after x s t =
+    (heads : List ℕ) (base : ℕ) (m now : Bytes) → before ≡ Some m → after ≡ Some now → WorksApart sizes turn s m → FactsAt heads base s m
     → Unless (is_fault x) (FactsAt (heads_said x s heads) base t now)

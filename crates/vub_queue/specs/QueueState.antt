@@ -30,7 +30,7 @@ use Rattle.vub_inflight.specs.Entries.{heads_of, next_counter}
 use Rattle.vub_rec_split.specs.declared.plan.Recovered.{Recovered}
 use Rattle.vub_rec_split.specs.declared.plan.Recovered.TheVariants as recovered
 use Rattle.vub_rec_split.specs.Starts.{RecoveryState, StartLies, sight_in, answer_in, due_in, state_after, unchecked_in}
-use Rattle.vub_split.specs.Split.{RingLies, avail_idx_word, used_idx_word, head_word, used_side}
+use Rattle.vub_split.specs.Split.{RingLies, avail_idx_word, used_idx_word, head_word, ring_of_split}
 use Rattle.vub_task.specs.declared.task.Task.{Task}
 use Rattle.vub_task.specs.declared.task.Work.TheVariants as work
 use Rattle.vub_task.specs.declared.task.TaskStep as made
@@ -303,7 +303,7 @@ seen_by s m = record {
 -- the row of a step
 abbrev pub row_at : QueueState → Bytes → Option Step → Option Row
 row_at s m None = None
-row_at s m (Some step) = row_of (used_side s.ring) s.recovery.region (seen_by s m) step
+row_at s m (Some step) = row_of (ring_of_split s.ring) s.recovery.region (seen_by s m) step
 
 abbrev pub next_row : QueueState → Bytes → Option Row
 next_row s m = row_at s m (step_in s)
@@ -694,13 +694,16 @@ abbrev pub disk_outcome : Stepped → Result (Unit {0}) (Unit {0})
 disk_outcome (says.Faulted head) = Err tt
 disk_outcome x = Ok tt
 
--- a fault of the ring, of the in-flight region, of the shared memory or of the bell stops the queue
+-- a fault of the ring, of the in-flight region, of the shared memory or of the bell stops the queue, and no other answer does
+abbrev pub stopped_by : Stepped → Option Stop → Option Stop
+stopped_by (says.Broken fault) stopped = Some (stops.Broken fault)
+stopped_by (says.Damaged fault) stopped = Some (stops.Damaged fault)
+stopped_by says.SharedFault stopped = Some stops.Shared
+stopped_by says.BellFault stopped = Some stops.Bell
+stopped_by x stopped = stopped
+
 abbrev pub halted : Stepped → QueueState → QueueState
-halted (says.Broken fault) s = record s { stopped = Some (stops.Broken fault) }
-halted (says.Damaged fault) s = record s { stopped = Some (stops.Damaged fault) }
-halted says.SharedFault s = record s { stopped = Some stops.Shared }
-halted says.BellFault s = record s { stopped = Some stops.Bell }
-halted x s = s
+halted x s = record s { stopped = stopped_by x s.stopped }
 
 -- what a turn does of a queue that isn't stopped
 abbrev pub Turns : Turn → Option Bytes → Stepped → QueueState → QueueState → Type 0

@@ -238,8 +238,9 @@ impl Queue {
     ghost use Rattle.vub_steps.specs.declared.steps.Phase.TheVariants.{Rest};
     ghost use Rattle.vub_steps.specs.declared.steps.Step.TheVariants.{Count, Accept, Id, Len, Link, Head, Index, Clear, Note};
     ghost use Rattle.vub_queue.specs.Queue.{ring_in};
-    ghost use Rattle.vub_queue.specs.QueueFacts.{KeepsFacts};
-    ghost use Rattle.vub_queue.specs.QueueState.{QueueState, QueueLies, KeepsLying, Owes, OwesAt, state_of, IsNew, new_recovery, resumed, rings_next, Ends, is_starting, is_fetching, is_publishing, StoresStart, TrailsStart, RingsAt, has_rung, may_ring, bell_outcome, said, concluded, StepsAt, IsDue, IsDueAt, IfStepped, StepsOut, WorksOut, StepsTask, WorksTask, Rests, disk_outcome, standing_at, is_ready_at, waiting, IsFree, Finds, Fetches, fetch_row, fetch_under_way, begun, under_way, steps_in, step_in, next_row, moved, with_phase, Moves, outcome, found_outcome, MakesRow, publishes, publish_row, Publishes, is_idle, is_fault, Unless, Works, Does, DoesStore, DoesTrail, DoesDisk, StableAfter, halted, Turns};
+    ghost use Rattle.vub_queue.specs.Moves.{MakesMove};
+    ghost use Rattle.vub_queue.specs.Turned.{Turned, outside};
+    ghost use Rattle.vub_queue.specs.QueueState.{QueueLies, KeepsLying, Owes, OwesAt, state_of, IsNew, new_recovery, resumed, rings_next, Ends, is_starting, is_fetching, is_publishing, StoresStart, TrailsStart, RingsAt, bell_outcome, said, concluded, StepsAt, IsDue, IsDueAt, IfStepped, StepsOut, WorksOut, StepsTask, WorksTask, Rests, disk_outcome, standing_at, is_ready_at, waiting, IsFree, Finds, Fetches, fetch_row, fetch_under_way, begun, under_way, steps_in, step_in, next_row, moved, with_phase, Moves, outcome, found_outcome, MakesRow, publishes, publish_row, Publishes, is_idle, is_fault, Unless, Works, Does, StableAfter, halted};
 
     /// A queue that isn't started. All memory that it needs is reserved here.
     pub fn new(alloc: Global, setup: &QueueSetup) -> Result<Queue, Memory>
@@ -360,6 +361,7 @@ impl Queue {
         requires resting { self.old.started ≡ false }
         requires entries { AreEntries self.old.ring.size self.old.pending.items }
         ensures ring { ring_in self.new ≡ ring_in self.old }
+        ensures stopped { self.new.stopped ≡ self.old.stopped }
         ensures state { state_of self.new ≡ resumed used self.old.pending.items (state_of self.old) }
         ensures lies { KeepsLying (state_of self.old) (state_of self.new) }
     {
@@ -377,6 +379,7 @@ impl Queue {
         requires silent { rings_next (state_of self.old) ≡ false }
         requires entries { AreEntries self.old.ring.size self.old.pending.items }
         ensures ring { ring_in self.new ≡ ring_in self.old }
+        ensures stopped { self.new.stopped ≡ self.old.stopped }
         ensures ends { Ends (M.told mem.old) self.old.pending.items result (state_of self.old) (state_of self.new) }
         ensures lies { KeepsLying (state_of self.old) (state_of self.new) }
         ensures says { (result ≡ stepped.Started) ⊎ (result ≡ stepped.SharedFault) }
@@ -396,6 +399,7 @@ impl Queue {
         requires resting { self.old.started ≡ false }
         requires entries { AreEntries self.old.ring.size self.old.pending.items }
         ensures ring { ring_in self.new ≡ ring_in self.old }
+        ensures stopped { self.new.stopped ≡ self.old.stopped }
         ensures ends { Ends (M.told mem.old) self.old.pending.items result (state_of self.old) (state_of self.new) }
         ensures lies { KeepsLying (state_of self.old) (state_of self.new) }
         ensures only_loads { OnlyLoads M.told M.trail M.names M.handed M.sizes mem.old mem.new }
@@ -421,6 +425,7 @@ impl Queue {
         requires same_ring { (state_of self.old).recovery.ring ≡ ring_in self.old }
         requires resting { self.old.started ≡ false }
         ensures ring { ring_in self.new ≡ ring_in self.old }
+        ensures stopped { self.new.stopped ≡ self.old.stopped }
         ensures does { Does Start (M.told mem.old) result (state_of self.old) (state_of self.new) }
         ensures stores { StoresStart (M.told mem.old) (M.told mem.new) result (state_of self.old) }
         ensures trails { TrailsStart (M.told mem.old) (M.trail mem.old) (M.trail mem.new) result (state_of self.old) }
@@ -443,6 +448,7 @@ impl Queue {
         requires lies { StartLies (M.sizes mem.old) (state_of self.old).recovery }
         requires same_ring { (state_of self.old).recovery.ring ≡ ring_in self.old }
         ensures ring { ring_in self.new ≡ ring_in self.old }
+        ensures stopped { self.new.stopped ≡ self.old.stopped }
         ensures does { Does Start (M.told mem.old) result (state_of self.old) (state_of self.new) }
         ensures stores { StoresStart (M.told mem.old) (M.told mem.new) result (state_of self.old) }
         ensures trails { TrailsStart (M.told mem.old) (M.trail mem.old) (M.trail mem.new) result (state_of self.old) }
@@ -509,6 +515,7 @@ impl Queue {
         requires free { is_taken self.old.taken.items head ≡ false }
         requires counts { self.old.counter < last_counter }
         ensures ring { ring_in self.new ≡ ring_in self.old }
+        ensures stopped { self.new.stopped ≡ self.old.stopped }
         ensures state { state_of self.new ≡ moved head Count (fetch_under_way (state_of self.old)) }
         ensures lies { KeepsLying (state_of self.old) (state_of self.new) }
     {
@@ -528,6 +535,7 @@ impl Queue {
         requires counts { self.old.counter < last_counter }
         requires here { WhereTold (M.told mem.old) (λ m. head ≡ head_word (ring_in self.old) m self.old.next_avail) }
         ensures ring { ring_in self.new ≡ ring_in self.old }
+        ensures stopped { self.new.stopped ≡ self.old.stopped }
         ensures lies { KeepsLying (state_of self.old) (state_of self.new) }
         ensures moves { Unless (is_fault result) (Moves (M.told mem.old) result (fetch_under_way (state_of self.old)) (state_of self.new)) }
         ensures makes_row { MakesRow M.told M.trail M.names M.handed M.sizes mem.old mem.new result (next_row (fetch_under_way (state_of self.old))) }
@@ -552,6 +560,7 @@ impl Queue {
         requires resting { self.old.phase ≡ Rest }
         requires started { self.old.started ≡ true }
         ensures ring { ring_in self.new ≡ ring_in self.old }
+        ensures stopped { self.new.stopped ≡ self.old.stopped }
         ensures lies { KeepsLying (state_of self.old) (state_of self.new) }
         ensures fetches { Fetches (M.told mem.old) result (state_of self.old) (state_of self.new) }
         ensures makes_row { MakesRow M.told M.trail M.names M.handed M.sizes mem.old mem.new result (fetch_row result (state_of self.old)) }
@@ -574,6 +583,7 @@ impl Queue {
     fn accept(&mut self, head: u16)
         requires kept { self.old.fetching ≡ Some head }
         ensures ring { ring_in self.new ≡ ring_in self.old }
+        ensures stopped { self.new.stopped ≡ self.old.stopped }
         ensures state { state_of self.new ≡ moved head Accept (state_of self.old) }
         ensures lies { KeepsLying (state_of self.old) (state_of self.new) }
     {
@@ -591,6 +601,7 @@ impl Queue {
         requires kept { self.old.fetching ≡ Some head }
         requires started { self.old.started ≡ true }
         ensures ring { ring_in self.new ≡ ring_in self.old }
+        ensures stopped { self.new.stopped ≡ self.old.stopped }
         ensures lies { KeepsLying (state_of self.old) (state_of self.new) }
         ensures fetches { Fetches (M.told mem.old) result (state_of self.old) (state_of self.new) }
         ensures makes_row { MakesRow M.told M.trail M.names M.handed M.sizes mem.old mem.new result (fetch_row result (state_of self.old)) }
@@ -612,6 +623,7 @@ impl Queue {
         requires region { RegionLies (M.sizes mem.old) self.old.region }
         requires same_size { self.old.region.size ≡ self.old.ring.size }
         ensures ring { ring_in self.new ≡ ring_in self.old }
+        ensures stopped { self.new.stopped ≡ self.old.stopped }
         ensures lies { KeepsLying (state_of self.old) (state_of self.new) }
         ensures fetches { Fetches (M.told mem.old) result (state_of self.old) (state_of self.new) }
         ensures makes_row { MakesRow M.told M.trail M.names M.handed M.sizes mem.old mem.new result (fetch_row result (state_of self.old)) }
@@ -633,6 +645,7 @@ impl Queue {
         requires within { place < vec_len self.old.unfinished }
         requires fits { head < self.old.ring.size }
         ensures ring { ring_in self.new ≡ ring_in self.old }
+        ensures stopped { self.new.stopped ≡ self.old.stopped }
         ensures state { state_of self.new ≡ record (state_of self.old) { unfinished = remove (state_of self.old).unfinished place; completed = (state_of self.old).completed ++ (head, len) ∷ [] } }
     {
         self.unfinished.remove(place);
@@ -649,6 +662,7 @@ impl Queue {
         requires lies { QueueLies (M.sizes mem.old) (D.capacity disk.old) (state_of self.old) }
         requires within { place < vec_len self.old.unfinished }
         ensures ring { ring_in self.new ≡ ring_in self.old }
+        ensures stopped { self.new.stopped ≡ self.old.stopped }
         ensures lies { QueueLies (M.sizes mem.old) (D.capacity disk.old) (state_of self.new) }
         ensures head { result.0 < self.old.ring.size }
         ensures failed { IfFaulted result.1 (OwesAt place result.0 (state_of self.new)) }
@@ -673,6 +687,7 @@ impl Queue {
         requires within { place < vec_len self.old.unfinished }
         requires fits { head < self.old.ring.size }
         ensures ring { ring_in self.new ≡ ring_in self.old }
+        ensures stopped { self.new.stopped ≡ self.old.stopped }
         ensures says { result ≡ said head step }
         ensures state { state_of self.new ≡ concluded place head step (state_of self.old) }
         ensures lies { KeepsLying (state_of self.old) (state_of self.new) }
@@ -697,6 +712,7 @@ impl Queue {
         ensures lies { QueueLies (M.sizes mem.old) (D.capacity disk.old) (state_of self.new) }
         ensures failed { Owes result (state_of self.new) }
         ensures ring { ring_in self.new ≡ ring_in self.old }
+        ensures stopped { self.new.stopped ≡ self.old.stopped }
         ensures works { Works place result (state_of self.old) (state_of self.new) }
         ensures made { (task : Task) (n : Making) → WhereTold (M.told mem.old) (λ m. IsDue (D.capacity disk.old) (M.sizes mem.old) (state_of self.old) m place task n → IfStepped result (WorksOut place task n m (M.told mem.new) (M.trail mem.old) (M.trail mem.new) (D.values disk.old) (D.values disk.new) result (state_of self.old) (state_of self.new))) }
         ensures task { (task : Task) → (state_of self.old).started ≡ true → slice_get (state_of self.old).unfinished place ≡ Some task → WorksTask (M.sizes mem.old) (D.capacity disk.old) place task (M.told mem.old) (M.told mem.new) (M.trail mem.old) (M.trail mem.new) (D.values disk.old) (D.values disk.new) result (state_of self.old) (state_of self.new) }
@@ -721,6 +737,7 @@ impl Queue {
         requires resting { self.old.phase ≡ Rest }
         requires started { self.old.started ≡ true }
         ensures ring { ring_in self.new ≡ ring_in self.old }
+        ensures stopped { self.new.stopped ≡ self.old.stopped }
         ensures region { self.new.region ≡ self.old.region }
         ensures state { state_of self.new ≡ begun most (state_of self.old) }
         ensures going { is_publication self.new.phase ≡ true }
@@ -733,6 +750,7 @@ impl Queue {
     fn begin_if_resting(&mut self, most: u16)
         requires ready { publishes most (state_of self.old) ≡ true }
         ensures ring { ring_in self.new ≡ ring_in self.old }
+        ensures stopped { self.new.stopped ≡ self.old.stopped }
         ensures region { self.new.region ≡ self.old.region }
         ensures state { state_of self.new ≡ under_way most (state_of self.old) }
         ensures going { is_publication self.new.phase ≡ true }
@@ -747,6 +765,7 @@ impl Queue {
     fn free_heads(&mut self)
         requires next { step_in (state_of self.old) ≡ Some Index }
         ensures ring { ring_in self.new ≡ ring_in self.old }
+        ensures stopped { self.new.stopped ≡ self.old.stopped }
         ensures state { (head : ℕ) → state_of self.new ≡ moved head Index (state_of self.old) }
         ensures lies { KeepsLying (state_of self.old) (state_of self.new) }
     {
@@ -760,6 +779,7 @@ impl Queue {
         requires shown { 4 * self.old.batch < done_of self.old.phase }
         requires going { is_publication self.old.phase ≡ true }
         ensures ring { ring_in self.new ≡ ring_in self.old }
+        ensures stopped { self.new.stopped ≡ self.old.stopped }
         ensures state { state_of self.new ≡ with_phase Rest (state_of self.old) }
     {
         drop_front(&mut self.completed, usize::from(self.batch));
@@ -771,6 +791,7 @@ impl Queue {
     fn advance(&mut self)
         requires going { is_publication self.old.phase ≡ true }
         ensures ring { ring_in self.new ≡ ring_in self.old }
+        ensures stopped { self.new.stopped ≡ self.old.stopped }
         ensures state { state_of self.new ≡ with_phase (after_of (steps_in (state_of self.old)) self.old.phase) (state_of self.old) }
         ensures lies { KeepsLying (state_of self.old) (state_of self.new) }
     {
@@ -785,14 +806,7 @@ impl Queue {
     fn store_id<M: Shared>(&mut self, element: u32, mem: &mut M) -> Stepped
         requires lies { RingLies (M.sizes mem.old) (ring_in self.old) }
         requires next { step_in (state_of self.old) ≡ Some (Id element) }
-        ensures ring { ring_in self.new ≡ ring_in self.old }
-        ensures lies { KeepsLying (state_of self.old) (state_of self.new) }
-        ensures moves { Unless (is_fault result) (Moves (M.told mem.old) result (state_of self.old) (state_of self.new)) }
-        ensures makes_row { MakesRow M.told M.trail M.names M.handed M.sizes mem.old mem.new result (next_row (state_of self.old)) }
-        ensures publishing { is_publishing result ≡ true }
-        ensures no_disk { disk_outcome result ≡ Ok tt }
-        ensures silent { has_rung result ≡ false }
-        ensures cause { HasCause (M.faults mem.old) (M.faults mem.new) (outcome result) }
+        ensures { MakesMove M.Shared mem.old mem.new result (state_of self.old) (state_of self.new) }
     {
         let Ok(used) = self.ring.used_idx(mem) else {
             return Stepped::SharedFault;
@@ -814,14 +828,7 @@ impl Queue {
     fn store_len<M: Shared>(&mut self, element: u32, mem: &mut M) -> Stepped
         requires lies { RingLies (M.sizes mem.old) (ring_in self.old) }
         requires next { step_in (state_of self.old) ≡ Some (Len element) }
-        ensures ring { ring_in self.new ≡ ring_in self.old }
-        ensures lies { KeepsLying (state_of self.old) (state_of self.new) }
-        ensures moves { Unless (is_fault result) (Moves (M.told mem.old) result (state_of self.old) (state_of self.new)) }
-        ensures makes_row { MakesRow M.told M.trail M.names M.handed M.sizes mem.old mem.new result (next_row (state_of self.old)) }
-        ensures publishing { is_publishing result ≡ true }
-        ensures no_disk { disk_outcome result ≡ Ok tt }
-        ensures silent { has_rung result ≡ false }
-        ensures cause { HasCause (M.faults mem.old) (M.faults mem.new) (outcome result) }
+        ensures { MakesMove M.Shared mem.old mem.new result (state_of self.old) (state_of self.new) }
     {
         let Ok(used) = self.ring.used_idx(mem) else {
             return Stepped::SharedFault;
@@ -841,14 +848,7 @@ impl Queue {
     fn show<M: Shared>(&mut self, mem: &mut M) -> Stepped
         requires lies { RingLies (M.sizes mem.old) (ring_in self.old) }
         requires next { step_in (state_of self.old) ≡ Some Index }
-        ensures ring { ring_in self.new ≡ ring_in self.old }
-        ensures lies { KeepsLying (state_of self.old) (state_of self.new) }
-        ensures moves { Unless (is_fault result) (Moves (M.told mem.old) result (state_of self.old) (state_of self.new)) }
-        ensures makes_row { MakesRow M.told M.trail M.names M.handed M.sizes mem.old mem.new result (next_row (state_of self.old)) }
-        ensures publishing { is_publishing result ≡ true }
-        ensures no_disk { disk_outcome result ≡ Ok tt }
-        ensures silent { has_rung result ≡ false }
-        ensures cause { HasCause (M.faults mem.old) (M.faults mem.new) (outcome result) }
+        ensures { MakesMove M.Shared mem.old mem.new result (state_of self.old) (state_of self.new) }
     {
         let Ok(used) = self.ring.used_idx(mem) else {
             return Stepped::SharedFault;
@@ -869,14 +869,7 @@ impl Queue {
         requires within { NamesEntry self.old.region.size step }
         requires going { is_publication self.old.phase ≡ true }
         requires due { WhereTold (M.told mem.old) (λ m. IsDueAt step m (state_of self.old)) }
-        ensures ring { ring_in self.new ≡ ring_in self.old }
-        ensures lies { KeepsLying (state_of self.old) (state_of self.new) }
-        ensures moves { Unless (is_fault result) (Moves (M.told mem.old) result (state_of self.old) (state_of self.new)) }
-        ensures makes_row { MakesRow M.told M.trail M.names M.handed M.sizes mem.old mem.new result (next_row (state_of self.old)) }
-        ensures publishing { is_publishing result ≡ true }
-        ensures no_disk { disk_outcome result ≡ Ok tt }
-        ensures silent { has_rung result ≡ false }
-        ensures cause { HasCause (M.faults mem.old) (M.faults mem.new) (outcome result) }
+        ensures { MakesMove M.Shared mem.old mem.new result (state_of self.old) (state_of self.new) }
     {
         match self.region.store(mem, step) {
             Ok(()) => {
@@ -892,14 +885,7 @@ impl Queue {
         requires region { RegionLies (M.sizes mem.old) self.old.region }
         requires same_size { self.old.region.size ≡ self.old.ring.size }
         requires next { step_in (state_of self.old) ≡ Some (Link element) }
-        ensures ring { ring_in self.new ≡ ring_in self.old }
-        ensures lies { KeepsLying (state_of self.old) (state_of self.new) }
-        ensures moves { Unless (is_fault result) (Moves (M.told mem.old) result (state_of self.old) (state_of self.new)) }
-        ensures makes_row { MakesRow M.told M.trail M.names M.handed M.sizes mem.old mem.new result (next_row (state_of self.old)) }
-        ensures publishing { is_publishing result ≡ true }
-        ensures no_disk { disk_outcome result ≡ Ok tt }
-        ensures silent { has_rung result ≡ false }
-        ensures cause { HasCause (M.faults mem.old) (M.faults mem.new) (outcome result) }
+        ensures { MakesMove M.Shared mem.old mem.new result (state_of self.old) (state_of self.new) }
     {
         let Ok(last) = self.region.last_batch_head(mem) else {
             return Stepped::SharedFault;
@@ -913,14 +899,7 @@ impl Queue {
         requires region { RegionLies (M.sizes mem.old) self.old.region }
         requires same_size { self.old.region.size ≡ self.old.ring.size }
         requires next { step_in (state_of self.old) ≡ Some (Head element) }
-        ensures ring { ring_in self.new ≡ ring_in self.old }
-        ensures lies { KeepsLying (state_of self.old) (state_of self.new) }
-        ensures moves { Unless (is_fault result) (Moves (M.told mem.old) result (state_of self.old) (state_of self.new)) }
-        ensures makes_row { MakesRow M.told M.trail M.names M.handed M.sizes mem.old mem.new result (next_row (state_of self.old)) }
-        ensures publishing { is_publishing result ≡ true }
-        ensures no_disk { disk_outcome result ≡ Ok tt }
-        ensures silent { has_rung result ≡ false }
-        ensures cause { HasCause (M.faults mem.old) (M.faults mem.new) (outcome result) }
+        ensures { MakesMove M.Shared mem.old mem.new result (state_of self.old) (state_of self.new) }
     {
         let head = self.batch_element(element).head;
         self.store_in_region(SplitStore::SP4(head), mem)
@@ -931,14 +910,7 @@ impl Queue {
         requires region { RegionLies (M.sizes mem.old) self.old.region }
         requires same_size { self.old.region.size ≡ self.old.ring.size }
         requires next { step_in (state_of self.old) ≡ Some (Clear element) }
-        ensures ring { ring_in self.new ≡ ring_in self.old }
-        ensures lies { KeepsLying (state_of self.old) (state_of self.new) }
-        ensures moves { Unless (is_fault result) (Moves (M.told mem.old) result (state_of self.old) (state_of self.new)) }
-        ensures makes_row { MakesRow M.told M.trail M.names M.handed M.sizes mem.old mem.new result (next_row (state_of self.old)) }
-        ensures publishing { is_publishing result ≡ true }
-        ensures no_disk { disk_outcome result ≡ Ok tt }
-        ensures silent { has_rung result ≡ false }
-        ensures cause { HasCause (M.faults mem.old) (M.faults mem.new) (outcome result) }
+        ensures { MakesMove M.Shared mem.old mem.new result (state_of self.old) (state_of self.new) }
     {
         let head = self.batch_element(element).head;
         self.store_in_region(SplitStore::SP6(head), mem)
@@ -949,14 +921,7 @@ impl Queue {
         requires lies { RingLies (M.sizes mem.old) (ring_in self.old) }
         requires region { RegionLies (M.sizes mem.old) self.old.region }
         requires next { step_in (state_of self.old) ≡ Some Note }
-        ensures ring { ring_in self.new ≡ ring_in self.old }
-        ensures lies { KeepsLying (state_of self.old) (state_of self.new) }
-        ensures moves { Unless (is_fault result) (Moves (M.told mem.old) result (state_of self.old) (state_of self.new)) }
-        ensures makes_row { MakesRow M.told M.trail M.names M.handed M.sizes mem.old mem.new result (next_row (state_of self.old)) }
-        ensures publishing { is_publishing result ≡ true }
-        ensures no_disk { disk_outcome result ≡ Ok tt }
-        ensures silent { has_rung result ≡ false }
-        ensures cause { HasCause (M.faults mem.old) (M.faults mem.new) (outcome result) }
+        ensures { MakesMove M.Shared mem.old mem.new result (state_of self.old) (state_of self.new) }
     {
         let Ok(used) = self.ring.used_idx(mem) else {
             return Stepped::SharedFault;
@@ -968,6 +933,7 @@ impl Queue {
     fn ring_bell<B: Bell>(&mut self, bell: &mut B) -> Stepped
         requires next { step_in (state_of self.old) ≡ Some step.Bell }
         ensures ring { ring_in self.new ≡ ring_in self.old }
+        ensures stopped { self.new.stopped ≡ self.old.stopped }
         ensures lies { KeepsLying (state_of self.old) (state_of self.new) }
         ensures moves { (told : Option Bytes) → Unless (is_fault result) (Moves told result (state_of self.old) (state_of self.new)) }
         ensures publishing { is_publishing result ≡ true }
@@ -992,6 +958,7 @@ impl Queue {
         requires same_size { self.old.region.size ≡ self.old.ring.size }
         requires going { is_publication self.old.phase ≡ true }
         ensures ring { ring_in self.new ≡ ring_in self.old }
+        ensures stopped { self.new.stopped ≡ self.old.stopped }
         ensures lies { KeepsLying (state_of self.old) (state_of self.new) }
         ensures moves { Unless (is_fault result) (Moves (M.told mem.old) result (state_of self.old) (state_of self.new)) }
         ensures makes_row { MakesRow M.told M.trail M.names M.handed M.sizes mem.old mem.new result (next_row (state_of self.old)) }
@@ -1027,6 +994,7 @@ impl Queue {
         requires region { RegionLies (M.sizes mem.old) self.old.region }
         requires same_size { self.old.region.size ≡ self.old.ring.size }
         ensures ring { ring_in self.new ≡ ring_in self.old }
+        ensures stopped { self.new.stopped ≡ self.old.stopped }
         ensures lies { KeepsLying (state_of self.old) (state_of self.new) }
         ensures publishes { Unless (is_fault result) (Publishes (publishes most (state_of self.old)) (M.told mem.old) result (state_of self.old) (under_way most (state_of self.old)) (state_of self.new)) }
         ensures makes_row { MakesRow M.told M.trail M.names M.handed M.sizes mem.old mem.new result (publish_row most (state_of self.old)) }
@@ -1071,7 +1039,7 @@ impl Queue {
         Ok(choice.turn(self.ring.size, &self.standing(waiting)))
     }
 
-    /// Makes a step of this turn, if it is ready.
+    /// Makes a step of this turn, if it is ready. A fault doesn't stop the queue yet.
     fn make<M: Shared, D: Disk, B: Bell>(
         &mut self,
         turn: Turn,
@@ -1080,24 +1048,8 @@ impl Queue {
         bell: &mut B,
     ) -> Stepped
         requires lies { QueueLies (M.sizes mem.old) (D.capacity disk.old) (state_of self.old) }
-        ensures lies { QueueLies (M.sizes mem.old) (D.capacity disk.old) (state_of self.new) }
-        ensures failed { Owes result (state_of self.new) }
-        ensures ring { ring_in self.new ≡ ring_in self.old }
-        ensures does { Does turn (M.told mem.old) result (state_of self.old) (state_of self.new) }
-        ensures stores { DoesStore turn (M.told mem.old) (M.told mem.new) result (state_of self.old) }
-        ensures trails { DoesTrail turn (M.told mem.old) (M.trail mem.old) (M.trail mem.new) result (state_of self.old) }
-        ensures values { DoesDisk turn (D.values disk.old) (D.values disk.new) }
-        ensures made { (place : ℕ) (task : Task) (n : Making) → WhereTold (M.told mem.old) (λ m. turn ≡ Work place → IsDue (D.capacity disk.old) (M.sizes mem.old) (state_of self.old) m place task n → IfStepped result (WorksOut place task n m (M.told mem.new) (M.trail mem.old) (M.trail mem.new) (D.values disk.old) (D.values disk.new) result (state_of self.old) (state_of self.new))) }
-        ensures task { (place : ℕ) (task : Task) → turn ≡ Work place → (state_of self.old).started ≡ true → slice_get (state_of self.old).unfinished place ≡ Some task → WorksTask (M.sizes mem.old) (D.capacity disk.old) place task (M.told mem.old) (M.told mem.new) (M.trail mem.old) (M.trail mem.new) (D.values disk.old) (D.values disk.new) result (state_of self.old) (state_of self.new) }
-        ensures rests { (waiting place : ℕ) → turn ≡ Work place → is_ready (standing_at (state_of self.old) waiting) (Work place) ≡ false → Rests (M.told mem.old) (M.told mem.new) (M.trail mem.old) (M.trail mem.new) (D.values disk.old) (D.values disk.new) result (state_of self.old) (state_of self.new) }
-        ensures cause { HasCause (M.faults mem.old) (M.faults mem.new) (outcome result) }
-        ensures disk_cause { HasCause (D.faults disk.old) (D.faults disk.new) (disk_outcome result) }
-        ensures rings { RingsAt (state_of self.old).index result (B.told bell.old) (B.told bell.new) }
-        ensures may_ring { has_rung result ≡ true → may_ring turn ≡ true }
-        ensures bell_cause { HasCause (B.faults bell.old) (B.faults bell.new) (bell_outcome result) }
-        ensures stable { StableAfter result (D.stable disk.old) (D.values disk.new) (D.stable disk.new) }
-        ensures keeps_spaces { KeepsSpaces M.names M.handed M.sizes mem.old mem.new }
-        ensures capacity { D.capacity disk.new ≡ D.capacity disk.old }
+        requires runs { is_some self.old.stopped ≡ false }
+        ensures { Turned (Only turn) (outside M.Shared D.Disk B.Bell mem.old disk.old bell.old) (outside M.Shared D.Disk B.Bell mem.new disk.new bell.new) result (state_of self.old) (halted result (state_of self.new)) }
     {
         match turn {
             Turn::Start => self.start(mem, bell),
@@ -1107,6 +1059,7 @@ impl Queue {
         }
     }
 
+    /// Makes a step of the turn that is chosen. A fault doesn't stop the queue yet.
     fn step_of<M: Shared, D: Disk, B: Bell>(
         &mut self,
         choice: Choice,
@@ -1115,24 +1068,8 @@ impl Queue {
         bell: &mut B,
     ) -> Stepped
         requires lies { QueueLies (M.sizes mem.old) (D.capacity disk.old) (state_of self.old) }
-        ensures lies { QueueLies (M.sizes mem.old) (D.capacity disk.old) (state_of self.new) }
-        ensures failed { Owes result (state_of self.new) }
-        ensures ring { ring_in self.new ≡ ring_in self.old }
-        ensures does { WhereTold (M.told mem.old) (λ m. Does (chosen self.old.ring.size choice (standing_at (state_of self.old) (waiting (state_of self.old) m))) (M.told mem.old) result (state_of self.old) (state_of self.new)) }
-        ensures stores { WhereTold (M.told mem.old) (λ m. DoesStore (chosen self.old.ring.size choice (standing_at (state_of self.old) (waiting (state_of self.old) m))) (M.told mem.old) (M.told mem.new) result (state_of self.old)) }
-        ensures trails { WhereTold (M.told mem.old) (λ m. DoesTrail (chosen self.old.ring.size choice (standing_at (state_of self.old) (waiting (state_of self.old) m))) (M.told mem.old) (M.trail mem.old) (M.trail mem.new) result (state_of self.old)) }
-        ensures values { WhereTold (M.told mem.old) (λ m. DoesDisk (chosen self.old.ring.size choice (standing_at (state_of self.old) (waiting (state_of self.old) m))) (D.values disk.old) (D.values disk.new)) }
-        ensures made { (place : ℕ) (task : Task) (n : Making) → WhereTold (M.told mem.old) (λ m. chosen self.old.ring.size choice (standing_at (state_of self.old) (waiting (state_of self.old) m)) ≡ Work place → IsDue (D.capacity disk.old) (M.sizes mem.old) (state_of self.old) m place task n → IfStepped result (WorksOut place task n m (M.told mem.new) (M.trail mem.old) (M.trail mem.new) (D.values disk.old) (D.values disk.new) result (state_of self.old) (state_of self.new))) }
-        ensures task { (place : ℕ) (task : Task) → WhereTold (M.told mem.old) (λ m. chosen self.old.ring.size choice (standing_at (state_of self.old) (waiting (state_of self.old) m)) ≡ Work place → (state_of self.old).started ≡ true → slice_get (state_of self.old).unfinished place ≡ Some task → Unless (is_fault result) (WorksTask (M.sizes mem.old) (D.capacity disk.old) place task (M.told mem.old) (M.told mem.new) (M.trail mem.old) (M.trail mem.new) (D.values disk.old) (D.values disk.new) result (state_of self.old) (state_of self.new))) }
-        ensures rests { (waiting place : ℕ) → choice ≡ Only (Work place) → is_ready (standing_at (state_of self.old) waiting) (Work place) ≡ false → Rests (M.told mem.old) (M.told mem.new) (M.trail mem.old) (M.trail mem.new) (D.values disk.old) (D.values disk.new) result (state_of self.old) (state_of self.new) }
-        ensures cause { HasCause (M.faults mem.old) (M.faults mem.new) (outcome result) }
-        ensures disk_cause { HasCause (D.faults disk.old) (D.faults disk.new) (disk_outcome result) }
-        ensures rings { RingsAt (state_of self.old).index result (B.told bell.old) (B.told bell.new) }
-        ensures may_ring { WhereTold (M.told mem.old) (λ m. has_rung result ≡ true → may_ring (chosen self.old.ring.size choice (standing_at (state_of self.old) (waiting (state_of self.old) m))) ≡ true) }
-        ensures bell_cause { HasCause (B.faults bell.old) (B.faults bell.new) (bell_outcome result) }
-        ensures stable { StableAfter result (D.stable disk.old) (D.values disk.new) (D.stable disk.new) }
-        ensures keeps_spaces { KeepsSpaces M.names M.handed M.sizes mem.old mem.new }
-        ensures capacity { D.capacity disk.new ≡ D.capacity disk.old }
+        requires runs { is_some self.old.stopped ≡ false }
+        ensures { Turned choice (outside M.Shared D.Disk B.Bell mem.old disk.old bell.old) (outside M.Shared D.Disk B.Bell mem.new disk.new bell.new) result (state_of self.old) (halted result (state_of self.new)) }
     {
         match self.next_turn(choice, mem) {
             Ok(turn) => self.make(turn, mem, disk, bell),
@@ -1175,26 +1112,7 @@ impl Queue {
         bell: &mut B,
     ) -> Stepped
         requires { QueueLies (M.sizes mem.old) (D.capacity disk.old) (state_of self.old) }
-        ensures lies { QueueLies (M.sizes mem.new) (D.capacity disk.new) (state_of self.new) }
-        ensures failed { Owes result (state_of self.new) }
-        ensures ring { ring_in self.new ≡ ring_in self.old }
-        ensures stopped { is_some (state_of self.old).stopped ≡ true → (result ≡ Idle) × (state_of self.new ≡ state_of self.old) × (M.told mem.new ≡ M.told mem.old) × (M.trail mem.new ≡ M.trail mem.old) × (D.values disk.new ≡ D.values disk.old) × (B.told bell.new ≡ B.told bell.old) }
-        ensures does { is_some (state_of self.old).stopped ≡ false → WhereTold (M.told mem.old) (λ m. Turns (chosen (ring_in self.old).size choice (standing_at (state_of self.old) (waiting (state_of self.old) m))) (M.told mem.old) result (state_of self.old) (state_of self.new)) }
-        ensures stores { is_some (state_of self.old).stopped ≡ false → WhereTold (M.told mem.old) (λ m. DoesStore (chosen (ring_in self.old).size choice (standing_at (state_of self.old) (waiting (state_of self.old) m))) (M.told mem.old) (M.told mem.new) result (state_of self.old)) }
-        ensures keeps { WhereTold (M.told mem.old) (λ m. KeepsFacts (chosen (ring_in self.old).size choice (standing_at (state_of self.old) (waiting (state_of self.old) m))) (M.told mem.old) (M.told mem.new) result (state_of self.old) (state_of self.new)) }
-        ensures trails { is_some (state_of self.old).stopped ≡ false → WhereTold (M.told mem.old) (λ m. DoesTrail (chosen (ring_in self.old).size choice (standing_at (state_of self.old) (waiting (state_of self.old) m))) (M.told mem.old) (M.trail mem.old) (M.trail mem.new) result (state_of self.old)) }
-        ensures values { is_some (state_of self.old).stopped ≡ false → WhereTold (M.told mem.old) (λ m. DoesDisk (chosen (ring_in self.old).size choice (standing_at (state_of self.old) (waiting (state_of self.old) m))) (D.values disk.old) (D.values disk.new)) }
-        ensures made { (place : ℕ) (task : Task) (n : Making) → is_some (state_of self.old).stopped ≡ false → WhereTold (M.told mem.old) (λ m. chosen (ring_in self.old).size choice (standing_at (state_of self.old) (waiting (state_of self.old) m)) ≡ Work place → IsDue (D.capacity disk.old) (M.sizes mem.old) (state_of self.old) m place task n → IfStepped result (WorksOut place task n m (M.told mem.new) (M.trail mem.old) (M.trail mem.new) (D.values disk.old) (D.values disk.new) result (state_of self.old) (state_of self.new))) }
-        ensures task { (place : ℕ) (task : Task) → is_some (state_of self.old).stopped ≡ false → WhereTold (M.told mem.old) (λ m. chosen (ring_in self.old).size choice (standing_at (state_of self.old) (waiting (state_of self.old) m)) ≡ Work place → (state_of self.old).started ≡ true → slice_get (state_of self.old).unfinished place ≡ Some task → Unless (is_fault result) ((u : QueueState) × (state_of self.new ≡ halted result u) × WorksTask (M.sizes mem.old) (D.capacity disk.old) place task (M.told mem.old) (M.told mem.new) (M.trail mem.old) (M.trail mem.new) (D.values disk.old) (D.values disk.new) result (state_of self.old) u)) }
-        ensures rests { (waiting place : ℕ) → is_some (state_of self.old).stopped ≡ false → choice ≡ Only (Work place) → is_ready (standing_at (state_of self.old) waiting) (Work place) ≡ false → Rests (M.told mem.old) (M.told mem.new) (M.trail mem.old) (M.trail mem.new) (D.values disk.old) (D.values disk.new) result (state_of self.old) (state_of self.new) }
-        ensures cause { HasCause (M.faults mem.old) (M.faults mem.new) (outcome result) }
-        ensures disk_cause { HasCause (D.faults disk.old) (D.faults disk.new) (disk_outcome result) }
-        ensures rings { RingsAt (state_of self.old).index result (B.told bell.old) (B.told bell.new) }
-        ensures may_ring { WhereTold (M.told mem.old) (λ m. has_rung result ≡ true → may_ring (chosen (ring_in self.old).size choice (standing_at (state_of self.old) (waiting (state_of self.old) m))) ≡ true) }
-        ensures bell_cause { HasCause (B.faults bell.old) (B.faults bell.new) (bell_outcome result) }
-        ensures stable { StableAfter result (D.stable disk.old) (D.values disk.new) (D.stable disk.new) }
-        ensures keeps_spaces { KeepsSpaces M.names M.handed M.sizes mem.old mem.new }
-        ensures capacity { D.capacity disk.new ≡ D.capacity disk.old }
+        ensures { Turned choice (outside M.Shared D.Disk B.Bell mem.old disk.old bell.old) (outside M.Shared D.Disk B.Bell mem.new disk.new bell.new) result (state_of self.old) (state_of self.new) }
     {
         if self.stopped.is_some() {
             return Stepped::Idle;

@@ -37,7 +37,7 @@ use Rattle.vub_queue.proofs.ResumeLemmas.{length_with}
 use Rattle.vub_facts.proofs.HeadLemmas.{without_map, without_none, number_of, among_get}
 use Rattle.vub_run.specs.Moments.{open_heads}
 use Rattle.vub_device.specs.Places.{are_distinct}
-use Rattle.vub_split.specs.Split.{used_side}
+use Rattle.vub_split.specs.Split.{ring_of_split}
 use Rattle.vub_queue.specs.declared.queue.QueueSetup.{QueueSetup}
 use Rattle.vub_task.specs.declared.task.Task.{Task}
 use Rattle.vub_run_laws.proofs.RunOwn.{accepted_own, published_own, started_own}
@@ -373,7 +373,7 @@ at_fetch q h setup past heads phase completed made state head run known w is sma
       phase = refl;
       batch = refl;
       completed = x.completed;
-      keeps = λ runs. subst (λ (hs : List ℕ). KeepsHeads setup.ring.size hs (used_after h q past) (fetched head state)) (sym joins) (keeps_accepted (used_side setup.ring) (open_heads q past heads) (used_after h q past) state head small x.places free empty (x.keeps runs));
+      keeps = λ runs. subst (λ (hs : List ℕ). KeepsHeads setup.ring.size hs (used_after h q past) (fetched head state)) (sym joins) (keeps_accepted (ring_of_split setup.ring) (open_heads q past heads) (used_after h q past) state head small x.places free empty (x.keeps runs));
       nothing = λ stopped. absurd (let fails : true ≡ false = sym run ∙ stopped in cc);
       tasks = λ i k task there is_task.
           let there_too : slice_get (left_of q past completed [] ++ a ∷ []) i ≡ Some k = subst (λ (ks : List ℕ). slice_get ks i ≡ Some k) more there in
@@ -503,7 +503,7 @@ at_show q h setup past heads phase batch completed made state list done run is o
       batch = none;
       completed = x.completed;
       keeps = λ runs. subst (λ (hs : List ℕ). KeepsHeads setup.ring.size hs (used_after h q past') (shown done state)) (sym leave)
-          (keeps_shown (used_side setup.ring) (open_heads q past heads) (used_after h q past) (used_after h q past') done state (omega arith) x.places all (omega (arith, shows, many)) past_all (x.keeps runs));
+          (keeps_shown (ring_of_split setup.ring) (open_heads q past heads) (used_after h q past) (used_after h q past') done state (omega arith) x.places all (omega (arith, shows, many)) past_all (x.keeps runs));
       nothing = λ stopped. absurd (let fails : true ≡ false = sym run ∙ stopped in cc);
       tasks = λ i k task there is_task.
           let t = x.tasks i k task (subst (λ (ks : List ℕ). slice_get ks i ≡ Some k) same there) is_task in

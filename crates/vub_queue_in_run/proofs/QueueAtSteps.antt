@@ -22,7 +22,7 @@ use Rattle.vub_infl_split.specs.declared.region.SplitRegion.{SplitRegion}
 use Rattle.vub_infl_split.specs.declared.region.SplitStore.{SplitStore}
 use Rattle.vub_infl_split.specs.declared.region.SplitStore.TheVariants as stores
 use Rattle.vub_infl_split.specs.Region.{words_of}
-use Rattle.vub_split.specs.Split.{used_side, used_idx_word, head_word}
+use Rattle.vub_split.specs.Split.{ring_of_split, used_idx_word, head_word}
 use Rattle.vub_split.specs.declared.split.SplitRing.{SplitRing}
 use Rattle.vub_device.specs.declared.entry.Answered.{Answered}
 use Rattle.vub_device.specs.declared.entry.Entry.{Entry}
@@ -140,12 +140,12 @@ queue_after q h setup s l step u w =
 
 -- ---- its row
 
-ring_same : (s s' d d' a a' v v' n n' : ℕ) → s ≡ s' → d ≡ d' → a ≡ a' → v ≡ v' → n ≡ n'
-    → ◌≡◌ {A = Ring} (record { space = s; desc = d; avail = a; used = v; size = n }) (record { space = s'; desc = d'; avail = a'; used = v'; size = n' })
-ring_same s s' d d' a a' v v' n n' es ed ea ev en = cc
+ring_same : (s s' t t' v v' d d' a a' u u' n n' : ℕ) → s ≡ s' → d ≡ d' → t ≡ t' → a ≡ a' → v ≡ v' → u ≡ u' → n ≡ n'
+    → ◌≡◌ {A = Ring} (record { desc_space = s; desc = d; avail_space = t; avail = a; used_space = v; used = u; size = n }) (record { desc_space = s'; desc = d'; avail_space = t'; avail = a'; used_space = v'; used = u'; size = n' })
+ring_same s s' t t' v v' d d' a a' u u' n n' es ed et ea ev eu en = cc
 
-side_is : (q : ℕ) (setup : QueueSetup) (n : ℕ) → LiesAs q setup n → used_side setup.ring ≡ the_ring q n
-side_is q setup n main = ring_same setup.ring.used.0.number 0 setup.ring.desc.1 (area_place q) setup.ring.avail.1 (area_place q + 4096) setup.ring.used.1 (area_place q + 8192) setup.ring.size n main.used_space main.desc main.avail main.used main.size
+ring_is : (q : ℕ) (setup : QueueSetup) (n : ℕ) → LiesAs q setup n → ring_of_split setup.ring ≡ the_ring q n
+ring_is q setup n main = ring_same _ _ _ _ _ _ _ _ _ _ _ _ _ _ main.desc_space main.desc main.avail_space main.avail main.used_space main.used main.size
 
 sight_same : (v v' last last' link head counter counter' : ℕ) (batch batch' : List (ℕ × ℕ)) → v ≡ v' → last ≡ last' → counter ≡ counter' → batch ≡ batch'
     → ◌≡◌ {A = Sight} (record { used = v; last_batch_head = last; link = link; head = head; counter = counter; batch = batch }) (record { used = v'; last_batch_head = last'; link = link; head = head; counter = counter'; batch = batch' })
@@ -165,8 +165,8 @@ table_row q h s l step = row_of (the_ring q h.size) (region_of q h.size) (sight_
 row_there : (q : ℕ) (h : Header1) (setup : QueueSetup) (s : Scene) (l : Lane) (step : Step) (u : QueueState) → IsUnderWay q h setup s l step u
     → row_at u s.memory (Some step) ≡ row_of (the_ring q h.size) (region_of q h.size) (record (sight_of h q s l) { link = (seen_by u s.memory).link; head = (seen_by u s.memory).head }) step
 row_there q h setup s l step u w =
-    ap (λ (r : SplitRing). row_of (used_side r) u.recovery.region (seen_by u s.memory) step) w.at.ring
-    ∙ ap (λ (r : Ring). row_of r u.recovery.region (seen_by u s.memory) step) (side_is q setup h.size w.main)
+    ap (λ (r : SplitRing). row_of (ring_of_split r) u.recovery.region (seen_by u s.memory) step) w.at.ring
+    ∙ ap (λ (r : Ring). row_of r u.recovery.region (seen_by u s.memory) step) (ring_is q setup h.size w.main)
     ∙ ap (λ (g : SplitRegion). row_of (the_ring q h.size) g (seen_by u s.memory) step) (w.phase.region ∙ w.main.region)
     ∙ ap (λ (z : Sight). row_of (the_ring q h.size) (region_of q h.size) z step) (seen_is q h setup s l step u w)
 

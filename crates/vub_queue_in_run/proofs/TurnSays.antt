@@ -47,7 +47,7 @@ region_fits q n (SP4 head) = record { space = refl; few = omega (arith, length_l
 region_fits q n (SP6 i) = record { space = refl; few = omega (arith, length_little 1 0) }
 region_fits q n (SP7 used) = record { space = refl; few = omega (arith, length_little 2 used) }
 
-pub ring_fits : (r : Ring) (tag : Tag) (place width value : ℕ) → r.space ≡ 0 → width ≤ 512 → RowFits (row r tag place (little_bytes width value))
+pub ring_fits : (r : Ring) (tag : Tag) (place width value : ℕ) → r.used_space ≡ 0 → width ≤ 512 → RowFits (row r tag place (little_bytes width value))
 ring_fits r tag place width value space few = record { space = space; few = omega (arith, few, length_little width value) }
 
 -- ---- a turn

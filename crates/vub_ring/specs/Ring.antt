@@ -2,11 +2,13 @@
 use Rattle.std.specs.Prelude.{ℕ, zero, suc, ◌+◌, ◌-◌, ◌*◌, ◌%◌, List, [], ◌∷◌}
 use Rattle.vub_shared.specs.Bytes.{Bytes, word}
 
--- where a queue of `size` places lies: its space, and the places of its descriptor table, avail ring and used ring
+-- where a queue of `size` places lies: the space and the place of its descriptor table, of its avail ring and of its used ring
 pub record Ring : Type 0 where
-  pub space : ℕ
+  pub desc_space : ℕ
   pub desc : ℕ
+  pub avail_space : ℕ
   pub avail : ℕ
+  pub used_space : ℕ
   pub used : ℕ
   pub size : ℕ
 
@@ -36,18 +38,18 @@ used_len_place r index = r.used + (8 + 8 * entry_of r index)
 -- ---- words
 
 abbrev pub avail_idx : Ring → Bytes → ℕ
-avail_idx r m = word 2 m r.space (avail_idx_place r)
+avail_idx r m = word 2 m r.avail_space (avail_idx_place r)
 
 -- the head in the avail entry of an index
 abbrev pub head_at : Ring → Bytes → ℕ → ℕ
-head_at r m index = word 2 m r.space (avail_entry_place r index)
+head_at r m index = word 2 m r.avail_space (avail_entry_place r index)
 
 abbrev pub used_idx : Ring → Bytes → ℕ
-used_idx r m = word 2 m r.space (used_idx_place r)
+used_idx r m = word 2 m r.used_space (used_idx_place r)
 
 -- id and length in the used element of an index
 abbrev pub element_at : Ring → Bytes → ℕ → ℕ × ℕ
-element_at r m index = (word 4 m r.space (used_id_place r index), word 4 m r.space (used_len_place r index))
+element_at r m index = (word 4 m r.used_space (used_id_place r index), word 4 m r.used_space (used_len_place r index))
 
 -- ---- what is seen
 

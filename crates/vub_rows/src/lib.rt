@@ -3,4 +3,4 @@
 
 mod rows;
 
-pub use rows::{one_read, one_write};
+pub use rows::{attaching, one_read, one_write};

@@ -24,7 +24,7 @@ space_of I = inflight_space
 -- avail.idx and used.idx of a ring at the base
 abbrev pub with_indexes : Ring → ℕ → Bytes → Bytes
 with_indexes r base m =
-    after_store (one_store r.space (used_idx_place r) (little_bytes 2 base)) (after_store (one_store r.space (avail_idx_place r) (little_bytes 2 base)) m)
+    after_store (one_store r.used_space (used_idx_place r) (little_bytes 2 base)) (after_store (one_store r.avail_space (avail_idx_place r) (little_bytes 2 base)) m)
 
 -- zero bytes, but the indexes of the first so many queues
 abbrev pub opened : Header1 → ℕ → Bytes

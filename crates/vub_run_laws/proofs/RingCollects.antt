@@ -94,7 +94,7 @@ first_seen q h s l x xs good holds e =
 same_element : (r : Ring) (m : Bytes) (p : ℕ) → element_at r m (p % 65536) ≡ element_at r m p
 same_element r m p =
     let e : (p % 65536) % 65536 ≡ p % 65536 = omega arith in
-    ap (λ (i : ℕ). (word 4 m r.space (r.used + (4 + 8 * (i % r.size))), word 4 m r.space (r.used + (8 + 8 * (i % r.size))))) e
+    ap (λ (i : ℕ). (word 4 m r.used_space (r.used + (4 + 8 * (i % r.size))), word 4 m r.used_space (r.used + (8 + 8 * (i % r.size))))) e
 
 some_elements : (r : Ring) (m : Bytes) (k d : ℕ) → 0 < k → (xs : List (ℕ × ℕ)) × (elements_from r m k d ≡ element_at r m d ∷ xs)
 some_elements r m zero d some = absurd (omega arith)

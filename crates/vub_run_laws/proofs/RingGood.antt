@@ -33,7 +33,7 @@ pub record Ringed (q n base : ℕ) (past : List Entry) (heads : List ℕ) (m : B
 
 -- the store of avail.idx, which offers
 abbrev pub index_store : Ring → ℕ → Store
-index_store r index = one_store r.space (avail_idx_place r) (little_bytes 2 ((index + 1) % 65536))
+index_store r index = one_store r.avail_space (avail_idx_place r) (little_bytes 2 ((index + 1) % 65536))
 
 -- a store into the descriptor table, or into the buffer of that head
 pub record IsHarmless (q head : ℕ) (st : Store) : Type 0 where

@@ -23,7 +23,7 @@ pub same_ahead : (a p p' : ℕ) → p % 65536 ≡ p' % 65536 → ahead a p ≡ a
 same_ahead a p p' e = ap (λ (y : ℕ). (a + 65536 - y) % 65536) e
 
 pub same_head_at : (r : Ring) (m : Bytes) (p p' : ℕ) → p % 65536 ≡ p' % 65536 → head_at r m p ≡ head_at r m p'
-same_head_at r m p p' e = ap (λ (y : ℕ). word 2 m r.space (r.avail + (4 + 2 * (y % r.size)))) e
+same_head_at r m p p' e = ap (λ (y : ℕ). word 2 m r.avail_space (r.avail + (4 + 2 * (y % r.size)))) e
 
 pub ahead_by : (base a b : ℕ) → b ≤ a → a < b + 65536 → ahead ((base + a) % 65536) (base + b) + b ≡ a
 ahead_by base a b le near = omega arith

@@ -15,15 +15,14 @@ use Rattle.vub_driver.specs.TableChain.{chain_in}
 use Rattle.vub_device.specs.Past.{asked, is_among}
 use Rattle.vub_schedule.specs.declared.types.Event.{Event}
 use Rattle.vub_schedule.specs.declared.types.Event.TheVariants as events
-use Rattle.vub_schedule.specs.declared.types.Schedule.{Schedule}
-use Rattle.vub_schedule.specs.Spelling.{IsHeader, IsEvent, IsSchedule}
+use Rattle.vub_schedule.specs.Spelling.{IsHeader, IsEvent}
 use Rattle.vub_report.specs.declared.items.Item.{Item}
 use Rattle.vub_report.specs.declared.items.Record.{Record}
 use Rattle.vub_run.specs.Before.{BeforeEach}
 use Rattle.vub_run.specs.Lawful.{IsOutstanding, HasRoom, next_index, IsLawful, IsLawfulItem, LawfulFrom, EveryStoreIsLawful}
 use Rattle.vub_run.specs.Memory.{Scene}
 use Rattle.vub_run.specs.Moments.{Moment, opening}
-use Rattle.vub_run.specs.Run.{RunTo, Stands, Played, if_ready, guest_items, guest, guest_stores, Plays, RunFrom, Run}
+use Rattle.vub_run.specs.Run.{RunTo, Stands, Played, if_ready, guest_items, guest, guest_stores, Plays, RunFrom}
 use Rattle.vub_run_laws.proofs.RingGood.{the_ring, index_store, IsHarmless, IsWaiting, IsLeft}
 use Rattle.vub_run_laws.proofs.RunGood.{IsSize, IsOut, Known}
 use Rattle.vub_run_laws.proofs.RunFrames.{keeps, length_little}
@@ -224,8 +223,8 @@ lawful_from h m (e ∷ es) (r ∷ rs) header held x fits run =
       subst (λ (s : Scene). LawfulFrom h s rs) right.scene rest,
     )
 
-pub run_lawful : (s : Schedule) (records : List Record) → IsSchedule s → Run s records → EveryStoreIsLawful s.header records
-run_lawful s records is run = lawful_from s.header (opening s.header) s.events records is.header (opening_held s.header is.header) (λ q low. opening_described q s.header) is.events run
+pub run_lawful : (h : Header1) (es : List Event) (rs : List Record) → IsHeader h → AllByRecursion (IsEvent h) es → RunFrom h (opening h) es rs → EveryStoreIsLawful h rs
+run_lawful h es rs header fits run = lawful_from h (opening h) es rs header (opening_held h header) (λ q low. opening_described q h) fits run
 
 -- where a run leads
 run_described : (h : Header1) (m : Moment) (es : List Event) (rs : List Record) (n : Moment) → IsHeader h → IsHeld h m → EveryDescribed h m → AllByRecursion (IsEvent h) es → RunTo h m es rs n → EveryDescribed h n

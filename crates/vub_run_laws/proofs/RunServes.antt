@@ -1,5 +1,5 @@
 -- Each drain of an attached queue in a run serves it.
-use Rattle.std.proofs.Common.{◌≡◌, ◌<◌, ℕ, ◌+◌, Bool, true, false, not, List, [], ◌∷◌, ◌++◌, length, refl, ap, sym, ◌∙◌, subst, inl, inr, arith}
+use Rattle.std.proofs.Common.{◌≡◌, ◌<◌, ℕ, ◌+◌, Bool, true, false, not, List, [], ◌∷◌, ◌++◌, length, length-append, refl, ap, sym, ◌∙◌, subst, inl, inr, arith}
 use Rattle.std.specs.Prelude.{Option, Some, None, is_some, ◌&&◌}
 use Rattle.std.specs.List.{AllByRecursion}
 use Rattle.vub_base.specs.declared.header.Header1.{Header1}
@@ -25,6 +25,8 @@ use Rattle.vub_run_laws.proofs.RunTurns.{IsPlain, Good}
 use Rattle.vub_run_laws.proofs.RunDrains.{turned_stays, turns_stay}
 use Rattle.vub_run_laws.proofs.Runs.{plain_header}
 use Rattle.vub_run_laws.proofs.RunQueues.{IsOn, on_one}
+use Rattle.vub_run_laws.proofs.RunLawful.{run_lawful}
+use Rattle.vub_run_laws.proofs.RunSpares.{run_spared}
 use Rattle.vub_run_laws.proofs.RunsLegal.{IsHeld, opening_held, held_next}
 use Rattle.vub_run_laws.proofs.RunsTo.{run_length, run_of, stands_more, stands_past, stands_true, stands_drained}
 use Rattle.vub_steps.specs.Readiness.{last_counter}
@@ -69,7 +71,7 @@ tested_is P true p m is next e ready idle = subst (λ (x : Played). P x.items x.
 tested_is P false p m is next e ready idle = subst (λ (x : Played). P x.items x.next) (sym e) idle
 
 -- after an event
-event_attaches : (q : ℕ) (h : Header1) (m : Moment) (e : Event) (is : List Item) (next : Moment) → IsPlain h → Good q h m → IsOn q e → IsEvent h e → Plays h m e is next → is_on q next ≡ attached_after e is (is_on q m)
+event_attaches : (q : ℕ) (h : Header1) (m : Moment) (e : Event) (is : List Item) (next : Moment) → IsPlain h → Good q h m → IsOn q e → IsEvent h e → Plays h m e is next → is_on q next ≡ attached_after q e is (is_on q m)
 event_attaches q h m (events.Ask p shape a) is next plain good on fits plays =
     let here : Plays h m (events.Ask q shape a) is next = subst (λ (p : ℕ). Plays h m (events.Ask p shape a) is next) on plays in
     made_stays q m is next (ask h q shape a m) here (tested q (can_take h.size shape a (m.lanes q).driver) _ m (ap (λ (l : Lane). l.attached) (at_own m.lanes q _)))
@@ -80,9 +82,9 @@ event_attaches q h m (events.Collect p) is next plain good on fits plays =
     let here : Plays h m (events.Collect q) is next = subst (λ (p : ℕ). Plays h m (events.Collect p) is next) on plays in
     made_stays q m is next (collect h q m) here (taken_stays q h m _)
 event_attaches q h m events.Boot is next plain good on fits plays =
-    tested_is (λ js n. is_on q n ≡ attached_after events.Boot js (is_on q m)) (not m.lives) (played [] (record m { lives = true; joined = false; lanes = λ q. fresh (m.lanes q) })) m is next plays refl refl
+    tested_is (λ js n. is_on q n ≡ attached_after q events.Boot js (is_on q m)) (not m.lives) (played [] (record m { lives = true; joined = false; lanes = λ q. fresh (m.lanes q) })) m is next plays refl refl
 event_attaches q h m events.Join is next plain good on fits plays =
-    tested_is (λ js n. is_on q n ≡ attached_after events.Join js (is_on q m)) (m.lives && not m.joined) (played [] (record m { joined = true; lanes = λ q. attached (m.lanes q) })) m is next plays refl refl
+    tested_is (λ js n. is_on q n ≡ attached_after q events.Join js (is_on q m)) (m.lives && not m.joined) (played [] (record m { joined = true; lanes = λ q. attached (m.lanes q) })) m is next plays refl refl
 event_attaches q h m (events.Start p) is next plain good on fits plays =
     let here : Plays h m (events.Start q) is next = subst (λ (p : ℕ). Plays h m (events.Start p) is next) on plays in
     made_stays q m is next (single h q turns.Start m) here (single_stays q h m turns.Start)
@@ -109,15 +111,15 @@ event_attaches q h m events.Kill is next plain good on fits plays = made_stays_o
     go false off = (good.asleep off).0
 
 -- and after a run
-run_attaches : (q : ℕ) (h : Header1) (m : Moment) (es : List Event) (rs : List Record) (n : Moment) → IsHeader h → q < h.queues → IsHeld h m → AllByRecursion (IsEvent h) es → RunTo h m es rs n → is_on q n ≡ attached_from (is_on q m) rs
+run_attaches : (q : ℕ) (h : Header1) (m : Moment) (es : List Event) (rs : List Record) (n : Moment) → IsHeader h → q < h.queues → IsHeld h m → AllByRecursion (IsEvent h) es → RunTo h m es rs n → is_on q n ≡ attached_from q (is_on q m) rs
 run_attaches q h m [] [] n header low held fits run = ap (is_on q) run
 run_attaches q h m [] (r ∷ rs) n header low held fits run = absurd run
 run_attaches q h m (e ∷ es) [] n header low held fits run = absurd run
 run_attaches q h m (e ∷ es) (r ∷ rs) n header low held fits run =
     let next : Moment = run.1.0 in
-    let first : is_on q next ≡ attached_after e r.items (is_on q m) = event_attaches q h m e r.items next (plain_header h header) (held q low).good (on_one h q e header low fits.0) fits.0 run.1.1 in
+    let first : is_on q next ≡ attached_after q e r.items (is_on q m) = event_attaches q h m e r.items next (plain_header h header) (held q low).good (on_one h q e header low fits.0) fits.0 run.1.1 in
     run_attaches q h next es rs n header low (held_next h m e r.items next header held fits.0 run.1.1) fits.1 run.1.2
-    ∙ ap (λ (b : Bool). attached_from b rs) (first ∙ ap (λ (x : Event). attached_after x r.items (is_on q m)) (sym run.0))
+    ∙ ap (λ (b : Bool). attached_from q b rs) (first ∙ ap (λ (x : Event). attached_after q x r.items (is_on q m)) (sym run.0))
 
 -- ---- a run is parted at a record
 
@@ -165,8 +167,9 @@ drain_serves q h es rs m k r low stands next counts attached plays =
       all_accepted = subst (λ (p : List Entry). accepted p q ≡ offers p q) past both.1;
     }
 
-stands_serves : (h : Header1) (es : List Event) (rs : List Record) (n : Moment) → Stands h es rs n → EveryDrainServes rs
-stands_serves h es rs n s before r later q parts is attached counts =
+-- each does where fewer events came than there are counters
+pub stands_serves : (h : Header1) (es : List Event) (rs : List Record) (n : Moment) → Stands h es rs n → length es < last_counter → EveryDrainServes rs
+stands_serves h es rs n s few before r later q parts is attached =
     let run : RunTo h (opening h) es (before ++ r ∷ later) n = subst (λ (xs : List Record). RunTo h (opening h) es xs n) parts s.run in
     let p : PartedAt h (opening h) es before r = parted h (opening h) es before r later n s.events run in
     let stands : Stands h p.first before p.at = record { header = s.header; events = p.fits; run = p.upto } in
@@ -175,7 +178,9 @@ stands_serves h es rs n s before r later q parts is attached counts =
     let plays : Plays h p.at (events.Drain q) r.items p.next = subst (λ (x : Event). Plays h p.at x r.items p.next) is p.plays in
     let next : Stands h (p.first ++ events.Drain q ∷ []) (before ++ r ∷ []) p.next = stands_more h p.first before p.at p.next (events.Drain q) r stands fits is plays in
     let on : is_on q p.at ≡ true = run_attaches q h (opening h) p.first before p.at s.header low (opening_held h s.header) p.fits p.upto ∙ attached in
-    drain_serves q h p.first before p.at p.next r low stands next (omega (arith, counts, run_length h (opening h) p.first before p.at p.upto)) on plays
+    let many : length rs ≡ length before + length (r ∷ later) = ap length parts ∙ length-append before (r ∷ later) in
+    let counts : length p.first + 1 < last_counter = omega (arith, few, many, run_length h (opening h) es rs n s.run, run_length h (opening h) p.first before p.at p.upto) in
+    drain_serves q h p.first before p.at p.next r low stands next counts on plays
 
 -- ---- all that is true of a run
 
@@ -187,7 +192,8 @@ stands_legal h es rs n s =
       entries = run_enters h (opening h) es rs s.header (opening_held h s.header) s.events run;
       legal = both.0;
       tracked = both.1;
-      drained = stands_serves h es rs n s;
+      lawful = run_lawful h es rs s.header s.events run;
+      spared = run_spared h es rs s.header s.events run;
     }
 
 -- a run leads somewhere
@@ -203,3 +209,8 @@ pub run_legal : (h : Header1) (es : List Event) (rs : List Record) → IsHeader 
 run_legal h es rs header fits run =
     let end = ends_at h (opening h) es rs run in
     stands_legal h es rs end.0 (record { header = header; events = fits; run = end.1 })
+
+pub run_serves : (h : Header1) (es : List Event) (rs : List Record) → IsHeader h → AllByRecursion (IsEvent h) es → RunFrom h (opening h) es rs → length es < last_counter → EveryDrainServes rs
+run_serves h es rs header fits run few =
+    let end = ends_at h (opening h) es rs run in
+    stands_serves h es rs end.0 (record { header = header; events = fits; run = end.1 }) few

@@ -21,8 +21,7 @@ use Rattle.vub_device.specs.Past.{asked, accepted, published, is_among, IsOpen, 
 use Rattle.vub_device.specs.Requests.{look_at, effect_at}
 use Rattle.vub_schedule.specs.declared.types.Event.{Event}
 use Rattle.vub_schedule.specs.declared.types.Event.TheVariants as events
-use Rattle.vub_schedule.specs.declared.types.Schedule.{Schedule}
-use Rattle.vub_schedule.specs.Spelling.{IsHeader, IsEvent, IsSchedule}
+use Rattle.vub_schedule.specs.Spelling.{IsHeader, IsEvent}
 use Rattle.vub_device.specs.declared.entry.Entry.TheVariants as entries
 use Rattle.vub_report.specs.declared.items.Item.{Item}
 use Rattle.vub_report.specs.declared.items.Item.TheVariants as items
@@ -30,7 +29,7 @@ use Rattle.vub_report.specs.declared.items.Record.{Record}
 use Rattle.vub_run.specs.Before.{BeforeEach}
 use Rattle.vub_run.specs.Memory.{Scene, after_item, after_items}
 use Rattle.vub_run.specs.Moments.{Lane, Moment, opening, fresh, attached, unfinished}
-use Rattle.vub_run.specs.Run.{Played, played, if_ready, ask, guest_items, guest_stores, guest, take_first, collect, boot, join, one_turn, is_due, then_played, turns as many_turns, single, up_to, any_choice, drain_choice, Drains, Plays, RunFrom, Run, kill, ended}
+use Rattle.vub_run.specs.Run.{Played, played, if_ready, ask, guest_items, guest_stores, guest, take_first, collect, boot, join, one_turn, is_due, then_played, turns as many_turns, single, up_to, any_choice, drain_choice, Drains, Plays, RunFrom, kill, ended}
 use Rattle.vub_run.specs.Spared.{IsSparing, SparedFrom, EveryAnswerIsSpared}
 use Rattle.vub_run.specs.TaskItems.{look_items, act_items}
 use Rattle.vub_run.specs.Turns.{course_of, turned, phase_turn, phase_goes_on, under_way, work_turn, request_turn, task_turn}
@@ -209,5 +208,5 @@ spared_from h m (e ∷ es) (r ∷ rs) header held fits run =
       subst (λ (s : Scene). SparedFrom h s rs) right.scene rest,
     )
 
-pub run_spared : (s : Schedule) (records : List Record) → IsSchedule s → Run s records → EveryAnswerIsSpared s.header records
-run_spared s records is run = spared_from s.header (opening s.header) s.events records is.header (opening_held s.header is.header) is.events run
+pub run_spared : (h : Header1) (es : List Event) (rs : List Record) → IsHeader h → AllByRecursion (IsEvent h) es → RunFrom h (opening h) es rs → EveryAnswerIsSpared h rs
+run_spared h es rs header fits run = spared_from h (opening h) es rs header (opening_held h header) fits run

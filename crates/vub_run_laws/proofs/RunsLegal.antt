@@ -3,16 +3,15 @@ use Rattle.std.proofs.Common.{◌≡◌, ◌<◌, ℕ, List, [], ◌∷◌, ap, 
 use Rattle.std.specs.List.{AllByRecursion}
 use Rattle.vub_base.specs.declared.header.Header1.{Header1}
 use Rattle.vub_device.specs.declared.entry.Entry.{Entry}
-use Rattle.vub_device.specs.Legal.{Legal, LegalFrom, after}
+use Rattle.vub_device.specs.Legal.{LegalFrom, after}
 use Rattle.vub_schedule.specs.declared.types.Event.{Event}
-use Rattle.vub_schedule.specs.declared.types.Schedule.{Schedule}
-use Rattle.vub_schedule.specs.Spelling.{IsHeader, IsEvent, IsSchedule}
+use Rattle.vub_schedule.specs.Spelling.{IsHeader, IsEvent}
 use Rattle.vub_report.specs.declared.items.Item.{Item}
 use Rattle.vub_report.specs.declared.items.Record.{Record}
 use Rattle.vub_run.specs.Memory.{Scene}
 use Rattle.vub_run.specs.Moments.{Moment, opening}
-use Rattle.vub_run.specs.Run.{Plays, RunFrom, Run}
-use Rattle.vub_run.specs.Tracking.{TracksFrom, TracksAlways}
+use Rattle.vub_run.specs.Run.{Plays, RunFrom}
+use Rattle.vub_run.specs.Tracking.{TracksFrom}
 use Rattle.vub_report.specs.Histories.{entries_of, history_of}
 use Rattle.vub_run_laws.proofs.RunTurns.{IsPlain, Good}
 use Rattle.vub_run_laws.proofs.RunItems.{legal-append, past_after}
@@ -70,8 +69,3 @@ run_from h m (e ∷ es) (r ∷ rs) header held fits run =
       legal-append h.capacity h.mode m.scene.past (entries_of r.items) (history_of rs) right.legal (subst (λ (p : List Entry). LegalFrom h.capacity h.mode p (history_of rs)) (right_past 0 h m r.items next right) rest.0),
       (each_every h m.scene r.items (λ q low. (of_queue q low).each), subst (λ (s : Scene). TracksFrom h s rs) right.scene rest.1),
     )
-
--- every run of a schedule of the grammar is a legal history of its disk, and memory and history agree after each item,
--- a store and the entry that it makes taken together
-pub run_true : (s : Schedule) (records : List Record) → IsSchedule s → Run s records → Legal s.header.capacity s.header.mode (history_of records) × TracksAlways s.header records
-run_true s records is run = run_from s.header (opening s.header) s.events records is.header (opening_held s.header is.header) is.events run

@@ -65,11 +65,11 @@ pub fn every_outstanding_chain_stands()
         → get_or (m.scene.descriptors q) k [] ≡ chain_in (ring_of q h.size) m.scene.memory (slice_index (m.scene.heads q) k) }
 {}
 
-/// In every run of a schedule a drain of an attached queue serves it, where fewer events came before
-/// than there are counters: after its record no request of the queue is open, and every offer is
-/// accepted. The records tell whether it is attached.
+/// In every run of a schedule of fewer events than there are counters a drain of an attached queue
+/// serves it: after its record no request of the queue is open, and every offer is accepted. The
+/// records tell whether it is attached.
 pub fn every_drain_serves()
-    ensures { (s : Schedule) (records : List Record) → IsSchedule s → Run s records → EveryDrainServes records }
+    ensures { (s : Schedule) (records : List Record) → IsSchedule s → Run s records → length s.events < last_counter → EveryDrainServes records }
 {}
 
 /// Every schedule of the grammar has a run, so that the law above says something of each.

@@ -1,4 +1,4 @@
-ghost use Rattle.std.specs.Prelude.{◌≡◌, ◌<◌, ◌≤◌, ◌+◌, ◌↔◌, [], ◌∷◌, ◌++◌, vec_len, vec_capacity, IsTrue, IfOk, OnOk, OnErr, Some, length, slice_get};
+ghost use Rattle.std.specs.Prelude.{◌≡◌, ◌<◌, ◌≤◌, ◌+◌, ◌↔◌, [], ◌∷◌, ◌++◌, vec_len, vec_capacity, IsTrue, IfOk, IsOk, OnOk, OnErr, Some, length, slice_get};
 ghost use Rattle.vub_shared.specs.Stores.{one_store};
 ghost use Rattle.vub_shared.specs.Trails.{HasRoom, with_store};
 
@@ -45,11 +45,16 @@ impl Trail {
     pub fn restart(&mut self, stores: usize, bytes: usize) -> Result<(), Memory>
         ensures done { OnOk result (self.new ≡ record { stores = []; stores_room = stores; bytes_room = bytes }) }
         ensures refused { OnErr result (self.new ≡ self.old) }
+        ensures enough { stores ≤ self.old.stores_room → bytes ≤ self.old.bytes_room → IsOk result }
     {
-        let stores_more = stores.saturating_sub(self.kept.len());
-        self.kept.reserve(stores_more).map_err(|_| Memory)?;
-        let bytes_more = bytes.saturating_sub(self.bytes.len());
-        self.bytes.reserve(bytes_more).map_err(|_| Memory)?;
+        if stores > self.stores_room {
+            let more = stores - self.kept.len();
+            self.kept.reserve(more).map_err(|_| Memory)?;
+        }
+        if bytes > self.bytes_room {
+            let more = bytes - self.bytes.len();
+            self.bytes.reserve(more).map_err(|_| Memory)?;
+        }
         self.kept.clear();
         self.bytes.clear();
         self.stores_room = stores;

@@ -13,7 +13,7 @@ pub struct TrailShared<M> {
 }
 
 impl<M: Shared> TrailShared<M> {
-    ghost use Rattle.std.specs.Prelude.{◌≡◌, ◌<◌, ◌≤◌, ◌-◌, ◌^◌, [], IfOk, OnOk, OnErr, Some, length, slice_get};
+    ghost use Rattle.std.specs.Prelude.{◌≡◌, ◌<◌, ◌≤◌, ◌-◌, ◌^◌, [], IfOk, IsOk, OnOk, OnErr, Some, length, slice_get};
     ghost use Rattle.std.proofs.Common.{min};
     ghost use Rattle.vub_base.specs.Causes.{Rose};
     ghost use Rattle.vub_shared.specs.Stores.{one_store};
@@ -47,6 +47,7 @@ impl<M: Shared> TrailShared<M> {
         ensures trail { OnOk result (trail_of self.new ≡ record { stores = []; stores_room = stores; bytes_room = bytes }) }
         ensures faults { faults_with M.faults self.new ≡ faults_with M.faults self.old }
         ensures refused { OnErr result (self.new ≡ self.old) }
+        ensures enough { stores ≤ (trail_of self.old).stores_room → bytes ≤ (trail_of self.old).bytes_room → IsOk result }
     {
         self.trail.restart(stores, bytes)
     }
@@ -88,7 +89,7 @@ impl<M: Shared> Shared for TrailShared<M> {
     ghost use Rattle.std.specs.Prelude.{◌≡◌, ◌≢◌, ◌≤◌, ◌+◌, ◌%◌, ℕ, Some, true, length, OnOk, OnErr, IfOk, IfErr, IsErrOf};
     ghost use Rattle.std.specs.Option.{option_map};
     ghost use Rattle.byteorder.specs.Endian.{little_bytes};
-    ghost use Rattle.vub_base.specs.Causes.{HasCause};
+    ghost use Rattle.vub_base.specs.Causes.{HasCause, Rose};
     ghost use Rattle.vub_base.specs.Told.{WhereTold};
     ghost use Rattle.vub_shared.specs.Bytes.{bytes_from, cleared};
     ghost use Rattle.vub_shared.specs.Spaces.{AllHanded, with_name, KeepsHanded, HandsNew, HasReason};
@@ -123,6 +124,7 @@ impl<M: Shared> Shared for TrailShared<M> {
         ensures trail { trail_of self.new ≡ trail_of self.old }
         ensures names { M.names (inner_of self.new) ≡ M.names (inner_of self.old) }
         ensures reason { HasReason (faults_with M.faults self.old) (faults_with M.faults self.new) (M.names (inner_of self.old)) name.now result }
+        ensures failed { IsErrOf result SharedFault.Failed → Rose (M.faults (inner_of self.old)) (M.faults (inner_of self.new)) }
     {
         self.inner.find(name)
     }
@@ -138,6 +140,7 @@ impl<M: Shared> Shared for TrailShared<M> {
         ensures reason { HasReason (faults_with M.faults self.old) (faults_with M.faults self.new) (M.names (inner_of self.old)) name.now result }
         ensures never_lacking { IfErr result (λ e. e ≢ NoSuch) }
         ensures all_handed { AllHanded (M.handed (inner_of self.old)) → IsErrOf result SharedFault.Failed }
+        ensures failed { IsErrOf result SharedFault.Failed → Rose (M.faults (inner_of self.old)) (M.faults (inner_of self.new)) }
     {
         self.inner.create(name, size)
     }
@@ -151,6 +154,7 @@ impl<M: Shared> Shared for TrailShared<M> {
         ensures loaded { OnOk result (WhereTold (M.told (inner_of self.old)) (λ m. into.new ≡ bytes_from (length into.old) m space.number place)) }
         ensures inner { OnlyLoads M.told M.trail M.names M.handed M.sizes (inner_of self.old) (inner_of self.new) }
         ensures trail { trail_of self.new ≡ trail_of self.old }
+        ensures failed { OnErr result (Rose (M.faults (inner_of self.old)) (M.faults (inner_of self.new))) }
         ensures cause { HasCause (faults_with M.faults self.old) (faults_with M.faults self.new) result }
     {
         self.inner.load(space, place, into)

@@ -73,10 +73,10 @@ at_ahead : (a from : ℕ) → (from + ahead a from) % 65536 ≡ a % 65536
 at_ahead a from = omega arith
 
 head_there : (r : Ring) (m : Bytes) (i j : ℕ) → i % 65536 ≡ j % 65536 → head_at r m i ≡ head_at r m j
-head_there r m i j same = ap (λ (x : ℕ). word 2 m r.space (r.avail + (4 + 2 * (x % r.size)))) same
+head_there r m i j same = ap (λ (x : ℕ). word 2 m r.avail_space (r.avail + (4 + 2 * (x % r.size)))) same
 
 element_there : (r : Ring) (m : Bytes) (i j : ℕ) → i % 65536 ≡ j % 65536 → element_at r m i ≡ element_at r m j
-element_there r m i j same = ap (λ (x : ℕ). (word 4 m r.space (r.used + (4 + 8 * (x % r.size))), word 4 m r.space (r.used + (8 + 8 * (x % r.size))))) same
+element_there r m i j same = ap (λ (x : ℕ). (word 4 m r.used_space (r.used + (4 + 8 * (x % r.size))), word 4 m r.used_space (r.used + (8 + 8 * (x % r.size))))) same
 
 further : (a b i : ℕ) → a % 65536 ≡ b % 65536 → (a + i) % 65536 ≡ (b + i) % 65536
 further a b i same = omega (arith, same)

@@ -1,4 +1,4 @@
--- A split ring in its spaces, and as a ring of one space.
+-- A split ring in its spaces, and as a ring.
 use Rattle.std.proofs.Common.{◌≡◌, ℕ, ◌+◌, ◌*◌, ◌%◌, refl, ap, sym, subst}
 use Rattle.std.specs.Int.{◌∣◌}
 use Rattle.std.proofs.Math.Nat.{mod-mod_of_dvd}
@@ -8,7 +8,7 @@ use Rattle.vub_shared.specs.Bytes.{Bytes, word}
 use Rattle.vub_shared.specs.Stores.{one_store}
 use Rattle.vub_ring.specs.Ring.{entry_of, avail_idx, head_at, used_idx}
 use Rattle.vub_split.specs.declared.split.SplitRing.{SplitRing}
-use Rattle.vub_split.specs.Split.{RingLies, IsInOneSpace, ring_of_split, used_side, avail_idx_word, head_word, used_idx_word, used_id_place, used_len_place}
+use Rattle.vub_split.specs.Split.{RingLies, ring_of_split, avail_idx_word, head_word, used_idx_word, used_id_place, used_len_place}
 use Rattle.vub_split.specs.Stores.{used_id_store, used_len_store}
 
 -- a ring lies where it lay while no size changes
@@ -17,7 +17,7 @@ lies_still old new r s same sizes h =
     let equal : old ≡ new = fun_ext (λ t. sym (sizes t)) in
     subst (λ (q : SplitRing). RingLies new q) (sym same) (subst (λ (f : ℕ → ℕ). RingLies f r) equal h)
 
--- ---- the ring that a split ring in one space is
+-- ---- the ring that a split ring is
 
 pub avail_idx_is : (r : SplitRing) (m : Bytes) → avail_idx_word r m ≡ avail_idx (ring_of_split r) m
 avail_idx_is r m = refl
@@ -29,16 +29,12 @@ entry_is r index laps = sym (mod-mod_of_dvd r.size index laps)
 pub head_is : (r : SplitRing) (m : Bytes) (index : ℕ) → r.size ∣ 65536 → head_word r m index ≡ head_at (ring_of_split r) m index
 head_is r m index laps = ap (λ (e : ℕ). word 2 m r.avail.0.number (r.avail.1 + (4 + 2 * e))) (entry_is r index laps)
 
-pub used_idx_is : (r : SplitRing) (m : Bytes) → used_idx_word r m ≡ used_idx (used_side r) m
+pub used_idx_is : (r : SplitRing) (m : Bytes) → used_idx_word r m ≡ used_idx (ring_of_split r) m
 used_idx_is r m = refl
 
--- in one space both sides are one ring
-pub sides_are : (r : SplitRing) → IsInOneSpace r → used_side r ≡ ring_of_split r
-sides_are r one = ap (λ (s : ℕ). record (ring_of_split r) { space = s }) one.used
-
 -- the device's stores are those of the ring
-pub used_id_store_is : (r : SplitRing) (index id : ℕ) → r.size ∣ 65536 → one_store r.used.0.number (used_id_place r index) (little_bytes 4 id) ≡ used_id_store (used_side r) index id
+pub used_id_store_is : (r : SplitRing) (index id : ℕ) → r.size ∣ 65536 → one_store r.used.0.number (used_id_place r index) (little_bytes 4 id) ≡ used_id_store (ring_of_split r) index id
 used_id_store_is r index id laps = ap (λ (e : ℕ). one_store r.used.0.number (r.used.1 + (4 + 8 * e)) (little_bytes 4 id)) (entry_is r index laps)
 
-pub used_len_store_is : (r : SplitRing) (index len : ℕ) → r.size ∣ 65536 → one_store r.used.0.number (used_len_place r index) (little_bytes 4 len) ≡ used_len_store (used_side r) index len
+pub used_len_store_is : (r : SplitRing) (index len : ℕ) → r.size ∣ 65536 → one_store r.used.0.number (used_len_place r index) (little_bytes 4 len) ≡ used_len_store (ring_of_split r) index len
 used_len_store_is r index len laps = ap (λ (e : ℕ). one_store r.used.0.number (r.used.1 + (8 + 8 * e)) (little_bytes 4 len)) (entry_is r index laps)

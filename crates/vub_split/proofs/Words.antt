@@ -30,15 +30,15 @@ word_off w m st s from many q (inr (inr after)) low high = word-put_other w m st
 -- ---- a store elsewhere
 
 pub avail_idx_off : (r : Ring) (m : Bytes) (st : Store) → OffAvail r st → avail_idx r (after_store st m) ≡ avail_idx r m
-avail_idx_off r m st off = word_off 2 m st r.space r.avail (avail_bytes r) (avail_idx_place r) off (omega arith) (omega arith)
+avail_idx_off r m st off = word_off 2 m st r.avail_space r.avail (avail_bytes r) (avail_idx_place r) off (omega arith) (omega arith)
 
 pub head_off : (r : Ring) (m : Bytes) (st : Store) (i : ℕ) → 0 < r.size → OffAvail r st → head_at r (after_store st m) i ≡ head_at r m i
 head_off r m st i some off =
     let within : entry_of r i < r.size = entry_within r i some in
-    word_off 2 m st r.space r.avail (avail_bytes r) (avail_entry_place r i) off (omega arith) (omega (arith, within))
+    word_off 2 m st r.avail_space r.avail (avail_bytes r) (avail_entry_place r i) off (omega arith) (omega (arith, within))
 
 pub used_idx_off : (r : Ring) (m : Bytes) (st : Store) → OffUsed r st → used_idx r (after_store st m) ≡ used_idx r m
-used_idx_off r m st off = word_off 2 m st r.space r.used (used_bytes r) (used_idx_place r) off (omega arith) (omega arith)
+used_idx_off r m st off = word_off 2 m st r.used_space r.used (used_bytes r) (used_idx_place r) off (omega arith) (omega arith)
 
 pair_is : (a b c d : ℕ) → a ≡ b → c ≡ d → ◌≡◌ {A = ℕ × ℕ} (a, c) (b, d)
 pair_is a b c d e f = cc
@@ -46,8 +46,8 @@ pair_is a b c d e f = cc
 pub element_off : (r : Ring) (m : Bytes) (st : Store) (i : ℕ) → 0 < r.size → OffUsed r st → element_at r (after_store st m) i ≡ element_at r m i
 element_off r m st i some off =
     let within : entry_of r i < r.size = entry_within r i some in
-    let id = word_off 4 m st r.space r.used (used_bytes r) (used_id_place r i) off (omega arith) (omega (arith, within)) in
-    let len = word_off 4 m st r.space r.used (used_bytes r) (used_len_place r i) off (omega arith) (omega (arith, within)) in
+    let id = word_off 4 m st r.used_space r.used (used_bytes r) (used_id_place r i) off (omega arith) (omega (arith, within)) in
+    let len = word_off 4 m st r.used_space r.used (used_bytes r) (used_len_place r i) off (omega arith) (omega (arith, within)) in
     pair_is _ _ _ _ id len
 
 words_are : (r : Ring) (m : Bytes) (avail used : ℕ) (heads : ℕ → ℕ) (elements : ℕ → ℕ × ℕ) → avail_idx r m ≡ avail → ((i : ℕ) → head_at r m i ≡ heads i) → used_idx r m ≡ used → ((i : ℕ) → element_at r m i ≡ elements i)
@@ -66,19 +66,19 @@ words_elsewhere r m st some avail used =
 
 -- ---- a store of the avail ring touches no byte of the used ring, and the other way round
 
-pub off_used : (r : Ring) (st : Store) → RingFits r → st.space ≡ r.space → r.avail ≤ st.place → st.place + length st.bytes ≤ r.avail + avail_bytes r → OffUsed r st
+pub off_used : (r : Ring) (st : Store) → RingFits r → st.space ≡ r.avail_space → r.avail ≤ st.place → st.place + length st.bytes ≤ r.avail + avail_bytes r → OffUsed r st
 off_used r st fits space low high = go fits.apart
   where
-    go : Apart r.space r.avail (avail_bytes r) r.space r.used (used_bytes r) → OffUsed r st
-    go (inl other) = absurd (other refl)
+    go : Apart r.avail_space r.avail (avail_bytes r) r.used_space r.used (used_bytes r) → OffUsed r st
+    go (inl other) = inl (λ e. other (e ∙ space))
     go (inr (inl before)) = inr (inl (omega (arith, before, low, high)))
     go (inr (inr after)) = inr (inr (omega (arith, after, low, high)))
 
-pub off_avail : (r : Ring) (st : Store) → RingFits r → st.space ≡ r.space → r.used ≤ st.place → st.place + length st.bytes ≤ r.used + used_bytes r → OffAvail r st
+pub off_avail : (r : Ring) (st : Store) → RingFits r → st.space ≡ r.used_space → r.used ≤ st.place → st.place + length st.bytes ≤ r.used + used_bytes r → OffAvail r st
 off_avail r st fits space low high = go fits.apart
   where
-    go : Apart r.space r.avail (avail_bytes r) r.space r.used (used_bytes r) → OffAvail r st
-    go (inl other) = absurd (other refl)
+    go : Apart r.avail_space r.avail (avail_bytes r) r.used_space r.used (used_bytes r) → OffAvail r st
+    go (inl other) = inl (λ e. other (sym (e ∙ space)))
     go (inr (inl before)) = inr (inr (omega (arith, before, low, high)))
     go (inr (inr after)) = inr (inl (omega (arith, after, low, high)))
 
@@ -110,10 +110,10 @@ keeps w m s p bs q h = word-put_other w m s p bs s q (inr h)
 
 -- avail.idx
 pub avail_idx_stored : (r : Ring) (m : Bytes) (index : ℕ) → index < 65536 → avail_idx r (after_store (avail_idx_store r index) m) ≡ index
-avail_idx_stored r m index fits = word-put_same 2 m r.space (avail_idx_place r) index fits
+avail_idx_stored r m index fits = word-put_same 2 m r.avail_space (avail_idx_place r) index fits
 
 pub head_beside_idx : (r : Ring) (m : Bytes) (index i : ℕ) → head_at r (after_store (avail_idx_store r index) m) i ≡ head_at r m i
-head_beside_idx r m index i = keeps 2 m r.space (avail_idx_place r) (little_bytes 2 index) (avail_entry_place r i) (inr (omega (arith, length_little 2 index)))
+head_beside_idx r m index i = keeps 2 m r.avail_space (avail_idx_place r) (little_bytes 2 index) (avail_entry_place r i) (inr (omega (arith, length_little 2 index)))
 
 pub words_avail_idx : (r : Ring) (m : Bytes) (index : ℕ) → RingFits r → index < 65536 → words_of r (after_store (avail_idx_store r index) m) ≡ record (words_of r m) { avail = index }
 words_avail_idx r m index fits small =
@@ -123,14 +123,14 @@ words_avail_idx r m index fits small =
 
 -- an avail entry
 pub avail_idx_beside_entry : (r : Ring) (m : Bytes) (index head : ℕ) → avail_idx r (after_store (avail_entry_store r index head) m) ≡ avail_idx r m
-avail_idx_beside_entry r m index head = keeps 2 m r.space (avail_entry_place r index) (little_bytes 2 head) (avail_idx_place r) (inl (omega arith))
+avail_idx_beside_entry r m index head = keeps 2 m r.avail_space (avail_entry_place r index) (little_bytes 2 head) (avail_idx_place r) (inl (omega arith))
 
 pub head_stored : (r : Ring) (m : Bytes) (index head i : ℕ) → head < 65536 → entry_of r i ≡ entry_of r index → head_at r (after_store (avail_entry_store r index head) m) i ≡ head
 head_stored r m index head i fits same =
-    ap (λ (e : ℕ). word 2 (after_store (avail_entry_store r index head) m) r.space (r.avail + (4 + 2 * e))) same ∙ word-put_same 2 m r.space (avail_entry_place r index) head fits
+    ap (λ (e : ℕ). word 2 (after_store (avail_entry_store r index head) m) r.avail_space (r.avail + (4 + 2 * e))) same ∙ word-put_same 2 m r.avail_space (avail_entry_place r index) head fits
 
 pub head_beside : (r : Ring) (m : Bytes) (index head i : ℕ) → entry_of r i ≢ entry_of r index → head_at r (after_store (avail_entry_store r index head) m) i ≡ head_at r m i
-head_beside r m index head i other = keeps 2 m r.space (avail_entry_place r index) (little_bytes 2 head) (avail_entry_place r i) (elim (cases_lt (entry_of r i) (entry_of r index)) [
+head_beside r m index head i other = keeps 2 m r.avail_space (avail_entry_place r index) (little_bytes 2 head) (avail_entry_place r i) (elim (cases_lt (entry_of r i) (entry_of r index)) [
   | inl less ↦ inl (omega (arith, less))
   | inr more ↦ inr (let above : entry_of r index < entry_of r i = omega (arith, more, other) in omega (arith, above, length_little 2 head))
 ])
@@ -151,13 +151,13 @@ words_avail_entry r m index head fits small =
 
 -- used.idx
 pub used_idx_stored : (r : Ring) (m : Bytes) (index : ℕ) → index < 65536 → used_idx r (after_store (used_idx_store r index) m) ≡ index
-used_idx_stored r m index fits = word-put_same 2 m r.space (used_idx_place r) index fits
+used_idx_stored r m index fits = word-put_same 2 m r.used_space (used_idx_place r) index fits
 
 pub element_beside_idx : (r : Ring) (m : Bytes) (index i : ℕ) → element_at r (after_store (used_idx_store r index) m) i ≡ element_at r m i
 element_beside_idx r m index i =
     let bs : List ℕ = little_bytes 2 index in
     let two : length bs ≡ 2 = length_little 2 index in
-    pair_is _ _ _ _ (keeps 4 m r.space (used_idx_place r) bs (used_id_place r i) (inr (omega (arith, two)))) (keeps 4 m r.space (used_idx_place r) bs (used_len_place r i) (inr (omega (arith, two))))
+    pair_is _ _ _ _ (keeps 4 m r.used_space (used_idx_place r) bs (used_id_place r i) (inr (omega (arith, two)))) (keeps 4 m r.used_space (used_idx_place r) bs (used_len_place r i) (inr (omega (arith, two))))
 
 pub words_used_idx : (r : Ring) (m : Bytes) (index : ℕ) → RingFits r → index < 65536 → words_of r (after_store (used_idx_store r index) m) ≡ record (words_of r m) { used = index }
 words_used_idx r m index fits small =
@@ -167,30 +167,30 @@ words_used_idx r m index fits small =
 
 -- an element's id
 pub used_idx_beside_id : (r : Ring) (m : Bytes) (index id : ℕ) → used_idx r (after_store (used_id_store r index id) m) ≡ used_idx r m
-used_idx_beside_id r m index id = keeps 2 m r.space (used_id_place r index) (little_bytes 4 id) (used_idx_place r) (inl (omega arith))
+used_idx_beside_id r m index id = keeps 2 m r.used_space (used_id_place r index) (little_bytes 4 id) (used_idx_place r) (inl (omega arith))
 
 -- a word of the element of another entry
 word_beside : (w : ℕ) (m : Bytes) (r : Ring) (p q : ℕ) (bs : List ℕ) (d e : ℕ) → d ≢ e → w ≤ 4 → length bs ≡ 4 → r.used + (4 + 8 * e) ≤ p → p ≤ r.used + (8 + 8 * e) → r.used + (4 + 8 * d) ≤ q → q ≤ r.used + (8 + 8 * d)
-    → word w (put m r.space p bs) r.space q ≡ word w m r.space q
-word_beside w m r p q bs d e other small four low_p high_p low_q high_q = keeps w m r.space p bs q (elim (cases_lt d e) [
+    → word w (put m r.used_space p bs) r.used_space q ≡ word w m r.used_space q
+word_beside w m r p q bs d e other small four low_p high_p low_q high_q = keeps w m r.used_space p bs q (elim (cases_lt d e) [
   | inl less ↦ inl (omega (arith, less, small, low_p, high_q))
   | inr more ↦ inr (let above : e < d = omega (arith, more, other) in omega (arith, above, four, high_p, low_q))
 ])
 
 -- the element of one entry
 abbrev element_in : Ring → Bytes → ℕ → ℕ × ℕ
-element_in r m e = (word 4 m r.space (r.used + (4 + 8 * e)), word 4 m r.space (r.used + (8 + 8 * e)))
+element_in r m e = (word 4 m r.used_space (r.used + (4 + 8 * e)), word 4 m r.used_space (r.used + (8 + 8 * e)))
 
 id_stored : (r : Ring) (m : Bytes) (index id i : ℕ) → id < 4294967296 → entry_of r i ≡ entry_of r index → element_at r (after_store (used_id_store r index id) m) i ≡ (id, (element_at r m index).1)
 id_stored r m index id i fits same =
     let four : length (little_bytes 4 id) ≡ 4 = length_little 4 id in
     ap (element_in r (after_store (used_id_store r index id) m)) same
-    ∙ pair_is _ _ _ _ (word-put_same 4 m r.space (used_id_place r index) id fits) (keeps 4 m r.space (used_id_place r index) (little_bytes 4 id) (used_len_place r index) (inr (omega (arith, four))))
+    ∙ pair_is _ _ _ _ (word-put_same 4 m r.used_space (used_id_place r index) id fits) (keeps 4 m r.used_space (used_id_place r index) (little_bytes 4 id) (used_len_place r index) (inr (omega (arith, four))))
 
 pub element_beside_id : (r : Ring) (m : Bytes) (index id i : ℕ) → entry_of r i ≢ entry_of r index → element_at r (after_store (used_id_store r index id) m) i ≡ element_at r m i
 element_beside_id r m index id i other =
     let bs : List ℕ = little_bytes 4 id in
-    let beside : (q : ℕ) → r.used + (4 + 8 * entry_of r i) ≤ q → q ≤ r.used + (8 + 8 * entry_of r i) → word 4 (after_store (used_id_store r index id) m) r.space q ≡ word 4 m r.space q =
+    let beside : (q : ℕ) → r.used + (4 + 8 * entry_of r i) ≤ q → q ≤ r.used + (8 + 8 * entry_of r i) → word 4 (after_store (used_id_store r index id) m) r.used_space q ≡ word 4 m r.used_space q =
     λ q low high. word_beside 4 m r (used_id_place r index) q bs (entry_of r i) (entry_of r index) other (omega arith) (length_little 4 id) (omega arith) (omega arith) low high in
     pair_is _ _ _ _ (beside (used_id_place r i) (omega arith) (omega arith)) (beside (used_len_place r i) (omega arith) (omega arith))
 
@@ -202,17 +202,17 @@ words_used_id r m index id fits small =
 
 -- an element's length
 pub used_idx_beside_len : (r : Ring) (m : Bytes) (index len : ℕ) → used_idx r (after_store (used_len_store r index len) m) ≡ used_idx r m
-used_idx_beside_len r m index len = keeps 2 m r.space (used_len_place r index) (little_bytes 4 len) (used_idx_place r) (inl (omega arith))
+used_idx_beside_len r m index len = keeps 2 m r.used_space (used_len_place r index) (little_bytes 4 len) (used_idx_place r) (inl (omega arith))
 
 len_stored : (r : Ring) (m : Bytes) (index len i : ℕ) → len < 4294967296 → entry_of r i ≡ entry_of r index → element_at r (after_store (used_len_store r index len) m) i ≡ ((element_at r m index).0, len)
 len_stored r m index len i fits same =
     ap (element_in r (after_store (used_len_store r index len) m)) same
-    ∙ pair_is _ _ _ _ (keeps 4 m r.space (used_len_place r index) (little_bytes 4 len) (used_id_place r index) (inl (omega arith))) (word-put_same 4 m r.space (used_len_place r index) len fits)
+    ∙ pair_is _ _ _ _ (keeps 4 m r.used_space (used_len_place r index) (little_bytes 4 len) (used_id_place r index) (inl (omega arith))) (word-put_same 4 m r.used_space (used_len_place r index) len fits)
 
 pub element_beside_len : (r : Ring) (m : Bytes) (index len i : ℕ) → entry_of r i ≢ entry_of r index → element_at r (after_store (used_len_store r index len) m) i ≡ element_at r m i
 element_beside_len r m index len i other =
     let bs : List ℕ = little_bytes 4 len in
-    let beside : (q : ℕ) → r.used + (4 + 8 * entry_of r i) ≤ q → q ≤ r.used + (8 + 8 * entry_of r i) → word 4 (after_store (used_len_store r index len) m) r.space q ≡ word 4 m r.space q =
+    let beside : (q : ℕ) → r.used + (4 + 8 * entry_of r i) ≤ q → q ≤ r.used + (8 + 8 * entry_of r i) → word 4 (after_store (used_len_store r index len) m) r.used_space q ≡ word 4 m r.used_space q =
     λ q low high. word_beside 4 m r (used_len_place r index) q bs (entry_of r i) (entry_of r index) other (omega arith) (length_little 4 len) (omega arith) (omega arith) low high in
     pair_is _ _ _ _ (beside (used_id_place r i) (omega arith) (omega arith)) (beside (used_len_place r i) (omega arith) (omega arith))
 

@@ -48,16 +48,7 @@ head_word r m index = word 2 m r.avail.0.number (avail_entry_place r index)
 abbrev pub used_idx_word : SplitRing → Bytes → ℕ
 used_idx_word r m = word 2 m r.used.0.number (used_idx_place r)
 
--- ---- as a ring in one space
+-- ---- as a ring
 
--- the ring as it lies in the space of its avail ring, which is that of all of it where they lie in one space
 abbrev pub ring_of_split : SplitRing → Ring
-ring_of_split r = record { space = r.avail.0.number; desc = r.desc.1; avail = r.avail.1; used = r.used.1; size = r.size }
-
--- and as it lies in the space of its used ring
-abbrev pub used_side : SplitRing → Ring
-used_side r = record { space = r.used.0.number; desc = r.desc.1; avail = r.avail.1; used = r.used.1; size = r.size }
-
-pub record IsInOneSpace (r : SplitRing) : Type 0 where
-  pub desc : r.desc.0.number ≡ r.avail.0.number
-  pub used : r.used.0.number ≡ r.avail.0.number
+ring_of_split r = record { desc_space = r.desc.0.number; desc = r.desc.1; avail_space = r.avail.0.number; avail = r.avail.1; used_space = r.used.0.number; used = r.used.1; size = r.size }

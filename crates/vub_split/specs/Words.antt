@@ -36,12 +36,12 @@ pub record IsRingSize (n : ℕ) : Type 0 where
 -- a ring has a place, and its avail ring and its used ring share no byte
 pub record RingFits (r : Ring) : Type 0 where
   pub some : 0 < r.size
-  pub apart : Apart r.space r.avail (avail_bytes r) r.space r.used (used_bytes r)
+  pub apart : Apart r.avail_space r.avail (avail_bytes r) r.used_space r.used (used_bytes r)
 
 -- a store touches no byte of the avail ring
 abbrev pub OffAvail : Ring → Store → Type 0
-OffAvail r st = Apart st.space st.place (length st.bytes) r.space r.avail (avail_bytes r)
+OffAvail r st = Apart st.space st.place (length st.bytes) r.avail_space r.avail (avail_bytes r)
 
 -- a store touches no byte of the used ring
 abbrev pub OffUsed : Ring → Store → Type 0
-OffUsed r st = Apart st.space st.place (length st.bytes) r.space r.used (used_bytes r)
+OffUsed r st = Apart st.space st.place (length st.bytes) r.used_space r.used (used_bytes r)

@@ -7,7 +7,7 @@ ghost use Rattle.vub_shared.specs.Stores.{Store, one_store, after_store};
 ghost use Rattle.vub_ring.specs.Ring.{Ring, ahead, avail_idx, head_at, used_idx, element_at, waiting, seen};
 ghost use Rattle.vub_split.specs.declared.split.SplitRing.{SplitRing};
 ghost use Rattle.vub_split.specs.Split as split;
-ghost use Rattle.vub_split.specs.Split.{RingLies, IsInOneSpace, ring_of_split, used_side};
+ghost use Rattle.vub_split.specs.Split.{RingLies, ring_of_split};
 ghost use Rattle.vub_split.specs.Stores.{avail_idx_store, avail_entry_store, used_idx_store, used_id_store, used_len_store};
 ghost use Rattle.vub_split.specs.Words.{IsRingSize, RingFits, OffAvail, OffUsed, words_of, with_entry};
 
@@ -58,17 +58,15 @@ pub fn batches_are_seen_in_order()
     ensures elsewhere { (r : Ring) (m : Bytes) (st : Store) (from : ℕ) → 0 < r.size → OffUsed r st → seen r (after_store st m) from ≡ seen r m from }
 {}
 
-/// A split ring is a ring, seen from its avail ring as from its used ring, and one and the same where
-/// its parts lie in one space: its words are the ring's, and the device's stores are those of the
-/// laws above.
+/// A split ring is a ring: its words are the ring's, and the device's stores are those of the laws
+/// above.
 pub fn a_split_ring_is_a_ring()
-    ensures one_space { (r : SplitRing) → IsInOneSpace r → used_side r ≡ ring_of_split r }
     ensures avail_idx { (r : SplitRing) (m : Bytes) → split.avail_idx_word r m ≡ avail_idx (ring_of_split r) m }
     ensures head { (sizes : ℕ → ℕ) (r : SplitRing) (m : Bytes) (index : ℕ) → RingLies sizes r → split.head_word r m index ≡ head_at (ring_of_split r) m index }
-    ensures used_idx { (r : SplitRing) (m : Bytes) → split.used_idx_word r m ≡ used_idx (used_side r) m }
-    ensures used_idx_store { (r : SplitRing) (index : ℕ) → one_store r.used.0.number (split.used_idx_place r) (little_bytes 2 index) ≡ used_idx_store (used_side r) index }
+    ensures used_idx { (r : SplitRing) (m : Bytes) → split.used_idx_word r m ≡ used_idx (ring_of_split r) m }
+    ensures used_idx_store { (r : SplitRing) (index : ℕ) → one_store r.used.0.number (split.used_idx_place r) (little_bytes 2 index) ≡ used_idx_store (ring_of_split r) index }
     ensures used_id_store { (sizes : ℕ → ℕ) (r : SplitRing) (index id : ℕ) → RingLies sizes r
-        → one_store r.used.0.number (split.used_id_place r index) (little_bytes 4 id) ≡ used_id_store (used_side r) index id }
+        → one_store r.used.0.number (split.used_id_place r index) (little_bytes 4 id) ≡ used_id_store (ring_of_split r) index id }
     ensures used_len_store { (sizes : ℕ → ℕ) (r : SplitRing) (index len : ℕ) → RingLies sizes r
-        → one_store r.used.0.number (split.used_len_place r index) (little_bytes 4 len) ≡ used_len_store (used_side r) index len }
+        → one_store r.used.0.number (split.used_len_place r index) (little_bytes 4 len) ≡ used_len_store (ring_of_split r) index len }
 {}

@@ -15,7 +15,7 @@ use Rattle.vub_steps.specs.Steps.{start_steps, publish_steps}
 use Rattle.vub_steps.specs.Readiness.{any_turn}
 
 abbrev small_ring : Ring
-small_ring = record { space = 0; desc = 0; avail = 4096; used = 8192; size = 4 }
+small_ring = record { desc_space = 0; desc = 0; avail_space = 0; avail = 4096; used_space = 0; used = 8192; size = 4 }
 
 -- a queue of two descriptors makes its region, rings its bell and is started
 pub first_start : start_steps 2 New true ≡ Features ∷ Free 0 ∷ Free 1 ∷ Open ∷ Bell ∷ Start ∷ []

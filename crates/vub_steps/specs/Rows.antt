@@ -66,7 +66,7 @@ region_row g x = record { tag = tag_of x; area = I; store = store_of g x }
 -- ---- the used ring
 
 abbrev pub row : Ring → Tag → ℕ → List ℕ → Row
-row r tag place bytes = record { tag = tag; area = M; store = one_store r.space place bytes }
+row r tag place bytes = record { tag = tag; area = M; store = one_store r.used_space place bytes }
 
 -- the store of a step of a publication
 abbrev pub ring_row : Ring → ℕ → List (ℕ × ℕ) → Step → Option Row

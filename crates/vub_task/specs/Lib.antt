@@ -1,1 +1,2 @@
 pub mod TaskState
+pub mod Writes

@@ -301,10 +301,13 @@ LooksBy w v sector = ⊤
 -- what a step of this work leaves: of the work, of the told memory and list of stores, of the disk, and of the sector on its way
 pub record Worked (w : Work) (sector sector_after : List ℕ) (step : made.TaskStep) (next : Work) (told told_after : Option Bytes) (trail trail_after : Option (List Store)) (values values_now : Option Values) : Type 0 where
   pub makes : Makes w step next
+  pub whole : length sector ≡ 512
   pub stored : IfMade (Some step) (λ x. told_after ≡ option_map (after_maybe (store_by w sector)) told)
   pub trailed : IfMade (Some step) (λ x. trail_after ≡ option_map (with_maybe (store_by w sector)) trail)
   pub written : WhereTold told (λ m. IfMade (Some step) (λ x. values_now ≡ option_map (values_by w m) values))
   pub looked : WhereTold values (λ v. IfMade (Some step) (λ x. LooksBy w v sector_after))
+  -- where the disk failed nothing was stored
+  pub unstored : IfFaulted step (told_after ≡ told)
   -- whatever failed
   pub changed : WhereTold told (λ m. ChangedOrNot (values_by w m) values values_now)
 
@@ -316,9 +319,9 @@ pub record BegunAs (sizes : ℕ → ℕ) (r : SplitRing) (m : Bytes) (head capac
   pub starts : StartsAs m parts capacity first
   pub worked : Worked first sector sector_after step next (Some m) told_after trail trail_after values values_now
 
--- the first step of a task: its chain breaks a rule, the memory failed, or it is the first step of its work
+-- the first step of a task: its chain breaks a rule and nothing was stored, the memory failed, or it is the first step of its work
 abbrev pub Begins : (ℕ → ℕ) → SplitRing → Bytes → ℕ → ℕ → List ℕ → List ℕ → made.TaskStep → Work → Option Bytes → Option (List Store) → Option (List Store) → Option Values → Option Values → Type 0
-Begins sizes r m head capacity sector sector_after (answers.Broken fault) next told_after trail trail_after values values_now = BreaksRule sizes r m head (unread.Broken fault)
+Begins sizes r m head capacity sector sector_after (answers.Broken fault) next told_after trail trail_after values values_now = BreaksRule sizes r m head (unread.Broken fault) × (told_after ≡ Some m)
 Begins sizes r m head capacity sector sector_after answers.Failed next told_after trail trail_after values values_now = ⊤
 Begins sizes r m head capacity sector sector_after step next told_after trail trail_after values values_now = BegunAs sizes r m head capacity sector sector_after step next told_after trail trail_after values values_now
 

@@ -11,6 +11,7 @@ pub mod MachineGuestOffers
 pub mod MachineGuests
 pub mod MachineLanes
 pub mod MachineLemmas
+pub mod MachineLending
 pub mod MachineLives
 pub mod MachineLoops
 pub mod MachineNotes

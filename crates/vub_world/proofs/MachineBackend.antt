@@ -29,7 +29,7 @@ use Rattle.vub_world.specs.declared.front.Front.{Front}
 use Rattle.vub_world.specs.declared.machine.Machine.{Machine}
 use Rattle.vub_world.specs.Lives.{IsBackendInLife, queue_in, life_of}
 use Rattle.vub_world.specs.Machine.{IsSound}
-use Rattle.vub_world.specs.MachineAt.{MachineAt, AttachedAt, LifeAt}
+use Rattle.vub_world.specs.MachineAt.{MachineAt, AttachedAt, LifeAt, StandsFor}
 use Rattle.vub_world.specs.WorldBackend.{NamesRequests, BackendStands}
 use Rattle.vub_world.proofs.MachineParts.{found_there, first_front, life_is, the_low}
 
@@ -82,3 +82,7 @@ backend_stands w es rs m sound stands at = record {
     attached : (q : ℕ) (f : Front) (o : Option QueueState) → AttachedAt q f.header f.setup m o → is_some o ≡ (m.lanes q).attached
     attached q f None here = sym here.1
     attached q f (Some s) here = sym here.1
+
+-- with the machine stands the backend of its life
+pub stands_for : (w : Machine) (es : List Event) (rs : List Record) (m : Moment) → IsSound w → Stands w.header es rs m → MachineAt w m → StandsFor w es rs
+stands_for w es rs m sound stands at = (m, stands, at, backend_stands w es rs m sound stands at)

@@ -13,12 +13,13 @@ use Rattle.vub_report.specs.declared.items.Item.{Item}
 use Rattle.vub_report.specs.declared.items.Record.{Record}
 use Rattle.vub_world.specs.Fronts.{offers_in}
 use Rattle.vub_world.specs.Lives.{life_of, queue_in}
+use Rattle.vub_world.specs.Lending.{with_record}
 use Rattle.vub_world.specs.Machine.{IsSound}
 use Rattle.vub_world.specs.MachineAt.{MachineAt, AttachedAt, LifeAt, StandsFor, IsStanding, Performs, StandsOn, ServesAll, is_attached}
 use Rattle.vub_run.specs.Moments.{Moment, opening}
 use Rattle.vub_run.specs.Run.{Stands, Plays}
 use Rattle.vub_run_laws.proofs.RunEntries.{event_offers, run_offers}
-use Rattle.vub_run_laws.proofs.RunServes.{drain_serves, stands_legal}
+use Rattle.vub_run_laws.proofs.RunServes.{drain_serves, stands_legal, stands_serves}
 use Rattle.vub_run_laws.proofs.RunsLegal.{opening_held}
 use Rattle.vub_run_laws.proofs.RunsTo.{stands_more, stands_held, run_length}
 use Rattle.vub_world.proofs.MachineBackend.{backend_stands}
@@ -28,9 +29,6 @@ use Rattle.vub_queue.specs.QueueState.{QueueState}
 pub ok_then : {T E : Type 0} (P Q : T → Type 0) (r : Result T E) → ((x : T) → P x → Q x) → IfOk r P → IfOk r Q
 ok_then P Q (Ok x) f p = f x p
 ok_then P Q (Err e) f p = p
-
-abbrev pub with_record : Record → ⊤ → Machine → Machine
-with_record r spare w = record w { last = r; spare = spare }
 
 -- the queue of an event is there
 pub event_front : (w : Machine) (q : ℕ) → IsSound w → q ≡ 0 → (f : Front) × (slice_get w.fronts.items q ≡ Some f)
@@ -74,10 +72,10 @@ stands_on w now e r spare sound after fits same is goes es rs stood =
     let there : Stands now.header (es ++ e ∷ []) (rs ++ r ∷ []) went.0 = subst (λ (h : Header1). Stands h (es ++ e ∷ []) (rs ++ r ∷ []) went.0) (sym same) stands in
     let backend = backend_stands now (es ++ e ∷ []) (rs ++ r ∷ []) went.0 after there went.2 in
     record {
-      stands = (went.0, there, record { many = went.2.many; queues = went.2.queues });
+      stands = (went.0, there, record { many = went.2.many; queues = went.2.queues }, record { lives = backend.lives; attached = backend.attached; names = backend.names });
       runs = stands_legal w.header (es ++ e ∷ []) (rs ++ r ∷ []) went.0 stands;
+      drained = stands_serves w.header (es ++ e ∷ []) (rs ++ r ∷ []) went.0 stands;
       serves = serves_all w e es rs m went.0 r sound fits stood.2 stood.1 stands went.1;
-      backend = (went.0, there, record { lives = backend.lives; attached = backend.attached; names = backend.names });
     }
 
 -- all offers of a machine are in the heads of its queue

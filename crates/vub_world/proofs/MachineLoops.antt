@@ -18,7 +18,7 @@ use Rattle.vub_world.specs.MachineAt.{PartsAt, LifeAt, AttachedAt, IsReached}
 use Rattle.vub_world.specs.MachineDevice.{shown_in, queue_shows}
 use Rattle.vub_world.specs.declared.device.Sequence.{Sequence}
 use Rattle.vub_world.specs.declared.device.Sequence.TheVariants as sequences
-use Rattle.vub_world.specs.Sequences.{next_turn, choices_from}
+use Rattle.vub_world.specs.Sequences.{next_turn, choices_from, most_turns}
 use Rattle.vub_world.specs.MachineSteps.{StepGoes, TurnsGo, turns_besides}
 use Rattle.vub_run.specs.Moments.{Moment, standing}
 use Rattle.vub_queue_in_run.specs.QueueAt.{QueueStands, spot_of}
@@ -71,7 +71,7 @@ pub record TurnsAre (q : ℕ) (h : Header1) (sequence : Sequence) (m : Moment) (
   pub taken_is : taken + accepted m.scene.past q ≡ accepted p.next.scene.past q
   pub heads_are : p.next.scene.heads q ≡ m.scene.heads q
   pub falls : done + effort_at q h p.next ≤ effort_at q h m
-  pub room : HasRoom (most - done) (undone q p.next) r
+  pub room : done < most → HasRoom (most - done) (undone q p.next) r
 
 abbrev pub TurnsAt : ℕ → Header1 → Sequence → Moment → ℕ → ℕ → Parts → List Item → List Item → ℕ → RoomState → Type 0
 TurnsAt q h sequence m most done now before after taken r = TurnsAre q h sequence m most done now before after taken r (so_far q h sequence m done)
@@ -85,7 +85,7 @@ turns_begin q h sequence m w items most all r at few room = record {
   taken_is = omega arith;
   heads_are = refl;
   falls = omega arith;
-  room = record {
+  room = λ some. record {
     items = omega (arith, room.items);
     lists = omega (arith, few, room.lists);
     answer_lists = omega (arith, few, room.answer_lists);
@@ -120,19 +120,21 @@ turns_taken q h sequence es rs m most done now before after taken r low stands d
 
 -- the turn that comes next in the machine is the next sequence
 turn_is : (q : ℕ) (h : Header1) (sequence : Sequence) (m n : Moment) (taken : ℕ) → taken + accepted m.scene.past q ≡ accepted n.scene.past q → next_turn q h sequence taken n ≡ choices_from q h sequence m n
-turn_is q h sequences.Any m n taken is = refl
+turn_is q h (sequences.Once t) m n taken is = refl
+turn_is q h (sequences.UpTo count) m n taken is = refl
 turn_is q h sequences.Drain m n taken is = ap (λ (a : ℕ). drain_turn h.size a (standing h q n)) (let same : taken ≡ accepted n.scene.past q - accepted m.scene.past q = omega (arith, is) in same)
 
 -- how many turns a machine reserves for, where so many are asked for
 abbrev pub room_of : ℕ → Parts → ℕ
 room_of count w = min count (27 * (w.front.outstanding.offered - w.front.outstanding.collected) + turns_besides w.front.header.size)
 
+-- for a single turn that is at most one
+pub once_few : (sequence : Sequence) (w : Parts) (t : Turn) → sequence ≡ sequences.Once t → room_of (most_turns sequence) w ≤ 1
+once_few sequence w t is = let one : most_turns sequence ≡ 1 = ap most_turns is in omega (arith, one)
+
 -- few belong to no one request
 pub besides_small : (n : ℕ) → n ≤ 64 → turns_besides n ≤ 71
 besides_small n few = omega (arith, few)
-
-pub besides_some : (n : ℕ) → 1 ≤ turns_besides n
-besides_some n = omega arith
 
 -- there is room for one turn more: for as many as are asked for, or for all that can follow
 pub room_left : (q : ℕ) (h : Header1) (sequence : Sequence) (es : List Event) (rs : List Record) (m : Moment) (count undone_all besides done : ℕ) (now : Parts) (before after : List Item) (taken : ℕ) (r : RoomState) → q < h.queues → Stands h es rs m → undone q m ≤ undone_all → effort_at q h m + 1 ≤ 27 * undone q m + besides → done < count
@@ -147,10 +149,10 @@ turn_room q h sequence es rs m most done now before after taken r low stands sam
     let good = (stands_turns q h es rs m done (choices_from q h sequence m) low stands).0 in
     let life : LifeAt q h now.front.setup n now.life = subst (λ (k : Header1). LifeAt q k now.front.setup n now.life) same d.at.life in
     let not_yet = shown_few q h now.front.setup n now.life good life in record {
-      items = omega (arith, left, d.room.items);
-      lists = omega (arith, left, d.room.lists, not_yet);
-      answer_lists = omega (arith, left, d.room.answer_lists);
-      answers = omega (arith, d.room.answers, not_yet);
+      items = omega (arith, left, (d.room left).items);
+      lists = omega (arith, left, (d.room left).lists, not_yet);
+      answer_lists = omega (arith, left, (d.room left).answer_lists);
+      answers = omega (arith, (d.room left).answers, not_yet);
     }
 
 -- the room after one turn more, which shows so many answers
@@ -163,10 +165,10 @@ room_after left now next shown r r' fewer room spent = record {
 }
 
 -- one turn more
-pub turns_go_on : (q : ℕ) (h : Header1) (sequence : Sequence) (es : List Event) (rs : List Record) (m : Moment) (most done : ℕ) (now next : Parts) (before after after' : List Item) (taken taken' : ℕ) (r r' : RoomState) → q < h.queues → Stands h es rs m → now.front.header ≡ h → done < most
+pub turns_go_on : (q : ℕ) (h : Header1) (sequence : Sequence) (es : List Event) (rs : List Record) (m : Moment) (most done : ℕ) (now next : Parts) (before after after' : List Item) (taken taken' : ℕ) (r r' : RoomState) → q < h.queues → Stands h es rs m → now.front.header ≡ h → ((t : Turn) → sequence ≡ sequences.Once t → most ≤ 1) → done < most
     → TurnsAt q h sequence m most done now before after taken r → StepGoes q true (next_turn q now.front.header sequence taken (so_far q h sequence m done).next) now next (so_far q h sequence m done).next after after' taken taken' → SpendsStep (shown_in now.life) r r'
     → TurnsAt q h sequence m most (suc done) next before after' taken' r'
-turns_go_on q h sequence es rs m most done now next before after after' taken taken' r r' low stands same left d step spent =
+turns_go_on q h sequence es rs m most done now next before after after' taken taken' r r' low stands same once left d step spent =
     let n : Moment = (so_far q h sequence m done).next in
     let plain = plain_header h stands.header in
     let good = (stands_turns q h es rs m done (choices_from q h sequence m) low stands).0 in
@@ -181,7 +183,6 @@ turns_go_on q h sequence es rs m most done now next before after after' taken ta
     let attached : (n.lanes q).attached ≡ true = grind (arith, nat_tests) in
     let life : LifeAt q h now.front.setup n now.life = subst (λ (k : Header1). LifeAt q k now.front.setup n now.life) same d.at.life in
     let shown : shown_in now.life ≡ lane_shows (n.lanes q) = shown_is q h now.front.setup n now.life good life attached in
-    let shows = chosen_shows q h n sequence taken good t (sym is) in
     let heads : (one_turn h q t n).next.scene.heads q ≡ n.scene.heads q = (turn_gentle q h t n plain good).heads in
     let many : length ((one_turn h q t n).next.scene.heads q) ≡ length (n.scene.heads q) = ap (λ (xs : List ℕ). length xs) heads in
     let falls = turn_falls q h t n plain good due in
@@ -189,7 +190,9 @@ turns_go_on q h sequence es rs m most done now next before after after' taken ta
     let later : Good q h (one_turn h q t n).next = subst (λ (p : Played). Good q h p.next) more (stands_turns q h es rs m (suc done) (choices_from q h sequence m) low stands).0 in
     let some_shown = later.holds.known.fewer in
     let all_taken = later.holds.known.offered in
-    let fewer : undone q (one_turn h q t n).next + shown_in now.life ≤ undone q n = omega (arith, shows, many, shown, some_shown, all_taken) in
+    let fewer : suc done < most → undone q (one_turn h q t n).next + shown_in now.life ≤ undone q n = λ more.
+        let shows = chosen_shows q h n sequence taken (λ u is_once. let e : ⊥ = omega (arith, more, once u is_once) in e) good t (sym is) in
+        omega (arith, shows, many, shown, some_shown, all_taken) in
     let one_left : suc (most - suc done) ≡ most - done = omega (arith, left) in
     let start : is_due h q (choices_from q h sequence m m) m ≡ true = elim (cases_eq done 0) [
       | inl none ↦ subst (λ (x : ℕ). is_due h q (choices_from q h sequence m (so_far q h sequence m x).next) (so_far q h sequence m x).next ≡ true) none due
@@ -202,7 +205,7 @@ turns_go_on q h sequence es rs m most done now next before after after' taken ta
       taken_is = omega (arith, taken_are, d.taken_is);
       heads_are = heads ∙ d.heads_are;
       falls = omega (arith, falls, d.falls);
-      room = room_after (most - suc done) (undone q n) (undone q (one_turn h q t n).next) (shown_in now.life) r r' fewer (subst (λ (k : ℕ). HasRoom k (undone q n) r) (sym one_left) d.room) spent;
+      room = λ more. room_after (most - suc done) (undone q n) (undone q (one_turn h q t n).next) (shown_in now.life) r r' (fewer more) (subst (λ (k : ℕ). HasRoom k (undone q n) r) (sym one_left) (d.room left)) spent;
     })
 
 -- ---- the end

@@ -1,7 +1,7 @@
 -- What a machine has of a queue, and that it stands where the parts of its queue do. The grammar has one queue: there the
 -- number of each is 0.
 use Rattle.std.proofs.Common.{◌≡◌, ◌≤◌, ◌<◌, ℕ, zero, suc, true, false, List, [], ◌∷◌, length, set, refl, ap, sym, ◌∙◌, subst, arith}
-use Rattle.std.specs.Prelude.{Vec, not, slice_get, get_or, Option, Some, None, is_some}
+use Rattle.std.specs.Prelude.{Vec, not, slice_get, get_or, Option, Some, None, is_some, All}
 use Rattle.std.proofs.lemmas.List.{length-set, set-get_or}
 use Rattle.std.proofs.lemmas.Option.{slice_get-get_or, slice_get_within}
 use Rattle.std.specs.Vec.{with_item}
@@ -94,6 +94,18 @@ pub offered_only : (fs : List Front) (f : Front) → length fs ≡ 1 → slice_g
 offered_only [] f one is = absurd (cc is)
 offered_only (x ∷ []) f one is = let it : x ≡ f = cc is in omega (arith, ap (λ (y : Front). offered_in y.outstanding) it)
 offered_only (x ∷ y ∷ fs) f one is = absurd (omega (arith, one))
+
+-- where few were offered in all, few were of each queue
+pub few_of_each : (n : ℕ) (fs : List Front) → offered_by fs < n → All (λ f. offered_in f.outstanding < n) fs
+few_of_each n [] few i d low = absurd (omega (arith, low))
+few_of_each n (x ∷ fs) few zero d low = omega (arith, few)
+few_of_each n (x ∷ fs) few (suc i) d low = few_of_each n fs (omega (arith, few)) i d (omega (arith, low))
+
+-- and where few were of the only queue, few were in all
+pub few_of_one : (n : ℕ) (fs : List Front) → length fs ≡ 1 → All (λ f. offered_in f.outstanding < n) fs → offered_by fs < n
+few_of_one n [] one all = absurd (cc one)
+few_of_one n (x ∷ []) one all = let few : offered_in x.outstanding < n = all 0 x (omega arith) in omega (arith, few)
+few_of_one n (x ∷ y ∷ fs) one all = absurd (omega (arith, one))
 
 -- ---- the life of a queue
 

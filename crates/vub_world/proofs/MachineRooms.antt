@@ -167,18 +167,19 @@ drain_publishes size waiting unfinished completed started counts phases.Rest fal
 drain_publishes size waiting unfinished completed started counts (phases.Start done) false publishes = absurd (cc publishes)
 drain_publishes size waiting unfinished completed started counts (phases.Fetch done) false publishes = absurd (cc publishes)
 
-publishing_turn : (q : ℕ) (h : Header1) (m : Moment) (sequence : Sequence) (taken : ℕ) → is_publication (m.lanes q).phase ≡ true → IsOfQueue (next_turn q h sequence taken m)
-publishing_turn q h m sequences.Any taken publishes =
+publishing_turn : (q : ℕ) (h : Header1) (m : Moment) (sequence : Sequence) (taken : ℕ) → ((t : Turn) → sequence ≡ sequences.Once t → ⊥) → is_publication (m.lanes q).phase ≡ true → IsOfQueue (next_turn q h sequence taken m)
+publishing_turn q h m (sequences.Once t) taken more publishes = absurd (more t refl)
+publishing_turn q h m (sequences.UpTo count) taken more publishes =
     let s : Standing = standing h q m in
     any_publishes h.size s.waiting s.unfinished s.completed s.started s.counts (m.lanes q).phase publishes
-publishing_turn q h m sequences.Drain taken publishes =
+publishing_turn q h m sequences.Drain taken more publishes =
     let s : Standing = standing h q m in
     drain_publishes h.size s.waiting s.unfinished s.completed s.started s.counts (m.lanes q).phase (nat_lt taken h.size) publishes
 
--- the turn that comes next publishes as many as its step shows
-pub chosen_shows : (q : ℕ) (h : Header1) (m : Moment) (sequence : Sequence) (taken : ℕ) → Good q h m → (t : Turn) → t ≡ next_turn q h sequence taken m
+-- where it isn't the only one the turn that comes next publishes as many as its step shows
+pub chosen_shows : (q : ℕ) (h : Header1) (m : Moment) (sequence : Sequence) (taken : ℕ) → ((t : Turn) → sequence ≡ sequences.Once t → ⊥) → Good q h m → (t : Turn) → t ≡ next_turn q h sequence taken m
     → length (published (one_turn h q t m).next.scene.past q) ≡ length (published m.scene.past q) + lane_shows (m.lanes q)
-chosen_shows q h m sequence taken good t is = go (phase_cases h.size l.bell l.plan l.batch l.phase (phase_at q h m.scene (m.lanes q) good.holds))
+chosen_shows q h m sequence taken more good t is = go (phase_cases h.size l.bell l.plan l.batch l.phase (phase_at q h m.scene (m.lanes q) good.holds))
   where
     s : Scene
     s = m.scene
@@ -226,7 +227,7 @@ chosen_shows q h m sequence taken good t is = go (phase_cases h.size l.bell l.pl
     go (Publishes done at some) =
         let here : step_shown (length l.batch) (next_step (course_of h l) l.phase) ≡ lane_shows l =
         ap (λ (p : Phase). step_shown (length l.batch) (next_step (course_of h l) p)) at ∙ sym (ap (λ (p : Phase). shown_by (length l.batch) l.bell (kept_phase p)) at) in
-        let more = goes_on_with t (subst IsOfQueue (sym is) (publishing_turn q h m sequence taken (ap is_publication at))) (ap is_rest at) in
+        let more = goes_on_with t (subst IsOfQueue (sym is) (publishing_turn q h m sequence taken more (ap is_publication at))) (ap is_rest at) in
         omega (arith, here, more)
 
 -- ---- a batch that comes to be shown is hidden until then

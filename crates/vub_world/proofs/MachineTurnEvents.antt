@@ -1,9 +1,8 @@
 -- The events of turns: what the machine's steps in them are in the run.
 use Rattle.std.proofs.Common.{◌≡◌, ◌≤◌, ◌<◌, ℕ, zero, suc, ◌+◌, ◌-◌, ◌*◌, Bool, true, false, cond, List, [], ◌∷◌, ◌++◌, refl, ap, sym, ◌∙◌, subst, inl, inr, arith}
-use Rattle.std.specs.Prelude.{min}
+use Rattle.std.proofs.lemmas.List.{append-nil}
 use Rattle.vub_base.specs.declared.header.Header1.{Header1}
 use Rattle.vub_steps.specs.declared.readiness.Turn.{Turn}
-use Rattle.vub_schedule.specs.declared.types.Event.{Event}
 use Rattle.vub_schedule.specs.declared.types.Event.TheVariants as events
 use Rattle.vub_device.specs.Past.{accepted}
 use Rattle.vub_world.specs.declared.device.Sequence.{Sequence}
@@ -12,15 +11,12 @@ use Rattle.vub_world.specs.declared.machine.Machine.{Machine}
 use Rattle.vub_world.specs.Fronts.{Parts}
 use Rattle.vub_report.specs.declared.items.Item.{Item}
 use Rattle.vub_report.specs.declared.items.Item.TheVariants as items
-use Rattle.vub_report.specs.declared.items.Record.{Record}
-use Rattle.vub_world.specs.Sequences.{choices_from}
-use Rattle.vub_world.specs.MachineAt.{MachineAt, PartsAt, PartsStand, IsReached, Performs}
-use Rattle.vub_world.specs.MachineDevice.{shown_in}
-use Rattle.vub_world.specs.MachineSteps.{StepGoes, TurnsGo, TurnsMade, TurnsEvent, PlaysTurns}
+use Rattle.vub_world.specs.Sequences.{choices_from, most_turns}
+use Rattle.vub_world.specs.MachineAt.{MachineAt, PartsStand, Performs}
+use Rattle.vub_world.specs.MachineSteps.{TurnsGo, TurnsMade, TurnsEvent, PlaysSingle, PlaysTurns}
 use Rattle.vub_run.specs.Moments.{Moment}
-use Rattle.vub_room.specs.Rooms.{RoomState, HasRoom, HasTurnRoom}
 use Rattle.vub_run.specs.Run.{Stands, Played, played, single, turns, one_turn, is_due, if_ready, up_to, then_played, any_choice, drain_choice, Drains}
-use Rattle.vub_world.proofs.MachineLoops.{shown_few, undone_few, outstanding_few}
+use Rattle.vub_world.proofs.MachineLoops.{outstanding_few}
 use Rattle.vub_world.proofs.MachineTurnsAt.{undue}
 use Rattle.vub_run_laws.proofs.Runs.{plain_header}
 use Rattle.vub_run_laws.proofs.RunsTo.{stands_good}
@@ -31,28 +27,7 @@ use Rattle.vub_run_laws.proofs.RunsTo.{stands_good}
 pub standing_few : (q : ℕ) (w : Parts) → PartsStand q w → w.front.outstanding.offered - w.front.outstanding.collected ≤ 64
 standing_few q w s = outstanding_few q w.front.header s.2.0 w (plain_header w.front.header s.2.1.header) (stands_good q w.front.header s.0 s.1 s.2.0 s.2.3 s.2.1) s.2.2
 
--- room for one turn
-pub single_room : (q : ℕ) (w : Parts) (besides : ℕ) (r : RoomState) → 1 ≤ besides → PartsStand q w → HasRoom (min 1 (27 * (w.front.outstanding.offered - w.front.outstanding.collected) + besides)) (w.front.outstanding.offered - w.front.outstanding.collected) r → HasTurnRoom (shown_in w.life) r
-single_room q w besides r some s room =
-    let m : Moment = s.2.0 in
-    let good = stands_good q w.front.header s.0 s.1 m s.2.3 s.2.1 in
-    let not_yet = shown_few q w.front.header w.front.setup m w.life good s.2.2.life in
-    let few = undone_few q w.front.header m w good s.2.2 in
-    record {
-      items = omega (arith, some, room.items);
-      lists = omega (arith, some, room.lists, not_yet, few);
-      answer_lists = omega (arith, some, room.answer_lists);
-      answers = omega (arith, room.answers, not_yet, few);
-    }
-
--- where a run leads is reached
-pub reached_now : (q : ℕ) (h : Header1) (es : List Event) (rs : List Record) (m : Moment) → q < h.queues → Stands h es rs m → IsReached q h m
-reached_now q h es rs m low stands = record { events = es; records = rs; from = m; stands = stands; exists = low; count = 0; choose = any_choice h q; is = refl }
-
-pub standing_reached : (q : ℕ) (w : Parts) → PartsStand q w → (m : Moment) × IsReached q w.front.header m × PartsAt q w m
-standing_reached q w s = (s.2.0, reached_now q w.front.header s.0 s.1 s.2.0 s.2.3 s.2.1, s.2.2)
-
--- ---- a single turn
+-- ---- whether the first is ready
 
 unready : (ready : Bool) (p : Played) (m : Moment) → ready ≡ false → if_ready ready p m ≡ played (items.Idle ∷ []) m
 unready ready p m none = ap (λ (b : Bool). if_ready b p m) none
@@ -60,27 +35,13 @@ unready ready p m none = ap (λ (b : Bool). if_ready b p m) none
 is_ready_then : (ready : Bool) (p : Played) (m : Moment) → ready ≡ true → if_ready ready p m ≡ p
 is_ready_then ready p m some = ap (λ (b : Bool). if_ready b p m) some
 
-pub single_idle : (q : ℕ) (t : Turn) (w now : Parts) (m : Moment) (after is : List Item) (taken : ℕ) → StepGoes q false t w now m [] after 0 taken → is ≡ after ++ items.Idle ∷ [] → (next : Moment) × (played is next ≡ single w.front.header q t m) × PartsAt q now next
-single_idle q t w now m after is taken goes noted = (
-  m,
-  ap (λ (xs : List Item). played xs m) (noted ∙ ap (λ (xs : List Item). xs ++ items.Idle ∷ []) goes.2) ∙ sym (unready (is_due w.front.header q t m) (one_turn w.front.header q t m) m goes.0),
-  goes.1,
-)
-
-pub single_made : (q : ℕ) (t : Turn) (w now : Parts) (m : Moment) (after is : List Item) (taken : ℕ) → StepGoes q true t w now m [] after 0 taken → is ≡ after → (next : Moment) × (played is next ≡ single w.front.header q t m) × PartsAt q now next
-single_made q t w now m after is taken goes noted = (
-  (one_turn w.front.header q t m).next,
-  ap (λ (xs : List Item). played xs (one_turn w.front.header q t m).next) (noted ∙ goes.2) ∙ sym (is_ready_then (is_due w.front.header q t m) (one_turn w.front.header q t m) m goes.0),
-  goes.1,
-)
-
 -- ---- several turns
 
-pub several_idle : (q : ℕ) (h : Header1) (There : Moment → Type 0) (sequence : Sequence) (most : ℕ) (m : Moment) (after is : List Item) → TurnsGo q h false sequence most There m [] after → is ≡ after ++ items.Idle ∷ [] → TurnsEvent q h sequence most There m is
-several_idle q h There sequence most m after is goes noted = inl (goes.0, goes.1, noted ∙ ap (λ (xs : List Item). xs ++ items.Idle ∷ []) goes.2)
+pub turns_idle : (q : ℕ) (h : Header1) (There : Moment → Type 0) (sequence : Sequence) (most : ℕ) (m : Moment) (after is : List Item) → TurnsGo q h false sequence most There m [] after → is ≡ after ++ items.Idle ∷ [] → TurnsEvent q h sequence most There m is
+turns_idle q h There sequence most m after is goes noted = inl (goes.0, goes.1, noted ∙ ap (λ (xs : List Item). xs ++ items.Idle ∷ []) goes.2)
 
-pub several_made : (q : ℕ) (h : Header1) (There : Moment → Type 0) (sequence : Sequence) (most : ℕ) (m : Moment) (after is : List Item) → TurnsGo q h true sequence most There m [] after → is ≡ after → TurnsEvent q h sequence most There m is
-several_made q h There sequence most m after is goes noted = inr (subst (λ (xs : List Item). (is_due h q (choices_from q h sequence m m) m ≡ true) × TurnsMade q h (choices_from q h sequence m) most There m [] xs) (sym noted) goes)
+pub turns_all_made : (q : ℕ) (h : Header1) (There : Moment → Type 0) (sequence : Sequence) (most : ℕ) (m : Moment) (after is : List Item) → TurnsGo q h true sequence most There m [] after → is ≡ after → TurnsEvent q h sequence most There m is
+turns_all_made q h There sequence most m after is goes noted = inr (subst (λ (xs : List Item). (is_due h q (choices_from q h sequence m m) m ≡ true) × TurnsMade q h (choices_from q h sequence m) most There m [] xs) (sym noted) goes)
 
 -- the same, where what stands there has another form
 pub turns_event_as : (q : ℕ) (h : Header1) (sequence : Sequence) (most : ℕ) (P Q : Moment → Type 0) (m : Moment) (is : List Item) → ((n : Moment) → P n → Q n) → TurnsEvent q h sequence most P m is → TurnsEvent q h sequence most Q m is
@@ -90,15 +51,9 @@ turns_event_as q h sequence most P Q m is f (inr x) = inr (x.0, record { count =
 pub turns_event_of : (p q : ℕ) (h k : Header1) (sequence : Sequence) (most : ℕ) (There : Moment → Type 0) (m : Moment) (is : List Item) → p ≡ q → h ≡ k → TurnsEvent p h sequence most There m is → TurnsEvent q k sequence most There m is
 turns_event_of p q h k sequence most There m is same header event = subst (λ (j : ℕ). TurnsEvent j k sequence most There m is) same (subst (λ (g : Header1). TurnsEvent p g sequence most There m is) header event)
 
-pub single_as : (p q : ℕ) (h k : Header1) (t : Turn) (P Q : Moment → Type 0) (m : Moment) (is : List Item) → p ≡ q → h ≡ k → ((n : Moment) → P n → Q n) → (next : Moment) × (played is next ≡ single h p t m) × P next → (next : Moment) × (played is next ≡ single k q t m) × Q next
-single_as p q h k t P Q m is same header f x = (x.0, subst (λ (j : ℕ). played is x.0 ≡ single k j t m) same (subst (λ (g : Header1). played is x.0 ≡ single g p t m) header x.1), f x.0 x.2)
-
 -- no turn is due where no queue is attached
-pub several_none : (q : ℕ) (h : Header1) (There : Moment → Type 0) (sequence : Sequence) (most : ℕ) (m : Moment) (is : List Item) → (m.lanes q).attached ≡ false → There m → is ≡ items.Idle ∷ [] → TurnsEvent q h sequence most There m is
-several_none q h There sequence most m is none there noted = inl (undue q h (choices_from q h sequence m m) m none, there, noted)
-
-pub single_none : (q : ℕ) (h : Header1) (There : Moment → Type 0) (t : Turn) (m : Moment) (is : List Item) → (m.lanes q).attached ≡ false → There m → is ≡ items.Idle ∷ [] → (next : Moment) × (played is next ≡ single h q t m) × There next
-single_none q h There t m is none there noted = (m, ap (λ (xs : List Item). played xs m) noted ∙ sym (unready (is_due h q t m) (one_turn h q t m) m (undue q h t m none)), there)
+pub turns_none : (q : ℕ) (h : Header1) (There : Moment → Type 0) (sequence : Sequence) (most : ℕ) (m : Moment) (is : List Item) → (m.lanes q).attached ≡ false → There m → is ≡ items.Idle ∷ [] → TurnsEvent q h sequence most There m is
+turns_none q h There sequence most m is none there noted = inl (undue q h (choices_from q h sequence m m) m none, there, noted)
 
 -- where the next turn isn't due, as many turns and more are these
 turns_enough : (q : ℕ) (n count : ℕ) (choose : Moment → Turn) (h : Header1) (m : Moment) → n ≤ count → is_due h q (choose (turns n choose h q m).next) (turns n choose h q m).next ≡ false → turns count choose h q m ≡ turns n choose h q m
@@ -124,13 +79,34 @@ made_all q h choose most There m is x = elim x.ends [
   | inr none ↦ turns_enough q x.count most choose h m x.few none
 ]
 
-pub up_to_performs : (q : ℕ) (w now : Machine) (count : ℕ) (is : List Item) → PlaysTurns q w now sequences.Any count is → Performs w now (events.Turn q count) is
+-- a turn that is made once is the single one
+once_is : (q : ℕ) (h : Header1) (t : Turn) (m : Moment) → is_due h q t m ≡ true → turns 1 (λ now. t) h q m ≡ one_turn h q t m
+once_is q h t m due =
+    ap (λ (b : Bool). cond {A = Played} b (then_played (one_turn h q t m) (played [] (one_turn h q t m).next)) (played [] m)) due
+    ∙ ap (λ (is : List Item). played is (one_turn h q t m).next) (append-nil (one_turn h q t m).items)
+
+pub single_plays : (q : ℕ) (w now : Machine) (t : Turn) (is : List Item) → PlaysTurns q w now (sequences.Once t) is → PlaysSingle q w now t is
+single_plays q w now t is plays es rs m stands at = go (plays es rs m stands at)
+  where
+    choose : Moment → Turn
+    choose = λ now. t
+
+    go : TurnsEvent q w.header (sequences.Once t) 1 (MachineAt now) m is → (next : Moment) × (played is next ≡ single w.header q t m) × MachineAt now next
+    go (inl x) = (m, ap (λ (xs : List Item). played xs m) x.2 ∙ sym (unready (is_due w.header q t m) (one_turn w.header q t m) m x.0), x.1)
+    go (inr x) =
+        let n : ℕ = x.1.count in (
+          (turns n choose w.header q m).next,
+          ap (λ (xs : List Item). played xs (turns n choose w.header q m).next) x.1.items_are ∙ sym (made_all q w.header choose 1 (MachineAt now) m is x.1) ∙ once_is q w.header t m x.0 ∙ sym (is_ready_then (is_due w.header q t m) (one_turn w.header q t m) m x.0),
+          x.1.at,
+        )
+
+pub up_to_performs : (q : ℕ) (w now : Machine) (count : ℕ) (is : List Item) → PlaysTurns q w now (sequences.UpTo count) is → Performs w now (events.Turn q count) is
 up_to_performs q w now count is plays es rs m stands at = go (plays es rs m stands at)
   where
     choose : Moment → Turn
     choose = any_choice w.header q
 
-    go : TurnsEvent q w.header sequences.Any count (MachineAt now) m is → (next : Moment) × (played is next ≡ up_to count choose w.header q m) × MachineAt now next
+    go : TurnsEvent q w.header (sequences.UpTo count) count (MachineAt now) m is → (next : Moment) × (played is next ≡ up_to count choose w.header q m) × MachineAt now next
     go (inl x) = (m, ap (λ (xs : List Item). played xs m) x.2 ∙ sym (unready (is_due w.header q (choose m) m) (turns count choose w.header q m) m x.0), x.1)
     go (inr x) =
         let n : ℕ = x.1.count in (
@@ -142,15 +118,18 @@ up_to_performs q w now count is plays es rs m stands at = go (plays es rs m stan
 -- ---- a drain
 
 -- a bound of its turns that is never reached
-pub drain_performs : (q : ℕ) (w now : Machine) (most : ℕ) (is : List Item) → 2000 < most → PlaysTurns q w now sequences.Drain most is → Performs w now (events.Drain q) is
-drain_performs q w now most is high plays es rs m stands at = go (plays es rs m stands at)
+pub drain_performs : (q : ℕ) (w now : Machine) (is : List Item) → PlaysTurns q w now sequences.Drain is → Performs w now (events.Drain q) is
+drain_performs q w now is plays es rs m stands at = go (plays es rs m stands at)
   where
+    most : ℕ
+    most = most_turns sequences.Drain
+
     choose : Moment → Turn
     choose = drain_choice w.header q (accepted m.scene.past q)
 
     ends : (x : TurnsMade q w.header choose most (MachineAt now) m [] is) → is_due w.header q (choose (turns x.count choose w.header q m).next) (turns x.count choose w.header q m).next ≡ false
     ends x = elim x.ends [
-      | inl all ↦ absurd (omega (arith, all, x.small, high))
+      | inl all ↦ absurd (omega (arith, all, x.small))
       | inr none ↦ none
     ]
 

@@ -1,5 +1,6 @@
 pub mod Bells
 pub mod Fronts
+pub mod Lending
 pub mod Lives
 pub mod Machine
 pub mod MachineAt

@@ -30,7 +30,7 @@ use Rattle.vub_queue.specs.QueueState.{QueueState}
 use Rattle.vub_queue_in_run.specs.QueueAt.{QueueStands, DiskAt}
 use Rattle.vub_run.specs.Moments.{Moment}
 use Rattle.vub_run.specs.Run.{Stands, Plays, turns}
-use Rattle.vub_run.specs.LegalRuns.{IsLegalRun, IsServed}
+use Rattle.vub_run.specs.LegalRuns.{IsLegalRun, IsServed, EveryDrainServes}
 
 -- the request that waits to be offered is the one that is kept
 abbrev pub AskAt : Option Waiting → Option Ask → Type 0
@@ -77,9 +77,9 @@ pub record MachineAt (w : Machine) (m : Moment) : Type 0 where
   pub many : length w.fronts.items ≡ w.header.queues
   pub queues : (q : ℕ) (front : Front) → slice_get w.fronts.items q ≡ Some front → PartsAt q (parts_of q front w) m
 
--- the machine stands for these events and their records
+-- the machine stands for these events and their records: it and the backend of its life stand at a moment to which they lead
 abbrev pub StandsFor : Machine → List Event → List Record → Type 0
-StandsFor w es rs = (m : Moment) × Stands w.header es rs m × MachineAt w m
+StandsFor w es rs = (m : Moment) × Stands w.header es rs m × MachineAt w m × BackendStands w m
 
 -- it stands for some events
 abbrev pub IsStanding : Machine → Type 0
@@ -102,16 +102,13 @@ abbrev pub ServesAll : Machine → Event → List Record → Type 0
 ServesAll w (events.Drain q) rs = is_attached q w.life ≡ true → length rs < last_counter → IsServed q rs
 ServesAll w e rs = ⊤
 
--- the backend stands where these events and records lead
-abbrev pub BackendFollows : Machine → List Event → List Record → Type 0
-BackendFollows w es rs = (m : Moment) × Stands w.header es rs m × BackendStands w m
-
 -- what an event with its record leads to, after these events and records
 pub record GoesOn (w now : Machine) (e : Event) (es : List Event) (rs : List Record) : Type 0 where
   pub stands : StandsFor now es rs
   pub runs : IsLegalRun w.header es rs
+  -- while the events are fewer than the counters
+  pub drained : length es < last_counter → EveryDrainServes rs
   pub serves : ServesAll w e rs
-  pub backend : BackendFollows now es rs
 
 -- for all events and records that a world stood for, it stands for these and one event more with its record
 abbrev pub StandsOn : Machine → Machine → Event → Record → Type 0

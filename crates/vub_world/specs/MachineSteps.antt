@@ -17,7 +17,7 @@ use Rattle.vub_world.specs.OutstandingRequests.{offered_in, collected_in}
 use Rattle.vub_world.specs.Fronts.{Parts}
 use Rattle.vub_queue.specs.declared.queue.Stepped.{Stepped}
 use Rattle.vub_queue.specs.declared.queue.Stepped.TheVariants as says
-use Rattle.vub_world.specs.Sequences.{choices_from}
+use Rattle.vub_world.specs.Sequences.{choices_from, most_turns}
 use Rattle.vub_run.specs.Moments.{Moment}
 use Rattle.vub_queue.specs.QueueState.{is_idle}
 use Rattle.vub_run.specs.Run.{Stands, played, single, turns, one_turn, is_due}
@@ -86,5 +86,5 @@ TurnsEvent q h sequence most There m is =
     ⊎ ((is_due h q (choices_from q h sequence m m) m ≡ true) × TurnsMade q h (choices_from q h sequence m) most There m [] is)
 
 -- wherever the machine stood, the event of turns has these items, and leads to where the machine stands now
-abbrev pub PlaysTurns : ℕ → Machine → Machine → Sequence → ℕ → List Item → Type 0
-PlaysTurns q w now sequence most is = (es : List Event) (rs : List Record) (m : Moment) → Stands w.header es rs m → MachineAt w m → TurnsEvent q w.header sequence most (MachineAt now) m is
+abbrev pub PlaysTurns : ℕ → Machine → Machine → Sequence → List Item → Type 0
+PlaysTurns q w now sequence is = (es : List Event) (rs : List Record) (m : Moment) → Stands w.header es rs m → MachineAt w m → TurnsEvent q w.header sequence (most_turns sequence) (MachineAt now) m is

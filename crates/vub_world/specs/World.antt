@@ -1,5 +1,5 @@
 -- A world, between two events.
-use Rattle.std.specs.Prelude.{◌≡◌, ◌≤◌, ◌+◌, Option, Result, MatchResult, ⊤}
+use Rattle.std.specs.Prelude.{Option, Result, ⊤}
 use Rattle.std.specs.Borrow.{follows_so, MutBor, Bor, Fml}
 use mathlib.Core.Option.{none}
 use Rattle.vub_base.specs.declared.header.Header1.{Header1}
@@ -12,7 +12,7 @@ use Rattle.vub_report.specs.declared.items.Record.{Record}
 use Rattle.vub_world.specs.declared.world.World.{World}
 use Rattle.vub_world.specs.contracts.world.World.{the_row}
 pub use Rattle.vub_world.specs.Fronts.{offers_in}
-use Rattle.vub_world.specs.MachineAt.{StandsOn}
+use Rattle.vub_world.specs.Lending.{Lends}
 
 -- the first line of its schedule
 abbrev pub header_in : Machine → Header1
@@ -25,9 +25,6 @@ disk_in w = w.disk
 abbrev pub backend_in : Machine → Option Backend
 backend_in w = w.life
 
--- An event lends its record. The world goes on under its header, and stands for the events that it stood for and this
--- one, with their records; for want of memory all is as it was. It offers one request at most.
+-- An event lends its record, and leaves the world as `Lends` says.
 abbrev pub LendsRecord : MutBor World → Event → Result (Bor Record) Memory → Fml
-LendsRecord w event result =
-    follows_so the_row the_row w.ghost_name none (λ _ _. ⊤)
-    (λ now. (header_in now ≡ header_in w.now) × MatchResult result (λ r. (r.now.event ≡ event) × StandsOn w.now now event r.now) (λ _. now ≡ w.now) × (offers_in now ≤ offers_in w.now + 1))
+LendsRecord w event result = follows_so the_row the_row w.ghost_name none (λ _ _. ⊤) (λ now. Lends w.now now event result)

@@ -18,27 +18,41 @@ ghost use Rattle.vub_world.specs.Lives.{queue_in};
 use crate::bell::WatchedBell;
 use vub_backend::Backend;
 use vub_memdisk::MemDisk;
-use vub_queue::{Choice, Stepped};
+use vub_queue::{Choice, Stepped, Turn};
 use vub_shared::WatchedShared;
 
-/// Turns one after another.
+/// Turns one after another, as long as one is ready.
 #[derive(Clone, Copy, Debug, PartialEq, Eq)]
 pub enum Sequence {
-    /// Each is the first that is ready.
-    Any,
+    /// This one alone.
+    Once(Turn),
+    /// At most so many, each the first that is ready.
+    UpTo(u16),
     /// Those of a drain, which accepts no more requests than the queue has places.
     Drain,
 }
 
 impl Sequence {
-    ghost use Rattle.vub_world.specs.Sequences.{choice_after};
+    ghost use Rattle.vub_world.specs.Sequences.{choice_after, most_turns};
+
+    /// The most turns that it has; for a drain a bound that no run reaches.
+    pub fn most_turns(self) -> u64
+        ensures { result ≡ most_turns self }
+    {
+        match self {
+            Sequence::Once(_) => 1,
+            Sequence::UpTo(count) => u64::from(count),
+            Sequence::Drain => u64::MAX,
+        }
+    }
 
     /// The turn that comes next, after so many requests were accepted.
     pub fn next(self, accepted: u16) -> Choice
         ensures { result ≡ choice_after self accepted }
     {
         match self {
-            Sequence::Any => Choice::Any,
+            Sequence::Once(turn) => Choice::Only(turn),
+            Sequence::UpTo(_) => Choice::Any,
             Sequence::Drain => Choice::Drain(accepted),
         }
     }

@@ -1,5 +1,5 @@
 //! The parts of a world, and what each event does with them.
-ghost use Rattle.std.specs.Prelude.{◌≡◌, ◌<◌, ◌≤◌, ◌+◌, ◌-◌, ◌*◌, ◌^◌, ◌++◌, ◌∷◌, [], ◌≢◌, ℕ, List, IfOk, OnOk, OnErr, length, true, false, Some, None, option_map};
+ghost use Rattle.std.specs.Prelude.{◌≡◌, ◌<◌, ◌≤◌, ◌+◌, ◌-◌, ◌*◌, ◌^◌, ◌++◌, ◌∷◌, [], ◌≢◌, ◌↔◌, ℕ, List, IfOk, OnOk, OnErr, IsSome, IsTrue, length, true, false, Some, None, option_map};
 ghost use Rattle.vub_base.specs.declared.header.Header1.{Header1};
 ghost use Rattle.vub_driver.specs.Layout.{guest_space, inflight_space, area_place};
 ghost use Rattle.vub_shared.specs.Watched.{bytes_in, sizes_in, count_in, faults_in, IsUnfailed};
@@ -22,7 +22,7 @@ use vub_device::Entry;
 use vub_disk::Disk;
 use vub_guest::layout::area_of;
 use vub_memdisk::MemDisk;
-use vub_queue::{Choice, Turn};
+use vub_queue::Turn;
 use vub_report::{Item, Items, Record};
 use vub_room::{Room, Spare};
 use vub_schedule::Event;
@@ -45,7 +45,8 @@ pub struct Machine {
     // The backend of the life; its queues are attached all at once.
     life: Option<Backend>,
     disk: MemDisk,
-    last: Record,
+    // The record of the event that was played last.
+    last: Option<Record>,
     spare: Spare,
 }
 
@@ -118,20 +119,22 @@ impl Machine {
     ghost use Rattle.vub_schedule.specs.declared.types.Event.TheVariants as events;
     ghost use Rattle.vub_report.specs.declared.items.Item.TheVariants as items;
     ghost use Rattle.vub_world.specs.Fronts.{AreNewQueues};
-    ghost use Rattle.vub_world.specs.Machine.{IsSound, LendsSound};
-    ghost use Rattle.vub_world.specs.MachineAt.{MachineAt, IsStanding, Performs, StandsOn, is_attached};
+    ghost use Rattle.vub_world.specs.Lending.{HasPlayed, with_record};
+    ghost use Rattle.vub_world.specs.Machine.{IsSound, HaveNumbers, KeepsLast, LendsSound};
+    ghost use Rattle.vub_world.specs.MachineAt.{IsStanding, Performs, StandsFor, is_attached};
     ghost use Rattle.vub_world.specs.MachineDevice.{is_joining};
     ghost use Rattle.vub_world.specs.MachineSteps.{PlaysSingle, PlaysTurns, turns_besides};
     ghost use Rattle.vub_world.specs.Fronts.{offers_in};
-    ghost use Rattle.vub_run.specs.Moments.{opening};
+    ghost use Rattle.vub_world.specs.Sequences.{most_turns};
 
     /// A world in which nothing has happened.
     pub fn new(alloc: Global, header: &Header1) -> Result<Machine, Memory>
         requires { IsHeader header.now }
         ensures header { IfOk result (λ m. m.header ≡ header.now) }
         ensures sound { IfOk result IsSound }
-        ensures stands { IfOk result (λ m. MachineAt m (opening header.now)) }
+        ensures stands { IfOk result (λ m. StandsFor m [] []) }
         ensures offers { IfOk result (λ m. offers_in m ≡ 0) }
+        ensures last { IfOk result (λ m. m.last ≡ None) }
     {
         let (memory, space, inflight) = shared_memory(alloc, header)?;
         Ok(Machine {
@@ -141,10 +144,7 @@ impl Machine {
             fronts: new_fronts(alloc, header, space, inflight)?,
             life: None,
             disk: MemDisk::new(alloc, header.capacity)?,
-            last: Record {
-                event: Event::Boot,
-                items: Items::new(Vec::new(alloc)),
-            },
+            last: None,
             spare: Spare::new(alloc),
         })
     }
@@ -287,7 +287,7 @@ impl Machine {
         let mut backend = Backend::new(self.alloc, self.header.queues)?;
         for index in 0..self.header.queues {
             let front = &self.fronts[usize::from(index)];
-            backend.attach(self.alloc, &front.setup)?;
+            backend.attach(&front.setup)?;
         }
         Ok(backend)
     }
@@ -332,6 +332,42 @@ impl Machine {
         u64::from(self.header.size) + BESIDES
     }
 
+    /// The turns of a sequence; idle where the first isn't ready.
+    fn turns(&mut self, queue: u16, sequence: Sequence) -> Result<Items, Memory>
+        requires exists { queue < self.old.header.queues }
+        requires some { 1 ≤ most_turns sequence }
+        requires sound { IsSound self.old }
+        requires stands { IsStanding self.old }
+        ensures header { self.new.header ≡ self.old.header }
+        ensures sound { IsSound self.new }
+        ensures kept { OnErr result (self.new ≡ self.old) }
+        ensures plays { IfOk result (λ is. PlaysTurns queue self.old self.new sequence is) }
+    {
+        if !self.is_attached(queue) {
+            return self.idle();
+        }
+        let place = usize::from(queue);
+        let besides = self.turns_besides();
+        let front = &self.fronts[place];
+        let undone = front.outstanding.count();
+        let most = sequence.most_turns();
+        let mut room = Room::for_turns(self.alloc, &mut self.spare, most, undone, besides)?;
+        let Some(backend) = &mut self.life else {
+            unreachable!();
+        };
+        let made = front.play_turns(
+            backend,
+            sequence,
+            &mut self.memory,
+            &mut self.disk,
+            &mut room,
+        );
+        if !made {
+            room.note(Item::Idle);
+        }
+        Ok(room.finish(&mut self.spare))
+    }
+
     /// A single turn, idle where it isn't ready.
     fn single(&mut self, queue: u16, turn: Turn) -> Result<Items, Memory>
         requires exists { queue < self.old.header.queues }
@@ -342,64 +378,7 @@ impl Machine {
         ensures kept { OnErr result (self.new ≡ self.old) }
         ensures plays { IfOk result (λ is. PlaysSingle queue self.old self.new turn is) }
     {
-        if !self.is_attached(queue) {
-            return self.idle();
-        }
-        let place = usize::from(queue);
-        let besides = self.turns_besides();
-        let front = &self.fronts[place];
-        let undone = front.outstanding.count();
-        let mut room = Room::for_turns(self.alloc, &mut self.spare, 1, undone, besides)?;
-        let Some(backend) = &mut self.life else {
-            unreachable!();
-        };
-        let stepped = front.play(
-            backend,
-            Choice::Only(turn),
-            &mut self.memory,
-            &mut self.disk,
-            &mut room,
-        );
-        if stepped.is_idle() {
-            room.note(Item::Idle);
-        }
-        Ok(room.finish(&mut self.spare))
-    }
-
-    /// At most so many turns, as long as one is ready; idle where the first isn't.
-    fn several(&mut self, queue: u16, sequence: Sequence, count: u64) -> Result<Items, Memory>
-        requires exists { queue < self.old.header.queues }
-        requires some { 1 ≤ count }
-        requires sound { IsSound self.old }
-        requires stands { IsStanding self.old }
-        ensures header { self.new.header ≡ self.old.header }
-        ensures sound { IsSound self.new }
-        ensures kept { OnErr result (self.new ≡ self.old) }
-        ensures plays { IfOk result (λ is. PlaysTurns queue self.old self.new sequence count is) }
-    {
-        if !self.is_attached(queue) {
-            return self.idle();
-        }
-        let place = usize::from(queue);
-        let besides = self.turns_besides();
-        let front = &self.fronts[place];
-        let undone = front.outstanding.count();
-        let mut room = Room::for_turns(self.alloc, &mut self.spare, count, undone, besides)?;
-        let Some(backend) = &mut self.life else {
-            unreachable!();
-        };
-        let made = front.play_turns(
-            backend,
-            sequence,
-            count,
-            &mut self.memory,
-            &mut self.disk,
-            &mut room,
-        );
-        if !made {
-            room.note(Item::Idle);
-        }
-        Ok(room.finish(&mut self.spare))
+        self.turns(queue, Sequence::Once(turn))
     }
 
     fn up_to(&mut self, queue: u16, count: u16) -> Result<Items, Memory>
@@ -412,10 +391,10 @@ impl Machine {
         ensures kept { OnErr result (self.new ≡ self.old) }
         ensures performs { IfOk result (λ is. Performs self.old self.new (events.Turn queue count) is) }
     {
-        self.several(queue, Sequence::Any, u64::from(count))
+        self.turns(queue, Sequence::UpTo(count))
     }
 
-    /// Turns until none is ready. The bound is one that no run reaches.
+    /// Turns until none is ready.
     fn drain(&mut self, queue: u16) -> Result<Items, Memory>
         requires exists { queue < self.old.header.queues }
         requires sound { IsSound self.old }
@@ -425,7 +404,7 @@ impl Machine {
         ensures kept { OnErr result (self.new ≡ self.old) }
         ensures performs { IfOk result (λ is. Performs self.old self.new (events.Drain queue) is) }
     {
-        self.several(queue, Sequence::Drain, u64::MAX)
+        self.turns(queue, Sequence::Drain)
     }
 
     fn items_of(&mut self, event: &Event) -> Result<Items, Memory>
@@ -454,6 +433,16 @@ impl Machine {
         }
     }
 
+    /// Keeps the record of an event. What the one before held is spare.
+    fn keep(&mut self, played: Record)
+        ensures { self.new ≡ with_record played self.new.spare self.old }
+    {
+        let before = mem::replace(&mut self.last, Some(played));
+        if let Some(before) = before {
+            self.spare.recycle(before.items);
+        }
+    }
+
     /// Plays an event, and keeps its record.
     pub fn perform(&mut self, event: &Event) -> Result<(), Memory>
         requires fits { IsEvent self.old.header event.now }
@@ -465,25 +454,44 @@ impl Machine {
         ensures stands { IsStanding self.new }
         ensures kept { OnErr result (self.new ≡ self.old) }
         ensures offers { offers_in self.new ≤ offers_in self.old + 1 }
-        ensures event { OnOk result (self.new.last.event ≡ event.now) }
-        ensures on { OnOk result (StandsOn self.old self.new event.now self.new.last) }
+        ensures plays { OnOk result ((r : Record) × HasPlayed self.old self.new event.now r) }
     {
         let made = event.copy()?;
         let items = self.items_of(event)?;
-        let before = mem::replace(&mut self.last, Record { event: made, items });
-        self.spare.recycle(before.items);
+        self.keep(Record { event: made, items });
         Ok(())
     }
 
-    /// Plays an event, and lends its record.
+    /// Whether each queue has a number for a further request.
+    fn has_numbers(&self) -> bool
+        ensures { IsTrue result ↔ HaveNumbers self.now }
+    {
+        self.fronts.iter().all(|front| front.outstanding.has_number())
+    }
+
+    /// The record of the event that was played last.
+    fn last(&self) -> &Record
+        requires { IsSome self.now.last }
+        ensures { Some result.now ≡ self.now.last }
+    {
+        match &self.last {
+            Some(record) => record,
+            None => unreachable!(),
+        }
+    }
+
+    /// Plays an event, and lends its record. Where no number is left for a further request it plays
+    /// nothing, and lends the record of the event before.
     pub fn event(&mut self, event: &Event) -> Result<&Record, Memory>
         requires fits { IsEvent self.old.header event.now }
-        requires more { offers_in self.old < 2 ^ 64 - 1 }
         requires sound { IsSound self.old }
         requires stands { IsStanding self.old }
+        requires last { KeepsLast self.old }
         ensures* after { sem 𝓛 (LendsSound self.entry event.now result) }
     {
-        self.perform(event)?;
-        Ok(&self.last)
+        if self.has_numbers() {
+            self.perform(event)?;
+        }
+        Ok(self.last())
     }
 }

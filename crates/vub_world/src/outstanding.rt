@@ -1,5 +1,5 @@
 //! A queue's outstanding requests: offered and not collected.
-ghost use Rattle.std.specs.Prelude.{◌≡◌, ◌<◌, ◌≤◌, ◌+◌, ◌-◌, ◌^◌, ℕ, IfOk};
+ghost use Rattle.std.specs.Prelude.{◌≡◌, ◌<◌, ◌≤◌, ◌+◌, ◌-◌, ◌^◌, ◌↔◌, ℕ, IfOk, IsTrue};
 ghost use Rattle.vub_world.specs.OutstandingRequests.{reads_in};
 
 use std::alloc::Global;
@@ -84,6 +84,13 @@ impl OutstandingRequests {
         ensures slots { (d : ℕ) → slot_in self.new d ≡ slot_in self.old d }
     {
         self.collected += 1;
+    }
+
+    /// Whether a number of 64 bits is left for a further request.
+    pub fn has_number(&self) -> bool
+        ensures { IsTrue result ↔ (offered_in self.now < 2 ^ 64 - 1) }
+    {
+        self.offered < u64::MAX
     }
 
     /// How many requests are offered and not collected.

@@ -14,7 +14,7 @@ ghost use Rattle.vub_world.specs.MachineAt.{PartsAt, PartsStand, IsReached};
 ghost use Rattle.vub_world.specs.MachineDevice.{BatchFits, ShownFits, ShowsSome, IsMade, StoreFits, SectorFits, HeadFits, answer_for, answers_for, queue_shown, queue_shows, queue_started, queue_heads, queue_numbers, number_at, noted, accepts, turn_here, StartFits, KeepsNumbers};
 ghost use Rattle.vub_world.specs.MachineSteps.{TurnGoes, StepGoes, TurnsGo, HasStartRoom, turns_besides};
 ghost use Rattle.vub_world.specs.OutstandingRequests.{offered_in, collected_in, size_in, slot_in};
-ghost use Rattle.vub_world.specs.Sequences.{next_turn};
+ghost use Rattle.vub_world.specs.Sequences.{next_turn, most_turns};
 
 use crate::device::{Sequence, turn_queue};
 use crate::front::Front;
@@ -195,7 +195,7 @@ impl Front {
     }
 
     /// A turn with its items.
-    pub fn play(
+    fn play(
         &self,
         backend: &mut Backend,
         choice: Choice,
@@ -255,30 +255,30 @@ impl Front {
         !stepped.is_idle()
     }
 
-    /// At most so many turns, as long as one is ready; false where none was made.
+    /// The turns of a sequence with their items; false where none was made.
     pub fn play_turns(
         &self,
         backend: &mut Backend,
         sequence: Sequence,
-        count: u64,
         memory: &mut WatchedShared,
         disk: &mut MemDisk,
         room: &mut Room,
     ) -> bool
         requires backend { IsBackend self.now.header.queues (sizes_in memory.old) (capacity_of disk.old) backend.old }
         requires sound { PartsSound self.now.index (parts_in memory.old self.now backend.old disk.old) }
-        requires some { 1 ≤ count }
-        requires room { HasRoom (min count (27 * (offered_in self.now.outstanding - collected_in self.now.outstanding) + turns_besides self.now.header.size)) (offered_in self.now.outstanding - collected_in self.now.outstanding) room.old }
+        requires some { 1 ≤ most_turns sequence }
+        requires room { HasRoom (min (most_turns sequence) (27 * (offered_in self.now.outstanding - collected_in self.now.outstanding) + turns_besides self.now.header.size)) (offered_in self.now.outstanding - collected_in self.now.outstanding) room.old }
         requires numbers { HasStartRoom (queue_started (queue_of self.now backend.old)) self.now.outstanding room.old }
         requires stands { PartsStand self.now.index (parts_in memory.old self.now backend.old disk.old) }
         ensures backend { IsBackend self.now.header.queues (sizes_in memory.new) (capacity_of disk.new) backend.new }
         ensures sound { PartsSound self.now.index (parts_in memory.new self.now backend.new disk.new) }
         ensures sizes { (s : ℕ) → sizes_in memory.new s ≡ sizes_in memory.old s }
-        ensures turns { (es : List Event) (rs : List Record) (m : Moment) → Stands self.now.header es rs m → PartsAt self.now.index (parts_in memory.old self.now backend.old disk.old) m → TurnsGo self.now.index self.now.header result sequence count (PartsAt self.now.index (parts_in memory.new self.now backend.new disk.new)) m room.old.items room.new.items }
+        ensures turns { (es : List Event) (rs : List Record) (m : Moment) → Stands self.now.header es rs m → PartsAt self.now.index (parts_in memory.old self.now backend.old disk.old) m → TurnsGo self.now.index self.now.header result sequence (most_turns sequence) (PartsAt self.now.index (parts_in memory.new self.now backend.new disk.new)) m room.old.items room.new.items }
         ensures idle { result ≡ false → room.new.item_room ≡ room.old.item_room }
     {
         let mut accepted: u16 = 0;
-        for done in 0..count {
+        let most = sequence.most_turns();
+        for done in 0..most {
             if !self.play_next(backend, sequence, &mut accepted, memory, disk, room) {
                 return done > 0;
             }

@@ -19,14 +19,14 @@ pub struct World {
 
 impl Model for World {
     ghost use Rattle.vub_world.specs.declared.machine.Machine.{Machine};
-    ghost use Rattle.vub_world.specs.Machine.{IsSound};
+    ghost use Rattle.vub_world.specs.Machine.{IsSound, KeepsLast};
     ghost use Rattle.vub_world.specs.MachineAt.{IsStanding};
 
     ghost Value = { Machine };
 
     ghost view = { λ w. w.machine };
 
-    ghost invariant = { λ w. IsSound w.machine × IsStanding w.machine };
+    ghost invariant = { λ w. IsSound w.machine × IsStanding w.machine × KeepsLast w.machine };
 }
 
 impl World {
@@ -48,11 +48,12 @@ impl World {
     }
 
     /// Plays an event, and lends its record. All memory that the event can need is reserved before
-    /// its first change: refused, it changes nothing. A further offer has a number of 64 bits, and an
-    /// event offers one request at most.
+    /// its first change: refused, it changes nothing. A request has a number of 64 bits, counted from
+    /// 0 as the requests are offered, and an event offers one at most. After 2^64 - 1 offers no number
+    /// is left for a further one: then the call plays nothing, leaves all as it was, and lends the
+    /// record of the event before.
     pub fn event(&mut self, event: &Event) -> Result<&Record, Memory>
         requires event { IsEvent (header_in self.old) event.now }
-        requires more { offers_in self.old < 2 ^ 64 - 1 }
         ensures* after { sem 𝓛 (LendsRecord self.entry event.now result) }
     {
         self.machine.event(event)

@@ -6,13 +6,13 @@ use Rattle.vub_base.specs.declared.header.Header1.{Header1}
 use Rattle.vub_schedule.specs.declared.types.Event.{Event}
 use Rattle.vub_schedule.specs.declared.types.Schedule.{Schedule}
 use Rattle.vub_report.specs.declared.items.Record.{Record}
-use Rattle.vub_run.specs.LegalRuns.{IsLegalRun}
+use Rattle.vub_run.specs.LegalRuns.{IsLegalRun, EveryDrainServes}
 use Rattle.vublk.specs.declared.words.Command.{Command}
 use Rattle.vublk.specs.declared.words.Command.TheVariants.{Replay, Entries}
 use Rattle.vublk.specs.Flows.{Wrote, WrotePart, WroteBut}
 use Rattle.vublk.specs.Records.{written, head_of, records_text}
 use Rattle.vublk.specs.Ends.{PrintsAll, PrintsSome, PrintsPart}
-use Rattle.vublk.proofs.OneMore.{no_run}
+use Rattle.vublk.proofs.OneMore.{no_run, none_drained}
 use Rattle.vublk.proofs.Streams.{But-then, But-part, But-flushed, But-flushed_part}
 
 written_parts : (c : Command) (h : Header1) (rs : List Record) → head_of c h ++ records_text c rs ≡ written c h rs
@@ -41,50 +41,55 @@ But-after c s rs before at after first waiting later none head p =
     subst (λ (t : List ℕ). WroteBut before after later t) (put_after c s.header rs first none) (But-then before at after waiting later (first ++ head_of c s.header) (records_text c rs) head p)
 
 pub Part-after : (c : Command) (s : Schedule) (h : Header1) (events : List Event) (before at after : Option (List ℕ)) (first waiting : List ℕ) → h ≡ s.header → events ≡ s.events → first ≡ [] → WroteBut before at waiting (first ++ head_of c s.header)
-    → (n : ℕ) × (rs : List Record) × IsLegalRun h (take n events) rs × WrotePart at after (waiting ++ records_text c rs) → PrintsPart c s before after
+    → (n : ℕ) × (rs : List Record) × IsLegalRun h (take n events) rs × EveryDrainServes rs × WrotePart at after (waiting ++ records_text c rs) → PrintsPart c s before after
 Part-after c s h events before at after first waiting under same none head p = (
   p.0,
   p.1,
   run_under s h events p.0 p.1 under same p.2,
-  subst (λ (t : List ℕ). WrotePart before after t) (put_after c s.header p.1 first none) (But-part before at after waiting (first ++ head_of c s.header) (records_text c p.1) head p.3),
+  p.3,
+  subst (λ (t : List ℕ). WrotePart before after t) (put_after c s.header p.1 first none) (But-part before at after waiting (first ++ head_of c s.header) (records_text c p.1) head p.4),
 )
 
 -- all of a run was put
 pub All-flushed : (c : Command) (s : Schedule) (h : Header1) (events : List Event) (before at after end : Option (List ℕ)) (first waiting later : List ℕ) → h ≡ s.header → events ≡ s.events → first ≡ [] → WroteBut before at waiting (first ++ head_of c s.header)
-    → (rs : List Record) × IsLegalRun h events rs × WroteBut at after later (waiting ++ records_text c rs) → Wrote after end later → PrintsAll c s before end
+    → (rs : List Record) × IsLegalRun h events rs × EveryDrainServes rs × WroteBut at after later (waiting ++ records_text c rs) → Wrote after end later → PrintsAll c s before end
 All-flushed c s h events before at after end first waiting later under same none head p flushed = (
   p.0,
   all_under s h events p.0 under same p.1,
-  But-flushed before after end later (written c s.header p.0) (But-after c s p.0 before at after first waiting later none head p.2) flushed,
+  p.2,
+  But-flushed before after end later (written c s.header p.0) (But-after c s p.0 before at after first waiting later none head p.3) flushed,
 )
 
 pub All-flushed_part : (c : Command) (s : Schedule) (h : Header1) (events : List Event) (before at after end : Option (List ℕ)) (first waiting later : List ℕ) → h ≡ s.header → events ≡ s.events → first ≡ [] → WroteBut before at waiting (first ++ head_of c s.header)
-    → (rs : List Record) × IsLegalRun h events rs × WroteBut at after later (waiting ++ records_text c rs) → WrotePart after end later → PrintsPart c s before end
+    → (rs : List Record) × IsLegalRun h events rs × EveryDrainServes rs × WroteBut at after later (waiting ++ records_text c rs) → WrotePart after end later → PrintsPart c s before end
 All-flushed_part c s h events before at after end first waiting later under same none head p flushed = (
   length s.events,
   p.0,
   subst (λ (es : List Event). IsLegalRun s.header es p.0) (sym (take-length s.events)) (all_under s h events p.0 under same p.1),
-  But-flushed_part before after end later (written c s.header p.0) (But-after c s p.0 before at after first waiting later none head p.2) flushed,
+  p.2,
+  But-flushed_part before after end later (written c s.header p.0) (But-after c s p.0 before at after first waiting later none head p.3) flushed,
 )
 
 -- what was put of a run of the first events
 pub Some-flushed : (c : Command) (s : Schedule) (h : Header1) (events : List Event) (before at after end : Option (List ℕ)) (first waiting later : List ℕ) → h ≡ s.header → events ≡ s.events → first ≡ [] → WroteBut before at waiting (first ++ head_of c s.header)
-    → (n : ℕ) × (rs : List Record) × IsLegalRun h (take n events) rs × WroteBut at after later (waiting ++ records_text c rs) → Wrote after end later → PrintsSome c s before end
+    → (n : ℕ) × (rs : List Record) × IsLegalRun h (take n events) rs × EveryDrainServes rs × WroteBut at after later (waiting ++ records_text c rs) → Wrote after end later → PrintsSome c s before end
 Some-flushed c s h events before at after end first waiting later under same none head p flushed = (
   p.0,
   p.1,
   run_under s h events p.0 p.1 under same p.2,
-  But-flushed before after end later (written c s.header p.1) (But-after c s p.1 before at after first waiting later none head p.3) flushed,
+  p.3,
+  But-flushed before after end later (written c s.header p.1) (But-after c s p.1 before at after first waiting later none head p.4) flushed,
 )
 
 pub Some-flushed_part : (c : Command) (s : Schedule) (h : Header1) (events : List Event) (before at after end : Option (List ℕ)) (first waiting later : List ℕ) → h ≡ s.header → events ≡ s.events → first ≡ [] → WroteBut before at waiting (first ++ head_of c s.header)
-    → (n : ℕ) × (rs : List Record) × IsLegalRun h (take n events) rs × WroteBut at after later (waiting ++ records_text c rs) → WrotePart after end later → PrintsPart c s before end
+    → (n : ℕ) × (rs : List Record) × IsLegalRun h (take n events) rs × EveryDrainServes rs × WroteBut at after later (waiting ++ records_text c rs) → WrotePart after end later → PrintsPart c s before end
 Some-flushed_part c s h events before at after end first waiting later under same none head p flushed = (
   p.0,
   p.1,
   run_under s h events p.0 p.1 under same p.2,
-  But-flushed_part before after end later (written c s.header p.1) (But-after c s p.1 before at after first waiting later none head p.3) flushed,
+  p.3,
+  But-flushed_part before after end later (written c s.header p.1) (But-after c s p.1 before at after first waiting later none head p.4) flushed,
 )
 
 pub Part-head : (c : Command) (s : Schedule) (before after : Option (List ℕ)) (first : List ℕ) → first ≡ [] → WrotePart before after (first ++ head_of c s.header) → PrintsPart c s before after
-Part-head c s before after first none p = (0, [], no_run s.header, subst (λ (t : List ℕ). WrotePart before after t) (ap (λ (t : List ℕ). t ++ head_of c s.header) none ∙ sym (written_none c s.header)) p)
+Part-head c s before after first none p = (0, [], no_run s.header, none_drained, subst (λ (t : List ℕ). WrotePart before after t) (ap (λ (t : List ℕ). t ++ head_of c s.header) none ∙ sym (written_none c s.header)) p)

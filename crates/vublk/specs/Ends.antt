@@ -6,7 +6,7 @@ use Rattle.vub_schedule.specs.Spelling.{IsSchedule, spelling}
 use Rattle.vub_schedule.specs.Faults.{IsFirstBad}
 use Rattle.vub_report.specs.declared.items.Record.{Record}
 use Rattle.vublk.specs.Flows.{TookAll, Wrote, WrotePart, IsPastLimit, input_limit}
-use Rattle.vub_run.specs.LegalRuns.{IsLegalRun}
+use Rattle.vub_run.specs.LegalRuns.{IsLegalRun, EveryDrainServes}
 use Rattle.vublk.specs.Records.{written}
 use Rattle.vublk.specs.declared.words.Command.{Command}
 use Rattle.vublk.specs.declared.replay.End.{End}
@@ -17,17 +17,17 @@ bad_line_text n = codes "bad line " ++ decimal n ++ 10 ∷ []
 
 -- ---- what a schedule prints
 
--- what the command writes of a run of all events, whose history is legal and tracked
+-- what the command writes of a legal run of all events, in which each drain of an attached queue serves it
 abbrev pub PrintsAll : Command → Schedule → Option (List ℕ) → Option (List ℕ) → Type 0
-PrintsAll c s old new = (records : List Record) × IsLegalRun s.header s.events records × Wrote old new (written c s.header records)
+PrintsAll c s old new = (records : List Record) × IsLegalRun s.header s.events records × EveryDrainServes records × Wrote old new (written c s.header records)
 
 -- the same of a run of the first events
 abbrev pub PrintsSome : Command → Schedule → Option (List ℕ) → Option (List ℕ) → Type 0
-PrintsSome c s old new = (n : ℕ) × (records : List Record) × IsLegalRun s.header (take n s.events) records × Wrote old new (written c s.header records)
+PrintsSome c s old new = (n : ℕ) × (records : List Record) × IsLegalRun s.header (take n s.events) records × EveryDrainServes records × Wrote old new (written c s.header records)
 
 -- a front of such a text
 abbrev pub PrintsPart : Command → Schedule → Option (List ℕ) → Option (List ℕ) → Type 0
-PrintsPart c s old new = (n : ℕ) × (records : List Record) × IsLegalRun s.header (take n s.events) records × WrotePart old new (written c s.header records)
+PrintsPart c s old new = (n : ℕ) × (records : List Record) × IsLegalRun s.header (take n s.events) records × EveryDrainServes records × WrotePart old new (written c s.header records)
 
 -- at each end of a schedule's run
 abbrev pub Prints : Command → Schedule → Option (List ℕ) → Option (List ℕ) → End → Type 0

@@ -4,6 +4,7 @@
 
 use crate::tests::check_row;
 use std::alloc::Global;
+use std::process::Abort;
 use std::test::Fail;
 
 /// The size of the queue, the events and the entries, with `;` between them. Beside events there stand
@@ -258,11 +259,13 @@ fn put_part(text: &mut String, part: &str) -> Result<(), Fail> {
     Ok(())
 }
 
-/// The schedule of a row.
-fn schedule_of(alloc: Global, size: &str, events: &str) -> Result<String, Fail> {
+/// The schedule of these events on a queue of so many places, whose rings begin at this base.
+fn schedule_of(alloc: Global, size: &str, base: &str, events: &str) -> Result<String, Fail> {
     let mut text = String::from_str(alloc, "vub 1 split 1 ")?;
     text.push_str(size)?;
-    text.push_str(" 8 0 back\n")?;
+    text.push_str(" 8 ")?;
+    text.push_str(base)?;
+    text.push_str(" back\n")?;
     for part in events.split(';') {
         put_part(&mut text, part)?;
     }
@@ -279,19 +282,24 @@ fn history_of(alloc: Global, entries: &str) -> Result<String, Fail> {
     Ok(text)
 }
 
+/// One row: what `entries` answers of these events.
+pub fn check_history(
+    rt: &impl Abort,
+    alloc: Global,
+    size: &str,
+    base: &str,
+    events: &str,
+    history: &str,
+) -> Result<(), Fail> {
+    let text = schedule_of(alloc, size, base, events)?;
+    let wanted = history_of(alloc, history)?;
+    check_row(rt, alloc, "entries", &text, (None, None), (0, &wanted))
+}
+
 #[test]
 fn interleavings(rt: HostRuntime) -> Result<(), Fail> {
     for (size, events, history) in ROWS {
-        let text = schedule_of(rt.alloc(), size, events)?;
-        let wanted = history_of(rt.alloc(), history)?;
-        check_row(
-            &rt,
-            rt.alloc(),
-            "entries",
-            &text,
-            (None, None),
-            (0, &wanted),
-        )?;
+        check_history(&rt, rt.alloc(), size, "0", events, history)?;
     }
     Ok(())
 }

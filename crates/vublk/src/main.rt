@@ -13,6 +13,8 @@ mod printing;
 mod reading;
 mod replay;
 #[cfg(test)]
+mod restarts;
+#[cfg(test)]
 mod tests;
 mod words;
 

@@ -4,7 +4,7 @@ ghost use Rattle.std.specs.List.{AllByRecursion};
 ghost use Rattle.vub_base.specs.Causes.{Rose};
 ghost use Rattle.vub_schedule.specs.Spelling.{IsEvent};
 ghost use Rattle.vub_report.specs.declared.items.Record.{Record};
-ghost use Rattle.vub_run.specs.LegalRuns.{IsLegalRun};
+ghost use Rattle.vub_run.specs.LegalRuns.{IsLegalRun, EveryDrainServes};
 ghost use Rattle.vub_world.specs.MachineAt.{StandsFor, StandsOn};
 ghost use Rattle.vub_world.specs.World.{header_in, offers_in};
 ghost use Rattle.vublk.specs.Flows.{Wrote, WrotePart, WroteBut};
@@ -125,11 +125,11 @@ pub fn print_all<O: Sink>(
 ) -> Result<(), PrintFault>
     requires events { AllByRecursion (IsEvent (header_in world.old)) events.now }
     requires new { StandsFor world.old [] [] }
-    ensures ok { OnOk result ((rs : List Record) × IsLegalRun (header_in world.old) events.now rs × WroteBut (O.held out.old) (O.held out.new) pieces.new (pieces.old ++ records_text command rs)) }
+    ensures ok { OnOk result ((rs : List Record) × IsLegalRun (header_in world.old) events.now rs × EveryDrainServes rs × WroteBut (O.held out.old) (O.held out.new) pieces.new (pieces.old ++ records_text command rs)) }
     ensures memory { IsErrOf result PrintFault.Memory →
-        (n : ℕ) × (rs : List Record) × IsLegalRun (header_in world.old) (take n events.now) rs × WroteBut (O.held out.old) (O.held out.new) pieces.new (pieces.old ++ records_text command rs) }
+        (n : ℕ) × (rs : List Record) × IsLegalRun (header_in world.old) (take n events.now) rs × EveryDrainServes rs × WroteBut (O.held out.old) (O.held out.new) pieces.new (pieces.old ++ records_text command rs) }
     ensures part { IsErrOf result PrintFault.Failed →
-        (n : ℕ) × (rs : List Record) × IsLegalRun (header_in world.old) (take n events.now) rs × WrotePart (O.held out.old) (O.held out.new) (pieces.old ++ records_text command rs) }
+        (n : ℕ) × (rs : List Record) × IsLegalRun (header_in world.old) (take n events.now) rs × EveryDrainServes rs × WrotePart (O.held out.old) (O.held out.new) (pieces.old ++ records_text command rs) }
     ensures later { O.faults out.old ≤ O.faults out.new }
     ensures failed { IsErrOf result PrintFault.Failed → Rose (O.faults out.old) (O.faults out.new) }
 {

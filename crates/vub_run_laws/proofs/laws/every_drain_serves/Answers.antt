@@ -1,5 +1,5 @@
-use Rattle.vub_run_laws.proofs.RunServes.{run_legal}
+use Rattle.vub_run_laws.proofs.RunServes.{run_serves}
 use Rattle.vub_run_laws.proofs.laws.every_drain_serves.Goals as goal
 
 pub returns : goal.returns
-returns c s records is run = (run_legal s.header s.events records is.header is.events run).drained
+returns c s records is run few = run_serves s.header s.events records is.header is.events run few

@@ -1,9 +1,6 @@
 use Rattle.std.proofs.Common.{refl}
-use Rattle.vub_split.proofs.SplitLemmas.{avail_idx_is, head_is, used_idx_is, sides_are, used_id_store_is, used_len_store_is}
+use Rattle.vub_split.proofs.SplitLemmas.{avail_idx_is, head_is, used_idx_is, used_id_store_is, used_len_store_is}
 use Rattle.vub_split.proofs.laws.a_split_ring_is_a_ring.Goals as goal
-
-pub returns-clause-one_space : goal.returns-clause-one_space
-returns-clause-one_space c r one = sides_are r one
 
 pub returns-clause-avail_idx : goal.returns-clause-avail_idx
 returns-clause-avail_idx c r m = avail_idx_is r m

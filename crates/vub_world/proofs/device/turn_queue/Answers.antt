@@ -10,7 +10,7 @@ use Rattle.vub_shared.proofs.WatchedLemmas.{still_unfailed}
 use Rattle.vub_memdisk.specs.MemDisks.{values_of}
 use Rattle.vub_queue.specs.declared.queue.Stepped.{Stepped}
 use Rattle.vub_backend.specs.Backends.{queues_of}
-use Rattle.vub_backend.specs.Turned.{Outside, Turned}
+use Rattle.vub_queue.specs.Turned.{Outside, Turned}
 use Rattle.vub_backend.proofs.StepLemmas.{steps_attached, steps_unattached, steps_many}
 use Rattle.vub_world.specs.Lives.{queue_in}
 use Rattle.vub_world.specs.MachineDevice.{Device, device, turn_here}

@@ -12,7 +12,7 @@ returns-in_err-print_next-clause-part g c = λ failed.
     let f = rw r.1 at failed in
     let at = c.in_err-print_next.ensures.part (cc (f, r.2)) in
     let inv = c.loop-event.invariant.printed in
-    Part-more c.args.command _ c.loop-event.world c.print_next.new.world c.args.events.now c.loop-event.event-index c.event-item.result inv.0 at.0 _ _ _ _ _ c.loop-event-test.true c.event-item.is c.loop-event.invariant.header inv.1 at.1 inv.2 at.2
+    Part-more c.args.command _ c.loop-event.world c.print_next.new.world c.args.events.now c.loop-event.event-index c.event-item.result inv.0 at.0 _ _ _ _ _ c.loop-event-test.true (omega arith) c.event-item.is c.loop-event.invariant.header inv.1 at.1 inv.2 at.2
 
 pub loop-event-init : goal.loop-event-init
 loop-event-init g c = record {
@@ -34,6 +34,6 @@ loop-event-preserved g c =
     let at = c.in_ok-print_next.ensures.ok in
     record {
       header = c.print_next.ensures.header ∙ inv.header;
-      printed = Whole-more c.args.command _ c.loop-event.world c.print_next.new.world c.args.events.now c.loop-event.event-index c.event-item.result inv.printed.0 at.0 _ _ _ _ _ _ c.loop-event-test.true c.event-item.is inv.header inv.printed.1 at.1 inv.printed.2 at.2;
+      printed = Whole-more c.args.command _ c.loop-event.world c.print_next.new.world c.args.events.now c.loop-event.event-index c.event-item.result inv.printed.0 at.0 _ _ _ _ _ _ c.loop-event-test.true (omega arith) c.event-item.is inv.header inv.printed.1 at.1 inv.printed.2 at.2;
       later = search rules;
     }

@@ -1,16 +1,16 @@
 use Rattle.std.proofs.Common.{◌≡◌, ◌∙◌, suc, ◌+◌, ◌-◌, ◌^◌, sym, arith}
 use Rattle.std.specs.Prelude.{List, Option}
 use Rattle.vub_queue.specs.QueueState.{QueueState}
-use Rattle.vub_backend.specs.Turned.{Outside, outside}
+use Rattle.vub_queue.specs.Turned.{Outside, outside}
 use Rattle.vub_backend.specs.Backends.{queues_of}
 use Rattle.vub_backend.proofs.DrainLemmas.{others_still, drained_on, drained_idle, drained_most}
 use Rattle.vub_backend.proofs.backend.Backend.drain.Goals as goal
 
 pub loop-done-preserved : goal.loop-done-preserved
 loop-done-preserved g c =
-    let before : Outside = outside (g.M.Shared.told c.args.mem.now) (g.M.Shared.trail c.args.mem.now) (g.M.Shared.names c.args.mem.now) (g.M.Shared.handed c.args.mem.now) (g.M.Shared.sizes c.args.mem.now) (g.M.Shared.faults c.args.mem.now) (g.D.Disk.values c.args.disk.now) (g.D.Disk.stable c.args.disk.now) (g.D.Disk.capacity c.args.disk.now) (g.D.Disk.faults c.args.disk.now) (g.B.Bell.told c.args.bell.now) (g.B.Bell.faults c.args.bell.now) in
-    let mid : Outside = outside (g.M.Shared.told c.loop-done.mem) (g.M.Shared.trail c.loop-done.mem) (g.M.Shared.names c.loop-done.mem) (g.M.Shared.handed c.loop-done.mem) (g.M.Shared.sizes c.loop-done.mem) (g.M.Shared.faults c.loop-done.mem) (g.D.Disk.values c.loop-done.disk) (g.D.Disk.stable c.loop-done.disk) (g.D.Disk.capacity c.loop-done.disk) (g.D.Disk.faults c.loop-done.disk) (g.B.Bell.told c.loop-done.bell) (g.B.Bell.faults c.loop-done.bell) in
-    let after : Outside = outside (g.M.Shared.told c.step-stepped.new.mem) (g.M.Shared.trail c.step-stepped.new.mem) (g.M.Shared.names c.step-stepped.new.mem) (g.M.Shared.handed c.step-stepped.new.mem) (g.M.Shared.sizes c.step-stepped.new.mem) (g.M.Shared.faults c.step-stepped.new.mem) (g.D.Disk.values c.step-stepped.new.disk) (g.D.Disk.stable c.step-stepped.new.disk) (g.D.Disk.capacity c.step-stepped.new.disk) (g.D.Disk.faults c.step-stepped.new.disk) (g.B.Bell.told c.step-stepped.new.bell) (g.B.Bell.faults c.step-stepped.new.bell) in
+    let before : Outside = outside g.M.Shared g.D.Disk g.B.Bell c.args.mem.now c.args.disk.now c.args.bell.now in
+    let mid : Outside = outside g.M.Shared g.D.Disk g.B.Bell c.loop-done.mem c.loop-done.disk c.loop-done.bell in
+    let after : Outside = outside g.M.Shared g.D.Disk g.B.Bell c.step-stepped.new.mem c.step-stepped.new.disk c.step-stepped.new.bell in
     let queues : List (Option QueueState) = queues_of c.args.self.now in
     let between : List (Option QueueState) = queues_of c.loop-done.self in
     let now : List (Option QueueState) = queues_of c.step-stepped.new.self in
@@ -25,9 +25,9 @@ loop-done-preserved g c =
 
 pub returns-then-is_idle-clause-drains : goal.returns-then-is_idle-clause-drains
 returns-then-is_idle-clause-drains g c =
-    let before : Outside = outside (g.M.Shared.told c.args.mem.now) (g.M.Shared.trail c.args.mem.now) (g.M.Shared.names c.args.mem.now) (g.M.Shared.handed c.args.mem.now) (g.M.Shared.sizes c.args.mem.now) (g.M.Shared.faults c.args.mem.now) (g.D.Disk.values c.args.disk.now) (g.D.Disk.stable c.args.disk.now) (g.D.Disk.capacity c.args.disk.now) (g.D.Disk.faults c.args.disk.now) (g.B.Bell.told c.args.bell.now) (g.B.Bell.faults c.args.bell.now) in
-    let mid : Outside = outside (g.M.Shared.told c.loop-done.mem) (g.M.Shared.trail c.loop-done.mem) (g.M.Shared.names c.loop-done.mem) (g.M.Shared.handed c.loop-done.mem) (g.M.Shared.sizes c.loop-done.mem) (g.M.Shared.faults c.loop-done.mem) (g.D.Disk.values c.loop-done.disk) (g.D.Disk.stable c.loop-done.disk) (g.D.Disk.capacity c.loop-done.disk) (g.D.Disk.faults c.loop-done.disk) (g.B.Bell.told c.loop-done.bell) (g.B.Bell.faults c.loop-done.bell) in
-    let after : Outside = outside (g.M.Shared.told c.step-stepped.new.mem) (g.M.Shared.trail c.step-stepped.new.mem) (g.M.Shared.names c.step-stepped.new.mem) (g.M.Shared.handed c.step-stepped.new.mem) (g.M.Shared.sizes c.step-stepped.new.mem) (g.M.Shared.faults c.step-stepped.new.mem) (g.D.Disk.values c.step-stepped.new.disk) (g.D.Disk.stable c.step-stepped.new.disk) (g.D.Disk.capacity c.step-stepped.new.disk) (g.D.Disk.faults c.step-stepped.new.disk) (g.B.Bell.told c.step-stepped.new.bell) (g.B.Bell.faults c.step-stepped.new.bell) in
+    let before : Outside = outside g.M.Shared g.D.Disk g.B.Bell c.args.mem.now c.args.disk.now c.args.bell.now in
+    let mid : Outside = outside g.M.Shared g.D.Disk g.B.Bell c.loop-done.mem c.loop-done.disk c.loop-done.bell in
+    let after : Outside = outside g.M.Shared g.D.Disk g.B.Bell c.step-stepped.new.mem c.step-stepped.new.disk c.step-stepped.new.bell in
     let queues : List (Option QueueState) = queues_of c.args.self.now in
     let between : List (Option QueueState) = queues_of c.loop-done.self in
     let now : List (Option QueueState) = queues_of c.step-stepped.new.self in
@@ -35,7 +35,7 @@ returns-then-is_idle-clause-drains g c =
 
 pub returns-clause-drains : goal.returns-clause-drains
 returns-clause-drains g c =
-    let before : Outside = outside (g.M.Shared.told c.args.mem.now) (g.M.Shared.trail c.args.mem.now) (g.M.Shared.names c.args.mem.now) (g.M.Shared.handed c.args.mem.now) (g.M.Shared.sizes c.args.mem.now) (g.M.Shared.faults c.args.mem.now) (g.D.Disk.values c.args.disk.now) (g.D.Disk.stable c.args.disk.now) (g.D.Disk.capacity c.args.disk.now) (g.D.Disk.faults c.args.disk.now) (g.B.Bell.told c.args.bell.now) (g.B.Bell.faults c.args.bell.now) in
-    let after : Outside = outside (g.M.Shared.told c.loop-done.mem) (g.M.Shared.trail c.loop-done.mem) (g.M.Shared.names c.loop-done.mem) (g.M.Shared.handed c.loop-done.mem) (g.M.Shared.sizes c.loop-done.mem) (g.M.Shared.faults c.loop-done.mem) (g.D.Disk.values c.loop-done.disk) (g.D.Disk.stable c.loop-done.disk) (g.D.Disk.capacity c.loop-done.disk) (g.D.Disk.faults c.loop-done.disk) (g.B.Bell.told c.loop-done.bell) (g.B.Bell.faults c.loop-done.bell) in
+    let before : Outside = outside g.M.Shared g.D.Disk g.B.Bell c.args.mem.now c.args.disk.now c.args.bell.now in
+    let after : Outside = outside g.M.Shared g.D.Disk g.B.Bell c.loop-done.mem c.loop-done.disk c.loop-done.bell in
     let most : c.loop-done.done ≡ 2 ^ 64 - 1 = omega (arith, c.loop-done-test.false, c.loop-done.auto.done-end) in
     drained_most c.args.queue c.loop-done.done before after (queues_of c.args.self.now) (queues_of c.loop-done.self) c.loop-done.accepted c.loop-done.invariant.drained most

@@ -1,4 +1,4 @@
-use Rattle.std.proofs.Common.{◌≡◌, ◌<◌, ℕ, length, refl, sym, subst, arith}
+use Rattle.std.proofs.Common.{◌≡◌, ◌<◌, ℕ, length, refl, sym, subst, arith, rules}
 use Rattle.std.specs.Prelude.{Some, take, Option}
 use Rattle.vub_shared.specs.Bytes.{Bytes}
 use Rattle.vub_steps.specs.declared.steps.Step.TheVariants.{Link}
@@ -20,6 +20,17 @@ store_in_region-requires-clause-within g c =
     let q = c.args.self.now in
     subst (λ (n : ℕ). c.batch_element-head.result.head < n) (sym c.requires.same_size) (below_at q.ring.size (take q.batch q.completed.items) c.args.element c.batch_element-head.result (below_take q.ring.size q.batch q.completed.items q.in_table) c.batch_element-head.ensures)
 
-pub returns-clause-moves : goal.returns-clause-moves
-returns-clause-moves g c =
-    subst (λ (o : Option Bytes). Unless (is_fault c.store_in_region.result) (Moves o c.store_in_region.result (state_of c.args.self.now) (state_of c.store_in_region.new.self))) c.in-Ok.ensures.only_loads.same_told c.store_in_region.ensures.moves
+pub returns : goal.returns
+returns g c =
+    let moves = subst (λ (o : Option Bytes). Unless (is_fault c.store_in_region.result) (Moves o c.store_in_region.result (state_of c.args.self.now) (state_of c.store_in_region.new.self))) c.in-Ok.ensures.only_loads.same_told c.store_in_region.ensures.moves in
+    record {
+      ring = search rules;
+      stopped = search rules;
+      lies = search rules;
+      moves = moves;
+      makes_row = search rules;
+      publishing = search rules;
+      no_disk = search rules;
+      silent = search rules;
+      cause = search rules;
+    }

@@ -383,9 +383,11 @@ returns-in-Act-clause-worked g c =
     let by : Work → Type 0 = λ w. Worked w c.args.sector.now c.act.new.sector x c.act.new.self.work told told_now trail trail_now vals vals_now in
     subst by (sym c.in-Act.is) (record {
       makes = c.act.ensures.makes;
+      whole = search rules;
       stored = search rules;
       trailed = search rules;
       written = search rules;
       looked = search rules;
+      unstored = search rules;
       changed = c.act.ensures.changed;
     })

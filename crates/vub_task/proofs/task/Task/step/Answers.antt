@@ -103,4 +103,4 @@ returns-in-Ok-clause-begins g c fresh m told =
 pub returns-in-Err-Broken-clause-begins : goal.returns-in-Err-Broken-clause-begins
 returns-in-Err-Broken-clause-begins g c fresh m told =
     let sizes = g.M.Shared.sizes c.args.mem.now in
-    subst (λ (e : Unread). BreaksRule sizes c.args.ring.now m c.args.self.now.head e) c.in-Err-Broken.field-0-is (c.in-Err-Broken.ensures.starts fresh m told)
+    (subst (λ (e : Unread). BreaksRule sizes c.args.ring.now m c.args.self.now.head e) c.in-Err-Broken.field-0-is (c.in-Err-Broken.ensures.starts fresh m told), c.in-Err-Broken.ensures.only_loads.same_told ∙ told)

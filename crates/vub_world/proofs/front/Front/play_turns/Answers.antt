@@ -5,7 +5,8 @@ use Rattle.vub_base.specs.declared.header.Header1.{Header1}
 use Rattle.vub_world.specs.Fronts.{Parts, parts_in}
 use Rattle.vub_run.specs.Moments.{Moment}
 use Rattle.vub_world.specs.MachineSteps.{turns_besides}
-use Rattle.vub_world.proofs.MachineLoops.{TurnsAt, EndsAt, room_of, undone_few, turns_begin, turns_taken, room_left, turn_room, turns_go_on, turns_stop, turns_all, reached, so_far}
+use Rattle.vub_world.specs.Sequences.{most_turns}
+use Rattle.vub_world.proofs.MachineLoops.{once_few, TurnsAt, EndsAt, room_of, undone_few, turns_begin, turns_taken, room_left, turn_room, turns_go_on, turns_stop, turns_all, reached, so_far}
 use Rattle.vub_world.proofs.MachineRooms.{effort_bound}
 use Rattle.vub_run_laws.proofs.RunsTo.{stands_good}
 use Rattle.vub_world.proofs.front.Front.play_turns.Goals as goal
@@ -18,7 +19,7 @@ loop-done-init c = record {
   goes = λ es rs m stands at.
       let q : ℕ = c.args.self.now.index in
       let w : Parts = parts_in c.args.memory.now c.args.self.now c.args.backend.now c.args.disk.now in
-      turns_begin q w.front.header c.args.sequence m w c.args.room.now.items (room_of c.args.count w) (w.front.outstanding.offered - w.front.outstanding.collected) c.args.room.now at (undone_few q w.front.header m w (stands_good q w.front.header es rs m c.requires.sound.front.exists stands) at) c.requires.room;
+      turns_begin q w.front.header c.args.sequence m w c.args.room.now.items (room_of (most_turns c.args.sequence) w) (w.front.outstanding.offered - w.front.outstanding.collected) c.args.room.now at (undone_few q w.front.header m w (stands_good q w.front.header es rs m c.requires.sound.front.exists stands) at) c.requires.room;
   numbers = c.requires.numbers;
   idle = λ none. refl;
 }
@@ -41,8 +42,8 @@ play_next-requires-clause-room c =
     let d = c.loop-done.invariant.goes s.0 s.1 s.2.0 s.2.1 s.2.2 in
     let few = undone_few q w.front.header s.2.0 w (stands_good q w.front.header s.0 s.1 s.2.0 c.requires.sound.front.exists s.2.1) s.2.2 in
     let bound = effort_bound q w.front.header s.2.0 (stands_good q w.front.header s.0 s.1 s.2.0 c.requires.sound.front.exists s.2.1) in
-    let left = room_left q w.front.header c.args.sequence s.0 s.1 s.2.0 c.args.count (w.front.outstanding.offered - w.front.outstanding.collected) (turns_besides w.front.header.size) c.loop-done.done here c.args.room.now.items c.loop-done.room.items c.loop-done.accepted c.loop-done.room c.requires.sound.front.exists s.2.1 few bound c.loop-done-test.true d in
-    turn_room q w.front.header c.args.sequence s.0 s.1 s.2.0 (room_of c.args.count w) c.loop-done.done here c.args.room.now.items c.loop-done.room.items c.loop-done.accepted c.loop-done.room c.requires.sound.front.exists s.2.1 refl left d
+    let left = room_left q w.front.header c.args.sequence s.0 s.1 s.2.0 (most_turns c.args.sequence) (w.front.outstanding.offered - w.front.outstanding.collected) (turns_besides w.front.header.size) c.loop-done.done here c.args.room.now.items c.loop-done.room.items c.loop-done.accepted c.loop-done.room c.requires.sound.front.exists s.2.1 few bound (omega (arith, c.loop-done-test.true, c.most_turns-most.ensures)) d in
+    turn_room q w.front.header c.args.sequence s.0 s.1 s.2.0 (room_of (most_turns c.args.sequence) w) c.loop-done.done here c.args.room.now.items c.loop-done.room.items c.loop-done.accepted c.loop-done.room c.requires.sound.front.exists s.2.1 refl left d
 
 pub returns-then-not-play_next-clause-turns : goal.returns-then-not-play_next-clause-turns
 returns-then-not-play_next-clause-turns c es rs m stands at =
@@ -53,11 +54,11 @@ returns-then-not-play_next-clause-turns c es rs m stands at =
     let d = c.loop-done.invariant.goes es rs m stands at in
     let n : Moment = (so_far q w.front.header c.args.sequence m c.loop-done.done).next in
     let there = reached q w.front.header c.args.sequence es rs m c.loop-done.done c.requires.sound.front.exists stands in
-    let few = turns_taken q w.front.header c.args.sequence es rs m (room_of c.args.count w) c.loop-done.done here c.args.room.now.items c.loop-done.room.items c.loop-done.accepted c.loop-done.room c.requires.sound.front.exists stands d in
-    let ends : EndsAt q w.front.header c.args.sequence es rs m (room_of c.args.count w) c.loop-done.done here c.args.room.now.items c.loop-done.room.items c.loop-done.accepted c.loop-done.room =
+    let few = turns_taken q w.front.header c.args.sequence es rs m (room_of (most_turns c.args.sequence) w) c.loop-done.done here c.args.room.now.items c.loop-done.room.items c.loop-done.accepted c.loop-done.room c.requires.sound.front.exists stands d in
+    let ends : EndsAt q w.front.header c.args.sequence es rs m (room_of (most_turns c.args.sequence) w) c.loop-done.done here c.args.room.now.items c.loop-done.room.items c.loop-done.accepted c.loop-done.room =
     record { low = c.requires.sound.front.exists; stands = stands; same = refl; here = d } in
-    turns_stop q w.front.header c.args.sequence es rs m (room_of c.args.count w) c.loop-done.done c.args.count here now c.args.room.now.items c.loop-done.room.items c.play_next.new.room.items c.loop-done.accepted c.play_next.new.accepted c.loop-done.room _ ends
-    c.loop-done-test.true refl (c.if-not-play_next.ensures.goes n there d.at few)
+    turns_stop q w.front.header c.args.sequence es rs m (room_of (most_turns c.args.sequence) w) c.loop-done.done (most_turns c.args.sequence) here now c.args.room.now.items c.loop-done.room.items c.play_next.new.room.items c.loop-done.accepted c.play_next.new.accepted c.loop-done.room _ ends
+    (omega (arith, c.loop-done-test.true, c.most_turns-most.ensures)) refl (c.if-not-play_next.ensures.goes n there d.at few)
 
 pub loop-done-preserved : goal.loop-done-preserved
 loop-done-preserved c = record {
@@ -72,13 +73,13 @@ loop-done-preserved c = record {
       let d = c.loop-done.invariant.goes es rs m stands at in
       let n : Moment = (so_far q w.front.header c.args.sequence m c.loop-done.done).next in
       let there = reached q w.front.header c.args.sequence es rs m c.loop-done.done c.requires.sound.front.exists stands in
-      let few = turns_taken q w.front.header c.args.sequence es rs m (room_of c.args.count w) c.loop-done.done here c.args.room.now.items c.loop-done.room.items c.loop-done.accepted c.loop-done.room c.requires.sound.front.exists stands d in
+      let few = turns_taken q w.front.header c.args.sequence es rs m (room_of (most_turns c.args.sequence) w) c.loop-done.done here c.args.room.now.items c.loop-done.room.items c.loop-done.accepted c.loop-done.room c.requires.sound.front.exists stands d in
       let undone_are = undone_few q w.front.header m w (stands_good q w.front.header es rs m c.requires.sound.front.exists stands) at in
       let bound = effort_bound q w.front.header m (stands_good q w.front.header es rs m c.requires.sound.front.exists stands) in
-      let left = room_left q w.front.header c.args.sequence es rs m c.args.count (w.front.outstanding.offered - w.front.outstanding.collected) (turns_besides w.front.header.size) c.loop-done.done here c.args.room.now.items c.loop-done.room.items c.loop-done.accepted c.loop-done.room c.requires.sound.front.exists stands undone_are bound c.loop-done-test.true d in
+      let left = room_left q w.front.header c.args.sequence es rs m (most_turns c.args.sequence) (w.front.outstanding.offered - w.front.outstanding.collected) (turns_besides w.front.header.size) c.loop-done.done here c.args.room.now.items c.loop-done.room.items c.loop-done.accepted c.loop-done.room c.requires.sound.front.exists stands undone_are bound (omega (arith, c.loop-done-test.true, c.most_turns-most.ensures)) d in
       let next : suc c.loop-done.done ≡ c.loop-done.done + 1 = omega arith in
-      subst (λ (k : ℕ). TurnsAt q w.front.header c.args.sequence m (room_of c.args.count w) k now c.args.room.now.items c.play_next.new.room.items c.play_next.new.accepted c.play_next.new.room) next
-      (turns_go_on q w.front.header c.args.sequence es rs m (room_of c.args.count w) c.loop-done.done here now c.args.room.now.items c.loop-done.room.items c.play_next.new.room.items c.loop-done.accepted c.play_next.new.accepted c.loop-done.room c.play_next.new.room c.requires.sound.front.exists stands refl left d
+      subst (λ (k : ℕ). TurnsAt q w.front.header c.args.sequence m (room_of (most_turns c.args.sequence) w) k now c.args.room.now.items c.play_next.new.room.items c.play_next.new.accepted c.play_next.new.room) next
+      (turns_go_on q w.front.header c.args.sequence es rs m (room_of (most_turns c.args.sequence) w) c.loop-done.done here now c.args.room.now.items c.loop-done.room.items c.play_next.new.room.items c.loop-done.accepted c.play_next.new.accepted c.loop-done.room c.play_next.new.room c.requires.sound.front.exists stands refl (once_few c.args.sequence w) left d
       (c.if-not-play_next.ensures.goes n there d.at few) c.play_next.ensures.spent);
   numbers = c.play_next.ensures.numbers;
   idle = λ none. absurd (omega (arith, none));
@@ -90,10 +91,10 @@ returns-clause-turns c es rs m stands at =
     let w : Parts = parts_in c.args.memory.now c.args.self.now c.args.backend.now c.args.disk.now in
     let here : Parts = parts_in c.loop-done.memory c.args.self.now c.loop-done.backend c.loop-done.disk in
     let d = c.loop-done.invariant.goes es rs m stands at in
-    let all : c.loop-done.done ≡ c.args.count = omega (arith, c.loop-done-test.false, c.loop-done.auto.done-end) in
-    let ends : EndsAt q w.front.header c.args.sequence es rs m (room_of c.args.count w) c.loop-done.done here c.args.room.now.items c.loop-done.room.items c.loop-done.accepted c.loop-done.room =
+    let all : c.loop-done.done ≡ most_turns c.args.sequence = omega (arith, c.loop-done-test.false, c.loop-done.auto.done-end, c.most_turns-most.ensures) in
+    let ends : EndsAt q w.front.header c.args.sequence es rs m (room_of (most_turns c.args.sequence) w) c.loop-done.done here c.args.room.now.items c.loop-done.room.items c.loop-done.accepted c.loop-done.room =
     record { low = c.requires.sound.front.exists; stands = stands; same = refl; here = d } in
-    turns_all q w.front.header c.args.sequence es rs m (room_of c.args.count w) c.loop-done.done c.args.count here c.args.room.now.items c.loop-done.room.items c.loop-done.accepted c.loop-done.room ends c.requires.some all
+    turns_all q w.front.header c.args.sequence es rs m (room_of (most_turns c.args.sequence) w) c.loop-done.done (most_turns c.args.sequence) here c.args.room.now.items c.loop-done.room.items c.loop-done.accepted c.loop-done.room ends c.requires.some all
 
 none_done : (n : ℕ) → nat_lt 0 n ≡ false → n ≡ 0
 none_done n none = grind (arith, nat_tests)

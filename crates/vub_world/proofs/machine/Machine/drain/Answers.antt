@@ -1,4 +1,3 @@
-use Rattle.std.proofs.Common.{◌^◌, ◌-◌, arith}
 use Rattle.vub_world.specs.declared.device.Sequence.TheVariants as sequences
 use Rattle.vub_schedule.specs.declared.types.Event.TheVariants as events
 use Rattle.vub_world.specs.MachineAt.{Performs}
@@ -10,6 +9,6 @@ use Rattle.vub_world.proofs.machine.Machine.drain.Goals as goal
 pub returns-clause-performs : goal.returns-clause-performs
 returns-clause-performs c =
     let w = c.args.self.now in
-    let now = c.several.new.self in
+    let now = c.turns.new.self in
     let q = c.args.queue in
-    ok_then (λ is. PlaysTurns q w now sequences.Drain (2 ^ 64 - 1) is) (λ is. Performs w now (events.Drain q) is) c.several.result (λ is plays. drain_performs q w now (2 ^ 64 - 1) is (omega arith) plays) c.several.ensures.plays
+    ok_then (λ is. PlaysTurns q w now sequences.Drain is) (λ is. Performs w now (events.Drain q) is) c.turns.result (λ is plays. drain_performs q w now is plays) c.turns.ensures.plays

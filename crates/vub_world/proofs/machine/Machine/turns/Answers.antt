@@ -9,6 +9,7 @@ use Rattle.vub_world.specs.declared.machine.Machine.{Machine}
 use Rattle.vub_world.specs.Fronts.{Parts, parts_in, parts_of}
 use Rattle.vub_world.specs.Machine.{IsSound}
 use Rattle.vub_world.specs.MachineAt.{MachineAt, PartsAt}
+use Rattle.vub_world.specs.Sequences.{most_turns}
 use Rattle.vub_world.specs.MachineSteps.{TurnsGo, TurnsEvent, PlaysTurns, turns_besides}
 use Rattle.vub_world.proofs.MachineEvents.{ok_then}
 use Rattle.vub_world.proofs.MachineGuestCollects.{collects_within}
@@ -16,9 +17,9 @@ use Rattle.vub_world.proofs.MachineParts.{TurnsBegin, found, parts_stand, turns_
 use Rattle.vub_run_laws.proofs.Runs.{plain_header}
 use Rattle.vub_world.proofs.MachineLoops.{besides_small}
 use Rattle.vub_world.proofs.MachineStarts.{unattached_on}
-use Rattle.vub_world.proofs.MachineTurnEvents.{standing_few, several_idle, several_made, several_none, turns_event_as, turns_event_of}
-use Rattle.vub_world.proofs.machine.Machine.several.Goals.{then-not-made, else-not-made}
-use Rattle.vub_world.proofs.machine.Machine.several.Goals as goal
+use Rattle.vub_world.proofs.MachineTurnEvents.{standing_few, turns_idle, turns_all_made, turns_none, turns_event_as, turns_event_of}
+use Rattle.vub_world.proofs.machine.Machine.turns.Goals.{then-not-made, else-not-made}
+use Rattle.vub_world.proofs.machine.Machine.turns.Goals as goal
 
 pub count-undone-requires : goal.count-undone-requires
 count-undone-requires c =
@@ -44,8 +45,8 @@ for_turns-requires c =
 pub returns-then-not-is_attached-clause-plays : goal.returns-then-not-is_attached-clause-plays
 returns-then-not-is_attached-clause-plays c =
     let w : Machine = c.args.self.now in
-    ok_then _ (λ is. PlaysTurns c.args.queue w w c.args.sequence c.args.count is) c.idle.result
-    (λ is noted es rs m s at. several_none c.args.queue w.header (MachineAt w) c.args.sequence c.args.count m is (unattached_on w c.args.queue es rs m c.requires.sound c.requires.exists (sym c.is_attached.ensures ∙ c.if-not-is_attached.true) s at) at noted)
+    ok_then _ (λ is. PlaysTurns c.args.queue w w c.args.sequence is) c.idle.result
+    (λ is noted es rs m s at. turns_none c.args.queue w.header (MachineAt w) c.args.sequence (most_turns c.args.sequence) m is (unattached_on w c.args.queue es rs m c.requires.sound c.requires.exists (sym c.is_attached.ensures ∙ c.if-not-is_attached.true) s at) at noted)
     c.idle.ensures
 
 pub play_turns-made-requires-clause-backend : goal.play_turns-made-requires-clause-backend
@@ -87,8 +88,9 @@ play_turns-made-requires-clause-room c =
     let is : slice_get w.fronts.items q ≡ Some f = found w.fronts.items q f (omega (arith, c.requires.exists, sound.many)) (c.index-front.ensures ∙ ap (λ (k : ℕ). get_or w.fronts.items k f) c.from-place.ensures) in
     let b : TurnsBegin w q f c.in-Some.backend = turns_begin_at w q f c.in-Some.backend sound c.requires.stands is c.in-Some.is in
     let besides : c.turns_besides-besides.result ≡ turns_besides f.header.size = c.turns_besides-besides.ensures ∙ ap (λ (h : Header1). turns_besides h.size) (sym b.header) in
-    subst (λ (n : ℕ). HasRoom (min c.args.count (27 * n + turns_besides f.header.size)) n c.in_ok-room.room) c.count-undone.ensures
-    (subst (λ (n : ℕ). HasRoom (min c.args.count (27 * c.count-undone.result + n)) c.count-undone.result c.in_ok-room.room) besides c.in_ok-room.ensures.room)
+    subst (λ (n : ℕ). HasRoom (min (most_turns c.args.sequence) (27 * n + turns_besides f.header.size)) n c.in_ok-room.room) c.count-undone.ensures
+    (subst (λ (n : ℕ). HasRoom (min (most_turns c.args.sequence) (27 * c.count-undone.result + n)) c.count-undone.result c.in_ok-room.room) besides
+    (subst (λ (n : ℕ). HasRoom (min n (27 * c.count-undone.result + c.turns_besides-besides.result)) c.count-undone.result c.in_ok-room.room) c.most_turns-most.ensures c.in_ok-room.ensures.room))
 
 pub play_turns-made-requires-clause-numbers : goal.play_turns-made-requires-clause-numbers
 play_turns-made-requires-clause-numbers c stopped = subst (λ (n : ℕ). n ≤ c.in_ok-room.room.numbers) c.count-undone.ensures c.in_ok-room.ensures.numbers
@@ -115,16 +117,16 @@ returns-clause-plays c es rs m stands at =
     let n : Parts = parts_in c.play_turns-made.new.memory f c.play_turns-made.new.backend c.play_turns-made.new.disk in
     let after : List Item = c.play_turns-made.new.room.items in
     let s : Stands f.header es rs m = subst (λ (h : Header1). Stands h es rs m) (sym b.header) stands in
-    let goes : TurnsGo i f.header c.play_turns-made.result c.args.sequence c.args.count (PartsAt i n) m [] after =
-    subst (λ (xs : List Item). TurnsGo i f.header c.play_turns-made.result c.args.sequence c.args.count (PartsAt i n) m xs after) c.in_ok-room.ensures.empty (c.play_turns-made.ensures.turns es rs m s (b.at m at)) in
-    let made : TurnsEvent i f.header c.args.sequence c.args.count (PartsAt i n) m c.finish.result = elim c.if-not-made.branch [
+    let goes : TurnsGo i f.header c.play_turns-made.result c.args.sequence (most_turns c.args.sequence) (PartsAt i n) m [] after =
+    subst (λ (xs : List Item). TurnsGo i f.header c.play_turns-made.result c.args.sequence (most_turns c.args.sequence) (PartsAt i n) m xs after) c.in_ok-room.ensures.empty (c.play_turns-made.ensures.turns es rs m s (b.at m at)) in
+    let made : TurnsEvent i f.header c.args.sequence (most_turns c.args.sequence) (PartsAt i n) m c.finish.result = elim c.if-not-made.branch [
       | then-not-made e ↦
-          several_idle i f.header (PartsAt i n) c.args.sequence c.args.count m after c.finish.result (subst (λ (some : Bool). TurnsGo i f.header some c.args.sequence c.args.count (PartsAt i n) m [] after) e.if-not-made.true goes)
+          turns_idle i f.header (PartsAt i n) c.args.sequence (most_turns c.args.sequence) m after c.finish.result (subst (λ (some : Bool). TurnsGo i f.header some c.args.sequence (most_turns c.args.sequence) (PartsAt i n) m [] after) e.if-not-made.true goes)
           (c.finish.ensures ∙ ap (λ (r : RoomState). r.items) (e.room-is ∙ e.note.ensures))
       | else-not-made e ↦
-          several_made i f.header (PartsAt i n) c.args.sequence c.args.count m after c.finish.result (subst (λ (some : Bool). TurnsGo i f.header some c.args.sequence c.args.count (PartsAt i n) m [] after) e.if-not-made.false goes)
+          turns_all_made i f.header (PartsAt i n) c.args.sequence (most_turns c.args.sequence) m after c.finish.result (subst (λ (some : Bool). TurnsGo i f.header some c.args.sequence (most_turns c.args.sequence) (PartsAt i n) m [] after) e.if-not-made.false goes)
           (c.finish.ensures ∙ ap (λ (r : RoomState). r.items) e.room-is)
     ] in
-    turns_event_as q w.header c.args.sequence c.args.count (PartsAt i n) (MachineAt (with_turned w c.play_turns-made.new.memory c.play_turns-made.new.backend c.play_turns-made.new.disk)) m c.finish.result
+    turns_event_as q w.header c.args.sequence (most_turns c.args.sequence) (PartsAt i n) (MachineAt (with_turned w c.play_turns-made.new.memory c.play_turns-made.new.backend c.play_turns-made.new.disk)) m c.finish.result
     (λ next there_at. turned_at w c.play_turns-made.new.memory q c.play_turns-made.new.backend c.play_turns-made.new.disk f sound is b.index next there_at)
-    (turns_event_of i q f.header w.header c.args.sequence c.args.count (PartsAt i n) m c.finish.result b.index b.header made)
+    (turns_event_of i q f.header w.header c.args.sequence (most_turns c.args.sequence) (PartsAt i n) m c.finish.result b.index b.header made)

@@ -3,6 +3,9 @@ use Rattle.std.specs.Prelude.{◌≡◌, ℕ, Bool, true, false, Option, Some, i
 use Rattle.vub_base.specs.Told.{WhereTold}
 use Rattle.vub_base.specs.Causes.{HasCause}
 use Rattle.vub_base.specs.Bells.{BellState}
+use Rattle.vub_base.specs.declared.bell.Bell.{Ghosts as BellGhosts}
+use Rattle.vub_shared.specs.declared.shared.Shared.{Ghosts as SharedGhosts}
+use Rattle.vub_disk.specs.declared.disk.Disk.{Ghosts as DiskGhosts}
 use Rattle.vub_shared.specs.Bytes.{Bytes}
 use Rattle.vub_shared.specs.Stores.{Store}
 use Rattle.vub_shared.specs.Spaces.{Names}
@@ -17,7 +20,7 @@ use Rattle.vub_task.specs.declared.task.Task.{Task}
 use Rattle.vub_task.specs.TaskState.{Making}
 use Rattle.vub_queue.specs.declared.queue.Stepped.{Stepped}
 use Rattle.vub_queue.specs.declared.queue.Stepped.TheVariants.{Idle}
-use Rattle.vub_queue.specs.QueueState.{QueueState, QueueLies, Owes, standing_at, waiting, Turns, DoesStore, DoesTrail, DoesDisk, IsDue, IfStepped, WorksOut, WorksTask, Rests, Unless, is_fault, halted, outcome, disk_outcome, bell_outcome, RingsAt, has_rung, may_ring, StableAfter}
+use Rattle.vub_queue.specs.QueueState.{QueueState, QueueLies, Owes, standing_at, waiting, Turns, DoesStore, DoesTrail, DoesDisk, IsDue, IfStepped, WorksOut, WorksTask, Rests, Unless, is_fault, halted, stopped_by, outcome, disk_outcome, bell_outcome, RingsAt, has_rung, may_ring, StableAfter}
 use Rattle.vub_queue.specs.QueueFacts.{KeepsFacts}
 
 -- what memory, disk and bell tell, and what they count
@@ -35,20 +38,20 @@ pub record Outside : Type 0 where
   pub bells : Option BellState
   pub bell_faults : ℕ
 
-abbrev pub outside : Option Bytes → Option (List Store) → Option Names → (ℕ → Bool) → (ℕ → ℕ) → ℕ → Option Values → Option Values → ℕ → ℕ → Option BellState → ℕ → Outside
-outside bytes trail names handed sizes memory_faults values stable capacity disk_faults bells bell_faults = record {
-  bytes = bytes;
-  trail = trail;
-  names = names;
-  handed = handed;
-  sizes = sizes;
-  memory_faults = memory_faults;
-  values = values;
-  stable = stable;
-  capacity = capacity;
-  disk_faults = disk_faults;
-  bells = bells;
-  bell_faults = bell_faults;
+abbrev pub outside : {M D B : Type 0} → SharedGhosts M → DiskGhosts D → BellGhosts B → M → D → B → Outside
+outside S K R mem disk bell = record {
+  bytes = S.told mem;
+  trail = S.trail mem;
+  names = S.names mem;
+  handed = S.handed mem;
+  sizes = S.sizes mem;
+  memory_faults = S.faults mem;
+  values = K.values disk;
+  stable = K.stable disk;
+  capacity = K.capacity disk;
+  disk_faults = K.faults disk;
+  bells = R.told bell;
+  bell_faults = R.faults bell;
 }
 
 -- the turn that a choice comes to where memory is m
@@ -68,8 +71,10 @@ pub record Turned (choice : Choice) (before after : Outside) (x : Stepped) (s t 
   pub failed : Owes x t
   pub ring : t.ring ≡ s.ring
   pub stopped : is_some s.stopped ≡ true → (x ≡ Idle) × (t ≡ s) × Stays before after
+  -- whatever the memory tells
+  pub stops : t.stopped ≡ stopped_by x s.stopped
   pub does : is_some s.stopped ≡ false → WhereTold before.bytes (λ m. Turns (turn_at choice s m) before.bytes x s t)
-  pub keeps : WhereTold before.bytes (λ m. KeepsFacts (turn_at choice s m) before.bytes after.bytes x s t)
+  pub keeps : WhereTold before.bytes (λ m. KeepsFacts before.sizes (turn_at choice s m) before.bytes after.bytes x s t)
   pub stores : is_some s.stopped ≡ false → WhereTold before.bytes (λ m. DoesStore (turn_at choice s m) before.bytes after.bytes x s)
   pub trails : is_some s.stopped ≡ false → WhereTold before.bytes (λ m. DoesTrail (turn_at choice s m) before.bytes before.trail after.trail x s)
   pub values : is_some s.stopped ≡ false → WhereTold before.bytes (λ m. DoesDisk (turn_at choice s m) before.values after.values)
