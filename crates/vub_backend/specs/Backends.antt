@@ -5,8 +5,8 @@ use Rattle.vub_steps.specs.declared.readiness.Choice.TheVariants.{Drain}
 use Rattle.vub_queue.specs.declared.queue.Queue.{Queue}
 use Rattle.vub_queue.specs.declared.queue.Stepped.{Stepped}
 use Rattle.vub_queue.specs.declared.queue.Stepped.TheVariants.{Idle, Accepted}
-use Rattle.vub_queue.specs.declared.queue.QueueSetup.{QueueSetup}
-use Rattle.vub_queue.specs.QueueState.{QueueState, state_of, IsNew, QueueLies, is_idle}
+use Rattle.vub_setup.specs.declared.setup.QueueSetup.{QueueSetup}
+use Rattle.vub_queue.specs.QueueState.{QueueState, state_of, IsNewOf, QueueLies, is_idle}
 use Rattle.vub_backend.specs.declared.backend.Backend.{Backend}
 use Rattle.vub_queue.specs.Turned.{Outside, Turned}
 
@@ -48,7 +48,7 @@ is_attached queues q = is_some (attached_in queues q)
 
 -- a queue that is set up so is attached in its place, and isn't started
 abbrev pub Attaches : QueueSetup → List (Option QueueState) → List (Option QueueState) → Type 0
-Attaches setup queues now = (s : QueueState) × IsNew setup s × (now ≡ set queues setup.index (Some s))
+Attaches setup queues now = (s : QueueState) × IsNewOf setup s × (now ≡ set queues setup.index (Some s))
 
 -- the state of every other queue is as it was
 abbrev pub KeepsOthers : ℕ → List (Option QueueState) → List (Option QueueState) → Type 0

@@ -1,5 +1,5 @@
 //! A life of the device: the queues that it has attached, and their steps.
-ghost use Rattle.std.specs.Prelude.{◌≡◌, ◌<◌, ◌≤◌, ◌++◌, ◌∷◌, [], ℕ, IfSome, length, replicate, None, IfOk, OnOk, OnErr, option_map};
+ghost use Rattle.std.specs.Prelude.{◌≡◌, ◌<◌, ◌≤◌, ◌++◌, ◌∷◌, [], ℕ, IfSome, length, replicate, Some, None, IfOk, OnOk, OnErr, option_map};
 ghost use Rattle.vub_queue.specs.QueueState.{state_of, QueueLies};
 ghost use Rattle.vub_backend.specs.Backends.{queues_of, attached_in, is_attached, Attaches, EachLies, StepsIn, Steps, KeepsOthers, accepted_after, Drains};
 ghost use Rattle.vub_queue.specs.Turned.{outside};
@@ -7,7 +7,8 @@ ghost use Rattle.vub_queue.specs.Turned.{outside};
 use std::alloc::Global;
 use vub_base::{Bell, Memory};
 use vub_disk::Disk;
-use vub_queue::{Choice, Queue, QueueSetup, Stepped};
+use vub_queue::{Choice, Queue, Stepped};
+use vub_setup::QueueSetup;
 use vub_shared::Shared;
 
 /// The most queues of a device.
@@ -68,6 +69,7 @@ fn accepted_after(stepped: Stepped, accepted: u16) -> u16
 impl Backend {
     ghost use Rattle.vub_queue.specs.QueueState.{new_recovery};
     ghost use Rattle.vub_rec_split.specs.Starts.{StartLies};
+    ghost use Rattle.vub_setup.specs.Setups.{IsSplit, SplitSetup, places_of, split_of};
 
     /// A life that has attached no queue of so many.
     pub fn new(alloc: Global, queues: u16) -> Result<Backend, Memory>
@@ -97,13 +99,14 @@ impl Backend {
         }
     }
 
-    /// Attaches the queue of a set-up, which isn't started yet. All memory that it needs is reserved here.
+    /// Attaches the queue of a set-up with split rings, which isn't started yet. All memory that it needs is reserved here.
     pub fn attach(&mut self, setup: &QueueSetup) -> Result<(), Memory>
         requires index { setup.now.index < length (queues_of self.old) }
-        requires size { setup.now.ring.size ≤ 1024 }
+        requires split { IsSplit setup.now.rings }
+        requires size { places_of setup.now.rings ≤ 1024 }
         ensures attached { OnOk result (Attaches setup.now (queues_of self.old) (queues_of self.new)) }
         ensures kept { OnErr result (queues_of self.new ≡ queues_of self.old) }
-        ensures lies { OnOk result ((sizes : ℕ → ℕ) (capacity : ℕ) → StartLies sizes (new_recovery setup.now) → EachLies sizes capacity (queues_of self.old) → EachLies sizes capacity (queues_of self.new)) }
+        ensures lies { OnOk result ((sizes : ℕ → ℕ) (capacity : ℕ) (split : SplitSetup) → split_of setup.now ≡ Some split → StartLies sizes (new_recovery split) → EachLies sizes capacity (queues_of self.old) → EachLies sizes capacity (queues_of self.new)) }
     {
         let queue = Queue::new(self.alloc, setup)?;
         self.queues[usize::from(setup.index)] = Some(queue);

@@ -7,7 +7,8 @@ use std::test::Fail;
 use vub_base::{Bell, MemBell, Space, Tag};
 use vub_disk::NoDisk;
 use vub_infl_split::SplitRegion;
-use vub_queue::{Choice, QueueSetup, Stepped};
+use vub_queue::{Choice, Stepped};
+use vub_setup::{QueueSetup, Rings};
 use vub_shared::{MemShared, Shared};
 use vub_split::SplitRing;
 
@@ -24,18 +25,21 @@ fn life<M: Shared>(alloc: Global, memory: &M, region: Space, ring: Space) -> Opt
     }
     let setup = QueueSetup {
         index: 1,
-        ring: SplitRing {
-            desc: (ring, 0),
-            avail: (ring, 64),
-            used: (ring, 128),
-            size: 4,
-        },
-        region: SplitRegion {
-            space: region,
-            place: 0,
-            size: 4,
-        },
+        rings: Rings::Split(
+            SplitRing {
+                desc: (ring, 0),
+                avail: (ring, 64),
+                used: (ring, 128),
+                size: 4,
+            },
+            SplitRegion {
+                space: region,
+                place: 0,
+                size: 4,
+            },
+        ),
         base: 0,
+        indirect: false,
         bell: true,
     };
     let Ok(mut backend) = Backend::new(alloc, 2) else {

@@ -16,7 +16,7 @@ use Rattle.vub_task.specs.declared.task.TaskStep.TheVariants as answers
 use Rattle.vub_task.specs.TaskState.{TaskLies, fresh_task, head_in, IfFaulted, OwesFailure}
 use Rattle.vub_rec_split.specs.Starts.{RecoveryState, StartLies, SameQueue}
 use Rattle.vub_rec_split.proofs.LoadLemmas.{lies_on}
-use Rattle.vub_queue.specs.declared.queue.QueueSetup.{QueueSetup}
+use Rattle.vub_setup.specs.Setups.{SplitSetup}
 use Rattle.vub_queue.specs.declared.queue.Stepped.{Stepped}
 use Rattle.vub_queue.specs.declared.queue.Stepped.TheVariants as says
 use Rattle.vub_queue.specs.QueueState.{QueueState, new_recovery, TaskFits, TasksFit, QueueLies, KeepsLying, begun, under_way, with_phase, accepted, worked, concluded, halted, said, OwesAt, Owes, disk_outcome}
@@ -72,7 +72,7 @@ lies_same s t ring recovery tasks =
     lies_started s t (record { ring = ap (λ (r : RecoveryState). r.ring) recovery; region = ap (λ (r : RecoveryState). r.region) recovery; base = ap (λ (r : RecoveryState). r.base) recovery }) ring tasks
 
 -- a queue that was set up
-pub lies_new : (sizes : ℕ → ℕ) (capacity : ℕ) (setup : QueueSetup) (s : QueueState) → s.ring ≡ setup.ring → s.recovery ≡ new_recovery setup → s.unfinished ≡ [] → StartLies sizes (new_recovery setup) → QueueLies sizes capacity s
+pub lies_new : (sizes : ℕ → ℕ) (capacity : ℕ) (setup : SplitSetup) (s : QueueState) → s.ring ≡ setup.ring → s.recovery ≡ new_recovery setup → s.unfinished ≡ [] → StartLies sizes (new_recovery setup) → QueueLies sizes capacity s
 lies_new sizes capacity setup s ring recovery tasks h = record {
   ring = subst (RingLies sizes) (sym ring) h.ring;
   start = subst (StartLies sizes) (sym recovery) h;

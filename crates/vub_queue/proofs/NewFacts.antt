@@ -9,12 +9,12 @@ use Rattle.vub_steps.specs.declared.steps.Phase.TheVariants as phases
 use Rattle.vub_steps.specs.declared.steps.Plan.TheVariants as plans
 use Rattle.vub_facts.specs.Facts.{Lies}
 use Rattle.vub_facts.proofs.FactStarts.{runs_on}
-use Rattle.vub_queue.specs.declared.queue.QueueSetup.{QueueSetup}
+use Rattle.vub_setup.specs.Setups.{SplitSetup}
 use Rattle.vub_queue.specs.QueueState.{QueueState, IsNew, new_state}
 use Rattle.vub_queue.specs.QueueFacts.{FactsAt}
 
 -- where ring and region lie apart, and the region is what a life leaves where these heads are open
-new_is : (setup : QueueSetup) (sectors : List (List ℕ)) (heads : List ℕ) (m : Bytes) → Lies (ring_of_split setup.ring) setup.region → used_idx_word setup.ring m < 65536
+new_is : (setup : SplitSetup) (sectors : List (List ℕ)) (heads : List ℕ) (m : Bytes) → Lies (ring_of_split setup.ring) setup.region → used_idx_word setup.ring m < 65536
     → Left setup.ring.size (used_idx_word setup.ring m) heads setup.base (words_of setup.region m) → FactsAt heads setup.base (new_state setup sectors) m
 new_is setup sectors heads m lies fits left = record {
   plan = plans.Settled;
@@ -29,6 +29,6 @@ new_is setup sectors heads m lies fits left = record {
   facts = record { used_fits = fits; not_started = λ off. left; in_life = λ on. runs_on on refl; batch = refl };
 }
 
-pub new_facts : (setup : QueueSetup) (s : QueueState) (heads : List ℕ) (m : Bytes) → IsNew setup s → Lies (ring_of_split setup.ring) setup.region → used_idx_word setup.ring m < 65536
+pub new_facts : (setup : SplitSetup) (s : QueueState) (heads : List ℕ) (m : Bytes) → IsNew setup s → Lies (ring_of_split setup.ring) setup.region → used_idx_word setup.ring m < 65536
     → Left setup.ring.size (used_idx_word setup.ring m) heads setup.base (words_of setup.region m) → FactsAt heads setup.base s m
 new_facts setup s heads m new lies fits left = subst (λ (u : QueueState). FactsAt heads setup.base u m) (sym new.is) (new_is setup new.sectors heads m lies fits left)

@@ -10,7 +10,7 @@ use Rattle.vub_steps.specs.declared.steps.Phase.{Phase}
 use Rattle.vub_steps.specs.declared.steps.Phase.TheVariants as phases
 use Rattle.vub_steps.specs.declared.steps.Step.TheVariants as steps
 use Rattle.vub_steps.specs.Rows.{Sight}
-use Rattle.vub_queue.specs.declared.queue.QueueSetup.{QueueSetup}
+use Rattle.vub_setup.specs.Setups.{SplitSetup}
 use Rattle.vub_ring.specs.Ring.{Ring}
 use Rattle.vub_task.specs.declared.task.Task.{Task}
 use Rattle.vub_task.specs.TaskState.{head_in, fresh_task}
@@ -22,22 +22,11 @@ use Rattle.vub_facts.specs.Held.{State, Held, state_after, completed_at, publica
 use Rattle.vub_facts.proofs.HeldSteps.{held_words, held_like, held_accept, held_index, held_publication_begun, held_completed}
 use Rattle.vub_queue.specs.QueueFacts.{hidden_part, hidden_in, held_in, KeepsHeads}
 
--- ---- a new queue
-
 -- this used.idx, with any words beside it
 abbrev pub words_with : ℕ → Words
 words_with used = record {
   ring = record { avail = 0; heads = λ i. 0; used = used; elements = λ i. (0, 0) };
   region = record { version = 0; desc_num = 0; last_batch_head = 0; used_idx = 0; inflight = λ i. 0; next = λ i. 0; counter = λ i. 0 };
-}
-
-pub keeps_new : (setup : QueueSetup) (sectors : List (List ℕ)) (used : ℕ) → used ≡ setup.base → used < 65536 → KeepsHeads setup.ring.size [] used (states.new_state setup sectors)
-keeps_new setup sectors used is small w at = record {
-  distinct = refl;
-  below = λ h held. absurd (let fails : false ≡ true = held in cc);
-  avail = omega (arith, at, is, small);
-  taken = λ d low. get_or-replicate setup.ring.size d false true low;
-  splits = record { once = refl; opens = λ h held. held; left = refl };
 }
 
 -- ---- a fetch

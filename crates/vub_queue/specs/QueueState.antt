@@ -27,6 +27,8 @@ use Rattle.vub_infl_split.specs.declared.region.SplitStore.{SplitStore}
 use Rattle.vub_infl_split.specs.Region.{words_of}
 use Rattle.vub_infl_split.specs.Stores.{store_of}
 use Rattle.vub_inflight.specs.Entries.{heads_of, next_counter}
+use Rattle.vub_setup.specs.declared.setup.QueueSetup.{QueueSetup}
+use Rattle.vub_setup.specs.Setups.{SplitSetup, split_of}
 use Rattle.vub_rec_split.specs.declared.plan.Recovered.{Recovered}
 use Rattle.vub_rec_split.specs.declared.plan.Recovered.TheVariants as recovered
 use Rattle.vub_rec_split.specs.Starts.{RecoveryState, StartLies, sight_in, answer_in, due_in, state_after, unchecked_in}
@@ -45,7 +47,6 @@ use Rattle.vub_queue.specs.declared.queue.Stop.{Stop}
 use Rattle.vub_queue.specs.declared.queue.Stop.TheVariants as stops
 use Rattle.vub_queue.specs.declared.queue.Stepped.{Stepped}
 use Rattle.vub_queue.specs.declared.queue.Stepped.TheVariants as says
-use Rattle.vub_queue.specs.declared.queue.QueueSetup.{QueueSetup}
 use Rattle.vub_queue.specs.declared.queue.Queue.{Queue}
 
 pub record QueueState : Type 0 where
@@ -97,11 +98,11 @@ state_of q = record {
 }
 
 -- a start that hasn't begun
-abbrev pub new_recovery : QueueSetup → RecoveryState
+abbrev pub new_recovery : SplitSetup → RecoveryState
 new_recovery setup = record { ring = setup.ring; region = setup.region; base = setup.base; plan = None; done = 0; cleared = None }
 
 -- a queue that isn't started, as it is set up; nothing is said of its sectors
-abbrev pub new_state : QueueSetup → List (List ℕ) → QueueState
+abbrev pub new_state : SplitSetup → List (List ℕ) → QueueState
 new_state setup sectors = record {
   index = setup.index;
   ring = setup.ring;
@@ -110,7 +111,7 @@ new_state setup sectors = record {
   recovery = new_recovery setup;
   started = false;
   stopped = None;
-  next_avail = setup.base;
+  next_avail = 0;
   counter = 0;
   fetching = None;
   unfinished = [];
@@ -121,10 +122,14 @@ new_state setup sectors = record {
   sectors = sectors;
 }
 
-pub record IsNew (setup : QueueSetup) (s : QueueState) : Type 0 where
+pub record IsNew (setup : SplitSetup) (s : QueueState) : Type 0 where
   pub sectors : List (List ℕ)
   pub is : s ≡ new_state setup sectors
   pub buffers : length sectors ≡ setup.ring.size
+
+-- a queue that is set up so isn't started
+abbrev pub IsNewOf : QueueSetup → QueueState → Type 0
+IsNewOf setup s = (split : SplitSetup) → split_of setup ≡ Some split → IsNew split s
 
 -- ---- where a queue lies
 

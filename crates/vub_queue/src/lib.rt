@@ -5,5 +5,5 @@ mod queue;
 #[cfg(test)]
 mod tests;
 
-pub use queue::{Queue, QueueSetup, Stepped, Stop};
+pub use queue::{Queue, Stepped, Stop};
 pub use vub_steps::{Choice, Turn};

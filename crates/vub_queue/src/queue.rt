@@ -12,6 +12,7 @@ use vub_base::{Bell, Failed, Memory, Pending, PendingList, RegionFault, RingFaul
 use vub_disk::Disk;
 use vub_infl_split::{SplitRegion, SplitStore};
 use vub_rec_split::{Recovered, SplitRecovery};
+use vub_setup::{QueueSetup, Rings};
 use vub_shared::Shared;
 use vub_split::SplitRing;
 use vub_steps::{Choice, Phase, Standing, Step, Turn, after_running, is_ready, next_running};
@@ -70,19 +71,6 @@ struct Completed {
     len: u32,
 }
 
-/// How a queue is set up.
-#[derive(Clone, Copy, Debug, PartialEq, Eq)]
-pub struct QueueSetup {
-    pub index: u16,
-    pub ring: SplitRing,
-    /// Of the same size as the ring.
-    pub region: SplitRegion,
-    /// The index at which the rings begin.
-    pub base: u16,
-    /// Whether the driver is told of what was published.
-    pub bell: bool,
-}
-
 /// The device's side of one queue.
 #[derive(Drop)]
 pub struct Queue {
@@ -97,7 +85,7 @@ pub struct Queue {
     pending: PendingList,
     started: bool,
     stopped: Option<Stop>,
-    // The index of the avail entry that is fetched next.
+    // The index of the avail entry that is fetched next, from the start on.
     next_avail: u16,
     // The counter of the request that is accepted next. That after the greatest of a region is 2^64.
     counter: u128,
@@ -233,6 +221,7 @@ impl Queue {
     ghost use Rattle.vub_queue.specs.declared.queue.Stepped.TheVariants as stepped;
     ghost use Rattle.vub_steps.specs.declared.readiness.Turn.TheVariants.{Start};
     ghost use Rattle.vub_rec_split.specs.Starts.{StartLies};
+    ghost use Rattle.vub_setup.specs.Setups.{IsSplit, SplitSetup, places_of, split_of};
     ghost use Rattle.vub_queue.specs.declared.queue.Stepped.TheVariants.{Idle};
     ghost use Rattle.vub_steps.specs.declared.readiness.Choice.TheVariants.{Only};
     ghost use Rattle.vub_steps.specs.declared.steps.Phase.TheVariants.{Rest};
@@ -240,27 +229,30 @@ impl Queue {
     ghost use Rattle.vub_queue.specs.Queue.{ring_in};
     ghost use Rattle.vub_queue.specs.Moves.{MakesMove};
     ghost use Rattle.vub_queue.specs.Turned.{Turned, outside};
-    ghost use Rattle.vub_queue.specs.QueueState.{QueueLies, KeepsLying, Owes, OwesAt, state_of, IsNew, new_recovery, resumed, rings_next, Ends, is_starting, is_fetching, is_publishing, StoresStart, TrailsStart, RingsAt, bell_outcome, said, concluded, StepsAt, IsDue, IsDueAt, IfStepped, StepsOut, WorksOut, StepsTask, WorksTask, Rests, disk_outcome, standing_at, is_ready_at, waiting, IsFree, Finds, Fetches, fetch_row, fetch_under_way, begun, under_way, steps_in, step_in, next_row, moved, with_phase, Moves, outcome, found_outcome, MakesRow, publishes, publish_row, Publishes, is_idle, is_fault, Unless, Works, Does, StableAfter, halted};
+    ghost use Rattle.vub_queue.specs.QueueState.{QueueLies, KeepsLying, Owes, OwesAt, state_of, IsNewOf, new_recovery, resumed, rings_next, Ends, is_starting, is_fetching, is_publishing, StoresStart, TrailsStart, RingsAt, bell_outcome, said, concluded, StepsAt, IsDue, IsDueAt, IfStepped, StepsOut, WorksOut, StepsTask, WorksTask, Rests, disk_outcome, standing_at, is_ready_at, waiting, IsFree, Finds, Fetches, fetch_row, fetch_under_way, begun, under_way, steps_in, step_in, next_row, moved, with_phase, Moves, outcome, found_outcome, MakesRow, publishes, publish_row, Publishes, is_idle, is_fault, Unless, Works, Does, StableAfter, halted};
 
-    /// A queue that isn't started. All memory that it needs is reserved here.
+    /// The queue of a set-up with split rings, which isn't started. All memory that it needs is reserved here.
     pub fn new(alloc: Global, setup: &QueueSetup) -> Result<Queue, Memory>
-        requires { setup.now.ring.size ≤ 1024 }
-        ensures ring { IfOk result (λ q. ring_in q ≡ setup.now.ring) }
-        ensures state { IfOk result (λ q. IsNew setup.now (state_of q)) }
-        ensures lies { IfOk result (λ q. (sizes : ℕ → ℕ) → (capacity : ℕ) → StartLies sizes (new_recovery setup.now) → QueueLies sizes capacity (state_of q)) }
+        requires split { IsSplit setup.now.rings }
+        requires size { places_of setup.now.rings ≤ 1024 }
+        ensures state { IfOk result (λ q. IsNewOf setup.now (state_of q)) }
+        ensures lies { IfOk result (λ q. (sizes : ℕ → ℕ) → (capacity : ℕ) → (split : SplitSetup) → split_of setup.now ≡ Some split → StartLies sizes (new_recovery split) → QueueLies sizes capacity (state_of q)) }
     {
-        let size = usize::from(setup.ring.size);
+        let Rings::Split(ring, region) = setup.rings else {
+            unreachable!();
+        };
+        let size = usize::from(ring.size);
         Ok(Queue {
             index: setup.index,
-            ring: setup.ring,
+            ring,
             bell: setup.bell,
             rung: false,
-            region: setup.region,
-            recovery: SplitRecovery::new(setup.ring, setup.region, u32::from(setup.base)),
-            pending: PendingList::new(alloc, usize::from(setup.region.size))?,
+            region,
+            recovery: SplitRecovery::new(ring, region, setup.base),
+            pending: PendingList::new(alloc, usize::from(region.size))?,
             started: false,
             stopped: None,
-            next_avail: setup.base,
+            next_avail: 0,
             counter: 0,
             fetching: None,
             unfinished: Vec::with_capacity(alloc, size).map_err(|_| Memory)?,

@@ -1,12 +1,13 @@
 ghost use Rattle.std.specs.Prelude.{◌≡◌, IfSome};
 ghost use Rattle.vub_queue.specs.QueueState.{QueueLies, state_of};
 
-use crate::{Choice, Queue, QueueSetup, Stepped};
+use crate::{Choice, Queue, Stepped};
 use std::alloc::Global;
 use std::test::Fail;
 use vub_base::{Bell, MemBell, Space, Tag};
 use vub_disk::NoDisk;
 use vub_infl_split::SplitRegion;
+use vub_setup::{QueueSetup, Rings};
 use vub_shared::{MemShared, Shared};
 use vub_split::SplitRing;
 
@@ -44,18 +45,21 @@ fn waiting_queue<M: Shared>(
     memory.store2(ring, USED + 2, 7).ok()?;
     let setup = QueueSetup {
         index: 0,
-        ring: SplitRing {
-            desc: (ring, 0),
-            avail: (ring, AVAIL),
-            used: (ring, USED),
-            size: 4,
-        },
-        region: SplitRegion {
-            space: region,
-            place: 0,
-            size: 4,
-        },
+        rings: Rings::Split(
+            SplitRing {
+                desc: (ring, 0),
+                avail: (ring, AVAIL),
+                used: (ring, USED),
+                size: 4,
+            },
+            SplitRegion {
+                space: region,
+                place: 0,
+                size: 4,
+            },
+        ),
         base: 7,
+        indirect: false,
         bell: true,
     };
     let Ok(queue) = Queue::new(alloc, &setup) else {

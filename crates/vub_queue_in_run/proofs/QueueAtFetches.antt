@@ -16,7 +16,7 @@ use Rattle.vub_facts.specs.Facts.{InFetching, head_next, IsDue}
 use Rattle.vub_facts.proofs.FactSteps.{fetch_due}
 use Rattle.vub_queue.specs.declared.queue.Stepped.{Stepped}
 use Rattle.vub_queue.specs.declared.queue.Stepped.TheVariants as says
-use Rattle.vub_queue.specs.declared.queue.QueueSetup.{QueueSetup}
+use Rattle.vub_setup.specs.Setups.{SplitSetup}
 use Rattle.vub_queue.specs.QueueParts.{is_taken}
 use Rattle.vub_queue.specs.QueueState as states
 use Rattle.vub_queue.specs.QueueState.{QueueState, row_at, step_in, kept_or, fetch_row, fetch_under_way, Fetched, Fetches, MovesBy, Turns, is_fault}
@@ -40,7 +40,7 @@ use Rattle.vub_queue_in_run.proofs.QueueAtSteps.{IsUnderWay, StepStands, step_st
 -- ---- a fetch that goes on
 
 -- a lane and its queue are so many steps in a fetch
-record Fetching (q : ℕ) (h : Header1) (setup : QueueSetup) (m : Moment) (done : ℕ) (l : Lane) (u : QueueState) : Type 0 where
+record Fetching (q : ℕ) (h : Header1) (setup : SplitSetup) (m : Moment) (done : ℕ) (l : Lane) (u : QueueState) : Type 0 where
   pub main : LiesAs q setup h.size
   pub run : started m.scene.past q ≡ true
   pub known : Known q h.size h.capacity m.scene.past (m.scene.heads q)
@@ -52,21 +52,21 @@ record Fetching (q : ℕ) (h : Header1) (setup : QueueSetup) (m : Moment) (done 
   pub seen : kept_or u.fetching (head_word u.ring m.scene.memory u.next_avail) ≡ slice_index (m.scene.heads q) (accepted m.scene.past q)
 
 -- its head is that of the next request, and free
-in_fetching : (q : ℕ) (h : Header1) (setup : QueueSetup) (m : Moment) (done : ℕ) (l : Lane) (u : QueueState) → Fetching q h setup m done l u → InFetching h.size (open_heads q m.scene.past (m.scene.heads q)) l.counter [] done (words_in q h m.scene)
+in_fetching : (q : ℕ) (h : Header1) (setup : SplitSetup) (m : Moment) (done : ℕ) (l : Lane) (u : QueueState) → Fetching q h setup m done l u → InFetching h.size (open_heads q m.scene.past (m.scene.heads q)) l.counter [] done (words_in q h m.scene)
 in_fetching q h setup m done l u f = f.facts.words.batch
 
-next_is : (q : ℕ) (h : Header1) (setup : QueueSetup) (m : Moment) (done : ℕ) (l : Lane) (u : QueueState) → Fetching q h setup m done l u → next_head h q m.scene ≡ slice_index (m.scene.heads q) (accepted m.scene.past q)
+next_is : (q : ℕ) (h : Header1) (setup : SplitSetup) (m : Moment) (done : ℕ) (l : Lane) (u : QueueState) → Fetching q h setup m done l u → next_head h q m.scene ≡ slice_index (m.scene.heads q) (accepted m.scene.past q)
 next_is q h setup m done l u f =
     head_there q h.size h.base m.scene.past (m.scene.heads q) m.scene.memory _ f.facts.ringed f.more (at_position q h.size h.capacity h.base m.scene.past (m.scene.heads q) m.scene.memory f.known f.facts.ringed)
 
-fact_head : (q : ℕ) (h : Header1) (setup : QueueSetup) (m : Moment) (done : ℕ) (l : Lane) (u : QueueState) → Fetching q h setup m done l u → head_next (open_heads q m.scene.past (m.scene.heads q)) (words_in q h m.scene) ≡ slice_index (m.scene.heads q) (accepted m.scene.past q)
+fact_head : (q : ℕ) (h : Header1) (setup : SplitSetup) (m : Moment) (done : ℕ) (l : Lane) (u : QueueState) → Fetching q h setup m done l u → head_next (open_heads q m.scene.past (m.scene.heads q)) (words_in q h m.scene) ≡ slice_index (m.scene.heads q) (accepted m.scene.past q)
 fact_head q h setup m done l u f =
     head_there q h.size h.base m.scene.past (m.scene.heads q) m.scene.memory _ f.facts.ringed f.more (at_heads q h.size h.capacity h.base m.scene.past (m.scene.heads q) m.scene.memory f.known f.facts.ringed)
 
-head_low : (q : ℕ) (h : Header1) (setup : QueueSetup) (m : Moment) (done : ℕ) (l : Lane) (u : QueueState) → Fetching q h setup m done l u → slice_index (m.scene.heads q) (accepted m.scene.past q) < setup.ring.size
+head_low : (q : ℕ) (h : Header1) (setup : SplitSetup) (m : Moment) (done : ℕ) (l : Lane) (u : QueueState) → Fetching q h setup m done l u → slice_index (m.scene.heads q) (accepted m.scene.past q) < setup.ring.size
 head_low q h setup m done l u f = omega (arith, (in_fetching q h setup m done l u f).below, fact_head q h setup m done l u f, f.main.size)
 
-head_free : (q : ℕ) (h : Header1) (setup : QueueSetup) (m : Moment) (done : ℕ) (l : Lane) (u : QueueState) → Fetching q h setup m done l u → is_taken u.taken (slice_index (m.scene.heads q) (accepted m.scene.past q)) ≡ false
+head_free : (q : ℕ) (h : Header1) (setup : SplitSetup) (m : Moment) (done : ℕ) (l : Lane) (u : QueueState) → Fetching q h setup m done l u → is_taken u.taken (slice_index (m.scene.heads q) (accepted m.scene.past q)) ≡ false
 head_free q h setup m done l u f =
     (f.at.keeps f.run (words_with (used_after h q m.scene.past)) refl).taken (slice_index (m.scene.heads q) (accepted m.scene.past q)) (head_low q h setup m done l u f)
     ∙ ap (is_among (open_heads q m.scene.past (m.scene.heads q))) (sym (fact_head q h setup m done l u f)) ∙ (in_fetching q h setup m done l u f).free
@@ -75,7 +75,7 @@ head_free q h setup m done l u f =
 abbrev Does : Moment → Stepped → QueueState → QueueState → Type 0
 Does m x u t = MovesBy (step_in u) m.scene.memory x u t
 
-goes : (q : ℕ) (h : Header1) (setup : QueueSetup) (m : Moment) (x : Stepped) (row : Option Row) (done : ℕ) (l : Lane) (u t : QueueState) → Fetching q h setup m done l u → under_way h q m.scene turns.Fetch (m.lanes q) ≡ fetching done l → Does m x u t → row ≡ row_at u m.scene.memory (step_in u)
+goes : (q : ℕ) (h : Header1) (setup : SplitSetup) (m : Moment) (x : Stepped) (row : Option Row) (done : ℕ) (l : Lane) (u t : QueueState) → Fetching q h setup m done l u → under_way h q m.scene turns.Fetch (m.lanes q) ≡ fetching done l → Does m x u t → row ≡ row_at u m.scene.memory (step_in u)
     → StepStands q h setup m turns.Fetch x row [] t
 goes q h setup m x row done l u t f lane does is_row = go due.0 due.1
   where
@@ -114,7 +114,7 @@ goes q h setup m x row done l u t f lane does is_row = go due.0 due.1
 -- ---- its two turns
 
 -- a queue at rest begins it
-begins : (q : ℕ) (h : Header1) (setup : QueueSetup) (m : Moment) (state : QueueState) → IsPlain h → Good q h m → LiesAs q setup h.size → QueueStands q h setup m state → is_ready (standing h q m) turns.Fetch ≡ true → (m.lanes q).phase ≡ phases.Rest → (m.lanes q).batch ≡ []
+begins : (q : ℕ) (h : Header1) (setup : SplitSetup) (m : Moment) (state : QueueState) → IsPlain h → Good q h m → LiesAs q setup h.size → QueueStands q h setup m state → is_ready (standing h q m) turns.Fetch ≡ true → (m.lanes q).phase ≡ phases.Rest → (m.lanes q).batch ≡ []
     → Fetching q h setup m 0 (m.lanes q) (record state { phase = phases.Fetch 0 })
 begins q h setup m state plain good main z ready rest none =
     let l : Lane = m.lanes q in
@@ -152,7 +152,7 @@ begins q h setup m state plain good main z ready rest none =
     }
 
 -- one whose counter is stored ends it
-goes_on : (q : ℕ) (h : Header1) (setup : QueueSetup) (m : Moment) (state : QueueState) → IsPlain h → Good q h m → LiesAs q setup h.size → QueueStands q h setup m state → is_ready (standing h q m) turns.Fetch ≡ true → (m.lanes q).phase ≡ phases.Fetch 1 → (m.lanes q).batch ≡ []
+goes_on : (q : ℕ) (h : Header1) (setup : SplitSetup) (m : Moment) (state : QueueState) → IsPlain h → Good q h m → LiesAs q setup h.size → QueueStands q h setup m state → is_ready (standing h q m) turns.Fetch ≡ true → (m.lanes q).phase ≡ phases.Fetch 1 → (m.lanes q).batch ≡ []
     → Fetching q h setup m 1 (m.lanes q) state
 goes_on q h setup m state plain good main z ready phase none =
     let l : Lane = m.lanes q in
@@ -176,7 +176,7 @@ goes_on q h setup m state plain good main z ready phase none =
 
 -- ---- a turn
 
-fetched_stands : (q : ℕ) (h : Header1) (setup : QueueSetup) (m : Moment) (x : Stepped) (state t : QueueState) → IsPlain h → Good q h m → LiesAs q setup h.size → QueueStands q h setup m state → is_ready (standing h q m) turns.Fetch ≡ true → Does m x (fetch_under_way state) t
+fetched_stands : (q : ℕ) (h : Header1) (setup : SplitSetup) (m : Moment) (x : Stepped) (state t : QueueState) → IsPlain h → Good q h m → LiesAs q setup h.size → QueueStands q h setup m state → is_ready (standing h q m) turns.Fetch ≡ true → Does m x (fetch_under_way state) t
     → StepStands q h setup m turns.Fetch x (row_at (fetch_under_way state) m.scene.memory (step_in (fetch_under_way state))) [] t
 fetched_stands q h setup m x state t plain good main z ready does = go (running_cases q h m.scene (m.lanes q) (grind (arith, nat_tests)) good.holds)
   where
@@ -202,7 +202,7 @@ fetched_stands q h setup m x state t plain good main z ready does = go (running_
         absurd (grind (arith, nat_tests))
 
 -- a fetch that is ready and doesn't fail makes its next step
-pub fetch_stands : (q : ℕ) (h : Header1) (setup : QueueSetup) (m : Moment) (x : Stepped) (state state' : QueueState) → IsPlain h → Good q h m → LiesAs q setup h.size → QueueStands q h setup m state → is_ready (standing h q m) turns.Fetch ≡ true → is_fault x ≡ false
+pub fetch_stands : (q : ℕ) (h : Header1) (setup : SplitSetup) (m : Moment) (x : Stepped) (state state' : QueueState) → IsPlain h → Good q h m → LiesAs q setup h.size → QueueStands q h setup m state → is_ready (standing h q m) turns.Fetch ≡ true → is_fault x ≡ false
     → Turns turns.Fetch (Some m.scene.memory) x state state' → StepStands q h setup m turns.Fetch x (fetch_row x state m.scene.memory) [] state'
 fetch_stands q h setup m x state state' plain good main z ready fine made = go x fine made.1 (does_of turns.Fetch (Some m.scene.memory) x state state' made fine)
   where

@@ -38,7 +38,7 @@ use Rattle.vub_facts.proofs.HeadLemmas.{without_map, without_none, number_of, am
 use Rattle.vub_run.specs.Moments.{open_heads}
 use Rattle.vub_device.specs.Places.{are_distinct}
 use Rattle.vub_split.specs.Split.{ring_of_split}
-use Rattle.vub_queue.specs.declared.queue.QueueSetup.{QueueSetup}
+use Rattle.vub_setup.specs.Setups.{SplitSetup}
 use Rattle.vub_task.specs.declared.task.Task.{Task}
 use Rattle.vub_run_laws.proofs.RunOwn.{accepted_own, published_own, started_own}
 use Rattle.vub_run_laws.proofs.RunNumbers.{among_filter, missing-among, among-missing}
@@ -97,12 +97,12 @@ left_is q past completed batch k held =
 heads_of_spots : (q : ℕ) (h : Header1) (past : List Entry) (heads ks : List ℕ) → heads_in (map (spot_of q h past heads) ks) ≡ map (slice_index heads) ks
 heads_of_spots q h past heads ks = map-map (λ (x : ℕ × ℕ). x.0) (spot_of q h past heads) ks
 
-pub heads_distinct : (q : ℕ) (h : Header1) (setup : QueueSetup) (past : List Entry) (heads : List ℕ) (phase : Phase) (batch completed : List ℕ) (made : ℕ → ℕ) (state : QueueState) → started past q ≡ true → QueueAt q h setup past heads phase batch completed made state
+pub heads_distinct : (q : ℕ) (h : Header1) (setup : SplitSetup) (past : List Entry) (heads : List ℕ) (phase : Phase) (batch completed : List ℕ) (made : ℕ → ℕ) (state : QueueState) → started past q ≡ true → QueueAt q h setup past heads phase batch completed made state
     → are_distinct (open_heads q past heads) ≡ true
 heads_distinct q h setup past heads phase batch completed made state run x = (x.keeps run (words_with (used_after h q past)) refl).distinct
 
 -- its tasks are those of the requests that are left, in order
-pub left_heads : (q : ℕ) (h : Header1) (setup : QueueSetup) (past : List Entry) (heads : List ℕ) (phase : Phase) (batch completed : List ℕ) (made : ℕ → ℕ) (state : QueueState) → started past q ≡ true → Worked q past phase batch completed made
+pub left_heads : (q : ℕ) (h : Header1) (setup : SplitSetup) (past : List Entry) (heads : List ℕ) (phase : Phase) (batch completed : List ℕ) (made : ℕ → ℕ) (state : QueueState) → started past q ≡ true → Worked q past phase batch completed made
     → QueueAt q h setup past heads phase batch completed made state → map head_in state.unfinished ≡ map (slice_index heads) (left_of q past completed batch)
 left_heads q h setup past heads phase batch completed made state run w x =
     let f : ℕ → ℕ = slice_index heads in
@@ -121,13 +121,13 @@ left_heads q h setup past heads phase batch completed made state run w x =
     kept.splits.left ∙ ap (λ (hs : List ℕ). without hs (open_heads q past heads)) busy_is ∙ without_map f (batch ++ completed) (open_numbers past q) kept.distinct opens ∙ ap (λ (ks : List ℕ). map f ks) same
 
 -- and as many
-pub count_is : (q : ℕ) (h : Header1) (setup : QueueSetup) (past : List Entry) (heads : List ℕ) (phase : Phase) (batch completed : List ℕ) (made : ℕ → ℕ) (state : QueueState) → started past q ≡ true → Worked q past phase batch completed made
+pub count_is : (q : ℕ) (h : Header1) (setup : SplitSetup) (past : List Entry) (heads : List ℕ) (phase : Phase) (batch completed : List ℕ) (made : ℕ → ℕ) (state : QueueState) → started past q ≡ true → Worked q past phase batch completed made
     → QueueAt q h setup past heads phase batch completed made state → length state.unfinished ≡ length (left_of q past completed batch)
 count_is q h setup past heads phase batch completed made state run w x =
     sym (length-map state.unfinished head_in) ∙ ap (λ (hs : List ℕ). length hs) (left_heads q h setup past heads phase batch completed made state run w x) ∙ length-map (left_of q past completed batch) (slice_index heads)
 
 -- where nothing is completed and no batch is hidden, the heads of its tasks are those of the open requests, in order
-pub heads_open : (q : ℕ) (h : Header1) (setup : QueueSetup) (past : List Entry) (heads : List ℕ) (phase : Phase) (batch completed : List ℕ) (made : ℕ → ℕ) (state : QueueState) → started past q ≡ true → batch ≡ [] → completed ≡ []
+pub heads_open : (q : ℕ) (h : Header1) (setup : SplitSetup) (past : List Entry) (heads : List ℕ) (phase : Phase) (batch completed : List ℕ) (made : ℕ → ℕ) (state : QueueState) → started past q ≡ true → batch ≡ [] → completed ≡ []
     → QueueAt q h setup past heads phase batch completed made state → map head_in state.unfinished ≡ open_heads q past heads
 heads_open q h setup past heads phase batch completed made state run no_batch none x =
     (x.keeps run (words_with (used_after h q past)) refl).splits.left
@@ -136,7 +136,7 @@ heads_open q h setup past heads phase batch completed made state run no_batch no
     ∙ without_none (open_heads q past heads)
 
 -- those of its tasks are places of the ring
-pub heads_low : (q : ℕ) (h : Header1) (setup : QueueSetup) (past : List Entry) (heads : List ℕ) (phase : Phase) (batch completed : List ℕ) (made : ℕ → ℕ) (state : QueueState) (i head : ℕ) → QueueAt q h setup past heads phase batch completed made state
+pub heads_low : (q : ℕ) (h : Header1) (setup : SplitSetup) (past : List Entry) (heads : List ℕ) (phase : Phase) (batch completed : List ℕ) (made : ℕ → ℕ) (state : QueueState) (i head : ℕ) → QueueAt q h setup past heads phase batch completed made state
     → slice_get (map head_in state.unfinished) i ≡ Some head → head < setup.ring.size
 heads_low q h setup past heads phase batch completed made state i head x found = elim (cases_Bool (started past q)) [
   | inl run ↦
@@ -151,14 +151,14 @@ heads_low q h setup past heads phase batch completed made state i head x found =
 ]
 
 -- the avail position is the base advanced by what was accepted
-pub avail_is : (q : ℕ) (h : Header1) (setup : QueueSetup) (past : List Entry) (heads : List ℕ) (phase : Phase) (batch completed : List ℕ) (made : ℕ → ℕ) (state : QueueState) → started past q ≡ true → Known q h.size h.capacity past heads
+pub avail_is : (q : ℕ) (h : Header1) (setup : SplitSetup) (past : List Entry) (heads : List ℕ) (phase : Phase) (batch completed : List ℕ) (made : ℕ → ℕ) (state : QueueState) → started past q ≡ true → Known q h.size h.capacity past heads
     → QueueAt q h setup past heads phase batch completed made state → state.next_avail ≡ (h.base + accepted past q) % 65536
 avail_is q h setup past heads phase batch completed made state run known x =
     let all : length (open_numbers past q) + length (published past q) ≡ accepted past q = missing_exact (published past q) (accepted past q) known.distinct known.below in
     omega (arith, (x.keeps run (words_with (used_after h q past)) refl).avail, all, length-map (open_numbers past q) (slice_index heads))
 
 -- a head that is taken is that of an open request
-pub taken_open : (q : ℕ) (h : Header1) (setup : QueueSetup) (past : List Entry) (heads : List ℕ) (phase : Phase) (batch completed : List ℕ) (made : ℕ → ℕ) (state : QueueState) (d : ℕ) → started past q ≡ true → d < setup.ring.size → is_taken state.taken d ≡ true
+pub taken_open : (q : ℕ) (h : Header1) (setup : SplitSetup) (past : List Entry) (heads : List ℕ) (phase : Phase) (batch completed : List ℕ) (made : ℕ → ℕ) (state : QueueState) (d : ℕ) → started past q ≡ true → d < setup.ring.size → is_taken state.taken d ≡ true
     → QueueAt q h setup past heads phase batch completed made state → (k : ℕ) × IsOpen past q k × (slice_index heads k ≡ d)
 taken_open q h setup past heads phase batch completed made state d run low held x =
     let among : is_among (open_heads q past heads) d ≡ true = sym ((x.keeps run (words_with (used_after h q past)) refl).taken d low) ∙ held in
@@ -196,7 +196,7 @@ starts_otherwise h request place made none next = first_step (refusal h.capacity
 -- ---- a queue that isn't started
 
 -- a new queue stands wherever it isn't started, and no step is made
-pub at_new : (q : ℕ) (h : Header1) (setup : QueueSetup) (past : List Entry) (heads : List ℕ) (made : ℕ → ℕ) (state : QueueState) → started past q ≡ false → ((k : ℕ) → made k ≡ 0) → states.IsNew setup state → QueueAt q h setup past heads phases.Rest [] [] made state
+pub at_new : (q : ℕ) (h : Header1) (setup : SplitSetup) (past : List Entry) (heads : List ℕ) (made : ℕ → ℕ) (state : QueueState) → started past q ≡ false → ((k : ℕ) → made k ≡ 0) → states.IsNew setup state → QueueAt q h setup past heads phases.Rest [] [] made state
 at_new q h setup past heads made state stopped none new = subst (λ (t : QueueState). QueueAt q h setup past heads phases.Rest [] [] made t) (sym new.is) (record {
   ring = refl;
   runs = refl;
@@ -215,7 +215,7 @@ at_new q h setup past heads made state stopped none new = subst (λ (t : QueueSt
 -- ---- a start
 
 -- in its start
-pub at_starting : (q : ℕ) (h : Header1) (setup : QueueSetup) (past : List Entry) (heads : List ℕ) (phase : Phase) (batch completed : List ℕ) (made : ℕ → ℕ) (state : QueueState) (r : RecoveryState) (rung : Bool) (done : ℕ) → kept_phase phase ≡ phases.Rest → batch ≡ []
+pub at_starting : (q : ℕ) (h : Header1) (setup : SplitSetup) (past : List Entry) (heads : List ℕ) (phase : Phase) (batch completed : List ℕ) (made : ℕ → ℕ) (state : QueueState) (r : RecoveryState) (rung : Bool) (done : ℕ) → kept_phase phase ≡ phases.Rest → batch ≡ []
     → QueueAt q h setup past heads phase batch completed made state → QueueAt q h setup past heads (phases.Start done) [] completed made (record state { recovery = r; rung = rung })
 at_starting q h setup past heads phase batch completed made state r rung done rests none x = subst (λ (ks : List ℕ). QueueAt q h setup past heads (phases.Start done) ks completed made (record state { recovery = r; rung = rung })) none (record {
   ring = x.ring;
@@ -288,14 +288,14 @@ keeps_resumed n list heads used state found places empty none nothing w at =
     }
 
 -- the task of an open request begins anew
-begins_anew : (q : ℕ) (h : Header1) (setup : QueueSetup) (past : List Entry) (heads : List ℕ) (k made : ℕ) (task : Task) → made ≡ 0 → fresh_task (slice_index heads k) ≡ task → TaskAt q h setup past heads k made task
+begins_anew : (q : ℕ) (h : Header1) (setup : SplitSetup) (past : List Entry) (heads : List ℕ) (k made : ℕ) (task : Task) → made ≡ 0 → fresh_task (slice_index heads k) ≡ task → TaskAt q h setup past heads k made task
 begins_anew q h setup past heads k made task none is = subst (λ (t : Task). TaskAt q h setup past heads k made t) is (record {
   head = refl;
   stands = λ request asks_it. record { begins = λ e. refl; goes_on = λ some. absurd (omega (arith, none, some)) };
 })
 
 -- at its end it goes on with the open requests
-pub at_started : (q : ℕ) (h : Header1) (setup : QueueSetup) (past : List Entry) (heads : List ℕ) (phase : Phase) (batch completed : List ℕ) (made : ℕ → ℕ) (state : QueueState) (r : RecoveryState) (list : List Pending) (used : ℕ) → started past q ≡ false → kept_phase phase ≡ phases.Rest → batch ≡ [] → completed ≡ [] → ((k : ℕ) → made k ≡ 0)
+pub at_started : (q : ℕ) (h : Header1) (setup : SplitSetup) (past : List Entry) (heads : List ℕ) (phase : Phase) (batch completed : List ℕ) (made : ℕ → ℕ) (state : QueueState) (r : RecoveryState) (list : List Pending) (used : ℕ) → started past q ≡ false → kept_phase phase ≡ phases.Rest → batch ≡ [] → completed ≡ [] → ((k : ℕ) → made k ≡ 0)
     → Finds setup.ring.size (open_heads q past heads) list → used ≡ used_after h q past
     → QueueAt q h setup past heads phase batch completed made state → QueueAt q h setup (entries.Start q (open_numbers past q) ∷ past) heads phases.Rest [] completed made (resumed used list (record state { recovery = r }))
 at_started q h setup past heads phase batch completed made state r list used stopped rests empty none unmade found used_is x = record {
@@ -355,7 +355,7 @@ left_more q past completed batch k unpublished out =
     let kept : filter test (a ∷ []) ≡ a ∷ [] = grind (arith, nat_tests) in
     ap (λ (n : ℕ). filter test (missing_below ps n)) (accepted_own past q a) ∙ ap (λ (n : ℕ). filter test (missing_below ps n)) next ∙ ap (filter test) longer ∙ filter-append test (missing_below ps a) (a ∷ []) ∙ ap (λ (ks : List ℕ). filter test (missing_below ps a) ++ ks) kept
 
-pub at_fetch : (q : ℕ) (h : Header1) (setup : QueueSetup) (past : List Entry) (heads : List ℕ) (phase : Phase) (completed : List ℕ) (made : ℕ → ℕ) (state : QueueState) (head : ℕ) → started past q ≡ true → Known q h.size h.capacity past heads → Worked q past phase [] completed made
+pub at_fetch : (q : ℕ) (h : Header1) (setup : SplitSetup) (past : List Entry) (heads : List ℕ) (phase : Phase) (completed : List ℕ) (made : ℕ → ℕ) (state : QueueState) (head : ℕ) → started past q ≡ true → Known q h.size h.capacity past heads → Worked q past phase [] completed made
     → head ≡ slice_index heads (accepted past q) → head < setup.ring.size → is_taken state.taken head ≡ false → hidden_in state ≡ [] → QueueAt q h setup past heads phase [] completed made state
     → QueueAt q h setup (entries.Accept q (accepted past q) ∷ past) heads phases.Rest [] completed made (fetched head state)
 at_fetch q h setup past heads phase completed made state head run known w is small free empty x =
@@ -405,7 +405,7 @@ at_fetch q h setup past heads phase completed made state head run known w is sma
 
 -- ---- a batch is taken
 
-pub at_begin : (q : ℕ) (h : Header1) (setup : QueueSetup) (past : List Entry) (heads : List ℕ) (completed : List ℕ) (made : ℕ → ℕ) (state : QueueState) (most : ℕ) → QueueAt q h setup past heads phases.Rest [] completed made state
+pub at_begin : (q : ℕ) (h : Header1) (setup : SplitSetup) (past : List Entry) (heads : List ℕ) (completed : List ℕ) (made : ℕ → ℕ) (state : QueueState) (most : ℕ) → QueueAt q h setup past heads phases.Rest [] completed made state
     → QueueAt q h setup past heads (phases.Publish 0) (take most completed) (drop most completed) made (states.begun most state)
 at_begin q h setup past heads completed made state most x =
     let same : left_of q past (drop most completed) (take most completed) ≡ left_of q past completed [] = left_same q past (drop most completed) (take most completed) completed [] (swap_among most completed) in
@@ -427,7 +427,7 @@ at_begin q h setup past heads completed made state most x =
 -- ---- a step of a phase
 
 -- a queue that hides the same, and changed in its phase alone
-pub at_goes : (q : ℕ) (h : Header1) (setup : QueueSetup) (past : List Entry) (heads : List ℕ) (phase : Phase) (batch completed : List ℕ) (made : ℕ → ℕ) (state : QueueState) (p p' : Phase) (c : ℕ) (f : Option ℕ) (b : List (ℕ × ℕ)) → p' ≡ kept_phase p → hidden_part p' b ≡ hidden_in state
+pub at_goes : (q : ℕ) (h : Header1) (setup : SplitSetup) (past : List Entry) (heads : List ℕ) (phase : Phase) (batch completed : List ℕ) (made : ℕ → ℕ) (state : QueueState) (p p' : Phase) (c : ℕ) (f : Option ℕ) (b : List (ℕ × ℕ)) → p' ≡ kept_phase p → hidden_part p' b ≡ hidden_in state
     → QueueAt q h setup past heads phase batch completed made state → QueueAt q h setup past heads p batch completed made (record state { phase = p'; counter = c; fetching = f; batch = b })
 at_goes q h setup past heads phase batch completed made state p p' c f b is same x = record {
   ring = x.ring;
@@ -482,7 +482,7 @@ left_shown q past completed batch list is =
     ∙ ap (λ (ks : List ℕ). filter (λ k. not (is_among (completed ++ []) k)) (missing_below (published past q ++ ks) (accepted past q))) is
     ∙ show_filter (published past q) completed batch (accepted past q)
 
-pub at_show : (q : ℕ) (h : Header1) (setup : QueueSetup) (past : List Entry) (heads : List ℕ) (phase : Phase) (batch completed : List ℕ) (made : ℕ → ℕ) (state : QueueState) (list : List Answered) (done : ℕ) → started past q ≡ true → numbers list ≡ batch → ((k : ℕ) → is_among batch k ≡ true → IsOpen past q k)
+pub at_show : (q : ℕ) (h : Header1) (setup : SplitSetup) (past : List Entry) (heads : List ℕ) (phase : Phase) (batch completed : List ℕ) (made : ℕ → ℕ) (state : QueueState) (list : List Answered) (done : ℕ) → started past q ≡ true → numbers list ≡ batch → ((k : ℕ) → is_among batch k ≡ true → IsOpen past q k)
     → hidden_in state ≡ state.batch → 4 * length state.batch < done → QueueAt q h setup past heads phase batch completed made state → QueueAt q h setup (entries.Publish q list ∷ past) heads (phases.Publish done) [] completed made (shown done state)
 at_show q h setup past heads phase batch completed made state list done run is opens all past_all x =
     let past' : List Entry = entries.Publish q list ∷ past in
@@ -521,7 +521,7 @@ offered_spot q h past heads request x k known low =
     let asks_it : asked (entries.Offer q request ∷ past) q k ≡ asked past q k = same_asked q past request k (omega (arith, low, known.offered, known.offers_are)) in
     ap (λ (y : ℕ). (y, len_of h (asked (entries.Offer q request ∷ past) q k))) head ∙ ap (λ (o : Option Asked). (slice_index heads k, len_of h o)) asks_it
 
-pub at_offer : (q : ℕ) (h : Header1) (setup : QueueSetup) (past : List Entry) (heads : List ℕ) (phase : Phase) (batch completed : List ℕ) (made : ℕ → ℕ) (state : QueueState) (request : Asked) (x : ℕ)
+pub at_offer : (q : ℕ) (h : Header1) (setup : SplitSetup) (past : List Entry) (heads : List ℕ) (phase : Phase) (batch completed : List ℕ) (made : ℕ → ℕ) (state : QueueState) (request : Asked) (x : ℕ)
     → Known q h.size h.capacity past heads → Worked q past phase batch completed made → QueueAt q h setup past heads phase batch completed made state
     → QueueAt q h setup (entries.Offer q request ∷ past) (heads ++ x ∷ []) phase batch completed made state
 at_offer q h setup past heads phase batch completed made state request x known w z =
@@ -558,7 +558,7 @@ at_offer q h setup past heads phase batch completed made state request x known w
 
 -- ---- a collection
 
-pub at_collect : (q : ℕ) (h : Header1) (setup : QueueSetup) (past : List Entry) (heads : List ℕ) (phase : Phase) (batch completed : List ℕ) (made : ℕ → ℕ) (state : QueueState) (k : ℕ)
+pub at_collect : (q : ℕ) (h : Header1) (setup : SplitSetup) (past : List Entry) (heads : List ℕ) (phase : Phase) (batch completed : List ℕ) (made : ℕ → ℕ) (state : QueueState) (k : ℕ)
     → QueueAt q h setup past heads phase batch completed made state → QueueAt q h setup (entries.Collect q k ∷ past) heads phase batch completed made state
 at_collect q h setup past heads phase batch completed made state k x = record {
   ring = x.ring;

@@ -21,7 +21,7 @@ use Rattle.vub_facts.proofs.Places.{Place, place_of}
 use Rattle.vub_facts.proofs.FactSteps.{publication_due}
 use Rattle.vub_queue.specs.declared.queue.Stepped.{Stepped}
 use Rattle.vub_queue.specs.declared.queue.Stepped.TheVariants as says
-use Rattle.vub_queue.specs.declared.queue.QueueSetup.{QueueSetup}
+use Rattle.vub_setup.specs.Setups.{SplitSetup}
 use Rattle.vub_queue.specs.QueueState as states
 use Rattle.vub_queue.specs.QueueState.{QueueState, seen_by, row_at, next_row, row_said, step_said, step_in, publishes, publish_row, Publishes, Moves, MovesBy, Turns, is_fault}
 use Rattle.vub_run.specs.Moments.{Lane, Moment, region_in, standing}
@@ -42,7 +42,7 @@ use Rattle.vub_queue_in_run.proofs.QueueAtSteps.{IsUnderWay, StepStands, step_st
 -- ---- a publication that goes on
 
 -- a lane and its queue are so many steps in a publication
-record Publishing (q : ℕ) (h : Header1) (setup : QueueSetup) (m : Moment) (done : ℕ) (l : Lane) (u : QueueState) : Type 0 where
+record Publishing (q : ℕ) (h : Header1) (setup : SplitSetup) (m : Moment) (done : ℕ) (l : Lane) (u : QueueState) : Type 0 where
   pub main : LiesAs q setup h.size
   pub run : started m.scene.past q ≡ true
   pub known : Known q h.size h.capacity m.scene.past (m.scene.heads q)
@@ -84,11 +84,11 @@ record AtIndex (done : ℕ) (l : Lane) (u : QueueState) : Type 0 where
   pub place : done ≡ 4 * length l.batch
 
 -- what a step leaves, and where it was the store of used.idx
-record Goes (q : ℕ) (h : Header1) (setup : QueueSetup) (m : Moment) (turn : Turn) (x : Stepped) (row : Option Row) (done : ℕ) (l : Lane) (u t : QueueState) : Type 0 where
+record Goes (q : ℕ) (h : Header1) (setup : SplitSetup) (m : Moment) (turn : Turn) (x : Stepped) (row : Option Row) (done : ℕ) (l : Lane) (u t : QueueState) : Type 0 where
   pub step : StepStands q h setup m turn x row l.batch t
   pub shows : x ≡ says.Published → AtIndex done l u
 
-goes : (q : ℕ) (h : Header1) (setup : QueueSetup) (m : Moment) (most : ℕ) (x : Stepped) (row : Option Row) (done : ℕ) (l : Lane) (u t : QueueState) → Publishing q h setup m done l u → under_way h q m.scene (turns.Publish most) (m.lanes q) ≡ publishing done l → Does m x u t → row ≡ row_at u m.scene.memory (step_in u)
+goes : (q : ℕ) (h : Header1) (setup : SplitSetup) (m : Moment) (most : ℕ) (x : Stepped) (row : Option Row) (done : ℕ) (l : Lane) (u t : QueueState) → Publishing q h setup m done l u → under_way h q m.scene (turns.Publish most) (m.lanes q) ≡ publishing done l → Does m x u t → row ≡ row_at u m.scene.memory (step_in u)
     → Goes q h setup m (turns.Publish most) x row done l u t
 goes q h setup m most x row done l u t f lane does is_row = go due.0 due.1
   where
@@ -138,7 +138,7 @@ goes q h setup m most x row done l u t f lane does is_row = go due.0 due.1
 -- ---- its turns
 
 -- a queue at rest takes a batch
-begins : (q : ℕ) (h : Header1) (setup : QueueSetup) (m : Moment) (most : ℕ) (state : QueueState) → IsPlain h → Good q h m → LiesAs q setup h.size → QueueStands q h setup m state → is_ready (standing h q m) (turns.Publish most) ≡ true → (m.lanes q).phase ≡ phases.Rest → (m.lanes q).batch ≡ []
+begins : (q : ℕ) (h : Header1) (setup : SplitSetup) (m : Moment) (most : ℕ) (state : QueueState) → IsPlain h → Good q h m → LiesAs q setup h.size → QueueStands q h setup m state → is_ready (standing h q m) (turns.Publish most) ≡ true → (m.lanes q).phase ≡ phases.Rest → (m.lanes q).batch ≡ []
     → Publishing q h setup m 0 (taking most (m.lanes q)) (states.begun most state)
 begins q h setup m most state plain good main z ready rest none =
     let l : Lane = m.lanes q in
@@ -177,7 +177,7 @@ begins q h setup m most state plain good main z ready rest none =
     }
 
 -- one that is under way goes on
-goes_on : (q : ℕ) (h : Header1) (setup : QueueSetup) (m : Moment) (done : ℕ) (state : QueueState) → Good q h m → LiesAs q setup h.size → QueueStands q h setup m state → started m.scene.past q ≡ true → (m.lanes q).phase ≡ phases.Publish done → Publishing q h setup m done (m.lanes q) state
+goes_on : (q : ℕ) (h : Header1) (setup : SplitSetup) (m : Moment) (done : ℕ) (state : QueueState) → Good q h m → LiesAs q setup h.size → QueueStands q h setup m state → started m.scene.past q ≡ true → (m.lanes q).phase ≡ phases.Publish done → Publishing q h setup m done (m.lanes q) state
 goes_on q h setup m done state good main z run phase =
     let l : Lane = m.lanes q in
     let past : List Entry = m.scene.past in
@@ -204,11 +204,11 @@ pub record ShowsBatch (q : ℕ) (h : Header1) (m : Moment) (most : ℕ) (state :
   pub batch : (under_way h q m.scene (turns.Publish most) (m.lanes q)).batch ≡ (m.lanes q).batch
 
 -- what a publication leaves, and where it showed the batch
-pub record PublishStands (q : ℕ) (h : Header1) (setup : QueueSetup) (m : Moment) (most : ℕ) (x : Stepped) (row : Option Row) (state state' : QueueState) : Type 0 where
+pub record PublishStands (q : ℕ) (h : Header1) (setup : SplitSetup) (m : Moment) (most : ℕ) (x : Stepped) (row : Option Row) (state state' : QueueState) : Type 0 where
   pub step : StepStands q h setup m (turns.Publish most) x row (under_way h q m.scene (turns.Publish most) (m.lanes q)).batch state'
   pub shows : x ≡ says.Published → ShowsBatch q h m most state
 
-shows_stands : (q : ℕ) (h : Header1) (setup : QueueSetup) (m : Moment) (most : ℕ) (x : Stepped) (state t : QueueState) → IsPlain h → Good q h m → LiesAs q setup h.size → QueueStands q h setup m state → is_ready (standing h q m) (turns.Publish most) ≡ true → Does m x (states.under_way most state) t
+shows_stands : (q : ℕ) (h : Header1) (setup : SplitSetup) (m : Moment) (most : ℕ) (x : Stepped) (state t : QueueState) → IsPlain h → Good q h m → LiesAs q setup h.size → QueueStands q h setup m state → is_ready (standing h q m) (turns.Publish most) ≡ true → Does m x (states.under_way most state) t
     → PublishStands q h setup m most x (next_row (states.under_way most state) m.scene.memory) state t
 shows_stands q h setup m most x state t plain good main z ready does = go (running_cases q h m.scene (m.lanes q) run good.holds)
   where
@@ -262,7 +262,7 @@ says_on q h m turn x row head batch t (Rings s) = ap (λ (z : Stepped). states.h
 says_on q h m turn x row head batch t (Starts s) = ap (λ (z : Stepped). states.halted z t) s.said
 
 -- a publication that is ready and doesn't fail makes its next step
-pub publish_stands : (q : ℕ) (h : Header1) (setup : QueueSetup) (m : Moment) (most : ℕ) (x : Stepped) (state state' : QueueState) → IsPlain h → Good q h m → LiesAs q setup h.size → QueueStands q h setup m state → is_ready (standing h q m) (turns.Publish most) ≡ true → is_fault x ≡ false
+pub publish_stands : (q : ℕ) (h : Header1) (setup : SplitSetup) (m : Moment) (most : ℕ) (x : Stepped) (state state' : QueueState) → IsPlain h → Good q h m → LiesAs q setup h.size → QueueStands q h setup m state → is_ready (standing h q m) (turns.Publish most) ≡ true → is_fault x ≡ false
     → Turns (turns.Publish most) (Some m.scene.memory) x state state' → PublishStands q h setup m most x (publish_row most state m.scene.memory) state state'
 publish_stands q h setup m most x state state' plain good main z ready fine made =
     let t : QueueState = made.0 in

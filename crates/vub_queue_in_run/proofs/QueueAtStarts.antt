@@ -44,7 +44,7 @@ use Rattle.vub_rec_split.proofs.PlaceLemmas.{planned, PlannedAlike, planned_alik
 use Rattle.vub_facts.proofs.Places.{bells, start_long}
 use Rattle.vub_queue.specs.declared.queue.Stepped.{Stepped}
 use Rattle.vub_queue.specs.declared.queue.Stepped.TheVariants as says
-use Rattle.vub_queue.specs.declared.queue.QueueSetup.{QueueSetup}
+use Rattle.vub_setup.specs.Setups.{SplitSetup}
 use Rattle.vub_queue.specs.QueueState as states
 use Rattle.vub_queue.specs.QueueState.{QueueState, StartsIf, StoresStep, TrailsStep, StoresStart, TrailsStart, TrailsRow, StoresBy, TrailsBy, Turns, is_fault, resumed, start_said, start_after, start_due, rings_next}
 use Rattle.vub_run.specs.Memory.{Scene, after_items}
@@ -79,7 +79,7 @@ pub record IsOver (q : ℕ) (h : Header1) (m : Moment) (r : RecoveryState) : Typ
   pub base : r.base ≡ h.base
   pub apart : IsApart r
 
-is_over : (q : ℕ) (h : Header1) (setup : QueueSetup) (m : Moment) (state : QueueState) → LiesAs q setup h.size → QueueStands q h setup m state → IsOver q h m state.recovery
+is_over : (q : ℕ) (h : Header1) (setup : SplitSetup) (m : Moment) (state : QueueState) → LiesAs q setup h.size → QueueStands q h setup m state → IsOver q h m state.recovery
 is_over q h setup m state main z =
     let region : state.recovery.region ≡ region_of q h.size = z.phase.region ∙ main.region in
     let space : state.recovery.ring.used.0.number ≡ 0 = ap (λ (r : SplitRing). r.used.0.number) z.phase.ring ∙ main.used_space in
@@ -130,7 +130,7 @@ first_rung : (n : ℕ) (rung : Bool) → rung ≡ false → rung ≡ nat_lt n 0
 first_rung n rung none = let low : nat_lt n 0 ≡ false = grind (arith, nat_tests) in none ∙ sym low
 
 -- it begins
-start_fresh : (q : ℕ) (h : Header1) (setup : QueueSetup) (m : Moment) (state : QueueState) → Good q h m → LiesAs q setup h.size → QueueStands q h setup m state → started m.scene.past q ≡ false → (m.lanes q).phase ≡ phases.Rest → (m.lanes q).batch ≡ []
+start_fresh : (q : ℕ) (h : Header1) (setup : SplitSetup) (m : Moment) (state : QueueState) → Good q h m → LiesAs q setup h.size → QueueStands q h setup m state → started m.scene.past q ≡ false → (m.lanes q).phase ≡ phases.Rest → (m.lanes q).batch ≡ []
     → IsStarting q h m state (plan_of (used_in h q m.scene) (region_in h q m.scene)) 0
 start_fresh q h setup m state good main z stopped rest none =
     let l : Lane = m.lanes q in
@@ -164,7 +164,7 @@ start_fresh q h setup m state good main z stopped rest none =
         go (Some p) e = absurd (cc)
 
 -- it goes on
-start_later : (q : ℕ) (h : Header1) (setup : QueueSetup) (m : Moment) (state : QueueState) (done : ℕ) → Good q h m → LiesAs q setup h.size → QueueStands q h setup m state → started m.scene.past q ≡ false → (m.lanes q).phase ≡ phases.Start done → (m.lanes q).batch ≡ []
+start_later : (q : ℕ) (h : Header1) (setup : SplitSetup) (m : Moment) (state : QueueState) (done : ℕ) → Good q h m → LiesAs q setup h.size → QueueStands q h setup m state → started m.scene.past q ≡ false → (m.lanes q).phase ≡ phases.Start done → (m.lanes q).batch ≡ []
     → IsStarting q h m state (m.lanes q).plan done
 start_later q h setup m state done good main z stopped phase none =
     let l : Lane = m.lanes q in
@@ -188,7 +188,7 @@ start_later q h setup m state done good main z stopped phase none =
       rung = begun.rung;
     }
 
-pub start_under_way : (q : ℕ) (h : Header1) (setup : QueueSetup) (m : Moment) (state : QueueState) → Good q h m → LiesAs q setup h.size → QueueStands q h setup m state → started m.scene.past q ≡ false → (plan : Plan) × (done : ℕ) × IsStarting q h m state plan done
+pub start_under_way : (q : ℕ) (h : Header1) (setup : SplitSetup) (m : Moment) (state : QueueState) → Good q h m → LiesAs q setup h.size → QueueStands q h setup m state → started m.scene.past q ≡ false → (plan : Plan) × (done : ℕ) × IsStarting q h m state plan done
 start_under_way q h setup m state good main z stopped = go (phase_cases h.size l.bell l.plan l.batch l.phase (phase_at q h m.scene l good.holds))
   where
     l : Lane
@@ -228,7 +228,7 @@ pub start_trails_row : (told : Option Bytes) (before after : Option (List Store)
 start_trails_row told before after x s made = (made.0, λ m is. step_trails before after x s.recovery.region (start_due s m) (made.1 m is))
 
 -- it says what the turn makes in the run, whatever waits to be fetched, and the queue stands where the lane does
-pub record StartStands (q : ℕ) (h : Header1) (setup : QueueSetup) (m : Moment) (x : Stepped) (row : Option Row) (state' : QueueState) : Type 0 where
+pub record StartStands (q : ℕ) (h : Header1) (setup : SplitSetup) (m : Moment) (x : Stepped) (row : Option Row) (state' : QueueState) : Type 0 where
   pub says : (head : ℕ) → TurnSays q h m turns.Start x row head []
   pub stands : QueueStands q h setup (one_turn h q turns.Start m).next state'
 
@@ -239,7 +239,7 @@ record Answers (m : Moment) (x : Stepped) (state u : QueueState) : Type 0 where
   pub said : x ≡ start_said (rings_next state) (answer_in state.recovery m.scene.memory)
   pub leaves : u ≡ start_after (answer_in state.recovery m.scene.memory) (state_after state.recovery m.scene.memory) (used_idx_word state.ring m.scene.memory) (unchecked_in state.recovery m.scene.memory) state
 
-start_answers : (q : ℕ) (h : Header1) (setup : QueueSetup) (m : Moment) (x : Stepped) (state u : QueueState) → QueueStands q h setup m state → started m.scene.past q ≡ false → states.Starts (Some m.scene.memory) x state u → Answers m x state u
+start_answers : (q : ℕ) (h : Header1) (setup : SplitSetup) (m : Moment) (x : Stepped) (state u : QueueState) → QueueStands q h setup m state → started m.scene.past q ≡ false → states.Starts (Some m.scene.memory) x state u → Answers m x state u
 start_answers q h setup m x state u z stopped does =
     let not_yet : StartsIf false (Some m.scene.memory) x state u = subst (λ (b : Bool). StartsIf b (Some m.scene.memory) x state u) (z.at.started ∙ stopped) does in
     let here = not_yet m.scene.memory refl in record { said = here.0; leaves = here.1 }
@@ -271,14 +271,14 @@ record KeepsNone (state : QueueState) : Type 0 where
   pub fetching : state.fetching ≡ None
   pub batch : state.batch ≡ []
 
-keeps_none : (q : ℕ) (h : Header1) (setup : QueueSetup) (m : Moment) (state : QueueState) → QueueStands q h setup m state → kept_phase (m.lanes q).phase ≡ phases.Rest → (m.lanes q).batch ≡ [] → KeepsNone state
+keeps_none : (q : ℕ) (h : Header1) (setup : SplitSetup) (m : Moment) (state : QueueState) → QueueStands q h setup m state → kept_phase (m.lanes q).phase ≡ phases.Rest → (m.lanes q).batch ≡ [] → KeepsNone state
 keeps_none q h setup m state z kept none = record {
   fetching = z.phase.fetching ∙ rests_headless (m.lanes q).phase (slice_index (m.scene.heads q) (accepted m.scene.past q)) kept;
   batch = z.phase.batch ∙ ap (λ (ks : List ℕ). map (spot_of q h m.scene.past (m.scene.heads q)) ks) none;
 }
 
 -- a queue in a start, with this recovery
-starts_on : (q : ℕ) (h : Header1) (setup : QueueSetup) (m : Moment) (state : QueueState) (plan : Plan) (done : ℕ) (w : RegionWords) (r : RecoveryState) (rung : Bool) → QueueStands q h setup m state → KeepsNone state → SameQueue state.recovery r → IsAt plan (done + 1) w r
+starts_on : (q : ℕ) (h : Header1) (setup : SplitSetup) (m : Moment) (state : QueueState) (plan : Plan) (done : ℕ) (w : RegionWords) (r : RecoveryState) (rung : Bool) → QueueStands q h setup m state → KeepsNone state → SameQueue state.recovery r → IsAt plan (done + 1) w r
     → rung ≡ nat_lt (length (plan_steps h.size plan)) (done + 1) → PhaseAt q h setup m.scene.past (m.scene.heads q) (m.lanes q).bell plan (m.lanes q).counter [] (phases.Start (done + 1)) w (record state { recovery = r; rung = rung })
 starts_on q h setup m state plan done w r rung z keeps same at is = record {
   index = z.phase.index;
@@ -307,7 +307,7 @@ told_store q h s (SP6 i) = refl
 told_store q h s (SP7 used) = refl
 
 -- a store
-start_stores : (q : ℕ) (h : Header1) (setup : QueueSetup) (m : Moment) (x : Stepped) (state u state' : QueueState) (plan : Plan) (done : ℕ) → IsPlain h → Good q h m → LiesAs q setup h.size → QueueStands q h setup m state → started m.scene.past q ≡ false → IsStarting q h m state plan done
+start_stores : (q : ℕ) (h : Header1) (setup : SplitSetup) (m : Moment) (x : Stepped) (state u state' : QueueState) (plan : Plan) (done : ℕ) → IsPlain h → Good q h m → LiesAs q setup h.size → QueueStands q h setup m state → started m.scene.past q ≡ false → IsStarting q h m state plan done
     → Answers m x state u → state' ≡ states.halted x u → done < length (plan_steps h.size plan) → StartStands q h setup m x (start_row state m.scene.memory) state'
 start_stores q h setup m x state u state' plan done plain good main z stopped under answers halts more =
     record {
@@ -399,7 +399,7 @@ record NoneLeft (m : Moment) (state : QueueState) : Type 0 where
   pub answer : answer_in state.recovery m.scene.memory ≡ recovered.Done
   pub ends : (state_after state.recovery m.scene.memory).plan ≡ Some plans.Settled
 
-none_left : (q : ℕ) (h : Header1) (setup : QueueSetup) (m : Moment) (state : QueueState) (plan : Plan) (done : ℕ) → LiesAs q setup h.size → QueueStands q h setup m state → IsStarting q h m state plan done → length (plan_steps h.size plan) ≤ done → NoneLeft m state
+none_left : (q : ℕ) (h : Header1) (setup : SplitSetup) (m : Moment) (state : QueueState) (plan : Plan) (done : ℕ) → LiesAs q setup h.size → QueueStands q h setup m state → IsStarting q h m state plan done → length (plan_steps h.size plan) ≤ done → NoneLeft m state
 none_left q h setup m state plan done main z under all =
     let r : RecoveryState = state.recovery in
     let mem : Bytes = m.scene.memory in
@@ -419,7 +419,7 @@ settled_at : (n : ℕ) (plan : Plan) (place : ℕ) (w : RegionWords) (r : Recove
 settled_at n plan place w r size settled all = record { stores = λ more. absurd (let less : place < length (plan_steps n plan) = subst (λ (k : ℕ). place < length (plan_steps k plan)) size more in omega (arith, less, all)); settled = λ behind. settled }
 
 -- the bell
-start_rings : (q : ℕ) (h : Header1) (setup : QueueSetup) (m : Moment) (x : Stepped) (state u state' : QueueState) (plan : Plan) (done : ℕ) → Good q h m → LiesAs q setup h.size → QueueStands q h setup m state → started m.scene.past q ≡ false → IsStarting q h m state plan done
+start_rings : (q : ℕ) (h : Header1) (setup : SplitSetup) (m : Moment) (x : Stepped) (state u state' : QueueState) (plan : Plan) (done : ℕ) → Good q h m → LiesAs q setup h.size → QueueStands q h setup m state → started m.scene.past q ≡ false → IsStarting q h m state plan done
     → Answers m x state u → state' ≡ states.halted x u → done ≡ length (plan_steps h.size plan) → (m.lanes q).bell ≡ true → StartStands q h setup m x (start_row state m.scene.memory) state'
 start_rings q h setup m x state u state' plan done good main z stopped under answers halts all bell =
     let l : Lane = m.lanes q in
@@ -448,7 +448,7 @@ start_rings q h setup m x state u state' plan done good main z stopped under ans
     }
 
 -- what its recovery read at the end are the open entries of the region
-ends_reading : (q : ℕ) (h : Header1) (setup : QueueSetup) (m : Moment) (state : QueueState) (plan : Plan) (done : ℕ) → LiesAs q setup h.size → QueueStands q h setup m state → IsStarting q h m state plan done → length (plan_steps h.size plan) ≤ done
+ends_reading : (q : ℕ) (h : Header1) (setup : SplitSetup) (m : Moment) (state : QueueState) (plan : Plan) (done : ℕ) → LiesAs q setup h.size → QueueStands q h setup m state → IsStarting q h m state plan done → length (plan_steps h.size plan) ≤ done
     → unchecked_in state.recovery m.scene.memory ≡ open_entries h.size (used_in h q m.scene) (region_in h q m.scene)
 ends_reading q h setup m state plan done main z under all =
     let r : RecoveryState = state.recovery in
@@ -458,7 +458,7 @@ ends_reading q h setup m state plan done main z under all =
     ∙ sound_unchecked h.size (used_in h q m.scene) (open_heads q m.scene.past (m.scene.heads q)) (region_in h q m.scene) (under.facts.settled all).sound
 
 -- so they are the open requests, in order
-start_finds : (q : ℕ) (h : Header1) (setup : QueueSetup) (m : Moment) (state : QueueState) (plan : Plan) (done : ℕ) → Good q h m → LiesAs q setup h.size → QueueStands q h setup m state → IsStarting q h m state plan done → length (plan_steps h.size plan) ≤ done
+start_finds : (q : ℕ) (h : Header1) (setup : SplitSetup) (m : Moment) (state : QueueState) (plan : Plan) (done : ℕ) → Good q h m → LiesAs q setup h.size → QueueStands q h setup m state → IsStarting q h m state plan done → length (plan_steps h.size plan) ≤ done
     → Finds setup.ring.size (open_heads q m.scene.past (m.scene.heads q)) (unchecked_in state.recovery m.scene.memory)
 start_finds q h setup m state plan done good main z under all =
     let w : RegionWords = region_in h q m.scene in
@@ -473,13 +473,13 @@ start_finds q h setup m state plan done good main z under all =
           omega (arith, main.size, there.2, head_below q h m.scene (m.lanes q).driver (m.lanes q).bell (m.lanes q).plan (m.lanes q).counter (m.lanes q).batch (m.lanes q).phase there.0 good.holds.queue out);
     }
 
-used_now : (q : ℕ) (h : Header1) (setup : QueueSetup) (m : Moment) (state : QueueState) → Good q h m → LiesAs q setup h.size → QueueStands q h setup m state → used_idx_word state.ring m.scene.memory ≡ used_after h q m.scene.past
+used_now : (q : ℕ) (h : Header1) (setup : SplitSetup) (m : Moment) (state : QueueState) → Good q h m → LiesAs q setup h.size → QueueStands q h setup m state → used_idx_word state.ring m.scene.memory ≡ used_after h q m.scene.past
 used_now q h setup m state good main z =
     ap (λ (r : SplitRing). used_idx_word r m.scene.memory) z.at.ring ∙ ap (λ (s : ℕ). word 2 m.scene.memory s (setup.ring.used.1 + 2)) main.used_space ∙ ap (λ (p : ℕ). word 2 m.scene.memory 0 (p + 2)) main.used
     ∙ shown_index q h m.scene (m.lanes q).driver (m.lanes q).bell (m.lanes q).plan (m.lanes q).counter (m.lanes q).batch (m.lanes q).phase good.holds.queue
 
 -- the start
-start_ends : (q : ℕ) (h : Header1) (setup : QueueSetup) (m : Moment) (x : Stepped) (state u state' : QueueState) (plan : Plan) (done : ℕ) → Good q h m → LiesAs q setup h.size → QueueStands q h setup m state → started m.scene.past q ≡ false → IsStarting q h m state plan done
+start_ends : (q : ℕ) (h : Header1) (setup : SplitSetup) (m : Moment) (x : Stepped) (state u state' : QueueState) (plan : Plan) (done : ℕ) → Good q h m → LiesAs q setup h.size → QueueStands q h setup m state → started m.scene.past q ≡ false → IsStarting q h m state plan done
     → Answers m x state u → state' ≡ states.halted x u → done ≡ length (plan_steps h.size plan) + bells (m.lanes q).bell → rings_next state ≡ false → StartStands q h setup m x (start_row state m.scene.memory) state'
 start_ends q h setup m x state u state' plan done good main z stopped under answers halts all silent =
     let l : Lane = m.lanes q in
@@ -523,7 +523,7 @@ start_ends q h setup m x state u state' plan done good main z stopped under answ
     }
 
 -- the step that is next, whichever it is
-pub start_stands : (q : ℕ) (h : Header1) (setup : QueueSetup) (m : Moment) (x : Stepped) (state state' : QueueState) → IsPlain h → Good q h m → LiesAs q setup h.size → QueueStands q h setup m state
+pub start_stands : (q : ℕ) (h : Header1) (setup : SplitSetup) (m : Moment) (x : Stepped) (state state' : QueueState) → IsPlain h → Good q h m → LiesAs q setup h.size → QueueStands q h setup m state
     → is_ready (standing h q m) turns.Start ≡ true → is_fault x ≡ false → Turns turns.Start (Some m.scene.memory) x state state' → StartStands q h setup m x (start_row state m.scene.memory) state'
 start_stands q h setup m x state state' plain good main z ready fine made =
     let stopped : started m.scene.past q ≡ false = grind (arith, nat_tests) in

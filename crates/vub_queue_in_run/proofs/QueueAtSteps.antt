@@ -36,7 +36,7 @@ use Rattle.vub_facts.proofs.Places.{Place, place_of, after_place, is_last}
 use Rattle.vub_facts.proofs.FactSteps.{link_store, head_store, clear_store}
 use Rattle.vub_queue.specs.declared.queue.Stepped.{Stepped}
 use Rattle.vub_queue.specs.declared.queue.Stepped.TheVariants as says
-use Rattle.vub_queue.specs.declared.queue.QueueSetup.{QueueSetup}
+use Rattle.vub_setup.specs.Setups.{SplitSetup}
 use Rattle.vub_queue.specs.QueueParts.{is_taken}
 use Rattle.vub_queue.specs.QueueState as states
 use Rattle.vub_queue.specs.QueueState.{QueueState, seen_by, row_at, row_said, step_said, steps_in, step_in, kept_or, changed, moved, MovesBy}
@@ -59,7 +59,7 @@ use Rattle.vub_queue_in_run.proofs.QueueAtTurns.{stands_next}
 -- ---- a queue and its lane in a phase
 
 -- the queue's phase is that of a lane which runs, and the step comes next
-pub record IsUnderWay (q : ℕ) (h : Header1) (setup : QueueSetup) (s : Scene) (l : Lane) (step : Step) (u : QueueState) : Type 0 where
+pub record IsUnderWay (q : ℕ) (h : Header1) (setup : SplitSetup) (s : Scene) (l : Lane) (step : Step) (u : QueueState) : Type 0 where
   pub main : LiesAs q setup h.size
   pub run : started s.past q ≡ true
   pub due : IsDue h.size step (side_of q h s l.bell l.plan l.counter l.batch l.phase)
@@ -75,7 +75,7 @@ pub record IsUnderWay (q : ℕ) (h : Header1) (setup : QueueSetup) (s : Scene) (
   pub phase : PhaseAt q h setup s.past (s.heads q) l.bell l.plan l.counter l.batch l.phase (region_in h q s) u
 
 -- how many its batch has
-batch_long : (q : ℕ) (h : Header1) (setup : QueueSetup) (s : Scene) (l : Lane) (step : Step) (u : QueueState) → IsUnderWay q h setup s l step u → length u.batch ≡ length l.batch
+batch_long : (q : ℕ) (h : Header1) (setup : SplitSetup) (s : Scene) (l : Lane) (step : Step) (u : QueueState) → IsUnderWay q h setup s l step u → length u.batch ≡ length l.batch
 batch_long q h setup s l step u w = ap (λ (xs : List (ℕ × ℕ)). length xs) w.phase.batch ∙ length-map l.batch (spot_of q h s.past (s.heads q))
 
 side_long : (q : ℕ) (h : Header1) (s : Scene) (l : Lane) → length (map (element_of h q s) l.batch) ≡ length l.batch
@@ -86,16 +86,16 @@ course_is : (q : ℕ) (h : Header1) (s : Scene) (l : Lane) → course_in h.size 
 course_is q h s l = ap (λ (n : ℕ). record { size = h.size; plan = l.plan; bell = l.bell; batch = n }) (side_long q h s l)
 
 -- its next step, and the phase after it, in the lane
-pub lane_next : (q : ℕ) (h : Header1) (setup : QueueSetup) (s : Scene) (l : Lane) (step : Step) (u : QueueState) → IsUnderWay q h setup s l step u → next_step (course_of h l) l.phase ≡ Some step
+pub lane_next : (q : ℕ) (h : Header1) (setup : SplitSetup) (s : Scene) (l : Lane) (step : Step) (u : QueueState) → IsUnderWay q h setup s l step u → next_step (course_of h l) l.phase ≡ Some step
 lane_next q h setup s l step u w = sym (ap (λ (c : Course). next_step c l.phase) (course_is q h s l)) ∙ w.due.next
 
-place : (q : ℕ) (h : Header1) (setup : QueueSetup) (s : Scene) (l : Lane) (step : Step) (u : QueueState) → IsUnderWay q h setup s l step u → Place h.size step (side_of q h s l.bell l.plan l.counter l.batch l.phase)
+place : (q : ℕ) (h : Header1) (setup : SplitSetup) (s : Scene) (l : Lane) (step : Step) (u : QueueState) → IsUnderWay q h setup s l step u → Place h.size step (side_of q h s l.bell l.plan l.counter l.batch l.phase)
 place q h setup s l step u w = place_of h.size step (side_of q h s l.bell l.plan l.counter l.batch l.phase) w.due
 
 abbrev phase_after : Step → Bool → Phase → Phase
 phase_after step last p = if last then phases.Rest else at_step p (done_of p + 1)
 
-lane_after : (q : ℕ) (h : Header1) (setup : QueueSetup) (s : Scene) (l : Lane) (step : Step) (u : QueueState) → IsUnderWay q h setup s l step u
+lane_after : (q : ℕ) (h : Header1) (setup : SplitSetup) (s : Scene) (l : Lane) (step : Step) (u : QueueState) → IsUnderWay q h setup s l step u
     → after_step (course_of h l) l.phase ≡ phase_after step (is_last step (side_of q h s l.bell l.plan l.counter l.batch l.phase)) l.phase
 lane_after q h setup s l step u w = sym (ap (λ (c : Course). after_step c l.phase) (course_is q h s l)) ∙ after_place h.size step (side_of q h s l.bell l.plan l.counter l.batch l.phase) (place q h setup s l step u w)
 
@@ -113,14 +113,14 @@ steps_run c (phases.Start done) none = absurd (none done refl)
 steps_run c (phases.Fetch done) none = refl
 steps_run c (phases.Publish done) none = refl
 
-no_start : (q : ℕ) (h : Header1) (setup : QueueSetup) (s : Scene) (l : Lane) (step : Step) (u : QueueState) → IsUnderWay q h setup s l step u → (done : ℕ) → l.phase ≡ phases.Start done → ⊥
+no_start : (q : ℕ) (h : Header1) (setup : SplitSetup) (s : Scene) (l : Lane) (step : Step) (u : QueueState) → IsUnderWay q h setup s l step u → (done : ℕ) → l.phase ≡ phases.Start done → ⊥
 no_start q h setup s l step u w done at =
     let stopped : started s.past q ≡ false = subst (λ (p : Phase). IsInPhase (started s.past q) p) at w.due.in_phase in
     let fails : true ≡ false = sym w.run ∙ stopped in
     cc
 
 -- the queue's next step is the lane's
-pub queue_next : (q : ℕ) (h : Header1) (setup : QueueSetup) (s : Scene) (l : Lane) (step : Step) (u : QueueState) → IsUnderWay q h setup s l step u → step_in u ≡ Some step
+pub queue_next : (q : ℕ) (h : Header1) (setup : SplitSetup) (s : Scene) (l : Lane) (step : Step) (u : QueueState) → IsUnderWay q h setup s l step u → step_in u ≡ Some step
 queue_next q h setup s l step u w =
     let none = no_start q h setup s l step u w in
     ap (λ (n : ℕ). next_of (running_steps n u.bell u.phase) u.phase) (batch_long q h setup s l step u w)
@@ -130,7 +130,7 @@ queue_next q h setup s l step u w =
     ∙ lane_next q h setup s l step u w
 
 -- and so is the phase after it
-queue_after : (q : ℕ) (h : Header1) (setup : QueueSetup) (s : Scene) (l : Lane) (step : Step) (u : QueueState) → IsUnderWay q h setup s l step u → after_of (steps_in u) u.phase ≡ after_step (course_of h l) l.phase
+queue_after : (q : ℕ) (h : Header1) (setup : SplitSetup) (s : Scene) (l : Lane) (step : Step) (u : QueueState) → IsUnderWay q h setup s l step u → after_of (steps_in u) u.phase ≡ after_step (course_of h l) l.phase
 queue_after q h setup s l step u w =
     let none = no_start q h setup s l step u w in
     ap (λ (n : ℕ). after_of (running_steps n u.bell u.phase) u.phase) (batch_long q h setup s l step u w)
@@ -144,7 +144,7 @@ ring_same : (s s' t t' v v' d d' a a' u u' n n' : ℕ) → s ≡ s' → d ≡ d'
     → ◌≡◌ {A = Ring} (record { desc_space = s; desc = d; avail_space = t; avail = a; used_space = v; used = u; size = n }) (record { desc_space = s'; desc = d'; avail_space = t'; avail = a'; used_space = v'; used = u'; size = n' })
 ring_same s s' t t' v v' d d' a a' u u' n n' es ed et ea ev eu en = cc
 
-ring_is : (q : ℕ) (setup : QueueSetup) (n : ℕ) → LiesAs q setup n → ring_of_split setup.ring ≡ the_ring q n
+ring_is : (q : ℕ) (setup : SplitSetup) (n : ℕ) → LiesAs q setup n → ring_of_split setup.ring ≡ the_ring q n
 ring_is q setup n main = ring_same _ _ _ _ _ _ _ _ _ _ _ _ _ _ main.desc_space main.desc main.avail_space main.avail main.used_space main.used main.size
 
 sight_same : (v v' last last' link head counter counter' : ℕ) (batch batch' : List (ℕ × ℕ)) → v ≡ v' → last ≡ last' → counter ≡ counter' → batch ≡ batch'
@@ -152,7 +152,7 @@ sight_same : (v v' last last' link head counter counter' : ℕ) (batch batch' : 
 sight_same v v' last last' link head counter counter' batch batch' ev el ec eb = cc
 
 -- what the queue sees is what the lane sees, but for the link, and where no fetch is under way the head
-seen_is : (q : ℕ) (h : Header1) (setup : QueueSetup) (s : Scene) (l : Lane) (step : Step) (u : QueueState) → IsUnderWay q h setup s l step u → seen_by u s.memory ≡ record (sight_of h q s l) { link = (seen_by u s.memory).link; head = (seen_by u s.memory).head }
+seen_is : (q : ℕ) (h : Header1) (setup : SplitSetup) (s : Scene) (l : Lane) (step : Step) (u : QueueState) → IsUnderWay q h setup s l step u → seen_by u s.memory ≡ record (sight_of h q s l) { link = (seen_by u s.memory).link; head = (seen_by u s.memory).head }
 seen_is q h setup s l step u w =
     let region : u.recovery.region ≡ region_of q h.size = w.phase.region ∙ w.main.region in
     let used : used_idx_word u.ring s.memory ≡ used_in h q s = ap (λ (r : SplitRing). used_idx_word r s.memory) w.at.ring ∙ ap (λ (n : ℕ). word 2 s.memory n (setup.ring.used.1 + 2)) w.main.used_space ∙ ap (λ (p : ℕ). word 2 s.memory 0 (p + 2)) w.main.used in
@@ -162,7 +162,7 @@ seen_is q h setup s l step u w =
 abbrev table_row : ℕ → Header1 → Scene → Lane → Step → Option Row
 table_row q h s l step = row_of (the_ring q h.size) (region_of q h.size) (sight_of h q s l) step
 
-row_there : (q : ℕ) (h : Header1) (setup : QueueSetup) (s : Scene) (l : Lane) (step : Step) (u : QueueState) → IsUnderWay q h setup s l step u
+row_there : (q : ℕ) (h : Header1) (setup : SplitSetup) (s : Scene) (l : Lane) (step : Step) (u : QueueState) → IsUnderWay q h setup s l step u
     → row_at u s.memory (Some step) ≡ row_of (the_ring q h.size) (region_of q h.size) (record (sight_of h q s l) { link = (seen_by u s.memory).link; head = (seen_by u s.memory).head }) step
 row_there q h setup s l step u w =
     ap (λ (r : SplitRing). row_of (ring_of_split r) u.recovery.region (seen_by u s.memory) step) w.at.ring
@@ -171,20 +171,20 @@ row_there q h setup s l step u w =
     ∙ ap (λ (z : Sight). row_of (the_ring q h.size) (region_of q h.size) z step) (seen_is q h setup s l step u w)
 
 -- the head that it sees in a fetch
-pub seen_head : (q : ℕ) (h : Header1) (setup : QueueSetup) (s : Scene) (l : Lane) (step : Step) (u : QueueState) → IsUnderWay q h setup s l step u → is_fetch l.phase ≡ true → (seen_by u s.memory).head ≡ next_head h q s
+pub seen_head : (q : ℕ) (h : Header1) (setup : SplitSetup) (s : Scene) (l : Lane) (step : Step) (u : QueueState) → IsUnderWay q h setup s l step u → is_fetch l.phase ≡ true → (seen_by u s.memory).head ≡ next_head h q s
 seen_head q h setup s l step u w fetching = w.seen fetching ∙ sym (w.head fetching)
 
 -- ---- what it makes
 
 -- the row of a step that stores
-record HasRow (q : ℕ) (h : Header1) (setup : QueueSetup) (s : Scene) (l : Lane) (step : Step) (u : QueueState) : Type 0 where
+record HasRow (q : ℕ) (h : Header1) (setup : SplitSetup) (s : Scene) (l : Lane) (step : Step) (u : QueueState) : Type 0 where
   pub y : Row
   pub queue : row_at u s.memory (Some step) ≡ Some y
   pub table : table_row q h s l step ≡ Some y
   pub fits : RowFits y
 
 -- a step that stores this into the region, whichever the link
-region_has : (q : ℕ) (h : Header1) (setup : QueueSetup) (s : Scene) (l : Lane) (step : Step) (u : QueueState) (x : SplitStore) → IsUnderWay q h setup s l step u
+region_has : (q : ℕ) (h : Header1) (setup : SplitSetup) (s : Scene) (l : Lane) (step : Step) (u : QueueState) (x : SplitStore) → IsUnderWay q h setup s l step u
     → row_of (the_ring q h.size) (region_of q h.size) (record (sight_of h q s l) { link = (seen_by u s.memory).link; head = (seen_by u s.memory).head }) step ≡ Some (region_row (region_of q h.size) x)
     → table_row q h s l step ≡ Some (region_row (region_of q h.size) x) → HasRow q h setup s l step u
 region_has q h setup s l step u x w there here = record { y = region_row (region_of q h.size) x; queue = row_there q h setup s l step u w ∙ there; table = here; fits = region_fits q h.size x }
@@ -193,15 +193,15 @@ region_has q h setup s l step u x w there here = record { y = region_row (region
 element_there : (q : ℕ) (h : Header1) (s : Scene) (l : Lane) (e : ℕ) → e < length (map (element_of h q s) l.batch) → slice_get (map (element_of h q s) l.batch) e ≡ Some (element_of h q s (slice_index l.batch e))
 element_there q h s l e low = get_map (element_of h q s) l.batch e (omega (arith, low, side_long q h s l))
 
-count_has : (q : ℕ) (h : Header1) (setup : QueueSetup) (s : Scene) (l : Lane) (u : QueueState) → IsUnderWay q h setup s l steps.Count u → is_fetch l.phase ≡ true → HasRow q h setup s l steps.Count u
+count_has : (q : ℕ) (h : Header1) (setup : SplitSetup) (s : Scene) (l : Lane) (u : QueueState) → IsUnderWay q h setup s l steps.Count u → is_fetch l.phase ≡ true → HasRow q h setup s l steps.Count u
 count_has q h setup s l u w fetching =
     region_has q h setup s l steps.Count u (stores.SF1 (next_head h q s) l.counter) w (ap (λ (d : ℕ). Some (region_row (region_of q h.size) (stores.SF1 d l.counter))) (seen_head q h setup s l steps.Count u w fetching)) refl
 
 -- the row that accepts a head
-accept_row : (q : ℕ) (h : Header1) (setup : QueueSetup) (s : Scene) (l : Lane) (u : QueueState) → IsUnderWay q h setup s l steps.Accept u → is_fetch l.phase ≡ true → row_at u s.memory (Some steps.Accept) ≡ Some (region_row (region_of q h.size) (stores.SF2 (next_head h q s)))
+accept_row : (q : ℕ) (h : Header1) (setup : SplitSetup) (s : Scene) (l : Lane) (u : QueueState) → IsUnderWay q h setup s l steps.Accept u → is_fetch l.phase ≡ true → row_at u s.memory (Some steps.Accept) ≡ Some (region_row (region_of q h.size) (stores.SF2 (next_head h q s)))
 accept_row q h setup s l u w fetching = row_there q h setup s l steps.Accept u w ∙ ap (λ (d : ℕ). Some (region_row (region_of q h.size) (stores.SF2 d))) (seen_head q h setup s l steps.Accept u w fetching)
 
-id_has : (q : ℕ) (h : Header1) (setup : QueueSetup) (s : Scene) (l : Lane) (e : ℕ) (u : QueueState) → IsUnderWay q h setup s l (steps.Id e) u → e < length (map (element_of h q s) l.batch) → HasRow q h setup s l (steps.Id e) u
+id_has : (q : ℕ) (h : Header1) (setup : SplitSetup) (s : Scene) (l : Lane) (e : ℕ) (u : QueueState) → IsUnderWay q h setup s l (steps.Id e) u → e < length (map (element_of h q s) l.batch) → HasRow q h setup s l (steps.Id e) u
 id_has q h setup s l e u w low =
     let r : Ring = the_ring q h.size in
     let z : ℕ × ℕ = element_of h q s (slice_index l.batch e) in
@@ -209,7 +209,7 @@ id_has q h setup s l e u w low =
     let is : table_row q h s l (steps.Id e) ≡ Some (f z) = ap (λ (o : Option (ℕ × ℕ)). option_or (option_map f o) None) (element_there q h s l e low) in
     record { y = f z; queue = row_there q h setup s l (steps.Id e) u w ∙ is; table = is; fits = ring_fits r SP1 (used_id_place r (used_in h q s + e)) 4 z.0 refl (omega arith) }
 
-len_has : (q : ℕ) (h : Header1) (setup : QueueSetup) (s : Scene) (l : Lane) (e : ℕ) (u : QueueState) → IsUnderWay q h setup s l (steps.Len e) u → e < length (map (element_of h q s) l.batch) → HasRow q h setup s l (steps.Len e) u
+len_has : (q : ℕ) (h : Header1) (setup : SplitSetup) (s : Scene) (l : Lane) (e : ℕ) (u : QueueState) → IsUnderWay q h setup s l (steps.Len e) u → e < length (map (element_of h q s) l.batch) → HasRow q h setup s l (steps.Len e) u
 len_has q h setup s l e u w low =
     let r : Ring = the_ring q h.size in
     let z : ℕ × ℕ = element_of h q s (slice_index l.batch e) in
@@ -222,28 +222,28 @@ abbrev index_row : ℕ → Header1 → Scene → Lane → Row
 index_row q h s l = row (the_ring q h.size) SP5 (used_idx_place (the_ring q h.size)) (little_bytes 2 ((used_in h q s + length (map (element_of h q s) l.batch)) % 65536))
 
 -- a link, last_batch_head and a clear name the element's head
-link_has : (q : ℕ) (h : Header1) (setup : QueueSetup) (s : Scene) (l : Lane) (e : ℕ) (u : QueueState) → IsUnderWay q h setup s l (steps.Link e) u → e < length (map (element_of h q s) l.batch) → HasRow q h setup s l (steps.Link e) u
+link_has : (q : ℕ) (h : Header1) (setup : SplitSetup) (s : Scene) (l : Lane) (e : ℕ) (u : QueueState) → IsUnderWay q h setup s l (steps.Link e) u → e < length (map (element_of h q s) l.batch) → HasRow q h setup s l (steps.Link e) u
 link_has q h setup s l e u w low =
     let g : SplitRegion = region_of q h.size in
     let z : Sight = sight_of h q s l in
     let is : region_store z (steps.Link e) ≡ Some (stores.SP3 (get_or z.batch e (0, 0)).0 z.last_batch_head) = link_store z e low in
     region_has q h setup s l (steps.Link e) u (stores.SP3 (get_or z.batch e (0, 0)).0 z.last_batch_head) w (ap (option_map (region_row g)) is) (ap (option_map (region_row g)) is)
 
-head_has : (q : ℕ) (h : Header1) (setup : QueueSetup) (s : Scene) (l : Lane) (e : ℕ) (u : QueueState) → IsUnderWay q h setup s l (steps.Head e) u → e < length (map (element_of h q s) l.batch) → HasRow q h setup s l (steps.Head e) u
+head_has : (q : ℕ) (h : Header1) (setup : SplitSetup) (s : Scene) (l : Lane) (e : ℕ) (u : QueueState) → IsUnderWay q h setup s l (steps.Head e) u → e < length (map (element_of h q s) l.batch) → HasRow q h setup s l (steps.Head e) u
 head_has q h setup s l e u w low =
     let g : SplitRegion = region_of q h.size in
     let z : Sight = sight_of h q s l in
     let is : region_store z (steps.Head e) ≡ Some (stores.SP4 (get_or z.batch e (0, 0)).0) = head_store z e low in
     region_has q h setup s l (steps.Head e) u (stores.SP4 (get_or z.batch e (0, 0)).0) w (ap (option_map (region_row g)) is) (ap (option_map (region_row g)) is)
 
-clear_has : (q : ℕ) (h : Header1) (setup : QueueSetup) (s : Scene) (l : Lane) (e : ℕ) (u : QueueState) → IsUnderWay q h setup s l (steps.Clear e) u → e < length (map (element_of h q s) l.batch) → HasRow q h setup s l (steps.Clear e) u
+clear_has : (q : ℕ) (h : Header1) (setup : SplitSetup) (s : Scene) (l : Lane) (e : ℕ) (u : QueueState) → IsUnderWay q h setup s l (steps.Clear e) u → e < length (map (element_of h q s) l.batch) → HasRow q h setup s l (steps.Clear e) u
 clear_has q h setup s l e u w low =
     let g : SplitRegion = region_of q h.size in
     let z : Sight = sight_of h q s l in
     let is : region_store z (steps.Clear e) ≡ Some (stores.SP6 (get_or z.batch e (0, 0)).0) = clear_store z e low in
     region_has q h setup s l (steps.Clear e) u (stores.SP6 (get_or z.batch e (0, 0)).0) w (ap (option_map (region_row g)) is) (ap (option_map (region_row g)) is)
 
-note_has : (q : ℕ) (h : Header1) (setup : QueueSetup) (s : Scene) (l : Lane) (u : QueueState) → IsUnderWay q h setup s l steps.Note u → HasRow q h setup s l steps.Note u
+note_has : (q : ℕ) (h : Header1) (setup : SplitSetup) (s : Scene) (l : Lane) (u : QueueState) → IsUnderWay q h setup s l steps.Note u → HasRow q h setup s l steps.Note u
 note_has q h setup s l u w = region_has q h setup s l steps.Note u (stores.SP7 (used_in h q s)) w refl refl
 
 -- ---- what it says
@@ -254,7 +254,7 @@ record IsPlain (step : Step) : Type 0 where
   pub no_bell : (q : ℕ) → bell_items q step ≡ []
   pub no_entry : (q : ℕ) (batch : List ℕ) (s : Scene) → entry_items q batch step s ≡ []
 
-plain_says : (q : ℕ) (h : Header1) (setup : QueueSetup) (m : Moment) (turn : Turn) (l : Lane) (step : Step) (u : QueueState) (x : Stepped) (row : Option Row) (head : ℕ) → (turned h q turn m).items ≡ step_items h q l step m.scene → IsPlain step → HasRow q h setup m.scene l step u
+plain_says : (q : ℕ) (h : Header1) (setup : SplitSetup) (m : Moment) (turn : Turn) (l : Lane) (step : Step) (u : QueueState) (x : Stepped) (row : Option Row) (head : ℕ) → (turned h q turn m).items ≡ step_items h q l step m.scene → IsPlain step → HasRow q h setup m.scene l step u
     → x ≡ step_said (seen_by u m.scene.memory).head (row_at u m.scene.memory (Some step)) step → row ≡ row_at u m.scene.memory (Some step) → TurnSays q h m turn x row head l.batch
 plain_says q h setup m turn l step u x row head made plain has said is = Notes has.y (record {
   is_row = is ∙ has.queue;
@@ -266,7 +266,7 @@ plain_says q h setup m turn l step u x row head made plain has said is = Notes h
       ∙ ap (λ (o : Option Row). (row_items o ++ []) ++ []) has.table;
 })
 
-accept_says : (q : ℕ) (h : Header1) (setup : QueueSetup) (m : Moment) (turn : Turn) (l : Lane) (u : QueueState) (x : Stepped) (row : Option Row) → (turned h q turn m).items ≡ step_items h q l steps.Accept m.scene → IsUnderWay q h setup m.scene l steps.Accept u → is_fetch l.phase ≡ true
+accept_says : (q : ℕ) (h : Header1) (setup : SplitSetup) (m : Moment) (turn : Turn) (l : Lane) (u : QueueState) (x : Stepped) (row : Option Row) → (turned h q turn m).items ≡ step_items h q l steps.Accept m.scene → IsUnderWay q h setup m.scene l steps.Accept u → is_fetch l.phase ≡ true
     → x ≡ says.Accepted (seen_by u m.scene.memory).head → row ≡ row_at u m.scene.memory (Some steps.Accept) → TurnSays q h m turn x row (slice_index (m.scene.heads q) (accepted m.scene.past q)) l.batch
 accept_says q h setup m turn l u x row made w fetching said is =
     Accepts (region_row (region_of q h.size) (stores.SF2 (next_head h q m.scene))) refl (record {
@@ -276,7 +276,7 @@ accept_says q h setup m turn l u x row made w fetching said is =
       made = made;
     })
 
-index_says : (q : ℕ) (h : Header1) (setup : QueueSetup) (m : Moment) (turn : Turn) (l : Lane) (u : QueueState) (x : Stepped) (row : Option Row) (head : ℕ) → (turned h q turn m).items ≡ step_items h q l steps.Index m.scene → IsUnderWay q h setup m.scene l steps.Index u
+index_says : (q : ℕ) (h : Header1) (setup : SplitSetup) (m : Moment) (turn : Turn) (l : Lane) (u : QueueState) (x : Stepped) (row : Option Row) (head : ℕ) → (turned h q turn m).items ≡ step_items h q l steps.Index m.scene → IsUnderWay q h setup m.scene l steps.Index u
     → x ≡ says.Published → row ≡ row_at u m.scene.memory (Some steps.Index) → TurnSays q h m turn x row head l.batch
 index_says q h setup m turn l u x row head made w said is =
     Publishes (index_row q h m.scene l) (record { tag = refl; area = refl; low = omega (arith, length_little 2 ((used_in h q m.scene + length (map (element_of h q m.scene) l.batch)) % 65536)) }) (record {
@@ -286,7 +286,7 @@ index_says q h setup m turn l u x row head made w said is =
       made = made;
     })
 
-bell_says : (q : ℕ) (h : Header1) (setup : QueueSetup) (m : Moment) (turn : Turn) (l : Lane) (u : QueueState) (x : Stepped) (row : Option Row) (head : ℕ) → (turned h q turn m).items ≡ step_items h q l steps.Bell m.scene → IsUnderWay q h setup m.scene l steps.Bell u
+bell_says : (q : ℕ) (h : Header1) (setup : SplitSetup) (m : Moment) (turn : Turn) (l : Lane) (u : QueueState) (x : Stepped) (row : Option Row) (head : ℕ) → (turned h q turn m).items ≡ step_items h q l steps.Bell m.scene → IsUnderWay q h setup m.scene l steps.Bell u
     → x ≡ says.Belled → row ≡ row_at u m.scene.memory (Some steps.Bell) → TurnSays q h m turn x row head l.batch
 bell_says q h setup m turn l u x row head made w said is = Rings (record { is_row = is ∙ row_there q h setup m.scene l steps.Bell u w; said = said; made = made })
 
@@ -300,7 +300,7 @@ turn_with q h m turn l step made p is items after =
     ∙ ap (λ (z : Phase). record { items = made; lane = with_phase z (counted (next_counter_in h q m.scene) step l) }) after
 
 -- a queue that changes in its phase alone, where the items leave the history
-on_stands : (q : ℕ) (h : Header1) (setup : QueueSetup) (m : Moment) (turn : Turn) (l : Lane) (step : Step) (u u' : QueueState) (y : Item) (p : Phase) (counter : ℕ) (kept : Option ℕ) (b : List (ℕ × ℕ)) (batch : List ℕ) → IsUnderWay q h setup m.scene l step u
+on_stands : (q : ℕ) (h : Header1) (setup : SplitSetup) (m : Moment) (turn : Turn) (l : Lane) (step : Step) (u u' : QueueState) (y : Item) (p : Phase) (counter : ℕ) (kept : Option ℕ) (b : List (ℕ × ℕ)) (batch : List ℕ) → IsUnderWay q h setup m.scene l step u
     → turned h q turn m ≡ record { items = y ∷ []; lane = record l { phase = p; counter = counter; batch = batch } } → (after_items h (y ∷ []) m.scene).past ≡ m.scene.past → (after_items h (y ∷ []) m.scene).heads ≡ m.scene.heads → u' ≡ record u { phase = p; counter = counter; fetching = kept; batch = b }
     → p ≡ kept_phase p → hidden_part p b ≡ hidden_in u → hidden_part p batch ≡ hidden_part l.phase l.batch → kept ≡ kept_head p (slice_index (m.scene.heads q) (accepted m.scene.past q)) → b ≡ map (spot_of q h m.scene.past (m.scene.heads q)) batch
     → QueueStands q h setup (one_turn h q turn m).next u'
@@ -335,12 +335,12 @@ shows : {A : Type 0} (batch : List A) (done : ℕ) → 4 * length batch < done �
 shows batch done past = let test : nat_lt (4 * length batch) done ≡ true = grind (arith, nat_tests) in ap (λ (b : Bool). cond b [] batch) test
 
 -- what a step leaves, with what it says
-pub record StepStands (q : ℕ) (h : Header1) (setup : QueueSetup) (m : Moment) (turn : Turn) (x : Stepped) (row : Option Row) (batch : List ℕ) (u' : QueueState) : Type 0 where
+pub record StepStands (q : ℕ) (h : Header1) (setup : SplitSetup) (m : Moment) (turn : Turn) (x : Stepped) (row : Option Row) (batch : List ℕ) (u' : QueueState) : Type 0 where
   pub says : TurnSays q h m turn x row (slice_index (m.scene.heads q) (accepted m.scene.past q)) batch
   pub stands : QueueStands q h setup (one_turn h q turn m).next u'
 
 -- a turn that goes on with a phase of a lane, where the queue does this
-pub record IsTurn (q : ℕ) (h : Header1) (setup : QueueSetup) (m : Moment) (turn : Turn) (l : Lane) (step : Step) (u u' : QueueState) (x : Stepped) (row : Option Row) : Type 0 where
+pub record IsTurn (q : ℕ) (h : Header1) (setup : SplitSetup) (m : Moment) (turn : Turn) (l : Lane) (step : Step) (u u' : QueueState) (x : Stepped) (row : Option Row) : Type 0 where
   pub way : IsUnderWay q h setup m.scene l step u
   pub is : turned h q turn m ≡ phase_turn h q m.scene l (Some step)
   pub said : x ≡ step_said (seen_by u m.scene.memory).head (row_at u m.scene.memory (Some step)) step
@@ -352,18 +352,18 @@ made_of : (q : ℕ) (h : Header1) (m : Moment) (turn : Turn) (l : Lane) (step : 
 made_of q h m turn l step is = ap (λ (t : Turned). t.items) is
 
 -- its only item is that of its row
-one_item : (q : ℕ) (h : Header1) (setup : QueueSetup) (m : Moment) (l : Lane) (step : Step) (u : QueueState) → IsPlain step → (has : HasRow q h setup m.scene l step u) → step_items h q l step m.scene ≡ row_item has.y ∷ []
+one_item : (q : ℕ) (h : Header1) (setup : SplitSetup) (m : Moment) (l : Lane) (step : Step) (u : QueueState) → IsPlain step → (has : HasRow q h setup m.scene l step u) → step_items h q l step m.scene ≡ row_item has.y ∷ []
 one_item q h setup m l step u plain has =
     ap (λ (more : List Item). (row_items (table_row q h m.scene l step) ++ bell_items q step) ++ more) (plain.no_entry q l.batch (after_items h (row_items (table_row q h m.scene l step) ++ bell_items q step) m.scene))
     ∙ ap (λ (bell : List Item). (row_items (table_row q h m.scene l step) ++ bell) ++ []) (plain.no_bell q)
     ∙ ap (λ (o : Option Row). (row_items o ++ []) ++ []) has.table
 
 -- where the lane's phase is this one, so is the queue's
-phase_of : (q : ℕ) (h : Header1) (setup : QueueSetup) (s : Scene) (l : Lane) (step : Step) (u : QueueState) (p : Phase) → IsUnderWay q h setup s l step u → l.phase ≡ p → p ≡ kept_phase p → u.phase ≡ p
+phase_of : (q : ℕ) (h : Header1) (setup : SplitSetup) (s : Scene) (l : Lane) (step : Step) (u : QueueState) (p : Phase) → IsUnderWay q h setup s l step u → l.phase ≡ p → p ≡ kept_phase p → u.phase ≡ p
 phase_of q h setup s l step u p w at kept = w.at.phase ∙ ap kept_phase at ∙ sym kept
 
 -- the queue's phase after it
-after_is : (q : ℕ) (h : Header1) (setup : QueueSetup) (s : Scene) (l : Lane) (step : Step) (u u' : QueueState) (head : ℕ) (p : Phase) → IsUnderWay q h setup s l step u → u' ≡ moved head step u → after_step (course_of h l) l.phase ≡ p → u' ≡ states.with_phase p (changed head step u)
+after_is : (q : ℕ) (h : Header1) (setup : SplitSetup) (s : Scene) (l : Lane) (step : Step) (u u' : QueueState) (head : ℕ) (p : Phase) → IsUnderWay q h setup s l step u → u' ≡ moved head step u → after_step (course_of h l) l.phase ≡ p → u' ≡ states.with_phase p (changed head step u)
 after_is q h setup s l step u u' head p w leaves after = leaves ∙ ap (λ (z : Phase). states.with_phase z (changed head step u)) (queue_after q h setup s l step u w ∙ after)
 
 -- ---- a step of a publication that isn't its index
@@ -374,7 +374,7 @@ record IsStill (step : Step) : Type 0 where
   pub queue : (head : ℕ) (u : QueueState) → changed head step u ≡ u
 
 -- which goes on
-publish_goes : (q : ℕ) (h : Header1) (setup : QueueSetup) (m : Moment) (turn : Turn) (l : Lane) (step : Step) (u u' : QueueState) (x : Stepped) (row : Option Row) (done : ℕ) (y : Item) → IsTurn q h setup m turn l step u u' x row → IsStill step → l.phase ≡ phases.Publish done
+publish_goes : (q : ℕ) (h : Header1) (setup : SplitSetup) (m : Moment) (turn : Turn) (l : Lane) (step : Step) (u u' : QueueState) (x : Stepped) (row : Option Row) (done : ℕ) (y : Item) → IsTurn q h setup m turn l step u u' x row → IsStill step → l.phase ≡ phases.Publish done
     → is_last step (side_of q h m.scene l.bell l.plan l.counter l.batch l.phase) ≡ false → (done < 4 * length l.batch) ⊎ (4 * length l.batch < done) → (turned h q turn m).items ≡ y ∷ [] → (after_items h (y ∷ []) m.scene).past ≡ m.scene.past → (after_items h (y ∷ []) m.scene).heads ≡ m.scene.heads
     → QueueStands q h setup (one_turn h q turn m).next u'
 publish_goes q h setup m turn l step u u' x row done y t still at last side items past heads =
@@ -395,7 +395,7 @@ publish_goes q h setup m turn l step u u' x row done y t still at last side item
     same_part batch (inr behind) long = shows batch (done + 1) (omega (arith, behind, long)) ∙ sym (shows batch done (omega (arith, behind, long)))
 
 -- and which ends
-publish_ends : (q : ℕ) (h : Header1) (setup : QueueSetup) (m : Moment) (turn : Turn) (l : Lane) (step : Step) (u u' : QueueState) (x : Stepped) (row : Option Row) (done : ℕ) (y : Item) → IsTurn q h setup m turn l step u u' x row → IsStill step → l.phase ≡ phases.Publish done
+publish_ends : (q : ℕ) (h : Header1) (setup : SplitSetup) (m : Moment) (turn : Turn) (l : Lane) (step : Step) (u u' : QueueState) (x : Stepped) (row : Option Row) (done : ℕ) (y : Item) → IsTurn q h setup m turn l step u u' x row → IsStill step → l.phase ≡ phases.Publish done
     → is_last step (side_of q h m.scene l.bell l.plan l.counter l.batch l.phase) ≡ true → 4 * length l.batch < done → (turned h q turn m).items ≡ y ∷ [] → (after_items h (y ∷ []) m.scene).past ≡ m.scene.past → (after_items h (y ∷ []) m.scene).heads ≡ m.scene.heads
     → QueueStands q h setup (one_turn h q turn m).next u'
 publish_ends q h setup m turn l step u u' x row done y t still at last behind items past heads =
@@ -418,7 +418,7 @@ fetching_now l done at = ap is_fetch at
 count_plain : IsPlain steps.Count
 count_plain = record { says_row = λ head o. refl; no_bell = λ q. refl; no_entry = λ q batch s. refl }
 
-count_stands : (q : ℕ) (h : Header1) (setup : QueueSetup) (m : Moment) (turn : Turn) (l : Lane) (u u' : QueueState) (x : Stepped) (row : Option Row) → IsTurn q h setup m turn l steps.Count u u' x row → l.phase ≡ phases.Fetch 0 → StepStands q h setup m turn x row l.batch u'
+count_stands : (q : ℕ) (h : Header1) (setup : SplitSetup) (m : Moment) (turn : Turn) (l : Lane) (u u' : QueueState) (x : Stepped) (row : Option Row) → IsTurn q h setup m turn l steps.Count u u' x row → l.phase ≡ phases.Fetch 0 → StepStands q h setup m turn x row l.batch u'
 count_stands q h setup m turn l u u' x row t at =
     let w = t.way in
     let fetching : is_fetch l.phase ≡ true = fetching_now l 0 at in
@@ -434,7 +434,7 @@ count_stands q h setup m turn l u u' x row t at =
           refl (sym (ap (λ (p : Phase). hidden_part p u.batch) here)) (sym (ap (λ (p : Phase). hidden_part p l.batch) at)) (ap (λ (d : ℕ). Some d) (w.seen fetching)) w.phase.batch;
     }
 
-accept_stands : (q : ℕ) (h : Header1) (setup : QueueSetup) (m : Moment) (turn : Turn) (l : Lane) (u u' : QueueState) (x : Stepped) (row : Option Row) → IsTurn q h setup m turn l steps.Accept u u' x row → l.phase ≡ phases.Fetch 1 → StepStands q h setup m turn x row l.batch u'
+accept_stands : (q : ℕ) (h : Header1) (setup : SplitSetup) (m : Moment) (turn : Turn) (l : Lane) (u u' : QueueState) (x : Stepped) (row : Option Row) → IsTurn q h setup m turn l steps.Accept u u' x row → l.phase ≡ phases.Fetch 1 → StepStands q h setup m turn x row l.batch u'
 accept_stands q h setup m turn l u u' x row t at =
     let w = t.way in
     let past : List Entry = m.scene.past in
@@ -469,7 +469,7 @@ accept_stands q h setup m turn l u u' x row t at =
 
 -- ---- the index
 
-index_stands : (q : ℕ) (h : Header1) (setup : QueueSetup) (m : Moment) (turn : Turn) (l : Lane) (u u' : QueueState) (x : Stepped) (row : Option Row) → IsTurn q h setup m turn l steps.Index u u' x row → l.phase ≡ phases.Publish (4 * length l.batch) → StepStands q h setup m turn x row l.batch u'
+index_stands : (q : ℕ) (h : Header1) (setup : SplitSetup) (m : Moment) (turn : Turn) (l : Lane) (u u' : QueueState) (x : Stepped) (row : Option Row) → IsTurn q h setup m turn l steps.Index u u' x row → l.phase ≡ phases.Publish (4 * length l.batch) → StepStands q h setup m turn x row l.batch u'
 index_stands q h setup m turn l u u' x row t at =
     let w = t.way in
     let past : List Entry = m.scene.past in
@@ -509,7 +509,7 @@ index_stands q h setup m turn l u u' x row t at =
 -- ---- the other steps of a publication
 
 -- a step that goes on, with its store
-goes_stands : (q : ℕ) (h : Header1) (setup : QueueSetup) (m : Moment) (turn : Turn) (l : Lane) (step : Step) (u u' : QueueState) (x : Stepped) (row : Option Row) (done : ℕ) → IsTurn q h setup m turn l step u u' x row → IsPlain step → IsStill step → HasRow q h setup m.scene l step u
+goes_stands : (q : ℕ) (h : Header1) (setup : SplitSetup) (m : Moment) (turn : Turn) (l : Lane) (step : Step) (u u' : QueueState) (x : Stepped) (row : Option Row) (done : ℕ) → IsTurn q h setup m turn l step u u' x row → IsPlain step → IsStill step → HasRow q h setup m.scene l step u
     → l.phase ≡ phases.Publish done → is_last step (side_of q h m.scene l.bell l.plan l.counter l.batch l.phase) ≡ false → (done < 4 * length l.batch) ⊎ (4 * length l.batch < done) → StepStands q h setup m turn x row l.batch u'
 goes_stands q h setup m turn l step u u' x row done t plain still has at last side =
     let items : (turned h q turn m).items ≡ row_item has.y ∷ [] = made_of q h m turn l step t.is ∙ one_item q h setup m l step u plain has in record {
@@ -518,7 +518,7 @@ goes_stands q h setup m turn l step u u' x row done t plain still has at last si
     }
 
 -- a step that ends it, with its store
-ends_stands : (q : ℕ) (h : Header1) (setup : QueueSetup) (m : Moment) (turn : Turn) (l : Lane) (step : Step) (u u' : QueueState) (x : Stepped) (row : Option Row) (done : ℕ) → IsTurn q h setup m turn l step u u' x row → IsPlain step → IsStill step → HasRow q h setup m.scene l step u
+ends_stands : (q : ℕ) (h : Header1) (setup : SplitSetup) (m : Moment) (turn : Turn) (l : Lane) (step : Step) (u u' : QueueState) (x : Stepped) (row : Option Row) (done : ℕ) → IsTurn q h setup m turn l step u u' x row → IsPlain step → IsStill step → HasRow q h setup m.scene l step u
     → l.phase ≡ phases.Publish done → is_last step (side_of q h m.scene l.bell l.plan l.counter l.batch l.phase) ≡ true → 4 * length l.batch < done → StepStands q h setup m turn x row l.batch u'
 ends_stands q h setup m turn l step u u' x row done t plain still has at last behind =
     let items : (turned h q turn m).items ≡ row_item has.y ∷ [] = made_of q h m turn l step t.is ∙ one_item q h setup m l step u plain has in record {
@@ -527,7 +527,7 @@ ends_stands q h setup m turn l step u u' x row done t plain still has at last be
     }
 
 -- the step that is next, whichever it is
-pub step_stands : (q : ℕ) (h : Header1) (setup : QueueSetup) (m : Moment) (turn : Turn) (l : Lane) (step : Step) (u u' : QueueState) (x : Stepped) (row : Option Row) → IsTurn q h setup m turn l step u u' x row → StepStands q h setup m turn x row l.batch u'
+pub step_stands : (q : ℕ) (h : Header1) (setup : SplitSetup) (m : Moment) (turn : Turn) (l : Lane) (step : Step) (u u' : QueueState) (x : Stepped) (row : Option Row) → IsTurn q h setup m turn l step u u' x row → StepStands q h setup m turn x row l.batch u'
 step_stands q h setup m turn l step u u' x row t = go step (place q h setup m.scene l step u t.way) t
   where
     side : Side

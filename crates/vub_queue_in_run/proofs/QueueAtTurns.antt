@@ -21,7 +21,7 @@ use Rattle.vub_device.specs.Past.{accepted, published, collected, is_among, open
 use Rattle.vub_queue.specs.declared.queue.Stepped.{Stepped}
 use Rattle.vub_queue.specs.declared.queue.Stepped.TheVariants as says
 use Rattle.vub_split.specs.declared.split.SplitRing.{SplitRing}
-use Rattle.vub_queue.specs.declared.queue.QueueSetup.{QueueSetup}
+use Rattle.vub_setup.specs.Setups.{SplitSetup}
 use Rattle.vub_run.specs.Memory.{Scene, after_items}
 use Rattle.vub_run.specs.Moments.{Lane, Moment, region_in, standing, avail_position, unfinished, used_in}
 use Rattle.vub_run.specs.Run.{one_turn}
@@ -87,11 +87,11 @@ standing_same : (a a' : Bool) (p p' : Phase) (w w' : ℕ) (t t' : Bool) (u u' c 
     → ◌≡◌ {A = Standing} (record { started = a; phase = p; waiting = w; counts = t; unfinished = u; completed = c }) (record { started = a'; phase = p'; waiting = w'; counts = t'; unfinished = u'; completed = c' })
 standing_same a a' p p' w w' t t' u u' c c' ea ep ew et eu ec = cc
 
-avail_word : (q : ℕ) (setup : QueueSetup) (n : ℕ) (m : Bytes) → LiesAs q setup n → avail_idx_word setup.ring m ≡ avail_idx (the_ring q n) m
+avail_word : (q : ℕ) (setup : SplitSetup) (n : ℕ) (m : Bytes) → LiesAs q setup n → avail_idx_word setup.ring m ≡ avail_idx (the_ring q n) m
 avail_word q setup n m main = ap (λ (s : ℕ). word 2 m s (setup.ring.avail.1 + 2)) main.avail_space ∙ ap (λ (p : ℕ). word 2 m 0 (p + 2)) main.avail
 
 -- the queue's avail position is the base, advanced by what was accepted
-stands_avail : (q : ℕ) (h : Header1) (setup : QueueSetup) (m : Moment) (state : QueueState) → started m.scene.past q ≡ true → Holds q h m.scene (m.lanes q) → QueueStands q h setup m state → state.next_avail ≡ (h.base + accepted m.scene.past q) % 65536
+stands_avail : (q : ℕ) (h : Header1) (setup : SplitSetup) (m : Moment) (state : QueueState) → started m.scene.past q ≡ true → Holds q h m.scene (m.lanes q) → QueueStands q h setup m state → state.next_avail ≡ (h.base + accepted m.scene.past q) % 65536
 stands_avail q h setup m state run holds z = avail_is q h setup m.scene.past (m.scene.heads q) (m.lanes q).phase (hidden_part (m.lanes q).phase (m.lanes q).batch) (m.lanes q).completed (m.lanes q).made state run holds.known z.at
 
 -- and so is the moment's
@@ -102,7 +102,7 @@ position_is q h m holds =
     omega (arith, all, used)
 
 -- its own count of what waits is the moment's
-pub waiting_is : (q : ℕ) (h : Header1) (setup : QueueSetup) (m : Moment) (state : QueueState) → started m.scene.past q ≡ true → LiesAs q setup h.size → Holds q h m.scene (m.lanes q) → QueueStands q h setup m state
+pub waiting_is : (q : ℕ) (h : Header1) (setup : SplitSetup) (m : Moment) (state : QueueState) → started m.scene.past q ≡ true → LiesAs q setup h.size → Holds q h m.scene (m.lanes q) → QueueStands q h setup m state
     → states.waiting state m.scene.memory ≡ ahead (avail_idx (the_ring q h.size) m.scene.memory) (avail_position h q m.scene)
 waiting_is q h setup m state run main holds z =
     let word_is : avail_idx_word state.ring m.scene.memory ≡ avail_idx (the_ring q h.size) m.scene.memory = ap (λ (x : SplitRing). avail_idx_word x m.scene.memory) z.at.ring ∙ avail_word q setup h.size m.scene.memory main in
@@ -115,7 +115,7 @@ waiting_is q h setup m state run main holds z =
 abbrev kept_standing : Header1 → ℕ → Moment → Standing
 kept_standing h q m = record (standing h q m) { phase = kept_phase (standing h q m).phase }
 
-pub standings : (q : ℕ) (h : Header1) (setup : QueueSetup) (m : Moment) (state : QueueState) → started m.scene.past q ≡ true → LiesAs q setup h.size → Holds q h m.scene (m.lanes q) → QueueStands q h setup m state
+pub standings : (q : ℕ) (h : Header1) (setup : SplitSetup) (m : Moment) (state : QueueState) → started m.scene.past q ≡ true → LiesAs q setup h.size → Holds q h m.scene (m.lanes q) → QueueStands q h setup m state
     → standing_at state (states.waiting state m.scene.memory) ≡ kept_standing h q m
 standings q h setup m state run main holds z =
     let l : Lane = m.lanes q in
@@ -150,7 +150,7 @@ ready_stopped s (turns.Work place) stopped = grind (arith, nat_tests)
 ready_stopped s (turns.Publish most) stopped = grind (arith, nat_tests)
 
 -- so the queue and the moment agree on it
-pub ready_same : (q : ℕ) (h : Header1) (setup : QueueSetup) (m : Moment) (state : QueueState) (t : Turn) → LiesAs q setup h.size → Holds q h m.scene (m.lanes q) → QueueStands q h setup m state → is_ready (standing_at state (states.waiting state m.scene.memory)) t ≡ is_ready (standing h q m) t
+pub ready_same : (q : ℕ) (h : Header1) (setup : SplitSetup) (m : Moment) (state : QueueState) (t : Turn) → LiesAs q setup h.size → Holds q h m.scene (m.lanes q) → QueueStands q h setup m state → is_ready (standing_at state (states.waiting state m.scene.memory)) t ≡ is_ready (standing h q m) t
 ready_same q h setup m state t main holds z = elim (cases_Bool (started m.scene.past q)) [
   | inl run ↦ ap (λ (s : Standing). is_ready s t) (standings q h setup m state run main holds z) ∙ ready_kept (standing h q m) t
   | inr stopped ↦ ready_stopped (standing_at state (states.waiting state m.scene.memory)) t (z.at.started ∙ stopped) ∙ sym (ready_stopped (standing h q m) t stopped)
@@ -187,7 +187,7 @@ chosen_stopped size (Drain accepted) s stopped =
     let any : any_turn size s ≡ turns.Start = grind (arith, nat_tests) in
     ap (λ (t : Turn). cond (nat_lt accepted size) t (draining_turn size s)) any ∙ ap (λ (t : Turn). cond (nat_lt accepted size) turns.Start t) (draining_stopped size s stopped)
 
-pub chosen_same : (q : ℕ) (h : Header1) (setup : QueueSetup) (m : Moment) (state : QueueState) (size : ℕ) (choice : Choice) → LiesAs q setup h.size → Holds q h m.scene (m.lanes q) → QueueStands q h setup m state
+pub chosen_same : (q : ℕ) (h : Header1) (setup : SplitSetup) (m : Moment) (state : QueueState) (size : ℕ) (choice : Choice) → LiesAs q setup h.size → Holds q h m.scene (m.lanes q) → QueueStands q h setup m state
     → chosen size choice (standing_at state (states.waiting state m.scene.memory)) ≡ chosen size choice (standing h q m)
 chosen_same q h setup m state size choice main holds z = elim (cases_Bool (started m.scene.past q)) [
   | inl run ↦ ap (chosen size choice) (standings q h setup m state run main holds z) ∙ chosen_kept size choice (standing h q m)
@@ -202,13 +202,13 @@ does_of t told x state state' made fine = subst (λ (b : Bool). Unless b (DoesOf
 -- ---- where the queue stands after a turn
 
 -- after these items
-abbrev pub StandsAfter : ℕ → Header1 → QueueSetup → Scene → Turned → QueueState → Type 0
+abbrev pub StandsAfter : ℕ → Header1 → SplitSetup → Scene → Turned → QueueState → Type 0
 StandsAfter q h setup s t state = QueueAt q h setup (after_items h t.items s).past ((after_items h t.items s).heads q) t.lane.phase (hidden_part t.lane.phase t.lane.batch) t.lane.completed t.lane.made state
 
-abbrev pub PhaseAfter : ℕ → Header1 → QueueSetup → Scene → Turned → QueueState → Type 0
+abbrev pub PhaseAfter : ℕ → Header1 → SplitSetup → Scene → Turned → QueueState → Type 0
 PhaseAfter q h setup s t state = PhaseAt q h setup (after_items h t.items s).past ((after_items h t.items s).heads q) t.lane.bell t.lane.plan t.lane.counter t.lane.batch t.lane.phase (region_in h q (after_items h t.items s)) state
 
-pub stands_next : (q : ℕ) (h : Header1) (setup : QueueSetup) (m : Moment) (turn : Turn) (t : Turned) (state : QueueState) → turned h q turn m ≡ t → StandsAfter q h setup m.scene t state → PhaseAfter q h setup m.scene t state → QueueStands q h setup (one_turn h q turn m).next state
+pub stands_next : (q : ℕ) (h : Header1) (setup : SplitSetup) (m : Moment) (turn : Turn) (t : Turned) (state : QueueState) → turned h q turn m ≡ t → StandsAfter q h setup m.scene t state → PhaseAfter q h setup m.scene t state → QueueStands q h setup (one_turn h q turn m).next state
 stands_next q h setup m turn t state is z y =
     let z' : StandsAfter q h setup m.scene (turned h q turn m) state = subst (λ (t' : Turned). StandsAfter q h setup m.scene t' state) (sym is) z in
     let y' : PhaseAfter q h setup m.scene (turned h q turn m) state = subst (λ (t' : Turned). PhaseAfter q h setup m.scene t' state) (sym is) y in
@@ -220,7 +220,7 @@ stands_next q h setup m turn t state is z y =
 -- ---- a fetch
 
 -- the head that waits is that of the next request
-pub head_is : (q : ℕ) (h : Header1) (setup : QueueSetup) (m : Moment) (state : QueueState) → started m.scene.past q ≡ true → LiesAs q setup h.size → QueueStands q h setup m state → Holds q h m.scene (m.lanes q) → accepted m.scene.past q < length (m.scene.heads q)
+pub head_is : (q : ℕ) (h : Header1) (setup : SplitSetup) (m : Moment) (state : QueueState) → started m.scene.past q ≡ true → LiesAs q setup h.size → QueueStands q h setup m state → Holds q h m.scene (m.lanes q) → accepted m.scene.past q < length (m.scene.heads q)
     → head_word state.ring m.scene.memory state.next_avail ≡ slice_index (m.scene.heads q) (accepted m.scene.past q)
 head_is q h setup m state run main z holds more =
     let mem : Bytes = m.scene.memory in
@@ -241,7 +241,7 @@ next_out q h s l holds more = record {
 }
 
 -- so the avail ring breaks no rule
-pub keeps_rules : (q : ℕ) (h : Header1) (setup : QueueSetup) (m : Moment) (state : QueueState) (fault : RingFault) → started m.scene.past q ≡ true → IsPlain h → Good q h m → LiesAs q setup h.size → QueueStands q h setup m state → Breaks state m.scene.memory fault → ⊥
+pub keeps_rules : (q : ℕ) (h : Header1) (setup : SplitSetup) (m : Moment) (state : QueueState) (fault : RingFault) → started m.scene.past q ≡ true → IsPlain h → Good q h m → LiesAs q setup h.size → QueueStands q h setup m state → Breaks state m.scene.memory fault → ⊥
 keeps_rules q h setup m state fault run plain good main z breaks = go fault breaks.1
   where
     a : ℕ
@@ -318,7 +318,7 @@ idle_does turns.Fetch state u x m is unready f does = idle_fetch state u x m unr
 idle_does (turns.Work place) state u x m is unready f does = absurd is
 idle_does (turns.Publish most) state u x m is unready f does = idle_publish state u x most m unready does
 
-pub idle_stands : (q : ℕ) (h : Header1) (setup : QueueSetup) (m : Moment) (t : Turn) (x : Stepped) (state state' : QueueState) → LiesAs q setup h.size → Holds q h m.scene (m.lanes q) → QueueStands q h setup m state → IsPhaseTurn t
+pub idle_stands : (q : ℕ) (h : Header1) (setup : SplitSetup) (m : Moment) (t : Turn) (x : Stepped) (state state' : QueueState) → LiesAs q setup h.size → Holds q h m.scene (m.lanes q) → QueueStands q h setup m state → IsPhaseTurn t
     → is_ready (standing h q m) t ≡ false → is_fault x ≡ false → Turns t (Some m.scene.memory) x state state' → (x ≡ says.Idle) × (state' ≡ state)
 idle_stands q h setup m t x state state' main holds z is unready fine made =
     let idle = idle_does t state made.0 x m.scene.memory is (ready_same q h setup m state t main holds z ∙ unready) fine (does_of t (Some m.scene.memory) x state state' made fine) in

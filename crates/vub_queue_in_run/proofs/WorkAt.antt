@@ -13,7 +13,7 @@ use Rattle.vub_device.specs.declared.entry.Asked.TheVariants as asks
 use Rattle.vub_device.specs.Past.{asked, accepted, published, is_among, open_numbers, IsOpen, started}
 use Rattle.vub_device.specs.Requests.{refusal}
 use Rattle.vub_split.specs.declared.split.SplitRing.{SplitRing}
-use Rattle.vub_queue.specs.declared.queue.QueueSetup.{QueueSetup}
+use Rattle.vub_setup.specs.Setups.{SplitSetup}
 use Rattle.vub_task.specs.declared.task.Task.{Task}
 use Rattle.vub_direct_chain.specs.ChainState.{IsRingOf, Meant}
 use Rattle.vub_driver.specs.GuestChain.{Links}
@@ -193,7 +193,7 @@ pub record WorkReady (q : ℕ) (h : Header1) (sizes : ℕ → ℕ) (m : Moment) 
 abbrev pub making : {q : ℕ} {h : Header1} {sizes : ℕ → ℕ} {m : Moment} {state : QueueState} {place : ℕ} → WorkReady q h sizes m state place → Making
 making {q} {h} {sizes} {m} w = making_of q h m w.k w.links w.request w.step
 
-ring_is : (q : ℕ) (sizes : ℕ → ℕ) (setup : QueueSetup) (n : ℕ) → LiesAs q setup n → area_place q + 1048576 ≤ sizes 0 → IsRingOf q sizes setup.ring n
+ring_is : (q : ℕ) (sizes : ℕ → ℕ) (setup : SplitSetup) (n : ℕ) → LiesAs q setup n → area_place q + 1048576 ≤ sizes 0 → IsRingOf q sizes setup.ring n
 ring_is q sizes setup n main room = record { space = main.desc_space; table = main.desc; size = main.size; room = room }
 
 -- a number among the unfinished ones is open, and of no completed request
@@ -215,7 +215,7 @@ unfinished_pending q h m k request good is_open out is =
     let l : Lane = m.lanes q in
     subst (λ (o : Option Asked). IsPending (l.made k) o) is (good.holds.worked.pending k is_open (left_hidden l.completed l.batch l.phase k out))
 
-due_at : (q : ℕ) (h : Header1) (m : Moment) (setup : QueueSetup) (sizes : ℕ → ℕ) (state : QueueState) (place k : ℕ) (task : Task) → IsPlain h → Good q h m → ChainedAt q h m → LiesAs q setup h.size → area_place q + 1048576 ≤ sizes 0 → QueueStands q h setup m state → started m.scene.past q ≡ true
+due_at : (q : ℕ) (h : Header1) (m : Moment) (setup : SplitSetup) (sizes : ℕ → ℕ) (state : QueueState) (place k : ℕ) (task : Task) → IsPlain h → Good q h m → ChainedAt q h m → LiesAs q setup h.size → area_place q + 1048576 ≤ sizes 0 → QueueStands q h setup m state → started m.scene.past q ≡ true
     → slice_get (unfinished q m) place ≡ Some k → slice_get state.unfinished place ≡ Some task → WorkReady q h sizes m state place
 due_at q h m setup sizes state place k task plain good chained main room a run is at =
     let l : Lane = m.lanes q in
@@ -256,7 +256,7 @@ due_at q h m setup sizes state place k task plain good chained main room a run i
     }
 
 -- where work is ready, a step is due
-pub work_ready : (q : ℕ) (h : Header1) (m : Moment) (setup : QueueSetup) (sizes : ℕ → ℕ) (state : QueueState) (place : ℕ) → IsPlain h → Good q h m → ChainedAt q h m → LiesAs q setup h.size → area_place q + 1048576 ≤ sizes 0 → QueueStands q h setup m state → is_ready (standing h q m) (turns.Work place) ≡ true
+pub work_ready : (q : ℕ) (h : Header1) (m : Moment) (setup : SplitSetup) (sizes : ℕ → ℕ) (state : QueueState) (place : ℕ) → IsPlain h → Good q h m → ChainedAt q h m → LiesAs q setup h.size → area_place q + 1048576 ≤ sizes 0 → QueueStands q h setup m state → is_ready (standing h q m) (turns.Work place) ≡ true
     → WorkReady q h sizes m state place
 work_ready q h m setup sizes state place plain good chained main room a ready =
     let run : started m.scene.past q ≡ true = grind (arith, nat_tests) in

@@ -30,7 +30,7 @@ use Rattle.vub_queue.specs.declared.queue.Stepped.TheVariants as says
 use Rattle.vub_report.specs.declared.items.Item.{Item}
 use Rattle.vub_report.specs.declared.items.Item.TheVariants as items
 use Rattle.vub_split.specs.declared.split.SplitRing.{SplitRing}
-use Rattle.vub_queue.specs.declared.queue.QueueSetup.{QueueSetup}
+use Rattle.vub_setup.specs.Setups.{SplitSetup}
 use Rattle.vub_task.specs.declared.task.Task.{Task}
 use Rattle.vub_driver.specs.GuestChain.{Links}
 use Rattle.vub_run.specs.Memory.{Scene, after_item, after_items}
@@ -131,16 +131,16 @@ show_status q h m state v k task links request space =
       },
     )
 
-ring_space : (q : ℕ) (h : Header1) (m : Moment) (setup : QueueSetup) (state : QueueState) → LiesAs q setup h.size → QueueStands q h setup m state → state.ring.desc.0.number ≡ 0
+ring_space : (q : ℕ) (h : Header1) (m : Moment) (setup : SplitSetup) (state : QueueState) → LiesAs q setup h.size → QueueStands q h setup m state → state.ring.desc.0.number ≡ 0
 ring_space q h m setup state main a = ap (λ (x : SplitRing). x.desc.0.number) a.at.ring ∙ main.desc_space
 
 -- before its store, what was read stands in the queue
-held_sector : (q : ℕ) (h : Header1) (sizes : ℕ → ℕ) (m : Moment) (setup : QueueSetup) (state : QueueState) (place p : ℕ) (w : WorkReady q h sizes m state place) → Good q h m → QueueStands q h setup m state → w.step ≡ Put p
+held_sector : (q : ℕ) (h : Header1) (sizes : ℕ → ℕ) (m : Moment) (setup : SplitSetup) (state : QueueState) (place p : ℕ) (w : WorkReady q h sizes m state place) → Good q h m → QueueStands q h setup m state → w.step ≡ Put p
     → sector_at state (head_in w.task) ≡ slice_range (bytes_read m.scene.past q w.k) (512 * p) (512 * p + 512)
 held_sector q h sizes m setup state place p w good a put =
     ap (sector_at state) w.head ∙ a.at.sectors w.k p w.request (among_get (left_of q m.scene.past (m.lanes q).completed (hidden_part (m.lanes q).phase (m.lanes q).batch)) place w.k (left_at q h m place w.k good w.at)) w.is (w.due.next.next ∙ ap (λ (s : RequestStep). Some s) put)
 
-show_step : (q : ℕ) (h : Header1) (sizes : ℕ → ℕ) (m : Moment) (setup : QueueSetup) (state : QueueState) (place : ℕ) (v : Values) (w : WorkReady q h sizes m state place) → Good q h m → LiesAs q setup h.size → QueueStands q h setup m state → DiskAt h.capacity m.scene.past v
+show_step : (q : ℕ) (h : Header1) (sizes : ℕ → ℕ) (m : Moment) (setup : SplitSetup) (state : QueueState) (place : ℕ) (v : Values) (w : WorkReady q h sizes m state place) → Good q h m → LiesAs q setup h.size → QueueStands q h setup m state → DiskAt h.capacity m.scene.past v
     → Kind h w.request ((m.lanes q).made w.k) w.step → ShowsAt q h m state v w.k w.task w.links w.request w.step
 show_step q h sizes m setup state place v w good main a disk (inl x) =
     subst (λ (s : RequestStep). ShowsAt q h m state v w.k w.task w.links w.request s) (sym x.next)
@@ -156,7 +156,7 @@ show_step q h sizes m setup state place v w good main a disk (inr (inr (inr (inr
     subst (λ (s : RequestStep). ShowsAt q h m state v w.k w.task w.links w.request s) (sym x.next) (show_status q h m state v w.k w.task w.links w.request (ring_space q h m setup state main a))
 
 -- what a turn of work shows, by what the queue says of it
-pub work_items : (q : ℕ) (h : Header1) (sizes : ℕ → ℕ) (m : Moment) (setup : QueueSetup) (state : QueueState) (place : ℕ) (v : Values) (w : WorkReady q h sizes m state place) → IsPlain h → Good q h m → LiesAs q setup h.size → QueueStands q h setup m state → DiskAt h.capacity m.scene.past v
+pub work_items : (q : ℕ) (h : Header1) (sizes : ℕ → ℕ) (m : Moment) (setup : SplitSetup) (state : QueueState) (place : ℕ) (v : Values) (w : WorkReady q h sizes m state place) → IsPlain h → Good q h m → LiesAs q setup h.size → QueueStands q h setup m state → DiskAt h.capacity m.scene.past v
     → Shows q v state w.k w.task (making w) (turned h q (turns.Work place) m).items (said (head_in w.task) (answer_in (making w)))
 work_items q h sizes m setup state place v w plain good main a disk =
     subst (λ (t : Turned). Shows q v state w.k w.task (making w) t.items (said (head_in w.task) (answer_in (making w)))) (sym (work_turned q h sizes m state place w))
@@ -180,7 +180,7 @@ looks_memory : (q : ℕ) (h : Header1) (k : ℕ) (s : Scene) (o : Option ℕ) �
 looks_memory q h k s None = refl
 looks_memory q h k s (Some x) = refl
 
-memory_step : (q : ℕ) (h : Header1) (sizes : ℕ → ℕ) (m : Moment) (setup : QueueSetup) (state : QueueState) (place : ℕ) (w : WorkReady q h sizes m state place) → Good q h m → LiesAs q setup h.size → QueueStands q h setup m state
+memory_step : (q : ℕ) (h : Header1) (sizes : ℕ → ℕ) (m : Moment) (setup : SplitSetup) (state : QueueState) (place : ℕ) (w : WorkReady q h sizes m state place) → Good q h m → LiesAs q setup h.size → QueueStands q h setup m state
     → Kind h w.request ((m.lanes q).made w.k) w.step → LeavesMemory q h m state w.k w.task w.links w.request w.step
 memory_step q h sizes m setup state place w good main a (inl x) =
     subst (λ (s : RequestStep). LeavesMemory q h m state w.k w.task w.links w.request s) (sym x.next) (looks_memory q h w.k m.scene (look_at w.request x.place))
@@ -196,7 +196,7 @@ memory_step q h sizes m setup state place w good main a (inr (inr (inr (inr x)))
     (stored_memory state m.scene.memory (status_place (buffer_of q w.k m.scene)) (status_of h w.request ∷ []) (status_of h w.request ∷ []) (ring_space q h m setup state main a) refl)
 
 -- a turn of work leaves memory as the step that is due
-pub work_memory : (q : ℕ) (h : Header1) (sizes : ℕ → ℕ) (m : Moment) (setup : QueueSetup) (state : QueueState) (place : ℕ) (w : WorkReady q h sizes m state place) → IsPlain h → Good q h m → LiesAs q setup h.size → QueueStands q h setup m state
+pub work_memory : (q : ℕ) (h : Header1) (sizes : ℕ → ℕ) (m : Moment) (setup : SplitSetup) (state : QueueState) (place : ℕ) (w : WorkReady q h sizes m state place) → IsPlain h → Good q h m → LiesAs q setup h.size → QueueStands q h setup m state
     → (one_turn h q (turns.Work place) m).next.scene.memory ≡ memory_after state.ring (making w) (sector_at state (head_in w.task)) m.scene.memory
 work_memory q h sizes m setup state place w plain good main a =
     ap (λ (t : Turned). (after_items h t.items m.scene).memory) (work_turned q h sizes m state place w)

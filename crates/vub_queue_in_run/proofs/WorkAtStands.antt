@@ -22,7 +22,7 @@ use Rattle.vub_device.specs.Past.{asked, accepted, published, missing_below, ope
 use Rattle.vub_device.specs.Places.{are_distinct}
 use Rattle.vub_device.specs.Requests.{look_at, effect_at}
 use Rattle.vub_split.specs.declared.split.SplitRing.{SplitRing}
-use Rattle.vub_queue.specs.declared.queue.QueueSetup.{QueueSetup}
+use Rattle.vub_setup.specs.Setups.{SplitSetup}
 use Rattle.vub_task.specs.declared.task.Task.{Task}
 use Rattle.vub_infl_split.specs.Region.{RegionWords}
 use Rattle.vub_run.specs.Memory.{Scene, with_at, after_items}
@@ -93,14 +93,14 @@ heads_differ q h m j k good open_j open_k apart same =
 
 -- ---- one task
 
-task_same : (q : ℕ) (h : Header1) (setup : QueueSetup) (past past' : List Entry) (heads : List ℕ) (k j made made' : ℕ) (task : Task) → Keeps q past past' k → made' ≡ made → TaskAt q h setup past heads j made task → TaskAt q h setup past' heads j made' task
+task_same : (q : ℕ) (h : Header1) (setup : SplitSetup) (past past' : List Entry) (heads : List ℕ) (k j made made' : ℕ) (task : Task) → Keeps q past past' k → made' ≡ made → TaskAt q h setup past heads j made task → TaskAt q h setup past' heads j made' task
 task_same q h setup past past' heads k j made made' task x same t = record {
   head = t.head;
   stands = λ request is. subst (λ (c : ℕ). IsTaskAt h setup.ring (buffer_place (area_place q) (slice_index heads j)) request c task) (sym same) (t.stands request (ap (λ (f : ℕ → Option Asked). f j) (sym x.requests) ∙ is));
 }
 
 -- the task that was worked on
-task_next : (q : ℕ) (h : Header1) (sizes : ℕ → ℕ) (m : Moment) (setup : QueueSetup) (state : QueueState) (place : ℕ) (w : WorkReady q h sizes m state place) (past' : List Entry) (next : Task) → state.ring ≡ setup.ring → Keeps q m.scene.past past' w.k → head_in next ≡ head_in w.task → HasMade state.ring (making w) next
+task_next : (q : ℕ) (h : Header1) (sizes : ℕ → ℕ) (m : Moment) (setup : SplitSetup) (state : QueueState) (place : ℕ) (w : WorkReady q h sizes m state place) (past' : List Entry) (next : Task) → state.ring ≡ setup.ring → Keeps q m.scene.past past' w.k → head_in next ≡ head_in w.task → HasMade state.ring (making w) next
     → TaskAt q h setup past' (m.scene.heads q) w.k ((m.lanes q).made w.k + 1) next
 task_next q h sizes m setup state place w past' next ring x head made = record {
   head = head ∙ w.head;
@@ -114,7 +114,7 @@ task_next q h sizes m setup state place w past' next ring x head made = record {
 
 -- ---- a step that isn't the last
 
-goes_on : (q : ℕ) (h : Header1) (sizes : ℕ → ℕ) (m : Moment) (setup : QueueSetup) (state : QueueState) (place : ℕ) (w : WorkReady q h sizes m state place) (past' : List Entry) (next : Task) (sector : List ℕ) → Good q h m → QueueStands q h setup m state → Keeps q m.scene.past past' w.k
+goes_on : (q : ℕ) (h : Header1) (sizes : ℕ → ℕ) (m : Moment) (setup : SplitSetup) (state : QueueState) (place : ℕ) (w : WorkReady q h sizes m state place) (past' : List Entry) (next : Task) (sector : List ℕ) → Good q h m → QueueStands q h setup m state → Keeps q m.scene.past past' w.k
     → head_in next ≡ head_in w.task → HasMade state.ring (making w) next
     → ((p : ℕ) → slice_get (task_steps h w.request) ((m.lanes q).made w.k + 1) ≡ Some (Put p) → sector ≡ slice_range (bytes_read past' q w.k) (512 * p) (512 * p + 512))
     → QueueAt q h setup past' (m.scene.heads q) (m.lanes q).phase (hidden_part (m.lanes q).phase (m.lanes q).batch) (m.lanes q).completed (with_at (m.lanes q).made w.k ((m.lanes q).made w.k + 1)) (worked place next sector state)
@@ -200,7 +200,7 @@ goes_on q h sizes m setup state place w past' next sector good a x head made put
 
 -- ---- the last step
 
-finished : (q : ℕ) (h : Header1) (sizes : ℕ → ℕ) (m : Moment) (setup : QueueSetup) (state : QueueState) (place : ℕ) (w : WorkReady q h sizes m state place) (sector : List ℕ) → Good q h m → QueueStands q h setup m state
+finished : (q : ℕ) (h : Header1) (sizes : ℕ → ℕ) (m : Moment) (setup : SplitSetup) (state : QueueState) (place : ℕ) (w : WorkReady q h sizes m state place) (sector : List ℕ) → Good q h m → QueueStands q h setup m state
     → QueueAt q h setup m.scene.past (m.scene.heads q) (m.lanes q).phase (hidden_part (m.lanes q).phase (m.lanes q).batch) ((m.lanes q).completed ++ w.k ∷ []) (with_at (m.lanes q).made w.k ((m.lanes q).made w.k + 1)) (done_at place (head_in w.task) (used_len (status_of h w.request) w.request) sector state)
 finished q h sizes m setup state place w sector good a = record {
   ring = a.at.ring;
@@ -279,7 +279,7 @@ finished q h sizes m setup state place w sector good a = record {
 -- ---- any step
 
 -- where the queue stands after a step of the k-th request
-abbrev StandsAfter : ℕ → Header1 → QueueSetup → Moment → ℕ → QueueState → Asked → RequestStep → Type 0
+abbrev StandsAfter : ℕ → Header1 → SplitSetup → Moment → ℕ → QueueState → Asked → RequestStep → Type 0
 StandsAfter q h setup m k state request step =
     QueueAt q h setup (after_items h (task_items h q k (buffer_of q k m.scene) m.scene.past request step) m.scene).past ((after_items h (task_items h q k (buffer_of q k m.scene) m.scene.past request step) m.scene).heads q)
     (after_task_step k step (m.lanes q)).phase (hidden_part (after_task_step k step (m.lanes q)).phase (after_task_step k step (m.lanes q)).batch) (after_task_step k step (m.lanes q)).completed (after_task_step k step (m.lanes q)).made state
@@ -310,11 +310,11 @@ next_put : (h : Header1) (request : Asked) (c p : ℕ) → slice_get (task_steps
 next_put h request c p next = ap (slice_get (task_steps h request)) (let same : suc c ≡ c + 1 = omega arith in same) ∙ next
 
 -- where the queue stands after a look, if any
-abbrev LookStands : ℕ → Header1 → QueueSetup → Moment → ℕ → QueueState → Option ℕ → Type 0
+abbrev LookStands : ℕ → Header1 → SplitSetup → Moment → ℕ → QueueState → Option ℕ → Type 0
 LookStands q h setup m k state o =
     QueueAt q h setup (after_items h (look_items q k m.scene.past o) m.scene).past ((after_items h (look_items q k m.scene.past o) m.scene).heads q) (m.lanes q).phase (hidden_part (m.lanes q).phase (m.lanes q).batch) (m.lanes q).completed (with_at (m.lanes q).made k ((m.lanes q).made k + 1)) state
 
-look_stands : (q : ℕ) (h : Header1) (sizes : ℕ → ℕ) (m : Moment) (setup : QueueSetup) (state state' : QueueState) (place : ℕ) (v : Values) (w : WorkReady q h sizes m state place) (x : IsLook h w.request ((m.lanes q).made w.k) w.step) → IsPlain h → Good q h m → QueueStands q h setup m state → DiskAt h.capacity m.scene.past v
+look_stands : (q : ℕ) (h : Header1) (sizes : ℕ → ℕ) (m : Moment) (setup : SplitSetup) (state state' : QueueState) (place : ℕ) (v : Values) (w : WorkReady q h sizes m state place) (x : IsLook h w.request ((m.lanes q).made w.k) w.step) → IsPlain h → Good q h m → QueueStands q h setup m state → DiskAt h.capacity m.scene.past v
     → HasWorked (Some v) place w.task (making w) state state' → StandsAfter q h setup m w.k state' w.request w.step
 look_stands q h sizes m setup state state' place v w x plain good a disk made =
     let past : List Entry = m.scene.past in
@@ -358,7 +358,7 @@ no_put_act end state after p x next = elim (cases_lt (state + 1) end) [
 no_put_sync : (after : Option RequestStep) (p : ℕ) → after ≡ Some Status → after ≡ Some (Put p) → ⊥
 no_put_sync after p x next = let both : Some Status ≡ Some (Put p) = sym x ∙ next in cc
 
-put_stands : (q : ℕ) (h : Header1) (sizes : ℕ → ℕ) (m : Moment) (setup : QueueSetup) (state state' : QueueState) (place : ℕ) (v : Values) (w : WorkReady q h sizes m state place) (x : IsPut h w.request ((m.lanes q).made w.k) w.step) → IsPlain h → Good q h m → QueueStands q h setup m state
+put_stands : (q : ℕ) (h : Header1) (sizes : ℕ → ℕ) (m : Moment) (setup : SplitSetup) (state state' : QueueState) (place : ℕ) (v : Values) (w : WorkReady q h sizes m state place) (x : IsPut h w.request ((m.lanes q).made w.k) w.step) → IsPlain h → Good q h m → QueueStands q h setup m state
     → HasWorked (Some v) place w.task (making w) state state' → StandsAfter q h setup m w.k state' w.request w.step
 put_stands q h sizes m setup state state' place v w x plain good a made =
     let goes : Advances place w.task (making w) made.sector (Put x.place) state state' = subst (λ (y : RequestStep). Advances place w.task (making w) made.sector y state state') x.next made.state in
@@ -368,11 +368,11 @@ put_stands q h sizes m setup state state' place v w x plain good a made =
     subst (λ (y : RequestStep). StandsAfter q h setup m w.k state' w.request y) (sym x.next) (subst (λ (t : QueueState). StandsAfter q h setup m w.k t w.request (Put x.place)) (sym goes.3) stands)
 
 -- where the queue stands after an act, if any
-abbrev ActStands : ℕ → Header1 → QueueSetup → Moment → ℕ → QueueState → Option SectorValue → Type 0
+abbrev ActStands : ℕ → Header1 → SplitSetup → Moment → ℕ → QueueState → Option SectorValue → Type 0
 ActStands q h setup m k state o =
     QueueAt q h setup (after_items h (act_items q k o) m.scene).past ((after_items h (act_items q k o) m.scene).heads q) (m.lanes q).phase (hidden_part (m.lanes q).phase (m.lanes q).batch) (m.lanes q).completed (with_at (m.lanes q).made k ((m.lanes q).made k + 1)) state
 
-act_stands : (q : ℕ) (h : Header1) (sizes : ℕ → ℕ) (m : Moment) (setup : QueueSetup) (state state' : QueueState) (place : ℕ) (v : Values) (w : WorkReady q h sizes m state place) (x : IsAct h w.request ((m.lanes q).made w.k) w.step) → IsPlain h → Good q h m → QueueStands q h setup m state
+act_stands : (q : ℕ) (h : Header1) (sizes : ℕ → ℕ) (m : Moment) (setup : SplitSetup) (state state' : QueueState) (place : ℕ) (v : Values) (w : WorkReady q h sizes m state place) (x : IsAct h w.request ((m.lanes q).made w.k) w.step) → IsPlain h → Good q h m → QueueStands q h setup m state
     → HasWorked (Some v) place w.task (making w) state state' → StandsAfter q h setup m w.k state' w.request w.step
 act_stands q h sizes m setup state state' place v w x plain good a made =
     let goes : Advances place w.task (making w) made.sector (Act x.place) state state' = subst (λ (y : RequestStep). Advances place w.task (making w) made.sector y state state') x.next made.state in
@@ -388,7 +388,7 @@ act_stands q h sizes m setup state state' place v w x plain good a made =
     ] in
     subst (λ (y : RequestStep). StandsAfter q h setup m w.k state' w.request y) (sym x.next) (subst (λ (t : QueueState). ActStands q h setup m w.k t (effect_at w.request x.place)) (sym goes.3) (each (effect_at w.request x.place)))
 
-sync_stands : (q : ℕ) (h : Header1) (sizes : ℕ → ℕ) (m : Moment) (setup : QueueSetup) (state state' : QueueState) (place : ℕ) (v : Values) (w : WorkReady q h sizes m state place) (x : IsSync h w.request ((m.lanes q).made w.k) w.step) → IsPlain h → Good q h m → QueueStands q h setup m state
+sync_stands : (q : ℕ) (h : Header1) (sizes : ℕ → ℕ) (m : Moment) (setup : SplitSetup) (state state' : QueueState) (place : ℕ) (v : Values) (w : WorkReady q h sizes m state place) (x : IsSync h w.request ((m.lanes q).made w.k) w.step) → IsPlain h → Good q h m → QueueStands q h setup m state
     → HasWorked (Some v) place w.task (making w) state state' → StandsAfter q h setup m w.k state' w.request w.step
 sync_stands q h sizes m setup state state' place v w x plain good a made =
     let goes : Advances place w.task (making w) made.sector Sync state state' = subst (λ (y : RequestStep). Advances place w.task (making w) made.sector y state state') x.next made.state in
@@ -398,14 +398,14 @@ sync_stands q h sizes m setup state state' place v w x plain good a made =
     goes_on q h sizes m setup state place w past' goes.0 made.sector good a keeps goes.1 goes.2 (λ p next. absurd (no_put_sync _ p (step_follows q h sizes m state place w Sync plain x.next) (next_put h w.request ((m.lanes q).made w.k) p next))) in
     subst (λ (y : RequestStep). StandsAfter q h setup m w.k state' w.request y) (sym x.next) (subst (λ (t : QueueState). StandsAfter q h setup m w.k t w.request Sync) (sym goes.3) stands)
 
-last_stands : (q : ℕ) (h : Header1) (sizes : ℕ → ℕ) (m : Moment) (setup : QueueSetup) (state state' : QueueState) (place : ℕ) (v : Values) (w : WorkReady q h sizes m state place) → w.step ≡ Status → Good q h m → QueueStands q h setup m state
+last_stands : (q : ℕ) (h : Header1) (sizes : ℕ → ℕ) (m : Moment) (setup : SplitSetup) (state state' : QueueState) (place : ℕ) (v : Values) (w : WorkReady q h sizes m state place) → w.step ≡ Status → Good q h m → QueueStands q h setup m state
     → HasWorked (Some v) place w.task (making w) state state' → StandsAfter q h setup m w.k state' w.request w.step
 last_stands q h sizes m setup state state' place v w last good a made =
     let goes : Advances place w.task (making w) made.sector Status state state' = subst (λ (y : RequestStep). Advances place w.task (making w) made.sector y state state') last made.state in
     let stands : StandsAfter q h setup m w.k (done_at place (head_in w.task) (used_len (status_of h w.request) w.request) made.sector state) w.request Status = finished q h sizes m setup state place w made.sector good a in
     subst (λ (y : RequestStep). StandsAfter q h setup m w.k state' w.request y) (sym last) (subst (λ (t : QueueState). StandsAfter q h setup m w.k t w.request Status) (sym goes) stands)
 
-step_stands : (q : ℕ) (h : Header1) (sizes : ℕ → ℕ) (m : Moment) (setup : QueueSetup) (state state' : QueueState) (place : ℕ) (v : Values) (w : WorkReady q h sizes m state place) → IsPlain h → Good q h m → QueueStands q h setup m state → DiskAt h.capacity m.scene.past v
+step_stands : (q : ℕ) (h : Header1) (sizes : ℕ → ℕ) (m : Moment) (setup : SplitSetup) (state state' : QueueState) (place : ℕ) (v : Values) (w : WorkReady q h sizes m state place) → IsPlain h → Good q h m → QueueStands q h setup m state → DiskAt h.capacity m.scene.past v
     → HasWorked (Some v) place w.task (making w) state state' → Kind h w.request ((m.lanes q).made w.k) w.step → StandsAfter q h setup m w.k state' w.request w.step
 step_stands q h sizes m setup state state' place v w plain good a disk made (inl x) = look_stands q h sizes m setup state state' place v w x plain good a disk made
 step_stands q h sizes m setup state state' place v w plain good a disk made (inr (inl x)) = put_stands q h sizes m setup state state' place v w x plain good a made
@@ -461,7 +461,7 @@ work_still q h k s request Sync = record { runs = refl; accepts = refl; requests
 work_still q h k s request Status = record { runs = refl; accepts = refl; requests = refl; heads = refl }
 
 -- so a started queue stays in its phase
-phase_kept : (q : ℕ) (h : Header1) (setup : QueueSetup) (s s' : Scene) (bell : Bool) (plan : Plan) (next : ℕ) (batch : List ℕ) (phase : Phase) (w w' : RegionWords) (state state' : QueueState) → started s.past q ≡ true → IsStill q s s' → KeepsRest state state'
+phase_kept : (q : ℕ) (h : Header1) (setup : SplitSetup) (s s' : Scene) (bell : Bool) (plan : Plan) (next : ℕ) (batch : List ℕ) (phase : Phase) (w w' : RegionWords) (state state' : QueueState) → started s.past q ≡ true → IsStill q s s' → KeepsRest state state'
     → PhaseAt q h setup s.past (s.heads q) bell plan next batch phase w state → PhaseAt q h setup s'.past (s'.heads q) bell plan next batch phase w' state'
 phase_kept q h setup s s' bell plan next batch phase w w' state state' run still same x = record {
   index = same.index ∙ x.index;
@@ -478,7 +478,7 @@ phase_kept q h setup s s' bell plan next batch phase w w' state state' run still
 }
 
 -- and its lane keeps bell, plan, counter, batch and phase
-lane_phase : (q : ℕ) (h : Header1) (setup : QueueSetup) (k : ℕ) (l : Lane) (s : Scene) (w : RegionWords) (state : QueueState) (step : RequestStep) → PhaseAt q h setup s.past (s.heads q) l.bell l.plan l.counter l.batch l.phase w state
+lane_phase : (q : ℕ) (h : Header1) (setup : SplitSetup) (k : ℕ) (l : Lane) (s : Scene) (w : RegionWords) (state : QueueState) (step : RequestStep) → PhaseAt q h setup s.past (s.heads q) l.bell l.plan l.counter l.batch l.phase w state
     → PhaseAt q h setup s.past (s.heads q) (after_task_step k step l).bell (after_task_step k step l).plan (after_task_step k step l).counter (after_task_step k step l).batch (after_task_step k step l).phase w state
 lane_phase q h setup k l s w state (Look place) x = x
 lane_phase q h setup k l s w state (Put place) x = x
@@ -487,7 +487,7 @@ lane_phase q h setup k l s w state Sync x = x
 lane_phase q h setup k l s w state Status x = x
 
 -- where the queue stands after a turn of work
-pub work_stands : (q : ℕ) (h : Header1) (sizes : ℕ → ℕ) (m : Moment) (setup : QueueSetup) (state state' : QueueState) (place : ℕ) (v : Values) (w : WorkReady q h sizes m state place) → IsPlain h → Good q h m → QueueStands q h setup m state → DiskAt h.capacity m.scene.past v
+pub work_stands : (q : ℕ) (h : Header1) (sizes : ℕ → ℕ) (m : Moment) (setup : SplitSetup) (state state' : QueueState) (place : ℕ) (v : Values) (w : WorkReady q h sizes m state place) → IsPlain h → Good q h m → QueueStands q h setup m state → DiskAt h.capacity m.scene.past v
     → HasWorked (Some v) place w.task (making w) state state' → QueueStands q h setup (one_turn h q (turns.Work place) m).next state'
 work_stands q h sizes m setup state state' place v w plain good a disk made =
     let l : Lane = m.lanes q in

@@ -18,7 +18,7 @@ use Rattle.vub_queue.specs.QueueParts.{is_taken}
 use Rattle.vub_queue.specs.QueueFacts.{hidden_part, hidden_in, KeepsHeads, kept_phase, StartsAt, kept_head}
 use Rattle.vub_queue.specs.QueueState.{QueueState, new_recovery}
 use Rattle.vub_task.specs.TaskState.{IsTaskAt, head_in}
-use Rattle.vub_queue.specs.declared.queue.QueueSetup.{QueueSetup}
+use Rattle.vub_setup.specs.Setups.{SplitSetup}
 use Rattle.vub_task.specs.declared.task.Task.{Task}
 
 -- ---- what it keeps, by the numbers of a run
@@ -32,7 +32,7 @@ abbrev pub left_of : ℕ → List Entry → List ℕ → List ℕ → List ℕ
 left_of q past completed batch = filter (λ k. not (is_among (completed ++ batch) k)) (open_numbers past q)
 
 -- the task of the k-th request, of which so many steps were made
-pub record TaskAt (q : ℕ) (h : Header1) (setup : QueueSetup) (past : List Entry) (heads : List ℕ) (k made : ℕ) (task : Task) : Type 0 where
+pub record TaskAt (q : ℕ) (h : Header1) (setup : SplitSetup) (past : List Entry) (heads : List ℕ) (k made : ℕ) (task : Task) : Type 0 where
   pub head : head_in task ≡ slice_index heads k
   pub stands : (request : Asked) → asked past q k ≡ Some request → IsTaskAt h setup.ring (buffer_place (area_place q) (slice_index heads k)) request made task
 
@@ -46,7 +46,7 @@ pub record HoldsNothing (n : ℕ) (state : QueueState) : Type 0 where
   pub taken : (head : ℕ) → head < n → is_taken state.taken head ≡ false
 
 -- of a batch these are hidden
-pub record QueueAt (q : ℕ) (h : Header1) (setup : QueueSetup) (past : List Entry) (heads : List ℕ) (at_phase : Phase) (in_batch ready : List ℕ) (made : ℕ → ℕ) (state : QueueState) : Type 0 where
+pub record QueueAt (q : ℕ) (h : Header1) (setup : SplitSetup) (past : List Entry) (heads : List ℕ) (at_phase : Phase) (in_batch ready : List ℕ) (made : ℕ → ℕ) (state : QueueState) : Type 0 where
   pub ring : state.ring ≡ setup.ring
   pub runs : state.stopped ≡ None
   pub phase : state.phase ≡ kept_phase at_phase
@@ -67,7 +67,7 @@ pub record QueueAt (q : ℕ) (h : Header1) (setup : QueueSetup) (past : List Ent
 -- ---- its phase
 
 -- of queue q, in this phase of its lane; the words of its region matter until it is started, and its counter from then on
-pub record PhaseAt (q : ℕ) (h : Header1) (setup : QueueSetup) (past : List Entry) (heads : List ℕ) (has_bell : Bool) (plan : Plan) (next : ℕ) (in_batch : List ℕ) (phase : Phase) (w : RegionWords) (state : QueueState) : Type 0 where
+pub record PhaseAt (q : ℕ) (h : Header1) (setup : SplitSetup) (past : List Entry) (heads : List ℕ) (has_bell : Bool) (plan : Plan) (next : ℕ) (in_batch : List ℕ) (phase : Phase) (w : RegionWords) (state : QueueState) : Type 0 where
   pub index : state.index ≡ q
   pub bell : state.bell ≡ has_bell
   pub ring : state.recovery.ring ≡ setup.ring
@@ -81,14 +81,14 @@ pub record PhaseAt (q : ℕ) (h : Header1) (setup : QueueSetup) (past : List Ent
 -- ---- at a moment
 
 -- the queue stands where its lane of the moment does
-pub record QueueStands (q : ℕ) (h : Header1) (setup : QueueSetup) (m : Moment) (state : QueueState) : Type 0 where
+pub record QueueStands (q : ℕ) (h : Header1) (setup : SplitSetup) (m : Moment) (state : QueueState) : Type 0 where
   pub at : QueueAt q h setup m.scene.past (m.scene.heads q) (m.lanes q).phase (hidden_part (m.lanes q).phase (m.lanes q).batch) (m.lanes q).completed (m.lanes q).made state
   pub phase : PhaseAt q h setup m.scene.past (m.scene.heads q) (m.lanes q).bell (m.lanes q).plan (m.lanes q).counter (m.lanes q).batch (m.lanes q).phase (region_in h q m.scene) state
 
 -- ---- the set-up of a queue
 
 -- its rings have n places and lie in guest memory as those of queue q do, and its region in the in-flight region
-pub record LiesAs (q : ℕ) (setup : QueueSetup) (n : ℕ) : Type 0 where
+pub record LiesAs (q : ℕ) (setup : SplitSetup) (n : ℕ) : Type 0 where
   pub desc_space : setup.ring.desc.0.number ≡ 0
   pub avail_space : setup.ring.avail.0.number ≡ 0
   pub used_space : setup.ring.used.0.number ≡ 0
@@ -100,8 +100,8 @@ pub record LiesAs (q : ℕ) (setup : QueueSetup) (n : ℕ) : Type 0 where
   pub index : setup.index ≡ q
 
 -- its rings and its part of the in-flight region lie in shared memory, whose spaces have these sizes
-abbrev pub SetupLies : (ℕ → ℕ) → QueueSetup → Type 0
-SetupLies sizes setup = StartLies sizes (new_recovery setup)
+abbrev pub SplitSetupLies : (ℕ → ℕ) → SplitSetup → Type 0
+SplitSetupLies sizes setup = StartLies sizes (new_recovery setup)
 
 -- ---- the disk
 

@@ -9,7 +9,7 @@ use Rattle.vub_steps.specs.declared.steps.Phase.TheVariants as phases
 use Rattle.vub_steps.specs.declared.steps.Plan.{Plan}
 use Rattle.vub_backend.specs.declared.backend.Backend.{Backend}
 use Rattle.vub_backend.specs.Backends.{queues_of, attached_in}
-use Rattle.vub_queue.specs.declared.queue.QueueSetup.{QueueSetup}
+use Rattle.vub_setup.specs.Setups.{SplitSetup}
 use Rattle.vub_queue.specs.QueueState.{QueueState}
 use Rattle.vub_queue.specs.QueueFacts.{hidden_part}
 use Rattle.vub_queue_in_run.specs.QueueAt.{QueueStands, spot_of}
@@ -25,13 +25,14 @@ use Rattle.vub_run_laws.proofs.RunsTo.{stands_good}
 use Rattle.vub_schedule.specs.declared.types.Event.{Event}
 use Rattle.vub_shared.specs.Watched.{sizes_in}
 use Rattle.vub_memdisk.specs.MemDisks.{capacity_of}
-use Rattle.vub_world.specs.declared.front.Front.{Front}
+use Rattle.vub_world.specs.declared.driver_side.DriverSide.{DriverSide}
 use Rattle.vub_world.specs.declared.machine.Machine.{Machine}
+use Rattle.vub_world.specs.DriverSides.{setup_of}
 use Rattle.vub_world.specs.Lives.{IsBackendInLife, queue_in, life_of}
 use Rattle.vub_world.specs.Machine.{IsSound}
 use Rattle.vub_world.specs.MachineAt.{MachineAt, AttachedAt, LifeAt, StandsFor}
 use Rattle.vub_world.specs.WorldBackend.{NamesRequests, BackendStands}
-use Rattle.vub_world.proofs.MachineParts.{found_there, first_front, life_is, the_low}
+use Rattle.vub_world.proofs.MachineParts.{found_there, first_side, life_is, the_low}
 
 -- no batch is under way but in a publication
 no_batch : (n : ℕ) (bell : Bool) (plan : Plan) (batch : List ℕ) (phase : Phase) → PhaseIs n bell plan batch phase → is_publication phase ≡ false → batch ≡ []
@@ -40,7 +41,7 @@ no_batch n bell plan batch (phases.Start done) is rests = is.0
 no_batch n bell plan batch (phases.Fetch done) is rests = is.0
 no_batch n bell plan batch (phases.Publish done) is rests = absurd (cc rests)
 
-names_requests : (q : ℕ) (h : Header1) (setup : QueueSetup) (m : Moment) (s : QueueState) → Good q h m → QueueStands q h setup m s → NamesRequests q m s
+names_requests : (q : ℕ) (h : Header1) (setup : SplitSetup) (m : Moment) (s : QueueState) → Good q h m → QueueStands q h setup m s → NamesRequests q m s
 names_requests q h setup m s good at =
     let l = m.lanes q in
     let none : is_publication l.phase ≡ false → l.batch ≡ [] = no_batch h.size l.bell l.plan l.batch l.phase (phase_at q h m.scene l good.holds) in
@@ -58,28 +59,28 @@ within (o ∷ queues) (suc q) s is = omega (arith, within queues q s is)
 pub backend_stands : (w : Machine) (es : List Event) (rs : List Record) (m : Moment) → IsSound w → Stands w.header es rs m → MachineAt w m → BackendStands w m
 backend_stands w es rs m sound stands at = record {
   lives = (
-      let first = first_front w sound in
+      let first = first_side w sound in
       lives first.0 w.life (at.queues 0 first.0 first.1).life);
   attached = λ b q is low.
-      let front = found_there w.fronts.items q (omega (arith, low, sound.many)) in
-      attached q front.0 (queue_in q b) (in_life b q front.0 is front.1).1;
+      let side = found_there w.sides.items q (omega (arith, low, sound.many)) in
+      attached q side.0 (queue_in q b) (in_life b q side.0 is side.1).1;
   names = λ b q s is there.
       let many : length (queues_of b) ≡ w.header.queues = (subst (λ (l : Option Backend). IsBackendInLife w.header.queues (sizes_in w.memory) (capacity_of w.disk) l) is sound.backend).many in
-      let front = found_there w.fronts.items q (omega (arith, within (queues_of b) q s there, many, sound.many)) in
-      let f : Front = front.0 in
-      let here : AttachedAt q f.header f.setup m (Some s) = subst (λ (o : Option QueueState). AttachedAt q f.header f.setup m o) there (in_life b q f is front.1).1 in
-      let s_stands : Stands f.header es rs m = subst (λ (h : Header1). Stands h es rs m) (sym (sound.headers q f front.1)) stands in
-      names_requests q f.header f.setup m s (stands_good q f.header es rs m (the_low w q f sound front.1) s_stands) here.2;
+      let side = found_there w.sides.items q (omega (arith, within (queues_of b) q s there, many, sound.many)) in
+      let f : DriverSide = side.0 in
+      let here : AttachedAt q f.header (setup_of f) m (Some s) = subst (λ (o : Option QueueState). AttachedAt q f.header (setup_of f) m o) there (in_life b q f is side.1).1 in
+      let s_stands : Stands f.header es rs m = subst (λ (h : Header1). Stands h es rs m) (sym (sound.headers q f side.1)) stands in
+      names_requests q f.header (setup_of f) m s (stands_good q f.header es rs m (the_low w q f sound side.1) s_stands) here.2;
 }
   where
-    lives : (f : Front) (l : Option Backend) → LifeAt 0 f.header f.setup m (life_of 0 l) → is_some l ≡ m.lives
+    lives : (f : DriverSide) (l : Option Backend) → LifeAt 0 f.header (setup_of f) m (life_of 0 l) → is_some l ≡ m.lives
     lives f None at = sym at
     lives f (Some b) at = sym at.0
 
-    in_life : (b : Backend) (q : ℕ) (f : Front) → w.life ≡ Some b → slice_get w.fronts.items q ≡ Some f → LifeAt q f.header f.setup m (Some (queue_in q b))
-    in_life b q f is here = subst (λ (l : Option (Option QueueState)). LifeAt q f.header f.setup m l) (life_is w.life b q is) (at.queues q f here).life
+    in_life : (b : Backend) (q : ℕ) (f : DriverSide) → w.life ≡ Some b → slice_get w.sides.items q ≡ Some f → LifeAt q f.header (setup_of f) m (Some (queue_in q b))
+    in_life b q f is here = subst (λ (l : Option (Option QueueState)). LifeAt q f.header (setup_of f) m l) (life_is w.life b q is) (at.queues q f here).life
 
-    attached : (q : ℕ) (f : Front) (o : Option QueueState) → AttachedAt q f.header f.setup m o → is_some o ≡ (m.lanes q).attached
+    attached : (q : ℕ) (f : DriverSide) (o : Option QueueState) → AttachedAt q f.header (setup_of f) m o → is_some o ≡ (m.lanes q).attached
     attached q f None here = sym here.1
     attached q f (Some s) here = sym here.1
 

@@ -13,7 +13,7 @@ use Rattle.vub_device.specs.declared.entry.Asked.TheVariants as asks
 use Rattle.vub_device.specs.Past.{asked, is_among}
 use Rattle.vub_world.specs.declared.outstanding.OutstandingRequests.{OutstandingRequests}
 use Rattle.vub_world.specs.declared.outstanding.OutstandingRequest.{OutstandingRequest}
-use Rattle.vub_queue.specs.declared.queue.QueueSetup.{QueueSetup}
+use Rattle.vub_setup.specs.Setups.{SplitSetup}
 use Rattle.vub_world.specs.OutstandingRequests.{size_in, slot_in}
 use Rattle.vub_world.specs.MachineAt.{AttachedAt, OutstandingAt, reads_of}
 use Rattle.vub_world.specs.MachineDevice.{ShownFits, ShowsSome, is_showing, is_index}
@@ -40,13 +40,13 @@ phase_shows n bell plan batch many rings (phases.Fetch (suc (suc done))) is show
 phase_shows n bell plan batch many rings (phases.Publish done) is shows = is.0
 
 -- so does its lane, and no step of its batch was shown
-lane_shows_next : (q : ℕ) (h : Header1) (setup : QueueSetup) (m : Moment) (state : QueueState) → QueueStands q h setup m state → is_showing state ≡ true → is_index (next_of (running_steps (length state.batch) state.bell (kept_phase (m.lanes q).phase)) (kept_phase (m.lanes q).phase)) ≡ true
+lane_shows_next : (q : ℕ) (h : Header1) (setup : SplitSetup) (m : Moment) (state : QueueState) → QueueStands q h setup m state → is_showing state ≡ true → is_index (next_of (running_steps (length state.batch) state.bell (kept_phase (m.lanes q).phase)) (kept_phase (m.lanes q).phase)) ≡ true
 lane_shows_next q h setup m state at shows = ap (λ (p : Phase). is_index (next_of (running_steps (length state.batch) state.bell p) p)) (sym at.at.phase) ∙ shows
 
-batch_long : (q : ℕ) (h : Header1) (setup : QueueSetup) (m : Moment) (state : QueueState) → QueueStands q h setup m state → length state.batch ≡ length (m.lanes q).batch
+batch_long : (q : ℕ) (h : Header1) (setup : SplitSetup) (m : Moment) (state : QueueState) → QueueStands q h setup m state → length state.batch ≡ length (m.lanes q).batch
 batch_long q h setup m state at = ap (λ (xs : List (ℕ × ℕ)). length xs) at.phase.batch ∙ length-map (m.lanes q).batch (spot_of q h m.scene.past (m.scene.heads q))
 
-queue_shows_some : (q : ℕ) (h : Header1) (setup : QueueSetup) (m : Moment) (state : QueueState) → Good q h m → QueueStands q h setup m state → ShowsSome state
+queue_shows_some : (q : ℕ) (h : Header1) (setup : SplitSetup) (m : Moment) (state : QueueState) → Good q h m → QueueStands q h setup m state → ShowsSome state
 queue_shows_some q h setup m state good at shows =
     let lane = m.lanes q in
     let some : 0 < length lane.batch = phase_shows h.size lane.bell lane.plan lane.batch (length state.batch) state.bell lane.phase (phase_at q h m.scene (m.lanes q) good.holds) (lane_shows_next q h setup m state at shows) in
@@ -63,7 +63,7 @@ few_reads cap (Some (asks.Discard parts)) is = absurd is
 few_reads cap (Some (asks.Zero parts)) is = absurd is
 few_reads cap None is = absurd is
 
-queue_shown_fits : (q : ℕ) (h : Header1) (setup : QueueSetup) (m : Moment) (state : QueueState) (outstanding : OutstandingRequests) → h.size ≤ 64 → Good q h m → QueueStands q h setup m state → OutstandingAt q h.size m.scene.past (m.scene.heads q) outstanding → ShownFits outstanding state
+queue_shown_fits : (q : ℕ) (h : Header1) (setup : SplitSetup) (m : Moment) (state : QueueState) (outstanding : OutstandingRequests) → h.size ≤ 64 → Good q h m → QueueStands q h setup m state → OutstandingAt q h.size m.scene.past (m.scene.heads q) outstanding → ShownFits outstanding state
 queue_shown_fits q h setup m state outstanding small good at numbered shows i x found =
     let lane = m.lanes q in
     let past = m.scene.past in
@@ -96,10 +96,10 @@ queue_shown_fits q h setup m state outstanding small good at numbered shows i x 
 
 -- ---- of a queue that may be attached
 
-pub shows_some : (q : ℕ) (h : Header1) (setup : QueueSetup) (m : Moment) (o : Option QueueState) → Good q h m → AttachedAt q h setup m o → IfSome o ShowsSome
+pub shows_some : (q : ℕ) (h : Header1) (setup : SplitSetup) (m : Moment) (o : Option QueueState) → Good q h m → AttachedAt q h setup m o → IfSome o ShowsSome
 shows_some q h setup m None good at = tt
 shows_some q h setup m (Some s) good at = queue_shows_some q h setup m s good at.2
 
-pub shown_fits : (q : ℕ) (h : Header1) (setup : QueueSetup) (m : Moment) (o : Option QueueState) (outstanding : OutstandingRequests) → h.size ≤ 64 → Good q h m → AttachedAt q h setup m o → OutstandingAt q h.size m.scene.past (m.scene.heads q) outstanding → IfSome o (ShownFits outstanding)
+pub shown_fits : (q : ℕ) (h : Header1) (setup : SplitSetup) (m : Moment) (o : Option QueueState) (outstanding : OutstandingRequests) → h.size ≤ 64 → Good q h m → AttachedAt q h setup m o → OutstandingAt q h.size m.scene.past (m.scene.heads q) outstanding → IfSome o (ShownFits outstanding)
 shown_fits q h setup m None outstanding small good at numbered = tt
 shown_fits q h setup m (Some s) outstanding small good at numbered = queue_shown_fits q h setup m s outstanding small good at.2 numbered

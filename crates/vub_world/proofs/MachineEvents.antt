@@ -6,12 +6,12 @@ use Rattle.vub_base.specs.declared.header.Header1.{Header1}
 use Rattle.vub_schedule.specs.declared.types.Event.{Event}
 use Rattle.vub_schedule.specs.declared.types.Event.TheVariants as events
 use Rattle.vub_schedule.specs.Spelling.{IsHeader, IsEvent}
-use Rattle.vub_world.specs.declared.front.Front.{Front}
+use Rattle.vub_world.specs.declared.driver_side.DriverSide.{DriverSide}
 use Rattle.vub_backend.specs.declared.backend.Backend.{Backend}
 use Rattle.vub_world.specs.declared.machine.Machine.{Machine}
 use Rattle.vub_report.specs.declared.items.Item.{Item}
 use Rattle.vub_report.specs.declared.items.Record.{Record}
-use Rattle.vub_world.specs.Fronts.{offers_in}
+use Rattle.vub_world.specs.DriverSides.{offers_in, setup_of}
 use Rattle.vub_world.specs.Lives.{life_of, queue_in}
 use Rattle.vub_world.specs.Lending.{with_record}
 use Rattle.vub_world.specs.Machine.{IsSound}
@@ -31,21 +31,21 @@ ok_then P Q (Ok x) f p = f x p
 ok_then P Q (Err e) f p = p
 
 -- the queue of an event is there
-pub event_front : (w : Machine) (q : ℕ) → IsSound w → q ≡ 0 → (f : Front) × (slice_get w.fronts.items q ≡ Some f)
-event_front w q sound is = found_there w.fronts.items q (omega (arith, is, sound.many, sound.header.one))
+pub event_side : (w : Machine) (q : ℕ) → IsSound w → q ≡ 0 → (f : DriverSide) × (slice_get w.sides.items q ≡ Some f)
+event_side w q sound is = found_there w.sides.items q (omega (arith, is, sound.many, sound.header.one))
 
 -- a machine in which the queue is attached
 attached_at : (w : Machine) (q : ℕ) (m : Moment) → IsSound w → q ≡ 0 → MachineAt w m → is_attached q w.life ≡ true → (m.lanes q).attached ≡ true
-attached_at w q m sound is_zero at is = go w.life is (at.queues q front.0 front.1).life
+attached_at w q m sound is_zero at is = go w.life is (at.queues q side.0 side.1).life
   where
-    front : (f : Front) × (slice_get w.fronts.items q ≡ Some f)
-    front = event_front w q sound is_zero
+    side : (f : DriverSide) × (slice_get w.sides.items q ≡ Some f)
+    side = event_side w q sound is_zero
 
-    there : (o : Option QueueState) → is_some o ≡ true → AttachedAt q front.0.header front.0.setup m o → (m.lanes q).attached ≡ true
+    there : (o : Option QueueState) → is_some o ≡ true → AttachedAt q side.0.header (setup_of side.0) m o → (m.lanes q).attached ≡ true
     there None is at = absurd (cc is)
     there (Some s) is at = at.1
 
-    go : (l : Option Backend) → is_attached q l ≡ true → LifeAt q front.0.header front.0.setup m (life_of q l) → (m.lanes q).attached ≡ true
+    go : (l : Option Backend) → is_attached q l ≡ true → LifeAt q side.0.header (setup_of side.0) m (life_of q l) → (m.lanes q).attached ≡ true
     go None is here = absurd (cc is)
     go (Some b) is here = there (queue_in q b) is here.1
 
@@ -81,8 +81,8 @@ stands_on w now e r spare sound after fits same is goes es rs stood =
 -- all offers of a machine are in the heads of its queue
 offers_are : (w : Machine) (m : Moment) → IsHeader w.header → MachineAt w m → offers_in w ≡ length (m.scene.heads 0)
 offers_are w m header at =
-    let front = found_there w.fronts.items 0 (omega (arith, at.many, header.one)) in
-    offered_only w.fronts.items front.0 (at.many ∙ header.one) front.1 ∙ (at.queues 0 front.0 front.1).outstanding.offers_are
+    let side = found_there w.sides.items 0 (omega (arith, at.many, header.one)) in
+    offered_only w.sides.items side.0 (at.many ∙ header.one) side.1 ∙ (at.queues 0 side.0 side.1).outstanding.offers_are
 
 -- an event offers one request at most
 pub one_offer : (w now : Machine) (e : Event) (is : List Item) → IsSound now → IsEvent w.header e → IsStanding w → Performs w now e is → offers_in now ≤ offers_in w + 1

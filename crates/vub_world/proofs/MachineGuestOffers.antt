@@ -22,16 +22,16 @@ use Rattle.vub_schedule.specs.declared.types.Event.TheVariants as events
 use Rattle.vub_guest.specs.declared.guest.Guest.{Guest}
 use Rattle.vub_world.specs.declared.outstanding.OutstandingRequests.{OutstandingRequests}
 use Rattle.vub_world.specs.declared.outstanding.OutstandingRequest.{OutstandingRequest}
-use Rattle.vub_world.specs.declared.front.Front.{Front}
-use Rattle.vub_world.specs.Fronts.{Parts, desk, desk_of}
-use Rattle.vub_queue.specs.declared.queue.QueueSetup.{QueueSetup}
+use Rattle.vub_world.specs.declared.driver_side.DriverSide.{DriverSide}
+use Rattle.vub_world.specs.DriverSides.{Parts, desk, desk_of, setup_of}
+use Rattle.vub_setup.specs.Setups.{SplitSetup}
 use Rattle.vub_report.specs.declared.items.Item.{Item}
 use Rattle.vub_report.specs.declared.items.Item.TheVariants as items
 use Rattle.vub_report.specs.declared.items.Record.{Record}
 use Rattle.vub_guest.specs.GuestState.{last_used_in}
 use Rattle.vub_world.specs.OutstandingRequests.{offered_in, slot_in, reads_in, new_slot, Offers}
-use Rattle.vub_world.specs.MachineAt.{FrontAt, LifeAt, OutstandingAt, PartsAt, reads_of}
-use Rattle.vub_world.specs.MachineFront.{GuestGoes}
+use Rattle.vub_world.specs.MachineAt.{DriverSideAt, LifeAt, OutstandingAt, PartsAt, reads_of}
+use Rattle.vub_world.specs.MachineDriverSide.{GuestGoes}
 use Rattle.vub_run.specs.Memory.{Scene, after_item, after_items}
 use Rattle.vub_run.specs.Moments.{Lane, Moment, region_of, region_in}
 use Rattle.vub_queue.specs.QueueState.{QueueState}
@@ -170,7 +170,7 @@ fetched_kept q h m x size good = go (m.lanes q).phase good.holds.worked.between 
     go (phases.Publish done) between is = refl
 
 -- an offer leaves what a queue keeps of its phase
-phase_offered : (q : ℕ) (h : Header1) (setup : QueueSetup) (m : Moment) (state : QueueState) (r : Asked) (x : ℕ) → IsSize h.size → Good q h m
+phase_offered : (q : ℕ) (h : Header1) (setup : SplitSetup) (m : Moment) (state : QueueState) (r : Asked) (x : ℕ) → IsSize h.size → Good q h m
     → PhaseAt q h setup m.scene.past (m.scene.heads q) (m.lanes q).bell (m.lanes q).plan (m.lanes q).counter (m.lanes q).batch (m.lanes q).phase (region_in h q m.scene) state
     → PhaseAt q h setup (entries.Offer q r ∷ m.scene.past) (m.scene.heads q ++ x ∷ []) (m.lanes q).bell (m.lanes q).plan (m.lanes q).counter (m.lanes q).batch (m.lanes q).phase (region_in h q m.scene) state
 phase_offered q h setup m state r x size good z =
@@ -190,7 +190,7 @@ phase_offered q h setup m state r x size good z =
       batch = z.batch ∙ map_alike (spot_of q h past heads) (spot_of q h (entries.Offer q r ∷ past) (heads ++ x ∷ [])) l.batch (λ k held. sym (offered_spot q h past heads r x k good.holds.known (low k held)));
     }
 
-offered_life : (q : ℕ) (h : Header1) (setup : QueueSetup) (count : ℕ) (m : Moment) (x : Waiting) (r : Asked) (b : Bytes) (life : Option (Option QueueState)) → words_of (region_of q h.size) b ≡ region_in h q m.scene → (offered_scene q h r b m.scene).heads q ≡ m.scene.heads q ++ x.head ∷ [] → IsSize h.size → Good q h m → LifeAt q h setup m life → LifeAt q h setup (moment_with q count x m (offered_scene q h r b m.scene)) life
+offered_life : (q : ℕ) (h : Header1) (setup : SplitSetup) (count : ℕ) (m : Moment) (x : Waiting) (r : Asked) (b : Bytes) (life : Option (Option QueueState)) → words_of (region_of q h.size) b ≡ region_in h q m.scene → (offered_scene q h r b m.scene).heads q ≡ m.scene.heads q ++ x.head ∷ [] → IsSize h.size → Good q h m → LifeAt q h setup m life → LifeAt q h setup (moment_with q count x m (offered_scene q h r b m.scene)) life
 offered_life q h setup count m x r b life same heads size good at = life_with q h setup (record m { scene = offered_scene q h r b m.scene }) (stored_lane q count x m) life (offered life at)
   where
     offered : (life : Option (Option QueueState)) → LifeAt q h setup m life → LifeAt q h setup (all_lanes (stored_lane q count x m) (record m { scene = offered_scene q h r b m.scene })) life
@@ -215,7 +215,7 @@ offered_life q h setup count m x r b life same heads size good at = life_with q 
         )
 
 -- stores that offer nothing are nothing to the device
-stored_life : (q : ℕ) (h : Header1) (setup : QueueSetup) (count : ℕ) (m : Moment) (x : Waiting) (b : Bytes) (life : Option (Option QueueState)) → words_of (region_of q h.size) b ≡ region_in h q m.scene → LifeAt q h setup m life → LifeAt q h setup (moment_with q count x m (record m.scene { memory = b })) life
+stored_life : (q : ℕ) (h : Header1) (setup : SplitSetup) (count : ℕ) (m : Moment) (x : Waiting) (b : Bytes) (life : Option (Option QueueState)) → words_of (region_of q h.size) b ≡ region_in h q m.scene → LifeAt q h setup m life → LifeAt q h setup (moment_with q count x m (record m.scene { memory = b })) life
 stored_life q h setup count m x b life same at = life_with q h setup (record m { scene = record m.scene { memory = b } }) (stored_lane q count x m) life (stored life at)
   where
     stored : (life : Option (Option QueueState)) → LifeAt q h setup m life → LifeAt q h setup (all_lanes (stored_lane q count x m) (record m { scene = record m.scene { memory = b } })) life
@@ -226,12 +226,12 @@ stored_life q h setup count m x b life same at = life_with q h setup (record m {
         let phase = subst (λ (w : RegionWords). PhaseAt q h setup m.scene.past (m.scene.heads q) l.bell l.plan l.counter l.batch l.phase w queue) (sym same) at.1.2.phase in
         (at.0, (at.1.0, at.1.1, record { at = at.1.2.at; phase = phase }))
 
--- the parts with another memory and front
-abbrev pub with_desk : Parts → WatchedShared → Front → Parts
-with_desk w memory front = record w { memory = memory; front = front }
+-- the parts with another memory and side
+abbrev pub with_desk : Parts → WatchedShared → DriverSide → Parts
+with_desk w memory side = record w { memory = memory; side = side }
 
-abbrev pub with_front : Parts → WatchedShared → Guest → Option Ask → OutstandingRequests → Parts
-with_front w memory guest asked outstanding = record w { memory = memory; front = record w.front { guest = guest; asked = asked; outstanding = outstanding } }
+abbrev pub with_side : Parts → WatchedShared → Guest → Option Ask → OutstandingRequests → Parts
+with_side w memory guest asked outstanding = record w { memory = memory; side = record w.side { guest = guest; asked = asked; outstanding = outstanding } }
 
 -- the moment that so many stores of a request lead to
 abbrev pub stored_moment : ℕ → Header1 → ℕ → Waiting → Moment → Moment
@@ -248,19 +248,19 @@ offered_good q h es rs m x is count low s fits some few plays =
 
 -- where these are all that were left
 offered_at : (q : ℕ) (w : Parts) (memory : WatchedShared) (guest' : Guest) (asked' : Option Ask) (outstanding : OutstandingRequests) (es : List Event) (rs : List Record) (m : Moment) (x : Waiting) (is : List Item) (count : ℕ)
-    → last_used_in guest' ≡ last_used_in w.front.guest → q < w.front.header.queues → Stands w.front.header es rs m → PartsAt q w m → count < 65536 → 0 < length x.left → length x.left ≤ count → (m.lanes q).driver.waiting ≡ Some x
-    → played is (stored_moment q w.front.header count x m) ≡ guest w.front.header q count m → GuestGoes q count x (desk_of w) (desk_of (with_front w memory guest' asked' outstanding)) m [] is
-    → PartsAt q (with_front w memory guest' asked' outstanding) (stored_moment q w.front.header count x m)
+    → last_used_in guest' ≡ last_used_in w.side.guest → q < w.side.header.queues → Stands w.side.header es rs m → PartsAt q w m → count < 65536 → 0 < length x.left → length x.left ≤ count → (m.lanes q).driver.waiting ≡ Some x
+    → played is (stored_moment q w.side.header count x m) ≡ guest w.side.header q count m → GuestGoes q count x (desk_of w) (desk_of (with_side w memory guest' asked' outstanding)) m [] is
+    → PartsAt q (with_side w memory guest' asked' outstanding) (stored_moment q w.side.header count x m)
 offered_at q w memory guest' asked' outstanding es rs m x is count position low s at fits some few waits plays goes =
-    let h : Header1 = w.front.header in
-    let now : Parts = with_front w memory guest' asked' outstanding in
+    let h : Header1 = w.side.header in
+    let now : Parts = with_side w memory guest' asked' outstanding in
     let good : Good q h m = stands_good q h es rs m low s in
     let r : Asked = request_of x.ask in
     let next : Moment = stored_moment q h count x m in
     let b : Bytes = put_all x.left m.scene.memory in
     let scene : after_items h (guest_items count q x.ask x.left) m.scene ≡ offered_scene q h r b m.scene = guest_scene q h count x.ask x.left m.scene some few in
     let whole : next ≡ moment_with q count x m (offered_scene q h r b m.scene) = ap (moment_with q count x m) scene in
-    let front : FrontAt q (desk_of now) (moment_with q count x m (offered_scene q h r b m.scene)) = subst (λ (n : Moment). FrontAt q (desk_of now) n) whole goes.front in
+    let side : DriverSideAt q (desk_of now) (moment_with q count x m (offered_scene q h r b m.scene)) = subst (λ (n : Moment). DriverSideAt q (desk_of now) n) whole goes.side in
     let good_next : Good q h (moment_with q count x m (offered_scene q h r b m.scene)) = offered_good q h es rs m x is count low s fits some few plays in
     let plain : IsPlain h = plain_header h s.header in
     let entry : EntryStands q h m = chained_entry q h m plain good (stands_chained q h es rs m low s) in
@@ -269,44 +269,44 @@ offered_at q w memory guest' asked' outstanding es rs m x is count position low 
     let apart : AreApart q (entries.Offer q r ∷ m.scene.past) (m.scene.heads q ++ x.head ∷ []) =
     subst (λ (hs : List ℕ). AreApart q (entries.Offer q r ∷ m.scene.past) hs) own (λ j k. heads_apart q h (offered_scene q h r b m.scene) lane.driver lane.bell lane.plan lane.counter lane.batch lane.phase j k good_next.holds.queue) in
     let stands : PartsAt q now (moment_with q count x m (offered_scene q h r b m.scene)) = record {
-      front = front;
+      side = side;
       position = position ∙ at.position;
-      life = offered_life q h w.front.setup count m x r b w.life (region_kept q h x.left m.scene.memory) own plain.good.size good at.life;
+      life = offered_life q h (setup_of w.side) count m x r b w.life (region_kept q h x.left m.scene.memory) own plain.good.size good at.life;
       disk = at.disk;
       outstanding = subst (λ (hs : List ℕ). OutstandingAt q h.size (entries.Offer q r ∷ m.scene.past) hs outstanding) (sym own)
-          (offered_outstanding q h.size h.capacity m.scene.past (m.scene.heads q) x.ask x.head w.front.outstanding outstanding at.outstanding good.holds.known apart (goes.outstanding.offers few));
+          (offered_outstanding q h.size h.capacity m.scene.past (m.scene.heads q) x.ask x.head w.side.outstanding outstanding at.outstanding good.holds.known apart (goes.outstanding.offers few));
     } in
     subst (λ (n : Moment). PartsAt q now n) (sym whole) stands
 
 -- where some are left
-partly_at : (q : ℕ) (w : Parts) (memory : WatchedShared) (guest' : Guest) (asked' : Option Ask) (outstanding : OutstandingRequests) (m : Moment) (x : Waiting) (is : List Item) (count : ℕ) → last_used_in guest' ≡ last_used_in w.front.guest → PartsAt q w m → count < length x.left
-    → GuestGoes q count x (desk_of w) (desk_of (with_front w memory guest' asked' outstanding)) m [] is → PartsAt q (with_front w memory guest' asked' outstanding) (stored_moment q w.front.header count x m)
+partly_at : (q : ℕ) (w : Parts) (memory : WatchedShared) (guest' : Guest) (asked' : Option Ask) (outstanding : OutstandingRequests) (m : Moment) (x : Waiting) (is : List Item) (count : ℕ) → last_used_in guest' ≡ last_used_in w.side.guest → PartsAt q w m → count < length x.left
+    → GuestGoes q count x (desk_of w) (desk_of (with_side w memory guest' asked' outstanding)) m [] is → PartsAt q (with_side w memory guest' asked' outstanding) (stored_moment q w.side.header count x m)
 partly_at q w memory guest' asked' outstanding m x is count position at part goes =
-    let h : Header1 = w.front.header in
-    let now : Parts = with_front w memory guest' asked' outstanding in
+    let h : Header1 = w.side.header in
+    let now : Parts = with_side w memory guest' asked' outstanding in
     let b : Bytes = put_all (take count x.left) m.scene.memory in
     let scene : after_items h (guest_items count q x.ask x.left) m.scene ≡ record m.scene { memory = b } = part_scene q h count x.ask x.left m.scene part in
     let whole : stored_moment q h count x m ≡ moment_with q count x m (record m.scene { memory = b }) = ap (moment_with q count x m) scene in
     let stands : PartsAt q now (moment_with q count x m (record m.scene { memory = b })) = record {
-      front = subst (λ (n : Moment). FrontAt q (desk_of now) n) whole goes.front;
+      side = subst (λ (n : Moment). DriverSideAt q (desk_of now) n) whole goes.side;
       position = position ∙ at.position;
-      life = stored_life q h w.front.setup count m x b w.life (region_kept q h (take count x.left) m.scene.memory) at.life;
+      life = stored_life q h (setup_of w.side) count m x b w.life (region_kept q h (take count x.left) m.scene.memory) at.life;
       disk = at.disk;
       outstanding = subst (λ (l : OutstandingRequests). OutstandingAt q h.size m.scene.past (m.scene.heads q) l) (sym (goes.outstanding.before part)) at.outstanding;
     } in
     subst (λ (n : Moment). PartsAt q now n) (sym whole) stands
 
 -- the event is played
-pub guest_performs : (q : ℕ) (w : Parts) (memory : WatchedShared) (front : Front) (es : List Event) (rs : List Record) (m : Moment) (x : Waiting) (is : List Item) (count : ℕ) → front ≡ record w.front { guest = front.guest; asked = front.asked; outstanding = front.outstanding }
-    → last_used_in front.guest ≡ last_used_in w.front.guest → q < w.front.header.queues → Stands w.front.header es rs m → PartsAt q w m → count < 65536 → 0 < length x.left → (m.lanes q).driver.waiting ≡ Some x
-    → GuestGoes q count x (desk_of w) (desk memory front) m [] is → (next : Moment) × (played is next ≡ guest w.front.header q count m) × PartsAt q (with_desk w memory front) next
-guest_performs q w memory front es rs m x is count frame position low s at fits some waits goes =
-    let h : Header1 = w.front.header in
+pub guest_performs : (q : ℕ) (w : Parts) (memory : WatchedShared) (side : DriverSide) (es : List Event) (rs : List Record) (m : Moment) (x : Waiting) (is : List Item) (count : ℕ) → side ≡ record w.side { guest = side.guest; asked = side.asked; outstanding = side.outstanding }
+    → last_used_in side.guest ≡ last_used_in w.side.guest → q < w.side.header.queues → Stands w.side.header es rs m → PartsAt q w m → count < 65536 → 0 < length x.left → (m.lanes q).driver.waiting ≡ Some x
+    → GuestGoes q count x (desk_of w) (desk memory side) m [] is → (next : Moment) × (played is next ≡ guest w.side.header q count m) × PartsAt q (with_desk w memory side) next
+guest_performs q w memory side es rs m x is count frame position low s at fits some waits goes =
+    let h : Header1 = w.side.header in
     let next : Moment = stored_moment q h count x m in
     let plays : played is next ≡ guest h q count m = ap (λ (js : List Item). played js next) goes.items ∙ ap (λ (o : Option Waiting). if_ready (is_some o) (guest_stores h q count o m) m) (sym waits) in
-    let here : GuestGoes q count x (desk_of w) (desk_of (with_front w memory front.guest front.asked front.outstanding)) m [] is = subst (λ (f : Front). GuestGoes q count x (desk_of w) (desk memory f) m [] is) frame goes in
-    let stands : PartsAt q (with_front w memory front.guest front.asked front.outstanding) next = elim (cases_lt count (length x.left)) [
-      | inl part ↦ partly_at q w memory front.guest front.asked front.outstanding m x is count position at part here
-      | inr all ↦ offered_at q w memory front.guest front.asked front.outstanding es rs m x is count position low s at fits some (omega arith) waits plays here
+    let here : GuestGoes q count x (desk_of w) (desk_of (with_side w memory side.guest side.asked side.outstanding)) m [] is = subst (λ (f : DriverSide). GuestGoes q count x (desk_of w) (desk memory f) m [] is) frame goes in
+    let stands : PartsAt q (with_side w memory side.guest side.asked side.outstanding) next = elim (cases_lt count (length x.left)) [
+      | inl part ↦ partly_at q w memory side.guest side.asked side.outstanding m x is count position at part here
+      | inr all ↦ offered_at q w memory side.guest side.asked side.outstanding es rs m x is count position low s at fits some (omega arith) waits plays here
     ] in
-    (next, plays, subst (λ (f : Front). PartsAt q (with_desk w memory f) next) (sym frame) stands)
+    (next, plays, subst (λ (f : DriverSide). PartsAt q (with_desk w memory f) next) (sym frame) stands)

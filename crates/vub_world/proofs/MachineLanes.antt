@@ -9,15 +9,15 @@ use Rattle.vub_queue_in_run.specs.QueueAt.{QueueAt, PhaseAt}
 use Rattle.vub_run.specs.Moments.{Lane, Moment, region_in}
 use Rattle.vub_run.specs.Run.{with_lane, with_driver, guest_stores}
 use Rattle.vub_run_laws.proofs.RunOwn.{at_own}
-use Rattle.vub_queue.specs.declared.queue.QueueSetup.{QueueSetup}
-use Rattle.vub_world.specs.Fronts.{Desk}
-use Rattle.vub_world.specs.MachineAt.{AskAt, FrontAt, LifeAt}
+use Rattle.vub_setup.specs.Setups.{SplitSetup}
+use Rattle.vub_world.specs.DriverSides.{Desk}
+use Rattle.vub_world.specs.MachineAt.{AskAt, DriverSideAt, LifeAt}
 
 -- the moment where each queue has this lane
 abbrev pub all_lanes : Lane → Moment → Moment
 all_lanes l m = record m { lanes = λ p. l }
 
-pub life_with : (q : ℕ) (h : Header1) (setup : QueueSetup) (m : Moment) (l : Lane) (life : Option (Option QueueState)) → LifeAt q h setup (all_lanes l m) life → LifeAt q h setup (with_lane q l m) life
+pub life_with : (q : ℕ) (h : Header1) (setup : SplitSetup) (m : Moment) (l : Lane) (life : Option (Option QueueState)) → LifeAt q h setup (all_lanes l m) life → LifeAt q h setup (with_lane q l m) life
 life_with q h setup m l None at = at
 life_with q h setup m l (Some None) at = (at.0, (at.1.0, ap (λ (k : Lane). k.attached) (at_own m.lanes q l) ∙ at.1.1, at.1.2, ap (λ (k : Lane). k.phase) (at_own m.lanes q l) ∙ at.1.3))
 life_with q h setup m l (Some (Some queue)) at = (
@@ -32,11 +32,11 @@ life_with q h setup m l (Some (Some queue)) at = (
   ),
 )
 
-pub front_with : (q : ℕ) (d : Desk) (m : Moment) (l : Lane) → FrontAt q d (all_lanes l m) → FrontAt q d (with_lane q l m)
-front_with q d m l at = record {
+pub side_with : (q : ℕ) (d : Desk) (m : Moment) (l : Lane) → DriverSideAt q d (all_lanes l m) → DriverSideAt q d (with_lane q l m)
+side_with q d m l at = record {
   memory = at.memory;
   driver = at.driver ∙ sym (ap (λ (k : Lane). k.driver) (at_own m.lanes q l));
-  asks = subst (λ (k : Lane). AskAt k.driver.waiting d.front.asked) (sym (at_own m.lanes q l)) at.asks;
+  asks = subst (λ (k : Lane). AskAt k.driver.waiting d.side.asked) (sym (at_own m.lanes q l)) at.asks;
 }
 
 -- the driver after so many stores of a request

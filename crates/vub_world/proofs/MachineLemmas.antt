@@ -1,4 +1,4 @@
--- Where the rings and the region of a sound front lie.
+-- Where the rings and the region of a sound side lie.
 use Rattle.std.proofs.Common.{◌≡◌, ◌≤◌, ℕ, ◌+◌, sym, subst, ◌∙◌}
 use Rattle.std.specs.Prelude.{Option}
 use mathlib.Core.Path.{fun_ext}
@@ -7,13 +7,13 @@ use Rattle.vub_guest.specs.declared.guest.Guest.{Guest}
 use Rattle.vub_guest.specs.GuestState.{ring_in}
 use Rattle.vub_infl_split.specs.Region.{RegionLies, region_size}
 use Rattle.vub_infl_split.specs.declared.region.SplitRegion.{SplitRegion}
-use Rattle.vub_queue_in_run.specs.QueueAt.{SetupLies}
+use Rattle.vub_queue_in_run.specs.QueueAt.{SplitSetupLies}
 use Rattle.vub_queue_in_run.proofs.Setups.{setup_lies}
 use Rattle.vub_run_laws.proofs.Sizes.{size_laps}
 use Rattle.vub_shared.specs.Watched.{IsUnfailed, sizes_in}
 use Rattle.vub_shared.specs.declared.watched_shared.WatchedShared.{WatchedShared}
-use Rattle.vub_world.specs.declared.front.Front.{Front}
-use Rattle.vub_world.specs.Fronts.{FrontSound}
+use Rattle.vub_world.specs.declared.driver_side.DriverSide.{DriverSide}
+use Rattle.vub_world.specs.DriverSides.{DriverSideSound, setup_of}
 use Rattle.vub_world.specs.Lives.{IsBackendInLife}
 use Rattle.vub_backend.specs.declared.backend.Backend.{Backend}
 
@@ -26,44 +26,40 @@ region_lies_still old new r same lies = record {
   aligned = lies.aligned;
 }
 
--- a front is sound where no size changes and nothing fails
-pub still_sound : (before now : WatchedShared) (f : Front) → ((s : ℕ) → sizes_in now s ≡ sizes_in before s) → IsUnfailed now → FrontSound before f → FrontSound now f
+-- a side is sound where no size changes and nothing fails
+pub still_sound : (before now : WatchedShared) (f : DriverSide) → ((s : ℕ) → sizes_in now s ≡ sizes_in before s) → IsUnfailed now → DriverSideSound before f → DriverSideSound now f
 still_sound before now f same unfailed sound = record {
   header = sound.header;
   exists = sound.exists;
   guest = sound.guest;
   setup = sound.setup;
-  base = sound.base;
   space = sound.space;
   room = subst (λ (k : ℕ). area_place f.index + 1048576 ≤ k) (sym (same 0)) sound.room;
-  bell = sound.bell;
-  region = region_lies_still (sizes_in before) (sizes_in now) f.setup.region same sound.region;
+  region = region_lies_still (sizes_in before) (sizes_in now) f.region same sound.region;
   unfailed = unfailed;
 }
 
-abbrev pub with_guest : Guest → Front → Front
+abbrev pub with_guest : Guest → DriverSide → DriverSide
 with_guest g f = record f { guest = g }
 
 -- the same with another driver on the same ring
-pub guest_sound : (before now : WatchedShared) (f : Front) (g : Guest) → ((s : ℕ) → sizes_in now s ≡ sizes_in before s) → IsUnfailed now → ring_in g ≡ ring_in f.guest → FrontSound before f → FrontSound now (with_guest g f)
+pub guest_sound : (before now : WatchedShared) (f : DriverSide) (g : Guest) → ((s : ℕ) → sizes_in now s ≡ sizes_in before s) → IsUnfailed now → ring_in g ≡ ring_in f.guest → DriverSideSound before f → DriverSideSound now (with_guest g f)
 guest_sound before now f g same unfailed ring sound = record {
   header = sound.header;
   exists = sound.exists;
   guest = ring ∙ sound.guest;
   setup = sound.setup;
-  base = sound.base;
   space = sound.space;
   room = subst (λ (k : ℕ). area_place f.index + 1048576 ≤ k) (sym (same 0)) sound.room;
-  bell = sound.bell;
-  region = region_lies_still (sizes_in before) (sizes_in now) f.setup.region same sound.region;
+  region = region_lies_still (sizes_in before) (sizes_in now) f.region same sound.region;
   unfailed = unfailed;
 }
 
 -- its rings and its region lie in memory
-pub sound_lies : (memory : WatchedShared) (f : Front) → FrontSound memory f → SetupLies (sizes_in memory) f.setup
+pub sound_lies : (memory : WatchedShared) (f : DriverSide) → DriverSideSound memory f → SplitSetupLies (sizes_in memory) (setup_of f)
 sound_lies memory f sound =
     let laps = size_laps f.header.size sound.header.sized in
-    setup_lies f.index (sizes_in memory) f.setup f.header.size sound.room sound.region laps.0 laps.1 laps.2 sound.setup
+    setup_lies f.index (sizes_in memory) (setup_of f) f.header.size sound.room sound.region laps.0 laps.1 laps.2 sound.setup
 
 -- ---- the backend of a life
 

@@ -6,17 +6,17 @@ use Rattle.vub_base.specs.declared.faults.Memory.{Memory}
 use Rattle.vub_report.specs.declared.items.Record.{Record}
 use Rattle.vub_schedule.specs.declared.types.Event.{Event}
 use Rattle.vub_world.specs.declared.machine.Machine.{Machine}
-use Rattle.vub_world.specs.Fronts.{offers_in}
+use Rattle.vub_world.specs.DriverSides.{offers_in}
 use Rattle.vub_world.specs.Lending.{HasPlayed, Lends, with_record}
 use Rattle.vub_world.specs.Machine.{IsSound, HaveNumbers, KeepsLast}
 use Rattle.vub_world.proofs.MachineParts.{few_of_each, few_of_one}
 
 -- each queue has a number left just where few were offered in all
 pub numbers_few : (w : Machine) → IsSound w → HaveNumbers w → offers_in w < 2 ^ 64 - 1
-numbers_few w sound have = few_of_one (2 ^ 64 - 1) w.fronts.items (sound.many ∙ sound.header.one) have
+numbers_few w sound have = few_of_one (2 ^ 64 - 1) w.sides.items (sound.many ∙ sound.header.one) have
 
 pub none_left : (w : Machine) → (HaveNumbers w → ⊥) → 2 ^ 64 - 1 ≤ offers_in w
-none_left w none = let many : offers_in w < 2 ^ 64 - 1 → ⊥ = λ few. none (few_of_each (2 ^ 64 - 1) w.fronts.items few) in omega (arith, many)
+none_left w none = let many : offers_in w < 2 ^ 64 - 1 → ⊥ = λ few. none (few_of_each (2 ^ 64 - 1) w.sides.items few) in omega (arith, many)
 
 -- with another record the machine is sound
 pub recorded_sound : (r : Record) (spare : ⊤) (w : Machine) → IsSound w → IsSound (with_record r spare w)

@@ -9,8 +9,8 @@ use Rattle.vub_device.specs.declared.entry.Entry.TheVariants as entries
 use Rattle.vub_device.specs.Past.{started}
 use Rattle.vub_report.specs.declared.items.Item.TheVariants as items
 use Rattle.vub_run.specs.Memory.{after_items}
-use Rattle.vub_world.specs.Fronts.{Parts}
-use Rattle.vub_queue.specs.declared.queue.QueueSetup.{QueueSetup}
+use Rattle.vub_world.specs.DriverSides.{Parts, setup_of}
+use Rattle.vub_setup.specs.Setups.{SplitSetup}
 use Rattle.vub_world.specs.MachineAt.{PartsAt, LifeAt, AttachedAt}
 use Rattle.vub_run.specs.Moments.{Lane, Moment, fresh, attached, region_in}
 use Rattle.vub_queue.specs.QueueFacts.{hidden_part}
@@ -34,7 +34,7 @@ boot_plays m asleep = sym (ap (λ (b : Bool). if_ready (not b) (played [] (boote
 
 pub booted_at : (q : ℕ) (w : Parts) (m : Moment) → started m.scene.past q ≡ false → PartsAt q w m → PartsAt q (with_life None w) (booted m)
 booted_at q w m quiet at = record {
-  front = record { memory = at.front.memory; driver = at.front.driver; asks = at.front.asks };
+  side = record { memory = at.side.memory; driver = at.side.driver; asks = at.side.asks };
   position = at.position;
   life = (refl, (refl, refl, quiet, refl));
   disk = at.disk;
@@ -43,7 +43,7 @@ booted_at q w m quiet at = record {
 
 -- where there is no life
 pub asleep_at : (q : ℕ) (w : Parts) (m : Moment) → PartsAt q w m → w.life ≡ None → m.lives ≡ false
-asleep_at q w m at none = subst (λ (l : Option (Option QueueState)). LifeAt q w.front.header w.front.setup m l) none at.life
+asleep_at q w m at none = subst (λ (l : Option (Option QueueState)). LifeAt q w.side.header (setup_of w.side) m l) none at.life
 
 -- ---- the queues are attached
 
@@ -56,15 +56,15 @@ join_plays m lives new = sym (
     ∙ ap (λ (b : Bool). if_ready (true && not b) (played [] (joined m)) m) new)
 
 -- where there is a life that has no queue
-pub joining_at : (q : ℕ) (w : Parts) (m : Moment) → PartsAt q w m → w.life ≡ Some None → (m.lives ≡ true) × AttachedAt q w.front.header w.front.setup m None
-joining_at q w m at new = subst (λ (l : Option (Option QueueState)). LifeAt q w.front.header w.front.setup m l) new at.life
+pub joining_at : (q : ℕ) (w : Parts) (m : Moment) → PartsAt q w m → w.life ≡ Some None → (m.lives ≡ true) × AttachedAt q w.side.header (setup_of w.side) m None
+joining_at q w m at new = subst (λ (l : Option (Option QueueState)). LifeAt q w.side.header (setup_of w.side) m l) new at.life
 
-pub joined_at : (q : ℕ) (w : Parts) (m : Moment) (queue : QueueState) → Good q w.front.header m → w.front.setup.base ≡ w.front.header.base → w.front.setup.index ≡ q → w.front.setup.bell ≡ true → AttachedAt q w.front.header w.front.setup m None → m.lives ≡ true → IsNew w.front.setup queue → PartsAt q w m
+pub joined_at : (q : ℕ) (w : Parts) (m : Moment) (queue : QueueState) → Good q w.side.header m → w.side.index ≡ q → AttachedAt q w.side.header (setup_of w.side) m None → m.lives ≡ true → IsNew (setup_of w.side) queue → PartsAt q w m
     → PartsAt q (with_life (Some queue) w) (joined m)
-joined_at q w m queue good same index bell new lives made at =
+joined_at q w m queue good index new lives made at =
     let l : Lane = m.lanes q in
-    let h : Header1 = w.front.header in
-    let setup : QueueSetup = w.front.setup in
+    let h : Header1 = w.side.header in
+    let setup : SplitSetup = setup_of w.side in
     let past : List Entry = m.scene.past in
     let heads : List ℕ = m.scene.heads q in
     let quiet = good.holds.worked.quiet new.2 in
@@ -76,16 +76,16 @@ joined_at q w m queue good same index bell new lives made at =
     subst (λ (p : Phase). PhaseAt q h setup past heads true l.plan l.counter l.batch p (region_in h q m.scene) queue) (sym new.3)
     (subst (λ (s : QueueState). PhaseAt q h setup past heads true l.plan l.counter l.batch phases.Rest (region_in h q m.scene) s) (sym made.is) (record {
       index = index;
-      bell = bell;
+      bell = refl;
       ring = refl;
       region = refl;
-      base = same;
+      base = refl;
       begun = λ stopped. (record { no_plan = refl; none_done = refl; none_cleared = refl }, refl);
       counter = λ run. absurd (let fails : true ≡ false = sym run ∙ new.2 in cc);
       fetching = refl;
       batch = ap (λ (ks : List ℕ). map (spot_of q h past heads) ks) (sym (good.holds.carries.quiet new.2));
     })) in record {
-      front = record { memory = at.front.memory; driver = at.front.driver; asks = at.front.asks };
+      side = record { memory = at.side.memory; driver = at.side.driver; asks = at.side.asks };
       position = at.position;
       life = (lives, (refl, refl, record { at = at_rest; phase = phase }));
       disk = at.disk;
@@ -106,7 +106,7 @@ kill_idle h m asleep = sym (ap (λ (b : Bool). if_ready b (played (items.Made en
 -- memory, driver and disk are as they were
 pub killed_at : (q : ℕ) (h : Header1) (w : Parts) (m : Moment) → PartsAt q w m → PartsAt q (record w { life = None }) (killed h m)
 killed_at q h w m at = record {
-  front = record { memory = at.front.memory; driver = at.front.driver; asks = at.front.asks };
+  side = record { memory = at.side.memory; driver = at.side.driver; asks = at.side.asks };
   position = at.position;
   life = refl;
   disk = at.disk;

@@ -9,10 +9,10 @@ use Rattle.vub_steps.specs.declared.readiness.Turn.{Turn}
 use Rattle.vub_steps.specs.Readiness.{drain_turn}
 use Rattle.vub_device.specs.Past.{accepted, collected}
 use Rattle.vub_schedule.specs.declared.types.Event.{Event}
-use Rattle.vub_world.specs.Fronts.{Parts}
+use Rattle.vub_world.specs.DriverSides.{Parts, setup_of}
 use Rattle.vub_report.specs.declared.items.Item.{Item}
 use Rattle.vub_report.specs.declared.items.Record.{Record}
-use Rattle.vub_queue.specs.declared.queue.QueueSetup.{QueueSetup}
+use Rattle.vub_setup.specs.Setups.{SplitSetup}
 use Rattle.vub_room.specs.Rooms.{RoomState, HasTurnRoom, HasRoom, SpendsStep}
 use Rattle.vub_world.specs.MachineAt.{PartsAt, LifeAt, AttachedAt, IsReached}
 use Rattle.vub_world.specs.MachineDevice.{shown_in, queue_shows}
@@ -33,14 +33,14 @@ use Rattle.vub_run_laws.proofs.RunsTo.{stands_good, stands_turns}
 
 -- ---- what a life shows, and what its lane shows
 
-batch_same : (q : ℕ) (h : Header1) (setup : QueueSetup) (m : Moment) (queue : QueueState) → QueueStands q h setup m queue → length queue.batch ≡ length (m.lanes q).batch
+batch_same : (q : ℕ) (h : Header1) (setup : SplitSetup) (m : Moment) (queue : QueueState) → QueueStands q h setup m queue → length queue.batch ≡ length (m.lanes q).batch
 batch_same q h setup m queue s = ap (λ (xs : List (ℕ × ℕ)). length xs) s.phase.batch ∙ length-map (m.lanes q).batch (spot_of q h m.scene.past (m.scene.heads q))
 
-queue_shows_is : (q : ℕ) (h : Header1) (setup : QueueSetup) (m : Moment) (queue : QueueState) → QueueStands q h setup m queue → queue_shows (Some queue) ≡ lane_shows (m.lanes q)
+queue_shows_is : (q : ℕ) (h : Header1) (setup : SplitSetup) (m : Moment) (queue : QueueState) → QueueStands q h setup m queue → queue_shows (Some queue) ≡ lane_shows (m.lanes q)
 queue_shows_is q h setup m queue s =
     ap (λ (n : ℕ). shown_by n queue.bell queue.phase) (batch_same q h setup m queue s) ∙ ap (λ (b : Bool). shown_by (length (m.lanes q).batch) b queue.phase) s.phase.bell ∙ ap (shown_by (length (m.lanes q).batch) (m.lanes q).bell) s.at.phase
 
-pub shown_is : (q : ℕ) (h : Header1) (setup : QueueSetup) (m : Moment) (life : Option (Option QueueState)) → Good q h m → LifeAt q h setup m life → (m.lanes q).attached ≡ true → shown_in life ≡ lane_shows (m.lanes q)
+pub shown_is : (q : ℕ) (h : Header1) (setup : SplitSetup) (m : Moment) (life : Option (Option QueueState)) → Good q h m → LifeAt q h setup m life → (m.lanes q).attached ≡ true → shown_in life ≡ lane_shows (m.lanes q)
 shown_is q h setup m None good at attached = absurd (let asleep : (m.lanes q).attached ≡ false = (good.asleep at).0 in let both : true ≡ false = sym attached ∙ asleep in cc)
 shown_is q h setup m (Some l) good at attached = go l at.1
   where
@@ -49,7 +49,7 @@ shown_is q h setup m (Some l) good at attached = go l at.1
     go (Some queue) at = queue_shows_is q h setup m queue at.2
 
 -- what the next step shows is not published yet
-pub shown_few : (q : ℕ) (h : Header1) (setup : QueueSetup) (m : Moment) (life : Option (Option QueueState)) → Good q h m → LifeAt q h setup m life → shown_in life ≤ undone q m
+pub shown_few : (q : ℕ) (h : Header1) (setup : SplitSetup) (m : Moment) (life : Option (Option QueueState)) → Good q h m → LifeAt q h setup m life → shown_in life ≤ undone q m
 shown_few q h setup m None good at = omega arith
 shown_few q h setup m (Some l) good at = go l at.1
   where
@@ -94,7 +94,7 @@ turns_begin q h sequence m w items most all r at few room = record {
 }
 
 -- what is offered and not published is outstanding
-pub undone_few : (q : ℕ) (h : Header1) (m : Moment) (w : Parts) → Good q h m → PartsAt q w m → undone q m ≤ w.front.outstanding.offered - w.front.outstanding.collected
+pub undone_few : (q : ℕ) (h : Header1) (m : Moment) (w : Parts) → Good q h m → PartsAt q w m → undone q m ≤ w.side.outstanding.offered - w.side.outstanding.collected
 undone_few q h m w good at =
     let shown = good.holds.known.shown in
     omega (arith, shown, at.outstanding.offers_are, at.outstanding.collects_are)
@@ -126,7 +126,7 @@ turn_is q h sequences.Drain m n taken is = ap (λ (a : ℕ). drain_turn h.size a
 
 -- how many turns a machine reserves for, where so many are asked for
 abbrev pub room_of : ℕ → Parts → ℕ
-room_of count w = min count (27 * (w.front.outstanding.offered - w.front.outstanding.collected) + turns_besides w.front.header.size)
+room_of count w = min count (27 * (w.side.outstanding.offered - w.side.outstanding.collected) + turns_besides w.side.header.size)
 
 -- for a single turn that is at most one
 pub once_few : (sequence : Sequence) (w : Parts) (t : Turn) → sequence ≡ sequences.Once t → room_of (most_turns sequence) w ≤ 1
@@ -142,13 +142,13 @@ pub room_left : (q : ℕ) (h : Header1) (sequence : Sequence) (es : List Event) 
 room_left q h sequence es rs m count all besides done now before after taken r low stands few bound more d =
     omega (arith, bound, few, more, d.falls)
 
-pub turn_room : (q : ℕ) (h : Header1) (sequence : Sequence) (es : List Event) (rs : List Record) (m : Moment) (most done : ℕ) (now : Parts) (before after : List Item) (taken : ℕ) (r : RoomState) → q < h.queues → Stands h es rs m → now.front.header ≡ h → done < most
+pub turn_room : (q : ℕ) (h : Header1) (sequence : Sequence) (es : List Event) (rs : List Record) (m : Moment) (most done : ℕ) (now : Parts) (before after : List Item) (taken : ℕ) (r : RoomState) → q < h.queues → Stands h es rs m → now.side.header ≡ h → done < most
     → TurnsAt q h sequence m most done now before after taken r → HasTurnRoom (shown_in now.life) r
 turn_room q h sequence es rs m most done now before after taken r low stands same left d =
     let n : Moment = (so_far q h sequence m done).next in
     let good = (stands_turns q h es rs m done (choices_from q h sequence m) low stands).0 in
-    let life : LifeAt q h now.front.setup n now.life = subst (λ (k : Header1). LifeAt q k now.front.setup n now.life) same d.at.life in
-    let not_yet = shown_few q h now.front.setup n now.life good life in record {
+    let life : LifeAt q h (setup_of now.side) n now.life = subst (λ (k : Header1). LifeAt q k (setup_of now.side) n now.life) same d.at.life in
+    let not_yet = shown_few q h (setup_of now.side) n now.life good life in record {
       items = omega (arith, left, (d.room left).items);
       lists = omega (arith, left, (d.room left).lists, not_yet);
       answer_lists = omega (arith, left, (d.room left).answer_lists);
@@ -165,8 +165,8 @@ room_after left now next shown r r' fewer room spent = record {
 }
 
 -- one turn more
-pub turns_go_on : (q : ℕ) (h : Header1) (sequence : Sequence) (es : List Event) (rs : List Record) (m : Moment) (most done : ℕ) (now next : Parts) (before after after' : List Item) (taken taken' : ℕ) (r r' : RoomState) → q < h.queues → Stands h es rs m → now.front.header ≡ h → ((t : Turn) → sequence ≡ sequences.Once t → most ≤ 1) → done < most
-    → TurnsAt q h sequence m most done now before after taken r → StepGoes q true (next_turn q now.front.header sequence taken (so_far q h sequence m done).next) now next (so_far q h sequence m done).next after after' taken taken' → SpendsStep (shown_in now.life) r r'
+pub turns_go_on : (q : ℕ) (h : Header1) (sequence : Sequence) (es : List Event) (rs : List Record) (m : Moment) (most done : ℕ) (now next : Parts) (before after after' : List Item) (taken taken' : ℕ) (r r' : RoomState) → q < h.queues → Stands h es rs m → now.side.header ≡ h → ((t : Turn) → sequence ≡ sequences.Once t → most ≤ 1) → done < most
+    → TurnsAt q h sequence m most done now before after taken r → StepGoes q true (next_turn q now.side.header sequence taken (so_far q h sequence m done).next) now next (so_far q h sequence m done).next after after' taken taken' → SpendsStep (shown_in now.life) r r'
     → TurnsAt q h sequence m most (suc done) next before after' taken' r'
 turns_go_on q h sequence es rs m most done now next before after after' taken taken' r r' low stands same once left d step spent =
     let n : Moment = (so_far q h sequence m done).next in
@@ -174,15 +174,15 @@ turns_go_on q h sequence es rs m most done now next before after after' taken ta
     let good = (stands_turns q h es rs m done (choices_from q h sequence m) low stands).0 in
     let t : Turn = choices_from q h sequence m n in
     let is : next_turn q h sequence taken n ≡ t = turn_is q h sequence m n taken d.taken_is in
-    let chosen : next_turn q now.front.header sequence taken n ≡ t = ap (λ (k : Header1). next_turn q k sequence taken n) same ∙ is in
+    let chosen : next_turn q now.side.header sequence taken n ≡ t = ap (λ (k : Header1). next_turn q k sequence taken n) same ∙ is in
     let went : StepGoes q true t now next n after after' taken taken' = subst (λ (u : Turn). StepGoes q true u now next n after after' taken taken') chosen step in
     let due : is_due h q t n ≡ true = subst (λ (k : Header1). is_due k q t n ≡ true) same went.0 in
     let at : PartsAt q next (one_turn h q t n).next = subst (λ (k : Header1). PartsAt q next (one_turn k q t n).next) same went.1 in
     let items_are : after' ≡ after ++ (one_turn h q t n).items = subst (λ (k : Header1). after' ≡ after ++ (one_turn k q t n).items) same went.2 in
     let taken_are : taken' + accepted n.scene.past q ≡ taken + accepted (one_turn h q t n).next.scene.past q = subst (λ (k : Header1). taken' + accepted n.scene.past q ≡ taken + accepted (one_turn k q t n).next.scene.past q) same went.3 in
     let attached : (n.lanes q).attached ≡ true = grind (arith, nat_tests) in
-    let life : LifeAt q h now.front.setup n now.life = subst (λ (k : Header1). LifeAt q k now.front.setup n now.life) same d.at.life in
-    let shown : shown_in now.life ≡ lane_shows (n.lanes q) = shown_is q h now.front.setup n now.life good life attached in
+    let life : LifeAt q h (setup_of now.side) n now.life = subst (λ (k : Header1). LifeAt q k (setup_of now.side) n now.life) same d.at.life in
+    let shown : shown_in now.life ≡ lane_shows (n.lanes q) = shown_is q h (setup_of now.side) n now.life good life attached in
     let heads : (one_turn h q t n).next.scene.heads q ≡ n.scene.heads q = (turn_gentle q h t n plain good).heads in
     let many : length ((one_turn h q t n).next.scene.heads q) ≡ length (n.scene.heads q) = ap (λ (xs : List ℕ). length xs) heads in
     let falls = turn_falls q h t n plain good due in
@@ -214,7 +214,7 @@ turns_go_on q h sequence es rs m most done now next before after after' taken ta
 pub record EndsAt (q : ℕ) (h : Header1) (sequence : Sequence) (es : List Event) (rs : List Record) (m : Moment) (most done : ℕ) (now : Parts) (before after : List Item) (taken : ℕ) (r : RoomState) : Type 0 where
   pub low : q < h.queues
   pub stands : Stands h es rs m
-  pub same : now.front.header ≡ h
+  pub same : now.side.header ≡ h
   pub here : TurnsAt q h sequence m most done now before after taken r
 
 -- turns never are many
@@ -240,7 +240,7 @@ some_before n e = let some : 0 < n = omega (arith, e) in grind (arith, nat_tests
 
 -- the next one isn't due
 pub turns_stop : (q : ℕ) (h : Header1) (sequence : Sequence) (es : List Event) (rs : List Record) (m : Moment) (most done count : ℕ) (now next : Parts) (before after after' : List Item) (taken taken' : ℕ) (r : RoomState) (made : Bool) → EndsAt q h sequence es rs m most done now before after taken r
-    → done < count → made ≡ nat_lt 0 done → StepGoes q false (next_turn q now.front.header sequence taken (so_far q h sequence m done).next) now next (so_far q h sequence m done).next after after' taken taken' → TurnsGo q h made sequence count (PartsAt q next) m before after'
+    → done < count → made ≡ nat_lt 0 done → StepGoes q false (next_turn q now.side.header sequence taken (so_far q h sequence m done).next) now next (so_far q h sequence m done).next after after' taken taken' → TurnsGo q h made sequence count (PartsAt q next) m before after'
 turns_stop q h sequence es rs m most done count now next before after after' taken taken' r made e few is step = subst (λ (b : Bool). TurnsGo q h b sequence count (PartsAt q next) m before after') (sym is) (elim (cases_eq done 0) [
   | inl none ↦ subst (λ (b : Bool). TurnsGo q h b sequence count (PartsAt q next) m before after') (sym (none_before done none)) (
     subst (λ (x : ℕ). is_due h q (choices_from q h sequence m (so_far q h sequence m x).next) (so_far q h sequence m x).next ≡ false) none ends,
@@ -258,14 +258,14 @@ turns_stop q h sequence es rs m most done count now next before after after' tak
 
     ends : is_due h q (choices_from q h sequence m n) n ≡ false
     ends =
-        let chosen : next_turn q now.front.header sequence taken n ≡ choices_from q h sequence m n = ap (λ (k : Header1). next_turn q k sequence taken n) e.same ∙ turn_is q h sequence m n taken e.here.taken_is in
-        subst (λ (k : Header1). is_due k q (choices_from q h sequence m n) n ≡ false) e.same (subst (λ (u : Turn). is_due now.front.header q u n ≡ false) chosen step.0)
+        let chosen : next_turn q now.side.header sequence taken n ≡ choices_from q h sequence m n = ap (λ (k : Header1). next_turn q k sequence taken n) e.same ∙ turn_is q h sequence m n taken e.here.taken_is in
+        subst (λ (k : Header1). is_due k q (choices_from q h sequence m n) n ≡ false) e.same (subst (λ (u : Turn). is_due now.side.header q u n ≡ false) chosen step.0)
 
     items_are : after' ≡ before ++ (so_far q h sequence m done).items
     items_are = step.2 ∙ e.here.items_are
 
 -- no more are outstanding than the ring has places
-pub outstanding_few : (q : ℕ) (h : Header1) (m : Moment) (w : Parts) → IsPlain h → Good q h m → PartsAt q w m → w.front.outstanding.offered - w.front.outstanding.collected ≤ 64
+pub outstanding_few : (q : ℕ) (h : Header1) (m : Moment) (w : Parts) → IsPlain h → Good q h m → PartsAt q w m → w.side.outstanding.offered - w.side.outstanding.collected ≤ 64
 outstanding_few q h m w plain good at =
     let few : h.size ≤ 64 = plain.good.size.small in
     omega (arith, few, good.holds.known.room, at.outstanding.offers_are, at.outstanding.collects_are)

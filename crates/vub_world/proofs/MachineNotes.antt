@@ -21,7 +21,7 @@ use Rattle.vub_shared.specs.declared.watched_shared.WatchedShared.{WatchedShared
 use Rattle.vub_report.specs.declared.items.Item.{Item}
 use Rattle.vub_report.specs.declared.items.Item.TheVariants as items
 use Rattle.vub_world.specs.MachineDevice.{stored_items, answer_for, answers_for, is_index, is_showing, number_at, queue_heads, queue_numbers}
-use Rattle.vub_world.specs.MachineFront.{area_of, IsSmall, OneSmall, store_item}
+use Rattle.vub_world.specs.MachineDriverSide.{area_of, IsSmall, OneSmall, store_item}
 
 -- ---- memory
 
@@ -64,8 +64,8 @@ one_noted tag area place bytes kept stores o space before after noted same copie
     let area_is : area ≡ area_of o.st.space = in_area ∙ ap (λ (st : Store). area_of st.space) same in
     let place_is : place ≡ o.st.place = ap (λ (st : Store). st.place) same in
     let bytes_is : kept ≡ o.st.bytes = copied ∙ ap (λ (st : Store). st.bytes) same in
-    let item : List Item → Area → ℕ → List ℕ → List Item = λ front a p bs. front ++ items.Store tag a p bs ∷ [] in
-    is ∙ ap (λ (front : List Item). item front area place kept) goes ∙ ap (λ (a : Area). item noted a place kept) area_is ∙ ap (λ (p : ℕ). item noted (area_of o.st.space) p kept) place_is
+    let item : List Item → Area → ℕ → List ℕ → List Item = λ side a p bs. side ++ items.Store tag a p bs ∷ [] in
+    is ∙ ap (λ (side : List Item). item side area place kept) goes ∙ ap (λ (a : Area). item noted a place kept) area_is ∙ ap (λ (p : ℕ). item noted (area_of o.st.space) p kept) place_is
     ∙ ap (item noted (area_of o.st.space) o.st.place) bytes_is
     ∙ ap (λ (is : List Item). noted ++ is) (sym (one_item stores tag o))
 

@@ -26,7 +26,7 @@ use Rattle.vub_room.specs.Rooms.{RoomState}
 use Rattle.vub_device.specs.declared.entry.Entry.{Entry}
 use Rattle.vub_device.specs.declared.entry.Entry.TheVariants as entries
 use Rattle.vub_device.specs.Past.{is_among, open_numbers, accepted, published, started}
-use Rattle.vub_queue.specs.declared.queue.QueueSetup.{QueueSetup}
+use Rattle.vub_setup.specs.Setups.{SplitSetup}
 use Rattle.vub_queue.specs.declared.queue.Stepped.{Stepped}
 use Rattle.vub_queue.specs.declared.queue.Stepped.TheVariants as says
 use Rattle.vub_queue.specs.QueueState.{QueueState, Publishes, MovesBy, step_in, step_said, row_said, row_at, seen_by}
@@ -48,7 +48,7 @@ use Rattle.vub_queue_in_run.specs.QueueAt.{QueueStands, LiesAs}
 use Rattle.vub_queue_in_run.proofs.TurnSays.{TurnSays, Notes, Accepts, Publishes as SaysPublishes, Rings, Starts}
 use Rattle.vub_world.specs.declared.outstanding.OutstandingRequests.{OutstandingRequests}
 use Rattle.vub_world.specs.declared.outstanding.OutstandingRequest.{OutstandingRequest}
-use Rattle.vub_world.specs.Fronts.{Parts, parts}
+use Rattle.vub_world.specs.DriverSides.{Parts, parts, setup_of}
 use Rattle.vub_world.specs.OutstandingRequests.{offered_in, collected_in, size_in}
 use Rattle.vub_world.specs.MachineAt.{AttachedAt, OutstandingAt, PartsAt, LifeAt}
 use Rattle.vub_world.specs.MachineDevice.{heads_of, numbers_of, queue_heads, queue_numbers, queue_started, number_at, noted, stored_items, answers_shown, started_in, StartFits, KeepsNumbers}
@@ -134,7 +134,7 @@ starts_items q h m t x row head batch (Rings s) e = absurd (let fails : says.Sta
 starts_items q h m t x row head batch (Starts s) e = s.made
 
 -- after a start the queue works on the open requests
-pub start_resumes : (q : ℕ) (h : Header1) (setup : QueueSetup) (m : Moment) (outstanding : OutstandingRequests) (x : Stepped) (row : Option Row) (head : ℕ) (batch : List ℕ) (state : QueueState) → Good q h m → OutstandingAt q h.size m.scene.past (m.scene.heads q) outstanding
+pub start_resumes : (q : ℕ) (h : Header1) (setup : SplitSetup) (m : Moment) (outstanding : OutstandingRequests) (x : Stepped) (row : Option Row) (head : ℕ) (batch : List ℕ) (state : QueueState) → Good q h m → OutstandingAt q h.size m.scene.past (m.scene.heads q) outstanding
     → (m.lanes q).completed ≡ [] → (m.lanes q).batch ≡ [] → TurnSays q h m turns.Start x row head batch → QueueStands q h setup (one_turn h q turns.Start m).next state → x ≡ says.Started → numbers_of outstanding state ≡ open_numbers m.scene.past q
 start_resumes q h setup m outstanding x row head batch state good numbered completed none says_so stands is =
     let n : Moment = (one_turn h q turns.Start m).next in
@@ -208,20 +208,20 @@ start_fits_in size room state (says.Damaged fault) fits = tt
 start_fits_in size room state (says.Broken fault) fits = tt
 
 -- the heads of an attached queue have places
-places_low : (q : ℕ) (h : Header1) (setup : QueueSetup) (m : Moment) (o : Option QueueState) (i head : ℕ) → AttachedAt q h setup m o → slice_get (queue_heads o) i ≡ Some head → head < setup.ring.size
+places_low : (q : ℕ) (h : Header1) (setup : SplitSetup) (m : Moment) (o : Option QueueState) (i head : ℕ) → AttachedAt q h setup m o → slice_get (queue_heads o) i ≡ Some head → head < setup.ring.size
 places_low q h setup m None i head at found = absurd (cc found)
 places_low q h setup m (Some s) i head at found = heads_low q h setup m.scene.past (m.scene.heads q) (m.lanes q).phase (hidden_part (m.lanes q).phase (m.lanes q).batch) (m.lanes q).completed (m.lanes q).made s i head at.2.at found
 
 -- the list of numbers has room for those of a start
-pub start_fits : (q : ℕ) (t : Turn) (w : Parts) (queue : Option QueueState) (memory : WatchedShared) (disk : MemDisk) (m : Moment) (x : Stepped) (r r' : RoomState) → Good q w.front.header m → LiesAs q w.front.setup w.front.header.size → PartsAt q w m → MachineTurns q t w (parts memory w.front queue disk) m x
-    → HasStartRoom (started_in w.life) w.front.outstanding r → r'.numbers ≡ r.numbers → StartFits (size_in w.front.outstanding) queue r'.numbers x
-start_fits q t w queue memory disk m x r r' good main at made room same = start_fits_in (size_in w.front.outstanding) r'.numbers queue x (λ is.
+pub start_fits : (q : ℕ) (t : Turn) (w : Parts) (queue : Option QueueState) (memory : WatchedShared) (disk : MemDisk) (m : Moment) (x : Stepped) (r r' : RoomState) → Good q w.side.header m → LiesAs q (setup_of w.side) w.side.header.size → PartsAt q w m → MachineTurns q t w (parts memory w.side queue disk) m x
+    → HasStartRoom (started_in w.life) w.side.outstanding r → r'.numbers ≡ r.numbers → StartFits (size_in w.side.outstanding) queue r'.numbers x
+start_fits q t w queue memory disk m x r r' good main at made room same = start_fits_in (size_in w.side.outstanding) r'.numbers queue x (λ is.
     let starts = made.starts is in
-    let long : length (queue_heads queue) ≡ length (open_numbers m.scene.past q) = sym (length-map (queue_heads queue) (number_at w.front.outstanding)) ∙ ap (λ (ks : List ℕ). length ks) (sym (queue_numbers_are w.front.outstanding queue) ∙ starts.1) in
-    let few = open_few q w.front.header m w.front.outstanding good at.outstanding in
+    let long : length (queue_heads queue) ≡ length (open_numbers m.scene.past q) = sym (length-map (queue_heads queue) (number_at w.side.outstanding)) ∙ ap (λ (ks : List ℕ). length ks) (sym (queue_numbers_are w.side.outstanding queue) ∙ starts.1) in
+    let few = open_few q w.side.header m w.side.outstanding good at.outstanding in
     let has = room starts.0 in (
       λ i head found.
-          let low : head < w.front.setup.ring.size = places_low q w.front.header w.front.setup (one_turn w.front.header q t m).next queue i head made.at.life.1 found in
+          let low : head < w.side.ring.size = places_low q w.side.header (setup_of w.side) (one_turn w.side.header q t m).next queue i head made.at.life.1 found in
           omega (arith, low, main.size, at.outstanding.places),
       omega (arith, long, few, has, same),
     ))
@@ -264,24 +264,24 @@ numbers_stay q h outstanding v stores answers opens room now (says.Damaged fault
 numbers_stay q h outstanding v stores answers opens room now (says.Broken fault) s stopped kept = (stopped, kept)
 
 -- a queue is started where the past says so, if it is attached
-started_as : (q : ℕ) (h : Header1) (setup : QueueSetup) (m : Moment) (o : Option QueueState) → AttachedAt q h setup m o → queue_started o ≡ started m.scene.past q
+started_as : (q : ℕ) (h : Header1) (setup : SplitSetup) (m : Moment) (o : Option QueueState) → AttachedAt q h setup m o → queue_started o ≡ started m.scene.past q
 started_as q h setup m None at = sym at.2
 started_as q h setup m (Some s) at = at.2.at.started
 
 -- after a turn that was made
-pub start_room_next : (q : ℕ) (t : Turn) (w : Parts) (before queue : Option QueueState) (memory : WatchedShared) (disk : MemDisk) (m : Moment) (x : Stepped) (r r' r'' : RoomState) → w.life ≡ Some before → PartsAt q w m → MachineTurns q t w (parts memory w.front queue disk) m x
-    → HasStartRoom (queue_started before) w.front.outstanding r → r'.numbers ≡ r.numbers → KeepsNumbers r'.numbers r''.numbers x → HasStartRoom (queue_started queue) w.front.outstanding r''
+pub start_room_next : (q : ℕ) (t : Turn) (w : Parts) (before queue : Option QueueState) (memory : WatchedShared) (disk : MemDisk) (m : Moment) (x : Stepped) (r r' r'' : RoomState) → w.life ≡ Some before → PartsAt q w m → MachineTurns q t w (parts memory w.side queue disk) m x
+    → HasStartRoom (queue_started before) w.side.outstanding r → r'.numbers ≡ r.numbers → KeepsNumbers r'.numbers r''.numbers x → HasStartRoom (queue_started queue) w.side.outstanding r''
 start_room_next q t w before queue memory disk m x r r' r'' has at made room same kept stopped =
-    let h : Header1 = w.front.header in
-    let old : queue_started before ≡ started m.scene.past q = started_as q h w.front.setup m before (subst (λ (l : Option (Option QueueState)). LifeAt q h w.front.setup m l) has at.life).1 in
-    let still : started (one_turn h q t m).next.scene.past q ≡ false = sym (started_as q h w.front.setup (one_turn h q t m).next queue made.at.life.1) ∙ stopped in
-    let stay = numbers_stay q h w.front.outstanding (values_of disk) (stores_in memory) (answers_shown q w.front.outstanding (bytes_in w.memory) w.life) (queue_numbers w.front.outstanding queue) r'.numbers r''.numbers x m.scene
+    let h : Header1 = w.side.header in
+    let old : queue_started before ≡ started m.scene.past q = started_as q h (setup_of w.side) m before (subst (λ (l : Option (Option QueueState)). LifeAt q h (setup_of w.side) m l) has at.life).1 in
+    let still : started (one_turn h q t m).next.scene.past q ≡ false = sym (started_as q h (setup_of w.side) (one_turn h q t m).next queue made.at.life.1) ∙ stopped in
+    let stay = numbers_stay q h w.side.outstanding (values_of disk) (stores_in memory) (answers_shown q w.side.outstanding (bytes_in w.memory) w.life) (queue_numbers w.side.outstanding queue) r'.numbers r''.numbers x m.scene
     (ap (λ (is : List Item). started (after_items h is m.scene).past q) (sym made.items_are) ∙ still) kept in
     let few = room (old ∙ stay.0) in
     omega (arith, few, same, stay.1)
 
 -- after one that wasn't
-pub start_room_still : (q : ℕ) (h : Header1) (setup : QueueSetup) (m : Moment) (before queue : Option QueueState) (outstanding : OutstandingRequests) (r r' : RoomState) → AttachedAt q h setup m before → AttachedAt q h setup m queue → HasStartRoom (queue_started before) outstanding r → r'.numbers ≡ r.numbers → HasStartRoom (queue_started queue) outstanding r'
+pub start_room_still : (q : ℕ) (h : Header1) (setup : SplitSetup) (m : Moment) (before queue : Option QueueState) (outstanding : OutstandingRequests) (r r' : RoomState) → AttachedAt q h setup m before → AttachedAt q h setup m queue → HasStartRoom (queue_started before) outstanding r → r'.numbers ≡ r.numbers → HasStartRoom (queue_started queue) outstanding r'
 start_room_still q h setup m before queue outstanding r r' old new room same stopped =
     let few = room (started_as q h setup m before old ∙ sym (started_as q h setup m queue new) ∙ stopped) in
     omega (arith, few, same)

@@ -8,7 +8,7 @@ use Rattle.vub_device.specs.Past.{accepted}
 use Rattle.vub_world.specs.declared.device.Sequence.{Sequence}
 use Rattle.vub_world.specs.declared.device.Sequence.TheVariants as sequences
 use Rattle.vub_world.specs.declared.machine.Machine.{Machine}
-use Rattle.vub_world.specs.Fronts.{Parts}
+use Rattle.vub_world.specs.DriverSides.{Parts}
 use Rattle.vub_report.specs.declared.items.Item.{Item}
 use Rattle.vub_report.specs.declared.items.Item.TheVariants as items
 use Rattle.vub_world.specs.Sequences.{choices_from, most_turns}
@@ -24,8 +24,8 @@ use Rattle.vub_run_laws.proofs.RunsTo.{stands_good}
 -- ---- room
 
 -- no more are outstanding than the ring has places
-pub standing_few : (q : ℕ) (w : Parts) → PartsStand q w → w.front.outstanding.offered - w.front.outstanding.collected ≤ 64
-standing_few q w s = outstanding_few q w.front.header s.2.0 w (plain_header w.front.header s.2.1.header) (stands_good q w.front.header s.0 s.1 s.2.0 s.2.3 s.2.1) s.2.2
+pub standing_few : (q : ℕ) (w : Parts) → PartsStand q w → w.side.outstanding.offered - w.side.outstanding.collected ≤ 64
+standing_few q w s = outstanding_few q w.side.header s.2.0 w (plain_header w.side.header s.2.1.header) (stands_good q w.side.header s.0 s.1 s.2.0 s.2.3 s.2.1) s.2.2
 
 -- ---- whether the first is ready
 

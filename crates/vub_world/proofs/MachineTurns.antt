@@ -34,12 +34,12 @@ use Rattle.vub_report.specs.declared.items.Item.{Item}
 use Rattle.vub_report.specs.declared.items.Item.TheVariants as items
 use Rattle.vub_queue.specs.declared.queue.Stepped.{Stepped}
 use Rattle.vub_queue.specs.declared.queue.Stepped.TheVariants as says
-use Rattle.vub_queue.specs.declared.queue.QueueSetup.{QueueSetup}
+use Rattle.vub_setup.specs.Setups.{SplitSetup}
 use Rattle.vub_task.specs.declared.task.Task.{Task}
 use Rattle.vub_world.specs.OutstandingRequests.{slot_in}
 use Rattle.vub_world.specs.MachineAt.{OutstandingAt, reads_of}
 use Rattle.vub_world.specs.MachineDevice.{Device, DeviceAt, TurnMade, IsMade, StoreFits, SectorFits, HeadFits, answer_for, answers_for, noted, stored_items, shown_of, is_index, accepts, number_at, numbers_of}
-use Rattle.vub_world.specs.MachineFront.{area_of, IsSmall, OneSmall}
+use Rattle.vub_world.specs.MachineDriverSide.{area_of, IsSmall, OneSmall}
 use Rattle.vub_run.specs.Memory.{Scene, space_of, after_items}
 use Rattle.vub_run.specs.Moments.{Lane, Moment, standing}
 use Rattle.vub_queue_in_run.specs.QueueAt.{spot_of, QueueStands, LiesAs, DiskAt}
@@ -71,7 +71,7 @@ use Rattle.vub_world.proofs.MachineResumes.{start_resumes, publish_never}
 -- ---- what a turn is given, and what it does
 
 -- the device stands at a moment of a run, and its memory keeps no store
-pub record TurnAt (q : ℕ) (h : Header1) (setup : QueueSetup) (m : Moment) (outstanding : OutstandingRequests) (d : Device) : Type 0 where
+pub record TurnAt (q : ℕ) (h : Header1) (setup : SplitSetup) (m : Moment) (outstanding : OutstandingRequests) (d : Device) : Type 0 where
   pub plain : IsPlain h
   pub good : Good q h m
   pub chained : ChainedAt q h m
@@ -141,7 +141,7 @@ store_memory h m d now tag area st same s =
     s.memory_is ∙ ap (λ (b : Bytes). put b st.space st.place st.bytes) same ∙ ap (λ (k : ℕ). put m.scene.memory k st.place st.bytes) s.small.space
 
 -- what it leaves, where its store is the only one among its items
-left_at : (q : ℕ) (h : Header1) (setup : QueueSetup) (m : Moment) (outstanding : OutstandingRequests) (t : Turn) (d now : Device) (tag : Tag) (area : Area) (st : Store) → TurnAt q h setup m outstanding d → IsNoWork t → QueueStands q h setup (one_turn h q t m).next now.queue → now.values ≡ d.values
+left_at : (q : ℕ) (h : Header1) (setup : SplitSetup) (m : Moment) (outstanding : OutstandingRequests) (t : Turn) (d now : Device) (tag : Tag) (area : Area) (st : Store) → TurnAt q h setup m outstanding d → IsNoWork t → QueueStands q h setup (one_turn h q t m).next now.queue → now.values ≡ d.values
     → StoredIn d now area st → (one_turn h q t m).next.scene.memory ≡ (after_items h (items.Store tag area st.place st.bytes ∷ []) m.scene).memory → DeviceAt q h setup (one_turn h q t m).next now
 left_at q h setup m outstanding t d now tag area st a none stands values s memory = record {
   stands = stands;
@@ -197,7 +197,7 @@ among_right xs ys k held = let joined : is_among (xs ++ ys) k ≡ (is_among xs k
 abbrev NotShown : ℕ → Moment → Type 0
 NotShown q m = (m.lanes q).phase ≡ phases.Publish (4 * length (m.lanes q).batch)
 
-answers_same : (q : ℕ) (h : Header1) (setup : QueueSetup) (m : Moment) (outstanding : OutstandingRequests) (d : Device) (y : Row) → TurnAt q h setup m outstanding d → NotShown q m → ShowsRow q y
+answers_same : (q : ℕ) (h : Header1) (setup : SplitSetup) (m : Moment) (outstanding : OutstandingRequests) (d : Device) (y : Row) → TurnAt q h setup m outstanding d → NotShown q m → ShowsRow q y
     → answers_for q outstanding d.memory d.queue.batch ≡ map (answer_at q (after_stored h y m.scene)) (m.lanes q).batch
 answers_same q h setup m outstanding d y a not_shown w =
     let l : Lane = m.lanes q in
@@ -235,7 +235,7 @@ stored_row d now x row y told is fine fresh fits =
     stored_in d now x y.area y.store fine fresh (record { space = fits.space; few = omega (arith, fits.few) }) left right
 
 -- what a turn is told to do and to leave
-record PhaseTurn (q : ℕ) (h : Header1) (setup : QueueSetup) (m : Moment) (outstanding : OutstandingRequests) (t : Turn) (d now : Device) (x : Stepped) (row : Option Row) : Type 0 where
+record PhaseTurn (q : ℕ) (h : Header1) (setup : SplitSetup) (m : Moment) (outstanding : OutstandingRequests) (t : Turn) (d now : Device) (x : Stepped) (row : Option Row) : Type 0 where
   pub given : TurnAt q h setup m outstanding d
   pub none : IsNoWork t
   pub ready : is_ready (standing h q m) t ≡ true
@@ -249,7 +249,7 @@ none_taken : (a b : ℕ) → b ≡ a → 0 + a ≡ b
 none_taken a b same = omega (arith, same)
 
 -- where the queue says this, with these items
-made_as : (q : ℕ) (h : Header1) (setup : QueueSetup) (m : Moment) (outstanding : OutstandingRequests) (t : Turn) (d now : Device) (x what : Stepped) (row : Option Row) (list : List Item) → PhaseTurn q h setup m outstanding t d now x row → x ≡ what → (turned h q t m).items ≡ list → is_idle what ≡ false → IsMade what
+made_as : (q : ℕ) (h : Header1) (setup : SplitSetup) (m : Moment) (outstanding : OutstandingRequests) (t : Turn) (d now : Device) (x what : Stepped) (row : Option Row) (list : List Item) → PhaseTurn q h setup m outstanding t d now x row → x ≡ what → (turned h q t m).items ≡ list → is_idle what ≡ false → IsMade what
     → list ≡ noted q outstanding now.values now.stores (shown_of q outstanding d.memory d.queue) (numbers_of outstanding now.queue) what → StoreFits what now.stores → SectorFits h.capacity what → HeadFits h.size what → now.memory ≡ (after_items h list m.scene).memory → accepts what + accepted m.scene.past q ≡ accepted (after_items h list m.scene).past q
     → TurnMade q h setup m t outstanding d now x
 made_as q h setup m outstanding t d now x what row list p said made goes fine notes store sector head memory takes = record {
@@ -269,14 +269,14 @@ made_as q h setup m outstanding t d now x what row list p said made goes fine no
 }
 
 -- a store and nothing else
-notes_made : (q : ℕ) (h : Header1) (setup : QueueSetup) (m : Moment) (outstanding : OutstandingRequests) (t : Turn) (d now : Device) (x : Stepped) (row : Option Row) (y : Row) → PhaseTurn q h setup m outstanding t d now x row → StoresRow q h m t x (says.Stored y.tag) row y [] → TurnMade q h setup m t outstanding d now x
+notes_made : (q : ℕ) (h : Header1) (setup : SplitSetup) (m : Moment) (outstanding : OutstandingRequests) (t : Turn) (d now : Device) (x : Stepped) (row : Option Row) (y : Row) → PhaseTurn q h setup m outstanding t d now x row → StoresRow q h m t x (says.Stored y.tag) row y [] → TurnMade q h setup m t outstanding d now x
 notes_made q h setup m outstanding t d now x row y p s =
     let st : StoredIn d now y.area y.store = stored_row d now x row y p.told s.is_row (ap outcome s.said) p.given.fresh s.fits in
     made_as q h setup m outstanding t d now x (says.Stored y.tag) row (row_item y ∷ []) p s.said s.made refl tt (sym (store_made d now y.tag y.area y.store st)) (one_small d now y.area y.store st) tt tt
     (store_memory h m d now y.tag y.area y.store p.given.at.memory_is st) (none_taken (accepted m.scene.past q) (accepted m.scene.past q) refl)
 
 -- nothing but the bell, or the end of a start
-none_made : (q : ℕ) (h : Header1) (setup : QueueSetup) (m : Moment) (outstanding : OutstandingRequests) (t : Turn) (d now : Device) (x what : Stepped) (row : Option Row) (item : Item) → PhaseTurn q h setup m outstanding t d now x row → StoresNone q h m t x what row item → is_idle what ≡ false → IsMade what
+none_made : (q : ℕ) (h : Header1) (setup : SplitSetup) (m : Moment) (outstanding : OutstandingRequests) (t : Turn) (d now : Device) (x what : Stepped) (row : Option Row) (item : Item) → PhaseTurn q h setup m outstanding t d now x row → StoresNone q h m t x what row item → is_idle what ≡ false → IsMade what
     → item ∷ [] ≡ noted q outstanding now.values now.stores (shown_of q outstanding d.memory d.queue) (numbers_of outstanding now.queue) what → StoreFits what now.stores → SectorFits h.capacity what → HeadFits h.size what → (after_items h (item ∷ []) m.scene).memory ≡ m.scene.memory
     → accepts what + accepted m.scene.past q ≡ accepted (after_items h (item ∷ []) m.scene).past q → TurnMade q h setup m t outstanding d now x
 none_made q h setup m outstanding t d now x what row item p s goes fine notes store sector head memory takes =
@@ -284,7 +284,7 @@ none_made q h setup m outstanding t d now x what row item p s goes fine notes st
     made_as q h setup m outstanding t d now x what row (item ∷ []) p s.said s.made goes fine notes store sector head (some_is now.memory d.memory kept ∙ p.given.at.memory_is ∙ sym memory) takes
 
 -- the request that is accepted is offered: it is so after the turn
-more_offered : (q : ℕ) (h : Header1) (setup : QueueSetup) (m : Moment) (outstanding : OutstandingRequests) (t : Turn) (d now : Device) (x : Stepped) (row : Option Row) (y : Row) → PhaseTurn q h setup m outstanding t d now x row
+more_offered : (q : ℕ) (h : Header1) (setup : SplitSetup) (m : Moment) (outstanding : OutstandingRequests) (t : Turn) (d now : Device) (x : Stepped) (row : Option Row) (y : Row) → PhaseTurn q h setup m outstanding t d now x row
     → (turned h q t m).items ≡ row_item y ∷ items.Made (entries.Accept q (accepted m.scene.past q)) ∷ [] → accepted m.scene.past q < length (m.scene.heads q)
 more_offered q h setup m outstanding t d now x row y p made =
     let after = turn_fine q h t m p.given.plain p.given.good p.ready in
@@ -293,7 +293,7 @@ more_offered q h setup m outstanding t d now x row y p made =
     omega (arith, after.holds.known.offered, many, ap (λ (hs : List ℕ). length hs) same)
 
 -- the acceptance of a head, with its store
-accepts_made : (q : ℕ) (h : Header1) (setup : QueueSetup) (m : Moment) (outstanding : OutstandingRequests) (t : Turn) (d now : Device) (x : Stepped) (row : Option Row) (y : Row) → PhaseTurn q h setup m outstanding t d now x row → y.tag ≡ SF2
+accepts_made : (q : ℕ) (h : Header1) (setup : SplitSetup) (m : Moment) (outstanding : OutstandingRequests) (t : Turn) (d now : Device) (x : Stepped) (row : Option Row) (y : Row) → PhaseTurn q h setup m outstanding t d now x row → y.tag ≡ SF2
     → StoresRow q h m t x (says.Accepted (slice_index (m.scene.heads q) (accepted m.scene.past q))) row y (items.Made (entries.Accept q (accepted m.scene.past q)) ∷ []) → TurnMade q h setup m t outstanding d now x
 accepts_made q h setup m outstanding t d now x row y p tag s =
     let k : ℕ = accepted m.scene.past q in
@@ -315,7 +315,7 @@ record ShowsNow (q : ℕ) (m : Moment) (d : Device) (batch : List ℕ) : Type 0 
   pub batch_is : batch ≡ (m.lanes q).batch
 
 -- the store that shows a batch
-shows_made : (q : ℕ) (h : Header1) (setup : QueueSetup) (m : Moment) (outstanding : OutstandingRequests) (t : Turn) (d now : Device) (x : Stepped) (row : Option Row) (y : Row) (batch : List ℕ) → PhaseTurn q h setup m outstanding t d now x row → ShowsRow q y
+shows_made : (q : ℕ) (h : Header1) (setup : SplitSetup) (m : Moment) (outstanding : OutstandingRequests) (t : Turn) (d now : Device) (x : Stepped) (row : Option Row) (y : Row) (batch : List ℕ) → PhaseTurn q h setup m outstanding t d now x row → ShowsRow q y
     → StoresRow q h m t x says.Published row y (items.Made (entries.Publish q (map (answer_at q (after_stored h y m.scene)) batch)) ∷ []) → ShowsNow q m d batch → TurnMade q h setup m t outstanding d now x
 shows_made q h setup m outstanding t d now x row y batch p w s shows =
     let st : StoredIn d now y.area y.store = stored_row d now x row y p.told s.is_row (ap outcome s.said) p.given.fresh s.fits in
@@ -328,7 +328,7 @@ shows_made q h setup m outstanding t d now x row y batch p w s shows =
     (store_memory h m d now y.tag y.area y.store p.given.at.memory_is st) (none_taken (accepted m.scene.past q) (accepted m.scene.past q) refl)
 
 -- whichever it is
-phase_made : (q : ℕ) (h : Header1) (setup : QueueSetup) (m : Moment) (outstanding : OutstandingRequests) (t : Turn) (d now : Device) (x : Stepped) (row : Option Row) (batch : List ℕ) → PhaseTurn q h setup m outstanding t d now x row → (x ≡ says.Published → ShowsNow q m d batch)
+phase_made : (q : ℕ) (h : Header1) (setup : SplitSetup) (m : Moment) (outstanding : OutstandingRequests) (t : Turn) (d now : Device) (x : Stepped) (row : Option Row) (batch : List ℕ) → PhaseTurn q h setup m outstanding t d now x row → (x ≡ says.Published → ShowsNow q m d batch)
     → TurnSays q h m t x row (slice_index (m.scene.heads q) (accepted m.scene.past q)) batch → TurnMade q h setup m t outstanding d now x
 phase_made q h setup m outstanding t d now x row batch p shows (Notes y s) = notes_made q h setup m outstanding t d now x row y p s
 phase_made q h setup m outstanding t d now x row batch p shows (Accepts y tag s) = accepts_made q h setup m outstanding t d now x row y p tag s
@@ -337,7 +337,7 @@ phase_made q h setup m outstanding t d now x row batch p shows (Rings s) = none_
 phase_made q h setup m outstanding t d now x row batch p shows (Starts s) = none_made q h setup m outstanding t d now x says.Started row (items.Made (entries.Start q (open_numbers m.scene.past q))) p s refl tt (ap (λ (ks : List ℕ). items.Made (entries.Start q ks) ∷ []) (sym (p.starts s.said).1)) tt tt tt refl (none_taken (accepted m.scene.past q) (accepted m.scene.past q) refl)
 
 -- what the device was told, at the moment
-told_now : (q : ℕ) (h : Header1) (setup : QueueSetup) (m : Moment) (outstanding : OutstandingRequests) (cap : ℕ) (sizes : ℕ → ℕ) (t : Turn) (d now : Device) (x : Stepped) → TurnAt q h setup m outstanding d → DeviceDoes t cap sizes d now x → Turns t (Some m.scene.memory) x d.queue now.queue
+told_now : (q : ℕ) (h : Header1) (setup : SplitSetup) (m : Moment) (outstanding : OutstandingRequests) (cap : ℕ) (sizes : ℕ → ℕ) (t : Turn) (d now : Device) (x : Stepped) → TurnAt q h setup m outstanding d → DeviceDoes t cap sizes d now x → Turns t (Some m.scene.memory) x d.queue now.queue
 told_now q h setup m outstanding cap sizes t d now x a does = subst (λ (b : Bytes). Turns t (Some b) x d.queue now.queue) a.at.memory_is does.does
 
 row_now : (d now : Device) (x : Stepped) (row : Bytes → Option Row) (m : Bytes) → d.memory ≡ m → StoresBy (Some d.memory) (Some now.memory) x row → TrailsBy (Some d.memory) (Some d.stores) (Some now.stores) x row → RowTold d now x (row m)
@@ -351,7 +351,7 @@ start_never false recovered.Done e = absurd (let fails : says.Started ≡ says.P
 start_never rings (recovered.Damaged fault) e = absurd (cc)
 start_never rings recovered.Failed e = absurd (cc)
 
-pub start_made : (q : ℕ) (h : Header1) (setup : QueueSetup) (m : Moment) (outstanding : OutstandingRequests) (cap : ℕ) (sizes : ℕ → ℕ) (d now : Device) (x : Stepped) → TurnAt q h setup m outstanding d → is_ready (standing h q m) turns.Start ≡ true → DeviceDoes turns.Start cap sizes d now x
+pub start_made : (q : ℕ) (h : Header1) (setup : SplitSetup) (m : Moment) (outstanding : OutstandingRequests) (cap : ℕ) (sizes : ℕ → ℕ) (d now : Device) (x : Stepped) → TurnAt q h setup m outstanding d → is_ready (standing h q m) turns.Start ≡ true → DeviceDoes turns.Start cap sizes d now x
     → TurnMade q h setup m turns.Start outstanding d now x
 start_made q h setup m outstanding cap sizes d now x a ready does =
     let told : Turns turns.Start (Some m.scene.memory) x d.queue now.queue = told_now q h setup m outstanding cap sizes turns.Start d now x a does in
@@ -370,7 +370,7 @@ start_made q h setup m outstanding cap sizes d now x a ready does =
       starts = λ is. (stopped, start_resumes q h setup m outstanding x (start_row d.queue m.scene.memory) 0 [] now.queue a.good a.numbered quiet.1.0 (a.good.holds.carries.quiet new) (s.says 0) s.stands is);
     }) (λ e. start_never (rings_next d.queue) (answer_in d.queue.recovery m.scene.memory) (sym (starts m.scene.memory refl).0 ∙ e)) (s.says (slice_index (m.scene.heads q) (accepted m.scene.past q)))
 
-pub fetch_made : (q : ℕ) (h : Header1) (setup : QueueSetup) (m : Moment) (outstanding : OutstandingRequests) (cap : ℕ) (sizes : ℕ → ℕ) (d now : Device) (x : Stepped) → TurnAt q h setup m outstanding d → is_ready (standing h q m) turns.Fetch ≡ true → DeviceDoes turns.Fetch cap sizes d now x
+pub fetch_made : (q : ℕ) (h : Header1) (setup : SplitSetup) (m : Moment) (outstanding : OutstandingRequests) (cap : ℕ) (sizes : ℕ → ℕ) (d now : Device) (x : Stepped) → TurnAt q h setup m outstanding d → is_ready (standing h q m) turns.Fetch ≡ true → DeviceDoes turns.Fetch cap sizes d now x
     → TurnMade q h setup m turns.Fetch outstanding d now x
 fetch_made q h setup m outstanding cap sizes d now x a ready does =
     let told : Turns turns.Fetch (Some m.scene.memory) x d.queue now.queue = told_now q h setup m outstanding cap sizes turns.Fetch d now x a does in
@@ -386,7 +386,7 @@ fetch_made q h setup m outstanding cap sizes d now x a ready does =
       starts = λ is. absurd (subst (λ (z : Stepped). Fetches (Some m.scene.memory) z d.queue told.0) is fetches);
     }) (λ e. absurd (subst (λ (z : Stepped). Fetches (Some m.scene.memory) z d.queue told.0) e fetches)) s.says
 
-pub publish_made : (q : ℕ) (h : Header1) (setup : QueueSetup) (m : Moment) (outstanding : OutstandingRequests) (cap : ℕ) (sizes : ℕ → ℕ) (most : ℕ) (d now : Device) (x : Stepped) → TurnAt q h setup m outstanding d → is_ready (standing h q m) (turns.Publish most) ≡ true
+pub publish_made : (q : ℕ) (h : Header1) (setup : SplitSetup) (m : Moment) (outstanding : OutstandingRequests) (cap : ℕ) (sizes : ℕ → ℕ) (most : ℕ) (d now : Device) (x : Stepped) → TurnAt q h setup m outstanding d → is_ready (standing h q m) (turns.Publish most) ≡ true
     → DeviceDoes (turns.Publish most) cap sizes d now x → TurnMade q h setup m (turns.Publish most) outstanding d now x
 publish_made q h setup m outstanding cap sizes most d now x a ready does =
     let t : Turn = turns.Publish most in
@@ -416,7 +416,7 @@ idle_values (turns.Work place) v w is does = absurd is
 idle_values (turns.Publish most) v w is does = some_is w v does
 
 -- whether a start or a publication is ready doesn't depend on what waits
-unready_still : (q : ℕ) (h : Header1) (setup : QueueSetup) (m : Moment) (t : Turn) (state : QueueState) → LiesAs q setup h.size → Holds q h m.scene (m.lanes q) → QueueStands q h setup m state → IsPhaseTurn t → is_ready (standing h q m) t ≡ false → (is_ready (states.standing_at state 0) t ≡ false) ⊎ IsEarly t
+unready_still : (q : ℕ) (h : Header1) (setup : SplitSetup) (m : Moment) (t : Turn) (state : QueueState) → LiesAs q setup h.size → Holds q h m.scene (m.lanes q) → QueueStands q h setup m state → IsPhaseTurn t → is_ready (standing h q m) t ≡ false → (is_ready (states.standing_at state 0) t ≡ false) ⊎ IsEarly t
 unready_still q h setup m turns.Start state main holds z is unready = inl (ready_same q h setup m state turns.Start main holds z ∙ unready)
 unready_still q h setup m turns.Fetch state main holds z is unready = inr tt
 unready_still q h setup m (turns.Work place) state main holds z is unready = absurd is
@@ -437,7 +437,7 @@ idle_memory (turns.Publish most) d now x is (inl unready) idle stores =
     some_is now.memory d.memory (subst (λ (o : Option Row). states.StoresRow (Some d.memory) (Some now.memory) x o) none (stores d.memory refl))
 idle_memory (turns.Publish most) d now x is (inr early) idle stores = absurd early
 
-pub idle_made : (q : ℕ) (h : Header1) (setup : QueueSetup) (m : Moment) (outstanding : OutstandingRequests) (cap : ℕ) (sizes : ℕ → ℕ) (t : Turn) (d now : Device) (x : Stepped) → TurnAt q h setup m outstanding d → IsPhaseTurn t → is_ready (standing h q m) t ≡ false
+pub idle_made : (q : ℕ) (h : Header1) (setup : SplitSetup) (m : Moment) (outstanding : OutstandingRequests) (cap : ℕ) (sizes : ℕ → ℕ) (t : Turn) (d now : Device) (x : Stepped) → TurnAt q h setup m outstanding d → IsPhaseTurn t → is_ready (standing h q m) t ≡ false
     → DeviceDoes t cap sizes d now x → (x ≡ says.Idle) × DeviceAt q h setup m now
 idle_made q h setup m outstanding cap sizes t d now x a is unready does =
     let told : Turns t (Some m.scene.memory) x d.queue now.queue = subst (λ (b : Bytes). Turns t (Some b) x d.queue now.queue) a.at.memory_is does.does in

@@ -25,7 +25,7 @@ use Rattle.vub_device.specs.declared.entry.Asked.{Asked}
 use Rattle.vub_device.specs.declared.entry.Entry.TheVariants as entries
 use Rattle.vub_device.specs.Past.{asked, published, collected, numbers, is_among}
 use Rattle.vub_world.specs.declared.outstanding.OutstandingRequests.{OutstandingRequests}
-use Rattle.vub_world.specs.Fronts.{Parts, FrontSound}
+use Rattle.vub_world.specs.DriverSides.{Parts, DriverSideSound, setup_of}
 use Rattle.vub_queue.specs.declared.queue.Stepped.{Stepped}
 use Rattle.vub_queue.specs.declared.queue.Stepped.TheVariants as says
 use Rattle.vub_report.specs.declared.items.Item.{Item}
@@ -36,7 +36,7 @@ use Rattle.vub_world.specs.MachineDevice.{Device, device, DeviceAt, TurnMade, De
 use Rattle.vub_world.specs.MachineSteps.{TurnGoes}
 use Rattle.vub_run.specs.Memory.{Scene, after_items}
 use Rattle.vub_run.specs.Moments.{Lane, Moment, standing}
-use Rattle.vub_queue.specs.declared.queue.QueueSetup.{QueueSetup}
+use Rattle.vub_setup.specs.Setups.{SplitSetup}
 use Rattle.vub_queue.specs.QueueState.{QueueState}
 use Rattle.vub_queue_in_run.specs.QueueAt.{DiskAt}
 use Rattle.vub_backend.specs.Backends.{EachLies}
@@ -124,42 +124,42 @@ with_device w memory queue disk = record w { memory = memory; life = with_queue 
 
 -- the machine stood at a moment with this queue
 pub record HasQueue (q : ℕ) (w : Parts) (m : Moment) (queue : QueueState) : Type 0 where
-  pub good : Good q w.front.header m
+  pub good : Good q w.side.header m
   pub at : PartsAt q w m
   pub life_is : w.life ≡ with_queue queue
 
-pub life_at : (q : ℕ) (w : Parts) (m : Moment) (queue : QueueState) → HasQueue q w m queue → LifeAt q w.front.header w.front.setup m (with_queue queue)
-life_at q w m queue has = subst (λ (l : Option (Option QueueState)). LifeAt q w.front.header w.front.setup m l) has.life_is has.at.life
+pub life_at : (q : ℕ) (w : Parts) (m : Moment) (queue : QueueState) → HasQueue q w m queue → LifeAt q w.side.header (setup_of w.side) m (with_queue queue)
+life_at q w m queue has = subst (λ (l : Option (Option QueueState)). LifeAt q w.side.header (setup_of w.side) m l) has.life_is has.at.life
 
 abbrev after_turn : ℕ → Parts → Turn → Moment → Moment
-after_turn q w t m = (one_turn w.front.header q t m).next
+after_turn q w t m = (one_turn w.side.header q t m).next
 
 -- after a turn that was made
-made_at : (q : ℕ) (w : Parts) (m : Moment) (queue queue' : QueueState) (t : Turn) (memory : WatchedShared) (disk : MemDisk) (d : Device) (x : Stepped) → HasQueue q w m queue → TurnMade q w.front.header w.front.setup m t w.front.outstanding d (device queue' memory disk) x
+made_at : (q : ℕ) (w : Parts) (m : Moment) (queue queue' : QueueState) (t : Turn) (memory : WatchedShared) (disk : MemDisk) (d : Device) (x : Stepped) → HasQueue q w m queue → TurnMade q w.side.header (setup_of w.side) m t w.side.outstanding d (device queue' memory disk) x
     → PartsAt q (with_device w memory queue' disk) (after_turn q w t m)
 made_at q w m queue queue' t memory disk d x has made =
     let life = life_at q w m queue has in
-    let keeps : Keeps q m.scene (after_turn q w t m).scene = subst (λ (is : List Item). Keeps q m.scene (after_items w.front.header is m.scene)) (sym made.items_are) (noted_keeps q w.front.header w.front.outstanding (values_of disk) (stores_in memory) (shown_of q w.front.outstanding d.memory d.queue) (numbers_of w.front.outstanding queue') x m.scene) in
-    let own : (after_turn q w t m).lanes q ≡ (turned w.front.header q t m).lane = at_own m.lanes q (turned w.front.header q t m).lane in
-    let driver : ((after_turn q w t m).lanes q).driver ≡ (m.lanes q).driver = ap (λ (l : Lane). l.driver) own ∙ turn_driver q w.front.header t m in
+    let keeps : Keeps q m.scene (after_turn q w t m).scene = subst (λ (is : List Item). Keeps q m.scene (after_items w.side.header is m.scene)) (sym made.items_are) (noted_keeps q w.side.header w.side.outstanding (values_of disk) (stores_in memory) (shown_of q w.side.outstanding d.memory d.queue) (numbers_of w.side.outstanding queue') x m.scene) in
+    let own : (after_turn q w t m).lanes q ≡ (turned w.side.header q t m).lane = at_own m.lanes q (turned w.side.header q t m).lane in
+    let driver : ((after_turn q w t m).lanes q).driver ≡ (m.lanes q).driver = ap (λ (l : Lane). l.driver) own ∙ turn_driver q w.side.header t m in
     record {
-      front = record {
+      side = record {
         memory = made.at.memory_is;
-        driver = has.at.front.driver ∙ sym driver;
-        asks = subst (λ (v : Driver). AskAt v.waiting w.front.asked) (sym driver) has.at.front.asks;
+        driver = has.at.side.driver ∙ sym driver;
+        asks = subst (λ (v : Driver). AskAt v.waiting w.side.asked) (sym driver) has.at.side.asks;
       };
-      position = has.at.position ∙ ap (λ (n : ℕ). (w.front.header.base + n) % 65536) (sym keeps.collects);
-      life = (life.0, (life.1.0, ap (λ (l : Lane). l.attached) own ∙ turned_stays q w.front.header t m ∙ life.1.1, made.at.stands));
+      position = has.at.position ∙ ap (λ (n : ℕ). (w.side.header.base + n) % 65536) (sym keeps.collects);
+      life = (life.0, (life.1.0, ap (λ (l : Lane). l.attached) own ∙ turned_stays q w.side.header t m ∙ life.1.1, made.at.stands));
       disk = made.at.disk;
-      outstanding = kept_slots q w.front.header.size m.scene (after_turn q w t m).scene w.front.outstanding keeps has.good.holds.known.shown has.at.outstanding;
+      outstanding = kept_slots q w.side.header.size m.scene (after_turn q w t m).scene w.side.outstanding keeps has.good.holds.known.shown has.at.outstanding;
     }
 
 -- after a turn in which nothing was made
-idle_at : (q : ℕ) (w : Parts) (m : Moment) (queue queue' : QueueState) (memory : WatchedShared) (disk : MemDisk) → HasQueue q w m queue → DeviceAt q w.front.header w.front.setup m (device queue' memory disk) → PartsAt q (with_device w memory queue' disk) m
+idle_at : (q : ℕ) (w : Parts) (m : Moment) (queue queue' : QueueState) (memory : WatchedShared) (disk : MemDisk) → HasQueue q w m queue → DeviceAt q w.side.header (setup_of w.side) m (device queue' memory disk) → PartsAt q (with_device w memory queue' disk) m
 idle_at q w m queue queue' memory disk has at =
     let life = life_at q w m queue has in
     record {
-      front = record { memory = at.memory_is; driver = has.at.front.driver; asks = has.at.front.asks };
+      side = record { memory = at.memory_is; driver = has.at.side.driver; asks = has.at.side.asks };
       position = has.at.position;
       life = (life.0, (life.1.0, life.1.1, at.stands));
       disk = at.disk;
@@ -167,25 +167,25 @@ idle_at q w m queue queue' memory disk has at =
     }
 
 -- the device stands where its queue does
-pub device_at : (q : ℕ) (w : Parts) (m : Moment) (queue : QueueState) (kept : WatchedShared) → HasQueue q w m queue → bytes_in kept ≡ bytes_in w.memory → DeviceAt q w.front.header w.front.setup m (device queue kept w.disk)
-device_at q w m queue kept has same = record { stands = (life_at q w m queue has).1.2; memory_is = same ∙ has.at.front.memory; disk = has.at.disk }
+pub device_at : (q : ℕ) (w : Parts) (m : Moment) (queue : QueueState) (kept : WatchedShared) → HasQueue q w m queue → bytes_in kept ≡ bytes_in w.memory → DeviceAt q w.side.header (setup_of w.side) m (device queue kept w.disk)
+device_at q w m queue kept has same = record { stands = (life_at q w m queue has).1.2; memory_is = same ∙ has.at.side.memory; disk = has.at.disk }
 
 -- a turn of the device is one of the machine
 pub turn_goes : (q : ℕ) (w : Parts) (m : Moment) (queue queue' : QueueState) (t : Turn) (kept memory : WatchedShared) (disk : MemDisk) (x : Stepped) → HasQueue q w m queue → bytes_in kept ≡ bytes_in w.memory
-    → DeviceTurns q w.front.header w.front.setup m t w.front.outstanding (device queue kept w.disk) (device queue' memory disk) x → TurnGoes q t w (with_device w memory queue' disk) m x
+    → DeviceTurns q w.side.header (setup_of w.side) m t w.side.outstanding (device queue kept w.disk) (device queue' memory disk) x → TurnGoes q t w (with_device w memory queue' disk) m x
 turn_goes q w m queue queue' t kept memory disk x has same does =
     let life = life_at q w m queue has in
     let d : Device = device queue kept w.disk in (
       λ due.
-          let ready : is_ready (standing w.front.header q m) t ≡ true = grind (arith, nat_tests) in
-          let made : TurnMade q w.front.header w.front.setup m t w.front.outstanding d (device queue' memory disk) x = does.0 ready in
-          let shown : shown_of q w.front.outstanding (bytes_in kept) queue ≡ answers_shown q w.front.outstanding (bytes_in w.memory) w.life =
-          ap (λ (b : Bytes). shown_of q w.front.outstanding b queue) same ∙ sym (ap (answers_shown q w.front.outstanding (bytes_in w.memory)) has.life_is) in
+          let ready : is_ready (standing w.side.header q m) t ≡ true = grind (arith, nat_tests) in
+          let made : TurnMade q w.side.header (setup_of w.side) m t w.side.outstanding d (device queue' memory disk) x = does.0 ready in
+          let shown : shown_of q w.side.outstanding (bytes_in kept) queue ≡ answers_shown q w.side.outstanding (bytes_in w.memory) w.life =
+          ap (λ (b : Bytes). shown_of q w.side.outstanding b queue) same ∙ sym (ap (answers_shown q w.side.outstanding (bytes_in w.memory)) has.life_is) in
           record {
             goes = made.goes;
             made = made.made;
             at = made_at q w m queue queue' t memory disk d x has made;
-            items_are = made.items_are ∙ ap (λ (as_shown : List Answered). noted q w.front.outstanding (values_of disk) (stores_in memory) as_shown (numbers_of w.front.outstanding queue') x) shown;
+            items_are = made.items_are ∙ ap (λ (as_shown : List Answered). noted q w.side.outstanding (values_of disk) (stores_in memory) as_shown (numbers_of w.side.outstanding queue') x) shown;
             store = made.store;
             sector = made.sector;
             head = made.head;
@@ -193,7 +193,7 @@ turn_goes q w m queue queue' t kept memory disk x has same does =
             starts = λ is. (ap started_in has.life_is ∙ (made.starts is).0, (made.starts is).1);
           },
       λ late.
-          let unready : is_ready (standing w.front.header q m) t ≡ false = ap (λ (b : Bool). b && is_ready (standing w.front.header q m) t) (sym life.1.1) ∙ late in
+          let unready : is_ready (standing w.side.header q m) t ≡ false = ap (λ (b : Bool). b && is_ready (standing w.side.header q m) t) (sym life.1.1) ∙ late in
           let idle = does.1 unready in
           (idle.0, idle_at q w m queue queue' memory disk has idle.1),
     )
@@ -206,30 +206,30 @@ abbrev pub has_no_queue : Option (Option QueueState) → Type 0
 has_no_queue None = ⊤
 has_no_queue (Some l) = l ≡ None
 
-pub none_attached : (q : ℕ) (w : Parts) (m : Moment) → Good q w.front.header m → PartsAt q w m → has_no_queue w.life → (m.lanes q).attached ≡ false
+pub none_attached : (q : ℕ) (w : Parts) (m : Moment) → Good q w.side.header m → PartsAt q w m → has_no_queue w.life → (m.lanes q).attached ≡ false
 none_attached q w m good at none = go w.life at.life none
   where
-    with_queue_or : (queue : Option QueueState) → AttachedAt q w.front.header w.front.setup m queue → queue ≡ None → (m.lanes q).attached ≡ false
+    with_queue_or : (queue : Option QueueState) → AttachedAt q w.side.header (setup_of w.side) m queue → queue ≡ None → (m.lanes q).attached ≡ false
     with_queue_or None at none = at.1
     with_queue_or (Some queue) at none = absurd (let fails : Some queue ≡ None = none in cc)
 
-    go : (l : Option (Option QueueState)) → LifeAt q w.front.header w.front.setup m l → has_no_queue l → (m.lanes q).attached ≡ false
+    go : (l : Option (Option QueueState)) → LifeAt q w.side.header (setup_of w.side) m l → has_no_queue l → (m.lanes q).attached ≡ false
     go None at none = (good.asleep at).0
     go (Some l) at none = with_queue_or l at.1 none
 
 -- so the machine stands where it did
 pub turn_rests : (q : ℕ) (w : Parts) (m : Moment) (t : Turn) (memory : WatchedShared) (disk : MemDisk) (x : Stepped) → PartsAt q w m → w.life ≡ Some None → x ≡ says.Idle → bytes_in memory ≡ bytes_in w.memory → values_of disk ≡ values_of w.disk → TurnGoes q t w (record w { memory = memory; life = Some None; disk = disk }) m x
 turn_rests q w m t memory disk x at none idle bytes values =
-    let life : LifeAt q w.front.header w.front.setup m (Some None) = subst (λ (l : Option (Option QueueState)). LifeAt q w.front.header w.front.setup m l) none at.life in
-    let never : is_due w.front.header q t m ≡ false = undue q w.front.header t m life.1.1 in (
+    let life : LifeAt q w.side.header (setup_of w.side) m (Some None) = subst (λ (l : Option (Option QueueState)). LifeAt q w.side.header (setup_of w.side) m l) none at.life in
+    let never : is_due w.side.header q t m ≡ false = undue q w.side.header t m life.1.1 in (
       λ due. absurd (let fails : true ≡ false = sym due ∙ never in cc),
       λ late. (
         idle,
         record {
-          front = record { memory = bytes ∙ at.front.memory; driver = at.front.driver; asks = at.front.asks };
+          side = record { memory = bytes ∙ at.side.memory; driver = at.side.driver; asks = at.side.asks };
           position = at.position;
           life = life;
-          disk = subst (λ (v : Values). DiskAt w.front.header.capacity m.scene.past v) (sym values) at.disk;
+          disk = subst (λ (v : Values). DiskAt w.side.header.capacity m.scene.past v) (sym values) at.disk;
           outstanding = at.outstanding;
         },
       ),
@@ -241,7 +241,7 @@ attached_or None = inr refl
 attached_or (Some s) = inl (s, refl)
 
 -- it stays on its rings
-pub still_on : (setup : QueueSetup) (old new : Option QueueState) → (old ≡ None → new ≡ None) → ((s t : QueueState) → old ≡ Some s → new ≡ Some t → t.ring ≡ s.ring) → IsAttachedOn setup old → IsAttachedOn setup new
+pub still_on : (setup : SplitSetup) (old new : Option QueueState) → (old ≡ None → new ≡ None) → ((s t : QueueState) → old ≡ Some s → new ≡ Some t → t.ring ≡ s.ring) → IsAttachedOn setup old → IsAttachedOn setup new
 still_on setup old None rests rings on = tt
 still_on setup None (Some t) rests rings on = absurd (let fails : Some t ≡ None = rests refl in cc)
 still_on setup (Some s) (Some t) rests rings on = rings s t refl refl ∙ on
@@ -252,8 +252,8 @@ still_on setup (Some s) (Some t) rests rings on = rings s t refl refl ∙ on
 pub lie_still : (w kept : WatchedShared) (capacity : ℕ) (queues : List (Option QueueState)) → EachLies (watched.sizes_in w) capacity queues → memory_in kept ≡ memory_in w → EachLies (watched.sizes_in kept) capacity queues
 lie_still w kept capacity queues lies same = subst (λ (x : MemShared). EachLies (sizes_of x) capacity queues) (sym same) lies
 
-pub kept_room : (w : Parts) (kept : WatchedShared) → FrontSound w.memory w.front → memory_in kept ≡ memory_in w.memory → area_place w.front.index + 1048576 ≤ watched.sizes_in kept 0
-kept_room w kept sound same = subst (λ (x : MemShared). area_place w.front.index + 1048576 ≤ sizes_of x 0) (sym same) sound.room
+pub kept_room : (w : Parts) (kept : WatchedShared) → DriverSideSound w.memory w.side → memory_in kept ≡ memory_in w.memory → area_place w.side.index + 1048576 ≤ watched.sizes_in kept 0
+kept_room w kept sound same = subst (λ (x : MemShared). area_place w.side.index + 1048576 ≤ sizes_of x 0) (sym same) sound.room
 
 pub kept_bytes : (w : Parts) (kept : WatchedShared) → memory_in kept ≡ memory_in w.memory → bytes_in kept ≡ bytes_in w.memory
 kept_bytes w kept same = ap (λ (x : MemShared). bytes_of x) same

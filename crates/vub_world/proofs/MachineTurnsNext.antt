@@ -5,7 +5,7 @@ use Rattle.vub_shared.specs.Bytes.{Bytes}
 use Rattle.vub_steps.specs.declared.readiness.Turn.{Turn}
 use Rattle.vub_steps.specs.declared.readiness.Choice.{Choice}
 use Rattle.vub_steps.specs.Readiness.{is_ready, chosen}
-use Rattle.vub_queue.specs.declared.queue.QueueSetup.{QueueSetup}
+use Rattle.vub_setup.specs.Setups.{SplitSetup}
 use Rattle.vub_world.specs.MachineAt.{IsReached}
 use Rattle.vub_world.specs.MachineDevice.{turn_here}
 use Rattle.vub_run.specs.Moments.{Moment, standing}
@@ -30,11 +30,11 @@ reached_holds q h m is = subst (λ (n : Moment). Good q h n × ChainedAt q h n) 
 -- ---- which turn it is
 
 -- the same turns are ready in the queue and at the moment
-pub ready_here : (q : ℕ) (h : Header1) (setup : QueueSetup) (m : Moment) (state : QueueState) (b : Bytes) (t : Turn) → LiesAs q setup h.size → Holds q h m.scene (m.lanes q) → QueueStands q h setup m state → b ≡ m.scene.memory → is_ready (standing_at state (waiting state b)) t ≡ is_ready (standing h q m) t
+pub ready_here : (q : ℕ) (h : Header1) (setup : SplitSetup) (m : Moment) (state : QueueState) (b : Bytes) (t : Turn) → LiesAs q setup h.size → Holds q h m.scene (m.lanes q) → QueueStands q h setup m state → b ≡ m.scene.memory → is_ready (standing_at state (waiting state b)) t ≡ is_ready (standing h q m) t
 ready_here q h setup m state b t main holds z memory = ap (λ (c : Bytes). is_ready (standing_at state (waiting state c)) t) memory ∙ ready_same q h setup m state t main holds z
 
 -- and the same is chosen
-pub turn_same : (q : ℕ) (h : Header1) (setup : QueueSetup) (m : Moment) (state : QueueState) (b : Bytes) (choice : Choice) → LiesAs q setup h.size → Holds q h m.scene (m.lanes q) → QueueStands q h setup m state → b ≡ m.scene.memory
+pub turn_same : (q : ℕ) (h : Header1) (setup : SplitSetup) (m : Moment) (state : QueueState) (b : Bytes) (choice : Choice) → LiesAs q setup h.size → Holds q h m.scene (m.lanes q) → QueueStands q h setup m state → b ≡ m.scene.memory
     → chosen state.ring.size choice (standing_at state (waiting state b)) ≡ turn_here q h choice m
 turn_same q h setup m state b choice main holds z memory =
     ap (λ (n : ℕ). chosen n choice (standing_at state (waiting state b))) (places_are q h setup m state main z)

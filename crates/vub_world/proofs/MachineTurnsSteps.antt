@@ -7,7 +7,7 @@ use Rattle.vub_shared.specs.Watched.{bytes_in, stores_in}
 use Rattle.vub_memdisk.specs.MemDisks.{values_of}
 use Rattle.vub_steps.specs.declared.readiness.Turn.{Turn}
 use Rattle.vub_device.specs.declared.entry.Answered.{Answered}
-use Rattle.vub_world.specs.Fronts.{Parts}
+use Rattle.vub_world.specs.DriverSides.{Parts}
 use Rattle.vub_queue.specs.declared.queue.Stepped.{Stepped}
 use Rattle.vub_queue.specs.declared.queue.Stepped.TheVariants as says
 use Rattle.vub_report.specs.declared.items.Item.{Item}
@@ -66,8 +66,8 @@ spends_turn (suc shown) r mid now spent turn = record {
 }
 
 -- a turn that made nothing
-pub step_ends : (q : ℕ) (t : Turn) (w now : Parts) (m : Moment) (x : Stepped) → is_idle x ≡ true → TurnGoes q t w now m x → (is_due w.front.header q t m ≡ false) × PartsAt q now m
-step_ends q t w now m x idle goes = elim (cases_Bool (is_due w.front.header q t m)) [
+pub step_ends : (q : ℕ) (t : Turn) (w now : Parts) (m : Moment) (x : Stepped) → is_idle x ≡ true → TurnGoes q t w now m x → (is_due w.side.header q t m ≡ false) × PartsAt q now m
+step_ends q t w now m x idle goes = elim (cases_Bool (is_due w.side.header q t m)) [
   | inl due ↦ absurd (
       let made = goes.0 due in
       let fails : true ≡ false = sym idle ∙ made.goes in
@@ -76,20 +76,20 @@ step_ends q t w now m x idle goes = elim (cases_Bool (is_due w.front.header q t 
 ]
 
 -- a turn that made something
-pub step_goes : (q : ℕ) (t : Turn) (w now : Parts) (m : Moment) (x : Stepped) → is_idle x ≡ false → TurnGoes q t w now m x → (is_due w.front.header q t m ≡ true) × MachineTurns q t w now m x
-step_goes q t w now m x other goes = elim (cases_Bool (is_due w.front.header q t m)) [
+pub step_goes : (q : ℕ) (t : Turn) (w now : Parts) (m : Moment) (x : Stepped) → is_idle x ≡ false → TurnGoes q t w now m x → (is_due w.side.header q t m ≡ true) × MachineTurns q t w now m x
+step_goes q t w now m x other goes = elim (cases_Bool (is_due w.side.header q t m)) [
   | inl due ↦ (due, goes.0 due)
   | inr undue ↦ absurd (let fails : true ≡ false = sym (ap is_idle (goes.1 undue).0) ∙ other in cc)
 ]
 
 -- the items that are noted of it
-pub step_made : (q : ℕ) (t : Turn) (w now : Parts) (m : Moment) (x : Stepped) (before noted_items : List Item) (answers : List Answered) → is_idle x ≡ false → TurnGoes q t w now m x → answers ≡ answers_shown q w.front.outstanding (bytes_in w.memory) w.life
-    → noted_items ≡ before ++ noted q now.front.outstanding (values_of now.disk) (stores_in now.memory) answers (numbers_in now.front.outstanding now.life) x → StepGoes q true t w now m before noted_items 0 (accepts x)
+pub step_made : (q : ℕ) (t : Turn) (w now : Parts) (m : Moment) (x : Stepped) (before noted_items : List Item) (answers : List Answered) → is_idle x ≡ false → TurnGoes q t w now m x → answers ≡ answers_shown q w.side.outstanding (bytes_in w.memory) w.life
+    → noted_items ≡ before ++ noted q now.side.outstanding (values_of now.disk) (stores_in now.memory) answers (numbers_in now.side.outstanding now.life) x → StepGoes q true t w now m before noted_items 0 (accepts x)
 step_made q t w now m x before noted_items answers other goes shown notes =
     let made = step_goes q t w now m x other goes in (
       made.0,
       made.1.at,
-      notes ∙ ap (λ (l : List Answered). before ++ noted q now.front.outstanding (values_of now.disk) (stores_in now.memory) l (numbers_in now.front.outstanding now.life) x) shown ∙ ap (λ (l : List Item). before ++ l) (sym made.1.items_are),
+      notes ∙ ap (λ (l : List Answered). before ++ noted q now.side.outstanding (values_of now.disk) (stores_in now.memory) l (numbers_in now.side.outstanding now.life) x) shown ∙ ap (λ (l : List Item). before ++ l) (sym made.1.items_are),
       omega (arith, made.1.taken),
     )
 
@@ -129,7 +129,7 @@ due_same q h m t u same = elim (cases_Bool (m.lanes q).attached) [
 -- a step of the turn that comes next
 pub step_chosen : (q : ℕ) (made : Bool) (t u : Turn) (w now : Parts) (m : Moment) (before after : List Item) (taken taken_after more : ℕ) → ((m.lanes q).attached ≡ true → t ≡ u) → taken_after ≡ taken + more
     → StepGoes q made t w now m before after 0 more → StepGoes q made u w now m before after taken taken_after
-step_chosen q false t u w now m before after taken taken_after more same counts goes = (sym (due_same q w.front.header m t u same) ∙ goes.0, goes.1, goes.2)
+step_chosen q false t u w now m before after taken taken_after more same counts goes = (sym (due_same q w.side.header m t u same) ∙ goes.0, goes.1, goes.2)
 step_chosen q true t u w now m before after taken taken_after more same counts goes =
     let attached : (m.lanes q).attached ≡ true = grind (arith, nat_tests, goes.0) in
     let went : StepGoes q true u w now m before after 0 more = subst (λ (v : Turn). StepGoes q true v w now m before after 0 more) (same attached) goes in

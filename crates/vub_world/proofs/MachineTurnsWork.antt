@@ -24,10 +24,10 @@ use Rattle.vub_queue.specs.declared.queue.Stepped.{Stepped}
 use Rattle.vub_queue.specs.declared.queue.Stepped.TheVariants as says
 use Rattle.vub_steps.specs.declared.readiness.Choice.{Choice}
 use Rattle.vub_steps.specs.declared.readiness.Choice.TheVariants as choices
-use Rattle.vub_queue.specs.declared.queue.QueueSetup.{QueueSetup}
+use Rattle.vub_setup.specs.Setups.{SplitSetup}
 use Rattle.vub_task.specs.declared.task.Task.{Task}
 use Rattle.vub_world.specs.MachineDevice.{Device, DeviceAt, TurnMade, DeviceTurns, IsMade, StoreFits, SectorFits, HeadFits, noted, stored_items, shown_of, accepts, number_at, numbers_of}
-use Rattle.vub_world.specs.MachineFront.{OneSmall}
+use Rattle.vub_world.specs.MachineDriverSide.{OneSmall}
 use Rattle.vub_run.specs.Memory.{after_items}
 use Rattle.vub_run.specs.Moments.{Moment, standing}
 use Rattle.vub_queue_in_run.specs.QueueAt.{QueueStands, DiskAt}
@@ -179,7 +179,7 @@ work_noted q h m t outstanding d now k task n (says.Damaged fault) g shows = abs
 work_noted q h m t outstanding d now k task n says.SharedFault g shows = absurd shows
 work_noted q h m t outstanding d now k task n (says.Broken fault) g shows = absurd shows
 
-pub work_made : (q : ℕ) (h : Header1) (setup : QueueSetup) (m : Moment) (outstanding : OutstandingRequests) (sizes : ℕ → ℕ) (place : ℕ) (d now : Device) (x : Stepped) → TurnAt q h setup m outstanding d → area_place q + 1048576 ≤ sizes 0 → is_ready (standing h q m) (turns.Work place) ≡ true
+pub work_made : (q : ℕ) (h : Header1) (setup : SplitSetup) (m : Moment) (outstanding : OutstandingRequests) (sizes : ℕ → ℕ) (place : ℕ) (d now : Device) (x : Stepped) → TurnAt q h setup m outstanding d → area_place q + 1048576 ≤ sizes 0 → is_ready (standing h q m) (turns.Work place) ≡ true
     → DeviceDoes (turns.Work place) h.capacity sizes d now x → TurnMade q h setup m (turns.Work place) outstanding d now x
 work_made q h setup m outstanding sizes place d now x a room ready does =
     let state : QueueState = d.queue in
@@ -227,7 +227,7 @@ work_asked size s (choices.Drain accepted) place is unready = absurd (let fails 
 abbrev pub RestsAt : Device → Device → Stepped → Type 0
 RestsAt d now x = Rests (Some d.memory) (Some now.memory) (Some d.stores) (Some now.stores) (Some d.values) (Some now.values) x d.queue now.queue
 
-rests_at : (q : ℕ) (h : Header1) (setup : QueueSetup) (m : Moment) (outstanding : OutstandingRequests) (d now : Device) (x : Stepped) → TurnAt q h setup m outstanding d → RestsAt d now x → (x ≡ says.Idle) × DeviceAt q h setup m now
+rests_at : (q : ℕ) (h : Header1) (setup : SplitSetup) (m : Moment) (outstanding : OutstandingRequests) (d now : Device) (x : Stepped) → TurnAt q h setup m outstanding d → RestsAt d now x → (x ≡ says.Idle) × DeviceAt q h setup m now
 rests_at q h setup m outstanding d now x a rests = (
   rests.idle,
   record {
@@ -240,7 +240,7 @@ rests_at q h setup m outstanding d now x a rests = (
 -- ---- any turn
 
 -- it is made where it is due, and else nothing is
-pub device_turns : (q : ℕ) (h : Header1) (setup : QueueSetup) (m : Moment) (outstanding : OutstandingRequests) (sizes : ℕ → ℕ) (t : Turn) (d now : Device) (x : Stepped) → TurnAt q h setup m outstanding d → area_place q + 1048576 ≤ sizes 0
+pub device_turns : (q : ℕ) (h : Header1) (setup : SplitSetup) (m : Moment) (outstanding : OutstandingRequests) (sizes : ℕ → ℕ) (t : Turn) (d now : Device) (x : Stepped) → TurnAt q h setup m outstanding d → area_place q + 1048576 ≤ sizes 0
     → ((place : ℕ) → t ≡ turns.Work place → is_ready (standing h q m) (turns.Work place) ≡ false → RestsAt d now x) → DeviceDoes t h.capacity sizes d now x → DeviceTurns q h setup m t outstanding d now x
 device_turns q h setup m outstanding sizes turns.Start d now x a room rests does = (λ ready. start_made q h setup m outstanding h.capacity sizes d now x a ready does, λ unready. idle_made q h setup m outstanding h.capacity sizes turns.Start d now x a tt unready does)
 device_turns q h setup m outstanding sizes turns.Fetch d now x a room rests does = (λ ready. fetch_made q h setup m outstanding h.capacity sizes d now x a ready does, λ unready. idle_made q h setup m outstanding h.capacity sizes turns.Fetch d now x a tt unready does)

@@ -5,7 +5,7 @@ use Rattle.vub_base.specs.declared.faults.Memory.{Memory}
 use Rattle.vub_report.specs.declared.items.Record.{Record}
 use Rattle.vub_schedule.specs.declared.types.Event.{Event}
 use Rattle.vub_world.specs.declared.machine.Machine.{Machine}
-use Rattle.vub_world.specs.Fronts.{offers_in}
+use Rattle.vub_world.specs.DriverSides.{offers_in}
 use Rattle.vub_world.specs.MachineAt.{StandsOn}
 
 -- the machine with the record of an event as its last

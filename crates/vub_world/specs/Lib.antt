@@ -1,11 +1,11 @@
 pub mod Bells
-pub mod Fronts
+pub mod DriverSides
 pub mod Lending
 pub mod Lives
 pub mod Machine
 pub mod MachineAt
 pub mod MachineDevice
-pub mod MachineFront
+pub mod MachineDriverSide
 pub mod MachineSteps
 pub mod OutstandingRequests
 pub mod Regions

@@ -2,7 +2,7 @@
 use Rattle.std.specs.Prelude.{◌≡◌, ℕ, length, Option, Some, None, ⊤}
 use Rattle.vub_backend.specs.declared.backend.Backend.{Backend}
 use Rattle.vub_backend.specs.Backends.{queues_of, attached_in, EachLies}
-use Rattle.vub_queue.specs.declared.queue.QueueSetup.{QueueSetup}
+use Rattle.vub_setup.specs.Setups.{SplitSetup}
 use Rattle.vub_queue.specs.QueueState.{QueueState}
 
 -- queue q of a backend, where it is attached
@@ -15,11 +15,11 @@ life_of q None = None
 life_of q (Some b) = Some (queue_in q b)
 
 -- the queue of a life is on the rings of a set-up, where it is attached
-abbrev pub IsAttachedOn : QueueSetup → Option QueueState → Type 0
+abbrev pub IsAttachedOn : SplitSetup → Option QueueState → Type 0
 IsAttachedOn setup None = ⊤
 IsAttachedOn setup (Some queue) = queue.ring ≡ setup.ring
 
-abbrev pub IsOnInLife : QueueSetup → Option (Option QueueState) → Type 0
+abbrev pub IsOnInLife : SplitSetup → Option (Option QueueState) → Type 0
 IsOnInLife setup None = ⊤
 IsOnInLife setup (Some queue) = IsAttachedOn setup queue
 

@@ -10,25 +10,25 @@ use Rattle.vub_world.specs.Lending.{Lends}
 use Rattle.vub_world.specs.MachineAt.{IsStanding}
 use Rattle.vub_schedule.specs.Spelling.{IsHeader}
 use Rattle.vub_memdisk.specs.MemDisks.{capacity_of}
-use Rattle.vub_world.specs.declared.front.Front.{Front}
+use Rattle.vub_world.specs.declared.driver_side.DriverSide.{DriverSide}
 use Rattle.vub_shared.specs.Watched.{sizes_in}
 use Rattle.vub_world.specs.Lives.{IsBackendInLife}
-use Rattle.vub_world.specs.Fronts.{PartsSound, parts_of, offers_in}
+use Rattle.vub_world.specs.DriverSides.{PartsSound, parts_of, offers_in}
 use Rattle.vub_world.specs.OutstandingRequests.{offered_in}
 use Rattle.vub_world.specs.declared.machine.Machine.{Machine}
 
 -- each of the header's queues has its parts
 pub record IsSound (w : Machine) : Type 0 where
   pub header : IsHeader w.header
-  pub many : length w.fronts.items ≡ w.header.queues
+  pub many : length w.sides.items ≡ w.header.queues
   pub backend : IsBackendInLife w.header.queues (sizes_in w.memory) (capacity_of w.disk) w.life
   pub disk : capacity_of w.disk ≡ w.header.capacity
-  pub headers : (q : ℕ) (front : Front) → slice_get w.fronts.items q ≡ Some front → front.header ≡ w.header
-  pub parts : (q : ℕ) (front : Front) → slice_get w.fronts.items q ≡ Some front → PartsSound q (parts_of q front w)
+  pub headers : (q : ℕ) (side : DriverSide) → slice_get w.sides.items q ≡ Some side → side.header ≡ w.header
+  pub parts : (q : ℕ) (side : DriverSide) → slice_get w.sides.items q ≡ Some side → PartsSound q (parts_of q side w)
 
 -- each queue has a number of 64 bits left for a further request
 abbrev pub HaveNumbers : Machine → Type 0
-HaveNumbers w = All (λ front. offered_in front.outstanding < 2 ^ 64 - 1) w.fronts.items
+HaveNumbers w = All (λ side. offered_in side.outstanding < 2 ^ 64 - 1) w.sides.items
 
 -- before the first event no request was offered
 abbrev pub KeepsLast : Machine → Type 0

@@ -16,12 +16,12 @@ use Rattle.vub_schedule.specs.declared.types.Event.{Event}
 use Rattle.vub_schedule.specs.declared.types.Event.TheVariants as events
 use Rattle.vub_report.specs.declared.items.Item.{Item}
 use Rattle.vub_report.specs.declared.items.Record.{Record}
-use Rattle.vub_queue.specs.declared.queue.QueueSetup.{QueueSetup}
+use Rattle.vub_setup.specs.Setups.{SplitSetup}
 use Rattle.vub_world.specs.declared.outstanding.OutstandingRequests.{OutstandingRequests}
 use Rattle.vub_backend.specs.declared.backend.Backend.{Backend}
 use Rattle.vub_world.specs.declared.machine.Machine.{Machine}
-use Rattle.vub_world.specs.declared.front.Front.{Front}
-use Rattle.vub_world.specs.Fronts.{Desk, Parts, desk_of, parts_of}
+use Rattle.vub_world.specs.declared.driver_side.DriverSide.{DriverSide}
+use Rattle.vub_world.specs.DriverSides.{Desk, Parts, desk_of, parts_of, setup_of}
 use Rattle.vub_world.specs.Lives.{queue_in}
 use Rattle.vub_world.specs.WorldBackend.{BackendStands}
 use Rattle.vub_world.specs.OutstandingRequests.{offered_in, collected_in, size_in, slot_in}
@@ -38,17 +38,17 @@ AskAt None asked = asked ≡ None
 AskAt (Some w) asked = asked ≡ Some w.ask
 
 -- memory and driver, at a moment
-pub record FrontAt (q : ℕ) (d : Desk) (m : Moment) : Type 0 where
+pub record DriverSideAt (q : ℕ) (d : Desk) (m : Moment) : Type 0 where
   pub memory : bytes_in d.memory ≡ m.scene.memory
-  pub driver : driver_in d.front.guest ≡ (m.lanes q).driver
-  pub asks : AskAt (m.lanes q).driver.waiting d.front.asked
+  pub driver : driver_in d.side.guest ≡ (m.lanes q).driver
+  pub asks : AskAt (m.lanes q).driver.waiting d.side.asked
 
 -- a queue that isn't attached wasn't started, and none of its phases is under way
-abbrev pub AttachedAt : ℕ → Header1 → QueueSetup → Moment → Option QueueState → Type 0
+abbrev pub AttachedAt : ℕ → Header1 → SplitSetup → Moment → Option QueueState → Type 0
 AttachedAt q h setup m None = (m.joined ≡ false) × ((m.lanes q).attached ≡ false) × (started m.scene.past q ≡ false) × ((m.lanes q).phase ≡ Rest)
 AttachedAt q h setup m (Some queue) = (m.joined ≡ true) × ((m.lanes q).attached ≡ true) × QueueStands q h setup m queue
 
-abbrev pub LifeAt : ℕ → Header1 → QueueSetup → Moment → Option (Option QueueState) → Type 0
+abbrev pub LifeAt : ℕ → Header1 → SplitSetup → Moment → Option (Option QueueState) → Type 0
 LifeAt q h setup m None = m.lives ≡ false
 LifeAt q h setup m (Some queue) = (m.lives ≡ true) × AttachedAt q h setup m queue
 
@@ -66,16 +66,16 @@ pub record OutstandingAt (q size : ℕ) (past : List Entry) (heads : List ℕ) (
 
 -- the parts of queue q, with memory and disk, at a moment
 pub record PartsAt (q : ℕ) (p : Parts) (m : Moment) : Type 0 where
-  pub front : FrontAt q (desk_of p) m
-  pub position : last_used_in p.front.guest ≡ (p.front.header.base + collected m.scene.past q) % 65536
-  pub life : LifeAt q p.front.header p.front.setup m p.life
-  pub disk : DiskAt p.front.header.capacity m.scene.past (values_of p.disk)
-  pub outstanding : OutstandingAt q p.front.header.size m.scene.past (m.scene.heads q) p.front.outstanding
+  pub side : DriverSideAt q (desk_of p) m
+  pub position : last_used_in p.side.guest ≡ (p.side.header.base + collected m.scene.past q) % 65536
+  pub life : LifeAt q p.side.header (setup_of p.side) m p.life
+  pub disk : DiskAt p.side.header.capacity m.scene.past (values_of p.disk)
+  pub outstanding : OutstandingAt q p.side.header.size m.scene.past (m.scene.heads q) p.side.outstanding
 
 -- the machine stands at a moment: each of the header's queues has its parts, and these do
 pub record MachineAt (w : Machine) (m : Moment) : Type 0 where
-  pub many : length w.fronts.items ≡ w.header.queues
-  pub queues : (q : ℕ) (front : Front) → slice_get w.fronts.items q ≡ Some front → PartsAt q (parts_of q front w) m
+  pub many : length w.sides.items ≡ w.header.queues
+  pub queues : (q : ℕ) (side : DriverSide) → slice_get w.sides.items q ≡ Some side → PartsAt q (parts_of q side w) m
 
 -- the machine stands for these events and their records: it and the backend of its life stand at a moment to which they lead
 abbrev pub StandsFor : Machine → List Event → List Record → Type 0
@@ -87,7 +87,7 @@ IsStanding w = (es : List Event) × (rs : List Record) × StandsFor w es rs
 
 -- the parts of a queue, which is one of the header's, stand for some events
 abbrev pub PartsStandFor : ℕ → Parts → List Event → List Record → Type 0
-PartsStandFor q p es rs = (m : Moment) × Stands p.front.header es rs m × PartsAt q p m × (q < p.front.header.queues)
+PartsStandFor q p es rs = (m : Moment) × Stands p.side.header es rs m × PartsAt q p m × (q < p.side.header.queues)
 
 abbrev pub PartsStand : ℕ → Parts → Type 0
 PartsStand q p = (es : List Event) × (rs : List Record) × PartsStandFor q p es rs

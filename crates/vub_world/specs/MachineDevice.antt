@@ -24,7 +24,7 @@ use Rattle.vub_report.specs.declared.items.Item.TheVariants as items
 use Rattle.vub_world.specs.declared.outstanding.OutstandingRequests.{OutstandingRequests}
 use Rattle.vub_world.specs.declared.outstanding.OutstandingRequest.{OutstandingRequest}
 use Rattle.vub_backend.specs.declared.backend.Backend.{Backend}
-use Rattle.vub_queue.specs.declared.queue.QueueSetup.{QueueSetup}
+use Rattle.vub_setup.specs.Setups.{SplitSetup}
 use Rattle.vub_queue.specs.declared.queue.Stepped.{Stepped}
 use Rattle.vub_queue.specs.declared.queue.Stepped.TheVariants as says
 use Rattle.vub_world.specs.OutstandingRequests.{size_in, slot_in}
@@ -35,7 +35,7 @@ use Rattle.vub_queue.specs.QueueState.{steps_in, QueueState, is_idle}
 use Rattle.vub_queue_in_run.specs.QueueAt.{QueueStands, DiskAt}
 use Rattle.vub_run.specs.Run.{one_turn}
 use Rattle.vub_task.specs.TaskState.{head_in}
-use Rattle.vub_world.specs.MachineFront.{store_item, OneSmall}
+use Rattle.vub_world.specs.MachineDriverSide.{store_item, OneSmall}
 use Rattle.vub_world.specs.Lives.{queue_in}
 
 -- ---- the device's turns
@@ -93,7 +93,7 @@ pub record Device : Type 0 where
 abbrev pub device : QueueState → WatchedShared → MemDisk → Device
 device queue w d = record { queue = queue; memory = bytes_in w; values = values_of d; stores = stores_in w }
 
-pub record DeviceAt (q : ℕ) (h : Header1) (setup : QueueSetup) (m : Moment) (d : Device) : Type 0 where
+pub record DeviceAt (q : ℕ) (h : Header1) (setup : SplitSetup) (m : Moment) (d : Device) : Type 0 where
   pub stands : QueueStands q h setup m d.queue
   pub memory_is : d.memory ≡ m.scene.memory
   pub disk : DiskAt h.capacity m.scene.past d.values
@@ -168,7 +168,7 @@ accepts (says.Accepted head) = 1
 accepts x = 0
 
 -- a turn that is due was made
-pub record TurnMade (q : ℕ) (h : Header1) (setup : QueueSetup) (m : Moment) (t : Turn) (outstanding : OutstandingRequests) (d now : Device) (x : Stepped) : Type 0 where
+pub record TurnMade (q : ℕ) (h : Header1) (setup : SplitSetup) (m : Moment) (t : Turn) (outstanding : OutstandingRequests) (d now : Device) (x : Stepped) : Type 0 where
   pub goes : is_idle x ≡ false
   pub made : IsMade x
   pub at : DeviceAt q h setup (one_turn h q t m).next now
@@ -180,7 +180,7 @@ pub record TurnMade (q : ℕ) (h : Header1) (setup : QueueSetup) (m : Moment) (t
   pub starts : x ≡ says.Started → (d.queue.started ≡ false) × (numbers_of outstanding now.queue ≡ open_numbers m.scene.past q)
 
 -- the turn is made where it is due, and else nothing is
-abbrev pub DeviceTurns : ℕ → Header1 → QueueSetup → Moment → Turn → OutstandingRequests → Device → Device → Stepped → Type 0
+abbrev pub DeviceTurns : ℕ → Header1 → SplitSetup → Moment → Turn → OutstandingRequests → Device → Device → Stepped → Type 0
 DeviceTurns q h setup m t outstanding d now x =
     (is_ready (standing h q m) t ≡ true → TurnMade q h setup m t outstanding d now x)
     × (is_ready (standing h q m) t ≡ false → (x ≡ says.Idle) × DeviceAt q h setup m now)

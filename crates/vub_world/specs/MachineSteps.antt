@@ -14,7 +14,7 @@ use Rattle.vub_room.specs.Rooms.{RoomState}
 use Rattle.vub_world.specs.declared.machine.Machine.{Machine}
 use Rattle.vub_world.specs.declared.outstanding.OutstandingRequests.{OutstandingRequests}
 use Rattle.vub_world.specs.OutstandingRequests.{offered_in, collected_in}
-use Rattle.vub_world.specs.Fronts.{Parts}
+use Rattle.vub_world.specs.DriverSides.{Parts}
 use Rattle.vub_queue.specs.declared.queue.Stepped.{Stepped}
 use Rattle.vub_queue.specs.declared.queue.Stepped.TheVariants as says
 use Rattle.vub_world.specs.Sequences.{choices_from, most_turns}
@@ -28,27 +28,27 @@ use Rattle.vub_world.specs.MachineDevice.{noted, IsMade, StoreFits, SectorFits, 
 pub record MachineTurns (q : ℕ) (t : Turn) (w now : Parts) (m : Moment) (x : Stepped) : Type 0 where
   pub goes : is_idle x ≡ false
   pub made : IsMade x
-  pub at : PartsAt q now (one_turn w.front.header q t m).next
-  pub items_are : (one_turn w.front.header q t m).items ≡ noted q now.front.outstanding (values_of now.disk) (stores_in now.memory) (answers_shown q w.front.outstanding (bytes_in w.memory) w.life) (numbers_in now.front.outstanding now.life) x
+  pub at : PartsAt q now (one_turn w.side.header q t m).next
+  pub items_are : (one_turn w.side.header q t m).items ≡ noted q now.side.outstanding (values_of now.disk) (stores_in now.memory) (answers_shown q w.side.outstanding (bytes_in w.memory) w.life) (numbers_in now.side.outstanding now.life) x
   pub store : StoreFits x (stores_in now.memory)
-  pub sector : SectorFits w.front.header.capacity x
-  pub head : HeadFits w.front.header.size x
-  pub taken : accepts x + accepted m.scene.past q ≡ accepted (one_turn w.front.header q t m).next.scene.past q
-  pub starts : x ≡ says.Started → (started_in w.life ≡ false) × (numbers_in now.front.outstanding now.life ≡ open_numbers m.scene.past q)
+  pub sector : SectorFits w.side.header.capacity x
+  pub head : HeadFits w.side.header.size x
+  pub taken : accepts x + accepted m.scene.past q ≡ accepted (one_turn w.side.header q t m).next.scene.past q
+  pub starts : x ≡ says.Started → (started_in w.life ≡ false) × (numbers_in now.side.outstanding now.life ≡ open_numbers m.scene.past q)
 
 -- a turn of the machine
 abbrev pub TurnGoes : ℕ → Turn → Parts → Parts → Moment → Stepped → Type 0
 TurnGoes q t w now m x =
-    (is_due w.front.header q t m ≡ true → MachineTurns q t w now m x)
-    × (is_due w.front.header q t m ≡ false → (x ≡ says.Idle) × PartsAt q now m)
+    (is_due w.side.header q t m ≡ true → MachineTurns q t w now m x)
+    × (is_due w.side.header q t m ≡ false → (x ≡ says.Idle) × PartsAt q now m)
 
 -- a step: the turn was due and was made, and its items were noted, or it wasn't due; and how many requests were
 -- accepted before and after it
 abbrev pub StepGoes : ℕ → Bool → Turn → Parts → Parts → Moment → List Item → List Item → ℕ → ℕ → Type 0
-StepGoes q false t w now m before after taken taken_after = (is_due w.front.header q t m ≡ false) × PartsAt q now m × (after ≡ before)
+StepGoes q false t w now m before after taken taken_after = (is_due w.side.header q t m ≡ false) × PartsAt q now m × (after ≡ before)
 StepGoes q true t w now m before after taken taken_after =
-    (is_due w.front.header q t m ≡ true) × PartsAt q now (one_turn w.front.header q t m).next × (after ≡ before ++ (one_turn w.front.header q t m).items)
-    × (taken_after + accepted m.scene.past q ≡ taken + accepted (one_turn w.front.header q t m).next.scene.past q)
+    (is_due w.side.header q t m ≡ true) × PartsAt q now (one_turn w.side.header q t m).next × (after ≡ before ++ (one_turn w.side.header q t m).items)
+    × (taken_after + accepted m.scene.past q ≡ taken + accepted (one_turn w.side.header q t m).next.scene.past q)
 
 -- the most turns of a queue of n places that belong to no one request: those of its start, or, once it is started, those of a
 -- publication behind used.idx

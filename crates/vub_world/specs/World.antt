@@ -11,7 +11,7 @@ use Rattle.vub_world.specs.declared.machine.Machine.{Machine}
 use Rattle.vub_report.specs.declared.items.Record.{Record}
 use Rattle.vub_world.specs.declared.world.World.{World}
 use Rattle.vub_world.specs.contracts.world.World.{the_row}
-pub use Rattle.vub_world.specs.Fronts.{offers_in}
+pub use Rattle.vub_world.specs.DriverSides.{offers_in}
 use Rattle.vub_world.specs.Lending.{Lends}
 
 -- the first line of its schedule

@@ -5,7 +5,7 @@ ghost use Rattle.vub_driver.specs.Layout.{area_place};
 ghost use Rattle.vub_memdisk.specs.MemDisks.{capacity_of, values_of};
 ghost use Rattle.vub_shared.specs.Watched.{bytes_in, stores_in, sizes_in, IsUnfailed};
 ghost use Rattle.vub_world.specs.declared.outstanding.OutstandingRequests.{OutstandingRequests};
-ghost use Rattle.vub_queue.specs.declared.queue.QueueSetup.{QueueSetup};
+ghost use Rattle.vub_setup.specs.Setups.{SplitSetup};
 ghost use Rattle.vub_world.specs.MachineAt.{IsReached, OutstandingAt};
 ghost use Rattle.vub_world.specs.MachineDevice.{DeviceAt, DeviceTurns, device, turn_here};
 ghost use Rattle.vub_run.specs.Moments.{Moment};
@@ -76,7 +76,7 @@ pub fn turn_queue(
     ensures sizes { (s : ℕ) → sizes_in memory.new s ≡ sizes_in memory.old s }
     ensures unfailed { IsUnfailed memory.new }
     ensures capacity { capacity_of disk.new ≡ capacity_of disk.old }
-    ensures turns { (h : Header1) (setup : QueueSetup) (m : Moment) (outstanding : OutstandingRequests) (s : QueueState) → queue_in queue backend.old ≡ Some s → IsReached queue h m → capacity_of disk.old ≡ h.capacity → LiesAs queue setup h.size → area_place queue + 1048576 ≤ sizes_in memory.old 0
+    ensures turns { (h : Header1) (setup : SplitSetup) (m : Moment) (outstanding : OutstandingRequests) (s : QueueState) → queue_in queue backend.old ≡ Some s → IsReached queue h m → capacity_of disk.old ≡ h.capacity → LiesAs queue setup h.size → area_place queue + 1048576 ≤ sizes_in memory.old 0
         → DeviceAt queue h setup m (device s memory.old disk.old) → OutstandingAt queue h.size m.scene.past (m.scene.heads queue) outstanding
         → (t : QueueState) × (queue_in queue backend.new ≡ Some t) × DeviceTurns queue h setup m (turn_here queue h choice m) outstanding (device s memory.old disk.old) (device t memory.new disk.new) result }
     ensures rests { queue_in queue backend.old ≡ None → (result ≡ Idle) × (queue_in queue backend.new ≡ None) × (bytes_in memory.new ≡ bytes_in memory.old) × (values_of disk.new ≡ values_of disk.old) }

@@ -4,7 +4,7 @@
 
 mod bell;
 mod device;
-mod front;
+mod driver_side;
 mod indexes;
 mod machine;
 mod notes;

@@ -5,12 +5,12 @@ ghost use Rattle.vub_driver.specs.Layout.{guest_space, inflight_space, area_plac
 ghost use Rattle.vub_shared.specs.Watched.{bytes_in, sizes_in, count_in, faults_in, IsUnfailed};
 ghost use Rattle.vub_run.specs.Memory.{opening_memory};
 ghost use Rattle.vub_schedule.specs.Spelling.{IsHeader, IsEvent};
-ghost use Rattle.vub_world.specs.declared.front.Front.{Front};
-ghost use Rattle.vub_world.specs.Fronts.{AreNewFronts};
+ghost use Rattle.vub_world.specs.declared.driver_side.DriverSide.{DriverSide};
+ghost use Rattle.vub_world.specs.DriverSides.{AreNewDriverSides};
 ghost use Rattle.vub_world.specs.Regions as regions;
 
 use crate::device::Sequence;
-use crate::front::Front;
+use crate::driver_side::DriverSide;
 use crate::indexes::set_indexes;
 use crate::regions::inflight_size;
 use std::alloc::Global;
@@ -41,7 +41,7 @@ pub struct Machine {
     header: Header1,
     memory: WatchedShared,
     // By the number of the queue.
-    fronts: Vec<Front>,
+    sides: Vec<DriverSide>,
     // The backend of the life; its queues are attached all at once.
     life: Option<Backend>,
     disk: MemDisk,
@@ -85,30 +85,30 @@ fn shared_memory(alloc: Global, header: &Header1) -> Result<(WatchedShared, Spac
     Ok((memory, space, inflight))
 }
 
-fn add_front(fronts: &mut Vec<Front>, front: Front) -> Result<(), Memory>
-    ensures { OnOk result (fronts.new.items ≡ fronts.old.items ++ front ∷ []) }
+fn add_side(sides: &mut Vec<DriverSide>, side: DriverSide) -> Result<(), Memory>
+    ensures { OnOk result (sides.new.items ≡ sides.old.items ++ side ∷ []) }
 {
-    fronts.push(front).map_err(|_| Memory)
+    sides.push(side).map_err(|_| Memory)
 }
 
-/// The fronts of the header's queues, in the order of their numbers.
-fn new_fronts(
+/// The sides of the header's queues, in the order of their numbers.
+fn new_sides(
     alloc: Global,
     header: &Header1,
     space: Space,
     inflight: Space,
-) -> Result<Vec<Front>, Memory>
+) -> Result<Vec<DriverSide>, Memory>
     requires header { IsHeader header.now }
     requires space { space.number ≡ guest_space }
     requires inflight { inflight.number ≡ inflight_space }
-    ensures { IfOk result (λ fronts. AreNewFronts header.now header.now.queues fronts.items) }
+    ensures { IfOk result (λ sides. AreNewDriverSides header.now header.now.queues sides.items) }
 {
-    let mut fronts = Vec::with_capacity(alloc, usize::from(header.queues)).map_err(|_| Memory)?;
+    let mut sides = Vec::with_capacity(alloc, usize::from(header.queues)).map_err(|_| Memory)?;
     for queue in 0..header.queues {
-        let front = Front::new(alloc, header, queue, space, inflight)?;
-        add_front(&mut fronts, front)?;
+        let side = DriverSide::new(alloc, header, queue, space, inflight)?;
+        add_side(&mut sides, side)?;
     }
-    Ok(fronts)
+    Ok(sides)
 }
 
 impl Machine {
@@ -118,13 +118,13 @@ impl Machine {
     ghost use Rattle.vub_world.specs.Lives.{IsBackend};
     ghost use Rattle.vub_schedule.specs.declared.types.Event.TheVariants as events;
     ghost use Rattle.vub_report.specs.declared.items.Item.TheVariants as items;
-    ghost use Rattle.vub_world.specs.Fronts.{AreNewQueues};
+    ghost use Rattle.vub_world.specs.DriverSides.{AreNewQueues};
     ghost use Rattle.vub_world.specs.Lending.{HasPlayed, with_record};
     ghost use Rattle.vub_world.specs.Machine.{IsSound, HaveNumbers, KeepsLast, LendsSound};
     ghost use Rattle.vub_world.specs.MachineAt.{IsStanding, Performs, StandsFor, is_attached};
     ghost use Rattle.vub_world.specs.MachineDevice.{is_joining};
     ghost use Rattle.vub_world.specs.MachineSteps.{PlaysSingle, PlaysTurns, turns_besides};
-    ghost use Rattle.vub_world.specs.Fronts.{offers_in};
+    ghost use Rattle.vub_world.specs.DriverSides.{offers_in};
     ghost use Rattle.vub_world.specs.Sequences.{most_turns};
 
     /// A world in which nothing has happened.
@@ -141,7 +141,7 @@ impl Machine {
             alloc,
             header: *header,
             memory,
-            fronts: new_fronts(alloc, header, space, inflight)?,
+            sides: new_sides(alloc, header, space, inflight)?,
             life: None,
             disk: MemDisk::new(alloc, header.capacity)?,
             last: None,
@@ -199,13 +199,13 @@ impl Machine {
         ensures performs { IfOk result (λ is. Performs self.old self.new (events.Guest queue stores) is) }
     {
         let place = usize::from(queue);
-        if self.fronts[place].asked.is_none() {
+        if self.sides[place].asked.is_none() {
             return self.idle();
         }
         let most = stores.min(MOST_STORES);
         let noted = usize::from(most) + 1;
         let mut room = Room::new(self.alloc, &mut self.spare, noted, noted, 0, 0, 0)?;
-        self.fronts[place].stores(most, &mut self.memory, &mut room);
+        self.sides[place].stores(most, &mut self.memory, &mut room);
         Ok(room.finish(&mut self.spare))
     }
 
@@ -218,7 +218,7 @@ impl Machine {
         ensures kept { OnErr result (self.new ≡ self.old) }
         ensures performs { IfOk result (λ is. Performs self.old self.new (events.Ask queue shape ask.now) is) }
     {
-        if !self.fronts[usize::from(queue)].ask(shape, ask) {
+        if !self.sides[usize::from(queue)].ask(shape, ask) {
             return self.idle();
         }
         Ok(self.nothing())
@@ -234,8 +234,8 @@ impl Machine {
         ensures performs { IfOk result (λ is. Performs self.old self.new (events.Collect queue) is) }
     {
         let mut room = Room::of_items(self.alloc, 1)?;
-        let front = &mut self.fronts[usize::from(queue)];
-        let item = match front.collect(&mut self.memory) {
+        let side = &mut self.sides[usize::from(queue)];
+        let item = match side.collect(&mut self.memory) {
             Some(number) => Item::Made(Entry::Collect(queue, number)),
             None => Item::Idle,
         };
@@ -278,16 +278,16 @@ impl Machine {
         }
     }
 
-    /// A backend to which the queue of each front is attached.
+    /// A backend to which the queue of each side is attached.
     fn new_backend(&self) -> Result<Backend, Memory>
         requires { IsSound self.now }
         ensures backend { IfOk result (IsBackend self.now.header.queues (sizes_in self.now.memory) (capacity_of self.now.disk)) }
-        ensures new { IfOk result (λ b. AreNewQueues self.now.header.queues self.now.fronts.items (queues_of b)) }
+        ensures new { IfOk result (λ b. AreNewQueues self.now.header.queues self.now.sides.items (queues_of b)) }
     {
         let mut backend = Backend::new(self.alloc, self.header.queues)?;
         for index in 0..self.header.queues {
-            let front = &self.fronts[usize::from(index)];
-            backend.attach(&front.setup)?;
+            let side = &self.sides[usize::from(index)];
+            backend.attach(&side.setup())?;
         }
         Ok(backend)
     }
@@ -348,14 +348,14 @@ impl Machine {
         }
         let place = usize::from(queue);
         let besides = self.turns_besides();
-        let front = &self.fronts[place];
-        let undone = front.outstanding.count();
+        let side = &self.sides[place];
+        let undone = side.outstanding.count();
         let most = sequence.most_turns();
         let mut room = Room::for_turns(self.alloc, &mut self.spare, most, undone, besides)?;
         let Some(backend) = &mut self.life else {
             unreachable!();
         };
-        let made = front.play_turns(
+        let made = side.play_turns(
             backend,
             sequence,
             &mut self.memory,
@@ -466,7 +466,7 @@ impl Machine {
     fn has_numbers(&self) -> bool
         ensures { IsTrue result ↔ HaveNumbers self.now }
     {
-        self.fronts.iter().all(|front| front.outstanding.has_number())
+        self.sides.iter().all(|side| side.outstanding.has_number())
     }
 
     /// The record of the event that was played last.

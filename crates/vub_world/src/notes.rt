@@ -4,7 +4,7 @@ ghost use Rattle.vub_shared.specs.Watched.{stores_in};
 ghost use Rattle.vub_device.specs.Requests.{request_of};
 ghost use Rattle.vub_room.specs.Rooms.{Spends, SpendsLists};
 ghost use Rattle.vub_world.specs.MachineDevice.{stored_items};
-ghost use Rattle.vub_world.specs.MachineFront.{OneSmall, area_of};
+ghost use Rattle.vub_world.specs.MachineDriverSide.{OneSmall, area_of};
 
 use vub_base::{Area, Ask, Space, Tag};
 use vub_device::Asked;

@@ -8,7 +8,7 @@ ghost use Rattle.vub_run.specs.Moments.{Moment};
 ghost use Rattle.vub_run.specs.Run.{Stands};
 ghost use Rattle.vub_schedule.specs.declared.types.Event.{Event};
 ghost use Rattle.vub_shared.specs.Watched.{bytes_in, stores_in, sizes_in};
-ghost use Rattle.vub_world.specs.Fronts.{FrontSound, PartsSound, parts_in, queue_of};
+ghost use Rattle.vub_world.specs.DriverSides.{DriverSideSound, PartsSound, parts_in, queue_of};
 ghost use Rattle.vub_world.specs.Lives.{IsBackend};
 ghost use Rattle.vub_world.specs.MachineAt.{PartsAt, PartsStand, IsReached};
 ghost use Rattle.vub_world.specs.MachineDevice.{BatchFits, ShownFits, ShowsSome, IsMade, StoreFits, SectorFits, HeadFits, answer_for, answers_for, queue_shown, queue_shows, queue_started, queue_heads, queue_numbers, number_at, noted, accepts, turn_here, StartFits, KeepsNumbers};
@@ -17,7 +17,7 @@ ghost use Rattle.vub_world.specs.OutstandingRequests.{offered_in, collected_in, 
 ghost use Rattle.vub_world.specs.Sequences.{next_turn, most_turns};
 
 use crate::device::{Sequence, turn_queue};
-use crate::front::Front;
+use crate::driver_side::DriverSide;
 use crate::notes::note_store;
 use vub_backend::Backend;
 use vub_base::Tag;
@@ -31,10 +31,10 @@ use vub_report::Item;
 use vub_room::Room;
 use vub_shared::WatchedShared;
 
-impl Front {
+impl DriverSide {
     /// The answer of a request whose status stands in its buffer.
     fn answer(&self, head: u16, memory: &WatchedShared, room: &mut Room) -> Answered
-        requires sound { FrontSound memory.now self.now }
+        requires sound { DriverSideSound memory.now self.now }
         requires fits { head < 64 }
         requires place { head < size_in self.now.outstanding }
         requires few { (slot_in self.now.outstanding head).reads ≤ 8 }
@@ -60,7 +60,7 @@ impl Front {
 
     /// The answers of a batch.
     fn batch_answers(&self, queue: &Queue, memory: &WatchedShared, room: &mut Room) -> Vec<Answered>
-        requires sound { FrontSound memory.now self.now }
+        requires sound { DriverSideSound memory.now self.now }
         requires fits { BatchFits self.now.outstanding (state_of queue.now).batch }
         requires room { HasTurnRoom (length (state_of queue.now).batch) room.old }
         ensures answers { result.items ≡ answers_for self.now.index self.now.outstanding (bytes_in memory.now) (state_of queue.now).batch }
@@ -79,7 +79,7 @@ impl Front {
 
     /// The answers of the batch that the next step of the queue shows; none if it shows none.
     fn answers(&self, backend: &Backend, memory: &WatchedShared, room: &mut Room) -> Vec<Answered>
-        requires sound { FrontSound memory.now self.now }
+        requires sound { DriverSideSound memory.now self.now }
         requires fits { IfSome (queue_of self.now backend.now) (ShownFits self.now.outstanding) }
         requires some { IfSome (queue_of self.now backend.now) ShowsSome }
         requires room { HasTurnRoom (queue_shows (queue_of self.now backend.now)) room.old }

@@ -13,6 +13,6 @@ returns-clause-attached c = (
 )
 
 pub returns-clause-lies : goal.returns-clause-lies
-returns-clause-lies c sizes capacity start each =
+returns-clause-lies c sizes capacity split is start each =
     subst (λ (queues : List (Option QueueState)). EachLies sizes capacity queues) (sym (states_set c.args.self.now.queues.items c.from.result (Some c.in_ok-queue.queue)))
-    (attached_lies sizes capacity (queues_of c.args.self.now) c.from.result (state_of c.in_ok-queue.queue) (c.in_ok-queue.ensures.lies sizes capacity start) each)
+    (attached_lies sizes capacity (queues_of c.args.self.now) c.from.result (state_of c.in_ok-queue.queue) (c.in_ok-queue.ensures.lies sizes capacity split is start) each)

@@ -3,7 +3,7 @@ use Rattle.std.specs.Prelude.{Ok, IsTrue}
 use Rattle.std.proofs.lemmas.Result.{err_from_is_err_and}
 use Rattle.vub_schedule.specs.declared.types.Event.{Event}
 use Rattle.vub_world.specs.declared.machine.Machine.{Machine}
-use Rattle.vub_world.specs.Fronts.{offers_in}
+use Rattle.vub_world.specs.DriverSides.{offers_in}
 use Rattle.vub_world.specs.Lending.{Lends}
 use Rattle.vub_world.specs.Machine.{IsSound, HaveNumbers, KeepsLast}
 use Rattle.vub_world.specs.MachineAt.{IsStanding}

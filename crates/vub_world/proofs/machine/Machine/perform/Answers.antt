@@ -1,7 +1,7 @@
 use Rattle.std.proofs.Common.{◌≡◌, ◌≤◌, ◌+◌, refl, sym, subst}
 use Rattle.vub_report.specs.declared.items.Record.{Record}
 use Rattle.vub_world.specs.declared.machine.Machine.{Machine}
-use Rattle.vub_world.specs.Fronts.{offers_in}
+use Rattle.vub_world.specs.DriverSides.{offers_in}
 use Rattle.vub_world.specs.Lending.{HasPlayed, with_record}
 use Rattle.vub_world.specs.Machine.{IsSound}
 use Rattle.vub_world.proofs.MachineLending.{recorded_sound}

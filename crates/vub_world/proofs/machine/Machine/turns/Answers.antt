@@ -4,9 +4,9 @@ use Rattle.vub_base.specs.declared.header.Header1.{Header1}
 use Rattle.vub_report.specs.declared.items.Item.{Item}
 use Rattle.vub_room.specs.Rooms.{RoomState, HasRoom}
 use Rattle.vub_run.specs.Run.{Stands}
-use Rattle.vub_world.specs.declared.front.Front.{Front}
+use Rattle.vub_world.specs.declared.driver_side.DriverSide.{DriverSide}
 use Rattle.vub_world.specs.declared.machine.Machine.{Machine}
-use Rattle.vub_world.specs.Fronts.{Parts, parts_in, parts_of}
+use Rattle.vub_world.specs.DriverSides.{Parts, parts_in, parts_of}
 use Rattle.vub_world.specs.Machine.{IsSound}
 use Rattle.vub_world.specs.MachineAt.{MachineAt, PartsAt}
 use Rattle.vub_world.specs.Sequences.{most_turns}
@@ -25,18 +25,18 @@ pub count-undone-requires : goal.count-undone-requires
 count-undone-requires c =
     let w : Machine = c.args.self.now in
     let q : ℕ = c.args.queue in
-    let f : Front = c.index-front.result.now in
+    let f : DriverSide = c.index-side.result.now in
     let sound : IsSound w = c.requires.sound in
-    let is : slice_get w.fronts.items q ≡ Some f = found w.fronts.items q f (omega (arith, c.requires.exists, sound.many)) (c.index-front.ensures ∙ ap (λ (k : ℕ). get_or w.fronts.items k f) c.from-place.ensures) in
+    let is : slice_get w.sides.items q ≡ Some f = found w.sides.items q f (omega (arith, c.requires.exists, sound.many)) (c.index-side.ensures ∙ ap (λ (k : ℕ). get_or w.sides.items k f) c.from-place.ensures) in
     collects_within q (parts_of q f w) (parts_stand w q f sound is c.requires.stands)
 
 pub for_turns-requires : goal.for_turns-requires
 for_turns-requires c =
     let w : Machine = c.args.self.now in
     let q : ℕ = c.args.queue in
-    let f : Front = c.index-front.result.now in
+    let f : DriverSide = c.index-side.result.now in
     let sound : IsSound w = c.requires.sound in
-    let is : slice_get w.fronts.items q ≡ Some f = found w.fronts.items q f (omega (arith, c.requires.exists, sound.many)) (c.index-front.ensures ∙ ap (λ (k : ℕ). get_or w.fronts.items k f) c.from-place.ensures) in
+    let is : slice_get w.sides.items q ≡ Some f = found w.sides.items q f (omega (arith, c.requires.exists, sound.many)) (c.index-side.ensures ∙ ap (λ (k : ℕ). get_or w.sides.items k f) c.from-place.ensures) in
     record {
       few = subst (λ (n : ℕ). n ≤ 64) (sym c.count-undone.ensures) (standing_few q (parts_of q f w) (parts_stand w q f sound is c.requires.stands));
       few_besides = subst (λ (n : ℕ). n ≤ 71) (sym c.turns_besides-besides.ensures) (besides_small w.header.size (plain_header w.header sound.header).good.size.small);
@@ -53,9 +53,9 @@ pub play_turns-made-requires-clause-backend : goal.play_turns-made-requires-clau
 play_turns-made-requires-clause-backend c =
     let w : Machine = c.args.self.now in
     let q : ℕ = c.args.queue in
-    let f : Front = c.index-front.result.now in
+    let f : DriverSide = c.index-side.result.now in
     let sound : IsSound w = c.requires.sound in
-    let is : slice_get w.fronts.items q ≡ Some f = found w.fronts.items q f (omega (arith, c.requires.exists, sound.many)) (c.index-front.ensures ∙ ap (λ (k : ℕ). get_or w.fronts.items k f) c.from-place.ensures) in
+    let is : slice_get w.sides.items q ≡ Some f = found w.sides.items q f (omega (arith, c.requires.exists, sound.many)) (c.index-side.ensures ∙ ap (λ (k : ℕ). get_or w.sides.items k f) c.from-place.ensures) in
     let b : TurnsBegin w q f c.in-Some.backend = turns_begin_at w q f c.in-Some.backend sound c.requires.stands is c.in-Some.is in
     b.backend
 
@@ -63,9 +63,9 @@ pub play_turns-made-requires-clause-sound : goal.play_turns-made-requires-clause
 play_turns-made-requires-clause-sound c =
     let w : Machine = c.args.self.now in
     let q : ℕ = c.args.queue in
-    let f : Front = c.index-front.result.now in
+    let f : DriverSide = c.index-side.result.now in
     let sound : IsSound w = c.requires.sound in
-    let is : slice_get w.fronts.items q ≡ Some f = found w.fronts.items q f (omega (arith, c.requires.exists, sound.many)) (c.index-front.ensures ∙ ap (λ (k : ℕ). get_or w.fronts.items k f) c.from-place.ensures) in
+    let is : slice_get w.sides.items q ≡ Some f = found w.sides.items q f (omega (arith, c.requires.exists, sound.many)) (c.index-side.ensures ∙ ap (λ (k : ℕ). get_or w.sides.items k f) c.from-place.ensures) in
     let b : TurnsBegin w q f c.in-Some.backend = turns_begin_at w q f c.in-Some.backend sound c.requires.stands is c.in-Some.is in
     b.sound
 
@@ -73,9 +73,9 @@ pub play_turns-made-requires-clause-stands : goal.play_turns-made-requires-claus
 play_turns-made-requires-clause-stands c =
     let w : Machine = c.args.self.now in
     let q : ℕ = c.args.queue in
-    let f : Front = c.index-front.result.now in
+    let f : DriverSide = c.index-side.result.now in
     let sound : IsSound w = c.requires.sound in
-    let is : slice_get w.fronts.items q ≡ Some f = found w.fronts.items q f (omega (arith, c.requires.exists, sound.many)) (c.index-front.ensures ∙ ap (λ (k : ℕ). get_or w.fronts.items k f) c.from-place.ensures) in
+    let is : slice_get w.sides.items q ≡ Some f = found w.sides.items q f (omega (arith, c.requires.exists, sound.many)) (c.index-side.ensures ∙ ap (λ (k : ℕ). get_or w.sides.items k f) c.from-place.ensures) in
     let b : TurnsBegin w q f c.in-Some.backend = turns_begin_at w q f c.in-Some.backend sound c.requires.stands is c.in-Some.is in
     b.stands
 
@@ -83,9 +83,9 @@ pub play_turns-made-requires-clause-room : goal.play_turns-made-requires-clause-
 play_turns-made-requires-clause-room c =
     let w : Machine = c.args.self.now in
     let q : ℕ = c.args.queue in
-    let f : Front = c.index-front.result.now in
+    let f : DriverSide = c.index-side.result.now in
     let sound : IsSound w = c.requires.sound in
-    let is : slice_get w.fronts.items q ≡ Some f = found w.fronts.items q f (omega (arith, c.requires.exists, sound.many)) (c.index-front.ensures ∙ ap (λ (k : ℕ). get_or w.fronts.items k f) c.from-place.ensures) in
+    let is : slice_get w.sides.items q ≡ Some f = found w.sides.items q f (omega (arith, c.requires.exists, sound.many)) (c.index-side.ensures ∙ ap (λ (k : ℕ). get_or w.sides.items k f) c.from-place.ensures) in
     let b : TurnsBegin w q f c.in-Some.backend = turns_begin_at w q f c.in-Some.backend sound c.requires.stands is c.in-Some.is in
     let besides : c.turns_besides-besides.result ≡ turns_besides f.header.size = c.turns_besides-besides.ensures ∙ ap (λ (h : Header1). turns_besides h.size) (sym b.header) in
     subst (λ (n : ℕ). HasRoom (min (most_turns c.args.sequence) (27 * n + turns_besides f.header.size)) n c.in_ok-room.room) c.count-undone.ensures
@@ -99,9 +99,9 @@ pub returns-clause-sound : goal.returns-clause-sound
 returns-clause-sound c =
     let w : Machine = c.args.self.now in
     let q : ℕ = c.args.queue in
-    let f : Front = c.index-front.result.now in
+    let f : DriverSide = c.index-side.result.now in
     let sound : IsSound w = c.requires.sound in
-    let is : slice_get w.fronts.items q ≡ Some f = found w.fronts.items q f (omega (arith, c.requires.exists, sound.many)) (c.index-front.ensures ∙ ap (λ (k : ℕ). get_or w.fronts.items k f) c.from-place.ensures) in
+    let is : slice_get w.sides.items q ≡ Some f = found w.sides.items q f (omega (arith, c.requires.exists, sound.many)) (c.index-side.ensures ∙ ap (λ (k : ℕ). get_or w.sides.items k f) c.from-place.ensures) in
     let b : TurnsBegin w q f c.in-Some.backend = turns_begin_at w q f c.in-Some.backend sound c.requires.stands is c.in-Some.is in
     turned_sound w c.play_turns-made.new.memory q c.play_turns-made.new.backend c.play_turns-made.new.disk f sound is b.index c.play_turns-made.ensures.backend c.play_turns-made.ensures.sound
 
@@ -109,9 +109,9 @@ pub returns-clause-plays : goal.returns-clause-plays
 returns-clause-plays c es rs m stands at =
     let w : Machine = c.args.self.now in
     let q : ℕ = c.args.queue in
-    let f : Front = c.index-front.result.now in
+    let f : DriverSide = c.index-side.result.now in
     let sound : IsSound w = c.requires.sound in
-    let is : slice_get w.fronts.items q ≡ Some f = found w.fronts.items q f (omega (arith, c.requires.exists, sound.many)) (c.index-front.ensures ∙ ap (λ (k : ℕ). get_or w.fronts.items k f) c.from-place.ensures) in
+    let is : slice_get w.sides.items q ≡ Some f = found w.sides.items q f (omega (arith, c.requires.exists, sound.many)) (c.index-side.ensures ∙ ap (λ (k : ℕ). get_or w.sides.items k f) c.from-place.ensures) in
     let b : TurnsBegin w q f c.in-Some.backend = turns_begin_at w q f c.in-Some.backend sound c.requires.stands is c.in-Some.is in
     let i : ℕ = f.index in
     let n : Parts = parts_in c.play_turns-made.new.memory f c.play_turns-made.new.backend c.play_turns-made.new.disk in
