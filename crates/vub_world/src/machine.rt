@@ -466,7 +466,9 @@ impl Machine {
     fn has_numbers(&self) -> bool
         ensures { IsTrue result ↔ HaveNumbers self.now }
     {
-        self.fronts.iter().all(|front| front.outstanding.has_number())
+        self.fronts
+            .iter()
+            .all(|front| front.outstanding.has_number())
     }
 
     /// The record of the event that was played last.
