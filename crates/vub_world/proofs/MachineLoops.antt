@@ -191,8 +191,8 @@ turns_go_on q h sequence es rs m most done now next before after after' taken ta
     let some_shown = later.holds.known.fewer in
     let all_taken = later.holds.known.offered in
     let fewer : suc done < most → undone q (one_turn h q t n).next + shown_in now.life ≤ undone q n = λ more.
-        let shows = chosen_shows q h n sequence taken (λ u is_once. let e : ⊥ = omega (arith, more, once u is_once) in e) good t (sym is) in
-        omega (arith, shows, many, shown, some_shown, all_taken) in
+    let shows = chosen_shows q h n sequence taken (λ u is_once. let e : ⊥ = omega (arith, more, once u is_once) in e) good t (sym is) in
+    omega (arith, shows, many, shown, some_shown, all_taken) in
     let one_left : suc (most - suc done) ≡ most - done = omega (arith, left) in
     let start : is_due h q (choices_from q h sequence m m) m ≡ true = elim (cases_eq done 0) [
       | inl none ↦ subst (λ (x : ℕ). is_due h q (choices_from q h sequence m (so_far q h sequence m x).next) (so_far q h sequence m x).next ≡ true) none due

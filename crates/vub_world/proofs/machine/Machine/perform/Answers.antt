@@ -14,12 +14,14 @@ returns-clause-plays c =
     let now = c.items_of.new.self in
     let e = c.args.event.now in
     let r : Record = record { event = c.in_ok-made.made; items = c.in_ok-items.items } in
-    let kept : c.keep.new.self ≡ with_record r c.keep.new.self.spare now = c.keep.ensures in
-    (r, subst (λ (x : Machine). HasPlayed w x e r) (sym kept) (record {
-      last = refl;
-      event = c.in_ok-made.ensures;
-      on = stands_on w now e r c.keep.new.self.spare c.requires.sound c.items_of.ensures.sound c.requires.fits c.items_of.ensures.header c.in_ok-made.ensures c.in_ok-items.ensures.performs;
-    }))
+    let kept : c.keep.new.self ≡ with_record r c.keep.new.self.spare now = c.keep.ensures in (
+      r,
+      subst (λ (x : Machine). HasPlayed w x e r) (sym kept) (record {
+        last = refl;
+        event = c.in_ok-made.ensures;
+        on = stands_on w now e r c.keep.new.self.spare c.requires.sound c.items_of.ensures.sound c.requires.fits c.items_of.ensures.header c.in_ok-made.ensures c.in_ok-items.ensures.performs;
+      }),
+    )
 
 pub returns-clause-sound : goal.returns-clause-sound
 returns-clause-sound c =
