@@ -12,7 +12,7 @@ returns g c =
     let region : sizes c.args.region.number ≡ 80 = sym c.size.ensures ∙ c.if-size-ne-REGION_BYTES.false in
     let ring : sizes c.args.ring.number ≡ 256 = sym c.size-else-size-ne-REGION_BYTES.ensures ∙ c.if-size-ne-RING_BYTES.false in
     record {
-      lies = c.in-Ok-attach.ensures.lies sizes 0 (record {
+      lies = c.in-Ok-attach.ensures.lies sizes 0 _ refl (record {
         ring = record {
           some = omega arith;
           few = omega arith;

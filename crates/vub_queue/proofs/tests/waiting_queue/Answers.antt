@@ -14,7 +14,7 @@ returns g c =
     let region : sizes c.store2-3.new.self c.args.region.number ≡ 80 = same c.args.region.number ∙ sym c.size.ensures ∙ c.if-size-ne-REGION_BYTES.false in
     let ring : sizes c.store2-3.new.self c.args.ring.number ≡ 256 = same c.args.ring.number ∙ sym c.size-else-size-ne-REGION_BYTES.ensures ∙ c.if-size-ne-RING_BYTES.false in
     record {
-      lies = c.in-Ok.ensures.lies (sizes c.store2-3.new.self) 0 (record {
+      lies = c.in-Ok.ensures.lies (sizes c.store2-3.new.self) 0 _ refl (record {
         ring = record {
           some = omega arith;
           few = omega arith;
