@@ -4,7 +4,7 @@ use Rattle.std.specs.Prelude.{Option, Some, None, take, Ok}
 use Rattle.std.proofs.lemmas.Bool.Decides.{nat_tests}
 use Rattle.vub_shared.specs.Bytes.{Bytes}
 use Rattle.vub_device.specs.Past.{is_among}
-use Rattle.vub_ring.specs.Ring.{Ring, ahead, avail_idx}
+use Rattle.vub_ring.specs.Ring.{ahead, avail_idx}
 use Rattle.vub_split.specs.Split.{avail_idx_word, used_idx_word, head_word}
 use Rattle.vub_split.proofs.SplitLemmas.{avail_idx_is}
 use Rattle.vub_steps.specs.declared.steps.Phase.{Phase}

@@ -3,14 +3,13 @@ use Rattle.std.proofs.Common.{◌≡◌, ◌<◌, ℕ, ◌+◌, ◌*◌, ◌%◌
 use Rattle.std.specs.Prelude.{◌||◌, ◌&&◌, ◌==◌, remove, slice_get, Option, Some, option_map}
 use Rattle.std.proofs.lemmas.Bool.{cases_eq}
 use Rattle.std.proofs.lemmas.Bool.Decides.{nat_tests}
-use Rattle.std.proofs.lemmas.List.{length-set, map-append, get_or-replicate, get_or-set_same, get_or-set_other}
+use Rattle.std.proofs.lemmas.List.{length-set, map-append, get_or-set_same, get_or-set_other}
 use Rattle.std.proofs.lemmas.Option.{slice_get-map}
 use Rattle.vub_device.specs.Past.{is_among}
 use Rattle.vub_steps.specs.declared.steps.Phase.{Phase}
 use Rattle.vub_steps.specs.declared.steps.Phase.TheVariants as phases
 use Rattle.vub_steps.specs.declared.steps.Step.TheVariants as steps
 use Rattle.vub_steps.specs.Rows.{Sight}
-use Rattle.vub_setup.specs.Setups.{SplitSetup}
 use Rattle.vub_ring.specs.Ring.{Ring}
 use Rattle.vub_task.specs.declared.task.Task.{Task}
 use Rattle.vub_task.specs.TaskState.{head_in, fresh_task}

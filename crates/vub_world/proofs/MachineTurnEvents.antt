@@ -1,5 +1,5 @@
 -- The events of turns: what the machine's steps in them are in the run.
-use Rattle.std.proofs.Common.{◌≡◌, ◌≤◌, ◌<◌, ℕ, zero, suc, ◌+◌, ◌-◌, ◌*◌, Bool, true, false, cond, List, [], ◌∷◌, ◌++◌, refl, ap, sym, ◌∙◌, subst, inl, inr, arith}
+use Rattle.std.proofs.Common.{◌≡◌, ◌≤◌, ℕ, zero, suc, ◌-◌, Bool, true, false, cond, List, [], ◌∷◌, ◌++◌, refl, ap, sym, ◌∙◌, subst, inl, inr, arith}
 use Rattle.std.proofs.lemmas.List.{append-nil}
 use Rattle.vub_base.specs.declared.header.Header1.{Header1}
 use Rattle.vub_steps.specs.declared.readiness.Turn.{Turn}
@@ -15,7 +15,7 @@ use Rattle.vub_world.specs.Sequences.{choices_from, most_turns}
 use Rattle.vub_world.specs.MachineAt.{MachineAt, PartsStand, Performs}
 use Rattle.vub_world.specs.MachineSteps.{TurnsGo, TurnsMade, TurnsEvent, PlaysSingle, PlaysTurns}
 use Rattle.vub_run.specs.Moments.{Moment}
-use Rattle.vub_run.specs.Run.{Stands, Played, played, single, turns, one_turn, is_due, if_ready, up_to, then_played, any_choice, drain_choice, Drains}
+use Rattle.vub_run.specs.Run.{Played, played, single, turns, one_turn, is_due, if_ready, up_to, then_played, any_choice, drain_choice, Drains}
 use Rattle.vub_world.proofs.MachineLoops.{outstanding_few}
 use Rattle.vub_world.proofs.MachineTurnsAt.{undue}
 use Rattle.vub_run_laws.proofs.Runs.{plain_header}

@@ -74,8 +74,8 @@ offers_in w = offered_by w.sides.items
 
 -- ---- between two steps
 
--- the queue is one of the header's, driver and set-up are those of its area and of its part of the in-flight region, it has
--- a bell, memory has both, and no call of memory has failed
+-- the queue is one of the header's, driver and set-up are those of its area and of its part of the in-flight region,
+-- memory has both, and no call of memory has failed
 pub record DriverSideSound (memory : WatchedShared) (side : DriverSide) : Type 0 where
   pub header : IsHeader side.header
   pub exists : side.index < side.header.queues

@@ -1,5 +1,5 @@
 use Rattle.std.proofs.Common.{◌≡◌, ◌<◌, ◌-◌, ◌^◌, refl, ap, sym, ◌∙◌, subst, true, false}
-use Rattle.std.specs.Prelude.{Ok, IsTrue}
+use Rattle.std.specs.Prelude.{Ok}
 use Rattle.std.proofs.lemmas.Result.{err_from_is_err_and}
 use Rattle.vub_schedule.specs.declared.types.Event.{Event}
 use Rattle.vub_world.specs.declared.machine.Machine.{Machine}

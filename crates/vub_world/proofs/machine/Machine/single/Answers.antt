@@ -1,4 +1,3 @@
-use Rattle.std.proofs.Common.{ℕ}
 use Rattle.vub_world.specs.declared.device.Sequence.TheVariants as sequences
 use Rattle.vub_world.specs.MachineSteps.{PlaysSingle, PlaysTurns}
 use Rattle.vub_world.proofs.MachineEvents.{ok_then}
