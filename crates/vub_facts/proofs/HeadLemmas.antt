@@ -8,6 +8,7 @@ use Rattle.std.proofs.lemmas.Bool.Decides.{nat_tests}
 use Rattle.vub_device.specs.Past.{is_among}
 use Rattle.vub_device.specs.Places.{are_distinct}
 use Rattle.vub_device.proofs.Numbers.{is_among_append}
+pub use Rattle.vub_inflight.proofs.DistinctLemmas.{distinct_push, few_below}
 use Rattle.vub_facts.specs.Facts.{without}
 
 -- ---- members
@@ -27,13 +28,6 @@ among_get (x ∷ xs) zero h e = let same : x ≡ h = cc in grind (arith, nat_tes
 among_get (x ∷ xs) (suc i) h e = let rest : is_among xs h ≡ true = among_get xs i h e in grind (arith, nat_tests)
 
 -- ---- distinct heads
-
-pub distinct_push : (xs : List ℕ) (x : ℕ) → are_distinct xs ≡ true → is_among xs x ≡ false → are_distinct (xs ++ x ∷ []) ≡ true
-distinct_push [] x d out = grind (arith, nat_tests)
-distinct_push (y ∷ xs) x d out =
-    let joined : is_among (xs ++ x ∷ []) y ≡ (is_among xs y || is_among (x ∷ []) y) = is_among_append xs (x ∷ []) y in
-    let rest : are_distinct xs ≡ true → is_among xs x ≡ false → are_distinct (xs ++ x ∷ []) ≡ true = distinct_push xs x in
-    grind (arith, nat_tests)
 
 -- the parts of two lists in one
 pub record Parts (xs ys : List ℕ) : Type 0 where
@@ -67,23 +61,6 @@ distinct_without those (x ∷ heads) d =
     let rest : are_distinct (without those heads) ≡ true = distinct_without those heads (grind (arith, nat_tests)) in
     let kept : is_among (without those heads) x ≡ (is_among heads x && not (is_among those x)) = among_without those heads x in
     grind (arith, nat_tests)
-
-all_apart : (x : ℕ) (xs : List ℕ) → is_among xs x ≡ false → AllByRecursion (λ y. (x == y) ≡ false) xs
-all_apart x [] out = tt
-all_apart x (y ∷ xs) out = (grind (arith, nat_tests), all_apart x xs (grind (arith, nat_tests)))
-
-distinct_by : (xs : List ℕ) → are_distinct xs ≡ true → IsDistinctBy ◌==◌ xs
-unfolding IsDistinctBy
-distinct_by [] d = tt
-distinct_by (x ∷ xs) d = (all_apart x xs (grind (arith, nat_tests)), distinct_by xs (grind (arith, nat_tests)))
-
-flipped : (q : ℕ) (xs : List ℕ) → list_any (λ y. q == y) xs ≡ is_among xs q
-flipped q [] = refl
-flipped q (x ∷ xs) = let rest : list_any (λ y. q == y) xs ≡ is_among xs q = flipped q xs in grind (arith, nat_tests)
-
--- distinct numbers below n are at most n
-pub few_below : (xs : List ℕ) (n : ℕ) → are_distinct xs ≡ true → ((k : ℕ) → is_among xs k ≡ true → k < n) → length xs ≤ n
-few_below xs n d below = length-le_from_distinct_below xs n (distinct_by xs d) (λ q h. below q (sym (flipped q xs) ∙ h))
 
 -- ---- without others
 

@@ -3,11 +3,12 @@ use Rattle.std.proofs.Common.{◌≡◌, ◌≤◌, ℕ, ◌+◌, length, refl, 
 use Rattle.byteorder.specs.Numbers.{length-bytes_low_first}
 use Rattle.vub_shared.specs.Bytes.{Apart}
 use Rattle.vub_shared.specs.Stores.{Store}
+use Rattle.vub_inflight.specs.Words.{put_word}
 use Rattle.vub_infl_split.specs.declared.region.SplitRegion.{SplitRegion}
 use Rattle.vub_infl_split.specs.declared.region.SplitStore.{SplitStore}
 use Rattle.vub_infl_split.specs.declared.region.SplitStore.TheVariants.{SI1, SI2, SI3, SR1, SR2, SF1, SF2, SP3, SP4, SP6, SP7}
 use Rattle.vub_infl_split.specs.Region.{region_size, inflight_place, next_place, counter_place}
-use Rattle.vub_infl_split.specs.Stores.{header_word, put_word, store_of, NamesEntry}
+use Rattle.vub_infl_split.specs.Stores.{header_word, store_of, NamesEntry}
 
 -- a store touches bytes of the region alone
 pub record LiesIn (r : SplitRegion) (st : Store) : Type 0 where
@@ -15,7 +16,7 @@ pub record LiesIn (r : SplitRegion) (st : Store) : Type 0 where
   pub from : r.place ≤ st.place
   pub upto : st.place + length st.bytes ≤ r.place + region_size r.size
 
-put_in : (r : SplitRegion) (place width value : ℕ) → r.place ≤ place → place + width ≤ r.place + region_size r.size → LiesIn r (put_word r place width value)
+put_in : (r : SplitRegion) (place width value : ℕ) → r.place ≤ place → place + width ≤ r.place + region_size r.size → LiesIn r (put_word r.space.number place width value)
 put_in r place width value from upto = record { space = refl; from = from; upto = omega (arith, length-bytes_low_first 0 width value, upto) }
 
 -- the store of each row does

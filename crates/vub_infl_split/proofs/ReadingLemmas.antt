@@ -1,29 +1,23 @@
 -- What each store leaves of the open entries of a region.
-use Rattle.std.proofs.Common.{◌≡◌, ◌≢◌, ◌≤◌, ◌<◌, min, ℕ, ◌+◌, ◌%◌, Bool, cond, true, false, not, List, [], ◌∷◌, ◌++◌, refl, ap, sym, ◌∙◌, inl, inr, arith}
+use Rattle.std.proofs.Common.{◌≡◌, ◌≤◌, ◌<◌, min, ℕ, ◌+◌, ◌%◌, false, true, not, List, [], ◌∷◌, ◌++◌, refl, ap, sym, ◌∙◌, inl, inr, arith}
 use Rattle.std.proofs.Math.Nat.{min-eq_left}
-use Rattle.std.specs.Prelude.{◌&&◌, ◌==◌, nat_le, Option, Some, None}
-use Rattle.std.specs.List.{AllByRecursion}
-use Rattle.std.specs.Option.{option_map, option_or}
+use Rattle.std.specs.Prelude.{◌&&◌, ◌==◌, nat_le, None}
 use Rattle.std.proofs.lemmas.Bool.Decides.{nat_tests}
 use Rattle.std.proofs.lemmas.Bool.{cases_eq}
-use Rattle.vub_base.specs.declared.reading.Reading.TheVariants.{Uninitialised, Entries, Damaged}
-use Rattle.vub_base.specs.declared.reading.RegionFault.{RegionFault}
-use Rattle.vub_base.specs.declared.pending.Pending.{Pending}
+use Rattle.vub_base.specs.declared.reading.Reading.TheVariants.{Entries}
 use Rattle.vub_shared.specs.Bytes.{Bytes, word}
 use Rattle.vub_shared.proofs.BytesLemmas.{word-lt}
 use Rattle.vub_device.specs.Past.{is_among}
 use Rattle.vub_ring.specs.Ring.{ahead}
-use Rattle.vub_inflight.specs.Entries.{by_counter, with_at, entry_at, without_heads, heads_of, with_counter, same_counter, CountersBelow}
+use Rattle.vub_inflight.specs.Entries.{by_counter, with_at, entry_at, in_flight_but, without_heads, heads_of}
 use Rattle.vub_inflight.specs.Links.{links, links_within, first_bad}
-use Rattle.vub_inflight.specs.Neighbours.{twins}
-use Rattle.vub_inflight.proofs.Each.{all_sorted, sorted_all}
-use Rattle.vub_inflight.proofs.EntryLemmas.{by_counter_agree, by_counter_add, by_counter_without, all_by_index, ordered_sorted}
-use Rattle.vub_inflight.proofs.CounterLemmas.{none_with, none_has}
+use Rattle.vub_inflight.specs.Readings.{bad_version, bad_count}
+use Rattle.vub_inflight.proofs.CauseLemmas.{or_none, map_none, none_unless, entries_none, counters_fine, fine_counters}
+use Rattle.vub_inflight.proofs.EntryLemmas.{by_counter_agree, by_counter_add, by_counter_without}
 use Rattle.vub_inflight.proofs.LinkLemmas.{no_bad, fine_links, links_all_within}
-use Rattle.vub_inflight.proofs.Twins.{same_counter_twins, no_twins, rise_without_twins}
 use Rattle.vub_infl_split.specs.declared.region.SplitRegion.{SplitRegion}
 use Rattle.vub_infl_split.specs.Region.{RegionWords, words_of, counter_place}
-use Rattle.vub_infl_split.specs.Readings.{counted, in_flight_but, counted_within, unchecked_entries, is_open, one_each, open_by_index, open_entries, bad_version, bad_count, bad_used, bad_link, last_counter, bad_counter, made_fault, unless_damaged, split_reading}
+use Rattle.vub_infl_split.specs.Readings.{counted, counted_within, unchecked_entries, is_open, one_each, open_entries, bad_used, bad_link, made_fault, split_reading}
 use Rattle.vub_infl_split.specs.Sound.{Sound}
 use Rattle.vub_infl_split.proofs.ReadingChecks.{counters_left}
 
@@ -109,18 +103,11 @@ reading_note n used w fits clear = by_counter_agree w.counter w.counter one_each
 
 -- ---- what is read
 
-sound_counters : (n used : ℕ) (heads : List ℕ) (w : RegionWords) → Sound n used heads w → bad_counter (open_by_index n used w) ≡ None
-sound_counters n used heads w s =
-    let low : CountersBelow 18446744073709551615 (open_by_index n used w) = sorted_all (λ e. e.counter < 18446744073709551615) (open_by_index n used w) s.low in
-    let last : with_counter 18446744073709551615 (open_by_index n used w) ≡ None = none_with 18446744073709551615 (open_by_index n used w) low in
-    let same : same_counter (open_by_index n used w) ≡ None = same_counter_twins w.counter one_each (is_open used w) n ∙ no_twins (open_entries n used w) s.rising in
-    grind arith
-
 -- a sound region has no damage
 pub sound_undamaged : (n used : ℕ) (heads : List ℕ) (w : RegionWords) → Sound n used heads w → made_fault n used w ≡ None
 sound_undamaged n used heads w s =
     let fine : first_bad n [] (counted used w) ≡ None = no_bad n [] (counted used w) s.distinct s.within (λ i held. refl) in
-    counters_left n used w s.version s.count s.few fine ∙ sound_counters n used heads w s
+    counters_left n used w s.version s.count s.few fine ∙ counters_fine w.counter one_each (is_open used w) n s.rising s.low
 
 -- a sound region reads as its open entries
 pub sound_reads : (n used : ℕ) (heads : List ℕ) (w : RegionWords) → Sound n used heads w → split_reading n used w ≡ Entries
@@ -136,21 +123,9 @@ sound_unchecked n used heads w s =
     let few : ahead used w.used_idx ≤ n = s.few in
     let count : min (ahead used w.used_idx) n ≡ ahead used w.used_idx = min-eq_left few in
     let batch : counted_within n used w ≡ counted used w = ap (λ (k : ℕ). links_within n w.next k w.last_batch_head) count ∙ links_all_within n w.next (ahead used w.used_idx) w.last_batch_head s.within in
-    ap (λ (xs : List ℕ). by_counter w.counter one_each (in_flight_but xs w) n) batch
+    ap (λ (xs : List ℕ). by_counter w.counter one_each (in_flight_but xs w.inflight) n) batch
 
 -- ---- where nothing is wrong
-
-or_none : {A : Type 0} (a b : Option A) → option_or a b ≡ None → (a ≡ None) × (b ≡ None)
-or_none None b e = (refl, e)
-or_none {A} (Some x) b e = absurd (let fails : ◌≡◌ {A = Option A} (Some x) None = e in cc)
-
-map_none : {A B : Type 0} (f : A → B) (o : Option A) → option_map f o ≡ None → o ≡ None
-map_none f None e = refl
-map_none {A} {B} f (Some x) e = absurd (let fails : ◌≡◌ {A = Option B} (Some (f x)) None = e in cc)
-
-none_unless : {A : Type 0} (b : Bool) (x : A) → cond b None (Some x) ≡ None → b ≡ true
-none_unless true x e = refl
-none_unless {A} false x e = absurd (let fails : ◌≡◌ {A = Option A} (Some x) None = e in cc)
 
 -- what a region's words hold that are read out of memory
 pub record WordsFit (w : RegionWords) : Type 0 where
@@ -168,18 +143,15 @@ words_fit r m fits = record {
 -- the checks are enough
 pub undamaged_sound : (n used : ℕ) (w : RegionWords) → WordsFit w → made_fault n used w ≡ None → Sound n used (heads_of (open_entries n used w)) w
 undamaged_sound n used w fits none =
-    let one = or_none (bad_version w) _ none in
-    let two = or_none (bad_count n w) _ one.1 in
+    let one = or_none (bad_version w.version) _ none in
+    let two = or_none (bad_count n w.desc_num) _ one.1 in
     let three = or_none (bad_used n used w) _ two.1 in
     let four = or_none (bad_link n used w) _ three.1 in
-    let five = or_none (last_counter (open_by_index n used w)) _ four.1 in
+    let counters = fine_counters w.counter one_each (is_open used w) n fits.counter four.1 in
     let version : (w.version == 1) ≡ true = none_unless (w.version == 1) _ one.0 in
     let count : (w.desc_num == n) ≡ true = none_unless (w.desc_num == n) _ two.0 in
     let few : nat_le (ahead used w.used_idx) n ≡ true = none_unless (nat_le (ahead used w.used_idx) n) _ three.0 in
     let links = fine_links n [] (counted used w) (map_none _ (first_bad n [] (counted used w)) four.0) in
-    let no_last = none_has 18446744073709551615 (open_by_index n used w) (map_none _ (with_counter 18446744073709551615 (open_by_index n used w)) five.0) in
-    let no_twins_left : twins (open_entries n used w) ≡ None = sym (same_counter_twins w.counter one_each (is_open used w) n) ∙ map_none _ (same_counter (open_by_index n used w)) five.1 in
-    let small : AllByRecursion (λ (e : Pending). e.counter < 18446744073709551616) (open_by_index n used w) = all_by_index (λ e. e.counter < 18446744073709551616) w.counter one_each (is_open used w) n (λ i l is. fits.counter i) in
     record {
       version = grind (arith, nat_tests);
       count = grind (arith, nat_tests);
@@ -187,21 +159,12 @@ undamaged_sound n used w fits none =
       distinct = links.distinct;
       within = links.within;
       reads = refl;
-      rising = rise_without_twins (open_entries n used w) (ordered_sorted (open_by_index n used w)) no_twins_left;
-      low = all_sorted (λ e. e.counter < 18446744073709551615) (open_by_index n used w) (all_both (open_by_index n used w) small no_last);
+      rising = counters.0;
+      low = counters.1;
       last_fits = fits.last_batch_head;
       used_idx_fits = fits.used_idx;
     }
-  where
-    all_both : (xs : List Pending) → AllByRecursion (λ (e : Pending). e.counter < 18446744073709551616) xs → AllByRecursion (λ (e : Pending). e.counter ≢ 18446744073709551615) xs → CountersBelow 18446744073709551615 xs
-    all_both [] a b = tt
-    all_both (x ∷ xs) a b = (omega (arith, a.0, b.0), all_both xs a.1 b.1)
 
 -- so the answer Entries says that the region is sound
 pub entries_sound : (n used : ℕ) (w : RegionWords) → WordsFit w → split_reading n used w ≡ Entries → Sound n used (heads_of (open_entries n used w)) w
-entries_sound n used w fits is = undamaged_sound n used w fits (none_of (w.version == 0) (made_fault n used w) is)
-  where
-    none_of : (b : Bool) (o : Option RegionFault) → cond b Uninitialised (unless_damaged o) ≡ Entries → o ≡ None
-    none_of true o e = absurd (let fails : Uninitialised ≡ Entries = e in cc)
-    none_of false None e = refl
-    none_of false (Some fault) e = absurd (let fails : Damaged fault ≡ Entries = e in cc)
+entries_sound n used w fits is = undamaged_sound n used w fits (entries_none (w.version == 0) (made_fault n used w) is)

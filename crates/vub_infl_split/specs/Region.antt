@@ -1,7 +1,8 @@
 -- The in-flight region of a split queue in shared memory (vhost-user, "Inflight I/O tracking").
-use Rattle.std.specs.Prelude.{◌≡◌, ◌≤◌, ℕ, ◌+◌, ◌*◌, ◌%◌, nat_lt, if◌then◌else◌, length}
+use Rattle.std.specs.Prelude.{◌≡◌, ◌≤◌, ℕ, ◌+◌, ◌*◌, ◌%◌, length}
 use Rattle.vub_shared.specs.Bytes.{Bytes, word, Apart}
 use Rattle.vub_shared.specs.Stores.{Store}
+use Rattle.vub_inflight.specs.Words.{bounded}
 use Rattle.vub_infl_split.specs.declared.region.SplitRegion.{SplitRegion}
 
 -- ---- places
@@ -35,10 +36,6 @@ pub record RegionWords : Type 0 where
   pub inflight : ℕ → ℕ
   pub next : ℕ → ℕ
   pub counter : ℕ → ℕ
-
--- f below n, and 0 from n on
-abbrev pub bounded : ℕ → (ℕ → ℕ) → ℕ → ℕ
-bounded n f i = if nat_lt i n then f i else 0
 
 abbrev pub words_of : SplitRegion → Bytes → RegionWords
 words_of r m = record {

@@ -1,10 +1,10 @@
 -- The store of each row of the step table into the region of a split queue, and what it makes of the words.
 use Rattle.std.specs.Prelude.{◌<◌, ℕ, ◌+◌, ◌*◌, ◌^◌, ⊤}
-use Rattle.byteorder.specs.Endian.{little_bytes}
 use Rattle.vub_base.specs.declared.store.Tag.{Tag}
 use Rattle.vub_base.specs.declared.store.Tag.TheVariants as tags
-use Rattle.vub_shared.specs.Stores.{Store, one_store}
+use Rattle.vub_shared.specs.Stores.{Store}
 use Rattle.vub_inflight.specs.Entries.{with_at}
+use Rattle.vub_inflight.specs.Words.{put_word}
 use Rattle.vub_infl_split.specs.declared.region.SplitRegion.{SplitRegion}
 use Rattle.vub_infl_split.specs.declared.region.SplitStore.{SplitStore}
 use Rattle.vub_infl_split.specs.declared.region.SplitStore.TheVariants.{SI1, SI2, SI3, SR1, SR2, SF1, SF2, SP3, SP4, SP6, SP7}
@@ -14,22 +14,18 @@ use Rattle.vub_infl_split.specs.Region.{RegionWords, inflight_place, next_place,
 abbrev pub header_word : ℕ → ℕ → ℕ
 header_word n used_idx = 1 + 65536 * (n + 65536 * (0 + 65536 * used_idx))
 
--- a number of so many bytes at a place
-abbrev pub put_word : SplitRegion → ℕ → ℕ → ℕ → Store
-put_word r place width value = one_store r.space.number place (little_bytes width value)
-
 abbrev pub store_of : SplitRegion → SplitStore → Store
-store_of r SI1 = put_word r r.place 8 0
-store_of r (SI2 i) = put_word r (inflight_place r i) 1 0
-store_of r (SI3 used_idx) = put_word r (r.place + 8) 8 (header_word r.size used_idx)
-store_of r (SR1 i) = put_word r (inflight_place r i) 1 0
-store_of r (SR2 used_idx) = put_word r (r.place + 14) 2 used_idx
-store_of r (SF1 i counter) = put_word r (counter_place r i) 8 counter
-store_of r (SF2 i) = put_word r (inflight_place r i) 1 1
-store_of r (SP3 i next) = put_word r (next_place r i) 2 next
-store_of r (SP4 head) = put_word r (r.place + 12) 2 head
-store_of r (SP6 i) = put_word r (inflight_place r i) 1 0
-store_of r (SP7 used_idx) = put_word r (r.place + 14) 2 used_idx
+store_of r SI1 = put_word r.space.number r.place 8 0
+store_of r (SI2 i) = put_word r.space.number (inflight_place r i) 1 0
+store_of r (SI3 used_idx) = put_word r.space.number (r.place + 8) 8 (header_word r.size used_idx)
+store_of r (SR1 i) = put_word r.space.number (inflight_place r i) 1 0
+store_of r (SR2 used_idx) = put_word r.space.number (r.place + 14) 2 used_idx
+store_of r (SF1 i counter) = put_word r.space.number (counter_place r i) 8 counter
+store_of r (SF2 i) = put_word r.space.number (inflight_place r i) 1 1
+store_of r (SP3 i next) = put_word r.space.number (next_place r i) 2 next
+store_of r (SP4 head) = put_word r.space.number (r.place + 12) 2 head
+store_of r (SP6 i) = put_word r.space.number (inflight_place r i) 1 0
+store_of r (SP7 used_idx) = put_word r.space.number (r.place + 14) 2 used_idx
 
 -- the tag of its row
 abbrev pub tag_of : SplitStore → Tag

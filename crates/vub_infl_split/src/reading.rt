@@ -1,27 +1,20 @@
 //! What a split queue's region says: its open entries, or why it can't be read.
-ghost use Rattle.std.specs.Prelude.{◌≡◌, ◌≢◌, ◌<◌, ◌≤◌, ◌+◌, ◌++◌, ◌∷◌, [], ℕ, List, Bool, None, Ok, length, not, ◌==◌, ◌&&◌, ◌||◌, false, nat_lt, if◌then◌else◌, IfOk, OnOk};
+ghost use Rattle.std.specs.Prelude.{◌≡◌, ◌≢◌, ◌<◌, ◌≤◌, ◌+◌, ◌++◌, ◌∷◌, [], ℕ, List, None, Ok, length, not, ◌==◌, ◌&&◌, false, if◌then◌else◌, IfOk, OnOk};
 ghost use Rattle.std.proofs.Common.{get_or};
 ghost use Rattle.vub_base.specs.Causes.{HasCause};
-ghost use Rattle.vub_base.specs.Pending.{sorted};
 ghost use Rattle.vub_base.specs.Told.{WhereTold};
 ghost use Rattle.vub_base.specs.declared.reading.Reading.TheVariants.{Entries};
 ghost use Rattle.vub_shared.specs.Frames.{OnlyLoads};
-ghost use Rattle.vub_inflight.specs.Entries.{by_index, entry_at, with_counter, AreEntries};
+ghost use Rattle.vub_inflight.specs.Entries.{by_index, entry_at, in_flight_but, AreEntries};
 ghost use Rattle.vub_inflight.specs.Links.{links, first_bad, AreMarked};
-ghost use Rattle.vub_inflight.specs.Neighbours as neighbours;
 ghost use Rattle.vub_infl_split.specs.Readings as readings;
-ghost use Rattle.vub_infl_split.specs.Readings.{split_reading, split_entries, in_flight_but, one_each};
+ghost use Rattle.vub_infl_split.specs.Readings.{split_reading, split_entries, one_each};
 ghost use Rattle.vub_infl_split.specs.Region.{RegionLies, words_of};
 
 use crate::SplitRegion;
 use vub_base::{Failed, Pending, PendingList, Reading, RegionFault};
+use vub_inflight::{MOST_ENTRIES, Marks, bad_counter, is_bad};
 use vub_shared::Shared;
-
-/// The most entries of a region.
-pub(crate) const MOST_ENTRIES: usize = 1024;
-
-/// The links that were met, a mark for each entry.
-pub(crate) type Marks = [bool; MOST_ENTRIES];
 
 impl SplitRegion {
     /// What the region says where used.idx is `ring_used`. `into` gets the open entries in rising order
@@ -144,14 +137,6 @@ fn walk_links<M: Shared>(
     Ok(None)
 }
 
-/// Whether a link is no entry or was met before.
-fn is_bad(link: u16, size: u16, met: &Marks) -> bool
-    requires { size ≤ 1024 }
-    ensures { result ≡ (not (nat_lt link size) || get_or met.now link false) }
-{
-    link >= size || met[usize::from(link)]
-}
-
 /// The entries in flight that aren't counted, in order of index.
 pub(crate) fn gather<M: Shared>(
     region: &SplitRegion,
@@ -163,7 +148,7 @@ pub(crate) fn gather<M: Shared>(
     requires few { region.now.size ≤ 1024 }
     requires room { region.now.size ≤ into.old.room }
     requires empty { into.old.items ≡ [] }
-    ensures gathered { IfOk result (λ t. WhereTold (M.told mem.old) (λ m. (batch : List ℕ) → AreMarked counted.now batch → into.new.items ≡ by_index (words_of region.now m).counter one_each (in_flight_but batch (words_of region.now m)) region.now.size)) }
+    ensures gathered { IfOk result (λ t. WhereTold (M.told mem.old) (λ m. (batch : List ℕ) → AreMarked counted.now batch → into.new.items ≡ by_index (words_of region.now m).counter one_each (in_flight_but batch (words_of region.now m).inflight) region.now.size)) }
     ensures entries { OnOk result (AreEntries region.now.size into.new.items) }
     ensures same_room { into.new.room ≡ into.old.room }
     ensures only_loads { OnlyLoads M.told M.trail M.names M.handed M.sizes mem.old mem.new }
@@ -205,57 +190,4 @@ fn add_if_open<M: Shared>(
         num: 1,
     });
     Ok(())
-}
-
-/// What is wrong with the counters of entries in order of index; where nothing is, they are put in
-/// order of counter.
-fn bad_counter(entries: &mut PendingList) -> Option<RegionFault>
-    ensures fault { (counter num : ℕ → ℕ) (is_open : ℕ → Bool) (n : ℕ) → entries.old.items ≡ by_index counter num is_open n → result ≡ readings.bad_counter entries.old.items }
-    ensures sorted { result ≡ None → entries.new.items ≡ sorted entries.old.items }
-    ensures same_room { entries.new.room ≡ entries.old.room }
-{
-    if let Some(head) = last_counter(entries.items()) {
-        return Some(RegionFault::LastCounter(head));
-    }
-    entries.sort();
-    twins(entries.items()).map(|(first, second)| RegionFault::SameCounter(first, second))
-}
-
-/// The first entry with the last counter.
-fn last_counter(entries: &[Pending]) -> Option<u16>
-    ensures { result ≡ with_counter 18446744073709551615 entries.now }
-{
-    entries
-        .iter()
-        .find(|entry| entry.counter == u64::MAX)
-        .map(|entry| entry.head)
-}
-
-/// Of all neighbours with one counter those whose first head is lowest.
-fn twins(entries: &[Pending]) -> Option<(u16, u16)>
-    ensures { result ≡ neighbours.twins entries.now }
-{
-    let mut least = None;
-    for i in 1..entries.len() {
-        least = earlier(least, twin(&entries[i - 1], &entries[i]));
-    }
-    least
-}
-
-/// The heads of two entries, if they have one counter.
-fn twin(first: &Pending, second: &Pending) -> Option<(u16, u16)>
-    ensures { result ≡ neighbours.twin first.now second.now }
-{
-    (first.counter == second.counter).then_some((first.head, second.head))
-}
-
-/// The pair whose first head is lower.
-fn earlier(a: Option<(u16, u16)>, b: Option<(u16, u16)>) -> Option<(u16, u16)>
-    ensures { result ≡ neighbours.earlier a b }
-{
-    match (a, b) {
-        (Some(first), Some(second)) if second.0 < first.0 => b,
-        (None, _) => b,
-        _ => a,
-    }
 }

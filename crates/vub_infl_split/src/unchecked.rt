@@ -9,8 +9,9 @@ ghost use Rattle.vub_infl_split.specs.Readings.{unchecked_entries};
 ghost use Rattle.vub_infl_split.specs.Region.{RegionLies, words_of};
 
 use crate::SplitRegion;
-use crate::reading::{MOST_ENTRIES, Marks, gather};
+use crate::reading::gather;
 use vub_base::{Failed, PendingList};
+use vub_inflight::{MOST_ENTRIES, Marks};
 use vub_shared::Shared;
 
 impl SplitRegion {

@@ -1,6 +1,6 @@
 -- The open entries by counter, as the entries change.
-use Rattle.std.proofs.Common.{◌≡◌, ◌≢◌, ◌<◌, ℕ, zero, suc, Bool, true, false, cond, not, List, [], ◌∷◌, ◌++◌, ◌+◌, length, filter, refl, ap, sym, ◌∙◌, subst, inl, inr, arith}
-use Rattle.std.specs.Prelude.{◌&&◌, ◌||◌, ◌==◌, nat_lt, ⊤}
+use Rattle.std.proofs.Common.{◌≡◌, ◌≢◌, ◌<◌, ℕ, zero, suc, Bool, true, false, cond, not, List, [], ◌∷◌, ◌++◌, ◌+◌, length, get_or, filter, refl, ap, sym, ◌∙◌, subst, inl, inr, arith}
+use Rattle.std.specs.Prelude.{◌&&◌, ◌||◌, ◌==◌, nat_lt, if◌then◌else◌, ⊤}
 use Rattle.std.specs.List.{AllByRecursion}
 use Rattle.std.proofs.lemmas.Bool.Decides.{nat_tests}
 use Rattle.std.proofs.lemmas.Bool.{cases_eq}
@@ -11,7 +11,8 @@ use Rattle.vub_base.specs.Pending.{precedes, insert_pending, sorted}
 use Rattle.vub_base.proofs.PendingLemmas.{sorted_push}
 use Rattle.vub_device.specs.Past.{is_among}
 use Rattle.vub_device.specs.Places.{are_distinct}
-use Rattle.vub_inflight.specs.Entries.{entry_at, by_index, by_counter, heads_of, without_heads, AreEntries, CountersBelow}
+use Rattle.vub_inflight.specs.Entries.{in_flight_but, entry_at, by_index, by_counter, heads_of, without_heads, AreEntries, CountersBelow}
+use Rattle.vub_inflight.specs.Links.{AreMarked}
 use Rattle.vub_device.proofs.Numbers.{is_among_append}
 use Rattle.vub_inflight.proofs.Each.{all_weaker, all_append, append_all, all_filter, all_insert, all_sorted, sorted_all}
 
@@ -257,3 +258,14 @@ entries_push n xs e is f =
       below = all_append (λ x. x.head < n + 1) xs (e ∷ []) (all_weaker (λ x. x.head < n) (λ x. x.head < n + 1) xs (λ x l. omega (arith, l)) f.below) (omega (arith, is), tt);
       distinct = distinct_push xs e (subst (λ (k : ℕ). AllByRecursion (λ (x : Pending). x.head < k) xs) (sym is) f.below) f.distinct;
     }
+
+-- the entry at the next index is looked at
+pub by_index_goes_on : (c u inflight : ℕ → ℕ) (these : List ℕ) (index next : ℕ) (marks : List Bool) (before after : List Pending) → next ≡ index + 1 → AreMarked marks these → index < length marks
+    → before ≡ by_index c u (in_flight_but these inflight) index
+    → after ≡ before ++ (if not (inflight index == 0) && not (get_or marks index false) then entry_at c u index ∷ [] else [])
+    → after ≡ by_index c u (in_flight_but these inflight) next
+by_index_goes_on c u inflight these index next marks before after more marked low so_far added =
+    let here : get_or marks index false ≡ is_among these index = marked index low in
+    let is_suc : next ≡ suc index = omega (arith, more) in
+    let one_more : after ≡ by_index c u (in_flight_but these inflight) (suc index) = grind arith in
+    one_more ∙ ap (by_index c u (in_flight_but these inflight)) (sym is_suc)

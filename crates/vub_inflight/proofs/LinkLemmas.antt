@@ -59,16 +59,16 @@ links_go_on next k k' h head more at =
     let is_suc : k' ≡ suc k = omega (arith, more) in
     ap (λ (j : ℕ). links next j head) is_suc ∙ links-more next k head ∙ ap (λ (x : ℕ). links next k head ++ x ∷ []) (sym at)
 
--- one that is no bad one
-pub bad_goes_on : (n : ℕ) (next : ℕ → ℕ) (k k' left left' h h' head : ℕ) (result : Option ℕ) → k' ≡ k + 1 → left ≡ left' + 1 → h ≡ link_at next k head → h' ≡ next h → h < n → is_among (links next k head) h ≡ false
-    → first_bad n (links next k head) (links next left h) ≡ result → first_bad n (links next k' head) (links next left' h') ≡ result
-bad_goes_on n next k k' left left' h h' head result more less at to low new so_far =
+-- one that is no bad one, where others were met before
+pub bad_goes_on : (n : ℕ) (met : List ℕ) (next : ℕ → ℕ) (k k' left left' h h' head : ℕ) (result : Option ℕ) → k' ≡ k + 1 → left ≡ left' + 1 → h ≡ link_at next k head → h' ≡ next h → h < n → is_among (met ++ links next k head) h ≡ false
+    → first_bad n (met ++ links next k head) (links next left h) ≡ result → first_bad n (met ++ links next k' head) (links next left' h') ≡ result
+bad_goes_on n met next k k' left left' h h' head result more less at to low new so_far =
     let is_suc : left ≡ suc left' = omega (arith, less) in
-    let met : links next k' head ≡ links next k head ++ h ∷ [] = links_go_on next k k' h head more at in
+    let all : met ++ links next k' head ≡ (met ++ links next k head) ++ h ∷ [] = ap (λ (xs : List ℕ). met ++ xs) (links_go_on next k k' h head more at) ∙ sym (append_assoc met (links next k head) (h ∷ [])) in
     let fine : nat_lt h n ≡ true = grind (arith, nat_tests) in
-    let opened : first_bad n (links next k head) (links next (suc left') h) ≡ result = rw is_suc at so_far in
-    let step : first_bad n (links next k head) (h ∷ links next left' (next h)) ≡ first_bad n (links next k head ++ h ∷ []) (links next left' (next h)) = grind (arith, nat_tests) in
-    rw (met, to) (sym step ∙ opened)
+    let opened : first_bad n (met ++ links next k head) (links next (suc left') h) ≡ result = rw is_suc at so_far in
+    let step : first_bad n (met ++ links next k head) (h ∷ links next left' (next h)) ≡ first_bad n ((met ++ links next k head) ++ h ∷ []) (links next left' (next h)) = grind (arith, nat_tests) in
+    rw (all, to) (sym step ∙ opened)
 
 -- a bad one
 pub bad_found : (n : ℕ) (next : ℕ → ℕ) (left h : ℕ) (met : List ℕ) → 0 < left → (not (nat_lt h n) || is_among met h) ≡ true → first_bad n met (links next left h) ≡ Some h
@@ -91,11 +91,12 @@ marked_more marks entries h low marked i l =
           grind (arith, nat_tests)
     ]
 
--- the marks of one link more
-pub marks_go_on : (next : ℕ → ℕ) (k k' h head : ℕ) (marks : List Bool) → k' ≡ k + 1 → h ≡ link_at next k head → h < length marks
-    → AreMarked marks (links next k head) → AreMarked (set marks h true) (links next k' head)
-marks_go_on next k k' h head marks more at low marked =
-    subst (λ (entries : List ℕ). AreMarked (set marks h true) entries) (sym (links_go_on next k k' h head more at)) (marked_more marks (links next k head) h low marked)
+-- the marks of one link more, where others were met before
+pub marks_go_on : (met : List ℕ) (next : ℕ → ℕ) (k k' h head : ℕ) (marks : List Bool) → k' ≡ k + 1 → h ≡ link_at next k head → h < length marks
+    → AreMarked marks (met ++ links next k head) → AreMarked (set marks h true) (met ++ links next k' head)
+marks_go_on met next k k' h head marks more at low marked =
+    let all : met ++ links next k' head ≡ (met ++ links next k head) ++ h ∷ [] = ap (λ (xs : List ℕ). met ++ xs) (links_go_on next k k' h head more at) ∙ sym (append_assoc met (links next k head) (h ∷ [])) in
+    subst (λ (entries : List ℕ). AreMarked (set marks h true) entries) (sym all) (marked_more marks (met ++ links next k head) h low marked)
 
 -- a mark tells whether an entry below 1024 was met
 pub bad_by_mark : (link n : ℕ) (mark met : Bool) → n ≤ 1024 → (link < 1024 → mark ≡ met) → (not (nat_lt link n) || mark) ≡ true → (not (nat_lt link n) || met) ≡ true

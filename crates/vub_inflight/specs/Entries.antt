@@ -1,5 +1,5 @@
 -- The open entries of an in-flight region of n entries (vhost-user, "Inflight I/O tracking"), and what their counters say.
-use Rattle.std.specs.Prelude.{◌≡◌, ◌<◌, ◌≤◌, ℕ, zero, suc, ◌+◌, Bool, true, not, ◌==◌, nat_lt, if◌then◌else◌, List, [], ◌∷◌, ◌++◌, length, map, filter, Option, None, ⊤}
+use Rattle.std.specs.Prelude.{◌≡◌, ◌<◌, ◌≤◌, ℕ, zero, suc, ◌+◌, Bool, true, not, ◌==◌, ◌&&◌, nat_lt, if◌then◌else◌, List, [], ◌∷◌, ◌++◌, length, map, filter, Option, None, ⊤}
 use Rattle.std.specs.List.{find, AllByRecursion}
 use Rattle.std.specs.Option.{option_map, option_or}
 use Rattle.vub_base.specs.Pending.{sorted}
@@ -12,6 +12,10 @@ abbrev pub with_at : (ℕ → ℕ) → ℕ → ℕ → ℕ → ℕ
 with_at f i v j = if j == i then v else f j
 
 -- ---- which entries are open
+
+-- an entry is in flight, and none of these
+abbrev pub in_flight_but : List ℕ → (ℕ → ℕ) → ℕ → Bool
+in_flight_but entries inflight i = not (inflight i == 0) && not (is_among entries i)
 
 -- entry i, by the counter and the number of descriptors of each
 abbrev pub entry_at : (ℕ → ℕ) → (ℕ → ℕ) → ℕ → Pending

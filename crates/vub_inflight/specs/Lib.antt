@@ -1,3 +1,5 @@
 pub mod Entries
 pub mod Links
 pub mod Neighbours
+pub mod Readings
+pub mod Words

@@ -1,34 +1,14 @@
 -- A slot's fields as they were loaded.
-use Rattle.std.proofs.Common.{◌≡◌, ◌≤◌, ◌<◌, ℕ, zero, suc, ◌+◌, ◌*◌, Bool, true, cond, List, ◌∷◌, refl, ap, sym, ◌∙◌, arith, add-zero}
+use Rattle.std.proofs.Common.{◌≡◌, ◌<◌, ℕ, ◌+◌, ◌*◌, Bool, true, cond, List, ap, sym, ◌∙◌, arith, add-zero}
 use Rattle.std.specs.Prelude.{nat_lt}
 use Rattle.std.proofs.lemmas.Bool.Decides.{nat_tests}
-use Rattle.byteorder.specs.Endian.{little_from}
-use Rattle.byteorder.specs.Numbers.{little_from-cons}
 use Rattle.vub_base.specs.Fields.{field}
 use Rattle.vub_shared.specs.Bytes.{Bytes, word, bytes_from}
+use Rattle.vub_shared.proofs.BytesLemmas.{field_of_loaded}
 use Rattle.vub_packed.specs.declared.packed.PackedRing.{PackedRing}
 use Rattle.vub_packed.specs.declared.packed.PackedDesc.{PackedDesc}
 use Rattle.vub_slots.specs.Ring.{DescriptorRing, slot_place, len_place, id_place, flags_place, slot_word, words_of}
 use Rattle.vub_packed.specs.Packed.{ring_of_packed, slot_in}
-
--- the number at the start of a longer run
-number_of_start : (w n : ℕ) (m : Bytes) (s p : ℕ) → w ≤ n → little_from 0 w (bytes_from n m s p) ≡ word w m s p
-unfolding word
-number_of_start zero n m s p h = refl
-number_of_start (suc w) zero m s p h = absurd (omega arith)
-number_of_start (suc w) (suc n) m s p h =
-    let rest : little_from 0 w (bytes_from n m s (p + 1)) ≡ word w m s (p + 1) = number_of_start w n m s (p + 1) (omega arith) in
-    let moved : little_from 1 w (m s p ∷ bytes_from n m s (p + 1)) ≡ little_from 0 w (bytes_from n m s (p + 1)) = little_from-cons 0 w (m s p) (bytes_from n m s (p + 1)) in
-    omega (arith, rest, moved)
-
--- a field of what was loaded is the word there
-field_of_loaded : (at w n : ℕ) (m : Bytes) (s p : ℕ) → at + w ≤ n → field w at (bytes_from n m s p) ≡ word w m s (p + at)
-field_of_loaded zero w n m s p h = number_of_start w n m s p (omega arith) ∙ ap (word w m s) (sym (add-zero p))
-field_of_loaded (suc at) w zero m s p h = absurd (omega arith)
-field_of_loaded (suc at) w (suc n) m s p h =
-    let rest : field w at (bytes_from n m s (p + 1)) ≡ word w m s (p + 1 + at) = field_of_loaded at w n m s (p + 1) (omega arith) in
-    let there : p + 1 + at ≡ p + suc at = omega arith in
-    rest ∙ ap (word w m s) there
 
 abbrev pub make : ℕ → ℕ → ℕ → ℕ → PackedDesc
 make a l i f = record { addr = a; len = l; id = i; flags = f }
@@ -39,7 +19,7 @@ pub slot_is : (r : PackedRing) (m : Bytes) (index p : ℕ) (bytes : List ℕ) (a
 slot_is r m index p bytes a l i f place loaded ha hl hi hf =
     let s : ℕ = r.ring.0.number in
     let q : ℕ = r.ring.1 + 16 * index in
-    let is_a : a ≡ word 8 m s q = ha ∙ ap (field 8 0) loaded ∙ number_of_start 8 16 m s p (omega arith) ∙ ap (word 8 m s) place in
+    let is_a : a ≡ word 8 m s q = ha ∙ ap (field 8 0) loaded ∙ field_of_loaded 0 8 16 m s p (omega arith) ∙ ap (λ (k : ℕ). word 8 m s (k + 0)) place ∙ ap (word 8 m s) (add-zero q) in
     let is_l : l ≡ word 4 m s (q + 8) = hl ∙ ap (field 4 8) loaded ∙ field_of_loaded 8 4 16 m s p (omega arith) ∙ ap (λ (k : ℕ). word 4 m s (k + 8)) place in
     let is_i : i ≡ word 2 m s (q + 12) = hi ∙ ap (field 2 12) loaded ∙ field_of_loaded 12 2 16 m s p (omega arith) ∙ ap (λ (k : ℕ). word 2 m s (k + 12)) place in
     let is_f : f ≡ word 2 m s (q + 14) = hf ∙ ap (field 2 14) loaded ∙ field_of_loaded 14 2 16 m s p (omega arith) ∙ ap (λ (k : ℕ). word 2 m s (k + 14)) place in

@@ -19,7 +19,8 @@ use Rattle.vub_inflight.proofs.CounterLemmas.{below_weaker, rise_push, rise_with
 use Rattle.vub_infl_split.specs.declared.region.SplitStore.TheVariants.{SI3, SR1, SR2, SF1, SF2, SP3, SP4}
 use Rattle.vub_infl_split.specs.Region.{RegionWords}
 use Rattle.vub_infl_split.specs.Stores.{words_after}
-use Rattle.vub_infl_split.specs.Readings.{counted, is_open, one_each, open_by_index, open_entries, split_reading, read_list, split_entries}
+use Rattle.vub_inflight.specs.Readings.{read_list}
+use Rattle.vub_infl_split.specs.Readings.{counted, is_open, one_each, open_by_index, open_entries, split_reading, split_entries}
 use Rattle.vub_infl_split.specs.Sound.{Sound}
 use Rattle.vub_infl_split.proofs.ReadingLemmas.{open_at_rest, counted_shown, reading_count, reading_accept, reading_link, reading_last, reading_show, reading_clear, reading_note, sound_reads}
 use Rattle.vub_region_facts.specs.Starts.{Left, IsNoted}

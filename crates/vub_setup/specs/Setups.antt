@@ -1,31 +1,23 @@
 -- Where the rings of a queue and its part of the in-flight region lie (VIRTIO 1.2, 2.7 and 2.8; vhost-user, "Inflight I/O tracking").
-use Rattle.std.specs.Prelude.{◌≡◌, ◌≤◌, ℕ, ◌+◌, ◌*◌, ◌%◌, Bool, if◌then◌else◌, Option, Some, None, ⊤}
+use Rattle.std.specs.Prelude.{◌≡◌, ℕ, Bool, if◌then◌else◌, Option, Some, None, ⊤}
+use Rattle.vub_infl_packed.specs.Region as packed_region
 use Rattle.vub_infl_split.specs.Region as split_region
 use Rattle.vub_infl_split.specs.declared.region.SplitRegion.{SplitRegion}
 use Rattle.vub_packed.specs.Packed as packed
-use Rattle.vub_setup.specs.declared.setup.PackedRegion.{PackedRegion}
 use Rattle.vub_setup.specs.declared.setup.QueueSetup.{QueueSetup}
 use Rattle.vub_setup.specs.declared.setup.Rings.{Rings}
 use Rattle.vub_setup.specs.declared.setup.Rings.TheVariants.{Split, Packed}
 use Rattle.vub_split.specs.Split as split
 use Rattle.vub_split.specs.declared.split.SplitRing.{SplitRing}
 
--- the bytes of the region of a queue with so many descriptors: a header, and an entry for each
-abbrev pub packed_region_size : ℕ → ℕ
-packed_region_size n = 32 + 32 * n
-
+-- the bytes of the region of a queue with so many descriptors
 abbrev pub region_size : Bool → ℕ → ℕ
-region_size is_packed n = if is_packed then packed_region_size n else split_region.region_size n
-
--- it lies in its space at a multiple of 8
-pub record PackedRegionLies (sizes : ℕ → ℕ) (r : PackedRegion) : Type 0 where
-  pub room : r.place + packed_region_size r.size ≤ sizes r.space.number
-  pub aligned : r.place % 8 ≡ 0
+region_size is_packed n = if is_packed then packed_region.region_size n else split_region.region_size n
 
 -- ring and region lie in their spaces at their alignments, and have the same size
 abbrev pub RingsLie : (ℕ → ℕ) → Rings → Type 0
 RingsLie sizes (Split ring region) = split.RingLies sizes ring × split_region.RegionLies sizes region × (region.size ≡ ring.size)
-RingsLie sizes (Packed ring region) = packed.RingLies sizes ring × PackedRegionLies sizes region × (region.size ≡ ring.size)
+RingsLie sizes (Packed ring region) = packed.RingLies sizes ring × packed_region.RegionLies sizes region × (region.size ≡ ring.size)
 
 -- the conditions of a queue on its setup
 abbrev pub SetupLies : (ℕ → ℕ) → QueueSetup → Type 0

@@ -4,5 +4,6 @@
 
 mod setup;
 
-pub use setup::{PackedRegion, QueueSetup, Rings, region_size};
+pub use setup::{QueueSetup, Rings, region_size};
+pub use vub_infl_packed::PackedRegion;
 pub use vub_infl_split::SplitRegion;

@@ -1,22 +1,10 @@
 ghost use Rattle.std.specs.Prelude.{◌≡◌, ◌<◌, ◌^◌};
 ghost use Rattle.vub_setup.specs.Setups as setups;
 
-use vub_base::Space;
-use vub_infl_split::{SplitRegion, layout};
+use vub_infl_packed::{PackedRegion, layout as packed_layout};
+use vub_infl_split::{SplitRegion, layout as split_layout};
 use vub_packed::PackedRing;
 use vub_split::SplitRing;
-
-/// The bytes of a packed queue's region before its entries, and of each entry.
-const PACKED_REGION_PART: u64 = 32;
-
-/// Where the region of a packed queue lies: its space and place in bytes, a multiple of 8, and how many
-/// descriptors it has entries for.
-#[derive(Clone, Copy, Debug, PartialEq, Eq)]
-pub struct PackedRegion {
-    pub space: Space,
-    pub place: u64,
-    pub size: u16,
-}
 
 /// The rings of a queue, with its region. Both have the same size.
 #[derive(Clone, Copy, Debug, PartialEq, Eq)]
@@ -47,8 +35,8 @@ pub fn region_size(packed: bool, size: u16) -> u64
 {
     let entries = u64::from(size);
     if packed {
-        PACKED_REGION_PART + PACKED_REGION_PART * entries
+        packed_layout::ENTRIES + packed_layout::ENTRY_SIZE * entries
     } else {
-        layout::DESC + layout::DESC_SIZE * entries
+        split_layout::DESC + split_layout::DESC_SIZE * entries
     }
 }

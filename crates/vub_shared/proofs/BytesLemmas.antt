@@ -10,6 +10,7 @@ use Rattle.std.proofs.Common.{◌/◌, ◌%◌, take, zero-add}
 use Rattle.std.specs.Int.{byte_at}
 use Rattle.byteorder.specs.Numbers.{little_from-take, little_from-bytes}
 use Rattle.byteorder.proofs.Bytes.{take-bytes_low_first}
+use Rattle.vub_base.specs.Fields.{field}
 use Rattle.vub_shared.specs.Bytes.{Bytes, put, word, Apart, cleared}
 use Rattle.vub_shared.specs.Bytes.{bytes_from}
 use Rattle.byteorder.specs.Numbers.{little_from-cons}
@@ -65,6 +66,25 @@ number_of_loaded (suc w) m s p =
     let rest : little_from 0 w (bytes_from w m s (p + 1)) ≡ word w m s (p + 1) = number_of_loaded w m s (p + 1) in
     let moved : little_from 1 w (m s p ∷ bytes_from w m s (p + 1)) ≡ little_from 0 w (bytes_from w m s (p + 1)) = little_from-cons 0 w (m s p) (bytes_from w m s (p + 1)) in
     omega (arith, rest, moved)
+
+-- the number at the start of a longer run
+number_of_start : (w n : ℕ) (m : Bytes) (s p : ℕ) → w ≤ n → little_from 0 w (bytes_from n m s p) ≡ word w m s p
+unfolding word
+number_of_start zero n m s p h = refl
+number_of_start (suc w) zero m s p h = absurd (omega arith)
+number_of_start (suc w) (suc n) m s p h =
+    let rest : little_from 0 w (bytes_from n m s (p + 1)) ≡ word w m s (p + 1) = number_of_start w n m s (p + 1) (omega arith) in
+    let moved : little_from 1 w (m s p ∷ bytes_from n m s (p + 1)) ≡ little_from 0 w (bytes_from n m s (p + 1)) = little_from-cons 0 w (m s p) (bytes_from n m s (p + 1)) in
+    omega (arith, rest, moved)
+
+-- a field of what was loaded is the word there
+pub field_of_loaded : (at w n : ℕ) (m : Bytes) (s p : ℕ) → at + w ≤ n → field w at (bytes_from n m s p) ≡ word w m s (p + at)
+field_of_loaded zero w n m s p h = number_of_start w n m s p (omega arith) ∙ ap (word w m s) (sym (add-zero p))
+field_of_loaded (suc at) w zero m s p h = absurd (omega arith)
+field_of_loaded (suc at) w (suc n) m s p h =
+    let rest : field w at (bytes_from n m s (p + 1)) ≡ word w m s (p + 1 + at) = field_of_loaded at w n m s (p + 1) (omega arith) in
+    let there : p + 1 + at ≡ p + suc at = omega arith in
+    rest ∙ ap (word w m s) there
 
 pub word-one : (m : Bytes) (s p : ℕ) → word 1 m s p ≡ m s p
 unfolding word

@@ -1,6 +1,7 @@
 use Rattle.std.proofs.Common.{ap, sym, subst, ◌∙◌, List, ℕ}
 use Rattle.vub_inflight.specs.Entries.{heads_of}
-use Rattle.vub_infl_split.specs.Readings.{open_entries, read_list}
+use Rattle.vub_inflight.specs.Readings.{read_list}
+use Rattle.vub_infl_split.specs.Readings.{open_entries}
 use Rattle.vub_infl_split.specs.Region.{words_of}
 use Rattle.vub_infl_split.specs.Sound.{Sound}
 use Rattle.vub_infl_split.proofs.ReadingLemmas.{sound_reads, sound_unchecked, words_fit, entries_sound}

@@ -7,8 +7,8 @@ use Rattle.vub_base.specs.declared.pending.Pending.{Pending}
 use Rattle.vub_inflight.specs.Entries.{AreEntries}
 use Rattle.vub_inflight.proofs.EntryLemmas.{entries_sorted}
 use Rattle.vub_inflight.specs.Links.{links, first_bad, AreMarked}
-use Rattle.vub_infl_split.specs.Readings as readings
-use Rattle.vub_infl_split.specs.Readings.{counted, is_open, one_each, open_by_index}
+use Rattle.vub_inflight.specs.Readings.{bad_counter}
+use Rattle.vub_infl_split.specs.Readings.{counted, is_open, one_each}
 use Rattle.vub_infl_split.specs.Region.{words_of}
 use Rattle.vub_infl_split.proofs.ReadingChecks.{counters_left, ahead_loaded}
 use Rattle.vub_infl_split.proofs.reading.fault.Goals as goal
@@ -31,7 +31,7 @@ returns-clause-fault g c m told version =
     let bad : first_bad n [] (counted used w) ≡ None = ap (λ (k : ℕ). first_bad n [] (links w.next k w.last_batch_head)) batch ∙ sym (c.in_ok-bad.ensures.bad m told_3) ∙ c.in_default.is in
     let marked = subst (λ (k : ℕ). AreMarked c.walk_links.new.met (links w.next k w.last_batch_head)) (sym batch) (c.in_ok-bad.ensures.met c.in_default.is m told_3) in
     let gathered = c.in_ok-gather.ensures.gathered m told_4 (counted used w) marked in
-    c.bad_counter.ensures.fault w.counter one_each (is_open used w) n gathered ∙ ap readings.bad_counter gathered ∙ sym (counters_left n used w version count few bad)
+    c.bad_counter.ensures.fault w.counter one_each (is_open used w) n gathered ∙ ap bad_counter gathered ∙ sym (counters_left n used w version count few bad)
 
 pub returns-clause-open : goal.returns-clause-open
 returns-clause-open g c none m told =

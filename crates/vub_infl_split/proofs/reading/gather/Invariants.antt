@@ -1,9 +1,9 @@
 use Rattle.std.proofs.Common.{◌≡◌, ℕ, List}
 use Rattle.vub_base.specs.Told.{WhereTold}
 use Rattle.vub_shared.specs.Frames.{OnlyLoads}
-use Rattle.vub_inflight.specs.Entries.{by_index, AreEntries}
+use Rattle.vub_inflight.specs.Entries.{by_index, in_flight_but, AreEntries}
 use Rattle.vub_inflight.specs.Links.{AreMarked}
-use Rattle.vub_infl_split.specs.Readings.{in_flight_but, one_each}
+use Rattle.vub_infl_split.specs.Readings.{one_each}
 use Rattle.vub_infl_split.specs.Region.{words_of}
 use Rattle.vub_infl_split.proofs.reading.gather.Given as goal
 
@@ -15,5 +15,5 @@ invariant-loop-index g l =
       room : l.into.room ≡ l.fn.into.room;
       only_loads : OnlyLoads told g.M.Shared.trail g.M.Shared.names g.M.Shared.handed g.M.Shared.sizes l.fn.mem l.mem;
       faults : g.M.Shared.faults l.mem ≡ g.M.Shared.faults l.fn.mem;
-      so_far : WhereTold (told l.fn.mem) (λ m. (batch : List ℕ) → AreMarked l.counted batch → l.into.items ≡ by_index (words_of l.region m).counter one_each (in_flight_but batch (words_of l.region m)) l.index);
+      so_far : WhereTold (told l.fn.mem) (λ m. (batch : List ℕ) → AreMarked l.counted batch → l.into.items ≡ by_index (words_of l.region m).counter one_each (in_flight_but batch (words_of l.region m).inflight) l.index);
     }

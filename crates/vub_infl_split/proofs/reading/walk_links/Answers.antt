@@ -1,4 +1,4 @@
-use Rattle.std.proofs.Common.{◌≡◌, ◌≤◌, ◌<◌, ◌-◌, ◌+◌, ◌∙◌, ap, sym, refl, subst, ℕ, Bool, List, length, get_or, set, true, false, arith}
+use Rattle.std.proofs.Common.{◌≡◌, ◌≤◌, ◌<◌, ◌-◌, ◌+◌, ◌∙◌, ap, sym, refl, subst, ℕ, Bool, List, [], length, get_or, set, true, false, arith}
 use Rattle.std.specs.Prelude.{not, ◌||◌, nat_lt}
 use Rattle.std.proofs.lemmas.List.{length-set}
 use Rattle.std.proofs.lemmas.Bool.Decides.{nat_tests}
@@ -44,10 +44,10 @@ loop-preserved g c =
       met = λ m told.
           let w = words_of c.args.region.now m in
           subst (λ (marks : List Bool). AreMarked marks (links w.next (c.loop.counter + 1) w.last_batch_head)) (sym marked)
-          (marks_go_on w.next c.loop.counter _ c.loop.link w.last_batch_head c.loop.met refl (c.loop.invariant.link m told) within (c.loop.invariant.met m told));
+          (marks_go_on [] w.next c.loop.counter _ c.loop.link w.last_batch_head c.loop.met refl (c.loop.invariant.link m told) within (c.loop.invariant.met m told));
       bad = λ m told.
           let w = words_of c.args.region.now m in
           let to : c.in_ok-link-2.link ≡ w.next c.loop.link = c.in_ok-link-2.ensures.loaded m (c.loop.invariant.only_loads.same_told ∙ told) in
           let new : is_among (links w.next c.loop.counter w.last_batch_head) c.loop.link ≡ false = sym (c.loop.invariant.met m told c.loop.link within) ∙ unmarked in
-          bad_goes_on c.args.region.now.size w.next c.loop.counter _ (c.args.count - c.loop.counter) _ c.loop.link c.in_ok-link-2.link w.last_batch_head _ refl (omega (arith, c.loop-test.true)) (c.loop.invariant.link m told) to low new (c.loop.invariant.bad m told);
+          bad_goes_on c.args.region.now.size [] w.next c.loop.counter _ (c.args.count - c.loop.counter) _ c.loop.link c.in_ok-link-2.link w.last_batch_head _ refl (omega (arith, c.loop-test.true)) (c.loop.invariant.link m told) to low new (c.loop.invariant.bad m told);
     }

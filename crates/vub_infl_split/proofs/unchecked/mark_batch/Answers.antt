@@ -25,7 +25,7 @@ loop-preserved g c =
       met = λ m told.
           let w = words_of c.args.region.now m in
           subst (λ (marks : List Bool). AreMarked marks (links w.next (c.loop.counter + 1) w.last_batch_head)) (sym marked)
-          (marks_go_on w.next c.loop.counter _ c.loop.link w.last_batch_head c.loop.marks refl (c.loop.invariant.link m told) within (c.loop.invariant.met m told));
+          (marks_go_on [] w.next c.loop.counter _ c.loop.link w.last_batch_head c.loop.marks refl (c.loop.invariant.link m told) within (c.loop.invariant.met m told));
       whole = λ m told.
           let w = words_of c.args.region.now m in
           let to : c.in_ok-link-2.link ≡ w.next c.loop.link = c.in_ok-link-2.ensures.loaded m (c.loop.invariant.only_loads.same_told ∙ told) in

@@ -2,7 +2,7 @@ use Rattle.std.proofs.Common.{ap, ◌∙◌, arith}
 use Rattle.std.proofs.lemmas.Grind.{common_steps}
 use Rattle.vub_inflight.specs.Neighbours.{earlier}
 use Rattle.vub_inflight.proofs.Twins.{twins_go_on, twins_done}
-use Rattle.vub_infl_split.proofs.reading.twins.Goals as goal
+use Rattle.vub_inflight.proofs.counters.twins.Goals as goal
 
 pub loop-i-preserved : goal.loop-i-preserved
 loop-i-preserved c = record {

@@ -1,6 +1,6 @@
 use Rattle.std.proofs.Common.{◌≡◌, ◌≤◌, ◌-◌, drop}
 use Rattle.vub_inflight.specs.Neighbours.{earlier, twins}
-use Rattle.vub_infl_split.proofs.reading.twins.Given as goal
+use Rattle.vub_inflight.proofs.counters.twins.Given as goal
 
 abbrev pub invariant-loop-i : goal.invariant-loop-i
 invariant-loop-i l = record {

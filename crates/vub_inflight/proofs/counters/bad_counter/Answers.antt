@@ -4,7 +4,7 @@ use Rattle.vub_base.specs.Pending.{sorted}
 use Rattle.vub_inflight.specs.Entries.{same_counter}
 use Rattle.vub_inflight.specs.Neighbours.{twins}
 use Rattle.vub_inflight.proofs.Twins.{same_counter_twins}
-use Rattle.vub_infl_split.proofs.reading.bad_counter.Goals as goal
+use Rattle.vub_inflight.proofs.counters.bad_counter.Goals as goal
 
 pub returns-clause-fault : goal.returns-clause-fault
 returns-clause-fault c counter num is_open n is =

@@ -1,0 +1,4 @@
+pub mod FaultLemmas
+pub mod LoadLemmas
+pub mod WalkLemmas
+pub mod WordLemmas

@@ -1,0 +1,22 @@
+use Rattle.std.proofs.Common.{◌≡◌, ◌∙◌, refl, subst, ℕ, arith}
+use Rattle.std.proofs.lemmas.Grind.{common_steps}
+use Rattle.vub_shared.proofs.FrameLemmas.{loads_twice}
+use Rattle.vub_inflight.specs.Entries.{by_index, in_flight_but}
+use Rattle.vub_infl_packed.specs.Region.{words_of}
+use Rattle.vub_inflight.proofs.EntryLemmas.{by_index_goes_on}
+use Rattle.vub_infl_packed.proofs.walks.gather.Goals as goal
+
+pub loop-index-preserved : goal.loop-index-preserved
+loop-index-preserved g c = record {
+  entries = c.add_if_open.ensures.entries c.loop-index.invariant.entries;
+  room = grind (arith, common_steps);
+  only_loads = loads_twice _ _ _ _ _ _ _ _ c.loop-index.invariant.only_loads c.add_if_open.ensures.only_loads;
+  faults = c.in_ok-add_if_open.ensures.cause.quiet ∙ c.loop-index.invariant.faults;
+  so_far = λ m told list marked. by_index_goes_on (words_of c.args.region.now m).counter (words_of c.args.region.now m).num (words_of c.args.region.now m).inflight list c.loop-index.index _ c.args.free.now c.loop-index.into.items _ refl marked (omega (arith, c.told-free, c.loop-index-test.true, c.requires.few)) (c.loop-index.invariant.so_far m told list marked) (c.in_ok-add_if_open.ensures.added m (c.loop-index.invariant.only_loads.same_told ∙ told));
+}
+
+pub returns-clause-gathered : goal.returns-clause-gathered
+returns-clause-gathered g c m told list marked =
+    let at_end : c.loop-index.index ≡ c.args.region.now.size = grind (arith, common_steps) in
+    let w = words_of c.args.region.now m in
+    subst (λ (k : ℕ). c.loop-index.into.items ≡ by_index w.counter (words_of c.args.region.now m).num (in_flight_but list w.inflight) k) at_end (c.loop-index.invariant.so_far m told list marked)

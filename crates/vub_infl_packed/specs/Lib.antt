@@ -1,0 +1,4 @@
+pub mod Readings
+pub mod Region
+pub mod Stores
+pub mod Walks
