@@ -1,0 +1,4 @@
+pub mod FileBells
+pub mod FileLaws
+pub mod FileShareds
+pub mod FileSpaces
