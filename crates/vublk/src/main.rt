@@ -3,11 +3,11 @@
 #![tactic(auto)]
 
 mod command;
-mod edge;
 #[cfg(test)]
 mod interleavings;
 #[cfg(test)]
 mod lives;
+mod no_bell;
 mod pieces;
 mod printing;
 mod reading;
@@ -18,12 +18,13 @@ mod restarts;
 mod tests;
 mod words;
 
-use edge::{FileSink, FileSource, NoBell};
+use no_bell::NoBell;
 use std::alloc::{AllocError, Global};
 use std::env;
 use std::io::ErrorKind;
 use std::process::ExitCode;
 use vub_disk::NoDisk;
+use vub_edge::{FileSink, FileSource};
 use vub_shared::MemShared;
 
 /// The words after the program's name. Where one isn't UTF-8, none: such words aren't accepted either.

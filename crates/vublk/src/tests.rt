@@ -2,7 +2,7 @@
 ghost use Rattle.std.specs.Prelude.{◌<◌};
 
 use crate::command::run;
-use crate::edge::NoBell;
+use crate::no_bell::NoBell;
 use std::alloc::Global;
 use std::process::Abort;
 use std::test::Fail;
