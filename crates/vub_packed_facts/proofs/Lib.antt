@@ -1,0 +1,9 @@
+pub mod AcceptLemmas
+pub mod BatchLemmas
+pub mod ChainLemmas
+pub mod FoundLemmas
+pub mod NewLemmas
+pub mod PathLemmas
+pub mod ReadingSteps
+pub mod StandLemmas
+pub mod StartLemmas
