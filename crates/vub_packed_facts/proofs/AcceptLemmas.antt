@@ -49,9 +49,14 @@ below_count n (x ∷ xs) i b some = elim (cases_eq x i) [
   | inr apart ↦ below_count n xs i b.1 (grind (arith, nat_tests))
 ]
 
+-- the new head joins the open ones at the end
+record Accepted (n fl : ℕ) (w : RegionWords) (free heads : List ℕ) (h : ℕ) : Type 0 where
+  pub found : IsFound n fl (record w { old_free_head = w.free_head }) free (heads ++ h ∷ [])
+  pub read : open_entries n fl (record w { old_free_head = w.free_head }) ≡ open_entries n fl w ++ entry_at w.counter w.num h ∷ []
+
 accepted : (n fl : ℕ) (w : RegionWords) (h : ℕ) (t heads : List ℕ) (j : ℕ) → IsFound n fl w (h ∷ t) heads → is_committed fl w ≡ false → j ≤ length t
     → IsPath w.next w.free_head (drop j t) n → w.num h ≡ suc j → w.last h ≡ get_or (h ∷ t) j 0 → w.inflight h ≡ 1 → ((i : ℕ) → is_among (h ∷ t) i ≡ true → i ≢ h → w.inflight i ≡ 0) → CountersBelow (w.counter h) (open_entries n fl w) → w.counter h < 18446744073709551615
-    → IsFound n fl (record w { old_free_head = w.free_head }) (drop j t) (heads ++ h ∷ [])
+    → Accepted n fl w (drop j t) heads h
 accepted n fl w h t heads j f hidden room rest num last flight quiet below low =
     let v : RegionWords = record w { old_free_head = w.free_head } in
     let parts : take j t ++ drop j t ≡ t = take-append-drop j t in
@@ -78,23 +83,26 @@ accepted n fl w h t heads j f hidden room rest num last flight quiet below low =
     (λ i l o. by_counter_all (λ e. e.counter < w.counter h) w.counter w.num (in_flight_but (h ∷ (take j t ++ drop j t)) w.inflight) n readable i l o)
     ∙ ap (λ (xs : List Pending). xs ++ entry_at w.counter w.num h ∷ []) (sym opened) in
     record {
-      version = f.version;
-      count = f.count;
-      chosen = left;
-      apart = apart_accepted n w.next w.num (h ∷ take j t) (drop j t) heads h apart is_chain (sym sized);
-      within = λ i some.
-          let pushed : in_chains w.next w.num i (heads ++ h ∷ []) ≡ in_chains w.next w.num i heads + count i (chain w.next w.num h) = in_chains-push w.next w.num i heads h in
-          let mine : count i (chain w.next w.num h) ≡ count i (h ∷ take j t) = ap (count i) is_chain in
-          elim (cases_lt 0 (in_chains w.next w.num i heads)) [
-            | inl old ↦ f.within i old
-            | inr new ↦
-                let c : count i (h ∷ (take j t ++ drop j t)) ≡ count i (h ∷ take j t) + count i (drop j t) = count-append i (h ∷ take j t) (drop j t) in
-                below_count n (h ∷ (take j t ++ drop j t)) i (subst (λ (zs : List ℕ). AllByRecursion (λ (k : ℕ). k < n) zs) (sym whole) f.chosen.below) (omega (arith, some, pushed, mine, new, c))
-          ];
-      ends = ends-push w.next w.num w.last heads h f.ends (omega (arith, num)) (ap (last_of h) is_chain ∙ last_of_front j room ∙ sym last);
-      reads = ap heads_of read ∙ map-append (λ (e : Pending). e.head) (open_entries n fl w) (entry_at w.counter w.num h ∷ []) ∙ ap (λ (xs : List ℕ). xs ++ h ∷ []) f.reads;
-      rising = subst (λ (xs : List Pending). CountersRise xs) (sym read) (rise_push (open_entries n fl w) (entry_at w.counter w.num h) f.rising below);
-      low = subst (λ (xs : List Pending). CountersBelow 18446744073709551615 xs) (sym read) (all_append (λ e. e.counter < 18446744073709551615) (open_entries n fl w) (entry_at w.counter w.num h ∷ []) f.low (low, tt));
+      read = read;
+      found = record {
+        version = f.version;
+        count = f.count;
+        chosen = left;
+        apart = apart_accepted n w.next w.num (h ∷ take j t) (drop j t) heads h apart is_chain (sym sized);
+        within = λ i some.
+            let pushed : in_chains w.next w.num i (heads ++ h ∷ []) ≡ in_chains w.next w.num i heads + count i (chain w.next w.num h) = in_chains-push w.next w.num i heads h in
+            let mine : count i (chain w.next w.num h) ≡ count i (h ∷ take j t) = ap (count i) is_chain in
+            elim (cases_lt 0 (in_chains w.next w.num i heads)) [
+              | inl old ↦ f.within i old
+              | inr new ↦
+                  let c : count i (h ∷ (take j t ++ drop j t)) ≡ count i (h ∷ take j t) + count i (drop j t) = count-append i (h ∷ take j t) (drop j t) in
+                  below_count n (h ∷ (take j t ++ drop j t)) i (subst (λ (zs : List ℕ). AllByRecursion (λ (k : ℕ). k < n) zs) (sym whole) f.chosen.below) (omega (arith, some, pushed, mine, new, c))
+            ];
+        ends = ends-push w.next w.num w.last heads h f.ends (omega (arith, num)) (ap (last_of h) is_chain ∙ last_of_front j room ∙ sym last);
+        reads = ap heads_of read ∙ map-append (λ (e : Pending). e.head) (open_entries n fl w) (entry_at w.counter w.num h ∷ []) ∙ ap (λ (xs : List ℕ). xs ++ h ∷ []) f.reads;
+        rising = subst (λ (xs : List Pending). CountersRise xs) (sym read) (rise_push (open_entries n fl w) (entry_at w.counter w.num h) f.rising below);
+        low = subst (λ (xs : List Pending). CountersBelow 18446744073709551615 xs) (sym read) (all_append (λ e. e.counter < 18446744073709551615) (open_entries n fl w) (entry_at w.counter w.num h ∷ []) f.low (low, tt));
+      };
     }
   where
     last_of_front : (k : ℕ) → k ≤ length t → last_of h (h ∷ take k t) ≡ get_or (h ∷ t) k 0
@@ -102,20 +110,32 @@ accepted n fl w h t heads j f hidden room rest num last flight quiet below low =
     last_of_front (suc k) l = last_of-take t k h (omega (arith, l))
 
 -- the same for the free list by its first entry and the number of descriptors
-pub found_accepted : (n fl : ℕ) (w : RegionWords) (free heads : List ℕ) (h k : ℕ) → IsFound n fl w free heads → is_committed fl w ≡ false
+by_size : (n fl : ℕ) (w : RegionWords) (free heads : List ℕ) (h k : ℕ) → IsFound n fl w free heads → is_committed fl w ≡ false
     → free ≡ h ∷ drop 1 free → 0 < k → k ≤ length free → IsPath w.next w.free_head (drop k free) n → w.num h ≡ k → w.last h ≡ get_or free (k - 1) 0 → w.inflight h ≡ 1
     → ((i : ℕ) → is_among free i ≡ true → i ≢ h → w.inflight i ≡ 0) → CountersBelow (w.counter h) (open_entries n fl w) → w.counter h < 18446744073709551615
-    → IsFound n fl (record w { old_free_head = w.free_head }) (drop k free) (heads ++ h ∷ [])
-found_accepted n fl w free heads h zero f hidden first some room rest num last flight quiet below low = absurd (omega (arith, some))
-found_accepted n fl w free heads h (suc j) f hidden first some room rest num last flight quiet below low =
+    → Accepted n fl w (drop k free) heads h
+by_size n fl w free heads h zero f hidden first some room rest num last flight quiet below low = absurd (omega (arith, some))
+by_size n fl w free heads h (suc j) f hidden first some room rest num last flight quiet below low =
     let t : List ℕ = drop 1 free in
     let less : suc j - 1 ≡ j = omega arith in
     let at_last : w.last h ≡ get_or (h ∷ t) j 0 = last ∙ ap (λ i. get_or free i 0) less ∙ ap (λ zs. get_or zs j 0) first in
     let dropped : drop (suc j) free ≡ drop j t = ap (λ zs. drop (suc j) zs) first in
-    let goal : IsFound n fl (record w { old_free_head = w.free_head }) (drop j t) (heads ++ h ∷ []) =
+    let goal : Accepted n fl w (drop j t) heads h =
     accepted n fl w h t heads j (subst (λ zs. IsFound n fl w zs heads) first f) hidden (let long : length free ≡ suc (length t) = ap (λ (zs : List ℕ). length zs) first in omega (arith, long, room))
     (subst (λ zs. IsPath w.next w.free_head zs n) dropped rest) num at_last flight (λ i held apart. quiet i (subst (λ zs. is_among zs i ≡ true) (sym first) held) apart) below low in
-    subst (λ zs. IsFound n fl (record w { old_free_head = w.free_head }) zs (heads ++ h ∷ [])) (sym dropped) goal
+    subst (λ zs. Accepted n fl w zs heads h) (sym dropped) goal
+
+pub found_accepted : (n fl : ℕ) (w : RegionWords) (free heads : List ℕ) (h k : ℕ) → IsFound n fl w free heads → is_committed fl w ≡ false
+    → free ≡ h ∷ drop 1 free → 0 < k → k ≤ length free → IsPath w.next w.free_head (drop k free) n → w.num h ≡ k → w.last h ≡ get_or free (k - 1) 0 → w.inflight h ≡ 1
+    → ((i : ℕ) → is_among free i ≡ true → i ≢ h → w.inflight i ≡ 0) → CountersBelow (w.counter h) (open_entries n fl w) → w.counter h < 18446744073709551615
+    → IsFound n fl (record w { old_free_head = w.free_head }) (drop k free) (heads ++ h ∷ [])
+found_accepted n fl w free heads h k f hidden first some room rest num last flight quiet below low = (by_size n fl w free heads h k f hidden first some room rest num last flight quiet below low).found
+
+pub read_accepted : (n fl : ℕ) (w : RegionWords) (free heads : List ℕ) (h k : ℕ) → IsFound n fl w free heads → is_committed fl w ≡ false
+    → free ≡ h ∷ drop 1 free → 0 < k → k ≤ length free → IsPath w.next w.free_head (drop k free) n → w.num h ≡ k → w.last h ≡ get_or free (k - 1) 0 → w.inflight h ≡ 1
+    → ((i : ℕ) → is_among free i ≡ true → i ≢ h → w.inflight i ≡ 0) → CountersBelow (w.counter h) (open_entries n fl w) → w.counter h < 18446744073709551615
+    → open_entries n fl (record w { old_free_head = w.free_head }) ≡ open_entries n fl w ++ entry_at w.counter w.num h ∷ []
+read_accepted n fl w free heads h k f hidden first some room rest num last flight quiet below low = (by_size n fl w free heads h k f hidden first some room rest num last flight quiet below low).read
 
 -- what is left of the free list is quiet
 pub quiet_accepted : (n fl : ℕ) (w : RegionWords) (free heads : List ℕ) (h k : ℕ) → IsFound n fl w free heads → free ≡ h ∷ drop 1 free → 0 < k → ((i : ℕ) → is_among free i ≡ true → i ≢ h → w.inflight i ≡ 0)

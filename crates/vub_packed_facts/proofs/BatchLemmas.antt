@@ -213,9 +213,13 @@ heads_without these [] = refl
 heads_without these (x ∷ xs) = let rest : heads_of (without_heads these xs) ≡ without these (heads_of xs) = heads_without these xs in grind arith
 
 -- the flags of the first element show the batch: its chains are free, its requests are no longer open
-pub found_shown : (n fl fm : ℕ) (w : RegionWords) (free heads batch : List ℕ) → IsFound n fl w free heads → IsBatch batch heads
-    → IsPath w.next w.free_head (chains w.next w.num (reverse batch) ++ free) n → is_committed fm w ≡ true → IsFound n fm w (chains w.next w.num (reverse batch) ++ free) (without batch heads)
-found_shown n fl fm w free heads batch f b linked shown =
+record ShownAs (n fl fm : ℕ) (w : RegionWords) (free heads batch : List ℕ) : Type 0 where
+  pub found : IsFound n fm w (chains w.next w.num (reverse batch) ++ free) (without batch heads)
+  pub read : open_entries n fm w ≡ without_heads (chains w.next w.num (reverse batch)) (open_entries n fl w)
+
+shown_as : (n fl fm : ℕ) (w : RegionWords) (free heads batch : List ℕ) → IsFound n fl w free heads → IsBatch batch heads
+    → IsPath w.next w.free_head (chains w.next w.num (reverse batch) ++ free) n → is_committed fm w ≡ true → ShownAs n fl fm w free heads batch
+shown_as n fl fm w free heads batch f b linked shown =
     let these : List ℕ = chains w.next w.num (reverse batch) in
     let distinct : IsOnce batch = once_of batch b.distinct in
     let once : (i : ℕ) → in_chains w.next w.num i heads ≤ 1 = λ i. omega (arith, f.apart.once i) in
@@ -233,19 +237,30 @@ found_shown n fl fm w free heads batch f b linked shown =
     let read : open_entries n fm w ≡ without_heads these (open_entries n fl w) =
     open_is n fm w (these ++ free) chosen ∙ open_shown n w these free ∙ ap (without_heads these) (sym (open_is n fl w free f.chosen)) in
     record {
-      version = f.version;
-      count = f.count;
-      chosen = chosen;
-      apart = record {
-        once = λ i. omega (arith, f.apart.once i, parts i, all i);
-        sum = omega (arith, f.apart.sum, sums, long);
+      read = read;
+      found = record {
+        version = f.version;
+        count = f.count;
+        chosen = chosen;
+        apart = record {
+          once = λ i. omega (arith, f.apart.once i, parts i, all i);
+          sum = omega (arith, f.apart.sum, sums, long);
+        };
+        within = λ i some. f.within i (omega (arith, some, parts i));
+        ends = ends_without w.next w.num w.last batch heads f.ends;
+        reads = ap heads_of read ∙ heads_without these (open_entries n fl w) ∙ ap (without these) f.reads ∙ without_same these batch heads (λ i held. heads_of_batch w batch heads i once f.ends distinct b.all_open held);
+        rising = subst (λ (xs : List Pending). CountersRise xs) (sym read) (rise_without these (open_entries n fl w) f.rising);
+        low = subst (λ (xs : List Pending). CountersBelow 18446744073709551615 xs) (sym read) (all_filter (λ e. e.counter < 18446744073709551615) _ (open_entries n fl w) f.low);
       };
-      within = λ i some. f.within i (omega (arith, some, parts i));
-      ends = ends_without w.next w.num w.last batch heads f.ends;
-      reads = ap heads_of read ∙ heads_without these (open_entries n fl w) ∙ ap (without these) f.reads ∙ without_same these batch heads (λ i held. heads_of_batch w batch heads i once f.ends distinct b.all_open held);
-      rising = subst (λ (xs : List Pending). CountersRise xs) (sym read) (rise_without these (open_entries n fl w) f.rising);
-      low = subst (λ (xs : List Pending). CountersBelow 18446744073709551615 xs) (sym read) (all_filter (λ e. e.counter < 18446744073709551615) _ (open_entries n fl w) f.low);
     }
+
+pub found_shown : (n fl fm : ℕ) (w : RegionWords) (free heads batch : List ℕ) → IsFound n fl w free heads → IsBatch batch heads
+    → IsPath w.next w.free_head (chains w.next w.num (reverse batch) ++ free) n → is_committed fm w ≡ true → IsFound n fm w (chains w.next w.num (reverse batch) ++ free) (without batch heads)
+found_shown n fl fm w free heads batch f b linked shown = (shown_as n fl fm w free heads batch f b linked shown).found
+
+pub read_shown : (n fl fm : ℕ) (w : RegionWords) (free heads batch : List ℕ) → IsFound n fl w free heads → IsBatch batch heads
+    → IsPath w.next w.free_head (chains w.next w.num (reverse batch) ++ free) n → is_committed fm w ≡ true → open_entries n fm w ≡ without_heads (chains w.next w.num (reverse batch)) (open_entries n fl w)
+read_shown n fl fm w free heads batch f b linked shown = (shown_as n fl fm w free heads batch f b linked shown).read
 
 -- what is in flight on the list that is free now are heads of the batch
 pub quiet_shown : (n fl : ℕ) (w : RegionWords) (free heads batch : List ℕ) (i : ℕ) → IsFound n fl w free heads → IsBatch batch heads → AreQuiet w free

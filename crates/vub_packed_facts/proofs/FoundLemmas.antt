@@ -67,7 +67,7 @@ ends_last next num last h v (x ∷ xs) out e =
     (e.0, e.1 ∙ same, ends_last next num last h v xs more e.2)
 
 -- an entry of the free list isn't open
-not_open : (free : List ℕ) (inflight : ℕ → ℕ) (h i : ℕ) → is_among free h ≡ true → in_flight_but free inflight i ≡ true → i ≢ h
+pub not_open : (free : List ℕ) (inflight : ℕ → ℕ) (h i : ℕ) → is_among free h ≡ true → in_flight_but free inflight i ≡ true → i ≢ h
 not_open free inflight h i held is same =
     let there : is_among free i ≡ true = ap (is_among free) same ∙ held in
     let fails : in_flight_but free inflight i ≡ false = grind (arith, nat_tests) in
@@ -80,11 +80,17 @@ record Reads (n fl : ℕ) (w : RegionWords) (heads : List ℕ) : Type 0 where
   pub rising : CountersRise (open_entries n fl w)
   pub low : CountersBelow 18446744073709551615 (open_entries n fl w)
 
+-- with the same free list, the same in flight outside it, and the same counters and nums where an entry is open
+pub entries_same : (n fl fm : ℕ) (v w : RegionWords) (free : List ℕ) → IsChosen n fl w free → IsChosen n fm v free
+    → ((i : ℕ) → i < n → is_among free i ≡ false → v.inflight i ≡ w.inflight i) → ((i : ℕ) → i < n → in_flight_but free v.inflight i ≡ true → v.counter i ≡ w.counter i) → ((i : ℕ) → i < n → in_flight_but free v.inflight i ≡ true → v.num i ≡ w.num i)
+    → open_entries n fm v ≡ open_entries n fl w
+entries_same n fl fm v w free c d flight counters nums = open_is n fm v free d ∙ open_same n v w free flight counters nums ∙ sym (open_is n fl w free c)
+
 read_same : (n fl fm : ℕ) (v w : RegionWords) (free heads : List ℕ) → IsFound n fl w free heads → IsChosen n fm v free
     → ((i : ℕ) → i < n → is_among free i ≡ false → v.inflight i ≡ w.inflight i) → ((i : ℕ) → i < n → in_flight_but free v.inflight i ≡ true → v.counter i ≡ w.counter i) → ((i : ℕ) → i < n → in_flight_but free v.inflight i ≡ true → v.num i ≡ w.num i)
     → Reads n fm v heads
 read_same n fl fm v w free heads f c flight counters nums =
-    let same : open_entries n fm v ≡ open_entries n fl w = open_is n fm v free c ∙ open_same n v w free flight counters nums ∙ sym (open_is n fl w free f.chosen) in
+    let same : open_entries n fm v ≡ open_entries n fl w = entries_same n fl fm v w free f.chosen c flight counters nums in
     record {
       reads = ap heads_of same ∙ f.reads;
       rising = subst (λ (xs : List Pending). CountersRise xs) (sym same) f.rising;

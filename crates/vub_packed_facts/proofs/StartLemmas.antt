@@ -155,12 +155,12 @@ agrees_keeps n dr w s free heads f =
       stage_is = record { agree = refl; upto = omega arith; rest = subst (λ k. IsPath w.next k free n) head f.left.found.chosen.path; clear = λ j h. absurd (let no : false ≡ true = h in cc) };
     }
 
-among_get_or : (xs : List ℕ) (k : ℕ) → k < length xs → is_among xs (get_or xs k 0) ≡ true
+pub among_get_or : (xs : List ℕ) (k : ℕ) → k < length xs → is_among xs (get_or xs k 0) ≡ true
 among_get_or [] k l = absurd (omega (arith, l))
 among_get_or (x ∷ xs) zero l = grind (arith, nat_tests)
 among_get_or (x ∷ xs) (suc k) l = let rest : is_among xs (get_or xs k 0) ≡ true = among_get_or xs k (omega (arith, l)) in grind (arith, nat_tests)
 
-among_take_more : (i : ℕ) (xs : List ℕ) (k : ℕ) → k < length xs → is_among (take (k + 1) xs) i ≡ (is_among (take k xs) i || (get_or xs k 0 == i))
+pub among_take_more : (i : ℕ) (xs : List ℕ) (k : ℕ) → k < length xs → is_among (take (k + 1) xs) i ≡ (is_among (take k xs) i || (get_or xs k 0 == i))
 among_take_more i [] k l = absurd (omega (arith, l))
 among_take_more i (x ∷ xs) zero l = grind (arith, nat_tests)
 among_take_more i (x ∷ xs) (suc k) l = let rest : is_among (take (k + 1) xs) i ≡ (is_among (take k xs) i || (get_or xs k 0 == i)) = among_take_more i xs k (omega (arith, l)) in grind (arith, nat_tests)
