@@ -1,0 +1,13 @@
+pub mod AcceptLemmas
+pub mod BatchLemmas
+pub mod ChainLemmas
+pub mod FetchLemmas
+pub mod FoundLemmas
+pub mod LifeLemmas
+pub mod NewLemmas
+pub mod PathLemmas
+pub mod PublishLemmas
+pub mod ReadingSteps
+pub mod ShowLemmas
+pub mod StandLemmas
+pub mod StartLemmas
